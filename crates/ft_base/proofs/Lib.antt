@@ -1,0 +1,3 @@
+pub mod Loans
+pub mod Views
+pub mod Clones

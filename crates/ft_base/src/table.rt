@@ -1,0 +1,119 @@
+// A map from numbers, seen as a finite map.
+ghost use Rattle.std.specs.Prelude.{◌≡◌, ◌==◌, ℕ, IsSome, IsOk, OnOk, OnErr};
+ghost use Rattle.std.specs.Ordering.{nat_cmp};
+ghost use Rattle.std.specs.Option.{option_copied, option_copied_mut};
+ghost use Rattle.std.specs.Coded.{coded_ℕ};
+ghost use Rattle.std.specs.FinMap as finite;
+ghost use Rattle.std.specs.Map.Iter.{ShowsInOrder, deref_pair};
+ghost use Rattle.std.specs.Borrow.{sem};
+
+use crate::memory::Memory;
+use std::alloc::{AllocError, Global};
+use std::collections::BTreeMap;
+use std::collections::btree_map::Iter;
+use std::marker::Model;
+
+/// A map from numbers to values, which clauses see as a finite map.
+///
+/// To find, set or take out a key takes time logarithmic in the number of keys.
+#[derive(Drop)]
+pub struct Table<V> {
+    map: BTreeMap<u64, V>,
+}
+
+impl<V> Model for Table<V> {
+    ghost Value = { finite.FinMap nat_cmp V };
+
+    ghost coded = { finite.code coded_ℕ V.code };
+
+    ghost view = { λ a. finite.from_entries a.map.entries };
+}
+
+impl<V: Drop> Table<V> {
+    ghost use Rattle.ft_base.specs.Table.{LendsValue};
+
+    /// The empty map. Takes no memory.
+    pub fn new(alloc: Global) -> Table<V>
+        ensures { result ≡ finite.empty }
+    {
+        Table {
+            map: BTreeMap::new(alloc),
+        }
+    }
+
+    /// The value at a key.
+    pub fn get(&self, key: u64) -> Option<&V>
+        ensures { option_copied result ≡ finite.get self.now key }
+    {
+        self.map.get(&key)
+    }
+
+    /// Whether a key has a value.
+    pub fn contains(&self, key: u64) -> bool
+        ensures { result ≡ finite.contains_key self.now key }
+    {
+        self.map.contains_key(&key)
+    }
+
+    /// The value at a key, to be written: what is left behind the reference is the key's value
+    /// from then on. Takes no memory.
+    pub fn get_mut(&mut self, key: u64) -> Option<&mut V>
+        ensures* writes_back { sem 𝓛 (LendsValue V.row self.entry key result) }
+        ensures value { option_copied_mut result ≡ finite.get self.old key }
+    {
+        self.map.get_mut(&key)
+    }
+
+    /// How many keys have a value.
+    pub fn len(&self) -> usize
+        ensures { result ≡ finite.len self.now }
+    {
+        self.map.len()
+    }
+
+    /// Whether no key has a value.
+    pub fn is_empty(&self) -> bool
+        ensures { result ≡ (finite.len self.now == 0) }
+    {
+        self.len() == 0
+    }
+
+    /// The keys with their values, in rising order of the keys.
+    pub fn iter(&self) -> Iter<'_, u64, V>
+        ensures entries { result ≡ finite.entries self.now }
+        ensures runs { ShowsInOrder (deref_pair {K = ℕ} {X = V}) }
+    {
+        self.map.iter()
+    }
+
+    /// Sets the value at a key; the value that it had is dropped.
+    ///
+    /// Only a key that is new can want memory.
+    pub fn insert(&mut self, key: u64, value: V) -> Result<(), Memory>
+        ensures ok { OnOk result (self.new ≡ finite.insert self.old key value) }
+        ensures err { OnErr result (self.new ≡ self.old) }
+        ensures place { IsSome (finite.get self.old key) → IsOk result }
+    {
+        self.map.insert(key, value)?;
+        Ok(())
+    }
+
+    /// Takes a key out, and gives back its value. Takes no memory.
+    pub fn remove(&mut self, key: u64) -> Option<V>
+        ensures value { result ≡ finite.get self.old key }
+        ensures after { self.new ≡ finite.remove self.old key }
+    {
+        self.map.remove(&key)
+    }
+}
+
+impl<V: Clone + Drop> Clone for Table<V> {
+    ghost use Rattle.ft_base.specs.Copies.{IsTableClone};
+
+    ghost is_clone = { IsTableClone V.is_clone };
+
+    fn clone(&self) -> Result<Table<V>, AllocError> {
+        let map = self.map.clone()?;
+        Ok(Table { map })
+    }
+}

@@ -1,0 +1,102 @@
+-- To set a cell and then tidy is to tidy and then set it in the plain tree.
+use Rattle.std.proofs.Common.{◌≡◌, ℕ, Bool, true, false, cond, not, ◌&&◌, ◌||◌, List, [], ◌∷◌, Option, Some, None, is_some, Ordering, eqb-true, refl, sym, ap, ◌∙◌}
+use Rattle.std.specs.Prelude.{◌==◌}
+use Rattle.std.proofs.Math.Bool.{or-true}
+use Rattle.std.specs.declared.cmp.Ordering.TheVariants.{Less, Equal, Greater}
+use Rattle.std.specs.Ordering.{nat_cmp, is_eq, eq_by_cmp, ordering_then}
+use Rattle.std.specs.Cmp.{nat_cmp_total, unsigned_tied}
+use Rattle.std.specs.Cmp.Lexicographic.{slice_cmp, texts_ties}
+use Rattle.std.specs.Option.{option_map}
+use Rattle.std.specs.FinMap.{FinMap, get, contains_key, insert, remove, get-insert, get-remove}
+use Rattle.ft_tree.specs.declared.node.Node.{Node}
+use Rattle.ft_tree.specs.Nodes.{number_of}
+use Rattle.ft_tree.specs.Cells.{Cells, entry_of, parent_of, put_entry, put_parent, HasDirPlace}
+use Rattle.ft_tree.specs.Plain.{edge_cmp, NumberSet}
+use Rattle.ft_tree.specs.Tidy.{tidy}
+use Rattle.ft_calls.specs.Steps.{Write, SetEntry, SetParent}
+use Rattle.ft_calls.specs.Stored.{put, put_all}
+use Rattle.ft_calls.specs.Exec.{set_edge, set_dir, put_plain, put_all_plain}
+use Rattle.ft_calls.proofs.Places.{dir_place-put_dir}
+use Rattle.ft_calls.proofs.Puts.{is_place, entry-put_entry, parent-put_entry, entry-put_parent, parent-put_parent}
+use Rattle.ft_calls.proofs.Tidied.{edge_total, number-cond, get-tidy, contains-parent, same_plain}
+
+-- Edges.
+
+-- edges tie where their places are the same
+edge_tied : (d e : ℕ) (name other : List ℕ) → eq_by_cmp edge_cmp (e, other) (d, name) ≡ is_place d name e other
+edge_tied d e name other = by_number (nat_cmp e d) ∙ (λ i. unsigned_tied e d i && sym (texts_ties other name) i)
+  where
+    by_number : (r : Ordering) → is_eq (ordering_then r (slice_cmp nat_cmp other name)) ≡ (is_eq r && is_eq (slice_cmp nat_cmp other name))
+    by_number Less = refl
+    by_number Equal = refl
+    by_number Greater = refl
+
+-- the edges after one was drawn, or taken away
+get-set_edge : (m : FinMap edge_cmp ℕ) (d : ℕ) (name : List ℕ) (to : Option Node) (e : ℕ) (other : List ℕ) → get (set_edge m (d, name) to) (e, other) ≡ cond (is_place d name e other) (option_map number_of to) (get m (e, other))
+get-set_edge m d name None e other = get-remove edge_total m (d, name) (e, other) ∙ ap (λ b. cond b None (get m (e, other))) (edge_tied d e name other)
+get-set_edge m d name (Some x) e other = get-insert edge_total m (d, name) (number_of x) (e, other) ∙ ap (λ b. cond b (Some (number_of x)) (get m (e, other))) (edge_tied d e name other)
+
+-- Directories.
+
+-- whether a number is there, with one put in
+number_inserted : (b : Bool) (o : Option (Unit {0})) → is_some (cond b (Some tt) o) ≡ (b || is_some o)
+number_inserted true o = refl
+number_inserted false o = refl
+
+-- or one taken out
+number_removed : (b : Bool) (o : Option (Unit {0})) → is_some (cond b None o) ≡ (not b && is_some o)
+number_removed true o = refl
+number_removed false o = refl
+
+-- a set with a number
+contains-insert : (dirs : NumberSet) (d e : ℕ) → contains_key (insert dirs d tt) e ≡ ((e == d) || contains_key dirs e)
+contains-insert dirs d e = ap is_some (get-insert nat_cmp_total dirs d tt e) ∙ number_inserted (eq_by_cmp nat_cmp e d) (get dirs e) ∙ ap (λ b. b || contains_key dirs e) (unsigned_tied e d)
+
+-- a set without it
+contains-remove : (dirs : NumberSet) (d e : ℕ) → contains_key (remove dirs d) e ≡ (not (e == d) && contains_key dirs e)
+contains-remove dirs d e = ap is_some (get-remove nat_cmp_total dirs d e) ∙ number_removed (eq_by_cmp nat_cmp e d) (get dirs e) ∙ ap (λ b. not b && contains_key dirs e) (unsigned_tied e d)
+
+-- the directories after a parent was set; q is the parent that e had
+contains-set_dir : (dirs : NumberSet) (d : ℕ) (p : Option ℕ) (e : ℕ) (q : Option ℕ) → contains_key dirs e ≡ ((e == 1) || is_some q)
+    → ((e == 1) || is_some (cond (e == d) p q)) ≡ contains_key (set_dir dirs d p) e
+contains-set_dir dirs d (Some p) e q was = by_number (e == d) ∙ sym (contains-insert dirs d e ∙ ap (λ b. (e == d) || b) was)
+  where
+    by_number : (b : Bool) → ((e == 1) || is_some (cond b (Some p) q)) ≡ (b || ((e == 1) || is_some q))
+    by_number true = or-true (e == 1)
+    by_number false = refl
+contains-set_dir dirs d None e q was = by_root (d == 1) refl (e == d) refl
+  where
+    -- the number that is set is the root or not as this one is
+    as_root : (r : Bool) → (d == 1) ≡ r → (e == d) ≡ true → (e == 1) ≡ r
+    as_root r root is = ap (λ x. x == 1) (eqb-true e d is) ∙ root
+
+    by_root : (r : Bool) → (d == 1) ≡ r → (b : Bool) → (e == d) ≡ b → ((e == 1) || is_some (cond b None q)) ≡ contains_key (cond r dirs (remove dirs d)) e
+    by_root true root true is = let first = as_root true root is in ap (λ b. b || false) first ∙ sym (was ∙ ap (λ b. b || is_some q) first)
+    by_root true root false is = sym was
+    by_root false root true is = ap (λ b. b || false) (as_root false root is) ∙ sym (contains-remove dirs d e ∙ ap (λ b. not b && contains_key dirs e) is)
+    by_root false root false is = sym (contains-remove dirs d e ∙ (λ i. not (is i) && was i))
+
+-- The cells, where the root is stored.
+
+-- the root stays stored
+root-put : (cells : Cells) (w : Write) → HasDirPlace cells 1 → HasDirPlace (put cells w) 1
+root-put cells (SetEntry d name to) root = dir_place-put_dir cells d _ 1 root
+root-put cells (SetParent d p) root = dir_place-put_dir cells d _ 1 root
+
+-- one cell
+tidy-put : (cells : Cells) (w : Write) → HasDirPlace cells 1 → tidy (put cells w) ≡ put_plain (tidy cells) w
+tidy-put cells (SetEntry d name to) root =
+    same_plain _ _
+    (λ e other. get-tidy (put_entry cells d name to) e other ∙ ap (option_map number_of) (entry-put_entry cells d name to e other) ∙ number-cond (is_place d name e other) to (entry_of cells e other)
+    ∙ sym (get-set_edge (tidy cells).edges d name to e other ∙ ap (cond (is_place d name e other) (option_map number_of to)) (get-tidy cells e other)))
+    (λ e. contains-parent (put_entry cells d name to) (root-put cells (SetEntry d name to) root) e ∙ ap (λ o. (e == 1) || is_some o) (parent-put_entry cells d name to e) ∙ sym (contains-parent cells root e))
+tidy-put cells (SetParent d p) root =
+    same_plain _ _
+    (λ e other. get-tidy (put_parent cells d p) e other ∙ ap (option_map number_of) (entry-put_parent cells d p e other) ∙ sym (get-tidy cells e other))
+    (λ e. contains-parent (put_parent cells d p) (root-put cells (SetParent d p) root) e ∙ ap (λ o. (e == 1) || is_some o) (parent-put_parent cells d p e)
+    ∙ contains-set_dir (tidy cells).dirs d p e (parent_of cells e) (contains-parent cells root e))
+
+-- and one after another
+pub tidy-put_all : (ws : List Write) (cells : Cells) → HasDirPlace cells 1 → tidy (put_all cells ws) ≡ put_all_plain (tidy cells) ws
+tidy-put_all [] cells root = refl
+tidy-put_all (w ∷ ws) cells root = tidy-put_all ws (put cells w) (root-put cells w root) ∙ ap (λ p. put_all_plain p ws) (tidy-put cells w root)

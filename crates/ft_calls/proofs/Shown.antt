@@ -1,0 +1,103 @@
+-- Sound cells and their plain tree show the same.
+use Rattle.std.proofs.Common.{◌≡◌, ℕ, Bool, true, false, cond, ◌||◌, List, [], ◌∷◌, map, Option, Some, None, is_some, eqb-true, refl, sym, ap, subst, ◌∙◌}
+use Rattle.std.specs.Prelude.{T, ◌==◌}
+use Rattle.std.proofs.Math.Bool.{or-true}
+use Rattle.std.specs.declared.cmp.Ordering.TheVariants.{Equal}
+use Rattle.std.specs.Ordering.{nat_cmp, is_lt, ordering_then}
+use Rattle.std.specs.Cmp.{unsigned_tied, nat_cmp_total, tied_itself}
+use Rattle.std.specs.Cmp.Lexicographic.{slice_cmp}
+use Rattle.std.specs.List.{AllByRecursion, filter_map}
+use Rattle.std.specs.Option.{option_map}
+use Rattle.std.specs.FinMap.{entries, entries_sorted, is_sorted, retain_keys, get-retain_keys, from_sorted, get-from_sorted, entries-from_sorted, same_map}
+use Rattle.std.specs.FinMap.Entries.{below_all}
+use Rattle.ft_tree.specs.declared.node.Node.{Node}
+use Rattle.ft_tree.specs.declared.node.Node.TheVariants.{Dir as DirNode, File as FileNode}
+use Rattle.ft_tree.specs.declared.cell.Cell.{Cell}
+use Rattle.ft_tree.specs.declared.cell.Cell.TheVariants.{Entry, Names, Parent}
+use Rattle.ft_tree.specs.Nodes.{number_of}
+use Rattle.ft_tree.specs.Cells.{Cells, dir_of, dir_entry, filled, entry_of, names_of}
+use Rattle.ft_tree.specs.Views.{view_of}
+use Rattle.ft_tree.specs.Plain.{EdgeKey, edge_cmp, node_in, names_in, view_in}
+use Rattle.ft_tree.specs.Tidy.{tidy}
+use Rattle.ft_tree.specs.Sound.{AreSoundCells}
+use Rattle.ft_calls.proofs.Conjunction.{first, second, both}
+use Rattle.ft_calls.proofs.Listed.{dir_names-entry}
+use Rattle.ft_calls.proofs.Parents.{parent-shown}
+use Rattle.ft_calls.proofs.Tidied.{edge_total, edge_exact, edges_named, edges_named-find, dir_names-find, get-tidy, contains-parent}
+
+-- Lists of names in order.
+
+-- names are in order without the empty places too
+below_filled : (name : List ℕ) (es : List (List ℕ × Option Node)) → T (below_all (slice_cmp nat_cmp) name es) → T (below_all (slice_cmp nat_cmp) name (filter_map filled es))
+below_filled name [] h = tt
+below_filled name ((other, None) ∷ es) h = below_filled name es (second _ _ h)
+below_filled name ((other, Some x) ∷ es) h = both _ _ (first _ _ h) (below_filled name es (second _ _ h))
+
+sorted_filled : (es : List (List ℕ × Option Node)) → T (is_sorted (slice_cmp nat_cmp) es) → T (is_sorted (slice_cmp nat_cmp) (filter_map filled es))
+sorted_filled [] h = tt
+sorted_filled ((name, None) ∷ es) h = sorted_filled es (second _ _ h)
+sorted_filled ((name, Some x) ∷ es) h = both _ _ (below_filled name es (first _ _ h)) (sorted_filled es (second _ _ h))
+
+-- edges of one directory are in the order of their names
+less_edge : (d : ℕ) (name other : List ℕ) → T (is_lt (slice_cmp nat_cmp name other)) → T (is_lt (edge_cmp (d, name) (d, other)))
+less_edge d name other h = subst (λ r. T (is_lt (ordering_then r (slice_cmp nat_cmp name other)))) (sym (tied_itself nat_cmp_total d)) h
+
+below_named : (d : ℕ) (name : List ℕ) (names : List (List ℕ × Node)) → T (below_all (slice_cmp nat_cmp) name names) → T (below_all edge_cmp (d, name) (edges_named d names))
+below_named d name [] h = tt
+below_named d name (x ∷ names) h = both _ _ (less_edge d name x.0 (first _ _ h)) (below_named d name names (second _ _ h))
+
+sorted_named : (d : ℕ) (names : List (List ℕ × Node)) → T (is_sorted (slice_cmp nat_cmp) names) → T (is_sorted edge_cmp (edges_named d names))
+sorted_named d [] h = tt
+sorted_named d (x ∷ names) h = both _ _ (below_named d x.0 names (first _ _ h)) (sorted_named d names (second _ _ h))
+
+-- edges that tie start in the same directory
+same_dir : (d : ℕ) (q x : EdgeKey) → edge_cmp q x ≡ Equal → (x.0 == d) ≡ (q.0 == d)
+same_dir d q x h = ap (λ e. e.0 == d) (sym (edge_exact q x h))
+
+-- the edges of one directory are its names, in order
+edges_of : (cells : Cells) (d : ℕ) → entries (retain_keys (tidy cells).edges (λ e. e.0 == d)) ≡ edges_named d (names_of cells d)
+edges_of cells d =
+    let up = sorted_named d (names_of cells d) (sorted_filled (entries (dir_of cells d).entries) (entries_sorted (dir_of cells d).entries)) in
+    let same : retain_keys (tidy cells).edges (λ e. e.0 == d) ≡ from_sorted {R = edge_cmp} (edges_named d (names_of cells d)) =
+    same_map edge_total edge_exact _ _ (λ q.
+    get-retain_keys (tidy cells).edges (λ e. e.0 == d) q (same_dir d q)
+    ∙ ap (λ o. cond (q.0 == d) o None) (get-tidy cells q.0 q.1)
+    ∙ by_number q.0 q.1 (q.0 == d) refl
+    ∙ sym (get-from_sorted edge_cmp (edges_named d (names_of cells d)) q up ∙ edges_named-find d q.0 q.1 (names_of cells d) ∙ (λ i. cond (unsigned_tied q.0 d i) (option_map number_of (dir_names-find q.1 (dir_of cells d) i)) None))) in
+    ap entries same ∙ entries-from_sorted edge_cmp (edges_named d (names_of cells d)) up
+  where
+    by_number : (e : ℕ) (name : List ℕ) (b : Bool) → (e == d) ≡ b → cond b (option_map number_of (entry_of cells e name)) None ≡ cond b (option_map number_of (dir_entry (dir_of cells d) name)) None
+    by_number e name true is = ap (λ x. option_map number_of (entry_of cells x name)) (eqb-true e d is)
+    by_number e name false is = refl
+
+module _ (cells : Cells) (sound : AreSoundCells cells) where
+  -- what an entry leads to is told by its number
+  node-in : (d : ℕ) (name : List ℕ) (x : Node) → entry_of cells d name ≡ Some x → node_in (tidy cells) (number_of x) ≡ x
+  node-in d name (FileNode i) is = absurd (sound.tree.no_file d name i is)
+  node-in d name (DirNode i) is =
+      ap (λ b. cond b (DirNode i) (FileNode i)) (contains-parent cells sound.root_is i ∙ ap (λ o. (i == 1) || is_some o) (sound.tree.leads d name i is) ∙ or-true (i == 1))
+
+  -- so each entry shows the same
+  entry-in : (d : ℕ) (name : List ℕ) (o : Option Node) → entry_of cells d name ≡ o → option_map (node_in (tidy cells)) (option_map number_of o) ≡ o
+  entry-in d name None is = refl
+  entry-in d name (Some x) is = ap Some (node-in d name x is)
+
+  -- and each name of a directory
+  each_named : (d : ℕ) (names : List (List ℕ × Node)) → AllByRecursion (λ e. entry_of cells d e.0 ≡ Some e.1) names
+      → map {B = List ℕ × Node} (λ e. (e.0.1, node_in (tidy cells) e.1)) (edges_named d names) ≡ names
+  each_named d [] h = refl
+  each_named d (x ∷ names) h = λ i. (x.0, node-in d x.0 x.1 h.0 i) ∷ each_named d names h.1 i
+
+  -- so a directory shows its names
+  names-in : (d : ℕ) → names_in (tidy cells) d ≡ names_of cells d
+  names-in d = ap (map {B = List ℕ × Node} (λ (e : EdgeKey × ℕ). (e.0.1, node_in (tidy cells) e.1))) (edges_of cells d) ∙ each_named d (names_of cells d) (dir_names-entry (dir_of cells d))
+
+  -- each cell shows the same
+  cell-shown : (c : Cell) → view_in (tidy cells) c ≡ view_of cells c
+  cell-shown (Entry d name) = ap (option_map (node_in (tidy cells))) (get-tidy cells d name) ∙ entry-in d name (entry_of cells d name) refl
+  cell-shown (Names d) = names-in d
+  cell-shown (Parent d) = parent-shown cells sound d
+
+  -- the plain tree of sound cells shows what they show
+  pub view-tidy : view_in (tidy cells) ≡ view_of cells
+  view-tidy = λ i c. cell-shown c i

@@ -1,0 +1,161 @@
+-- What the plain tree has that stored cells are.
+use Rattle.std.proofs.Common.{◌≡◌, ℕ, Bool, true, false, cond, ◌||◌, List, [], ◌∷◌, ◌++◌, map, filter, Option, Some, None, is_some, unwrap_or, Ordering, refl, sym, ap, ◌∙◌}
+use Rattle.std.specs.Prelude.{T, ◌==◌}
+use Rattle.std.proofs.lemmas.Bool.{false≢true}
+use Rattle.std.specs.declared.cmp.Ordering.TheVariants.{Less, Equal, Greater}
+use Rattle.std.specs.Ordering.{nat_cmp, is_eq, eq_by_cmp, ordering_then}
+use Rattle.std.specs.Cmp.{IsTotalOrder, nat_cmp_total, on_total, then_total}
+use Rattle.std.specs.Cmp.Lexicographic.{slice_cmp, nat_list_cmp_total}
+use Rattle.std.specs.List.{filter_map}
+use Rattle.std.specs.Option.{option_flatten, option_map, option_map_or, option_or}
+use Rattle.std.specs.FinMap.{find, get, contains_key, entries, entries_sorted, get-entries, get-empty, is_sorted, get-from_entries, same_map}
+use Rattle.std.specs.FinMap.Entries.{below_all}
+use Rattle.std.proofs.lemmas.Map.Lookups.{CmpEqualImpliesEq, exact_pairs, exact_unsigned, exact_bytes}
+use Rattle.ft_tree.specs.declared.node.Node.{Node}
+use Rattle.ft_tree.specs.Nodes.{number_of}
+use Rattle.ft_tree.specs.Cells.{Cells, DirCells, no_dir, dir_names, dir_entry, filled, entry_of, parent_of, is_there, has_dir, HasDirPlace}
+use Rattle.ft_tree.specs.Plain.{EdgeKey, edge_cmp, PlainTree}
+use Rattle.ft_tree.specs.Tidy.{tidy, edges_at, edges_from, member, dirs_from}
+use Rattle.ft_calls.proofs.Conjunction.{first, second}
+use Rattle.ft_calls.proofs.Listed.{lesser}
+use Rattle.ft_calls.proofs.Free.{has_dir-parent}
+
+pub edge_total : IsTotalOrder edge_cmp
+edge_total = then_total (on_total (λ (e : EdgeKey). e.0) nat_cmp_total) (on_total (λ (e : EdgeKey). e.1) nat_list_cmp_total)
+
+pub edge_exact : CmpEqualImpliesEq edge_cmp
+edge_exact = exact_pairs nat_cmp (slice_cmp nat_cmp) exact_unsigned exact_bytes
+
+-- what tests as equal is Equal
+tied_from : (r : Ordering) → is_eq r ≡ true → r ≡ Equal
+tied_from Less h = absurd (false≢true h)
+tied_from Equal h = refl
+tied_from Greater h = absurd (false≢true h)
+
+-- none of two is the first
+or-none : (o : Option ℕ) → option_or o None ≡ o
+or-none None = refl
+or-none (Some x) = refl
+
+module _ {K X : Type 0} (R : K → K → Ordering) (o : IsTotalOrder R) where
+  -- a key that ties with one below all of a list is not found in it
+  gone : (q x : K) (es : List (K × X)) → R q x ≡ Equal → T (below_all R x es) → find R q es ≡ None
+  gone q x [] tie h = refl
+  gone q x (e ∷ es) tie h = ap (λ r. cond (is_eq r) (Some e.1) (find R q es)) (o.congr q x e.0 tie ∙ lesser _ (first _ _ h)) ∙ gone q x es tie (second _ _ h)
+
+  -- what is found in two lists, one behind the other
+  find-append : (q : K) (xs ys : List (K × X)) → find R q (xs ++ ys) ≡ option_or (find R q xs) (find R q ys)
+  find-append q [] ys = refl
+  find-append q (e ∷ xs) ys =
+      elim (eq_by_cmp R q e.0) as (λ b. cond b (Some e.1) (find R q (xs ++ ys)) ≡ option_or (cond b (Some e.1) (find R q xs)) (find R q ys)) [ true ↦ refl | false ↦ find-append q xs ys ]
+
+-- The edges.
+
+-- a directory that is not stored has no entry
+entry-no_dir : (name : List ℕ) → dir_entry no_dir name ≡ None
+entry-no_dir name = ap option_flatten (get-empty (slice_cmp nat_cmp) name)
+
+-- what is found among the places that are not empty
+filled-find : (name : List ℕ) (es : List (List ℕ × Option Node)) → T (is_sorted (slice_cmp nat_cmp) es) → find (slice_cmp nat_cmp) name (filter_map filled es) ≡ option_flatten (find (slice_cmp nat_cmp) name es)
+filled-find name [] h = refl
+filled-find name ((other, Some x) ∷ es) h =
+    elim (eq_by_cmp (slice_cmp nat_cmp) name other) as (λ b. cond b (Some x) (find (slice_cmp nat_cmp) name (filter_map filled es)) ≡ option_flatten (cond b (Some (Some x)) (find (slice_cmp nat_cmp) name es))) [
+      | true ↦ refl
+      | false ↦ filled-find name es (second _ _ h)
+    ]
+filled-find name ((other, None) ∷ es) h = filled-find name es (second _ _ h) ∙ by_tie (eq_by_cmp (slice_cmp nat_cmp) name other) refl
+  where
+    by_tie : (b : Bool) → eq_by_cmp (slice_cmp nat_cmp) name other ≡ b → option_flatten (find (slice_cmp nat_cmp) name es) ≡ option_flatten (cond b (Some None) (find (slice_cmp nat_cmp) name es))
+    by_tie true is = ap option_flatten (gone (slice_cmp nat_cmp) nat_list_cmp_total name other es (tied_from _ is) (first _ _ h))
+    by_tie false is = refl
+
+-- a name is found in a directory's list where it is an entry
+pub dir_names-find : (name : List ℕ) (x : DirCells) → find (slice_cmp nat_cmp) name (dir_names x) ≡ dir_entry x name
+dir_names-find name x = filled-find name (entries x.entries) (entries_sorted x.entries) ∙ ap option_flatten (sym (get-entries x.entries name))
+
+-- the edges that the names of a directory make
+abbrev pub edges_named : ℕ → List (List ℕ × Node) → List (EdgeKey × ℕ)
+edges_named d names = map (λ x. ((d, x.0), number_of x.1)) names
+
+-- the number of what is chosen
+pub number-cond : (b : Bool) (x y : Option Node) → option_map number_of (cond b x y) ≡ cond b (option_map number_of x) (option_map number_of y)
+number-cond true x y = refl
+number-cond false x y = refl
+
+-- what is found among them
+pub edges_named-find : (e d : ℕ) (name : List ℕ) (names : List (List ℕ × Node)) → find edge_cmp (d, name) (edges_named e names) ≡ cond (eq_by_cmp nat_cmp d e) (option_map number_of (find (slice_cmp nat_cmp) name names)) None
+edges_named-find e d name [] = elim (eq_by_cmp nat_cmp d e) as (λ b. ◌≡◌ {A = Option ℕ} None (cond b None None)) [ true ↦ refl | false ↦ refl ]
+edges_named-find e d name (x ∷ names) =
+    ap (cond (eq_by_cmp edge_cmp (d, name) (e, x.0)) (Some (number_of x.1))) (edges_named-find e d name names)
+    ∙ elim (nat_cmp d e) as (λ r. cond (is_eq (ordering_then r (slice_cmp nat_cmp name x.0))) (Some (number_of x.1)) (cond (is_eq r) (option_map number_of (find (slice_cmp nat_cmp) name names)) None)
+    ≡ cond (is_eq r) (option_map number_of (cond (eq_by_cmp (slice_cmp nat_cmp) name x.0) (Some x.1) (find (slice_cmp nat_cmp) name names))) None) [
+      | Less ↦ refl
+      | Equal ↦ sym (number-cond (eq_by_cmp (slice_cmp nat_cmp) name x.0) (Some x.1) (find (slice_cmp nat_cmp) name names))
+      | Greater ↦ refl
+    ]
+
+-- what is found among the edges of all directories
+edges_from-find : (d : ℕ) (name : List ℕ) (es : List (ℕ × DirCells)) → T (is_sorted nat_cmp es) → find edge_cmp (d, name) (edges_from es) ≡ option_map number_of (dir_entry (unwrap_or (find nat_cmp d es) no_dir) name)
+edges_from-find d name [] h = ap (option_map number_of) (sym (entry-no_dir name))
+edges_from-find d name (e ∷ es) h =
+    find-append edge_cmp edge_total (d, name) (edges_at e) (edges_from es)
+    ∙ (λ i. option_or ((edges_named-find e.0 d name (dir_names e.1) ∙ ap (λ x. cond (eq_by_cmp nat_cmp d e.0) (option_map number_of x) None) (dir_names-find name e.1)) i) (edges_from-find d name es (second _ _ h) i))
+    ∙ by_tie (eq_by_cmp nat_cmp d e.0) refl
+  where
+    by_tie : (b : Bool) → eq_by_cmp nat_cmp d e.0 ≡ b
+        → option_or (cond b (option_map number_of (dir_entry e.1 name)) None) (option_map number_of (dir_entry (unwrap_or (find nat_cmp d es) no_dir) name))
+        ≡ option_map number_of (dir_entry (unwrap_or (cond b (Some e.1) (find nat_cmp d es)) no_dir) name)
+    by_tie true is =
+        ap (λ o. option_or (option_map number_of (dir_entry e.1 name)) (option_map number_of (dir_entry (unwrap_or o no_dir) name))) (gone nat_cmp nat_cmp_total d e.0 es (tied_from _ is) (first _ _ h))
+        ∙ ap (λ o. option_or (option_map number_of (dir_entry e.1 name)) (option_map number_of o)) (entry-no_dir name) ∙ or-none (option_map number_of (dir_entry e.1 name))
+    by_tie false is = refl
+
+-- an edge of the plain tree is an entry
+pub get-tidy : (cells : Cells) (d : ℕ) (name : List ℕ) → get (tidy cells).edges (d, name) ≡ option_map number_of (entry_of cells d name)
+get-tidy cells d name =
+    get-from_entries edge_total (edges_from (entries cells.directories)) (d, name) ∙ edges_from-find d name (entries cells.directories) (entries_sorted cells.directories)
+    ∙ ap (λ o. option_map number_of (dir_entry (unwrap_or o no_dir) name)) (sym (get-entries cells.directories d))
+
+-- The directories.
+
+-- what is found among the directories that are there
+dirs_from-find : (d : ℕ) (es : List (ℕ × DirCells)) → T (is_sorted nat_cmp es) → is_some (find nat_cmp d (dirs_from es)) ≡ option_map_or (is_there d) (find nat_cmp d es) false
+dirs_from-find d [] h = refl
+dirs_from-find d (e ∷ es) h = by_tie (eq_by_cmp nat_cmp d e.0) refl (is_there e.0 e.1) refl (dirs_from-find d es (second _ _ h))
+  where
+    none_later : eq_by_cmp nat_cmp d e.0 ≡ true → option_map_or (is_there d) (find nat_cmp d es) false ≡ false
+    none_later tie = ap (λ o. option_map_or (is_there d) o false) (gone nat_cmp nat_cmp_total d e.0 es (tied_from _ tie) (first _ _ h))
+
+    there : eq_by_cmp nat_cmp d e.0 ≡ true → is_there d e.1 ≡ is_there e.0 e.1
+    there tie = ap (λ i. is_there i e.1) (exact_unsigned d e.0 (tied_from _ tie))
+
+    by_tie : (t : Bool) → eq_by_cmp nat_cmp d e.0 ≡ t → (b : Bool) → is_there e.0 e.1 ≡ b → is_some (find nat_cmp d (dirs_from es)) ≡ option_map_or (is_there d) (find nat_cmp d es) false
+        → is_some (find nat_cmp d (map member (cond b (e ∷ filter (λ x. is_there x.0 x.1) es) (filter (λ x. is_there x.0 x.1) es)))) ≡ option_map_or (is_there d) (cond t (Some e.1) (find nat_cmp d es)) false
+    by_tie true tie true is rest = ap (λ t. is_some (cond t (Some tt) (find nat_cmp d (dirs_from es)))) tie ∙ sym (there tie ∙ is)
+    by_tie true tie false is rest = rest ∙ none_later tie ∙ sym (there tie ∙ is)
+    by_tie false tie true is rest = ap (λ t. is_some (cond t (Some tt) (find nat_cmp d (dirs_from es)))) tie ∙ rest
+    by_tie false tie false is rest = rest
+
+-- a directory of the plain tree is one of the cells
+pub contains-tidy : (cells : Cells) (d : ℕ) → contains_key (tidy cells).dirs d ≡ has_dir cells d
+contains-tidy cells d =
+    ap is_some (get-from_entries nat_cmp_total (dirs_from (entries cells.directories)) d) ∙ dirs_from-find d (entries cells.directories) (entries_sorted cells.directories)
+    ∙ ap (λ o. option_map_or (is_there d) o false) (sym (get-entries cells.directories d))
+
+-- the root or one with a parent
+pub contains-parent : (cells : Cells) → HasDirPlace cells 1 → (d : ℕ) → contains_key (tidy cells).dirs d ≡ ((d == 1) || is_some (parent_of cells d))
+contains-parent cells root d = contains-tidy cells d ∙ has_dir-parent cells root d
+
+-- members of sets have no value to differ in
+same_unit : (a b : Option (Unit {0})) → is_some a ≡ is_some b → a ≡ b
+same_unit None None h = refl
+same_unit None (Some x) h = absurd (false≢true h)
+same_unit (Some x) None h = absurd (false≢true (sym h))
+same_unit (Some x) (Some y) h = refl
+
+-- plain trees with the same edges and directories are one
+pub same_plain : (p q : PlainTree) → ((d : ℕ) (name : List ℕ) → get p.edges (d, name) ≡ get q.edges (d, name)) → ((d : ℕ) → contains_key p.dirs d ≡ contains_key q.dirs d) → p ≡ q
+same_plain p q h g =
+    let edges = same_map edge_total edge_exact p.edges q.edges (λ e. h e.0 e.1) in
+    let dirs = same_map nat_cmp_total exact_unsigned p.dirs q.dirs (λ d. same_unit _ _ (g d)) in
+    λ i. record { edges = edges i; dirs = dirs i }

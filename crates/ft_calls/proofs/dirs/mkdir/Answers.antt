@@ -1,0 +1,20 @@
+use Rattle.std.proofs.Common.{sym, ◌∙◌}
+use Rattle.ft_path.specs.FilePath.{parts_of}
+use Rattle.ft_tree.specs.Walk.{seen_at}
+use Rattle.ft_calls.specs.Steps.{make_dir}
+use Rattle.ft_calls.proofs.Reaching.{performed-at_spot, performed-at_fault}
+use Rattle.ft_calls.proofs.Walked.{spot-in}
+use Rattle.ft_calls.proofs.dirs.mkdir.Goals as goal
+
+pub make_dir-requires-clause-spot : goal.make_dir-requires-clause-spot
+make_dir-requires-clause-spot c = spot-in c.args.tree.now c.requires.sound c.as_slice.result.now c.in-Ok.parts.trailing (seen_at c.in-Ok-walk.spot) c.in-Ok-walk.ensures
+
+pub returns-in-Err-walk : goal.returns-in-Err-walk
+returns-in-Err-walk c =
+    performed-at_fault c.args.tree.now (make_dir c.args.stamp) (parts_of c.args.path.now) c.in-Ok.parts (sym c.in_ok-errno.ensures ∙ c.in-Ok.is) c.as_slice.result.now c.as_slice.ensures
+    c.in-Err-walk.errno c.in-Err-walk.ensures
+
+pub returns : goal.returns
+returns c =
+    performed-at_spot c.args.tree.now (make_dir c.args.stamp) (parts_of c.args.path.now) c.in-Ok.parts (sym c.in_ok-errno.ensures ∙ c.in-Ok.is) c.as_slice.result.now c.as_slice.ensures
+    (seen_at c.in-Ok-walk.spot) c.in-Ok-walk.ensures c.make_dir.new.tree c.make_dir.result c.make_dir.ensures

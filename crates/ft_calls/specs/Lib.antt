@@ -1,0 +1,5 @@
+pub mod Steps
+pub mod Exec
+pub mod Stored
+pub mod Laws
+pub mod Perform

@@ -1,0 +1,23 @@
+-- The execution of a call on the stored cells.
+use Rattle.std.specs.Prelude.{ℕ, List, [], ◌∷◌}
+use Rattle.ft_tree.specs.Cells.{Cells, put_entry, put_parent}
+use Rattle.ft_tree.specs.Views.{view_of}
+use Rattle.ft_tree.specs.Looks.{answer}
+use Rattle.ft_calls.specs.declared.call.Call.{Call}
+use Rattle.ft_calls.specs.Steps.{Write, SetEntry, SetParent, Outcome, steps}
+
+abbrev pub put : Cells → Write → Cells
+put cells (SetEntry d name to) = put_entry cells d name to
+put cells (SetParent d parent) = put_parent cells d parent
+
+abbrev pub put_all : Cells → List Write → Cells
+put_all cells [] = cells
+put_all cells (w ∷ ws) = put_all (put cells w) ws
+
+-- what the call with stamp k comes to
+abbrev pub outcome : Cells → ℕ → Call → Outcome
+outcome cells k call = answer (steps k call) (view_of cells)
+
+-- the cells after it
+abbrev pub after : Cells → ℕ → Call → Cells
+after cells k call = put_all cells (outcome cells k call).writes

@@ -1,0 +1,11 @@
+pub mod Lists
+pub mod Events
+pub mod Lives
+pub mod Counting
+pub mod Holders
+pub mod Standing
+pub mod Results
+pub mod Journals
+pub mod Cores
+pub mod Steps
+pub mod Running

@@ -1,0 +1,4 @@
+pub mod History
+pub mod State
+pub mod Step
+pub mod Kept

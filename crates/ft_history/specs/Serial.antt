@@ -1,0 +1,71 @@
+-- The serial order: the committed transactions one after another, then the others.
+use Rattle.std.specs.Prelude.{◌≡◌, ◌<◌, ℕ, true, cond, not, is_some, ◌==◌, List, [], ◌∷◌, ◌++◌, ◌⊎◌, suc}
+use Rattle.ft_laws.specs.Lists.{Pairs, any}
+use Rattle.ft_laws.specs.Calls.{Calls, Same, Done}
+use Rattle.ft_laws.specs.Runs.{run, Faithful}
+use Rattle.ft_history.specs.Forest.{root}
+use Rattle.ft_history.specs.Logs.{passing}
+use Rattle.ft_history.specs.History.{Base, Event, parent, standing}
+use Rattle.ft_history.specs.History.Event.{Commit}
+use Rattle.ft_history.specs.Legal.{outcome, Legal}
+use Rattle.ft_history.specs.Promises.{OfHistories}
+
+-- the lists of the elements, one behind another
+abbrev pub joined : {A B : Type 0} → (A → List B) → List A → List B
+joined f [] = []
+joined f (x ∷ xs) = f x ++ joined f xs
+
+-- the place at which a number stands first in a list; where it doesn't stand there, the list's length
+abbrev pub place : List ℕ → ℕ → ℕ
+place [] x = 0
+place (r ∷ rs) x = cond (x == r) 0 (suc (place rs x))
+
+module _ (C : Calls) where
+  -- the top-level transaction at or above a call's asker
+  abbrev pub root_of : List (Event C) → Done C → ℕ
+  root_of h c = root (parent C h) c.asker
+
+  -- the committed top-level transactions, in order of commit
+  abbrev pub committed_roots : List (Event C) → List ℕ
+  committed_roots [] = []
+  committed_roots (Commit t ∷ h) = cond (is_some (parent C h t)) (committed_roots h) (committed_roots h ++ t ∷ [])
+  committed_roots (other ∷ h) = committed_roots h
+
+  -- the standing calls at or below a top-level transaction, oldest first
+  abbrev pub calls_under : List (Event C) → ℕ → List (Done C)
+  calls_under h r = passing (λ c. root_of h c == r) (standing C h)
+
+  -- those of each committed top-level transaction, in order of commit
+  abbrev pub committed_part : List (Event C) → List (Done C)
+  committed_part h = joined (calls_under h) (committed_roots h)
+
+  -- all other standing calls, oldest first
+  abbrev pub open_part : List (Event C) → List (Done C)
+  open_part h = passing (λ c. not (any (λ r. root_of h c == r) (committed_roots h))) (standing C h)
+
+  -- the serial list (a rule of this project)
+  abbrev pub serial_list : List (Event C) → List (Done C)
+  serial_list h = committed_part h ++ open_part h
+
+  -- b was granted before a: where they conflict, they have one root, or b's committed, and a's did so later or not at all.
+  abbrev pub IsSerialPair : List (Event C) → Done C → Done C → Type 0
+  IsSerialPair h b a = C.conflict b.accesses a.accesses ≡ true → (root_of h b ≡ root_of h a) ⊎ (place (committed_roots h) (root_of h b) < place (committed_roots h) (root_of h a))
+
+  -- The serial order law.
+  abbrev pub SerialOrder : Type 0
+  SerialOrder = OfHistories C (λ base h. Pairs (IsSerialPair h) (standing C h))
+
+  pub record IsSerial (base : Base C) (h : List (Event C)) : Type 0 where
+    -- Made in the serial order from the base, the standing calls leave the same store,
+    pub store : Same C (outcome C base h) (run C base.store (serial_list h))
+    -- and each has its recorded accesses and reply.
+    pub replies : Faithful C base.store (serial_list h)
+    -- The committed part alone can be made.
+    pub committed : Faithful C base.store (committed_part h)
+
+  abbrev pub Serial : Type 0
+  Serial = OfHistories C IsSerial
+
+  -- What has committed stays: whatever happens next, the committed part grows at its end alone.
+  abbrev pub CommittedGrows : Type 0
+  CommittedGrows = (base : Base C) → C.IsSound base.store → (h : List (Event C)) (e : Event C) → Legal C base (e ∷ h) → (more : List (Done C)) × (committed_part (e ∷ h) ≡ committed_part h ++ more)

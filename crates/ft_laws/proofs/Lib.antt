@@ -1,0 +1,12 @@
+pub mod Lists
+pub mod Tests
+pub mod Running
+pub mod Deleting
+pub mod Exchanging
+pub mod Writing
+pub mod Effects
+pub mod Hiding
+pub mod Looks
+pub mod Tiny
+pub mod Without
+pub mod Forgetting

@@ -1,0 +1,10 @@
+pub mod Lists
+pub mod Calls
+pub mod Laws
+pub mod Runs
+pub mod Effects
+pub mod Hiding
+pub mod Looks
+pub mod Tiny
+pub mod Without
+pub mod Tidying

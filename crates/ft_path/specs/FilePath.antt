@@ -1,0 +1,40 @@
+-- The text of a path (POSIX.1-2017, Base Definitions, 3.271 Pathname): filenames separated by slashes, with slashes before and behind them as one likes. Several slashes in a row are as one.
+-- What is wrong with a text is decided before anything is looked up (4.13 Pathname Resolution): a null pathname does not resolve, and there are the limits {PATH_MAX} and {NAME_MAX}.
+use Rattle.std.specs.Prelude.{◌≡◌, ℕ, Bool, if◌then◌else◌, ◌==◌, ◌&&◌, nat_lt, nat_eq, List, [], ◌∷◌, length, filter, Result, Ok, Err, IsOk}
+use Rattle.std.specs.List.{list_any, slice_split, ends_with}
+use Rattle.ft_path.specs.declared.TheConstants.{LONGEST_NAME, LONGEST_PATH}
+use Rattle.ft_path.specs.declared.errno.Errno.{Errno}
+use Rattle.ft_path.specs.declared.errno.Errno.TheVariants.{ENOENT, ENAMETOOLONG}
+use Rattle.ft_path.specs.declared.path.Parts.{Parts}
+use Rattle.ft_path.specs.declared.path.PartsFault.{PartsFault}
+use Rattle.ft_path.specs.declared.path.PartsFault.TheVariants.{Memory, Errno as TextFault}
+use Rattle.ft_path.specs.Name.{slash}
+
+-- a piece between slashes counts when it is not empty
+abbrev pub is_component : List ℕ → Bool
+is_component piece = nat_lt 0 (length piece)
+
+-- the components of a path, in order
+abbrev pub components : List ℕ → List (List ℕ)
+components bytes = filter is_component (slice_split (λ byte. byte == slash) bytes)
+
+abbrev pub is_long : List ℕ → Bool
+is_long component = nat_lt LONGEST_NAME (length component)
+
+-- there is a component, and slashes stand behind the last one
+abbrev pub has_trailing_slash : List ℕ → Bool
+has_trailing_slash bytes = nat_lt 0 (length (components bytes)) && ends_with nat_eq bytes (slash ∷ [])
+
+-- the parts of a path, or what is wrong with its text: the first fault in this order
+abbrev pub parts_of : List ℕ → Result Parts Errno
+parts_of bytes =
+    if length bytes == 0 then Err ENOENT
+    else if nat_lt LONGEST_PATH (length bytes) then Err ENAMETOOLONG
+    else if list_any is_long (components bytes) then Err ENAMETOOLONG
+    else Ok (record { names = components bytes; trailing = has_trailing_slash bytes })
+
+-- an answer is the one that is wanted. Want of memory may stand in place of parts, and never of a fault of the text
+abbrev pub IsAnswer : Result Parts Errno → Result Parts PartsFault → Type 0
+IsAnswer wanted (Ok parts) = wanted ≡ Ok parts
+IsAnswer wanted (Err (TextFault errno)) = wanted ≡ Err errno
+IsAnswer wanted (Err Memory) = IsOk wanted

@@ -1,0 +1,3 @@
+pub mod Errno
+pub mod FilePath
+pub mod Name

@@ -1,0 +1,29 @@
+//! The text of paths: names, paths and their components, and the errno names.
+//!
+//! The rules are those of POSIX.1-2017, Base Definitions, sections 3.170 (Filename), 3.271
+//! (Pathname) and 4.13 (Pathname Resolution).
+#![tactic(auto)]
+
+mod errno;
+mod name;
+mod names;
+mod path;
+#[cfg(test)]
+mod tests;
+
+pub use errno::Errno;
+pub use name::Name;
+pub use names::Names;
+pub use path::{FilePath, Parts, PartsFault, PathFault};
+
+/// The most bytes that a name has: {NAME_MAX}.
+pub const LONGEST_NAME: usize = 255;
+
+/// The most bytes that a path has: {PATH_MAX} is 4,096, and counts the null byte at the end.
+pub const LONGEST_PATH: usize = 4095;
+
+/// A name of at most so many bytes takes no memory.
+pub const SHORT_NAME: usize = 22;
+
+/// A list of at most so many names takes no memory of its own.
+pub const FEW_NAMES: usize = 8;

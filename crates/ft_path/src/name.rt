@@ -1,0 +1,128 @@
+// Names of files in a directory.
+ghost use Rattle.std.specs.Prelude.{◌≡◌, ◌≤◌, ℕ, List, length, IfOk, IsOk, Some, refl, nat_eq};
+ghost use Rattle.std.specs.Ordering.{nat_cmp};
+ghost use Rattle.std.specs.Cmp.{partial_equiv_from_equiv};
+ghost use Rattle.std.specs.Cmp.Lexicographic.{slice_cmp, pointwise, nat_list_cmp_total, nat_list_eq_equiv, texts_ties, texts_po};
+ghost use Rattle.ft_path.specs.Name.{IsName, is_dot, is_dot_dot};
+
+use crate::SHORT_NAME;
+use ft_base::Memory;
+use smallvec::SmallVec;
+use std::alloc::{AllocError, Global};
+use std::cmp::Ordering;
+use std::default::MadeWith;
+use std::marker::Model;
+
+/// The name of a file in a directory: 1 to 255 bytes, none of them null or a slash.
+///
+/// `.` and `..` are names. Names are ordered by their bytes.
+#[derive(Debug, Drop)]
+pub struct Name {
+    bytes: SmallVec<u8, SHORT_NAME>,
+}
+
+impl Model for Name {
+    ghost Value = { List ℕ };
+
+    ghost view = { λ a. a.bytes.items };
+
+    ghost invariant = { λ a. IsName a.bytes.items };
+}
+
+impl Name {
+    /// The name that has these bytes. Up to 22 of them take no memory.
+    pub fn from_bytes(alloc: Global, bytes: &[u8]) -> Result<Name, Memory>
+        requires { IsName bytes.now }
+        ensures name { IfOk result (λ name. name ≡ bytes.now) }
+        ensures short { length bytes.now ≤ SHORT_NAME → IsOk result }
+    {
+        let bytes = SmallVec::from_slice(alloc, bytes)?;
+        Ok(Name { bytes })
+    }
+
+    /// Its bytes.
+    pub fn as_bytes(&self) -> &[u8]
+        ensures value { result.now ≡ self.now }
+        ensures valid { IsName self.now }
+    {
+        self.bytes.as_slice()
+    }
+
+    /// Whether it is `.`, the name of a directory in itself.
+    pub fn is_dot(&self) -> bool
+        ensures { result ≡ is_dot self.now }
+    {
+        self.as_bytes() == b".".as_slice()
+    }
+
+    /// Whether it is `..`, the name of a directory's parent.
+    pub fn is_dot_dot(&self) -> bool
+        ensures { result ≡ is_dot_dot self.now }
+    {
+        self.as_bytes() == b"..".as_slice()
+    }
+
+    /// Another name of the same bytes. Up to 22 of them take no memory.
+    pub fn try_clone(&self) -> Result<Name, Memory>
+        ensures name { IfOk result (λ name. name ≡ self.now) }
+        ensures short { length self.now ≤ SHORT_NAME → IsOk result }
+    {
+        Name::from_bytes(*self.bytes.allocator(), self.as_bytes())
+    }
+}
+
+impl Clone for Name {
+    ghost is_clone = { λ name copy. copy ≡ name };
+
+    fn clone(&self) -> Result<Name, AllocError> {
+        let bytes = SmallVec::from_slice(*self.bytes.allocator(), self.as_bytes())?;
+        Ok(Name { bytes })
+    }
+}
+
+// The name that a small vector keeps where it has none of its own.
+impl MadeWith<Global> for Name {
+    fn made_with(alloc: Global) -> Name {
+        let mut bytes = SmallVec::new(alloc);
+        bytes.push_reserved(b'.');
+        Name { bytes }
+    }
+}
+
+impl PartialEq for Name {
+    ghost eq = { pointwise nat_eq };
+
+    ghost laws = { partial_equiv_from_equiv nat_list_eq_equiv };
+
+    fn eq(&self, other: &Name) -> bool {
+        self.as_bytes() == other.as_bytes()
+    }
+}
+
+impl Eq for Name {
+    ghost laws = { nat_list_eq_equiv };
+}
+
+impl PartialOrd for Name {
+    ghost partial_cmp = { λ x y. Some (slice_cmp nat_cmp x y) };
+
+    ghost laws = { texts_po };
+
+    fn partial_cmp(&self, other: &Name) -> Option<Ordering> {
+        Some(self.cmp(other))
+    }
+}
+
+impl Ord for Name {
+    ghost cmp = { slice_cmp nat_cmp };
+
+    ghost total = { nat_list_cmp_total };
+
+    ghost matches_partial_cmp = { λ x y. refl };
+
+    ghost matches_eq = { texts_ties };
+
+    fn cmp(&self, other: &Name) -> Ordering {
+        self.as_bytes().cmp(other.as_bytes())
+    }
+}

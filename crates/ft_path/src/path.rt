@@ -1,0 +1,183 @@
+// The text of a path, and its parts.
+ghost use Rattle.std.specs.Prelude.{◌≡◌, ◌↔◌, ℕ, List, IsTrue, IfOk, false, nat_eq};
+ghost use Rattle.std.specs.List.{list_any};
+ghost use Rattle.std.specs.Cmp.{partial_equiv_from_equiv};
+ghost use Rattle.std.specs.Cmp.Lexicographic.{pointwise, nat_list_eq_equiv};
+ghost use Rattle.ft_path.specs.Name.{has_nul, IsNulFree};
+ghost use Rattle.ft_path.specs.FilePath.{components, is_long, parts_of, IsAnswer};
+
+use crate::errno::Errno;
+use crate::name::Name;
+use crate::names::Names;
+use crate::{LONGEST_NAME, LONGEST_PATH};
+use bstr::ByteSlice;
+use ft_base::Memory;
+use std::alloc::{AllocError, Global};
+use std::marker::Model;
+use thiserror::Error;
+
+/// Why bytes made no path.
+#[derive(Clone, Copy, Debug, PartialEq, Eq, Error)]
+pub enum PathFault {
+    /// There was no memory left.
+    #[error("Memory")]
+    Memory = 1,
+    /// A byte is null.
+    #[error("NulByte")]
+    NulByte = 2,
+}
+
+impl From<Memory> for PathFault {
+    ghost use Rattle.std.specs.Prelude.{◌≡◌};
+    ghost use Rattle.ft_path.specs.declared.path.PathFault.TheVariants.{Memory};
+
+    ghost from_gives = { λ _ fault. fault ≡ Memory };
+
+    fn from(_error: Memory) -> PathFault {
+        PathFault::Memory
+    }
+}
+
+/// Why a path gave no parts.
+#[derive(Clone, Copy, Debug, PartialEq, Eq, Error)]
+pub enum PartsFault {
+    /// There was no memory left.
+    #[error("Memory")]
+    Memory,
+    /// The text is at fault.
+    #[error("{0}")]
+    Errno(Errno),
+}
+
+impl From<Memory> for PartsFault {
+    ghost use Rattle.std.specs.Prelude.{◌≡◌};
+    ghost use Rattle.ft_path.specs.declared.path.PartsFault.TheVariants.{Memory};
+
+    ghost from_gives = { λ _ fault. fault ≡ Memory };
+
+    fn from(_error: Memory) -> PartsFault {
+        PartsFault::Memory
+    }
+}
+
+/// The text of a path: bytes, none of them null.
+#[derive(Debug, Drop)]
+pub struct FilePath {
+    bytes: Vec<u8>,
+}
+
+impl Model for FilePath {
+    ghost Value = { List ℕ };
+
+    ghost view = { λ a. a.bytes.items };
+
+    ghost invariant = { λ a. IsNulFree a.bytes.items };
+}
+
+/// The components of a path, and whether slashes stand behind the last one.
+///
+/// A path without components, as `/`, has no trailing slash.
+#[derive(Debug, PartialEq, Eq, Drop)]
+pub struct Parts {
+    pub names: Names,
+    pub trailing: bool,
+}
+
+impl FilePath {
+    /// The path that has these bytes, of any number. A null byte is refused, and nothing else is.
+    pub fn new(alloc: Global, bytes: &[u8]) -> Result<FilePath, PathFault>
+        ensures path { IfOk result (λ path. path ≡ bytes.now) }
+        ensures nul { (result ≡ Err PathFault.NulByte) ↔ IsTrue (has_nul bytes.now) }
+    {
+        if bytes.contains(&0) {
+            return Err(PathFault::NulByte);
+        }
+        let bytes = bytes.to_vec(alloc).map_err(Memory::from)?;
+        Ok(FilePath { bytes })
+    }
+
+    /// Its bytes.
+    pub fn as_bytes(&self) -> &[u8]
+        ensures value { result.now ≡ self.now }
+        ensures nul_free { IsNulFree self.now }
+    {
+        self.bytes.as_slice()
+    }
+
+    /// The components of the path.
+    ///
+    /// Refuses an empty path with ENOENT, and then a path of more than 4,095 bytes or with a
+    /// component of more than 255 bytes with ENAMETOOLONG.
+    pub fn parts(&self, alloc: Global) -> Result<Parts, PartsFault>
+        ensures { IsAnswer (parts_of self.now) result }
+    {
+        let bytes = self.as_bytes();
+        if bytes.is_empty() {
+            return Err(PartsFault::Errno(Errno::ENOENT));
+        }
+        if bytes.len() > LONGEST_PATH || has_long_component(bytes) {
+            return Err(PartsFault::Errno(Errno::ENAMETOOLONG));
+        }
+        let names = component_names(alloc, bytes)?;
+        let trailing = !names.as_slice().is_empty() && bytes.ends_with(b"/".as_slice());
+        Ok(Parts { names, trailing })
+    }
+
+    /// Another path of the same bytes.
+    pub fn try_clone(&self) -> Result<FilePath, Memory>
+        ensures { IfOk result (λ path. path ≡ self.now) }
+    {
+        let bytes = self.bytes.clone()?;
+        Ok(FilePath { bytes })
+    }
+}
+
+impl Clone for FilePath {
+    ghost is_clone = { λ path copy. copy ≡ path };
+
+    fn clone(&self) -> Result<FilePath, AllocError> {
+        let copied = self.bytes.clone()?;
+        Ok(FilePath { bytes: copied })
+    }
+}
+
+impl PartialEq for FilePath {
+    ghost eq = { pointwise nat_eq };
+
+    ghost laws = { partial_equiv_from_equiv nat_list_eq_equiv };
+
+    fn eq(&self, other: &FilePath) -> bool {
+        self.bytes == other.bytes
+    }
+}
+
+impl Eq for FilePath {
+    ghost laws = { nat_list_eq_equiv };
+}
+
+/// Whether a component has more bytes than a name.
+fn has_long_component(bytes: &[u8]) -> bool
+    ensures { result ≡ list_any is_long (components bytes.now) }
+{
+    for piece in bytes.split_str(b"/".as_slice()) {
+        if piece.len() > LONGEST_NAME {
+            return true;
+        }
+    }
+    false
+}
+
+/// The components as names.
+fn component_names(alloc: Global, bytes: &[u8]) -> Result<Names, Memory>
+    requires nul_free { IsNulFree bytes.now }
+    requires short { list_any is_long (components bytes.now) ≡ false }
+    ensures { IfOk result (λ names. names ≡ components bytes.now) }
+{
+    let mut names = Names::new(alloc);
+    for piece in bytes.split_str(b"/".as_slice()) {
+        if !piece.is_empty() {
+            names.push(Name::from_bytes(alloc, piece)?)?;
+        }
+    }
+    Ok(names)
+}

@@ -1,0 +1,4 @@
+pub mod CommandLine
+pub mod Runs
+pub mod Script
+pub mod Texts

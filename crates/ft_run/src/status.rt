@@ -1,0 +1,65 @@
+// The status that the program ends with.
+ghost use Rattle.std.specs.Prelude.{◌≡◌, ◌⊎◌, IfErr, OnOk};
+ghost use Rattle.std.specs.Io.KnownBytes.{Keeps};
+ghost use Rattle.ft_run.specs.Runs.{PlaysAnew, StopsAnew, WritesFront};
+ghost use Rattle.ft_run.specs.Texts.{fault_line};
+
+use crate::play::{PlayFault, play, write_out};
+use ft_core::Core;
+use std::alloc::Global;
+use std::io::{Read, Write};
+
+/// Runs a script on a new core, and answers the status to end with: 0, or 1 after a fault, of
+/// which a line tells on `errors`. Where that line can't be written, the status is the same.
+pub fn play_status<R: Read, W: Write, E: Write>(
+    alloc: Global,
+    reader: &mut R,
+    writer: &mut W,
+    errors: &mut E,
+) -> u8
+    ensures status { (result ≡ 0) ⊎ (result ≡ 1) }
+    ensures quiet { result ≡ 0 → Keeps (E.contents errors.old) (E.contents errors.new) }
+    ensures ok { result ≡ 0 → PlaysAnew (R.remaining reader.old) (R.remaining reader.new)
+        (W.contents writer.old) (W.contents writer.new) }
+    ensures fault { result ≡ 1 → (fault : PlayFault) × StopsAnew fault (R.remaining reader.old)
+        (R.remaining reader.new) (W.contents writer.old) (W.contents writer.new)
+        × WritesFront (E.contents errors.old) (E.contents errors.new) (fault_line fault) }
+{
+    match play_anew(alloc, reader, writer) {
+        Ok(()) => 0,
+        Err(fault) => {
+            let _ = write_out(errors, fault_line(fault).as_bytes());
+            1
+        }
+    }
+}
+
+// Runs a script on a new core.
+fn play_anew<R: Read, W: Write>(
+    alloc: Global,
+    reader: &mut R,
+    writer: &mut W,
+) -> Result<(), PlayFault>
+    ensures ok { OnOk result (PlaysAnew (R.remaining reader.old) (R.remaining reader.new)
+        (W.contents writer.old) (W.contents writer.new)) }
+    ensures fault { IfErr result (λ fault. StopsAnew fault (R.remaining reader.old)
+        (R.remaining reader.new) (W.contents writer.old) (W.contents writer.new)) }
+{
+    match Core::new(alloc) {
+        Ok(mut core) => play(alloc, reader, writer, &mut core),
+        Err(_) => Err(PlayFault::Memory),
+    }
+}
+
+/// The line that tells of a fault, with its line feed.
+pub fn fault_line(fault: PlayFault) -> &'static str
+    ensures { result.now ≡ fault_line fault }
+{
+    match fault {
+        PlayFault::Memory => "fault: Memory\n",
+        PlayFault::Read => "fault: Read\n",
+        PlayFault::Write => "fault: Write\n",
+        PlayFault::TooLong => "fault: TooLong\n",
+        PlayFault::Turns => "fault: Turns\n",
+    }
+}

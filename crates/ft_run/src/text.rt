@@ -1,0 +1,114 @@
+// The text of an answer.
+ghost use Rattle.std.specs.Prelude.{◌≡◌, Some};
+ghost use Rattle.ft_run.specs.Texts.{text_of, reply_text, listing, listed, blocker_list, fault_name};
+
+use ft_calls::Reply;
+use ft_core::{Answer, Fault, TxnId};
+use ft_path::Name;
+use ft_tree::Kind;
+use percent_encoding::{AsciiSet, CONTROLS, ascii_set, percent_encode};
+use std::fmt;
+
+/// The bytes that are percent-coded in printed names, beside those from 128 on: 0 to 32, `%` and
+/// 127.
+const CODED: AsciiSet = ascii_set!(CONTROLS.add(b' ').add(b'%'));
+
+/// The reply that tells of an answer, without its line feed.
+#[derive(Clone, Copy)]
+pub struct AnswerText<'a>(pub &'a Answer);
+
+impl fmt::Display for AnswerText<'_> {
+    ghost output = { λ text. Some (text_of text.0.now) };
+
+    fn fmt<W: fmt::Write>(&self, f: &mut fmt::Formatter<W>) -> fmt::Result {
+        match self.0 {
+            Answer::Txn(txn) => write!(f, "txn {}", txn.0),
+            Answer::Granted { stamp, reply } => write!(f, "{stamp} {}", ReplyText(reply)),
+            Answer::Waits { blockers } => write!(f, "waits{}", BlockerList(blockers.as_slice())),
+            Answer::Committed | Answer::Aborted(_) => f.write_str("ok"),
+            Answer::Refused(fault) => write!(f, "refused {}", fault_name(*fault)),
+        }
+    }
+}
+
+// The text of a call's reply.
+#[derive(Clone, Copy)]
+struct ReplyText<'a>(&'a Reply);
+
+impl fmt::Display for ReplyText<'_> {
+    ghost output = { λ text. Some (reply_text text.0.now) };
+
+    fn fmt<W: fmt::Write>(&self, f: &mut fmt::Formatter<W>) -> fmt::Result {
+        match self.0 {
+            Reply::Done => f.write_str("ok"),
+            Reply::Names(names) => write!(f, "ok {}{}", names.len(), Listing(names.as_slice())),
+            Reply::Failed(errno) => errno.fmt(f),
+        }
+    }
+}
+
+// The names of a directory.
+#[derive(Clone, Copy)]
+struct Listing<'a>(&'a [(Name, Kind)]);
+
+impl fmt::Display for Listing<'_> {
+    ghost output = { λ list. Some (listing list.0.now) };
+
+    fn fmt<W: fmt::Write>(&self, f: &mut fmt::Formatter<W>) -> fmt::Result {
+        for (name, kind) in self.0 {
+            write!(f, "{}", Listed(name, *kind))?;
+        }
+        Ok(())
+    }
+}
+
+// One name of a directory, after a space.
+#[derive(Clone, Copy)]
+struct Listed<'a>(&'a Name, Kind);
+
+impl fmt::Display for Listed<'_> {
+    ghost output = { λ entry. Some (listed entry.0.now entry.1) };
+
+    #[tactic(auto, using(crate::proofs::Coding::percent_encode_coded))]
+    fn fmt<W: fmt::Write>(&self, f: &mut fmt::Formatter<W>) -> fmt::Result {
+        let name = percent_encode(self.0.as_bytes(), CODED);
+        match self.1 {
+            Kind::Dir => write!(f, " {name}/"),
+            Kind::File => write!(f, " {name}"),
+        }
+    }
+}
+
+// Numbers of transactions, each after a space.
+#[derive(Clone, Copy)]
+struct BlockerList<'a>(&'a [TxnId]);
+
+impl fmt::Display for BlockerList<'_> {
+    ghost output = { λ list. Some (blocker_list list.0.now) };
+
+    fn fmt<W: fmt::Write>(&self, f: &mut fmt::Formatter<W>) -> fmt::Result {
+        for txn in self.0 {
+            write!(f, " {}", txn.0)?;
+        }
+        Ok(())
+    }
+}
+
+// The name of a refusal.
+fn fault_name(fault: Fault) -> &'static str
+    ensures { result.now ≡ fault_name fault }
+{
+    match fault {
+        Fault::Memory => "Memory",
+        Fault::NoTxn => "NoTxn",
+        Fault::Ended => "Ended",
+        Fault::ChildLive => "ChildLive",
+        Fault::NothingToUndo => "NothingToUndo",
+        Fault::SubSince => "SubSince",
+        Fault::Full => "Full",
+        Fault::Deep => "Deep",
+        Fault::Live => "Live",
+        Fault::NoAsk => "NoAsk",
+        Fault::NoViews => "NoViews",
+    }
+}

@@ -1,0 +1,9 @@
+pub mod Nodes
+pub mod Cells
+pub mod Looks
+pub mod Views
+pub mod Walk
+pub mod Plain
+pub mod Tidy
+pub mod Sound
+pub mod Rows

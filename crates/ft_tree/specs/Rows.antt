@@ -1,0 +1,22 @@
+-- What a tree holds, row by row.
+use Rattle.std.specs.Prelude.{ℕ, List, ◌++◌, map}
+use Rattle.std.specs.FinMap as finite
+use Rattle.ft_tree.specs.declared.node.Node.{Node}
+use Rattle.ft_tree.specs.declared.row.TreeRow.{TreeRow}
+use Rattle.ft_tree.specs.declared.row.TreeRow.TheVariants.{Dir as DirRow, Edge as EdgeRow}
+use Rattle.ft_tree.specs.Nodes.{number_of}
+use Rattle.ft_tree.specs.Plain.{PlainTree, EdgeKey}
+
+abbrev pub dir_rows : List (ℕ × Unit {0}) → List TreeRow
+dir_rows dirs = map (λ e. DirRow e.0) dirs
+
+abbrev pub edge_rows : List (EdgeKey × ℕ) → List TreeRow
+edge_rows edges = map (λ e. EdgeRow e.0.0 e.0.1 e.1) edges
+
+-- the rows of the names of one directory
+abbrev pub named_rows : ℕ → List (List ℕ × Node) → List TreeRow
+named_rows d names = map (λ e. EdgeRow d e.0 (number_of e.1)) names
+
+-- the directories by number, then the edges by directory and name
+abbrev pub rows_of : PlainTree → List TreeRow
+rows_of p = dir_rows (finite.entries p.dirs) ++ edge_rows (finite.entries p.edges)

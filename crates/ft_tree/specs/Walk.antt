@@ -1,0 +1,71 @@
+-- Where a path leads: pathname resolution (POSIX.1-2017, Base Definitions, 4.13), one look per component.
+use Rattle.std.specs.Prelude.{ℕ, Bool, true, cond, ◌==◌, List, [], ◌∷◌, Option, Some, None, unwrap_or, Result, Ok, Err}
+use Rattle.std.specs.Option.{option_map}
+use Rattle.ft_path.specs.Name.{is_dot, is_dot_dot}
+use Rattle.ft_path.specs.declared.errno.Errno.{Errno}
+use Rattle.ft_path.specs.declared.errno.Errno.TheVariants.{ENOENT, ENOTDIR}
+use Rattle.ft_tree.specs.declared.node.Found.{Found}
+use Rattle.ft_tree.specs.declared.node.Found.TheVariants.{Place, Whole}
+use Rattle.ft_tree.specs.declared.node.Node.{Node}
+use Rattle.ft_tree.specs.declared.node.Node.TheVariants.{Dir as DirNode, File as FileNode}
+use Rattle.ft_tree.specs.declared.node.Spot.{Spot as Seen}
+use Rattle.ft_tree.specs.declared.node.Spot.TheVariants.{Named as SeenNamed, Itself as SeenItself}
+use Rattle.ft_tree.specs.declared.cell.Cell.TheVariants.{Entry, Parent}
+use Rattle.ft_tree.specs.Nodes.{number_of}
+use Rattle.ft_tree.specs.Looks.{Looks, Answer, Look, then, or_else}
+
+-- where a walk ends: at a name in a directory, with what it leads to, or at a directory itself
+pub data Spot : Type 0 where
+  Named : ℕ → List ℕ → Option Node → Spot
+  Itself : ℕ → Spot
+
+-- the parent of a directory; the root's is the root
+abbrev pub up : ℕ → Looks ℕ
+up d = cond (d == 1) (Answer 1) (Look (Parent d) (λ p. Answer (unwrap_or p 1)))
+
+-- an entry that is passed through has to be a directory
+abbrev pub passed : Option Node → Result ℕ Errno
+passed None = Err ENOENT
+passed (Some (DirNode i)) = Ok i
+passed (Some (FileNode i)) = Err ENOTDIR
+
+-- a component that is not the last
+abbrev pub inner : ℕ → List ℕ → Looks (Result ℕ Errno)
+inner d name = cond (is_dot name) (Answer (Ok d)) (cond (is_dot_dot name) (then (up d) (λ p. Answer (Ok p))) (Look (Entry d name) (λ x. Answer (passed x))))
+
+-- what a last name leads to: a file with a slash behind it is a fault
+abbrev pub reached : ℕ → List ℕ → Bool → Option Node → Result Spot Errno
+reached d name true (Some (FileNode i)) = Err ENOTDIR
+reached d name trailing x = Ok (Named d name x)
+
+-- the last component
+abbrev pub last : ℕ → List ℕ → Bool → Looks (Result Spot Errno)
+last d name trailing = cond (is_dot name) (Answer (Ok (Itself d))) (cond (is_dot_dot name) (then (up d) (λ p. Answer (Ok (Itself p)))) (Look (Entry d name) (λ x. Answer (reached d name trailing x))))
+
+-- from directory d on: a component, and those behind it
+abbrev pub walk_from : ℕ → List ℕ → List (List ℕ) → Bool → Looks (Result Spot Errno)
+walk_from d name [] trailing = last d name trailing
+walk_from d name (m ∷ ms) trailing = then (inner d name) (or_else Err (λ i. walk_from i m ms trailing))
+
+-- the walk of a path's components, from the root
+abbrev pub walk : List (List ℕ) → Bool → Looks (Result Spot Errno)
+walk [] trailing = Answer (Ok (Itself 1))
+walk (name ∷ names) trailing = walk_from 1 name names trailing
+
+abbrev pub found_at : Spot → Found
+found_at (Named d name x) = Place d (option_map number_of x)
+found_at (Itself d) = Whole d
+
+-- what `lookup` tells of the end of a walk
+abbrev pub found : Result Spot Errno → Result Found Errno
+found (Ok spot) = Ok (found_at spot)
+found (Err e) = Err e
+
+abbrev pub seen_at : Seen → Spot
+seen_at (SeenNamed d name x) = Named d name.now x
+seen_at (SeenItself d) = Itself d
+
+-- what `walk` answers, with the name that it borrows
+abbrev pub seen : Result Seen Errno → Result Spot Errno
+seen (Ok spot) = Ok (seen_at spot)
+seen (Err e) = Err e
