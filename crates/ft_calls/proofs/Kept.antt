@@ -1,65 +1,195 @@
 -- Each call leaves sound cells, and each other number that was free.
-use Rattle.std.proofs.Common.{◌≡◌, ◌≢◌, ◌≤◌, ℕ, true, false, cond, List, Option, Some, None, arith, refl, sym, ap, subst, ne_eqb, ◌∙◌}
+use Rattle.std.proofs.Common.{◌≡◌, ◌≢◌, ◌+◌, ℕ, Bool, true, false, cond, ◌||◌, List, [], ◌∷◌, Option, Some, None, is_some, refl, sym, ap, subst, eqb-true, eq-eqb, ne_eqb, ◌∙◌}
 use Rattle.std.specs.Prelude.{◌==◌}
+use Rattle.std.proofs.lemmas.Option.{none-some, same_Some}
+use Rattle.std.proofs.Math.Bool.{or-true}
+use Rattle.std.specs.Option.{option_map}
 use Rattle.ft_tree.specs.declared.node.Node.{Node}
-use Rattle.ft_tree.specs.declared.node.Node.TheVariants.{Dir as DirNode}
-use Rattle.ft_tree.specs.Cells.{Cells, dir_of, entry_of, parent_of, put_entry, put_parent, HasDirPlace}
-use Rattle.ft_tree.specs.Sound.{IsTree, AreSoundCells, IsFree}
+use Rattle.ft_tree.specs.declared.node.Node.TheVariants.{Dir as DirNode, File as FileNode}
+use Rattle.ft_tree.specs.declared.open_file.OpenFile.{OpenFile}
+use Rattle.ft_tree.specs.Nodes.{number_of}
+use Rattle.ft_tree.specs.Cells.{Cells, dir_of, entry_of, parent_of, links_of, bytes_of, open_of, names_of, put_links, HasFilePlace}
+use Rattle.ft_tree.specs.Plain.{EdgeKey, links_in}
+use Rattle.ft_tree.specs.Tidy.{tidy}
+use Rattle.ft_tree.specs.Sound.{Hangs, IsNoDir, IsTree, AreSoundCells, IsFree}
+use Rattle.ft_calls.specs.declared.call.OpenFlags.{OpenFlags}
 use Rattle.ft_calls.specs.Laws.{SoundnessLaw, FreshnessLaw}
-use Rattle.ft_calls.specs.Steps.{Outcome}
+use Rattle.ft_calls.specs.Outcomes.{Write, SetEntry, SetBytes, SetOpen, Outcome}
+use Rattle.ft_calls.specs.FileSteps.{creates, description}
 use Rattle.ft_calls.specs.Stored.{put_all}
-use Rattle.ft_calls.proofs.Places.{dir_place-put_dir}
-use Rattle.ft_calls.proofs.Puts.{is_place, with_entry, with_parent, entry-put_entry, parent-put_entry, entry-put_parent, parent-put_parent}
+use Rattle.ft_calls.proofs.Places.{file_place-put_all, file_place-set}
+use Rattle.ft_calls.proofs.Puts.{with_entry, with_parent, with_value, parent_after, entry-put_all}
 use Rattle.ft_calls.proofs.Listed.{dir_entry-none}
-use Rattle.ft_calls.proofs.Free.{parent-free, free-parent}
+use Rattle.ft_calls.proofs.Tidied.{get-tidy}
+use Rattle.ft_calls.proofs.Drawn.{edges-same, count-drawn, count-erased, count-other}
+use Rattle.ft_calls.proofs.Counting.{count_edges, count-none}
 use Rattle.ft_calls.proofs.Made.{tree-made}
-use Rattle.ft_calls.proofs.Removed.{tree-removed}
-use Rattle.ft_calls.proofs.Changes.{Change, no_change, makes, removes, call-changes}
+use Rattle.ft_calls.proofs.Removed.{no_dir_left, none_left, tree-removed}
+use Rattle.ft_calls.proofs.Created.{tree-created}
+use Rattle.ft_calls.proofs.Named.{Named, by_open}
+use Rattle.ft_calls.proofs.Changes.{Change, no_change, makes, removes, creates_file, on_files, made, removed, AreFileWrites, call-changes}
+use Rattle.ft_calls.proofs.Left.{shown, shown-no_dir, IsFile, links-shown, links-counted, named-file, sound-after, named-not_free, free-after, entries-apart, node-apart, value-other, above-not_root, other_than}
+use Rattle.ft_calls.proofs.FileWrites.{entry-files, parent-files, links-files, bytes-files, open-files, named-files}
 
--- one parent and one entry are set
-abbrev both_set : Cells → ℕ → List ℕ → Option Node → ℕ → Option ℕ → Cells
-both_set cells d name to i p = put_entry (put_parent cells i p) d name to
+-- The call with stamp k makes the directory k.
+module _ (cells : Cells) (sound : AreSoundCells cells) (k : ℕ) (free : IsFree cells k) (d : ℕ) (name : List ℕ) (hangs : Hangs (parent_of cells) d) (empty : entry_of cells d name ≡ None) where
+  abbrev made_writes : List Write
+  made_writes = (made k d name).writes
 
--- the parents then
-parent-both_set : (cells : Cells) (d : ℕ) (name : List ℕ) (to : Option Node) (i : ℕ) (p : Option ℕ) (e : ℕ) → parent_of (both_set cells d name to i p) e ≡ with_parent (parent_of cells) i p e
-parent-both_set cells d name to i p e = parent-put_entry (put_parent cells i p) d name to e ∙ parent-put_parent cells i p e
+  links-made : (i : ℕ) → links_of cells i ≡ shown (put_all cells made_writes) (with_parent (parent_of cells) k (Some d)) i
+  links-made i = by_number (i == k) refl
+    where
+      by_number : (b : Bool) → (i == k) ≡ b → links_of cells i ≡ cond ((i == 1) || is_some (cond b (Some d) (parent_of cells i))) 0 (links_in (tidy (put_all cells made_writes)) i)
+      by_number true at = ap (links_of cells) (eqb-true i k at) ∙ free.no_links ∙ sym (ap (λ b. cond b 0 (links_in (tidy (put_all cells made_writes)) i)) (or-true (i == 1)))
+      by_number false at =
+          links-shown cells sound i
+          ∙ ap (cond ((i == 1) || is_some (parent_of cells i)) 0) (sym (count-other k i _ _ (other_than i k at) (count-drawn cells (put_all cells made_writes) d name (DirNode k) (entry-put_all made_writes cells) empty i)))
 
--- and the entries
-entry-both_set : (cells : Cells) (d : ℕ) (name : List ℕ) (to : Option Node) (i : ℕ) (p : Option ℕ) (e : ℕ) (other : List ℕ) → entry_of (both_set cells d name to i p) e other ≡ with_entry (entry_of cells) d name to e other
-entry-both_set cells d name to i p e other = entry-put_entry (put_parent cells i p) d name to e other ∙ ap (cond (is_place d name e other) to) (entry-put_parent cells i p e other)
+  file-made : (i : ℕ) → i ≢ k → IsFile cells (parent_of cells) i → IsFile (put_all cells made_writes) (with_parent (parent_of cells) k (Some d)) i
+  file-made i other file = (file_place-put_all made_writes cells i file.0, (file.1.0, ap (λ b. cond b (Some d) (parent_of cells i)) (ne_eqb i k other) ∙ file.1.1))
 
--- what is left is sound if it is a tree
-sound-both_set : (cells : Cells) (d : ℕ) (name : List ℕ) (to : Option Node) (i : ℕ) (p : Option ℕ) → HasDirPlace cells 1 → IsTree (with_entry (entry_of cells) d name to) (with_parent (parent_of cells) i p)
-    → AreSoundCells (both_set cells d name to i p)
-sound-both_set cells d name to i p root tree =
-    let entries : entry_of (both_set cells d name to i p) ≡ with_entry (entry_of cells) d name to = λ x e other. entry-both_set cells d name to i p e other x in
-    let parents : parent_of (both_set cells d name to i p) ≡ with_parent (parent_of cells) i p = λ x e. parent-both_set cells d name to i p e x in
-    record {
-      root_is = dir_place-put_dir (put_parent cells i p) d _ 1 (dir_place-put_dir cells i _ 1 root);
-      tree = subst (λ (f : ℕ → List ℕ → Option Node). IsTree f (parent_of (both_set cells d name to i p))) (sym entries) (subst (λ (f : ℕ → Option ℕ). IsTree (with_entry (entry_of cells) d name to) f) (sym parents) tree);
-    }
+  sound-made : AreSoundCells (put_all cells made_writes)
+  sound-made =
+      sound-after cells sound made_writes
+      (tree-made (entry_of cells) (parent_of cells) sound.tree d name k empty free.no_parent (above-not_root k free.above_root) hangs free.no_entry)
+      links-made (λ f o h. file-made o.file (free.no_file f o h) (sound.opens f o h))
 
--- each change leaves sound cells
-change-sound : (cells : Cells) (k : ℕ) → AreSoundCells cells → IsFree cells k → (o : Outcome) → Change cells k o → AreSoundCells (put_all cells o.writes)
-change-sound cells k sound free _ (no_change reply) = sound
-change-sound cells k sound free _ (makes d name hangs empty) =
-    let above : 2 ≤ k = free.above_root in
-    sound-both_set cells d name (Some (DirNode k)) k (Some d) sound.root_is
-    (tree-made (entry_of cells) (parent_of cells) sound.tree d name k empty (parent-free cells k free) (λ is. absurd (omega arith)) hangs)
-change-sound cells k sound free _ (removes d name i is bare) =
-    sound-both_set cells d name None i None sound.root_is (tree-removed (entry_of cells) (parent_of cells) sound.tree d name i is (dir_entry-none (dir_of cells i) bare))
+  free-made : (j : ℕ) → IsFree cells j → j ≢ k → IsFree (put_all cells made_writes) j
+  free-made j too other =
+      free-after cells made_writes j too.above_root (ap (λ b. cond b (Some d) (parent_of cells j)) (ne_eqb j k other) ∙ too.no_parent) too.no_links too.no_bytes too.no_open
+      (entries-apart cells d name (Some (DirNode k)) j too (λ x. node-apart (DirNode k) x j other)) too.no_file
+
+-- It removes the empty directory i.
+module _ (cells : Cells) (sound : AreSoundCells cells) (d : ℕ) (name : List ℕ) (i : ℕ) (is : entry_of cells d name ≡ Some (DirNode i)) (bare : names_of cells i ≡ []) where
+  abbrev removed_writes : List Write
+  removed_writes = (removed d name i).writes
+
+  no_entry : (other : List ℕ) → entry_of cells i other ≡ None
+  no_entry = dir_entry-none (dir_of cells i) bare
+
+  -- no edge that is left leads to it
+  count-gone : links_in (tidy (put_all cells removed_writes)) i ≡ 0
+  count-gone =
+      count-none (tidy (put_all cells removed_writes)).edges i
+      (λ e h. by_entry_of e (with_entry (entry_of cells) d name None e.0 e.1) refl (sym (get-tidy (put_all cells removed_writes) e.0 e.1 ∙ ap (λ f. option_map number_of (f e.0 e.1)) (entry-put_all removed_writes cells)) ∙ h))
+    where
+      by_entry_of : (e : EdgeKey) (o : Option Node) → with_entry (entry_of cells) d name None e.0 e.1 ≡ o → option_map number_of o ≡ Some i → ⊥
+      by_entry_of e None at h = none-some i h
+      by_entry_of e (Some x) at h = none_left (entry_of cells) (parent_of cells) sound.tree d name i is no_entry e.0 e.1 x at (same_Some (number_of x) i h)
+
+  -- and the edges to others stay
+  count-left : (j : ℕ) → j ≢ i → links_in (tidy (put_all cells removed_writes)) j ≡ links_in (tidy cells) j
+  count-left j other = sym (count-other i j _ _ other (sym (count-erased cells (put_all cells removed_writes) d name (DirNode i) (entry-put_all removed_writes cells) is j)))
+
+  links-removed : (j : ℕ) → links_of cells j ≡ shown (put_all cells removed_writes) (with_parent (parent_of cells) i None) j
+  links-removed j = by_number (j == i) refl
+    where
+      none : (b : Bool) → ◌≡◌ {A = ℕ} (cond (b || false) 0 0) 0
+      none true = refl
+      none false = refl
+
+      by_number : (b : Bool) → (j == i) ≡ b → links_of cells j ≡ cond ((j == 1) || is_some (cond b None (parent_of cells j))) 0 (links_in (tidy (put_all cells removed_writes)) j)
+      by_number true at =
+          ap (links_of cells) (eqb-true j i at) ∙ links-shown cells sound i ∙ ap (λ o. cond ((i == 1) || is_some o) 0 (links_in (tidy cells) i)) (sound.tree.leads d name i is)
+          ∙ ap (λ b. cond b 0 (links_in (tidy cells) i)) (or-true (i == 1)) ∙ sym (ap (cond ((j == 1) || false) 0) (ap (links_in (tidy (put_all cells removed_writes))) (eqb-true j i at) ∙ count-gone) ∙ none (j == 1))
+      by_number false at = links-shown cells sound j ∙ ap (cond ((j == 1) || is_some (parent_of cells j)) 0) (sym (count-left j (other_than j i at)))
+
+  sound-removed : AreSoundCells (put_all cells removed_writes)
+  sound-removed =
+      sound-after cells sound removed_writes (tree-removed (entry_of cells) (parent_of cells) sound.tree d name i is no_entry) links-removed
+      (λ f o h. let file = sound.opens f o h in (file_place-put_all removed_writes cells o.file file.0, no_dir_left (entry_of cells) (parent_of cells) sound.tree d name i is no_entry o.file file.1))
+
+  free-removed : (j : ℕ) → IsFree cells j → IsFree (put_all cells removed_writes) j
+  free-removed j too =
+      free-after cells removed_writes j too.above_root (elim (j == i) as (λ b. cond b None (parent_of cells j) ≡ None) [ true ↦ refl | false ↦ too.no_parent ]) too.no_links too.no_bytes too.no_open
+      (entries-apart cells d name None j too (λ x h. absurd (none-some x h))) too.no_file
+
+-- It makes the file k, with a description.
+module _ (cells : Cells) (sound : AreSoundCells cells) (k : ℕ) (free : IsFree cells k) (flags : OpenFlags) (d : ℕ) (name : List ℕ) (hangs : Hangs (parent_of cells) d) (empty : entry_of cells d name ≡ None) where
+  abbrev created_writes : List Write
+  created_writes = (creates k flags d name).writes
+
+  not_root : k ≢ 1
+  not_root = above-not_root k free.above_root
+
+  count-created : (i : ℕ) → links_in (tidy (put_all cells created_writes)) i ≡ cond (k == i) 1 0 + links_in (tidy cells) i
+  count-created = count-drawn cells (put_all cells created_writes) d name (FileNode k) (entry-put_all created_writes cells) empty
+
+  -- its own count is one
+  count-own : links_in (tidy (put_all cells created_writes)) k ≡ 1
+  count-own = count-created k ∙ (λ x. cond (eq-eqb k k refl x) 1 0 + (sym (links-counted cells sound k (not_root, free.no_parent)) ∙ free.no_links) x)
+
+  links-created : (i : ℕ) → with_value (links_of cells) k 1 i ≡ shown (put_all cells created_writes) (parent_of cells) i
+  links-created i = by_number (i == k) refl
+    where
+      by_number : (b : Bool) → (i == k) ≡ b → cond b 1 (links_of cells i) ≡ shown (put_all cells created_writes) (parent_of cells) i
+      by_number true at =
+          sym (ap (shown (put_all cells created_writes) (parent_of cells)) (eqb-true i k at) ∙ shown-no_dir (put_all cells created_writes) (parent_of cells) k (not_root, free.no_parent) ∙ count-own)
+      by_number false at = links-shown cells sound i ∙ ap (cond ((i == 1) || is_some (parent_of cells i)) 0) (sym (count-other k i _ _ (other_than i k at) (count-created i)))
+
+  place-created : HasFilePlace (put_all cells created_writes) k
+  place-created =
+      file_place-put_all (SetBytes k [] ∷ SetOpen k (Some (description flags k)) ∷ SetEntry d name (Some (FileNode k)) ∷ []) (put_links cells k 1) k (file_place-set cells k (record { links = 1; bytes = bytes_of cells k }))
+
+  -- each description is the new one, or an old one
+  opens-created : (P : ℕ → Type 0) → P k → ((f : ℕ) (o : OpenFile) → open_of cells f ≡ Some o → P o.file) → (f : ℕ) (o : OpenFile) → with_value (open_of cells) k (Some (description flags k)) f ≡ Some o → P o.file
+  opens-created P new old f o h = by_number (f == k) h
+    where
+      by_number : (b : Bool) → cond b (Some (description flags k)) (open_of cells f) ≡ Some o → P o.file
+      by_number true is = subst P (ap (λ x. x.file) (same_Some (description flags k) o is)) new
+      by_number false is = old f o is
+
+  sound-created : AreSoundCells (put_all cells created_writes)
+  sound-created =
+      sound-after cells sound created_writes (tree-created (entry_of cells) (parent_of cells) sound.tree d name k empty free.no_parent not_root hangs) links-created
+      (opens-created (IsFile (put_all cells created_writes) (parent_of cells)) (place-created, (not_root, free.no_parent))
+      (λ f o h. let file = sound.opens f o h in (file_place-put_all created_writes cells o.file file.0, file.1)))
+
+  free-created : (j : ℕ) → IsFree cells j → j ≢ k → IsFree (put_all cells created_writes) j
+  free-created j too other =
+      free-after cells created_writes j too.above_root too.no_parent (value-other (links_of cells) k 1 j other ∙ too.no_links) (value-other (bytes_of cells) k [] j other ∙ too.no_bytes)
+      (value-other (open_of cells) k (Some (description flags k)) j other ∙ too.no_open) (entries-apart cells d name (Some (FileNode k)) j too (λ x. node-apart (FileNode k) x j other))
+      (opens-created (λ i. i ≢ j) (λ same. other (sym same)) too.no_file)
+
+-- It sets the bytes of files that are named, and descriptions of them.
+module _ (cells : Cells) (k : ℕ) where
+  sound-files : AreSoundCells cells → (ws : List Write) → AreFileWrites cells k ws → AreSoundCells (put_all cells ws)
+  sound-files sound ws h =
+      let entries = entry-files cells k ws h (entry_of cells) in
+      let parents = parent-files cells k ws h (parent_of cells) in
+      let new = put_all cells ws in
+      let each : (i : ℕ) → Named cells i → IsFile new (parent_after (parent_of cells) ws) i =
+      λ i named. let file = named-file cells sound i named in (file_place-put_all ws cells i file.0, subst (λ (f : ℕ → Option ℕ). IsNoDir f i) (sym parents) file.1) in
+      sound-after cells sound ws
+      (subst (λ (f : ℕ → List ℕ → Option Node). IsTree f (parent_after (parent_of cells) ws)) (sym entries) (subst (λ (f : ℕ → Option ℕ). IsTree (entry_of cells) f) (sym parents) sound.tree))
+      (λ i. ap (λ f. f i) (links-files cells k ws h (links_of cells)) ∙ links-shown cells sound i ∙ (λ x. cond ((i == 1) || is_some (sym parents x i)) 0 (count_edges (sym (edges-same cells new (entry-put_all ws cells ∙ entries)) x) i)))
+      (named-files cells k (IsFile new (parent_after (parent_of cells) ws)) each ws h (open_of cells) (λ f o is. each o.file (by_open f o is)))
+
+  free-files : (ws : List Write) → AreFileWrites cells k ws → (j : ℕ) → IsFree cells j → j ≢ k → IsFree (put_all cells ws) j
+  free-files ws h j free other =
+      free-after cells ws j free.above_root (ap (λ f. f j) (parent-files cells k ws h (parent_of cells)) ∙ free.no_parent) (ap (λ f. f j) (links-files cells k ws h (links_of cells)) ∙ free.no_links)
+      (bytes-files cells k ws h (bytes_of cells) j (named-not_free cells j free) ∙ free.no_bytes) (open-files cells k ws h (open_of cells) j free.no_open other free.no_open)
+      (λ d name x is. free.no_entry d name x (sym (ap (λ f. f d name) (entry-files cells k ws h (entry_of cells))) ∙ is))
+      (named-files cells k (λ i. i ≢ j) (named-not_free cells j free) ws h (open_of cells) free.no_file)
+
+-- Each change leaves sound cells.
+change-sound : (cells : Cells) (k : ℕ) (reads : Bool) → AreSoundCells cells → IsFree cells k → (o : Outcome) → Change cells k reads o → AreSoundCells (put_all cells o.writes)
+change-sound cells k reads sound free _ (no_change reply) = sound
+change-sound cells k reads sound free _ (makes d name hangs empty) = sound-made cells sound k free d name hangs empty
+change-sound cells k reads sound free _ (removes d name i is bare) = sound-removed cells sound d name i is bare
+change-sound cells k reads sound free _ (creates_file flags d name hangs empty) = sound-created cells sound k free flags d name hangs empty
+change-sound cells k reads sound free _ (on_files reply ws each acts lists) = sound-files cells k sound ws each
 
 pub soundness : SoundnessLaw
-soundness cells k call sound free = change-sound cells k sound free _ (call-changes cells sound k call)
+soundness cells k call sound free = change-sound cells k _ sound free _ (call-changes cells sound k call)
 
--- a number keeps having no parent
-change-free : (cells : Cells) (k : ℕ) (o : Outcome) → Change cells k o → (j : ℕ) → parent_of cells j ≡ None → j ≢ k → parent_of (put_all cells o.writes) j ≡ None
-change-free cells k _ (no_change reply) j none other = none
-change-free cells k _ (makes d name hangs empty) j none other =
-    parent-both_set cells d name (Some (DirNode k)) k (Some d) j ∙ ap (λ b. cond b (Some d) (parent_of cells j)) (ne_eqb j k other) ∙ none
-change-free cells k _ (removes d name i is bare) j none other =
-    parent-both_set cells d name None i None j ∙ elim (j == i) as (λ b. cond b None (parent_of cells j) ≡ None) [ true ↦ refl | false ↦ none ]
+-- And each other number stays free.
+change-free : (cells : Cells) (k : ℕ) (reads : Bool) → AreSoundCells cells → IsFree cells k → (o : Outcome) → Change cells k reads o → (j : ℕ) → IsFree cells j → j ≢ k → IsFree (put_all cells o.writes) j
+change-free cells k reads sound free _ (no_change reply) j too other = too
+change-free cells k reads sound free _ (makes d name hangs empty) j too other = free-made cells sound k free d name hangs empty j too other
+change-free cells k reads sound free _ (removes d name i is bare) j too other = free-removed cells sound d name i is bare j too
+change-free cells k reads sound free _ (creates_file flags d name hangs empty) j too other = free-created cells sound k free flags d name hangs empty j too other
+change-free cells k reads sound free _ (on_files reply ws each acts lists) j too other = free-files cells k ws each j too other
 
 pub freshness : FreshnessLaw
-freshness cells k call sound free j free_too other =
-    free-parent _ j free_too.above_root (change-free cells k _ (call-changes cells sound k call) j (parent-free cells j free_too) other)
+freshness cells k call sound free j too other = change-free cells k _ sound free _ (call-changes cells sound k call) j too other

@@ -7,7 +7,8 @@ use Rattle.std.specs.Cmp.{nat_eq_equiv}
 use Rattle.std.specs.Cmp.Lexicographic.{pointwise, same_text, nat_list_eq_equiv}
 use Rattle.ft_tree.specs.declared.node.Node.{Node}
 use Rattle.ft_tree.specs.declared.node.Node.TheVariants.{Dir as DirNode, File as FileNode}
-use Rattle.ft_tree.specs.Sound.{Hangs, the_root, under, IsTree}
+use Rattle.ft_tree.specs.Nodes.{number_of}
+use Rattle.ft_tree.specs.Sound.{Hangs, the_root, under, IsNoDir, IsTree}
 use Rattle.ft_calls.proofs.Puts.{is_place, with_entry, with_parent}
 
 -- directories of one number are one node
@@ -26,8 +27,9 @@ same_place d e name other h = by_number (e == d) refl h
 pub own_place : (d : ℕ) (name : List ℕ) → is_place d name d name ≡ true
 own_place d name = λ i. nat_eq_equiv.refl d i && nat_list_eq_equiv.refl name i
 
--- the new directory k has no parent yet, and its parent d is in the tree
-module _ (entry : ℕ → List ℕ → Option Node) (parent : ℕ → Option ℕ) (t : IsTree entry parent) (d : ℕ) (name : List ℕ) (k : ℕ) (empty : entry d name ≡ None) (new : parent k ≡ None) (not_root : k ≢ 1) (from : Hangs parent d) where
+-- the new directory k has no parent yet, no entry leads to it, and its parent d is in the tree
+module _ (entry : ℕ → List ℕ → Option Node) (parent : ℕ → Option ℕ) (t : IsTree entry parent) (d : ℕ) (name : List ℕ) (k : ℕ) (empty : entry d name ≡ None) (new : parent k ≡ None) (not_root : k ≢ 1) (from : Hangs parent d)
+    (unnamed : (e : ℕ) (other : List ℕ) (x : Node) → entry e other ≡ Some x → number_of x ≢ k) where
   abbrev entry' : ℕ → List ℕ → Option Node
   entry' = with_entry entry d name (Some (DirNode k))
 
@@ -79,10 +81,6 @@ module _ (entry : ℕ → List ℕ → Option Node) (parent : ℕ → Option ℕ
   new_entry : entry' d name ≡ Some (DirNode k)
   new_entry = ap (λ b. cond b (Some (DirNode k)) (entry d name)) (own_place d name)
 
-  -- no entry leads to the new directory but its own
-  none_to_new : (e : ℕ) (other : List ℕ) (i : ℕ) → entry e other ≡ Some (DirNode i) → i ≡ k → ⊥
-  none_to_new e other i h is = none-some e (sym (ap parent is ∙ new) ∙ t.leads e other i h)
-
   number_is : (i : ℕ) → DirNode i ≡ DirNode k → i ≡ k
   number_is i h = cc
 
@@ -91,9 +89,13 @@ module _ (entry : ℕ → List ℕ → Option Node) (parent : ℕ → Option ℕ
   leads' e other i (inl own) = ap parent' (number_is i own.2) ∙ new_parent ∙ ap Some (sym own.0)
   leads' e other i (inr old) = parent_still i e (t.leads e other i old)
 
-  no_file' : (e : ℕ) (other : List ℕ) (i : ℕ) → ((e ≡ d) × (other ≡ name) × (FileNode i ≡ DirNode k)) ⊎ (entry e other ≡ Some (FileNode i)) → ⊥
-  no_file' e other i (inl own) = let no = own.2 in cc
-  no_file' e other i (inr old) = t.no_file e other i old
+  starts' : (e : ℕ) (other : List ℕ) (x : Node) → ((e ≡ d) × (other ≡ name) × (x ≡ DirNode k)) ⊎ (entry e other ≡ Some x) → Hangs parent' e
+  starts' e other x (inl own) = subst (Hangs parent') (sym own.0) (hangs_still d from)
+  starts' e other x (inr old) = hangs_still e (t.starts e other x old)
+
+  apart' : (e : ℕ) (other : List ℕ) (i : ℕ) → ((e ≡ d) × (other ≡ name) × (FileNode i ≡ DirNode k)) ⊎ (entry e other ≡ Some (FileNode i)) → IsNoDir parent' i
+  apart' e other i (inl own) = let no = own.2 in cc
+  apart' e other i (inr old) = let no_dir = t.apart e other i old in (no_dir.0, ap (λ b. cond b (Some d) (parent i)) (ne_eqb i k (unnamed e other (FileNode i) old)) ∙ no_dir.1)
 
   stands' : (e p : ℕ) → ((e ≡ k) × (p ≡ d)) ⊎ (parent e ≡ Some p) → (other : List ℕ) × (entry' p other ≡ Some (DirNode e))
   stands' e p (inl own) = (name, ap (λ x. entry' x name) own.1 ∙ new_entry ∙ ap (λ i. Some (DirNode i)) (sym own.0))
@@ -101,8 +103,8 @@ module _ (entry : ℕ → List ℕ → Option Node) (parent : ℕ → Option ℕ
 
   once' : (e : ℕ) (m n : List ℕ) (i : ℕ) → ((e ≡ d) × (m ≡ name) × (DirNode i ≡ DirNode k)) ⊎ (entry e m ≡ Some (DirNode i)) → ((e ≡ d) × (n ≡ name) × (DirNode i ≡ DirNode k)) ⊎ (entry e n ≡ Some (DirNode i)) → m ≡ n
   once' e m n i (inl a) (inl b) = a.1 ∙ sym b.1
-  once' e m n i (inl a) (inr b) = absurd (none_to_new e n i b (number_is i a.2))
-  once' e m n i (inr a) (inl b) = absurd (none_to_new e m i a (number_is i b.2))
+  once' e m n i (inl a) (inr b) = absurd (unnamed e n (DirNode i) b (number_is i a.2))
+  once' e m n i (inr a) (inl b) = absurd (unnamed e m (DirNode i) a (number_is i b.2))
   once' e m n i (inr a) (inr b) = t.once e m n i a b
 
   hangs' : (e p : ℕ) → ((e ≡ k) × (p ≡ d)) ⊎ (parent e ≡ Some p) → Hangs parent' e
@@ -112,8 +114,9 @@ module _ (entry : ℕ → List ℕ → Option Node) (parent : ℕ → Option ℕ
   pub tree-made : IsTree entry' parent'
   tree-made = record {
     top = ap (λ b. cond b (Some d) (parent 1)) (ne_eqb 1 k (λ is. not_root (sym is))) ∙ t.top;
+    starts = λ e other x h. starts' e other x (entries e other x h);
     leads = λ e other i h. leads' e other i (entries e other (DirNode i) h);
-    no_file = λ e other i h. no_file' e other i (entries e other (FileNode i) h);
+    apart = λ e other i h. apart' e other i (entries e other (FileNode i) h);
     stands = λ e p h. stands' e p (parents e p h);
     once = λ e m n i h g. once' e m n i (entries e m (DirNode i) h) (entries e n (DirNode i) g);
     hangs = λ e p h. hangs' e p (parents e p h);

@@ -1,5 +1,5 @@
--- The parents that are found among the edges of sound cells.
-use Rattle.std.proofs.Common.{◌≡◌, ℕ, Bool, true, false, cond, ◌||◌, List, [], ◌∷◌, Option, Some, None, is_some, eqb-true, eq-eqb, refl, sym, ap, ◌∙◌, ◌⊎◌, inl, inr, ⊎_elim}
+-- The parents that are found among the edges of sound cells, and which numbers are directories there.
+use Rattle.std.proofs.Common.{◌≡◌, ℕ, Bool, true, false, cond, ◌||◌, List, [], ◌∷◌, Option, Some, None, is_some, eqb-true, eq-eqb, ne_eqb, refl, sym, ap, subst, ◌∙◌, ◌⊎◌, inl, inr, ⊎_elim}
 use Rattle.std.specs.Prelude.{◌==◌}
 use Rattle.std.proofs.lemmas.Bool.{false≢true}
 use Rattle.std.proofs.lemmas.Option.{same_Some}
@@ -15,7 +15,7 @@ use Rattle.ft_tree.specs.Nodes.{number_of}
 use Rattle.ft_tree.specs.Cells.{Cells, entry_of, parent_of}
 use Rattle.ft_tree.specs.Plain.{EdgeKey, edge_cmp, parent_in}
 use Rattle.ft_tree.specs.Tidy.{tidy}
-use Rattle.ft_tree.specs.Sound.{AreSoundCells}
+use Rattle.ft_tree.specs.Sound.{Hangs, the_root, under, IsNoDir, AreSoundCells}
 use Rattle.ft_calls.proofs.Listed.{entries-get}
 use Rattle.ft_calls.proofs.Tidied.{edge_total, get-tidy, contains-parent}
 
@@ -37,28 +37,62 @@ no_start i q (e ∷ es) h g = by_number (e.1 == i) refl h (no_start i q es)
     by_number false is h rest = by_tie (eq_by_cmp edge_cmp q e.0) is g (rest h)
 
 module _ (cells : Cells) (sound : AreSoundCells cells) where
-  -- an edge starts in the parent of what it leads to
-  edge-parent : (d : ℕ) (name : List ℕ) (i : ℕ) → get (tidy cells).edges (d, name) ≡ Some i → parent_of cells i ≡ Some d
-  edge-parent d name i h = by_entry (entry_of cells d name) refl (sym (get-tidy cells d name) ∙ h)
-    where
-      by_entry : (o : Option Node) → entry_of cells d name ≡ o → option_map number_of o ≡ Some i → parent_of cells i ≡ Some d
-      by_entry None is h = absurd (false≢true (ap is_some h))
-      by_entry (Some (FileNode j)) is h = absurd (sound.tree.no_file d name j is)
-      by_entry (Some (DirNode j)) is h = ap (parent_of cells) (sym (same_Some j i h)) ∙ sound.tree.leads d name j is
+  -- the root is a directory
+  pub contains-root : contains_key (tidy cells).dirs 1 ≡ true
+  contains-root = contains-parent cells sound.root_is 1
 
-  -- the first edge to a number, if there is one, starts in its parent
-  searched : (i : ℕ) (es : List (EdgeKey × ℕ)) → AllByRecursion (λ e. get (tidy cells).edges e.0 ≡ Some e.1) es → (start_of i es ≡ None) ⊎ (start_of i es ≡ parent_of cells i)
-  searched i [] h = inl refl
-  searched i (e ∷ es) h = by_number (e.1 == i) refl (searched i es h.1)
+  -- what has a parent is a directory
+  pub contains-under : (i d : ℕ) → parent_of cells i ≡ Some d → contains_key (tidy cells).dirs i ≡ true
+  contains-under i d h = contains-parent cells sound.root_is i ∙ ap (λ o. (i == 1) || is_some o) h ∙ or-true (i == 1)
+
+  -- and so is what hangs below the root
+  pub contains-hangs : (d : ℕ) → Hangs (parent_of cells) d → contains_key (tidy cells).dirs d ≡ true
+  contains-hangs _ the_root = contains-root
+  contains-hangs _ (under d p h up) = contains-under d p h
+
+  -- a directory hangs below the root
+  pub hangs-contains : (d : ℕ) → contains_key (tidy cells).dirs d ≡ true → Hangs (parent_of cells) d
+  hangs-contains d h = by_root (d == 1) refl (parent_of cells d) refl (sym (contains-parent cells sound.root_is d) ∙ h)
+    where
+      by_root : (b : Bool) → (d == 1) ≡ b → (o : Option ℕ) → parent_of cells d ≡ o → (b || is_some o) ≡ true → Hangs (parent_of cells) d
+      by_root true is o parent h = subst (Hangs (parent_of cells)) (sym (eqb-true d 1 is)) the_root
+      by_root false is None parent h = absurd (false≢true h)
+      by_root false is (Some p) parent h = sound.tree.hangs d p parent
+
+  -- what is no directory is none of the plain tree
+  pub contains-no_dir : (i : ℕ) → IsNoDir (parent_of cells) i → contains_key (tidy cells).dirs i ≡ false
+  contains-no_dir i h = contains-parent cells sound.root_is i ∙ (λ x. ne_eqb i 1 h.0 x || is_some (h.1 x))
+
+  -- and the other way round
+  pub no_dir-contains : (i : ℕ) → contains_key (tidy cells).dirs i ≡ false → IsNoDir (parent_of cells) i
+  no_dir-contains i h = (λ is. false≢true (sym h ∙ ap (contains_key (tidy cells).dirs) is ∙ contains-root), by_parent (parent_of cells i) refl)
+    where
+      by_parent : (o : Option ℕ) → parent_of cells i ≡ o → parent_of cells i ≡ None
+      by_parent None is = is
+      by_parent (Some d) is = absurd (false≢true (sym h ∙ contains-under i d is))
+
+  -- an edge to a directory is an entry that leads to it
+  pub entry-edge : (d : ℕ) (name : List ℕ) (i : ℕ) → contains_key (tidy cells).dirs i ≡ true → get (tidy cells).edges (d, name) ≡ Some i → entry_of cells d name ≡ Some (DirNode i)
+  entry-edge d name i dir h = by_entry (entry_of cells d name) refl (sym (get-tidy cells d name) ∙ h)
+    where
+      by_entry : (o : Option Node) → entry_of cells d name ≡ o → option_map number_of o ≡ Some i → entry_of cells d name ≡ Some (DirNode i)
+      by_entry None is h = absurd (false≢true (ap is_some h))
+      by_entry (Some (FileNode j)) is h = absurd (false≢true (sym (contains-no_dir j (sound.tree.apart d name j is)) ∙ ap (contains_key (tidy cells).dirs) (same_Some j i h) ∙ dir))
+      by_entry (Some (DirNode j)) is h = is ∙ ap (λ n. Some (DirNode n)) (same_Some j i h)
+
+  -- the first edge to a directory, if there is one, starts in its parent
+  searched : (i : ℕ) → contains_key (tidy cells).dirs i ≡ true → (es : List (EdgeKey × ℕ)) → AllByRecursion (λ e. get (tidy cells).edges e.0 ≡ Some e.1) es → (start_of i es ≡ None) ⊎ (start_of i es ≡ parent_of cells i)
+  searched i dir [] h = inl refl
+  searched i dir (e ∷ es) h = by_number (e.1 == i) refl (searched i dir es h.1)
     where
       by_number : (b : Bool) → (e.1 == i) ≡ b → (start_of i es ≡ None) ⊎ (start_of i es ≡ parent_of cells i)
           → (option_map (λ e. e.0.0) (cond b (Some e) (list.find (λ e. e.1 == i) es)) ≡ None) ⊎ (option_map (λ e. e.0.0) (cond b (Some e) (list.find (λ e. e.1 == i) es)) ≡ parent_of cells i)
-      by_number true is rest = inr (sym (edge-parent e.0.0 e.0.1 i (h.0 ∙ ap Some (eqb-true e.1 i is))))
+      by_number true is rest = inr (sym (sound.tree.leads e.0.0 e.0.1 i (entry-edge e.0.0 e.0.1 i dir (h.0 ∙ ap Some (eqb-true e.1 i is)))))
       by_number false is rest = rest
 
-  -- the parent that is found is the one that is stored
-  parent_in-tidy : (i : ℕ) → parent_in (tidy cells) i ≡ parent_of cells i
-  parent_in-tidy i = ⊎_elim (λ none. by_parent none (parent_of cells i) refl) (λ found. found) (searched i (entries (tidy cells).edges) (entries-get edge_cmp edge_total (tidy cells).edges))
+  -- the parent of a directory that is found is the one that is stored
+  pub parent_in-tidy : (i : ℕ) → contains_key (tidy cells).dirs i ≡ true → parent_in (tidy cells) i ≡ parent_of cells i
+  parent_in-tidy i dir = ⊎_elim (λ none. by_parent none (parent_of cells i) refl) (λ found. found) (searched i dir (entries (tidy cells).edges) (entries-get edge_cmp edge_total (tidy cells).edges))
     where
       by_parent : parent_in (tidy cells) i ≡ None → (o : Option ℕ) → parent_of cells i ≡ o → parent_in (tidy cells) i ≡ parent_of cells i
       by_parent none None is = none ∙ sym is
@@ -68,8 +102,8 @@ module _ (cells : Cells) (sound : AreSoundCells cells) where
 
   -- a number that is no directory has none
   pub parent-shown : (i : ℕ) → cond (contains_key (tidy cells).dirs i) (parent_in (tidy cells) i) None ≡ parent_of cells i
-  parent-shown i = (λ x. cond (contains-parent cells sound.root_is i x) (parent_in-tidy i x) None) ∙ by_parent (parent_of cells i)
+  parent-shown i = by_dir (contains_key (tidy cells).dirs i) refl
     where
-      by_parent : (o : Option ℕ) → cond ((i == 1) || is_some o) o None ≡ o
-      by_parent None = elim ((i == 1) || false) as (λ b. ◌≡◌ {A = Option ℕ} (cond b None None) None) [ true ↦ refl | false ↦ refl ]
-      by_parent (Some p) = ap (λ b. cond b (Some p) None) (or-true (i == 1))
+      by_dir : (b : Bool) → contains_key (tidy cells).dirs i ≡ b → cond b (parent_in (tidy cells) i) None ≡ parent_of cells i
+      by_dir true is = parent_in-tidy i is
+      by_dir false is = sym (no_dir-contains i is).1

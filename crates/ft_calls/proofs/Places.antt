@@ -1,10 +1,19 @@
 -- Which places are there.
-use Rattle.std.proofs.Common.{◌≡◌, ℕ, Bool, true, false, cond, Option, Some, None, IsSome, unwrap_or, eq-eqb, refl, sym, ap, subst, ◌∙◌}
-use Rattle.std.specs.Ordering.{nat_cmp, eq_by_cmp}
-use Rattle.std.specs.Cmp.{nat_cmp_total, unsigned_tied}
+use Rattle.std.proofs.Common.{◌≡◌, ◌≢◌, ℕ, suc, Bool, true, false, cond, List, [], ◌∷◌, Option, Some, None, IsSome, unwrap_or, eq-eqb, eqb-true, refl, sym, ap, subst, ◌∙◌}
+use Rattle.std.specs.Prelude.{◌==◌}
+use Rattle.std.proofs.lemmas.Bool.{false≢true}
+use Rattle.std.specs.Ordering.{nat_cmp, is_eq, eq_by_cmp}
+use Rattle.std.specs.Cmp.{nat_cmp_total, unsigned_tied, tied_itself}
+use Rattle.std.specs.Cmp.Lexicographic.{slice_cmp, nat_list_cmp_total}
+use Rattle.std.specs.Option.{option_flatten, option_map}
 use Rattle.std.specs.FinMap.{get, get-insert}
-use Rattle.ft_tree.specs.Cells.{Cells, DirCells, no_dir, parent_of, HasDirPlace, put_dir}
+use Rattle.ft_tree.specs.declared.node.Node.{Node}
+use Rattle.ft_tree.specs.declared.open_file.OpenFile.{OpenFile}
+use Rattle.ft_tree.specs.Cells.{Cells, DirCells, FileCells, no_dir, no_file, dir_of, parent_of, links_of, bytes_of, body_in, open_of, HasDirPlace, HasPlace, HasEntryPlace, HasFilePlace, HasOpenPlace, put_dir, put_dir_entry, put_dir_parent, put_file, put_entry, put_parent, put_links, put_bytes, put_open}
 use Rattle.ft_tree.specs.Sound.{Hangs, the_root, under, AreSoundCells}
+use Rattle.ft_calls.specs.Outcomes.{Write, SetEntry, SetParent, SetLinks, SetBytes, SetOpen}
+use Rattle.ft_calls.specs.Stored.{put_all}
+use Rattle.ft_calls.proofs.Puts.{dir_of-put_dir}
 
 -- what has a parent is not the directory that stands for none
 has_parent : (o : Option DirCells) (p : ℕ) → (unwrap_or o no_dir).parent ≡ Some p → IsSome o
@@ -20,10 +29,47 @@ pub dir_place-hangs : (cells : Cells) → AreSoundCells cells → (d : ℕ) → 
 dir_place-hangs cells sound _ the_root = sound.root_is
 dir_place-hangs cells sound _ (under d p h up) = dir_place-parent cells d p h
 
+-- what has links is not the file that stands for none
+has_links : (o : Option FileCells) (n : ℕ) → (unwrap_or o no_file).links ≡ suc n → IsSome o
+has_links None n h = cc
+has_links (Some x) n h = refl
+
+-- a file with links is stored
+pub file_place-links : (cells : Cells) (i n : ℕ) → links_of cells i ≡ suc n → HasFilePlace cells i
+file_place-links cells i n h = has_links (get cells.files i) n h
+
+-- and so is one whose links are not none
+pub file_place-linked : (cells : Cells) (i : ℕ) → links_of cells i ≢ 0 → HasFilePlace cells i
+file_place-linked cells i h = by_place (get cells.files i) h
+  where
+    by_place : (o : Option FileCells) → (unwrap_or o no_file).links ≢ 0 → IsSome o
+    by_place None other = absurd (other refl)
+    by_place (Some x) other = refl
+
+-- the bytes of a file that is stored are its bytes
+pub body-place : (cells : Cells) (i : ℕ) → HasFilePlace cells i → body_in cells i ≡ Some (bytes_of cells i)
+body-place cells i h = by_place (get cells.files i) h
+  where
+    by_place : (o : Option FileCells) → IsSome o → option_map (λ (x : FileCells). x.bytes) o ≡ Some (unwrap_or o no_file).bytes
+    by_place None is = absurd (false≢true is)
+    by_place (Some x) is = refl
+
+-- a description that is there has its place
+pub open_place-open : (cells : Cells) (f : ℕ) (o : OpenFile) → open_of cells f ≡ Some o → HasOpenPlace cells f
+open_place-open cells f o h = by_place (get cells.opens f) h
+  where
+    by_place : (p : Option (Option OpenFile)) → option_flatten p ≡ Some o → IsSome p
+    by_place None is = cc
+    by_place (Some x) is = refl
+
 -- one of two that are there is there
 either_some : {A : Type 0} (b : Bool) (x : A) (o : Option A) → IsSome o → IsSome (cond b (Some x) o)
 either_some true x o h = refl
 either_some false x o h = h
+
+-- the number that is set is the one that is read
+chosen : {A : Type 0} (n : ℕ) (x : A) (o : Option A) → cond (eq_by_cmp nat_cmp n n) (Some x) o ≡ Some x
+chosen n x o = ap (λ b. cond b (Some x) o) (unsigned_tied n n ∙ eq-eqb n n refl)
 
 -- what is stored stays so when a directory is set
 pub dir_place-put_dir : (cells : Cells) (d : ℕ) (x : DirCells) (e : ℕ) → HasDirPlace cells e → HasDirPlace (put_dir cells d x) e
@@ -31,4 +77,79 @@ dir_place-put_dir cells d x e h = subst IsSome (sym (get-insert nat_cmp_total ce
 
 -- and what is set is stored
 pub dir_place-set : (cells : Cells) (d : ℕ) (x : DirCells) → HasDirPlace (put_dir cells d x) d
-dir_place-set cells d x = subst IsSome (sym (get-insert nat_cmp_total cells.directories d x d ∙ ap (λ b. cond b (Some x) (get cells.directories d)) (unsigned_tied d d ∙ eq-eqb d d refl))) refl
+dir_place-set cells d x = subst IsSome (sym (get-insert nat_cmp_total cells.directories d x d ∙ chosen d x (get cells.directories d))) refl
+
+-- a stored file stays so when a file is set
+pub file_place-put_file : (cells : Cells) (i : ℕ) (x : FileCells) (j : ℕ) → HasFilePlace cells j → HasFilePlace (put_file cells i x) j
+file_place-put_file cells i x j h = subst IsSome (sym (get-insert nat_cmp_total cells.files i x j)) (either_some (eq_by_cmp nat_cmp j i) x (get cells.files j) h)
+
+-- and what is set is stored
+pub file_place-set : (cells : Cells) (i : ℕ) (x : FileCells) → HasFilePlace (put_file cells i x) i
+file_place-set cells i x = subst IsSome (sym (get-insert nat_cmp_total cells.files i x i ∙ chosen i x (get cells.files i))) refl
+
+-- the place of a description stays when one is set
+pub open_place-put_open : (cells : Cells) (f : ℕ) (to : Option OpenFile) (g : ℕ) → HasOpenPlace cells g → HasOpenPlace (put_open cells f to) g
+open_place-put_open cells f to g h = subst IsSome (sym (get-insert nat_cmp_total cells.opens f to g)) (either_some (eq_by_cmp nat_cmp g f) to (get cells.opens g) h)
+
+-- and the one that is set is there
+pub open_place-set : (cells : Cells) (f : ℕ) (to : Option OpenFile) → HasOpenPlace (put_open cells f to) f
+open_place-set cells f to = subst IsSome (sym (get-insert nat_cmp_total cells.opens f to f ∙ chosen f to (get cells.opens f))) refl
+
+-- the place of an entry stays when a directory is set to one that has it
+entry_place-put_dir : (cells : Cells) (d : ℕ) (x : DirCells) (e : ℕ) (name : List ℕ) → (HasEntryPlace cells d name → HasPlace x name) → HasEntryPlace cells e name → HasEntryPlace (put_dir cells d x) e name
+entry_place-put_dir cells d x e name keeps h = subst (λ (y : DirCells). HasPlace y name) (sym (dir_of-put_dir cells d x e)) (by_dir (e == d) refl)
+  where
+    by_dir : (b : Bool) → (e == d) ≡ b → HasPlace (cond b x (dir_of cells e)) name
+    by_dir true is = keeps (subst (λ i. HasEntryPlace cells i name) (eqb-true e d is) h)
+    by_dir false is = h
+
+-- so when an entry is set
+pub entry_place-put_entry : (cells : Cells) (d : ℕ) (other : List ℕ) (to : Option Node) (e : ℕ) (name : List ℕ) → HasEntryPlace cells e name → HasEntryPlace (put_entry cells d other to) e name
+entry_place-put_entry cells d other to e name =
+    entry_place-put_dir cells d (put_dir_entry (dir_of cells d) other to) e name
+    (λ h. subst IsSome (sym (get-insert nat_list_cmp_total (dir_of cells d).entries other to name)) (either_some (eq_by_cmp (slice_cmp nat_cmp) name other) to (get (dir_of cells d).entries name) h))
+
+-- and a parent
+pub entry_place-put_parent : (cells : Cells) (d : ℕ) (p : Option ℕ) (e : ℕ) (name : List ℕ) → HasEntryPlace cells e name → HasEntryPlace (put_parent cells d p) e name
+entry_place-put_parent cells d p e name = entry_place-put_dir cells d (put_dir_parent (dir_of cells d) p) e name (λ h. h)
+
+-- and the one that is set is there
+pub entry_place-set : (cells : Cells) (d : ℕ) (name : List ℕ) (to : Option Node) → HasEntryPlace (put_entry cells d name to) d name
+entry_place-set cells d name to =
+    let x = put_dir_entry (dir_of cells d) name to in
+    subst (λ (y : DirCells). HasPlace y name) (sym (dir_of-put_dir cells d x d ∙ ap (λ b. cond b x (dir_of cells d)) (eq-eqb d d refl)))
+    (subst IsSome (sym (get-insert nat_list_cmp_total (dir_of cells d).entries name to name ∙ ap (λ b. cond b (Some to) (get (dir_of cells d).entries name)) (ap is_eq (tied_itself nat_list_cmp_total name)))) refl)
+
+-- A place that was there is there after a list of writes.
+
+pub dir_place-put_all : (ws : List Write) (cells : Cells) (d : ℕ) → HasDirPlace cells d → HasDirPlace (put_all cells ws) d
+dir_place-put_all [] cells e h = h
+dir_place-put_all (SetEntry d name to ∷ ws) cells e h = dir_place-put_all ws (put_entry cells d name to) e (dir_place-put_dir cells d (put_dir_entry (dir_of cells d) name to) e h)
+dir_place-put_all (SetParent d p ∷ ws) cells e h = dir_place-put_all ws (put_parent cells d p) e (dir_place-put_dir cells d (put_dir_parent (dir_of cells d) p) e h)
+dir_place-put_all (SetLinks i links ∷ ws) cells e h = dir_place-put_all ws (put_links cells i links) e h
+dir_place-put_all (SetBytes i bytes ∷ ws) cells e h = dir_place-put_all ws (put_bytes cells i bytes) e h
+dir_place-put_all (SetOpen f to ∷ ws) cells e h = dir_place-put_all ws (put_open cells f to) e h
+
+pub entry_place-put_all : (ws : List Write) (cells : Cells) (d : ℕ) (name : List ℕ) → HasEntryPlace cells d name → HasEntryPlace (put_all cells ws) d name
+entry_place-put_all [] cells e other h = h
+entry_place-put_all (SetEntry d name to ∷ ws) cells e other h = entry_place-put_all ws (put_entry cells d name to) e other (entry_place-put_entry cells d name to e other h)
+entry_place-put_all (SetParent d p ∷ ws) cells e other h = entry_place-put_all ws (put_parent cells d p) e other (entry_place-put_parent cells d p e other h)
+entry_place-put_all (SetLinks i links ∷ ws) cells e other h = entry_place-put_all ws (put_links cells i links) e other h
+entry_place-put_all (SetBytes i bytes ∷ ws) cells e other h = entry_place-put_all ws (put_bytes cells i bytes) e other h
+entry_place-put_all (SetOpen f to ∷ ws) cells e other h = entry_place-put_all ws (put_open cells f to) e other h
+
+pub file_place-put_all : (ws : List Write) (cells : Cells) (i : ℕ) → HasFilePlace cells i → HasFilePlace (put_all cells ws) i
+file_place-put_all [] cells j h = h
+file_place-put_all (SetEntry d name to ∷ ws) cells j h = file_place-put_all ws (put_entry cells d name to) j h
+file_place-put_all (SetParent d p ∷ ws) cells j h = file_place-put_all ws (put_parent cells d p) j h
+file_place-put_all (SetLinks i links ∷ ws) cells j h = file_place-put_all ws (put_links cells i links) j (file_place-put_file cells i (record { links = links; bytes = bytes_of cells i }) j h)
+file_place-put_all (SetBytes i bytes ∷ ws) cells j h = file_place-put_all ws (put_bytes cells i bytes) j (file_place-put_file cells i (record { links = links_of cells i; bytes = bytes }) j h)
+file_place-put_all (SetOpen f to ∷ ws) cells j h = file_place-put_all ws (put_open cells f to) j h
+
+pub open_place-put_all : (ws : List Write) (cells : Cells) (f : ℕ) → HasOpenPlace cells f → HasOpenPlace (put_all cells ws) f
+open_place-put_all [] cells g h = h
+open_place-put_all (SetEntry d name to ∷ ws) cells g h = open_place-put_all ws (put_entry cells d name to) g h
+open_place-put_all (SetParent d p ∷ ws) cells g h = open_place-put_all ws (put_parent cells d p) g h
+open_place-put_all (SetLinks i links ∷ ws) cells g h = open_place-put_all ws (put_links cells i links) g h
+open_place-put_all (SetBytes i bytes ∷ ws) cells g h = open_place-put_all ws (put_bytes cells i bytes) g h
+open_place-put_all (SetOpen f to ∷ ws) cells g h = open_place-put_all ws (put_open cells f to) g (open_place-put_open cells f to g h)

@@ -1,24 +1,33 @@
--- To set a cell and then tidy is to tidy and then set it in the plain tree.
+-- To set a cell and then tidy is to tidy and then set it in the plain tree; but files that nothing names any more are still in the plain tree then.
 use Rattle.std.proofs.Common.{◌≡◌, ℕ, Bool, true, false, cond, not, ◌&&◌, ◌||◌, List, [], ◌∷◌, Option, Some, None, is_some, Ordering, eqb-true, refl, sym, ap, ◌∙◌}
 use Rattle.std.specs.Prelude.{◌==◌}
+use Rattle.std.proofs.lemmas.Bool.{false≢true}
+use Rattle.std.proofs.lemmas.Map.Lookups.{exact_unsigned}
 use Rattle.std.proofs.Math.Bool.{or-true}
 use Rattle.std.specs.declared.cmp.Ordering.TheVariants.{Less, Equal, Greater}
 use Rattle.std.specs.Ordering.{nat_cmp, is_eq, eq_by_cmp, ordering_then}
 use Rattle.std.specs.Cmp.{nat_cmp_total, unsigned_tied}
 use Rattle.std.specs.Cmp.Lexicographic.{slice_cmp, texts_ties}
 use Rattle.std.specs.Option.{option_map}
-use Rattle.std.specs.FinMap.{FinMap, get, contains_key, insert, remove, get-insert, get-remove}
+use Rattle.std.specs.FinMap.{FinMap, get, contains_key, insert, remove, get-insert, get-remove, same_map}
 use Rattle.ft_tree.specs.declared.node.Node.{Node}
+use Rattle.ft_tree.specs.declared.open_file.OpenFile.{OpenFile}
 use Rattle.ft_tree.specs.Nodes.{number_of}
-use Rattle.ft_tree.specs.Cells.{Cells, entry_of, parent_of, put_entry, put_parent, HasDirPlace}
-use Rattle.ft_tree.specs.Plain.{edge_cmp, NumberSet}
+use Rattle.ft_tree.specs.Cells.{Cells, entry_of, parent_of, put_entry, put_parent, put_open, HasDirPlace}
+use Rattle.ft_tree.specs.Plain.{PlainTree, edge_cmp, NumberSet}
 use Rattle.ft_tree.specs.Tidy.{tidy}
-use Rattle.ft_calls.specs.Steps.{Write, SetEntry, SetParent}
+use Rattle.ft_calls.specs.Outcomes.{Write, SetEntry, SetParent, SetLinks, SetBytes, SetOpen}
 use Rattle.ft_calls.specs.Stored.{put, put_all}
-use Rattle.ft_calls.specs.Exec.{set_edge, set_dir, put_plain, put_all_plain}
+use Rattle.ft_calls.specs.Exec.{set_edge, set_dir, set_open, put_plain, put_all_plain}
 use Rattle.ft_calls.proofs.Places.{dir_place-put_dir}
-use Rattle.ft_calls.proofs.Puts.{is_place, entry-put_entry, parent-put_entry, entry-put_parent, parent-put_parent}
-use Rattle.ft_calls.proofs.Tidied.{edge_total, number-cond, get-tidy, contains-parent, same_plain}
+use Rattle.ft_calls.proofs.Puts.{is_place, with_value, entry-put_entry, parent-put_entry, entry-put_parent, parent-put_parent, open-put_open}
+use Rattle.ft_calls.proofs.Tidied.{edge_total, edge_exact, number-cond, get-tidy, get-opens, contains-parent}
+
+-- plain trees with the same edges, directories and descriptions; of the files nothing is said
+pub record AreAlike (p q : PlainTree) : Type 0 where
+  pub edges : p.edges ≡ q.edges
+  pub dirs : p.dirs ≡ q.dirs
+  pub opens : p.opens ≡ q.opens
 
 -- Edges.
 
@@ -37,6 +46,17 @@ get-set_edge m d name None e other = get-remove edge_total m (d, name) (e, other
 get-set_edge m d name (Some x) e other = get-insert edge_total m (d, name) (number_of x) (e, other) ∙ ap (λ b. cond b (Some (number_of x)) (get m (e, other))) (edge_tied d e name other)
 
 -- Directories.
+
+-- members of sets have no value to differ in
+same_unit : (a b : Option (Unit {0})) → is_some a ≡ is_some b → a ≡ b
+same_unit None None h = refl
+same_unit None (Some x) h = absurd (false≢true h)
+same_unit (Some x) None h = absurd (false≢true (sym h))
+same_unit (Some x) (Some y) h = refl
+
+-- sets with the same members are one
+same_set : (s t : NumberSet) → ((d : ℕ) → contains_key s d ≡ contains_key t d) → s ≡ t
+same_set s t same = same_map nat_cmp_total exact_unsigned s t (λ d. same_unit _ _ (same d))
 
 -- whether a number is there, with one put in
 number_inserted : (b : Bool) (o : Option (Unit {0})) → is_some (cond b (Some tt) o) ≡ (b || is_some o)
@@ -76,27 +96,74 @@ contains-set_dir dirs d None e q was = by_root (d == 1) refl (e == d) refl
     by_root false root true is = ap (λ b. b || false) (as_root false root is) ∙ sym (contains-remove dirs d e ∙ ap (λ b. not b && contains_key dirs e) is)
     by_root false root false is = sym (contains-remove dirs d e ∙ (λ i. not (is i) && was i))
 
+-- Descriptions.
+
+-- the descriptions after one was set, or taken away
+get-set_open : (m : FinMap nat_cmp OpenFile) (f : ℕ) (to : Option OpenFile) (g : ℕ) → get (set_open m f to) g ≡ with_value (get m) f to g
+get-set_open m f None g = get-remove nat_cmp_total m f g ∙ ap (λ b. cond b None (get m g)) (unsigned_tied g f)
+get-set_open m f (Some o) g = get-insert nat_cmp_total m f o g ∙ ap (λ b. cond b (Some o) (get m g)) (unsigned_tied g f)
+
 -- The cells, where the root is stored.
 
 -- the root stays stored
 root-put : (cells : Cells) (w : Write) → HasDirPlace cells 1 → HasDirPlace (put cells w) 1
 root-put cells (SetEntry d name to) root = dir_place-put_dir cells d _ 1 root
 root-put cells (SetParent d p) root = dir_place-put_dir cells d _ 1 root
+root-put cells (SetLinks i links) root = root
+root-put cells (SetBytes i bytes) root = root
+root-put cells (SetOpen f to) root = root
 
--- one cell
-tidy-put : (cells : Cells) (w : Write) → HasDirPlace cells 1 → tidy (put cells w) ≡ put_plain (tidy cells) w
-tidy-put cells (SetEntry d name to) root =
-    same_plain _ _
-    (λ e other. get-tidy (put_entry cells d name to) e other ∙ ap (option_map number_of) (entry-put_entry cells d name to e other) ∙ number-cond (is_place d name e other) to (entry_of cells e other)
-    ∙ sym (get-set_edge (tidy cells).edges d name to e other ∙ ap (cond (is_place d name e other) (option_map number_of to)) (get-tidy cells e other)))
-    (λ e. contains-parent (put_entry cells d name to) (root-put cells (SetEntry d name to) root) e ∙ ap (λ o. (e == 1) || is_some o) (parent-put_entry cells d name to e) ∙ sym (contains-parent cells root e))
-tidy-put cells (SetParent d p) root =
-    same_plain _ _
-    (λ e other. get-tidy (put_parent cells d p) e other ∙ ap (option_map number_of) (entry-put_parent cells d p e other) ∙ sym (get-tidy cells e other))
-    (λ e. contains-parent (put_parent cells d p) (root-put cells (SetParent d p) root) e ∙ ap (λ o. (e == 1) || is_some o) (parent-put_parent cells d p e)
+-- an entry that is set is an edge
+edges-put_entry : (cells : Cells) (d : ℕ) (name : List ℕ) (to : Option Node) → (tidy (put_entry cells d name to)).edges ≡ set_edge (tidy cells).edges (d, name) to
+edges-put_entry cells d name to = same_map edge_total edge_exact _ _ (λ q. at q.0 q.1)
+  where
+    at : (e : ℕ) (other : List ℕ) → get (tidy (put_entry cells d name to)).edges (e, other) ≡ get (set_edge (tidy cells).edges (d, name) to) (e, other)
+    at e other =
+        get-tidy (put_entry cells d name to) e other ∙ ap (option_map number_of) (entry-put_entry cells d name to e other) ∙ number-cond (is_place d name e other) to (entry_of cells e other)
+        ∙ sym (get-set_edge (tidy cells).edges d name to e other ∙ ap (cond (is_place d name e other) (option_map number_of to)) (get-tidy cells e other))
+
+-- and changes no directory
+dirs-put_entry : (cells : Cells) (d : ℕ) (name : List ℕ) (to : Option Node) → HasDirPlace cells 1 → (tidy (put_entry cells d name to)).dirs ≡ (tidy cells).dirs
+dirs-put_entry cells d name to root =
+    same_set _ _ (λ e. contains-parent (put_entry cells d name to) (root-put cells (SetEntry d name to) root) e ∙ ap (λ o. (e == 1) || is_some o) (parent-put_entry cells d name to e) ∙ sym (contains-parent cells root e))
+
+-- a parent that is set is a directory
+dirs-put_parent : (cells : Cells) (d : ℕ) (p : Option ℕ) → HasDirPlace cells 1 → (tidy (put_parent cells d p)).dirs ≡ set_dir (tidy cells).dirs d p
+dirs-put_parent cells d p root =
+    same_set _ _ (λ e. contains-parent (put_parent cells d p) (root-put cells (SetParent d p) root) e ∙ ap (λ o. (e == 1) || is_some o) (parent-put_parent cells d p e)
     ∙ contains-set_dir (tidy cells).dirs d p e (parent_of cells e) (contains-parent cells root e))
 
+-- and changes no edge
+edges-put_parent : (cells : Cells) (d : ℕ) (p : Option ℕ) → (tidy (put_parent cells d p)).edges ≡ (tidy cells).edges
+edges-put_parent cells d p =
+    same_map edge_total edge_exact _ _ (λ q. get-tidy (put_parent cells d p) q.0 q.1 ∙ ap (option_map number_of) (entry-put_parent cells d p q.0 q.1) ∙ sym (get-tidy cells q.0 q.1))
+
+-- a description that is set is one
+opens-put_open : (cells : Cells) (f : ℕ) (to : Option OpenFile) → (tidy (put_open cells f to)).opens ≡ set_open (tidy cells).opens f to
+opens-put_open cells f to =
+    same_map nat_cmp_total exact_unsigned _ _ (λ g. get-opens (put_open cells f to) g ∙ open-put_open cells f to g
+    ∙ sym (get-set_open (tidy cells).opens f to g ∙ ap (cond (g == f) to) (get-opens cells g)))
+
+-- one cell
+alike-put : (cells : Cells) (p : PlainTree) (w : Write) → HasDirPlace cells 1 → AreAlike (tidy cells) p → AreAlike (tidy (put cells w)) (put_plain p w)
+alike-put cells p (SetEntry d name to) root h = record {
+  edges = edges-put_entry cells d name to ∙ ap (λ m. set_edge m (d, name) to) h.edges;
+  dirs = dirs-put_entry cells d name to root ∙ h.dirs;
+  opens = h.opens;
+}
+alike-put cells p (SetParent d parent) root h = record {
+  edges = edges-put_parent cells d parent ∙ h.edges;
+  dirs = dirs-put_parent cells d parent root ∙ ap (λ s. set_dir s d parent) h.dirs;
+  opens = h.opens;
+}
+alike-put cells p (SetLinks i links) root h = record { edges = h.edges; dirs = h.dirs; opens = h.opens }
+alike-put cells p (SetBytes i bytes) root h = record { edges = h.edges; dirs = h.dirs; opens = h.opens }
+alike-put cells p (SetOpen f to) root h = record { edges = h.edges; dirs = h.dirs; opens = opens-put_open cells f to ∙ ap (λ m. set_open m f to) h.opens }
+
 -- and one after another
-pub tidy-put_all : (ws : List Write) (cells : Cells) → HasDirPlace cells 1 → tidy (put_all cells ws) ≡ put_all_plain (tidy cells) ws
-tidy-put_all [] cells root = refl
-tidy-put_all (w ∷ ws) cells root = tidy-put_all ws (put cells w) (root-put cells w root) ∙ ap (λ p. put_all_plain p ws) (tidy-put cells w root)
+alike-put_all : (ws : List Write) (cells : Cells) (p : PlainTree) → HasDirPlace cells 1 → AreAlike (tidy cells) p → AreAlike (tidy (put_all cells ws)) (put_all_plain p ws)
+alike-put_all [] cells p root h = h
+alike-put_all (w ∷ ws) cells p root h = alike-put_all ws (put cells w) (put_plain p w) (root-put cells w root) (alike-put cells p w root h)
+
+pub tidy-put_all : (ws : List Write) (cells : Cells) → HasDirPlace cells 1 → AreAlike (tidy (put_all cells ws)) (put_all_plain (tidy cells) ws)
+tidy-put_all ws cells root = alike-put_all ws cells (tidy cells) root (record { edges = refl; dirs = refl; opens = refl })

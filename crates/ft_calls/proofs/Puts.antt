@@ -1,5 +1,5 @@
--- What the cells have after one of them was set.
-use Rattle.std.proofs.Common.{◌≡◌, ℕ, Bool, true, false, cond, ◌&&◌, List, Option, Some, unwrap_or, nat_eq, refl, sym, ap, eqb-true, ◌∙◌}
+-- What the cells have after some of them were set.
+use Rattle.std.proofs.Common.{◌≡◌, ℕ, Bool, true, false, cond, ◌&&◌, List, [], ◌∷◌, Option, Some, unwrap_or, nat_eq, refl, sym, ap, eqb-true, ◌∙◌}
 use Rattle.std.specs.Prelude.{◌==◌}
 use Rattle.std.specs.Ordering.{nat_cmp, eq_by_cmp}
 use Rattle.std.specs.Cmp.{nat_cmp_total, unsigned_tied}
@@ -7,7 +7,10 @@ use Rattle.std.specs.Cmp.Lexicographic.{slice_cmp, pointwise, nat_list_cmp_total
 use Rattle.std.specs.Option.{option_flatten}
 use Rattle.std.specs.FinMap.{get, get-insert}
 use Rattle.ft_tree.specs.declared.node.Node.{Node}
-use Rattle.ft_tree.specs.Cells.{Cells, DirCells, no_dir, dir_of, dir_entry, put_dir, put_dir_entry, put_dir_parent, entry_of, parent_of, put_entry, put_parent}
+use Rattle.ft_tree.specs.declared.open_file.OpenFile.{OpenFile}
+use Rattle.ft_tree.specs.Cells.{Cells, DirCells, FileCells, no_dir, no_file, dir_of, file_of, dir_entry, put_dir, put_dir_entry, put_dir_parent, put_file, entry_of, parent_of, links_of, bytes_of, open_of, put_entry, put_parent, put_links, put_bytes, put_open}
+use Rattle.ft_calls.specs.Outcomes.{Write, SetEntry, SetParent, SetLinks, SetBytes, SetOpen}
+use Rattle.ft_calls.specs.Stored.{put_all}
 
 -- whether the second place is the first
 abbrev pub is_place : ℕ → List ℕ → ℕ → List ℕ → Bool
@@ -21,20 +24,24 @@ with_entry entry d name to e other = cond (is_place d name e other) to (entry e 
 abbrev pub with_parent : (ℕ → Option ℕ) → ℕ → Option ℕ → ℕ → Option ℕ
 with_parent parent d p e = cond (e == d) p (parent e)
 
--- a choice of directories, and no directory in place of none
-unwrapped : (b : Bool) (x : DirCells) (o : Option DirCells) → unwrap_or (cond b (Some x) o) no_dir ≡ cond b x (unwrap_or o no_dir)
-unwrapped true x o = refl
-unwrapped false x o = refl
+-- the values of one kind with one of them set
+abbrev pub with_value : {A : Type 0} → (ℕ → A) → ℕ → A → ℕ → A
+with_value f i x j = cond (j == i) x (f j)
+
+-- a choice, and a value in place of none
+unwrapped : {A : Type 0} (b : Bool) (x : A) (o : Option A) (none : A) → unwrap_or (cond b (Some x) o) none ≡ cond b x (unwrap_or o none)
+unwrapped true x o none = refl
+unwrapped false x o none = refl
 
 -- a choice of places, and what stands in it
-flattened : (b : Bool) (x : Option Node) (o : Option (Option Node)) → option_flatten (cond b (Some x) o) ≡ cond b x (option_flatten o)
+flattened : {A : Type 0} (b : Bool) (x : Option A) (o : Option (Option A)) → option_flatten (cond b (Some x) o) ≡ cond b x (option_flatten o)
 flattened true x o = refl
 flattened false x o = refl
 
 -- the directories after one was set
 pub dir_of-put_dir : (cells : Cells) (d : ℕ) (x : DirCells) (e : ℕ) → dir_of (put_dir cells d x) e ≡ cond (e == d) x (dir_of cells e)
 dir_of-put_dir cells d x e =
-    ap (λ o. unwrap_or o no_dir) (get-insert nat_cmp_total cells.directories d x e) ∙ unwrapped (eq_by_cmp nat_cmp e d) x (get cells.directories e)
+    ap (λ o. unwrap_or o no_dir) (get-insert nat_cmp_total cells.directories d x e) ∙ unwrapped (eq_by_cmp nat_cmp e d) x (get cells.directories e) no_dir
     ∙ ap (λ b. cond b x (dir_of cells e)) (unsigned_tied e d)
 
 -- the entries of a directory after one was set
@@ -75,3 +82,125 @@ entry-put_parent cells d p e other = read-kept (λ x. dir_entry x other) cells d
 -- but that parent
 pub parent-put_parent : (cells : Cells) (d : ℕ) (p : Option ℕ) (e : ℕ) → parent_of (put_parent cells d p) e ≡ with_parent (parent_of cells) d p e
 parent-put_parent cells d p e = read-put_dir (λ x. x.parent) cells d (put_dir_parent (dir_of cells d) p) e
+
+-- the files after one was set
+file_of-put_file : (cells : Cells) (i : ℕ) (x : FileCells) (j : ℕ) → file_of (put_file cells i x) j ≡ cond (j == i) x (file_of cells j)
+file_of-put_file cells i x j =
+    ap (λ o. unwrap_or o no_file) (get-insert nat_cmp_total cells.files i x j) ∙ unwrapped (eq_by_cmp nat_cmp j i) x (get cells.files j) no_file
+    ∙ ap (λ b. cond b x (file_of cells j)) (unsigned_tied j i)
+
+-- what is read of a file after one was set
+read-put_file : {A : Type 0} (read : FileCells → A) (cells : Cells) (i : ℕ) (x : FileCells) (j : ℕ) → read (file_of (put_file cells i x) j) ≡ cond (j == i) (read x) (read (file_of cells j))
+read-put_file read cells i x j = ap read (file_of-put_file cells i x j) ∙ elim (j == i) as (λ b. read (cond b x (file_of cells j)) ≡ cond b (read x) (read (file_of cells j))) [ true ↦ refl | false ↦ refl ]
+
+-- and what is not changed by it
+read-kept_file : {A : Type 0} (read : FileCells → A) (cells : Cells) (i : ℕ) (x : FileCells) (j : ℕ) → read x ≡ read (file_of cells i) → read (file_of (put_file cells i x) j) ≡ read (file_of cells j)
+read-kept_file read cells i x j same = read-put_file read cells i x j ∙ by_file (j == i) refl
+  where
+    by_file : (b : Bool) → (j == i) ≡ b → cond b (read x) (read (file_of cells j)) ≡ read (file_of cells j)
+    by_file true is = same ∙ ap (λ n. read (file_of cells n)) (sym (eqb-true j i is))
+    by_file false is = refl
+
+-- to set the links of a file sets those links
+pub links-put_links : (cells : Cells) (i links j : ℕ) → links_of (put_links cells i links) j ≡ with_value (links_of cells) i links j
+links-put_links cells i links j = read-put_file (λ x. x.links) cells i (record { links = links; bytes = bytes_of cells i }) j
+
+-- and no bytes
+pub bytes-put_links : (cells : Cells) (i links j : ℕ) → bytes_of (put_links cells i links) j ≡ bytes_of cells j
+bytes-put_links cells i links j = read-kept_file (λ x. x.bytes) cells i (record { links = links; bytes = bytes_of cells i }) j refl
+
+-- to set the bytes of a file sets no links
+pub links-put_bytes : (cells : Cells) (i : ℕ) (bytes : List ℕ) (j : ℕ) → links_of (put_bytes cells i bytes) j ≡ links_of cells j
+links-put_bytes cells i bytes j = read-kept_file (λ x. x.links) cells i (record { links = links_of cells i; bytes = bytes }) j refl
+
+-- but those bytes
+pub bytes-put_bytes : (cells : Cells) (i : ℕ) (bytes : List ℕ) (j : ℕ) → bytes_of (put_bytes cells i bytes) j ≡ with_value (bytes_of cells) i bytes j
+bytes-put_bytes cells i bytes j = read-put_file (λ x. x.bytes) cells i (record { links = links_of cells i; bytes = bytes }) j
+
+-- to set a description sets that description
+pub open-put_open : (cells : Cells) (f : ℕ) (to : Option OpenFile) (g : ℕ) → open_of (put_open cells f to) g ≡ with_value (open_of cells) f to g
+open-put_open cells f to g =
+    ap option_flatten (get-insert nat_cmp_total cells.opens f to g) ∙ flattened (eq_by_cmp nat_cmp g f) to (get cells.opens g)
+    ∙ ap (λ b. cond b to (open_of cells g)) (unsigned_tied g f)
+
+-- The values after a list of writes.
+
+abbrev pub entry_after : (ℕ → List ℕ → Option Node) → List Write → ℕ → List ℕ → Option Node
+entry_after entry [] = entry
+entry_after entry (SetEntry d name to ∷ ws) = entry_after (with_entry entry d name to) ws
+entry_after entry (SetParent d parent ∷ ws) = entry_after entry ws
+entry_after entry (SetLinks i links ∷ ws) = entry_after entry ws
+entry_after entry (SetBytes i bytes ∷ ws) = entry_after entry ws
+entry_after entry (SetOpen f to ∷ ws) = entry_after entry ws
+
+abbrev pub parent_after : (ℕ → Option ℕ) → List Write → ℕ → Option ℕ
+parent_after parent [] = parent
+parent_after parent (SetEntry d name to ∷ ws) = parent_after parent ws
+parent_after parent (SetParent d p ∷ ws) = parent_after (with_parent parent d p) ws
+parent_after parent (SetLinks i links ∷ ws) = parent_after parent ws
+parent_after parent (SetBytes i bytes ∷ ws) = parent_after parent ws
+parent_after parent (SetOpen f to ∷ ws) = parent_after parent ws
+
+abbrev pub links_after : (ℕ → ℕ) → List Write → ℕ → ℕ
+links_after links [] = links
+links_after links (SetEntry d name to ∷ ws) = links_after links ws
+links_after links (SetParent d parent ∷ ws) = links_after links ws
+links_after links (SetLinks i n ∷ ws) = links_after (with_value links i n) ws
+links_after links (SetBytes i bytes ∷ ws) = links_after links ws
+links_after links (SetOpen f to ∷ ws) = links_after links ws
+
+abbrev pub bytes_after : (ℕ → List ℕ) → List Write → ℕ → List ℕ
+bytes_after bytes [] = bytes
+bytes_after bytes (SetEntry d name to ∷ ws) = bytes_after bytes ws
+bytes_after bytes (SetParent d parent ∷ ws) = bytes_after bytes ws
+bytes_after bytes (SetLinks i links ∷ ws) = bytes_after bytes ws
+bytes_after bytes (SetBytes i xs ∷ ws) = bytes_after (with_value bytes i xs) ws
+bytes_after bytes (SetOpen f to ∷ ws) = bytes_after bytes ws
+
+abbrev pub open_after : (ℕ → Option OpenFile) → List Write → ℕ → Option OpenFile
+open_after opens [] = opens
+open_after opens (SetEntry d name to ∷ ws) = open_after opens ws
+open_after opens (SetParent d parent ∷ ws) = open_after opens ws
+open_after opens (SetLinks i links ∷ ws) = open_after opens ws
+open_after opens (SetBytes i bytes ∷ ws) = open_after opens ws
+open_after opens (SetOpen f to ∷ ws) = open_after (with_value opens f to) ws
+
+pub entry-put_all : (ws : List Write) (cells : Cells) → entry_of (put_all cells ws) ≡ entry_after (entry_of cells) ws
+entry-put_all [] cells = refl
+entry-put_all (SetEntry d name to ∷ ws) cells = entry-put_all ws (put_entry cells d name to) ∙ (λ i. entry_after (λ e other. entry-put_entry cells d name to e other i) ws)
+entry-put_all (SetParent d parent ∷ ws) cells = entry-put_all ws (put_parent cells d parent) ∙ (λ i. entry_after (λ e other. entry-put_parent cells d parent e other i) ws)
+entry-put_all (SetLinks i links ∷ ws) cells = entry-put_all ws (put_links cells i links)
+entry-put_all (SetBytes i bytes ∷ ws) cells = entry-put_all ws (put_bytes cells i bytes)
+entry-put_all (SetOpen f to ∷ ws) cells = entry-put_all ws (put_open cells f to)
+
+pub parent-put_all : (ws : List Write) (cells : Cells) → parent_of (put_all cells ws) ≡ parent_after (parent_of cells) ws
+parent-put_all [] cells = refl
+parent-put_all (SetEntry d name to ∷ ws) cells = parent-put_all ws (put_entry cells d name to) ∙ (λ i. parent_after (λ e. parent-put_entry cells d name to e i) ws)
+parent-put_all (SetParent d parent ∷ ws) cells = parent-put_all ws (put_parent cells d parent) ∙ (λ i. parent_after (λ e. parent-put_parent cells d parent e i) ws)
+parent-put_all (SetLinks i links ∷ ws) cells = parent-put_all ws (put_links cells i links)
+parent-put_all (SetBytes i bytes ∷ ws) cells = parent-put_all ws (put_bytes cells i bytes)
+parent-put_all (SetOpen f to ∷ ws) cells = parent-put_all ws (put_open cells f to)
+
+pub links-put_all : (ws : List Write) (cells : Cells) → links_of (put_all cells ws) ≡ links_after (links_of cells) ws
+links-put_all [] cells = refl
+links-put_all (SetEntry d name to ∷ ws) cells = links-put_all ws (put_entry cells d name to)
+links-put_all (SetParent d parent ∷ ws) cells = links-put_all ws (put_parent cells d parent)
+links-put_all (SetLinks n links ∷ ws) cells = links-put_all ws (put_links cells n links) ∙ (λ i. links_after (λ j. links-put_links cells n links j i) ws)
+links-put_all (SetBytes n bytes ∷ ws) cells = links-put_all ws (put_bytes cells n bytes) ∙ (λ i. links_after (λ j. links-put_bytes cells n bytes j i) ws)
+links-put_all (SetOpen f to ∷ ws) cells = links-put_all ws (put_open cells f to)
+
+pub bytes-put_all : (ws : List Write) (cells : Cells) → bytes_of (put_all cells ws) ≡ bytes_after (bytes_of cells) ws
+bytes-put_all [] cells = refl
+bytes-put_all (SetEntry d name to ∷ ws) cells = bytes-put_all ws (put_entry cells d name to)
+bytes-put_all (SetParent d parent ∷ ws) cells = bytes-put_all ws (put_parent cells d parent)
+bytes-put_all (SetLinks n links ∷ ws) cells = bytes-put_all ws (put_links cells n links) ∙ (λ i. bytes_after (λ j. bytes-put_links cells n links j i) ws)
+bytes-put_all (SetBytes n bytes ∷ ws) cells = bytes-put_all ws (put_bytes cells n bytes) ∙ (λ i. bytes_after (λ j. bytes-put_bytes cells n bytes j i) ws)
+bytes-put_all (SetOpen f to ∷ ws) cells = bytes-put_all ws (put_open cells f to)
+
+pub open-put_all : (ws : List Write) (cells : Cells) → open_of (put_all cells ws) ≡ open_after (open_of cells) ws
+open-put_all [] cells = refl
+open-put_all (SetEntry d name to ∷ ws) cells = open-put_all ws (put_entry cells d name to)
+open-put_all (SetParent d parent ∷ ws) cells = open-put_all ws (put_parent cells d parent)
+open-put_all (SetLinks i links ∷ ws) cells = open-put_all ws (put_links cells i links)
+open-put_all (SetBytes i bytes ∷ ws) cells = open-put_all ws (put_bytes cells i bytes)
+open-put_all (SetOpen f to ∷ ws) cells = open-put_all ws (put_open cells f to) ∙ (λ i. open_after (λ g. open-put_open cells f to g i) ws)

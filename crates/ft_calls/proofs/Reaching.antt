@@ -9,7 +9,7 @@ use Rattle.ft_tree.specs.Views.{view_of}
 use Rattle.ft_tree.specs.Walk.{Spot, walk}
 use Rattle.ft_calls.specs.declared.call.Reply.{Reply}
 use Rattle.ft_calls.specs.declared.call.Reply.TheVariants.{Failed}
-use Rattle.ft_calls.specs.Steps.{Outcome, failed, from_parts}
+use Rattle.ft_calls.specs.Outcomes.{Outcome, failed, from_parts}
 use Rattle.ft_calls.specs.Stored.{put_all}
 use Rattle.ft_calls.specs.Perform.{IsPerformed}
 

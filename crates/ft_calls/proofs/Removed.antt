@@ -1,11 +1,12 @@
 -- An empty directory that is removed leaves a tree.
-use Rattle.std.proofs.Common.{◌≡◌, ℕ, Bool, true, false, cond, List, Option, Some, None, refl, sym, ap, eqb-true, eq-eqb, ◌∙◌}
+use Rattle.std.proofs.Common.{◌≡◌, ◌≢◌, ℕ, Bool, true, false, cond, List, Option, Some, None, refl, sym, ap, eqb-true, eq-eqb, ◌∙◌}
 use Rattle.std.specs.Prelude.{◌==◌}
 use Rattle.std.proofs.lemmas.Bool.{false≢true}
 use Rattle.std.proofs.lemmas.Option.{none-some, same_Some}
 use Rattle.ft_tree.specs.declared.node.Node.{Node}
 use Rattle.ft_tree.specs.declared.node.Node.TheVariants.{Dir as DirNode, File as FileNode}
-use Rattle.ft_tree.specs.Sound.{Hangs, the_root, under, IsTree}
+use Rattle.ft_tree.specs.Nodes.{number_of}
+use Rattle.ft_tree.specs.Sound.{Hangs, the_root, under, IsNoDir, IsTree}
 use Rattle.ft_calls.proofs.Puts.{is_place, with_entry, with_parent}
 use Rattle.ft_calls.proofs.Made.{dir_inside, same_place, own_place}
 
@@ -68,11 +69,29 @@ module _ (entry : ℕ → List ℕ → Option Node) (parent : ℕ → Option ℕ
   hangs_left _ apart the_root = the_root
   hangs_left _ apart (under e p h up) = under e p (ap (λ b. cond b None (parent e)) apart ∙ h) (hangs_left p (not_above e p h) up)
 
+  -- no entry stands in it
+  not_start : (e : ℕ) (other : List ℕ) (x : Node) → entry e other ≡ Some x → (e == i) ≡ false
+  not_start e other x h = by_number (e == i) refl
+    where
+      by_number : (b : Bool) → (e == i) ≡ b → (e == i) ≡ false
+      by_number false at = at
+      by_number true at = absurd (none-some x (sym (ap (λ f. entry f other) (eqb-true e i at) ∙ bare other) ∙ h))
+
+  -- what is no directory stays none
+  pub no_dir_left : (j : ℕ) → IsNoDir parent j → IsNoDir parent' j
+  no_dir_left j h = (h.0, elim (j == i) as (λ b. cond b None (parent j) ≡ None) [ true ↦ refl | false ↦ h.1 ])
+
+  -- no entry that is left leads to it
+  pub none_left : (e : ℕ) (other : List ℕ) (x : Node) → entry' e other ≡ Some x → number_of x ≢ i
+  none_left e other (DirNode j) h same = let w = was_entry e other (DirNode j) h in false≢true (sym (leads_apart e other j w.0 w.1) ∙ eq-eqb j i same)
+  none_left e other (FileNode j) h same = none-some d (sym (ap parent (sym same) ∙ (t.apart e other j (was_entry e other (FileNode j) h).1).1) ∙ t.leads d name i is)
+
   pub tree-removed : IsTree entry' parent'
   tree-removed = record {
     top = elim (1 == i) as (λ b. cond b None (parent 1) ≡ None) [ true ↦ refl | false ↦ t.top ];
+    starts = λ e other x h. let w = was_entry e other x h in hangs_left e (not_start e other x w.1) (t.starts e other x w.1);
     leads = λ e other j h. let w = was_entry e other (DirNode j) h in ap (λ b. cond b None (parent j)) (leads_apart e other j w.0 w.1) ∙ t.leads e other j w.1;
-    no_file = λ e other j h. t.no_file e other j (was_entry e other (FileNode j) h).1;
+    apart = λ e other j h. no_dir_left j (t.apart e other j (was_entry e other (FileNode j) h).1);
     stands = λ e p h. let w = was_parent e p h in let s = t.stands e p w.1 in (s.0, ap (λ b. cond b None (entry p s.0)) (place_apart e p s.0 w.0 s.1) ∙ s.1);
     once = λ e m n j h g. t.once e m n j (was_entry e m (DirNode j) h).1 (was_entry e n (DirNode j) g).1;
     hangs = λ e p h. let w = was_parent e p h in hangs_left e w.0 (t.hangs e p w.1);

@@ -1,5 +1,5 @@
 -- Facts of one variant of a result.
-use Rattle.std.proofs.Common.{◌≡◌, Result, Ok, Err, OnOk, OnErr, IsOk, true}
+use Rattle.std.proofs.Common.{◌≡◌, sym, Result, Ok, Err, OnOk, OnErr, IsOk, true, false}
 use Rattle.std.proofs.lemmas.Bool.{false≢true}
 use Rattle.std.specs.Result.{is_err}
 
@@ -10,3 +10,7 @@ on_ok (Err e) h is = absurd (false≢true is)
 pub on_err : {T E P : Type 0} (r : Result T E) → OnErr r P → is_err r ≡ true → P
 on_err (Ok x) h is = absurd (false≢true is)
 on_err (Err e) h is = h
+
+pub on_ok-no_err : {T E P : Type 0} (r : Result T E) → OnOk r P → is_err r ≡ false → P
+on_ok-no_err (Ok x) h is = h
+on_ok-no_err (Err e) h is = absurd (false≢true (sym is))

@@ -1,6 +1,6 @@
--- Sound cells and their plain tree show the same.
-use Rattle.std.proofs.Common.{◌≡◌, ℕ, Bool, true, false, cond, ◌||◌, List, [], ◌∷◌, map, Option, Some, None, is_some, eqb-true, refl, sym, ap, subst, ◌∙◌}
-use Rattle.std.specs.Prelude.{T, ◌==◌}
+-- Sound cells and their plain tree show the same, beside the bytes of files that nothing names.
+use Rattle.std.proofs.Common.{◌≡◌, ℕ, Bool, true, false, cond, ◌||◌, List, [], ◌∷◌, map, Option, Some, None, unwrap_or, eqb-true, refl, sym, ap, subst, ◌∙◌}
+use Rattle.std.specs.Prelude.{T, ◌==◌, nat_lt}
 use Rattle.std.proofs.Math.Bool.{or-true}
 use Rattle.std.specs.declared.cmp.Ordering.TheVariants.{Equal}
 use Rattle.std.specs.Ordering.{nat_cmp, is_lt, ordering_then}
@@ -8,22 +8,30 @@ use Rattle.std.specs.Cmp.{unsigned_tied, nat_cmp_total, tied_itself}
 use Rattle.std.specs.Cmp.Lexicographic.{slice_cmp}
 use Rattle.std.specs.List.{AllByRecursion, filter_map}
 use Rattle.std.specs.Option.{option_map}
-use Rattle.std.specs.FinMap.{entries, entries_sorted, is_sorted, retain_keys, get-retain_keys, from_sorted, get-from_sorted, entries-from_sorted, same_map}
+use Rattle.std.specs.FinMap.{get, entries, entries_sorted, is_sorted, retain_keys, get-retain_keys, from_sorted, get-from_sorted, entries-from_sorted, same_map}
 use Rattle.std.specs.FinMap.Entries.{below_all}
 use Rattle.ft_tree.specs.declared.node.Node.{Node}
 use Rattle.ft_tree.specs.declared.node.Node.TheVariants.{Dir as DirNode, File as FileNode}
 use Rattle.ft_tree.specs.declared.cell.Cell.{Cell}
-use Rattle.ft_tree.specs.declared.cell.Cell.TheVariants.{Entry, Names, Parent}
+use Rattle.ft_tree.specs.declared.cell.Cell.TheVariants.{Entry, Names, Parent, Links, Bytes, Fd}
 use Rattle.ft_tree.specs.Nodes.{number_of}
-use Rattle.ft_tree.specs.Cells.{Cells, dir_of, dir_entry, filled, entry_of, names_of}
+use Rattle.ft_tree.specs.Cells.{Cells, dir_of, dir_entry, filled, entry_of, names_of, links_of, bytes_of, has_file}
 use Rattle.ft_tree.specs.Views.{view_of}
+use Rattle.ft_tree.specs.Looks.{Agree, answer, looked_at, answer-agree}
 use Rattle.ft_tree.specs.Plain.{EdgeKey, edge_cmp, node_in, names_in, view_in}
 use Rattle.ft_tree.specs.Tidy.{tidy}
 use Rattle.ft_tree.specs.Sound.{AreSoundCells}
+use Rattle.ft_calls.specs.declared.call.Call.{Call}
+use Rattle.ft_calls.specs.Steps.{steps}
+use Rattle.ft_calls.specs.Stored.{outcome}
 use Rattle.ft_calls.proofs.Conjunction.{first, second, both}
 use Rattle.ft_calls.proofs.Listed.{dir_names-entry}
-use Rattle.ft_calls.proofs.Parents.{parent-shown}
-use Rattle.ft_calls.proofs.Tidied.{edge_total, edge_exact, edges_named, edges_named-find, dir_names-find, get-tidy, contains-parent}
+use Rattle.ft_calls.proofs.Looked.{IsShown, AllShown, call-looks}
+use Rattle.ft_calls.proofs.Named.{Named, by_entry, by_open}
+use Rattle.ft_calls.proofs.Opens.{open-named}
+use Rattle.ft_calls.proofs.Parents.{contains-under, contains-no_dir, parent-shown}
+use Rattle.ft_calls.proofs.PlainSound.{file-edge}
+use Rattle.ft_calls.proofs.Tidied.{edge_total, edge_exact, edges_named, edges_named-find, dir_names-find, get-tidy, get-bytes, get-opens}
 
 -- Lists of names in order.
 
@@ -73,9 +81,8 @@ edges_of cells d =
 module _ (cells : Cells) (sound : AreSoundCells cells) where
   -- what an entry leads to is told by its number
   node-in : (d : ℕ) (name : List ℕ) (x : Node) → entry_of cells d name ≡ Some x → node_in (tidy cells) (number_of x) ≡ x
-  node-in d name (FileNode i) is = absurd (sound.tree.no_file d name i is)
-  node-in d name (DirNode i) is =
-      ap (λ b. cond b (DirNode i) (FileNode i)) (contains-parent cells sound.root_is i ∙ ap (λ o. (i == 1) || is_some o) (sound.tree.leads d name i is) ∙ or-true (i == 1))
+  node-in d name (FileNode i) is = ap (λ b. cond b (DirNode i) (FileNode i)) (contains-no_dir cells sound i (sound.tree.apart d name i is))
+  node-in d name (DirNode i) is = ap (λ b. cond b (DirNode i) (FileNode i)) (contains-under cells sound i d (sound.tree.leads d name i is))
 
   -- so each entry shows the same
   entry-in : (d : ℕ) (name : List ℕ) (o : Option Node) → entry_of cells d name ≡ o → option_map (node_in (tidy cells)) (option_map number_of o) ≡ o
@@ -92,12 +99,29 @@ module _ (cells : Cells) (sound : AreSoundCells cells) where
   names-in : (d : ℕ) → names_in (tidy cells) d ≡ names_of cells d
   names-in d = ap (map {B = List ℕ × Node} (λ (e : EdgeKey × ℕ). (e.0.1, node_in (tidy cells) e.1))) (edges_of cells d) ∙ each_named d (names_of cells d) (dir_names-entry (dir_of cells d))
 
-  -- each cell shows the same
-  cell-shown : (c : Cell) → view_in (tidy cells) c ≡ view_of cells c
-  cell-shown (Entry d name) = ap (option_map (node_in (tidy cells))) (get-tidy cells d name) ∙ entry-in d name (entry_of cells d name) refl
-  cell-shown (Names d) = names-in d
-  cell-shown (Parent d) = parent-shown cells sound d
+  -- a file that is named is there
+  pub named-there : (i : ℕ) → Named cells i → has_file cells i ≡ true
+  named-there _ (by_entry d name i is) = file-edge cells sound (d, name) i (contains-no_dir cells sound i (sound.tree.apart d name i is)) (get-tidy cells d name ∙ ap (option_map number_of) is)
+  named-there _ (by_open f o is) = ap (λ b. nat_lt 0 (links_of cells o.file) || b) (open-named cells f o is) ∙ or-true (nat_lt 0 (links_of cells o.file))
 
-  -- the plain tree of sound cells shows what they show
-  pub view-tidy : view_in (tidy cells) ≡ view_of cells
-  view-tidy = λ i c. cell-shown c i
+  -- and shows its bytes
+  bytes-in : (i : ℕ) → has_file cells i ≡ true → unwrap_or (get (tidy cells).files i) [] ≡ bytes_of cells i
+  bytes-in i there = ap (λ o. unwrap_or o []) (get-bytes cells sound i ∙ ap (λ b. cond b (Some (bytes_of cells i)) None) there)
+
+  -- each cell that is shown shows the same
+  pub cell-shown : (c : Cell) → IsShown cells c → view_in (tidy cells) c ≡ view_of cells c
+  cell-shown (Entry d name) shown = ap (option_map (node_in (tidy cells))) (get-tidy cells d name) ∙ entry-in d name (entry_of cells d name) refl
+  cell-shown (Names d) shown = names-in d
+  cell-shown (Parent d) shown = parent-shown cells sound d
+  cell-shown (Links i) shown = sym (sound.links i)
+  cell-shown (Bytes i) shown = bytes-in i (named-there i shown)
+  cell-shown (Fd f) shown = get-opens cells f
+
+  -- and so do all of a list
+  all-shown : (cs : List Cell) → AllShown cells cs → Agree (view_of cells) (view_in (tidy cells)) cs
+  all-shown [] shown = tt
+  all-shown (c ∷ cs) shown = (sym (cell-shown c shown.0), all-shown cs shown.1)
+
+  -- so a call comes to the same on the plain tree as on the cells
+  pub outcome-shown : (k : ℕ) (call : Call) → answer (steps k call) (view_in (tidy cells)) ≡ outcome cells k call
+  outcome-shown k call = sym (answer-agree (steps k call) (view_of cells) (view_in (tidy cells)) (all-shown (looked_at (steps k call) (view_of cells)) (call-looks cells sound k call)))

@@ -1,7 +1,7 @@
 -- What the plain tree has that stored cells are.
-use Rattle.std.proofs.Common.{◌≡◌, ℕ, Bool, true, false, cond, ◌||◌, List, [], ◌∷◌, ◌++◌, map, filter, Option, Some, None, is_some, unwrap_or, Ordering, refl, sym, ap, ◌∙◌}
-use Rattle.std.specs.Prelude.{T, ◌==◌}
-use Rattle.std.proofs.lemmas.Bool.{false≢true}
+use Rattle.std.proofs.Common.{◌≡◌, ℕ, Bool, true, false, cond, ◌||◌, List, [], ◌∷◌, ◌++◌, map, filter, Option, Some, None, is_some, unwrap_or, Ordering, arith, refl, sym, ap, subst, ◌∙◌}
+use Rattle.std.specs.Prelude.{T, ◌==◌, nat_lt}
+use Rattle.std.proofs.lemmas.Bool.{false≢true, ltb-true}
 use Rattle.std.specs.declared.cmp.Ordering.TheVariants.{Less, Equal, Greater}
 use Rattle.std.specs.Ordering.{nat_cmp, is_eq, eq_by_cmp, ordering_then}
 use Rattle.std.specs.Cmp.{IsTotalOrder, nat_cmp_total, on_total, then_total}
@@ -13,11 +13,15 @@ use Rattle.std.specs.FinMap.Entries.{below_all}
 use Rattle.std.proofs.lemmas.Map.Lookups.{CmpEqualImpliesEq, exact_pairs, exact_unsigned, exact_bytes}
 use Rattle.ft_tree.specs.declared.node.Node.{Node}
 use Rattle.ft_tree.specs.Nodes.{number_of}
-use Rattle.ft_tree.specs.Cells.{Cells, DirCells, no_dir, dir_names, dir_entry, filled, entry_of, parent_of, is_there, has_dir, HasDirPlace}
+use Rattle.ft_tree.specs.declared.open_file.OpenFile.{OpenFile}
+use Rattle.ft_tree.specs.Cells.{Cells, DirCells, FileCells, Opens, no_dir, no_file, dir_names, dir_entry, filled, entry_of, parent_of, links_of, bytes_of, body_in, open_of, is_there, has_dir, is_open, has_file, HasDirPlace, HasFilePlace}
 use Rattle.ft_tree.specs.Plain.{EdgeKey, edge_cmp, PlainTree}
-use Rattle.ft_tree.specs.Tidy.{tidy, edges_at, edges_from, member, dirs_from}
+use Rattle.ft_tree.specs.Tidy.{tidy, edges_at, edges_from, member, dirs_from, is_named, files_from, opens_from}
+use Rattle.ft_tree.specs.Sound.{AreSoundCells}
 use Rattle.ft_calls.proofs.Conjunction.{first, second}
 use Rattle.ft_calls.proofs.Listed.{lesser}
+use Rattle.ft_calls.proofs.Places.{file_place-linked, body-place}
+use Rattle.ft_calls.proofs.Opens.{named-open}
 use Rattle.ft_calls.proofs.Free.{has_dir-parent}
 
 pub edge_total : IsTotalOrder edge_cmp
@@ -146,6 +150,84 @@ contains-tidy cells d =
 pub contains-parent : (cells : Cells) → HasDirPlace cells 1 → (d : ℕ) → contains_key (tidy cells).dirs d ≡ ((d == 1) || is_some (parent_of cells d))
 contains-parent cells root d = contains-tidy cells d ∙ has_dir-parent cells root d
 
+-- The files.
+
+-- whether a file is there, by what is stored of it
+abbrev is_kept : Opens → ℕ → Option FileCells → Bool
+is_kept opens i o = nat_lt 0 (unwrap_or o no_file).links || is_open opens i
+
+-- the bytes of what is stored, where it is there
+abbrev kept_bytes : Opens → ℕ → Option FileCells → Option (List ℕ)
+kept_bytes opens i o = cond (is_kept opens i o) (option_map (λ (f : FileCells). f.bytes) o) None
+
+-- of what is not stored there are none
+kept-none : (opens : Opens) (i : ℕ) → kept_bytes opens i None ≡ None
+kept-none opens i = elim (is_kept opens i None) as (λ b. ◌≡◌ {A = Option (List ℕ)} (cond b None None) None) [ true ↦ refl | false ↦ refl ]
+
+-- what is found among the files that are there
+files_from-find : (opens : Opens) (i : ℕ) (es : List (ℕ × FileCells)) → T (is_sorted nat_cmp es) → find nat_cmp i (files_from opens es) ≡ kept_bytes opens i (find nat_cmp i es)
+files_from-find opens i [] h = sym (kept-none opens i)
+files_from-find opens i (e ∷ es) h = by_tie (eq_by_cmp nat_cmp i e.0) refl (is_named opens e) refl (files_from-find opens i es (second _ _ h))
+  where
+    none_later : eq_by_cmp nat_cmp i e.0 ≡ true → kept_bytes opens i (find nat_cmp i es) ≡ None
+    none_later tie = ap (kept_bytes opens i) (gone nat_cmp nat_cmp_total i e.0 es (tied_from _ tie) (first _ _ h)) ∙ kept-none opens i
+
+    kept : (b : Bool) → eq_by_cmp nat_cmp i e.0 ≡ true → is_named opens e ≡ b → kept_bytes opens i (Some e.1) ≡ cond b (Some e.1.bytes) None
+    kept b tie is = ap (λ t. cond t (Some e.1.bytes) None) (ap (λ j. is_named opens (j, e.1)) (exact_unsigned i e.0 (tied_from _ tie)) ∙ is)
+
+    by_tie : (t : Bool) → eq_by_cmp nat_cmp i e.0 ≡ t → (b : Bool) → is_named opens e ≡ b → find nat_cmp i (files_from opens es) ≡ kept_bytes opens i (find nat_cmp i es)
+        → find nat_cmp i (map (λ x. (x.0, x.1.bytes)) (cond b (e ∷ filter (is_named opens) es) (filter (is_named opens) es))) ≡ kept_bytes opens i (cond t (Some e.1) (find nat_cmp i es))
+    by_tie true tie true is rest = ap (λ t. cond t (Some e.1.bytes) (find nat_cmp i (files_from opens es))) tie ∙ sym (kept true tie is)
+    by_tie true tie false is rest = rest ∙ none_later tie ∙ sym (kept false tie is)
+    by_tie false tie true is rest = ap (λ t. cond t (Some e.1.bytes) (find nat_cmp i (files_from opens es))) tie ∙ rest
+    by_tie false tie false is rest = rest
+
+-- a file of the plain tree is one of the cells that an entry or a description names
+pub get-files : (cells : Cells) (i : ℕ) → get (tidy cells).files i ≡ cond (has_file cells i) (body_in cells i) None
+get-files cells i =
+    get-from_entries nat_cmp_total (files_from cells.opens (entries cells.files)) i ∙ files_from-find cells.opens i (entries cells.files) (entries_sorted cells.files)
+    ∙ ap (kept_bytes cells.opens i) (sym (get-entries cells.files i))
+
+-- a file that an entry or a description names is stored
+pub file_place-there : (cells : Cells) → AreSoundCells cells → (i : ℕ) → has_file cells i ≡ true → HasFilePlace cells i
+file_place-there cells sound i h = by_links (nat_lt 0 (links_of cells i)) refl h
+  where
+    by_links : (b : Bool) → nat_lt 0 (links_of cells i) ≡ b → (b || is_open cells.opens i) ≡ true → HasFilePlace cells i
+    by_links true is h = file_place-linked cells i (λ none. let above = ltb-true 0 (links_of cells i) is in absurd (omega arith))
+    by_links false is h = let x = named-open cells i h in subst (HasFilePlace cells) x.3 (sound.opens x.0 x.1 x.2).0
+
+-- so its bytes are those of the cells
+pub get-bytes : (cells : Cells) → AreSoundCells cells → (i : ℕ) → get (tidy cells).files i ≡ cond (has_file cells i) (Some (bytes_of cells i)) None
+get-bytes cells sound i = get-files cells i ∙ by_there (has_file cells i) refl
+  where
+    by_there : (b : Bool) → has_file cells i ≡ b → cond b (body_in cells i) None ≡ cond b (Some (bytes_of cells i)) None
+    by_there true is = body-place cells i (file_place-there cells sound i is)
+    by_there false is = refl
+
+pub contains-files : (cells : Cells) → AreSoundCells cells → (i : ℕ) → contains_key (tidy cells).files i ≡ has_file cells i
+contains-files cells sound i = ap is_some (get-bytes cells sound i) ∙ elim (has_file cells i) as (λ b. is_some (cond b (Some (bytes_of cells i)) None) ≡ b) [ true ↦ refl | false ↦ refl ]
+
+-- The descriptions.
+
+-- what is found among the places that are not empty
+opens_from-find : (f : ℕ) (es : List (ℕ × Option OpenFile)) → T (is_sorted nat_cmp es) → find nat_cmp f (opens_from es) ≡ option_flatten (find nat_cmp f es)
+opens_from-find f [] h = refl
+opens_from-find f ((g, Some o) ∷ es) h =
+    elim (eq_by_cmp nat_cmp f g) as (λ b. cond b (Some o) (find nat_cmp f (opens_from es)) ≡ option_flatten (cond b (Some (Some o)) (find nat_cmp f es))) [
+      | true ↦ refl
+      | false ↦ opens_from-find f es (second _ _ h)
+    ]
+opens_from-find f ((g, None) ∷ es) h = opens_from-find f es (second _ _ h) ∙ by_tie (eq_by_cmp nat_cmp f g) refl
+  where
+    by_tie : (b : Bool) → eq_by_cmp nat_cmp f g ≡ b → option_flatten (find nat_cmp f es) ≡ option_flatten (cond b (Some None) (find nat_cmp f es))
+    by_tie true is = ap option_flatten (gone nat_cmp nat_cmp_total f g es (tied_from _ is) (first _ _ h))
+    by_tie false is = refl
+
+-- a description of the plain tree is one of the cells
+pub get-opens : (cells : Cells) (f : ℕ) → get (tidy cells).opens f ≡ open_of cells f
+get-opens cells f =
+    get-from_entries nat_cmp_total (opens_from (entries cells.opens)) f ∙ opens_from-find f (entries cells.opens) (entries_sorted cells.opens) ∙ ap option_flatten (sym (get-entries cells.opens f))
+
 -- members of sets have no value to differ in
 same_unit : (a b : Option (Unit {0})) → is_some a ≡ is_some b → a ≡ b
 same_unit None None h = refl
@@ -153,9 +235,12 @@ same_unit None (Some x) h = absurd (false≢true h)
 same_unit (Some x) None h = absurd (false≢true (sym h))
 same_unit (Some x) (Some y) h = refl
 
--- plain trees with the same edges and directories are one
-pub same_plain : (p q : PlainTree) → ((d : ℕ) (name : List ℕ) → get p.edges (d, name) ≡ get q.edges (d, name)) → ((d : ℕ) → contains_key p.dirs d ≡ contains_key q.dirs d) → p ≡ q
-same_plain p q h g =
-    let edges = same_map edge_total edge_exact p.edges q.edges (λ e. h e.0 e.1) in
-    let dirs = same_map nat_cmp_total exact_unsigned p.dirs q.dirs (λ d. same_unit _ _ (g d)) in
-    λ i. record { edges = edges i; dirs = dirs i }
+-- plain trees with the same edges, directories, files and descriptions are one
+pub same_plain : (p q : PlainTree) → ((d : ℕ) (name : List ℕ) → get p.edges (d, name) ≡ get q.edges (d, name)) → ((d : ℕ) → contains_key p.dirs d ≡ contains_key q.dirs d)
+    → ((i : ℕ) → get p.files i ≡ get q.files i) → ((f : ℕ) → get p.opens f ≡ get q.opens f) → p ≡ q
+same_plain p q same_edges same_dirs same_files same_opens =
+    let edges = same_map edge_total edge_exact p.edges q.edges (λ e. same_edges e.0 e.1) in
+    let dirs = same_map nat_cmp_total exact_unsigned p.dirs q.dirs (λ d. same_unit _ _ (same_dirs d)) in
+    let files = same_map nat_cmp_total exact_unsigned p.files q.files same_files in
+    let opens = same_map nat_cmp_total exact_unsigned p.opens q.opens same_opens in
+    λ i. record { edges = edges i; dirs = dirs i; files = files i; opens = opens i }

@@ -1,13 +1,17 @@
 -- The execution of a call on the plain tree.
-use Rattle.std.specs.Prelude.{ℕ, cond, ◌==◌, List, [], ◌∷◌, Option, Some, None}
+use Rattle.std.specs.Prelude.{ℕ, Bool, cond, ◌==◌, ◌||◌, List, [], ◌∷◌, Option, Some, None}
+use Rattle.std.specs.List.{list_any}
+use Rattle.std.specs.Ordering.{nat_cmp}
 use Rattle.std.specs.FinMap as finite
 use Rattle.ft_tree.specs.declared.node.Node.{Node}
+use Rattle.ft_tree.specs.declared.open_file.OpenFile.{OpenFile}
 use Rattle.ft_tree.specs.Nodes.{number_of}
 use Rattle.ft_tree.specs.Looks.{answer}
 use Rattle.ft_tree.specs.Plain.{PlainTree, EdgeKey, edge_cmp, NumberSet, view_in}
 use Rattle.ft_calls.specs.declared.call.Call.{Call}
 use Rattle.ft_calls.specs.declared.call.Reply.{Reply}
-use Rattle.ft_calls.specs.Steps.{Write, SetEntry, SetParent, steps}
+use Rattle.ft_calls.specs.Outcomes.{Write, SetEntry, SetParent, SetLinks, SetBytes, SetOpen}
+use Rattle.ft_calls.specs.Steps.{steps}
 
 -- an edge is drawn, or taken away
 abbrev pub set_edge : finite.FinMap edge_cmp ℕ → EdgeKey → Option Node → finite.FinMap edge_cmp ℕ
@@ -19,14 +23,30 @@ abbrev pub set_dir : NumberSet → ℕ → Option ℕ → NumberSet
 set_dir dirs d (Some p) = finite.insert dirs d tt
 set_dir dirs d None = cond (d == 1) dirs (finite.remove dirs d)
 
+abbrev pub set_open : finite.FinMap nat_cmp OpenFile → ℕ → Option OpenFile → finite.FinMap nat_cmp OpenFile
+set_open opens f (Some o) = finite.insert opens f o
+set_open opens f None = finite.remove opens f
+
+-- links are not kept: they are the count of the edges
 abbrev pub put_plain : PlainTree → Write → PlainTree
-put_plain p (SetEntry d name to) = record { edges = set_edge p.edges (d, name) to; dirs = p.dirs }
-put_plain p (SetParent d parent) = record { edges = p.edges; dirs = set_dir p.dirs d parent }
+put_plain p (SetEntry d name to) = record p { edges = set_edge p.edges (d, name) to }
+put_plain p (SetParent d parent) = record p { dirs = set_dir p.dirs d parent }
+put_plain p (SetLinks i links) = p
+put_plain p (SetBytes i bytes) = record p { files = finite.insert p.files i bytes }
+put_plain p (SetOpen f to) = record p { opens = set_open p.opens f to }
 
 abbrev pub put_all_plain : PlainTree → List Write → PlainTree
 put_all_plain p [] = p
 put_all_plain p (w ∷ ws) = put_all_plain (put_plain p w) ws
 
+-- an edge or a description names the file
+abbrev pub is_named_in : PlainTree → ℕ → Bool
+is_named_in p i = list_any (λ e. e.1 == i) (finite.entries p.edges) || list_any (λ e. e.1.file == i) (finite.entries p.opens)
+
+-- a file that neither names is gone (POSIX.1-2017, System Interfaces, unlink and close)
+abbrev pub without_dead_files : PlainTree → PlainTree
+without_dead_files p = record p { files = finite.retain_keys p.files (is_named_in p) }
+
 -- the call with stamp k: the tree after it, and its reply
 abbrev pub exec : PlainTree → ℕ → Call → PlainTree × Reply
-exec p k call = let outcome = answer (steps k call) (view_in p) in (put_all_plain p outcome.writes, outcome.reply)
+exec p k call = let outcome = answer (steps k call) (view_in p) in (without_dead_files (put_all_plain p outcome.writes), outcome.reply)

@@ -1,3 +1,6 @@
+pub mod Outcomes
+pub mod DirSteps
+pub mod FileSteps
 pub mod Steps
 pub mod Exec
 pub mod Stored

@@ -1,12 +1,14 @@
 -- What performing a call on a tree leaves.
-use Rattle.std.specs.Prelude.{◌≡◌, Result, Ok, Err}
+use Rattle.std.specs.Prelude.{◌≡◌, Bool, true, false, Result, Ok, Err}
 use Rattle.ft_base.specs.declared.memory.Memory.{Memory}
 use Rattle.ft_tree.specs.Cells.{Cells, entry_of, HasDirPlace}
 use Rattle.ft_tree.specs.Sound.{KeepsValues}
 use Rattle.ft_tree.specs.Walk.{Spot, Named, Itself}
+use Rattle.ft_calls.specs.declared.call.Call.{Call}
+use Rattle.ft_calls.specs.declared.call.Call.TheVariants.{Mkdir, Rmdir, List as ListDir, Open, Close, Read, Write, Pread, Pwrite, Lseek, Truncate, Ftruncate, Stat, Fstat}
 use Rattle.ft_calls.specs.declared.call.Reply.{Reply}
-use Rattle.ft_calls.specs.declared.call.Reply.TheVariants.{Done, Names as NamesReply, Failed}
-use Rattle.ft_calls.specs.Steps.{Outcome}
+use Rattle.ft_calls.specs.declared.call.Reply.TheVariants.{Done, Names as NamesReply, Number, Bytes as BytesReply, Info, Failed}
+use Rattle.ft_calls.specs.Outcomes.{Outcome}
 use Rattle.ft_calls.specs.Stored.{put_all}
 
 -- the reply is the outcome's and its writes are made; or memory was wanting, and each cell has its value
@@ -14,13 +16,47 @@ abbrev pub IsPerformed : Cells → Outcome → Cells → Result Reply Memory →
 IsPerformed old o new (Ok reply) = (reply ≡ o.reply) × (new ≡ put_all old o.writes)
 IsPerformed old o new (Err memory) = KeepsValues old new
 
+-- the first of two replies
+abbrev pub first_of : Result (Reply × Reply) Memory → Result Reply Memory
+first_of (Ok replies) = Ok replies.0
+first_of (Err memory) = Err memory
+
 -- a spot's directory is stored, and its name leads to what it tells
 abbrev pub IsSpotIn : Cells → Spot → Type 0
 IsSpotIn cells (Named d name x) = HasDirPlace cells d × (x ≡ entry_of cells d name)
 IsSpotIn cells (Itself d) = HasDirPlace cells d
 
--- the reply is a list of names
-abbrev pub TellsNames : Reply → Type 0
-TellsNames Done = ⊥
-TellsNames (NamesReply names) = Unit {0}
-TellsNames (Failed e) = ⊥
+-- the reply is a list, of names or of bytes
+abbrev pub IsList : Reply → Type 0
+IsList Done = ⊥
+IsList (NamesReply names) = Unit {0}
+IsList (Number n) = ⊥
+IsList (BytesReply bytes) = Unit {0}
+IsList (Info kind number links size) = ⊥
+IsList (Failed e) = ⊥
+
+-- the reply only tells: names, what was found, or an error
+abbrev pub OnlyTells : Reply → Type 0
+OnlyTells Done = ⊥
+OnlyTells (NamesReply names) = Unit {0}
+OnlyTells (Number n) = ⊥
+OnlyTells (BytesReply bytes) = ⊥
+OnlyTells (Info kind number links size) = Unit {0}
+OnlyTells (Failed e) = Unit {0}
+
+-- a read moves its descriptor's offset; every other call that answers bytes or names changes nothing
+abbrev pub is_read : Call → Bool
+is_read (Mkdir path) = false
+is_read (Rmdir path) = false
+is_read (ListDir path) = false
+is_read (Open path access create excl trunc append) = false
+is_read (Close fd) = false
+is_read (Read fd len) = true
+is_read (Write fd bytes) = false
+is_read (Pread fd off len) = false
+is_read (Pwrite fd off bytes) = false
+is_read (Lseek fd whence off) = false
+is_read (Truncate len path) = false
+is_read (Ftruncate fd len) = false
+is_read (Stat path) = false
+is_read (Fstat fd) = false

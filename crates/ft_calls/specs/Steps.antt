@@ -1,88 +1,27 @@
--- What each call looks at and what it comes to: a reply, and the cells that it writes with their new values.
-use Rattle.std.specs.Prelude.{ℕ, cond, ◌-◌, length, slice_get, List, [], ◌∷◌, Option, Some, None, Result, Ok, Err}
-use Rattle.ft_path.specs.Name.{is_dot, is_dot_dot}
+-- What each call looks at and what it comes to.
+use Rattle.std.specs.Prelude.{ℕ}
 use Rattle.ft_path.specs.FilePath.{parts_of}
-use Rattle.ft_path.specs.declared.path.Parts.{Parts}
-use Rattle.ft_path.specs.declared.errno.Errno.{Errno}
-use Rattle.ft_path.specs.declared.errno.Errno.TheVariants.{ENOENT, ENOTDIR, EEXIST, EINVAL, EBUSY, ENOTEMPTY}
-use Rattle.ft_tree.specs.declared.cell.Cell.TheVariants.{Names}
-use Rattle.ft_tree.specs.declared.node.Node.{Node}
-use Rattle.ft_tree.specs.declared.node.Node.TheVariants.{Dir as DirNode, File as FileNode}
-use Rattle.ft_tree.specs.Nodes.{with_kinds}
-use Rattle.ft_tree.specs.Looks.{Looks, Answer, Look, then, or_else}
-use Rattle.ft_tree.specs.Walk.{Spot, Named, Itself, walk}
+use Rattle.ft_tree.specs.Looks.{Looks}
 use Rattle.ft_calls.specs.declared.call.Call.{Call}
-use Rattle.ft_calls.specs.declared.call.Call.TheVariants.{Mkdir, Rmdir, List as ListDir}
-use Rattle.ft_calls.specs.declared.call.Reply.{Reply}
-use Rattle.ft_calls.specs.declared.call.Reply.TheVariants.{Done, Names as NamesReply, Failed}
-
--- a cell with its new value; names are never written
-pub data Write : Type 0 where
-  SetEntry : ℕ → List ℕ → Option Node → Write
-  SetParent : ℕ → Option ℕ → Write
-
-pub record Outcome : Type 0 where
-  pub reply : Reply
-  pub writes : List Write
-
--- a call that fails writes nothing
-abbrev pub failed : Errno → Outcome
-failed e = record { reply = Failed e; writes = [] }
-
-abbrev pub told : Reply → Outcome
-told reply = record { reply = reply; writes = [] }
-
--- the call goes on where the path's components lead; a fault of its text is answered before anything is looked at
-abbrev pub from_parts : Result Parts Errno → (Spot → Looks Outcome) → Looks Outcome
-from_parts (Err e) go = Answer (failed e)
-from_parts (Ok parts) go = then (walk parts.names parts.trailing) (or_else failed go)
-
--- mkdir (POSIX.1-2017, System Interfaces, mkdir): the directory gets the call's stamp as its number
-abbrev pub make_dir : ℕ → Spot → Looks Outcome
-make_dir k (Named d name None) = Answer (record { reply = Done; writes = SetParent k (Some d) ∷ SetEntry d name (Some (DirNode k)) ∷ [] })
-make_dir k (Named d name (Some x)) = Answer (failed EEXIST)
-make_dir k (Itself d) = Answer (failed EEXIST)
-
--- rmdir (POSIX.1-2017, System Interfaces, rmdir)
-abbrev pub if_empty : ℕ → List ℕ → ℕ → List (List ℕ × Node) → Outcome
-if_empty d name i [] = record { reply = Done; writes = SetParent i None ∷ SetEntry d name None ∷ [] }
-if_empty d name i (e ∷ es) = failed ENOTEMPTY
-
-abbrev pub remove_dir : Spot → Looks Outcome
-remove_dir (Named d name None) = Answer (failed ENOENT)
-remove_dir (Named d name (Some (FileNode i))) = Answer (failed ENOTDIR)
-remove_dir (Named d name (Some (DirNode i))) = Look (Names i) (λ names. Answer (if_empty d name i names))
-remove_dir (Itself d) = Answer (failed EBUSY)
-
--- the last component, if there is one
-abbrev pub last_of : List (List ℕ) → Option (List ℕ)
-last_of names = slice_get names (length names - 1)
-
--- what is wrong with a last component of a directory to be removed, before any look-up: the root is busy, `.` is invalid, and `..` is not empty
-abbrev pub last_fault : Option (List ℕ) → Option Errno
-last_fault None = Some EBUSY
-last_fault (Some name) = cond (is_dot name) (Some EINVAL) (cond (is_dot_dot name) (Some ENOTEMPTY) None)
-
-abbrev pub unless : Option Errno → Looks Outcome → Looks Outcome
-unless None go = go
-unless (Some e) go = Answer (failed e)
-
-abbrev pub remove_parts : Result Parts Errno → Looks Outcome
-remove_parts (Err e) = Answer (failed e)
-remove_parts (Ok parts) = unless (last_fault (last_of parts.names)) (from_parts (Ok parts) remove_dir)
-
--- the names of a directory, of which there is no call in POSIX beside readdir: all of them at once, in order
-abbrev pub list_names : ℕ → Looks Outcome
-list_names d = Look (Names d) (λ names. Answer (told (NamesReply (with_kinds names))))
-
-abbrev pub list_dir : Spot → Looks Outcome
-list_dir (Named d name None) = Answer (failed ENOENT)
-list_dir (Named d name (Some (FileNode i))) = Answer (failed ENOTDIR)
-list_dir (Named d name (Some (DirNode i))) = list_names i
-list_dir (Itself d) = list_names d
+use Rattle.ft_calls.specs.declared.call.Call.TheVariants.{Mkdir, Rmdir, List as ListDir, Open, Close, Read, Write, Pread, Pwrite, Lseek, Truncate, Ftruncate, Stat, Fstat}
+use Rattle.ft_calls.specs.Outcomes.{Outcome, from_parts}
+use Rattle.ft_calls.specs.DirSteps.{make_dir, remove_parts, list_dir}
+use Rattle.ft_calls.specs.FileSteps.{open_parts, with_open, any_open, is_readable, is_writable, close_open, read_open, write_open, pread_open, pwrite_open, seek_open, truncate_parts, ftruncate_open, stat_spot, fstat_open}
 
 -- the call with stamp k
 abbrev pub steps : ℕ → Call → Looks Outcome
 steps k (Mkdir path) = from_parts (parts_of path) (make_dir k)
 steps k (Rmdir path) = remove_parts (parts_of path)
 steps k (ListDir path) = from_parts (parts_of path) list_dir
+steps k (Open path access create excl trunc append) =
+    open_parts k (record { access = access; create = create; excl = excl; trunc = trunc; append = append }) (parts_of path)
+steps k (Close fd) = with_open fd any_open (close_open fd)
+steps k (Read fd len) = with_open fd is_readable (read_open fd len)
+steps k (Write fd bytes) = with_open fd is_writable (write_open fd bytes)
+steps k (Pread fd off len) = with_open fd is_readable (pread_open off len)
+steps k (Pwrite fd off bytes) = with_open fd is_writable (pwrite_open off bytes)
+steps k (Lseek fd whence off) = with_open fd any_open (seek_open fd whence off)
+steps k (Truncate len path) = truncate_parts len (parts_of path)
+steps k (Ftruncate fd len) = with_open fd is_writable (ftruncate_open len)
+steps k (Stat path) = from_parts (parts_of path) stat_spot
+steps k (Fstat fd) = with_open fd any_open fstat_open

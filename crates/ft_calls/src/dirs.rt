@@ -1,6 +1,5 @@
 // The calls on directories.
-ghost use Rattle.std.specs.Prelude.{◌≡◌, ℕ, Ok, Some, None, IfOk, OnOk, OnErr, IsOk};
-ghost use Rattle.ft_path.specs.FilePath.{parts_of};
+ghost use Rattle.std.specs.Prelude.{◌≡◌, ℕ, Ok, Some, None, OnOk, OnErr, IsOk};
 ghost use Rattle.ft_tree.specs.declared.node.Node.TheVariants.{Dir as DirNode};
 ghost use Rattle.ft_tree.specs.Cells.{put_entry, put_parent, HasDirPlace, HasEntryPlace};
 ghost use Rattle.ft_tree.specs.Looks.{answer};
@@ -8,13 +7,14 @@ ghost use Rattle.ft_tree.specs.Views.{view_of};
 ghost use Rattle.ft_tree.specs.Walk.{seen_at};
 ghost use Rattle.ft_tree.specs.Sound.{AreSoundCells, IsFree, KeepsValues};
 ghost use Rattle.ft_calls.specs.declared.call.Call.TheVariants.{Mkdir, Rmdir, List as ListDir};
-ghost use Rattle.ft_calls.specs.Steps.{make_dir, remove_dir, list_dir, list_names, remove_parts, last_fault, last_of};
+ghost use Rattle.ft_calls.specs.DirSteps.{make_dir, remove_dir, list_dir, list_names, remove_parts, last_fault, last_of};
 ghost use Rattle.ft_calls.specs.Stored.{outcome};
 ghost use Rattle.ft_calls.specs.Perform.{IsPerformed, IsSpotIn};
 
 use crate::call::Reply;
+use crate::parts::text_parts;
 use ft_base::Memory;
-use ft_path::{Errno, FilePath, Name, Parts, PartsFault};
+use ft_path::{Errno, FilePath, Name, Parts};
 use ft_tree::{Node, Spot, Tree};
 use std::alloc::Global;
 
@@ -74,17 +74,6 @@ pub(crate) fn list(alloc: Global, tree: &Tree, path: &FilePath) -> Result<Reply,
             Err(errno) => Ok(Reply::Failed(errno)),
             Ok(spot) => list_spot(tree, spot),
         },
-    }
-}
-
-/// The parts of a path, or the fault of its text.
-fn text_parts(alloc: Global, path: &FilePath) -> Result<Result<Parts, Errno>, Memory>
-    ensures { IfOk result (λ parts. parts ≡ parts_of path.now) }
-{
-    match path.parts(alloc) {
-        Ok(parts) => Ok(Ok(parts)),
-        Err(PartsFault::Errno(errno)) => Ok(Err(errno)),
-        Err(PartsFault::Memory) => Err(Memory),
     }
 }
 

@@ -1,5 +1,5 @@
 // Laws of the calls: each is the contract of a function that does nothing.
-ghost use Rattle.ft_calls.specs.Laws.{SoundnessLaw, FreshnessLaw, TidyingLaw, ValuesLaw};
+ghost use Rattle.ft_calls.specs.Laws.{SoundnessLaw, FreshnessLaw, TidyingLaw, ValuesLaw, PlainSoundnessLaw};
 
 /// A call whose stamp numbers nothing leaves sound cells sound.
 pub fn soundness()
@@ -11,8 +11,8 @@ pub fn freshness()
     ensures { FreshnessLaw }
 {}
 
-/// The tidying law: on sound cells, tidying after a call and the call after tidying give the same
-/// plain tree and the same reply.
+/// The tidying law: on sound cells, and with a stamp that numbers nothing, tidying after a call and
+/// the call after tidying give the same plain tree and the same reply.
 pub fn tidying()
     ensures { TidyingLaw }
 {}
@@ -22,4 +22,11 @@ pub fn tidying()
 /// numbers free.
 pub fn values()
     ensures { ValuesLaw }
+{}
+
+/// Sound cells are a plain tree that is sound: each edge starts in a directory and leads to a
+/// directory or a file, each directory but the root has exactly one edge, none is below itself, and
+/// each description names a file.
+pub fn plain_soundness()
+    ensures { PlainSoundnessLaw }
 {}

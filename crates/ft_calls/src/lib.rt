@@ -1,16 +1,24 @@
 //! The calls that a tree answers, and what each of them does.
 //!
-//! The rules are those of POSIX.1-2017, System Interfaces, mkdir and rmdir, over Base Definitions,
-//! 4.13 (Pathname Resolution). The order in which errors are tested is this project's own, and so
-//! is `List`, which stands for opendir and readdir.
+//! The rules are those of POSIX.1-2017, System Interfaces (mkdir, rmdir, open, close, read, write,
+//! pread, pwrite, lseek, truncate, ftruncate, stat, fstat), over Base Definitions, 4.13 (Pathname
+//! Resolution). The order in which errors are tested is this project's own, and so is `List`, which
+//! stands for opendir and readdir.
 #![tactic(auto)]
 
 mod action;
+mod bytes;
 mod call;
+mod descriptors;
 mod dirs;
+mod files;
 pub mod laws;
+mod parts;
 #[cfg(test)]
 mod tests;
 
-pub use action::perform;
-pub use call::{Access, Call, Mode, Reply};
+pub use action::{perform, perform_and_copy};
+pub use call::{Access, Call, Mode, OpenFlags, Reply, Whence};
+
+/// The largest offset of a description: 2^63 - 1.
+pub const LAST_OFFSET: u64 = 9_223_372_036_854_775_807;

@@ -1,16 +1,72 @@
 // The calls by their replies and rows, as POSIX.1-2017 and the rules of this project have them.
-use crate::{Access, Call, Mode, Reply, perform};
+use crate::{Access, Call, Mode, Reply, Whence, perform, perform_and_copy};
 use ft_path::{Errno, FilePath, Name};
-use ft_tree::{Cell, Kind, ROOT, Tree, TreeRow};
+use ft_tree::{AccessMode, Cell, Kind, ROOT, Tree, TreeRow};
 use std::alloc::Global;
+use std::process::Abort;
 use std::test::Fail;
 
-/// Which call to make on a path.
+/// Which call to make on a path, or with these bytes on a descriptor.
 #[derive(Clone, Copy)]
 enum Verb {
     Mkdir,
     Rmdir,
     List,
+    Stat,
+    /// With the flags as letters: r, w, c (create), x (excl), t (trunc), a (append).
+    Open(&'static [u8]),
+    Truncate(i64),
+    Close(u64),
+    Read(u64, u64),
+    Write(u64),
+    Pread(u64, i64, u64),
+    Pwrite(u64, i64),
+    Lseek(u64, Whence, i64),
+    Ftruncate(u64, i64),
+    Fstat(u64),
+}
+
+/// What a call is to answer.
+#[derive(Clone, Copy)]
+enum Wanted {
+    Done,
+    /// The names of directories, a letter each.
+    Directories(&'static [u8]),
+    Number(u64),
+    Bytes(&'static [u8]),
+    /// A file with one link: its number and its size.
+    File(u64, u64),
+    Failed(Errno),
+}
+
+fn are_directories(names: &[(Name, Kind)], letters: &[u8]) -> bool {
+    let mut are_alike = names.len() == letters.len();
+    for ((name, kind), letter) in names.iter().zip(letters) {
+        are_alike = are_alike && name.as_bytes() == [*letter].as_slice() && *kind == Kind::Dir;
+    }
+    are_alike
+}
+
+fn is_reply(reply: &Reply, wanted: Wanted) -> bool {
+    match (reply, wanted) {
+        (Reply::Done, Wanted::Done) => true,
+        (Reply::Names(names), Wanted::Directories(letters)) => {
+            are_directories(names.as_slice(), letters)
+        }
+        (Reply::Number(number), Wanted::Number(wanted)) => *number == wanted,
+        (Reply::Bytes(bytes), Wanted::Bytes(wanted)) => bytes.as_slice() == wanted,
+        (
+            Reply::Info {
+                kind: Kind::File,
+                number,
+                links: 1,
+                size,
+            },
+            Wanted::File(wanted, length),
+        ) => *number == wanted && *size == length,
+        (Reply::Failed(errno), Wanted::Failed(wanted)) => *errno == wanted,
+        _ => false,
+    }
 }
 
 fn call_of(alloc: Global, verb: Verb, text: &[u8]) -> Result<Call, Fail> {
@@ -19,54 +75,105 @@ fn call_of(alloc: Global, verb: Verb, text: &[u8]) -> Result<Call, Fail> {
         Verb::Mkdir => Call::Mkdir { path },
         Verb::Rmdir => Call::Rmdir { path },
         Verb::List => Call::List { path },
+        Verb::Stat => Call::Stat { path },
+        Verb::Open(flags) => open_of(path, flags),
+        Verb::Truncate(len) => Call::Truncate { len, path },
+        verb => descriptor_call(alloc, verb, text)?,
     })
 }
 
-/// Makes the calls one after another on a new tree, with stamps from 2 on: the tree, and the replies.
-fn make_calls(alloc: Global, calls: &[(Verb, &[u8])]) -> Result<(Tree, Vec<Reply>), Fail> {
+fn open_of(path: FilePath, flags: &[u8]) -> Call {
+    let access = match (flags.contains(&b'r'), flags.contains(&b'w')) {
+        (true, true) => AccessMode::ReadWrite,
+        (false, true) => AccessMode::WriteOnly,
+        _ => AccessMode::ReadOnly,
+    };
+    Call::Open {
+        path,
+        access,
+        create: flags.contains(&b'c'),
+        excl: flags.contains(&b'x'),
+        trunc: flags.contains(&b't'),
+        append: flags.contains(&b'a'),
+    }
+}
+
+fn descriptor_call(alloc: Global, verb: Verb, text: &[u8]) -> Result<Call, Fail> {
+    let bytes = text.to_vec(alloc)?.into();
+    match verb {
+        Verb::Close(fd) => Ok(Call::Close { fd }),
+        Verb::Read(fd, len) => Ok(Call::Read { fd, len }),
+        Verb::Write(fd) => Ok(Call::Write { fd, bytes }),
+        Verb::Pread(fd, off, len) => Ok(Call::Pread { fd, off, len }),
+        Verb::Pwrite(fd, off) => Ok(Call::Pwrite { fd, off, bytes }),
+        Verb::Lseek(fd, whence, off) => Ok(Call::Lseek { fd, whence, off }),
+        Verb::Ftruncate(fd, len) => Ok(Call::Ftruncate { fd, len }),
+        Verb::Fstat(fd) => Ok(Call::Fstat { fd }),
+        _ => Err(Fail::from("a call on a path")),
+    }
+}
+
+/// Makes the calls one after another on a new tree, with stamps from 2 on, and sees that each is
+/// answered as it says: the tree.
+fn make_calls(
+    rt: &impl Abort,
+    alloc: Global,
+    calls: &[(Verb, &[u8], Wanted)],
+) -> Result<Tree, Fail> {
     let mut tree = Tree::new(alloc)?;
-    let mut replies = Vec::new(alloc);
     let mut stamp: u64 = 2;
-    for (verb, text) in calls {
+    for (verb, text, wanted) in calls {
         let call = call_of(alloc, *verb, text)?;
         let reply = perform(alloc, &mut tree, stamp, &call)?;
-        replies.push(reply)?;
+        assert!(rt; is_reply(&reply, *wanted), "{reply:?}");
         stamp = stamp.checked_add(1).ok_or("stamp")?;
     }
-    Ok((tree, replies))
+    Ok(tree)
 }
 
-/// The reply that these directories stand in the one that is listed.
-fn directories(alloc: Global, names: &[&[u8]]) -> Result<Reply, Fail> {
-    let mut listed = Vec::new(alloc);
-    for name in names {
-        let path = FilePath::new(alloc, name)?.parts(alloc)?;
-        for name in path.names.as_slice() {
-            listed.push((name.clone()?, Kind::Dir))?;
-        }
+/// Whether a copy of the tree has one directory under the root, with this name, the number 2 and
+/// no entries.
+fn has_one_directory(tree: &Tree, wanted: &[u8]) -> Result<bool, Fail> {
+    let rows = tree.copy()?.rows()?;
+    Ok(match rows.as_slice() {
+        [
+            TreeRow::Dir { number: 1 },
+            TreeRow::Dir { number: 2 },
+            TreeRow::Edge {
+                dir: 1,
+                name,
+                number: 2,
+            },
+        ] => name.as_bytes() == wanted,
+        _ => false,
+    })
+}
+
+/// Whether the tree holds the root alone.
+fn is_bare(tree: &Tree) -> Result<bool, Fail> {
+    let rows = tree.rows()?;
+    Ok(match rows.as_slice() {
+        [TreeRow::Dir { number: 1 }] => true,
+        _ => false,
+    })
+}
+
+/// Whether just these of the numbers 2 to 6 are directories, each with its entry in the root.
+fn has_directories(tree: &Tree, numbers: &[u64]) -> bool {
+    let mut are_alike = true;
+    for number in 2..7 {
+        let is_dir = tree.kind(number) == Some(Kind::Dir) && tree.parent(number) == Some(ROOT);
+        are_alike = are_alike && is_dir == numbers.contains(&number);
     }
-    Ok(Reply::Names(listed.into()))
-}
-
-fn failed(errno: Errno) -> Reply {
-    Reply::Failed(errno)
+    are_alike
 }
 
 #[test]
 fn single_calls(rt: HostRuntime) -> Result<(), Fail> {
     let alloc = rt.alloc();
-    let (tree, replies) = make_calls(alloc, &[(Verb::Mkdir, b"/a".as_slice())])?;
-    assert_eq!(rt; replies.as_slice(), [Reply::Done].as_slice());
-    let rows = [
-        TreeRow::Dir { number: 1 },
-        TreeRow::Dir { number: 2 },
-        TreeRow::Edge {
-            dir: 1,
-            name: Name::from_bytes(alloc, b"a".as_slice())?,
-            number: 2,
-        },
-    ];
-    assert_eq!(rt; tree.copy()?.rows()?.as_slice(), rows.as_slice());
+    let calls = [(Verb::Mkdir, b"/a".as_slice(), Wanted::Done)];
+    let tree = make_calls(&rt, alloc, &calls)?;
+    assert!(rt; has_one_directory(&tree, b"a")?);
     Ok(())
 }
 
@@ -74,19 +181,12 @@ fn single_calls(rt: HostRuntime) -> Result<(), Fail> {
 fn list_tells_names_in_order(rt: HostRuntime) -> Result<(), Fail> {
     let alloc = rt.alloc();
     let calls = [
-        (Verb::Mkdir, b"/b".as_slice()),
-        (Verb::Mkdir, b"/a".as_slice()),
-        (Verb::List, b"/".as_slice()),
-        (Verb::List, b"/a".as_slice()),
+        (Verb::Mkdir, b"/b".as_slice(), Wanted::Done),
+        (Verb::Mkdir, b"/a".as_slice(), Wanted::Done),
+        (Verb::List, b"/".as_slice(), Wanted::Directories(b"ab")),
+        (Verb::List, b"/a".as_slice(), Wanted::Directories(b"")),
     ];
-    let (_, replies) = make_calls(alloc, &calls)?;
-    let wanted = [
-        Reply::Done,
-        Reply::Done,
-        directories(alloc, &[b"a/b".as_slice()])?,
-        directories(alloc, &[])?,
-    ];
-    assert_eq!(rt; replies.as_slice(), wanted.as_slice());
+    make_calls(&rt, alloc, &calls)?;
     Ok(())
 }
 
@@ -94,29 +194,37 @@ fn list_tells_names_in_order(rt: HostRuntime) -> Result<(), Fail> {
 fn mkdir_errors_in_order(rt: HostRuntime) -> Result<(), Fail> {
     let alloc = rt.alloc();
     let calls = [
-        (Verb::Mkdir, b"".as_slice()),
-        (Verb::Mkdir, b"/x/y".as_slice()),
-        (Verb::Mkdir, b"/x/..".as_slice()),
-        (Verb::Mkdir, b"/".as_slice()),
-        (Verb::Mkdir, b"/..".as_slice()),
-        (Verb::Mkdir, b"/a/".as_slice()),
-        (Verb::Mkdir, b"/a".as_slice()),
-        (Verb::Mkdir, b"/a/".as_slice()),
-        (Verb::Mkdir, b"/a/.".as_slice()),
+        (Verb::Mkdir, b"".as_slice(), Wanted::Failed(Errno::ENOENT)),
+        (
+            Verb::Mkdir,
+            b"/x/y".as_slice(),
+            Wanted::Failed(Errno::ENOENT),
+        ),
+        (
+            Verb::Mkdir,
+            b"/x/..".as_slice(),
+            Wanted::Failed(Errno::ENOENT),
+        ),
+        (Verb::Mkdir, b"/".as_slice(), Wanted::Failed(Errno::EEXIST)),
+        (
+            Verb::Mkdir,
+            b"/..".as_slice(),
+            Wanted::Failed(Errno::EEXIST),
+        ),
+        (Verb::Mkdir, b"/a/".as_slice(), Wanted::Done),
+        (Verb::Mkdir, b"/a".as_slice(), Wanted::Failed(Errno::EEXIST)),
+        (
+            Verb::Mkdir,
+            b"/a/".as_slice(),
+            Wanted::Failed(Errno::EEXIST),
+        ),
+        (
+            Verb::Mkdir,
+            b"/a/.".as_slice(),
+            Wanted::Failed(Errno::EEXIST),
+        ),
     ];
-    let (_, replies) = make_calls(alloc, &calls)?;
-    let wanted = [
-        failed(Errno::ENOENT),
-        failed(Errno::ENOENT),
-        failed(Errno::ENOENT),
-        failed(Errno::EEXIST),
-        failed(Errno::EEXIST),
-        Reply::Done,
-        failed(Errno::EEXIST),
-        failed(Errno::EEXIST),
-        failed(Errno::EEXIST),
-    ];
-    assert_eq!(rt; replies.as_slice(), wanted.as_slice());
+    make_calls(&rt, alloc, &calls)?;
     Ok(())
 }
 
@@ -124,37 +232,36 @@ fn mkdir_errors_in_order(rt: HostRuntime) -> Result<(), Fail> {
 fn rmdir_errors_in_order(rt: HostRuntime) -> Result<(), Fail> {
     let alloc = rt.alloc();
     let calls = [
-        (Verb::Mkdir, b"/a".as_slice()),
-        (Verb::Mkdir, b"/a/b".as_slice()),
-        (Verb::Rmdir, b"".as_slice()),
-        (Verb::Rmdir, b"/x/.".as_slice()),
-        (Verb::Rmdir, b"/x/..".as_slice()),
-        (Verb::Rmdir, b"/".as_slice()),
-        (Verb::Rmdir, b"/x/y".as_slice()),
-        (Verb::Rmdir, b"/x".as_slice()),
-        (Verb::Rmdir, b"/a".as_slice()),
-        (Verb::Rmdir, b"/a/b/".as_slice()),
-        (Verb::Rmdir, b"/a".as_slice()),
+        (Verb::Mkdir, b"/a".as_slice(), Wanted::Done),
+        (Verb::Mkdir, b"/a/b".as_slice(), Wanted::Done),
+        (Verb::Rmdir, b"".as_slice(), Wanted::Failed(Errno::ENOENT)),
+        (
+            Verb::Rmdir,
+            b"/x/.".as_slice(),
+            Wanted::Failed(Errno::EINVAL),
+        ),
+        (
+            Verb::Rmdir,
+            b"/x/..".as_slice(),
+            Wanted::Failed(Errno::ENOTEMPTY),
+        ),
+        (Verb::Rmdir, b"/".as_slice(), Wanted::Failed(Errno::EBUSY)),
+        (
+            Verb::Rmdir,
+            b"/x/y".as_slice(),
+            Wanted::Failed(Errno::ENOENT),
+        ),
+        (Verb::Rmdir, b"/x".as_slice(), Wanted::Failed(Errno::ENOENT)),
+        (
+            Verb::Rmdir,
+            b"/a".as_slice(),
+            Wanted::Failed(Errno::ENOTEMPTY),
+        ),
+        (Verb::Rmdir, b"/a/b/".as_slice(), Wanted::Done),
+        (Verb::Rmdir, b"/a".as_slice(), Wanted::Done),
     ];
-    let (tree, replies) = make_calls(alloc, &calls)?;
-    let wanted = [
-        Reply::Done,
-        Reply::Done,
-        failed(Errno::ENOENT),
-        failed(Errno::EINVAL),
-        failed(Errno::ENOTEMPTY),
-        failed(Errno::EBUSY),
-        failed(Errno::ENOENT),
-        failed(Errno::ENOENT),
-        failed(Errno::ENOTEMPTY),
-        Reply::Done,
-        Reply::Done,
-    ];
-    assert_eq!(rt; replies.as_slice(), wanted.as_slice());
-    assert_eq!(rt;
-        tree.rows()?.as_slice(),
-        [TreeRow::Dir { number: 1 }].as_slice()
-    );
+    let tree = make_calls(&rt, alloc, &calls)?;
+    assert!(rt; is_bare(&tree)?);
     Ok(())
 }
 
@@ -162,16 +269,16 @@ fn rmdir_errors_in_order(rt: HostRuntime) -> Result<(), Fail> {
 fn list_errors_in_order(rt: HostRuntime) -> Result<(), Fail> {
     let alloc = rt.alloc();
     let calls = [
-        (Verb::List, b"".as_slice()),
-        (Verb::List, b"/x/..".as_slice()),
-        (Verb::List, b"/x".as_slice()),
-        (Verb::List, b"/x/".as_slice()),
+        (Verb::List, b"".as_slice(), Wanted::Failed(Errno::ENOENT)),
+        (
+            Verb::List,
+            b"/x/..".as_slice(),
+            Wanted::Failed(Errno::ENOENT),
+        ),
+        (Verb::List, b"/x".as_slice(), Wanted::Failed(Errno::ENOENT)),
+        (Verb::List, b"/x/".as_slice(), Wanted::Failed(Errno::ENOENT)),
     ];
-    let (_, replies) = make_calls(alloc, &calls)?;
-    for reply in &replies {
-        assert_eq!(rt; *reply, failed(Errno::ENOENT));
-    }
-    assert_eq!(rt; replies.len(), 4);
+    make_calls(&rt, alloc, &calls)?;
     Ok(())
 }
 
@@ -179,21 +286,17 @@ fn list_errors_in_order(rt: HostRuntime) -> Result<(), Fail> {
 fn dots_lead_to_directories(rt: HostRuntime) -> Result<(), Fail> {
     let alloc = rt.alloc();
     let calls = [
-        (Verb::Mkdir, b"/a".as_slice()),
-        (Verb::Mkdir, b"/a/./../../a/b".as_slice()),
-        (Verb::List, b"/a/b/..".as_slice()),
-        (Verb::List, b"..".as_slice()),
-        (Verb::List, b"//a//b//.".as_slice()),
+        (Verb::Mkdir, b"/a".as_slice(), Wanted::Done),
+        (Verb::Mkdir, b"/a/./../../a/b".as_slice(), Wanted::Done),
+        (Verb::List, b"/a/b/..".as_slice(), Wanted::Directories(b"b")),
+        (Verb::List, b"..".as_slice(), Wanted::Directories(b"a")),
+        (
+            Verb::List,
+            b"//a//b//.".as_slice(),
+            Wanted::Directories(b""),
+        ),
     ];
-    let (_, replies) = make_calls(alloc, &calls)?;
-    let wanted = [
-        Reply::Done,
-        Reply::Done,
-        directories(alloc, &[b"b".as_slice()])?,
-        directories(alloc, &[b"a".as_slice()])?,
-        directories(alloc, &[])?,
-    ];
-    assert_eq!(rt; replies.as_slice(), wanted.as_slice());
+    make_calls(&rt, alloc, &calls)?;
     Ok(())
 }
 
@@ -206,21 +309,21 @@ fn path_limits(rt: HostRuntime) -> Result<(), Fail> {
     longer[0] = b'/';
     let slashes = vec![in alloc; b'/'; 4096]?;
     let calls = [
-        (Verb::Mkdir, longest.as_slice()),
-        (Verb::Mkdir, longer.as_slice()),
-        (Verb::Mkdir, &slashes[1..]),
-        (Verb::Mkdir, slashes.as_slice()),
-        (Verb::Mkdir, b"".as_slice()),
+        (Verb::Mkdir, longest.as_slice(), Wanted::Done),
+        (
+            Verb::Mkdir,
+            longer.as_slice(),
+            Wanted::Failed(Errno::ENAMETOOLONG),
+        ),
+        (Verb::Mkdir, &slashes[1..], Wanted::Failed(Errno::EEXIST)),
+        (
+            Verb::Mkdir,
+            slashes.as_slice(),
+            Wanted::Failed(Errno::ENAMETOOLONG),
+        ),
+        (Verb::Mkdir, b"".as_slice(), Wanted::Failed(Errno::ENOENT)),
     ];
-    let (_, replies) = make_calls(alloc, &calls)?;
-    let wanted = [
-        Reply::Done,
-        failed(Errno::ENAMETOOLONG),
-        failed(Errno::EEXIST),
-        failed(Errno::ENAMETOOLONG),
-        failed(Errno::ENOENT),
-    ];
-    assert_eq!(rt; replies.as_slice(), wanted.as_slice());
+    make_calls(&rt, alloc, &calls)?;
     Ok(())
 }
 
@@ -228,28 +331,204 @@ fn path_limits(rt: HostRuntime) -> Result<(), Fail> {
 fn directories_have_their_stamps(rt: HostRuntime) -> Result<(), Fail> {
     let alloc = rt.alloc();
     let calls = [
-        (Verb::Mkdir, b"/a".as_slice()),
-        (Verb::Mkdir, b"/a".as_slice()),
-        (Verb::Mkdir, b"/b".as_slice()),
-        (Verb::Rmdir, b"/a".as_slice()),
-        (Verb::Mkdir, b"/a".as_slice()),
+        (Verb::Mkdir, b"/a".as_slice(), Wanted::Done),
+        (Verb::Mkdir, b"/a".as_slice(), Wanted::Failed(Errno::EEXIST)),
+        (Verb::Mkdir, b"/b".as_slice(), Wanted::Done),
+        (Verb::Rmdir, b"/a".as_slice(), Wanted::Done),
+        (Verb::Mkdir, b"/a".as_slice(), Wanted::Done),
     ];
-    let (tree, _) = make_calls(alloc, &calls)?;
-    assert_eq!(rt; tree.kind(2), None);
-    assert_eq!(rt; tree.kind(3), None);
-    assert_eq!(rt; tree.kind(4), Some(Kind::Dir));
-    assert_eq!(rt; tree.kind(5), None);
-    assert_eq!(rt; tree.parent(6), Some(ROOT));
+    let tree = make_calls(&rt, alloc, &calls)?;
+    assert!(rt; has_directories(&tree, [4, 6].as_slice()));
+    Ok(())
+}
+
+#[test]
+fn files_are_written_and_read(rt: HostRuntime) -> Result<(), Fail> {
+    let alloc = rt.alloc();
+    let calls = [
+        (Verb::Open(b"rwc"), b"/f".as_slice(), Wanted::Number(2)),
+        (Verb::Write(2), b"hi".as_slice(), Wanted::Number(2)),
+        (Verb::Read(2, 9), b"".as_slice(), Wanted::Bytes(b"")),
+        (
+            Verb::Lseek(2, Whence::End, -1),
+            b"".as_slice(),
+            Wanted::Number(1),
+        ),
+        (Verb::Read(2, 9), b"".as_slice(), Wanted::Bytes(b"i")),
+        (Verb::Pwrite(2, 4), b"ab".as_slice(), Wanted::Number(2)),
+        (
+            Verb::Pread(2, 1, 9),
+            b"".as_slice(),
+            Wanted::Bytes(b"i\0\0ab"),
+        ),
+        (Verb::Ftruncate(2, 1), b"".as_slice(), Wanted::Done),
+        (Verb::Fstat(2), b"".as_slice(), Wanted::File(2, 1)),
+        (Verb::Truncate(3), b"/f".as_slice(), Wanted::Done),
+        (Verb::Stat, b"/f".as_slice(), Wanted::File(2, 3)),
+        (Verb::Close(2), b"".as_slice(), Wanted::Done),
+    ];
+    make_calls(&rt, alloc, &calls)?;
+    Ok(())
+}
+
+#[test]
+fn open_errors_in_order(rt: HostRuntime) -> Result<(), Fail> {
+    let alloc = rt.alloc();
+    let calls = [
+        (
+            Verb::Open(b"rt"),
+            b"".as_slice(),
+            Wanted::Failed(Errno::ENOENT),
+        ),
+        (
+            Verb::Open(b"rt"),
+            b"/x/y".as_slice(),
+            Wanted::Failed(Errno::EINVAL),
+        ),
+        (
+            Verb::Open(b"r"),
+            b"/x/y".as_slice(),
+            Wanted::Failed(Errno::ENOENT),
+        ),
+        (
+            Verb::Open(b"wt"),
+            b"/x".as_slice(),
+            Wanted::Failed(Errno::ENOENT),
+        ),
+        (
+            Verb::Open(b"wc"),
+            b"/x/".as_slice(),
+            Wanted::Failed(Errno::ENOENT),
+        ),
+        (
+            Verb::Open(b"rx"),
+            b"/x".as_slice(),
+            Wanted::Failed(Errno::ENOENT),
+        ),
+        (
+            Verb::Open(b"rcx"),
+            b"/".as_slice(),
+            Wanted::Failed(Errno::EEXIST),
+        ),
+        (
+            Verb::Open(b"rc"),
+            b"/.".as_slice(),
+            Wanted::Failed(Errno::EISDIR),
+        ),
+        (Verb::Open(b"rcx"), b"/x".as_slice(), Wanted::Number(10)),
+        (Verb::Open(b"rx"), b"/x".as_slice(), Wanted::Number(11)),
+        (
+            Verb::Open(b"rcx"),
+            b"/x".as_slice(),
+            Wanted::Failed(Errno::EEXIST),
+        ),
+        (
+            Verb::Open(b"r"),
+            b"/x/".as_slice(),
+            Wanted::Failed(Errno::ENOTDIR),
+        ),
+    ];
+    make_calls(&rt, alloc, &calls)?;
+    Ok(())
+}
+
+#[test]
+fn descriptor_errors_in_order(rt: HostRuntime) -> Result<(), Fail> {
+    let alloc = rt.alloc();
+    let calls = [
+        (Verb::Open(b"wc"), b"/f".as_slice(), Wanted::Number(2)),
+        (Verb::Open(b"r"), b"/f".as_slice(), Wanted::Number(3)),
+        (Verb::Close(9), b"".as_slice(), Wanted::Failed(Errno::EBADF)),
+        (
+            Verb::Pread(2, -1, 1),
+            b"".as_slice(),
+            Wanted::Failed(Errno::EBADF),
+        ),
+        (
+            Verb::Pread(3, -1, 1),
+            b"".as_slice(),
+            Wanted::Failed(Errno::EINVAL),
+        ),
+        (Verb::Write(3), b"".as_slice(), Wanted::Failed(Errno::EBADF)),
+        (
+            Verb::Pwrite(3, -1),
+            b"".as_slice(),
+            Wanted::Failed(Errno::EBADF),
+        ),
+        (
+            Verb::Pwrite(2, -1),
+            b"".as_slice(),
+            Wanted::Failed(Errno::EINVAL),
+        ),
+        (
+            Verb::Lseek(3, Whence::Cur, -1),
+            b"".as_slice(),
+            Wanted::Failed(Errno::EINVAL),
+        ),
+        (
+            Verb::Ftruncate(3, -1),
+            b"".as_slice(),
+            Wanted::Failed(Errno::EBADF),
+        ),
+        (
+            Verb::Ftruncate(2, -1),
+            b"".as_slice(),
+            Wanted::Failed(Errno::EINVAL),
+        ),
+        (
+            Verb::Ftruncate(2, 1_048_577),
+            b"".as_slice(),
+            Wanted::Failed(Errno::EFBIG),
+        ),
+    ];
+    make_calls(&rt, alloc, &calls)?;
+    Ok(())
+}
+
+#[test]
+fn replies_come_twice(rt: HostRuntime) -> Result<(), Fail> {
+    let alloc = rt.alloc();
+    let mut tree = Tree::new(alloc)?;
+    let call = call_of(alloc, Verb::Mkdir, b"/a".as_slice())?;
+    let (told, kept) = perform_and_copy(alloc, &mut tree, 2, &call)?;
+    assert!(rt; is_reply(&told, Wanted::Done), "{told:?}");
+    assert!(rt; is_reply(&kept, Wanted::Done), "{kept:?}");
     Ok(())
 }
 
 #[test]
 fn replies_are_copied(rt: HostRuntime) -> Result<(), Fail> {
     let alloc = rt.alloc();
-    let names = directories(alloc, &[b"a".as_slice(), b"b".as_slice()])?;
-    assert_eq!(rt; names.copy(alloc)?, names);
-    assert_eq!(rt; Reply::Done.copy(alloc)?, Reply::Done);
-    assert_eq!(rt; failed(Errno::EBUSY).copy(alloc)?, failed(Errno::EBUSY));
+    let mut names = Vec::new(alloc);
+    names.push((Name::from_bytes(alloc, b"a".as_slice())?, Kind::Dir))?;
+    names.push((Name::from_bytes(alloc, b"b".as_slice())?, Kind::Dir))?;
+    let names = Reply::Names(names.into()).copy(alloc)?;
+    assert!(rt; is_reply(&names, Wanted::Directories(b"ab")), "{names:?}");
+    let bytes = Reply::Bytes(b"hi".to_vec(alloc)?.into()).copy(alloc)?;
+    assert!(rt; is_reply(&bytes, Wanted::Bytes(b"hi")), "{bytes:?}");
+    let number = Reply::Number(7).copy(alloc)?;
+    assert!(rt; is_reply(&number, Wanted::Number(7)), "{number:?}");
+    Ok(())
+}
+
+#[test]
+fn replies_without_lists_are_copied(rt: HostRuntime) -> Result<(), Fail> {
+    let alloc = rt.alloc();
+    let done = Reply::Done.copy(alloc)?;
+    assert!(rt; is_reply(&done, Wanted::Done), "{done:?}");
+    let failed = Reply::Failed(Errno::EBUSY).copy(alloc)?;
+    assert!(rt;
+        is_reply(&failed, Wanted::Failed(Errno::EBUSY)),
+        "{failed:?}"
+    );
+    let info = Reply::Info {
+        kind: Kind::File,
+        number: 2,
+        links: 1,
+        size: 0,
+    };
+    let info = info.copy(alloc)?;
+    assert!(rt; is_reply(&info, Wanted::File(2, 0)), "{info:?}");
     Ok(())
 }
 

@@ -4,6 +4,8 @@ use Rattle.std.specs.Ordering.{nat_cmp}
 use Rattle.std.specs.FinMap as finite
 use Rattle.ft_tree.specs.Cells.{fresh_cells}
 use Rattle.ft_tree.specs.Plain.{PlainTree, NumberSet, edge_cmp}
+use Rattle.ft_tree.specs.declared.open_file.OpenFile.{OpenFile}
+use Rattle.ft_tree.specs.contracts.open_file.OpenFile as open_file
 use Rattle.std.specs.Coded.{Coded, code_by, coded×, coded_ℕ, coded_list}
 use base.Stored.{coded_unit}
 use Rattle.ft_calls.specs.contracts.call.Call as call
@@ -19,9 +21,9 @@ use Rattle.ft_core.specs.History.{begun, granted, standing, tree_after, Granted,
 
 abbrev pub coded_tree : Coded PlainTree
 coded_tree =
-    code_by (finite.FinMap edge_cmp ℕ × NumberSet)
-    (coded× (finite.code (coded× coded_ℕ (coded_list coded_ℕ)) coded_ℕ) (finite.code coded_ℕ coded_unit))
-    (λ p. (p.edges, p.dirs)) (λ p. record { edges = p.0; dirs = p.1 }) (λ _. refl)
+    code_by (finite.FinMap edge_cmp ℕ × (NumberSet × (finite.FinMap nat_cmp (List ℕ) × finite.FinMap nat_cmp OpenFile)))
+    (coded× (finite.code (coded× coded_ℕ (coded_list coded_ℕ)) coded_ℕ) (coded× (finite.code coded_ℕ coded_unit) (coded× (finite.code coded_ℕ (coded_list coded_ℕ)) (finite.code coded_ℕ open_file.the_row.coded))))
+    (λ p. (p.edges, (p.dirs, (p.files, p.opens)))) (λ p. record { edges = p.0; dirs = p.1.0; files = p.1.1.0; opens = p.1.1.1 }) (λ _. refl)
 
 -- what stood at the start
 pub record Base : Type 0 where

@@ -1,10 +1,8 @@
 // The core: transactions over one tree.
-ghost use Rattle.std.specs.Prelude.{◌≡◌, ◌≢◌, ◌<◌, ◌+◌, ◌∷◌, ℕ, [], false, Some, None, Option, MatchResult, IfOk, IfErr, OnOk, OnErr, option_to_list, cond, is_some, ◌^◌};
+ghost use Rattle.std.specs.Prelude.{◌≡◌, ◌<◌, ◌+◌, ◌∷◌, ℕ, [], false, Some, None, Option, MatchResult, IfOk, IfErr, OnOk, OnErr, option_to_list, cond, is_some, ◌^◌};
 ghost use Rattle.std.specs.Option.{ForSome};
 ghost use Rattle.ft_tree.specs.Tidy.{tidy};
-ghost use Rattle.ft_tree.specs.Sound.{AreSoundCells, IsFree};
-ghost use Rattle.ft_calls.specs.Exec.{exec};
-ghost use Rattle.ft_calls.specs.Laws.{MakesNoDifference};
+ghost use Rattle.ft_tree.specs.Sound.{AreSoundCells, IsSoundTree};
 ghost use Rattle.ft_core.specs.declared.fault.Fault.{Fault as FaultOf};
 ghost use Rattle.ft_core.specs.declared.fault.Fault.TheVariants.{Memory as MemoryFault};
 ghost use Rattle.ft_core.specs.declared.journal.Life.TheVariants.{Live};
@@ -20,7 +18,8 @@ use crate::journal::{Journal, Life};
 use crate::request::{Answer, Event, Outcome, Request};
 use crate::txn::TxnId;
 use ft_base::Memory;
-use ft_calls::{Call, Reply, perform};
+use ft_calls::laws::plain_soundness;
+use ft_calls::{Call, perform_and_copy};
 use ft_tree::Tree;
 use std::alloc::Global;
 use std::marker::Model;
@@ -177,7 +176,9 @@ impl Core {
         ensures headline { tidy result.now ≡ tree_of self.now }
         ensures replies { GiveReplies self.now.base.tree (standing self.now.events) }
         ensures sound { AreSoundCells result.now }
+        ensures plain_sound { IsSoundTree (tidy result.now) }
     {
+        plain_soundness();
         &self.tree
     }
 
@@ -288,24 +289,4 @@ fn one_more(saved: Option<Saved>, first: Option<Tree>, txn: TxnId) -> Option<Sav
             None => None,
         },
     }
-}
-
-/// Makes a call, and answers its reply twice: to be told, and to be kept.
-fn perform_and_copy(
-    alloc: Global,
-    tree: &mut Tree,
-    stamp: u64,
-    call: &Call,
-) -> Result<(Reply, Reply), Memory>
-    requires sound { AreSoundCells tree.old }
-    requires free { IsFree tree.old stamp }
-    ensures twice { IfOk result (λ replies. replies.0 ≡ replies.1) }
-    ensures plain { IfOk result (λ replies. exec (tidy tree.old) stamp call.now ≡ (tidy tree.new, replies.1)) }
-    ensures refused { OnErr result (MakesNoDifference tree.old tree.new) }
-    ensures stays_sound { AreSoundCells tree.new }
-    ensures stays_free { OnOk result ((k : ℕ) → IsFree tree.old k → k ≢ stamp → IsFree tree.new k) }
-{
-    let reply = perform(alloc, tree, stamp, call)?;
-    let copy = reply.copy(alloc)?;
-    Ok((reply, copy))
 }

@@ -7,7 +7,7 @@ use Rattle.ft_path.specs.Errno.{errno_name}
 use Rattle.ft_tree.specs.declared.node.Kind.{Kind}
 use Rattle.ft_tree.specs.declared.node.Kind.TheVariants.{Dir, File}
 use Rattle.ft_calls.specs.declared.call.Reply.{Reply}
-use Rattle.ft_calls.specs.declared.call.Reply.TheVariants.{Done, Names, Failed}
+use Rattle.ft_calls.specs.declared.call.Reply.TheVariants.{Done, Names, Number, Bytes, Info, Failed}
 use Rattle.ft_core.specs.declared.fault.Fault.{Fault}
 use Rattle.ft_core.specs.declared.fault.Fault.TheVariants as faults
 use Rattle.ft_run.specs.declared.play.PlayFault.{PlayFault}
@@ -30,6 +30,15 @@ listed name File = codes " " ++ coded name
 abbrev pub listing : List (List ℕ × Kind) → List ℕ
 listing names = flat_map (λ entry. listed entry.0 entry.1) names
 
+-- the bytes of a file after a space, where there are any
+abbrev pub data_text : List ℕ → List ℕ
+data_text [] = []
+data_text (first ∷ more) = codes " " ++ coded (first ∷ more)
+
+abbrev pub kind_text : Kind → List ℕ
+kind_text Dir = codes "dir "
+kind_text File = codes "file "
+
 -- each transaction's number after a space
 abbrev pub blocker_list : List ℕ → List ℕ
 blocker_list blockers = flat_map (λ txn. 32 ∷ decimal txn) blockers
@@ -51,6 +60,9 @@ fault_name faults.NoViews = codes "NoViews"
 abbrev pub reply_text : Reply → List ℕ
 reply_text Done = codes "ok"
 reply_text (Names names) = codes "ok " ++ decimal (length names) ++ listing names
+reply_text (Number number) = codes "ok " ++ decimal number
+reply_text (Bytes bytes) = codes "ok " ++ decimal (length bytes) ++ data_text bytes
+reply_text (Info kind number links size) = codes "ok " ++ kind_text kind ++ decimal number ++ codes " " ++ decimal links ++ codes " " ++ decimal size
 reply_text (Failed errno) = errno_name errno
 
 -- the text of an answer, without the line feed behind it

@@ -1,6 +1,6 @@
 // The text of an answer.
 ghost use Rattle.std.specs.Prelude.{◌≡◌, Some};
-ghost use Rattle.ft_run.specs.Texts.{text_of, reply_text, listing, listed, blocker_list, fault_name};
+ghost use Rattle.ft_run.specs.Texts.{text_of, reply_text, data_text, listing, listed, blocker_list, fault_name};
 
 use ft_calls::Reply;
 use ft_core::{Answer, Fault, TxnId};
@@ -42,8 +42,39 @@ impl fmt::Display for ReplyText<'_> {
         match self.0 {
             Reply::Done => f.write_str("ok"),
             Reply::Names(names) => write!(f, "ok {}{}", names.len(), Listing(names.as_slice())),
+            Reply::Number(number) => write!(f, "ok {number}"),
+            Reply::Bytes(bytes) => write!(f, "ok {}{}", bytes.len(), Data(bytes.as_slice())),
+            Reply::Info {
+                kind: Kind::Dir,
+                number,
+                links,
+                size,
+            } => write!(f, "ok dir {number} {links} {size}"),
+            Reply::Info {
+                kind: Kind::File,
+                number,
+                links,
+                size,
+            } => write!(f, "ok file {number} {links} {size}"),
             Reply::Failed(errno) => errno.fmt(f),
         }
+    }
+}
+
+// The bytes of a file, after a space where there are any.
+#[derive(Clone, Copy)]
+struct Data<'a>(&'a [u8]);
+
+impl fmt::Display for Data<'_> {
+    ghost output = { λ bytes. Some (data_text bytes.0.now) };
+
+    #[tactic(auto, using(crate::proofs::Coding::percent_encode_coded))]
+    fn fmt<W: fmt::Write>(&self, f: &mut fmt::Formatter<W>) -> fmt::Result {
+        if self.0.is_empty() {
+            return Ok(());
+        }
+        let data = percent_encode(self.0, CODED);
+        write!(f, " {data}")
     }
 }
 

@@ -1,22 +1,22 @@
--- What stands in a directory that is not stored, and a directory written as it was.
-use Rattle.std.proofs.Common.{◌≡◌, ℕ, List, [], ◌∷◌, length, arith, Option, Some, None, unwrap_or, refl, sym, ap, ◌∙◌}
+-- What stands in a directory that is not stored, and a directory or file written as it was.
+use Rattle.std.proofs.Common.{◌≡◌, ℕ, List, [], ◌∷◌, length, arith, Some, None, cond, unwrap_or, refl, sym, ap, eq-eqb, subst, IsSome, ◌∙◌, Ordering}
 use Rattle.std.specs.Ordering.{nat_cmp}
-use Rattle.std.specs.Cmp.{nat_cmp_total}
+use Rattle.std.specs.Cmp.{nat_cmp_total, unsigned_tied}
 use Rattle.std.specs.Cmp.Lexicographic.{slice_cmp}
 use Rattle.std.specs.Option.{option_flatten}
 use Rattle.std.specs.List.{filter_map}
-use Rattle.std.specs.FinMap.{FinMap, get, insert, empty, entries, get-empty, len-empty, len-entries}
+use Rattle.std.specs.FinMap.{FinMap, get, insert, empty, entries, get-empty, get-insert, len-empty, len-entries}
 use Rattle.std.proofs.lemmas.Map.Lookups.{exact_unsigned}
-use Rattle.ft_tree.specs.declared.node.Node.{Node}
-use Rattle.ft_tree.specs.Cells.{Cells, DirCells, no_dir, dir_entry, dir_names, entry_of, names_of, filled}
+use Rattle.ft_body.specs.Bytes.{BodyChange}
+use Rattle.ft_tree.specs.Cells.{Cells, FileCells, no_dir, no_file, dir_entry, dir_names, entry_of, names_of, bytes_of, put_file, filled, HasFilePlace}
 use Rattle.ft_tree.proofs.MapViews.{insert-same}
 
 no_items : {A : Type 0} (xs : List A) → 0 ≡ length xs → xs ≡ []
 no_items [] h = refl
 no_items (x ∷ xs) h = absurd (omega arith)
 
-entries-empty : entries (empty {X = Option Node} {R = slice_cmp nat_cmp}) ≡ []
-entries-empty = no_items _ (sym (len-empty (slice_cmp nat_cmp) (Option Node)) ∙ len-entries empty)
+pub entries-empty : {K : Type 0} (R : K → K → Ordering) (X : Type 0) → entries (empty {X = X} {R = R}) ≡ []
+entries-empty R X = no_items _ (sym (len-empty R X) ∙ len-entries empty)
 
 -- a directory that is not stored has no entry and no name
 pub entry-not_stored : (cells : Cells) (d : ℕ) (name : List ℕ) → None ≡ get cells.directories d → None ≡ entry_of cells d name
@@ -25,8 +25,27 @@ entry-not_stored cells d name is =
 
 pub names-not_stored : (cells : Cells) (d : ℕ) → None ≡ get cells.directories d → [] ≡ names_of cells d
 names-not_stored cells d is =
-    sym (ap (filter_map filled) entries-empty) ∙ ap (λ o. dir_names (unwrap_or o no_dir)) is
+    sym (ap (filter_map filled) (entries-empty (slice_cmp nat_cmp) _)) ∙ ap (λ o. dir_names (unwrap_or o no_dir)) is
 
--- a directory that is written as it was
-pub put-same : (m : FinMap nat_cmp DirCells) (d : ℕ) (x y : DirCells) → Some x ≡ get m d → y ≡ x → insert m d y ≡ m
+-- a directory or file that is written as it was
+pub put-same : {X : Type 0} (m : FinMap nat_cmp X) (d : ℕ) (x y : X) → Some x ≡ get m d → y ≡ x → insert m d y ≡ m
 put-same m d x y is same = ap (insert m d) same ∙ insert-same nat_cmp_total exact_unsigned m d x is
+
+abbrev pub change : List ℕ → List ℕ → BodyChange
+change before after = record { before = before; after = after }
+
+-- what is stored of a file that is set, and that it is stored
+get-put_file : (cells : Cells) (i : ℕ) (x : FileCells) → get (put_file cells i x).files i ≡ Some x
+get-put_file cells i x =
+    get-insert nat_cmp_total cells.files i x i ∙ ap (λ b. cond b (Some x) (get cells.files i)) (unsigned_tied i i ∙ eq-eqb i i refl)
+
+pub stored-put_file : (cells now : Cells) (i : ℕ) (x : FileCells) → now ≡ put_file cells i x → HasFilePlace now i
+stored-put_file cells now i x is = subst IsSome (sym (ap (λ (c : Cells). get c.files i) is ∙ get-put_file cells i x)) refl
+
+-- the change of a stored file's bytes is that of the cells
+pub change-put : (cells now : Cells) (i : ℕ) (x y : FileCells) → cells ≡ now → Some x ≡ get cells.files i
+    → change x.bytes y.bytes ≡ change (bytes_of now i) (bytes_of (put_file cells i y) i)
+change-put cells now i x y same is =
+    let before : x.bytes ≡ bytes_of now i = ap (λ o. (unwrap_or o no_file).bytes) is ∙ ap (λ (c : Cells). bytes_of c i) same in
+    let after : y.bytes ≡ bytes_of (put_file cells i y) i = ap (λ o. (unwrap_or o no_file).bytes) (sym (get-put_file cells i y)) in
+    (λ j. change (before j) (after j))

@@ -1,15 +1,21 @@
 -- The cells of the root alone.
-use Rattle.std.proofs.Common.{◌≡◌, ◌≤◌, ℕ, Bool, true, false, cond, ◌||◌, List, Option, Some, None, IsSome, is_some, unwrap_or, nat_cmp, arith, refl, sym, ap, subst, ne_eqb, ◌∙◌}
+use Rattle.std.proofs.Common.{◌≡◌, ◌≤◌, ℕ, Bool, true, false, cond, List, [], ◌++◌, map, filter, length, Option, Some, None, IsSome, unwrap_or, nat_cmp, refl, sym, ap, subst, ◌∙◌}
 use Rattle.std.specs.Prelude.{◌==◌}
 use Rattle.std.specs.Cmp.{nat_cmp_total, unsigned_tied}
 use Rattle.std.specs.Cmp.Lexicographic.{slice_cmp}
-use Rattle.std.specs.Option.{option_flatten, option_map_or}
-use Rattle.std.specs.FinMap.{get, insert, empty, get-insert, get-empty}
-use Rattle.ft_tree.specs.declared.node.Kind.{Kind}
-use Rattle.ft_tree.specs.declared.node.Kind.TheVariants.{Dir as DirKind}
+use Rattle.std.specs.Option.{option_flatten}
+use Rattle.std.specs.List.{filter_map}
+use Rattle.std.specs.FinMap.{get, empty, entries, from_entries, contains_key, get-insert, get-empty, entries-insert}
+use Rattle.std.specs.FinMap.Entries.{put}
 use Rattle.ft_tree.specs.declared.node.Node.{Node}
-use Rattle.ft_tree.specs.Cells.{Cells, DirCells, no_dir, dir_of, dir_entry, entry_of, parent_of, fresh_cells, is_there, has_dir, kind_of}
-use Rattle.ft_tree.specs.Sound.{AreSoundCells, IsTree, IsFree, Hangs}
+use Rattle.ft_tree.specs.declared.open_file.OpenFile.{OpenFile}
+use Rattle.ft_tree.specs.declared.cell.Cell.TheVariants.{Links}
+use Rattle.ft_tree.specs.Nodes.{number_of}
+use Rattle.ft_tree.specs.Cells.{DirCells, FileCells, no_dir, no_file, dir_of, file_of, dir_entry, entry_of, parent_of, links_of, open_of, filled, fresh_cells}
+use Rattle.ft_tree.specs.Plain.{EdgeKey, edge_cmp, view_in}
+use Rattle.ft_tree.specs.Tidy.{tidy, edges_from}
+use Rattle.ft_tree.specs.Sound.{AreSoundCells, IsFree}
+use Rattle.ft_tree.proofs.CellViews.{entries-empty}
 
 fresh-get : (d : ℕ) → get fresh_cells.directories d ≡ cond (d == 1) (Some no_dir) None
 fresh-get d = get-insert nat_cmp_total empty 1 no_dir d ∙ (λ i. cond (unsigned_tied d 1 i) (Some no_dir) (get-empty {X = DirCells} nat_cmp d i))
@@ -24,24 +30,61 @@ fresh-entry d name = ap (λ x. dir_entry x name) (fresh-dir d) ∙ ap option_fla
 fresh-parent : (d : ℕ) → parent_of fresh_cells d ≡ None
 fresh-parent d = ap (λ (x : DirCells). x.parent) (fresh-dir d)
 
-no_entry : {A : Type 0} (o : Option A) (x : A) → o ≡ None → o ≡ Some x → ⊥
-no_entry o x h g = cc
+-- each file reads as the empty one, and no descriptor is open
+fresh-file : (i : ℕ) → file_of fresh_cells i ≡ no_file
+fresh-file i = ap (λ o. unwrap_or o no_file) (get-empty {X = FileCells} nat_cmp i)
+
+fresh-open : (f : ℕ) → open_of fresh_cells f ≡ None
+fresh-open f = ap option_flatten (get-empty {X = Option OpenFile} nat_cmp f)
+
+-- there is no edge
+fresh-edges : edges_from (entries fresh_cells.directories) ≡ []
+fresh-edges =
+    ap edges_from (entries-insert nat_cmp_total empty 1 no_dir ∙ ap (put nat_cmp 1 no_dir) (entries-empty nat_cmp DirCells))
+    ∙ ap (λ places. map (λ (x : List ℕ × Node). ((1, x.0), number_of x.1)) (filter_map filled places) ++ []) (entries-empty (slice_cmp nat_cmp) (Option Node))
+
+-- the edges to a number, in a list of edges
+abbrev edges_to : ℕ → List (EdgeKey × ℕ) → ℕ
+edges_to i es = length (filter (λ e. e.1 == i) (entries (from_entries {R = edge_cmp} es)))
+
+fresh-edges_to : (i : ℕ) → edges_to i (edges_from (entries fresh_cells.directories)) ≡ 0
+fresh-edges_to i = ap (edges_to i) fresh-edges ∙ ap (λ es. length (filter (λ (e : EdgeKey × ℕ). e.1 == i) es)) (entries-empty edge_cmp ℕ)
+
+fresh-links : (i : ℕ) → links_of fresh_cells i ≡ view_in (tidy fresh_cells) (Links i)
+fresh-links i =
+    ap (λ (x : FileCells). x.links) (fresh-file i)
+    ∙ sym (ap (λ n. cond (contains_key (tidy fresh_cells).dirs i) 0 n) (fresh-edges_to i) ∙ none (contains_key (tidy fresh_cells).dirs i))
+  where
+    none : (b : Bool) → ◌≡◌ {A = ℕ} (cond b 0 0) 0
+    none true = refl
+    none false = refl
+
+no_value : {A : Type 0} (o : Option A) (x : A) → o ≡ None → o ≡ Some x → ⊥
+no_value o x h g = cc
 
 pub fresh-sound : AreSoundCells fresh_cells
 fresh-sound = record {
   root_is = subst IsSome (sym (fresh-get 1)) refl;
   tree = record {
     top = fresh-parent 1;
-    leads = λ d name i h. absurd (no_entry _ _ (fresh-entry d name) h);
-    no_file = λ d name i h. no_entry _ _ (fresh-entry d name) h;
-    stands = λ d p h. absurd (no_entry _ _ (fresh-parent d) h);
-    once = λ d name other i h g. absurd (no_entry _ _ (fresh-entry d name) h);
-    hangs = λ d p h. absurd (no_entry _ _ (fresh-parent d) h);
+    starts = λ d name x h. absurd (no_value _ _ (fresh-entry d name) h);
+    leads = λ d name i h. absurd (no_value _ _ (fresh-entry d name) h);
+    apart = λ d name i h. absurd (no_value _ _ (fresh-entry d name) h);
+    stands = λ d p h. absurd (no_value _ _ (fresh-parent d) h);
+    once = λ d name other i h g. absurd (no_value _ _ (fresh-entry d name) h);
+    hangs = λ d p h. absurd (no_value _ _ (fresh-parent d) h);
   };
+  links = fresh-links;
+  opens = λ f o h. absurd (no_value _ _ (fresh-open f) h);
 }
 
 pub fresh-free : (k : ℕ) → 2 ≤ k → IsFree fresh_cells k
 fresh-free k h = record {
   above_root = h;
-  unused = ap (λ o. cond (option_map_or (is_there k) o false) (Some DirKind) None) (fresh-get k ∙ ap (λ b. cond b (Some no_dir) None) (ne_eqb k 1 (λ e. absurd (omega arith))));
+  no_parent = fresh-parent k;
+  no_links = ap (λ (x : FileCells). x.links) (fresh-file k);
+  no_bytes = ap (λ (x : FileCells). x.bytes) (fresh-file k);
+  no_open = fresh-open k;
+  no_entry = λ d name x is. absurd (no_value _ _ (fresh-entry d name) is);
+  no_file = λ f o is. absurd (no_value _ _ (fresh-open f) is);
 }

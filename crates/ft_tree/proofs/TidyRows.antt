@@ -1,4 +1,4 @@
--- The rows of a tidied tree are those of the stored directories, in their order.
+-- The rows of a tidied tree are those of the stored directories, files and descriptions, in their order.
 use Rattle.std.proofs.Common.{◌≡◌, ℕ, Bool, true, false, cond, List, [], ◌∷◌, ◌++◌, map, filter, Option, Some, None, Ordering, refl, sym, ap, subst}
 use Rattle.std.specs.Prelude.{T}
 use Rattle.std.specs.declared.cmp.Ordering.TheVariants.{Less, Equal, Greater}
@@ -10,13 +10,14 @@ use Rattle.std.specs.FinMap.{is_sorted, entries, entries_sorted}
 use Rattle.std.specs.FinMap.Entries.{below_all}
 use Rattle.std.proofs.lemmas.Map.Lookups.{CmpEqualImpliesEq, exact_pairs, exact_unsigned, exact_bytes}
 use Rattle.ft_tree.specs.declared.node.Node.{Node}
+use Rattle.ft_tree.specs.declared.open_file.OpenFile.{OpenFile}
 use Rattle.ft_tree.specs.declared.row.TreeRow.TheVariants.{Edge as EdgeRow}
 use Rattle.std.specs.List.{filter_map}
 use Rattle.ft_tree.specs.Nodes.{number_of}
-use Rattle.ft_tree.specs.Cells.{Cells, DirCells, dir_names, filled, is_there}
+use Rattle.ft_tree.specs.Cells.{Cells, DirCells, FileCells, Opens, dir_names, filled, is_there}
 use Rattle.ft_tree.specs.Plain.{EdgeKey, edge_cmp}
-use Rattle.ft_tree.specs.Tidy.{tidy, edges_at, edges_from, dirs_from, member}
-use Rattle.ft_tree.specs.Rows.{dir_rows, edge_rows, named_rows, rows_of}
+use Rattle.ft_tree.specs.Tidy.{tidy, edges_at, edges_from, dirs_from, member, is_named, files_from, opens_from}
+use Rattle.ft_tree.specs.Rows.{dir_rows, edge_rows, named_rows, file_rows, open_rows, rows_of}
 use Rattle.ft_tree.proofs.Conjunction.{both, first, second}
 use Rattle.ft_tree.proofs.InOrder.{entries-in_order}
 
@@ -101,13 +102,51 @@ edges_sorted [] h = tt
 edges_sorted (e ∷ es) h =
     names_before e.0 (dir_names e.1) (edges_from es) (filled_sorted (entries e.1.entries) (entries_sorted e.1.entries)) (edges_sorted es (second _ _ h)) (λ n. edges_later e.0 n es (first _ _ h))
 
--- the rows of the directories and edges as they are stored
-pub rows-tidy : (cells : Cells) → dir_rows (dirs_from (entries cells.directories)) ++ edge_rows (edges_from (entries cells.directories)) ≡ rows_of (tidy cells)
+-- The files.
+
+-- a file as the plain tree has it
+abbrev stored : ℕ × FileCells → ℕ × List ℕ
+stored e = (e.0, e.1.bytes)
+
+files_below : (opens : Opens) (k : ℕ) (es : List (ℕ × FileCells)) → T (below_all nat_cmp k es) → T (below_all nat_cmp k (files_from opens es))
+files_below opens k [] h = tt
+files_below opens k (e ∷ es) h = by_test (is_named opens e) (files_below opens k es (second _ _ h))
+  where
+    by_test : (b : Bool) → T (below_all nat_cmp k (files_from opens es)) → T (below_all nat_cmp k (map stored (cond b (e ∷ filter (is_named opens) es) (filter (is_named opens) es))))
+    by_test true rest = both _ _ (first _ _ h) rest
+    by_test false rest = rest
+
+files_sorted : (opens : Opens) (es : List (ℕ × FileCells)) → T (is_sorted nat_cmp es) → T (is_sorted nat_cmp (files_from opens es))
+files_sorted opens [] h = tt
+files_sorted opens (e ∷ es) h = by_test (is_named opens e) (files_sorted opens es (second _ _ h))
+  where
+    by_test : (b : Bool) → T (is_sorted nat_cmp (files_from opens es)) → T (is_sorted nat_cmp (map stored (cond b (e ∷ filter (is_named opens) es) (filter (is_named opens) es))))
+    by_test true rest = both _ _ (files_below opens e.0 es (first _ _ h)) rest
+    by_test false rest = rest
+
+-- The descriptions.
+
+opens_below : (k : ℕ) (es : List (ℕ × Option OpenFile)) → T (below_all nat_cmp k es) → T (below_all nat_cmp k (opens_from es))
+opens_below k [] h = tt
+opens_below k ((f, None) ∷ es) h = opens_below k es (second _ _ h)
+opens_below k ((f, Some o) ∷ es) h = both _ _ (first _ _ h) (opens_below k es (second _ _ h))
+
+opens_sorted : (es : List (ℕ × Option OpenFile)) → T (is_sorted nat_cmp es) → T (is_sorted nat_cmp (opens_from es))
+opens_sorted [] h = tt
+opens_sorted ((f, None) ∷ es) h = opens_sorted es (second _ _ h)
+opens_sorted ((f, Some o) ∷ es) h = both _ _ (opens_below f es (first _ _ h)) (opens_sorted es (second _ _ h))
+
+-- the rows of the directories, edges, files and descriptions as they are stored
+pub rows-tidy : (cells : Cells)
+    → dir_rows (dirs_from (entries cells.directories)) ++ edge_rows (edges_from (entries cells.directories)) ++ file_rows (files_from cells.opens (entries cells.files)) ++ open_rows (opens_from (entries cells.opens))
+    ≡ rows_of (tidy cells)
 rows-tidy cells =
     let up = entries_sorted cells.directories in
     let dirs = entries-in_order nat_cmp nat_cmp_total exact_unsigned (dirs_from (entries cells.directories)) (dirs_sorted (entries cells.directories) up) in
     let edges = entries-in_order edge_cmp edge_total edge_exact (edges_from (entries cells.directories)) (edges_sorted (entries cells.directories) up) in
-    sym (λ i. dir_rows (dirs i) ++ edge_rows (edges i))
+    let files = entries-in_order nat_cmp nat_cmp_total exact_unsigned (files_from cells.opens (entries cells.files)) (files_sorted cells.opens (entries cells.files) (entries_sorted cells.files)) in
+    let opens = entries-in_order nat_cmp nat_cmp_total exact_unsigned (opens_from (entries cells.opens)) (opens_sorted (entries cells.opens) (entries_sorted cells.opens)) in
+    sym (λ i. dir_rows (dirs i) ++ edge_rows (edges i) ++ file_rows (files i) ++ open_rows (opens i))
 
 -- the rows of one directory's edges are those of its names
 pub edge_rows-at : (e : ℕ × DirCells) (es : List (EdgeKey × ℕ)) → edge_rows (edges_at e ++ es) ≡ named_rows e.0 (dir_names e.1) ++ edge_rows es

@@ -1,4 +1,5 @@
 pub mod Nodes
+pub mod Modes
 pub mod Cells
 pub mod Looks
 pub mod Views

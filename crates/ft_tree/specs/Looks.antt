@@ -3,13 +3,17 @@ use Rattle.std.specs.Prelude.{◌≡◌, ℕ, List, [], ◌∷◌, Option, Resul
 use Rattle.std.proofs.Common.{ap, ◌∙◌}
 use Rattle.ft_tree.specs.declared.node.Node.{Node}
 use Rattle.ft_tree.specs.declared.cell.Cell.{Cell}
-use Rattle.ft_tree.specs.declared.cell.Cell.TheVariants.{Entry, Names, Parent}
+use Rattle.ft_tree.specs.declared.cell.Cell.TheVariants.{Entry, Names, Parent, Links, Bytes, Fd}
+use Rattle.ft_tree.specs.declared.open_file.OpenFile.{OpenFile}
 
 -- what a cell shows
 abbrev pub Shows : Cell → Type 0
 Shows (Entry d name) = Option Node
 Shows (Names d) = List (List ℕ × Node)
 Shows (Parent d) = Option ℕ
+Shows (Links i) = ℕ
+Shows (Bytes i) = List ℕ
+Shows (Fd f) = Option OpenFile
 
 -- what each cell shows
 abbrev pub View : Type 0

@@ -1,9 +1,10 @@
 -- What a tree holds, row by row.
-use Rattle.std.specs.Prelude.{ℕ, List, ◌++◌, map}
+use Rattle.std.specs.Prelude.{ℕ, List, ◌++◌, map, length}
 use Rattle.std.specs.FinMap as finite
 use Rattle.ft_tree.specs.declared.node.Node.{Node}
 use Rattle.ft_tree.specs.declared.row.TreeRow.{TreeRow}
-use Rattle.ft_tree.specs.declared.row.TreeRow.TheVariants.{Dir as DirRow, Edge as EdgeRow}
+use Rattle.ft_tree.specs.declared.open_file.OpenFile.{OpenFile}
+use Rattle.ft_tree.specs.declared.row.TreeRow.TheVariants.{Dir as DirRow, Edge as EdgeRow, File as FileRow, Fd as FdRow}
 use Rattle.ft_tree.specs.Nodes.{number_of}
 use Rattle.ft_tree.specs.Plain.{PlainTree, EdgeKey}
 
@@ -17,6 +18,12 @@ edge_rows edges = map (λ e. EdgeRow e.0.0 e.0.1 e.1) edges
 abbrev pub named_rows : ℕ → List (List ℕ × Node) → List TreeRow
 named_rows d names = map (λ e. EdgeRow d e.0 (number_of e.1)) names
 
--- the directories by number, then the edges by directory and name
+abbrev pub file_rows : List (ℕ × List ℕ) → List TreeRow
+file_rows files = map (λ e. FileRow e.0 (length e.1) e.1) files
+
+abbrev pub open_rows : List (ℕ × OpenFile) → List TreeRow
+open_rows opens = map (λ e. FdRow e.0 e.1.file e.1.access e.1.append e.1.offset) opens
+
+-- the directories by number, then the edges by directory and name, the files by number, and the descriptions by descriptor
 abbrev pub rows_of : PlainTree → List TreeRow
-rows_of p = dir_rows (finite.entries p.dirs) ++ edge_rows (finite.entries p.edges)
+rows_of p = dir_rows (finite.entries p.dirs) ++ edge_rows (finite.entries p.edges) ++ file_rows (finite.entries p.files) ++ open_rows (finite.entries p.opens)

@@ -1,8 +1,11 @@
 -- The plain tree that the stored cells are.
-use Rattle.std.specs.Prelude.{ℕ, List, [], ◌∷◌, ◌++◌, map, filter}
+use Rattle.std.specs.Prelude.{ℕ, Bool, ◌||◌, nat_lt, List, [], ◌∷◌, ◌++◌, map, filter, Option}
+use Rattle.std.specs.List.{filter_map}
+use Rattle.std.specs.Option.{option_map}
 use Rattle.std.specs.FinMap as finite
 use Rattle.ft_tree.specs.Nodes.{number_of}
-use Rattle.ft_tree.specs.Cells.{Cells, DirCells, dir_names, is_there}
+use Rattle.ft_tree.specs.declared.open_file.OpenFile.{OpenFile}
+use Rattle.ft_tree.specs.Cells.{Cells, DirCells, FileCells, Opens, dir_names, is_there, is_open}
 use Rattle.ft_tree.specs.Plain.{PlainTree, EdgeKey}
 
 -- the edges that start in one directory
@@ -21,9 +24,26 @@ member e = (e.0, tt)
 abbrev pub dirs_from : List (ℕ × DirCells) → List (ℕ × Unit {0})
 dirs_from es = map member (filter (λ e. is_there e.0 e.1) es)
 
--- without the empty places
+-- a stored file is there while an entry or a description names it
+abbrev pub is_named : Opens → ℕ × FileCells → Bool
+is_named opens e = nat_lt 0 e.1.links || is_open opens e.0
+
+-- the files that are there, with their bytes
+abbrev pub files_from : Opens → List (ℕ × FileCells) → List (ℕ × List ℕ)
+files_from opens es = map (λ e. (e.0, e.1.bytes)) (filter (is_named opens) es)
+
+-- the description that stands in a place, if there is one
+abbrev pub opened : ℕ × Option OpenFile → Option (ℕ × OpenFile)
+opened e = option_map (λ o. (e.0, o)) e.1
+
+abbrev pub opens_from : List (ℕ × Option OpenFile) → List (ℕ × OpenFile)
+opens_from es = filter_map opened es
+
+-- without the empty places, and without files that nothing names
 abbrev pub tidy : Cells → PlainTree
 tidy cells = record {
   edges = finite.from_entries (edges_from (finite.entries cells.directories));
   dirs = finite.from_entries (dirs_from (finite.entries cells.directories));
+  files = finite.from_entries (files_from cells.opens (finite.entries cells.files));
+  opens = finite.from_entries (opens_from (finite.entries cells.opens));
 }

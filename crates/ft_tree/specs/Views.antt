@@ -1,9 +1,12 @@
 -- What the stored cells show.
-use Rattle.ft_tree.specs.declared.cell.Cell.TheVariants.{Entry, Names, Parent}
-use Rattle.ft_tree.specs.Cells.{Cells, entry_of, names_of, parent_of}
+use Rattle.ft_tree.specs.declared.cell.Cell.TheVariants.{Entry, Names, Parent, Links, Bytes, Fd}
+use Rattle.ft_tree.specs.Cells.{Cells, entry_of, names_of, parent_of, links_of, bytes_of, open_of}
 use Rattle.ft_tree.specs.Looks.{View}
 
 abbrev pub view_of : Cells → View
 view_of cells (Entry d name) = entry_of cells d name
 view_of cells (Names d) = names_of cells d
 view_of cells (Parent d) = parent_of cells d
+view_of cells (Links i) = links_of cells i
+view_of cells (Bytes i) = bytes_of cells i
+view_of cells (Fd f) = open_of cells f

@@ -13,4 +13,10 @@ pub enum Cell {
     Names(u64),
     /// The directory that has a directory's entry: its parent. The root has none.
     Parent(u64),
+    /// How many entries name a file.
+    Links(u64),
+    /// The bytes of a file.
+    Bytes(u64),
+    /// The open file description of a descriptor.
+    Fd(u64),
 }

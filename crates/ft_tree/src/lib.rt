@@ -1,14 +1,17 @@
-//! A tree of directories by its stored cells: where a path leads, what stands where, and one cell
-//! set at a time.
+//! A tree of directories and files by its stored cells: where a path leads, what stands where, which
+//! descriptors are open, and one cell set at a time.
 //!
 //! The rules are those of POSIX.1-2017, Base Definitions, 3 (Definitions: Directory, Directory
-//! Entry, Empty Directory, Parent Directory, Root Directory) and 4.13 (Pathname Resolution). That
-//! directories have numbers, and the root number 1, are rules of this project.
+//! Entry, Empty Directory, File, Link Count, Open File Description, Parent Directory, Root Directory)
+//! and 4.13 (Pathname Resolution). That directories, files and descriptors have numbers, and the root
+//! number 1, are rules of this project.
 #![tactic(auto)]
 
 mod cell;
 mod directory;
+mod file;
 mod node;
+mod open_file;
 mod row;
 #[cfg(test)]
 mod tests;
@@ -16,5 +19,6 @@ mod tree;
 
 pub use cell::Cell;
 pub use node::{Found, Kind, Node, Spot};
+pub use open_file::{AccessMode, OpenFile};
 pub use row::TreeRow;
 pub use tree::{ROOT, Tree};

@@ -3,21 +3,43 @@ ghost use Rattle.std.specs.Prelude.{◌≡◌, ◌++◌, map, OnOk};
 ghost use Rattle.std.specs.List.{filter_map};
 ghost use Rattle.std.specs.FinMap as finite;
 ghost use Rattle.ft_tree.specs.Cells.{dir_names, filled};
-ghost use Rattle.ft_tree.specs.Rows.{dir_rows, edge_rows, named_rows};
-ghost use Rattle.ft_tree.specs.Tidy.{dirs_from, edges_from};
+ghost use Rattle.ft_tree.specs.Rows.{dir_rows, edge_rows, named_rows, file_rows, open_rows};
+ghost use Rattle.ft_tree.specs.Tidy.{dirs_from, edges_from, files_from, opens_from};
 
 use crate::directory::Directory;
+use crate::file::File;
+use crate::open_file::{AccessMode, OpenFile, is_open};
 use crate::tree::ROOT;
-use ft_base::{Memory, Table};
+use ft_base::{Memory, Sequence, Table};
 use ft_path::Name;
 
 /// One line of what a tree holds. The form is this project's own.
 #[derive(Debug, PartialEq, Eq, Drop)]
 pub enum TreeRow {
     /// A directory that is there: the root, or one with a parent.
-    Dir { number: u64 },
+    Dir {
+        number: u64,
+    },
     /// An entry: a name in the directory `dir`, and the number that it leads to.
-    Edge { dir: u64, name: Name, number: u64 },
+    Edge {
+        dir: u64,
+        name: Name,
+        number: u64,
+    },
+    /// A file that is there, one that an entry or a description names: its size and its bytes.
+    File {
+        number: u64,
+        size: u64,
+        bytes: Sequence<u8>,
+    },
+    /// A descriptor that is open, and its open file description.
+    Fd {
+        fd: u64,
+        file: u64,
+        access: AccessMode,
+        append: bool,
+        offset: u64,
+    },
 }
 
 /// Puts the directories that are there behind the rows.
@@ -44,6 +66,49 @@ pub(crate) fn push_edges(
 {
     for (number, directory) in directories.iter() {
         directory.push_edges(*number, rows)?;
+    }
+    Ok(())
+}
+
+/// Puts the files that are there behind the rows.
+pub(crate) fn push_files(
+    rows: &mut Vec<TreeRow>,
+    files: &Table<File>,
+    opens: &Table<Option<OpenFile>>,
+) -> Result<(), Memory>
+    ensures { OnOk result (rows.new.items ≡ rows.old.items ++ file_rows (files_from opens.now (finite.entries files.now))) }
+{
+    for (number, file) in files.iter() {
+        if file.links() > 0 || is_open(opens, *number) {
+            let size = file.body().len();
+            let bytes = file.body().read_at(0, size)?;
+            rows.push(TreeRow::File {
+                number: *number,
+                size,
+                bytes: bytes.into(),
+            })?;
+        }
+    }
+    Ok(())
+}
+
+/// Puts the descriptors that are open behind the rows.
+pub(crate) fn push_opens(
+    rows: &mut Vec<TreeRow>,
+    opens: &Table<Option<OpenFile>>,
+) -> Result<(), Memory>
+    ensures { OnOk result (rows.new.items ≡ rows.old.items ++ open_rows (opens_from (finite.entries opens.now))) }
+{
+    for (fd, place) in opens.iter() {
+        if let Some(open) = place {
+            rows.push(TreeRow::Fd {
+                fd: *fd,
+                file: open.file,
+                access: open.access,
+                append: open.append,
+                offset: open.offset,
+            })?;
+        }
     }
     Ok(())
 }

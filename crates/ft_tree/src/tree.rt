@@ -1,19 +1,25 @@
 // A tree by its cells.
-ghost use Rattle.std.specs.Prelude.{◌≡◌, ◌↔◌, ◌≤◌, ℕ, [], IsTrue, IsOk, IfOk, OnOk, OnErr, Option};
+ghost use Rattle.std.specs.Prelude.{◌≡◌, ◌↔◌, ◌≤◌, ℕ, [], length, IsTrue, IsOk, IfOk, OnOk, OnErr, Option};
+ghost use Rattle.std.specs.Option.{option_copied};
 ghost use Rattle.std.specs.FinMap as map;
 ghost use Rattle.ft_tree.specs.Nodes.{with_kinds};
 ghost use Rattle.ft_tree.specs.Looks.{answer};
 ghost use Rattle.ft_tree.specs.Views.{view_of};
 ghost use Rattle.ft_tree.specs.Walk.{up, inner, last, walk, found, seen};
-ghost use Rattle.ft_tree.specs.Cells.{DirCells, entry_of, names_of, parent_of, kind_of, put_entry, put_parent, HasEntryPlace, HasDirPlace, fresh_cells};
+ghost use Rattle.ft_body.specs.declared.TheConstants.{SIZE_LIMIT};
+ghost use Rattle.ft_body.specs.Bytes.{fitting, written, resized};
+ghost use Rattle.ft_tree.specs.Cells.{DirCells, entry_of, names_of, parent_of, links_of, bytes_of, body_in, open_of, kind_of, has_dir, has_file, put_entry, put_parent, put_links, put_bytes, put_open, HasEntryPlace, HasDirPlace, HasFilePlace, HasOpenPlace, fresh_cells};
 ghost use Rattle.ft_tree.specs.Rows.{rows_of};
 ghost use Rattle.ft_tree.specs.Tidy.{tidy};
 ghost use Rattle.ft_tree.specs.Sound.{AreSoundCells, IsFree};
 
 use crate::directory::Directory;
+use crate::file::File;
 use crate::node::{Found, Kind, Node, Spot};
-use crate::row::{TreeRow, push_dirs, push_edges};
+use crate::open_file::{OpenFile, is_open};
+use crate::row::{TreeRow, push_dirs, push_edges, push_files, push_opens};
 use ft_base::{Memory, Table};
+use ft_body::{Body, BodyUndo};
 use ft_path::{Errno, Name, Parts};
 use std::alloc::Global;
 use std::marker::Model;
@@ -21,15 +27,19 @@ use std::marker::Model;
 /// The number of the root directory. Every walk begins there.
 pub const ROOT: u64 = 1;
 
-/// A tree of directories, in memory.
+/// A tree of directories and files with its open file descriptions, in memory.
 ///
 /// Clauses see its stored cells: for each directory its parent, and a place for each of its
-/// entries, which may be empty. Its plain tree is what they are when tidied, without the empty
-/// places. It may have any number of directories, and keeps the allocator that it was made with.
+/// entries, which may be empty; for each file the count of its links, and its bytes; and a place
+/// for the open file description of each descriptor, which may be empty. Its plain tree is what
+/// they are when tidied, without the empty places and without files that neither an entry nor a
+/// description names. It may have any number of each, and keeps the allocator that it was made with.
 #[derive(Drop)]
 pub struct Tree {
     alloc: Global,
     directories: Table<Directory>,
+    files: Table<File>,
+    opens: Table<Option<OpenFile>>,
 }
 
 impl Model for Tree {
@@ -39,7 +49,7 @@ impl Model for Tree {
 
     ghost coded = { coded_cells };
 
-    ghost view = { λ a. record { directories = a.directories } };
+    ghost view = { λ a. record { directories = a.directories; files = a.files; opens = a.opens } };
 }
 
 impl Tree {
@@ -52,7 +62,12 @@ impl Tree {
     {
         let mut directories = Table::new(alloc);
         directories.insert(ROOT, Directory::new(alloc, None))?;
-        Ok(Tree { alloc, directories })
+        Ok(Tree {
+            alloc,
+            directories,
+            files: Table::new(alloc),
+            opens: Table::new(alloc),
+        })
     }
 
     /// What a name leads to in a directory: nothing, where it is no entry of it or where `dir` is no
@@ -76,15 +91,49 @@ impl Tree {
         self.directories.get(dir)?.parent()
     }
 
-    /// What a number stands for: a directory where it is the root or has a parent, and else nothing.
+    /// What a number stands for: a directory where it is the root or has a parent, a file where an
+    /// entry or a description names one, and else nothing.
     pub fn kind(&self, number: u64) -> Option<Kind>
         ensures { result ≡ kind_of self.now number }
     {
-        let directory = self.directories.get(number)?;
-        if number == ROOT || directory.parent().is_some() {
+        if self.has_dir(number) {
             return Some(Kind::Dir);
         }
+        if self.has_file(number) {
+            return Some(Kind::File);
+        }
         None
+    }
+
+    /// How many entries name a file. A number that is no file has none.
+    ///
+    /// POSIX.1-2017, Base Definitions, 3 (Link Count).
+    pub fn links(&self, file: u64) -> u64
+        ensures { result ≡ links_of self.now file }
+    {
+        match self.files.get(file) {
+            Some(stored) => stored.links(),
+            None => 0,
+        }
+    }
+
+    /// The bytes of a file, where it is stored.
+    pub fn body(&self, file: u64) -> Option<&Body>
+        ensures { option_copied result ≡ body_in self.now file }
+    {
+        match self.files.get(file) {
+            Some(stored) => Some(stored.body()),
+            None => None,
+        }
+    }
+
+    /// The open file description of a descriptor, where it is open.
+    ///
+    /// POSIX.1-2017, Base Definitions, 3 (Open File Description).
+    pub fn open_file(&self, fd: u64) -> Option<OpenFile>
+        ensures { result ≡ open_of self.now fd }
+    {
+        self.opens.get(fd).copied().flatten()
     }
 
     /// Whether a directory has no entry. A number that is no directory has none.
@@ -147,6 +196,89 @@ impl Tree {
             .insert(dir, Directory::new(self.alloc, parent))
     }
 
+    /// Sets how many entries name a file. A file that was not stored comes without bytes, and no
+    /// other cell changes: that the count is right is the caller's part.
+    ///
+    /// Only a place that is new can want memory, and then nothing has changed.
+    pub fn set_links(&mut self, file: u64, links: u64) -> Result<(), Memory>
+        ensures ok { OnOk result (self.new ≡ put_links self.old file links) }
+        ensures err { OnErr result (self.new ≡ self.old) }
+        ensures place { HasFilePlace self.old file → IsOk result }
+    {
+        if let Some(stored) = self.files.get_mut(file) {
+            stored.set_links(links);
+            return Ok(());
+        }
+        self.files.insert(file, File::new(self.alloc, links))
+    }
+
+    /// Writes bytes to a file at an offset, as many as have room below the size limit, with zeros in
+    /// a gap before them; where none has room, nothing changes. The file has to be stored, and no
+    /// other cell changes. Answers how many were taken, and what takes the write back.
+    ///
+    /// Refuses want of memory, and then nothing has changed.
+    pub fn write_bytes(
+        &mut self,
+        file: u64,
+        offset: u64,
+        bytes: &[u8],
+    ) -> Result<(u64, BodyUndo), Memory>
+        requires place { HasFilePlace self.old file }
+        requires limit { offset ≤ SIZE_LIMIT }
+        ensures taken { IfOk result (λ done. done.0 ≡ length (fitting bytes.now offset)) }
+        ensures ok { OnOk result (self.new ≡ put_bytes self.old file (written (bytes_of self.old file) offset (fitting bytes.now offset))) }
+        ensures undo { IfOk result (λ done. done.1 ≡ record { before = bytes_of self.old file; after = bytes_of self.new file }) }
+        ensures err { OnErr result (self.new ≡ self.old) }
+    {
+        match self.files.get_mut(file) {
+            Some(stored) => stored.write_at(offset, bytes),
+            None => unreachable!(),
+        }
+    }
+
+    /// Cuts a file to a size, or adds zeros up to it. The file has to be stored, and no other cell
+    /// changes. Answers what takes the change back.
+    ///
+    /// Refuses want of memory, and then nothing has changed.
+    pub fn set_size(&mut self, file: u64, size: u64) -> Result<BodyUndo, Memory>
+        requires place { HasFilePlace self.old file }
+        requires limit { size ≤ SIZE_LIMIT }
+        ensures ok { OnOk result (self.new ≡ put_bytes self.old file (resized (bytes_of self.old file) size)) }
+        ensures undo { IfOk result (λ undo. undo ≡ record { before = bytes_of self.old file; after = bytes_of self.new file }) }
+        ensures err { OnErr result (self.new ≡ self.old) }
+    {
+        match self.files.get_mut(file) {
+            Some(stored) => stored.set_len(size),
+            None => unreachable!(),
+        }
+    }
+
+    /// Takes a change of a file's bytes back, where they are as the change left them. Takes no
+    /// memory.
+    pub fn undo_bytes(&mut self, file: u64, undo: BodyUndo)
+        requires place { HasFilePlace self.old file }
+        requires left { bytes_of self.old file ≡ undo.after }
+        ensures { self.new ≡ put_bytes self.old file undo.before }
+    {
+        match self.files.get_mut(file) {
+            Some(stored) => stored.undo(undo),
+            None => unreachable!(),
+        }
+    }
+
+    /// Sets the open file description of a descriptor, or that it is not open. No other cell
+    /// changes: that the file is there is the caller's part.
+    ///
+    /// Only a place that is new can want memory, and then nothing has changed. A descriptor that is
+    /// closed leaves its place, so that it can be set again without memory.
+    pub fn set_open_file(&mut self, fd: u64, to: Option<OpenFile>) -> Result<(), Memory>
+        ensures ok { OnOk result (self.new ≡ put_open self.old fd to) }
+        ensures err { OnErr result (self.new ≡ self.old) }
+        ensures place { HasOpenPlace self.old fd → IsOk result }
+    {
+        self.opens.insert(fd, to)
+    }
+
     /// Where a path's components lead, from the root: pathname resolution (POSIX.1-2017, Base
     /// Definitions, 4.13). Relative and absolute paths are alike, a rule of this project.
     ///
@@ -184,7 +316,8 @@ impl Tree {
     }
 
     /// What the tree holds: the directories by number, then the entries by directory and name, the
-    /// names by their bytes. Empty places are left out. Refuses want of memory.
+    /// names by their bytes, then the files by number and the open descriptors by theirs. Empty
+    /// places, and files that nothing names, are left out. Refuses want of memory.
     ///
     /// The order is a rule of this project.
     pub fn rows(&self) -> Result<Vec<TreeRow>, Memory>
@@ -193,6 +326,8 @@ impl Tree {
         let mut rows = Vec::new(self.alloc);
         push_dirs(&mut rows, &self.directories)?;
         push_edges(&mut rows, &self.directories)?;
+        push_files(&mut rows, &self.files, &self.opens)?;
+        push_opens(&mut rows, &self.opens)?;
         Ok(rows)
     }
 
@@ -202,10 +337,31 @@ impl Tree {
         ensures { IfOk result (λ copy. copy ≡ self.now) }
     {
         let directories = self.directories.clone()?;
+        let files = self.files.clone()?;
+        let opens = self.opens.clone()?;
         Ok(Tree {
             alloc: self.alloc,
             directories,
+            files,
+            opens,
         })
+    }
+
+    /// Whether a number is a directory that is there.
+    fn has_dir(&self, number: u64) -> bool
+        ensures { result ≡ has_dir self.now number }
+    {
+        match self.directories.get(number) {
+            Some(directory) => number == ROOT || directory.parent().is_some(),
+            None => false,
+        }
+    }
+
+    /// Whether a number is a file that an entry or a description names.
+    fn has_file(&self, number: u64) -> bool
+        ensures { result ≡ has_file self.now number }
+    {
+        self.links(number) > 0 || is_open(&self.opens, number)
     }
 
     /// The parent of a directory, the root's being the root.

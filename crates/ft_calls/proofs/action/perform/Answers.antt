@@ -1,4 +1,4 @@
-use Rattle.ft_calls.proofs.Performing.{performed-plain, performed-refused, performed-sound, performed-free, performed-names}
+use Rattle.ft_calls.proofs.Performing.{performed-plain, performed-refused, performed-sound, performed-free, performed-told}
 use Rattle.ft_calls.proofs.action.perform.Goals as goal
 
 pub returns-clause-plain : goal.returns-clause-plain
@@ -14,4 +14,4 @@ pub returns-clause-stays_free : goal.returns-clause-stays_free
 returns-clause-stays_free c = performed-free c.args.tree.now c.args.stamp c.args.call.now c.requires.sound c.requires.free c.act.new.tree c.act.result c.act.ensures
 
 pub returns-clause-told_alone : goal.returns-clause-told_alone
-returns-clause-told_alone c = performed-names c.args.tree.now c.args.stamp c.args.call.now c.requires.sound c.requires.free c.act.new.tree c.act.result c.act.ensures
+returns-clause-told_alone c = performed-told c.args.tree.now c.args.stamp c.args.call.now c.requires.sound c.requires.free c.act.new.tree c.act.result c.act.ensures

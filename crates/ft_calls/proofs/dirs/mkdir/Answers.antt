@@ -1,7 +1,7 @@
 use Rattle.std.proofs.Common.{sym, ◌∙◌}
 use Rattle.ft_path.specs.FilePath.{parts_of}
 use Rattle.ft_tree.specs.Walk.{seen_at}
-use Rattle.ft_calls.specs.Steps.{make_dir}
+use Rattle.ft_calls.specs.DirSteps.{make_dir}
 use Rattle.ft_calls.proofs.Reaching.{performed-at_spot, performed-at_fault}
 use Rattle.ft_calls.proofs.Walked.{spot-in}
 use Rattle.ft_calls.proofs.dirs.mkdir.Goals as goal

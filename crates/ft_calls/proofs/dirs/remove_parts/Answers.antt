@@ -8,7 +8,8 @@ use Rattle.ft_tree.specs.Looks.{answer}
 use Rattle.ft_tree.specs.Walk.{seen_at}
 use Rattle.ft_calls.specs.declared.call.Reply.{Reply}
 use Rattle.ft_calls.specs.declared.call.Reply.TheVariants.{Failed}
-use Rattle.ft_calls.specs.Steps.{remove_dir, from_parts, unless, last_fault, last_of}
+use Rattle.ft_calls.specs.Outcomes.{from_parts, unless}
+use Rattle.ft_calls.specs.DirSteps.{remove_dir, last_fault, last_of}
 use Rattle.ft_calls.specs.Perform.{IsPerformed}
 use Rattle.ft_calls.proofs.Reaching.{performed-at_spot, performed-at_fault}
 use Rattle.ft_calls.proofs.Walked.{spot-in}

@@ -1,7 +1,6 @@
 use Rattle.std.proofs.Common.{ap, sym, subst, None, ◌∙◌}
 use Rattle.ft_tree.specs.Cells.{Cells, put_entry, put_dir_parent, dir_of, HasDirPlace, HasEntryPlace}
-use Rattle.ft_calls.proofs.Places.{dir_place-put_dir}
-use Rattle.ft_calls.proofs.Placing.{entry_place-put_parent}
+use Rattle.ft_calls.proofs.Places.{dir_place-put_dir, entry_place-put_parent}
 use Rattle.ft_calls.proofs.Results.{on_ok}
 use Rattle.ft_calls.proofs.dirs.unhang.Goals as goal
 

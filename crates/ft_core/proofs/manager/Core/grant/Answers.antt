@@ -8,7 +8,7 @@ use Rattle.ft_core.specs.declared.journal.Life.TheVariants.{Live}
 use Rattle.ft_core.specs.History.{life_of, sole_holders}
 use Rattle.ft_core.specs.State.{State, next_stamp, has_most_calls, after_grant}
 use Rattle.ft_core.specs.Kept.{IsCore, saved_more}
-use Rattle.ft_core.proofs.Cores.{core-grant, few_calls, few_stamps}
+use Rattle.ft_core.proofs.Cores.{core-alike, core-grant, few_calls, few_stamps}
 use Rattle.ft_core.proofs.manager.Core.grant.Goals as goal
 
 pub one_more-requires : goal.one_more-requires
@@ -33,3 +33,9 @@ invariant_of-self-2 c =
     subst (λ (o : Option Saved). IsCore c.grant.new.self.state c.perform_and_copy.new.tree o) (sym saved)
     (subst (λ (q : State). IsCore q c.perform_and_copy.new.tree (saved_more c.self.inside.saved (cond (is_some c.self.inside.saved) None (Some c.self.inside.tree)) c.args.txn)) (sym after)
     (core-grant s c.self.inside.tree c.perform_and_copy.new.tree c.self.inside.saved c.args.txn c.args.call c.in_ok-reply.kept c.self.invariant live free does c.in_ok-reply.ensures.stays_sound fresh))
+
+-- want of memory leaves a tree that makes no difference
+pub invariant_of-self-in_err-reply : goal.invariant_of-self-in_err-reply
+invariant_of-self-in_err-reply c =
+    subst (λ (s : State). IsCore s c.perform_and_copy.new.tree c.self.inside.saved) (sym c.reserve.ensures.same)
+    (core-alike c.self.inside.journal.state c.self.inside.tree c.perform_and_copy.new.tree c.self.inside.saved c.self.invariant c.in_err-reply.ensures.refused)

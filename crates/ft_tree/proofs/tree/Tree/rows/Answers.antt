@@ -1,15 +1,19 @@
 use Rattle.std.proofs.Common.{◌++◌, ap, ◌∙◌}
 use Rattle.std.specs.FinMap as finite
 use Rattle.ft_tree.specs.Cells.{Cells}
-use Rattle.ft_tree.specs.Tidy.{tidy, dirs_from, edges_from}
-use Rattle.ft_tree.specs.Rows.{rows_of, dir_rows, edge_rows}
+use Rattle.ft_tree.specs.Tidy.{tidy, dirs_from, edges_from, files_from, opens_from}
+use Rattle.ft_tree.specs.Rows.{rows_of, dir_rows, edge_rows, file_rows, open_rows}
 use Rattle.ft_tree.proofs.TidyRows.{rows-tidy}
 use Rattle.ft_tree.proofs.tree.Tree.rows.Goals as goal
 
 pub returns : goal.returns
 returns c =
-    let edges = edge_rows (edges_from (finite.entries c.self.inside.directories)) in
     let dirs = dir_rows (dirs_from (finite.entries c.self.inside.directories)) in
-    c.in_ok-push_edges.ensures
-    ∙ ap (λ rows. rows ++ edges) (c.in_ok-push_dirs.ensures ∙ ap (λ rows. rows ++ dirs) c.new-rows.ensures.items)
-    ∙ rows-tidy (record { directories = c.self.inside.directories }) ∙ ap (λ (cells : Cells). rows_of (tidy cells)) c.self.view_is
+    let edges = edge_rows (edges_from (finite.entries c.self.inside.directories)) in
+    let files = file_rows (files_from c.self.inside.opens (finite.entries c.self.inside.files)) in
+    let opens = open_rows (opens_from (finite.entries c.self.inside.opens)) in
+    c.in_ok-push_opens.ensures
+    ∙ ap (λ rows. rows ++ opens) (c.in_ok-push_files.ensures
+    ∙ ap (λ rows. rows ++ files) (c.in_ok-push_edges.ensures
+    ∙ ap (λ rows. rows ++ edges) (c.in_ok-push_dirs.ensures ∙ ap (λ rows. rows ++ dirs) c.new-rows.ensures.items)))
+    ∙ rows-tidy (record { directories = c.self.inside.directories; files = c.self.inside.files; opens = c.self.inside.opens }) ∙ ap (λ (cells : Cells). rows_of (tidy cells)) c.self.view_is

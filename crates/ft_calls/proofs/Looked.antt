@@ -1,0 +1,195 @@
+-- What the calls look at: beside the bytes of files that are named, only what the plain tree shows as the stored cells do.
+use Rattle.std.proofs.Common.{◌≡◌, ℕ, ℤ, Bool, true, false, cond, length, List, [], ◌∷◌, Option, Some, None, unwrap_or, Result, Ok, Err, refl, sym}
+use Rattle.std.specs.Prelude.{◌==◌, ◌&&◌, not, nat_le}
+use Rattle.ft_body.specs.declared.TheConstants.{SIZE_LIMIT}
+use Rattle.ft_path.specs.Name.{is_dot, is_dot_dot}
+use Rattle.ft_path.specs.declared.errno.Errno.{Errno}
+use Rattle.ft_path.specs.declared.errno.Errno.TheVariants.{EINVAL, EBADF, EFBIG}
+use Rattle.ft_path.specs.declared.path.Parts.{Parts}
+use Rattle.ft_path.specs.FilePath.{parts_of}
+use Rattle.ft_tree.specs.declared.cell.Cell.{Cell}
+use Rattle.ft_tree.specs.declared.cell.Cell.TheVariants.{Entry, Names, Parent, Links, Bytes, Fd}
+use Rattle.ft_tree.specs.declared.node.Node.TheVariants.{Dir as DirNode, File as FileNode}
+use Rattle.ft_tree.specs.declared.open_file.OpenFile.{OpenFile}
+use Rattle.ft_tree.specs.Cells.{Cells, open_of}
+use Rattle.ft_tree.specs.Modes.{can_write}
+use Rattle.ft_tree.specs.Views.{view_of}
+use Rattle.ft_tree.specs.Looks.{Looks, Answer, Look, answer, looked_at, then, or_else}
+use Rattle.ft_tree.specs.Walk.{Spot, Named as AtName, Itself, up, passed, inner, reached, last, walk_from, walk}
+use Rattle.ft_tree.specs.Sound.{AreSoundCells}
+use Rattle.ft_calls.specs.declared.call.Call.{Call}
+use Rattle.ft_calls.specs.declared.call.Call.TheVariants.{Mkdir, Rmdir, List as ListDir, Open, Close, Read, Write as WriteCall, Pread, Pwrite, Lseek, Truncate, Ftruncate, Stat, Fstat}
+use Rattle.ft_calls.specs.declared.call.OpenFlags.{OpenFlags}
+use Rattle.ft_calls.specs.declared.call.Whence.{Whence}
+use Rattle.ft_calls.specs.declared.call.Whence.TheVariants.{Set, Cur, End}
+use Rattle.ft_calls.specs.Outcomes.{Outcome, failed, from_parts, unless}
+use Rattle.ft_calls.specs.DirSteps.{make_dir, remove_dir, last_of, last_fault, remove_parts, list_dir}
+use Rattle.ft_calls.specs.FileSteps.{open_spot, open_parts, on_open, with_open, any_open, is_readable, is_writable, close_open, read_open, not_negative, pread_at, pread_open, write_place, write_at, write_open, pwrite_at, pwrite_open, seek_from, moved, sought, seek_open, to_size, cut_file, truncate_spot, truncate_parts, ftruncate_open, stat_spot, fstat_open}
+use Rattle.ft_calls.specs.Steps.{steps}
+use Rattle.ft_calls.proofs.Named.{Named, by_entry, by_open}
+use Rattle.ft_calls.proofs.Walked.{IsSpot, EndsWell, walk-ends}
+
+module _ (cells : Cells) where
+  -- the plain tree shows the cell as the stored cells do: of bytes it has those of files that are named alone
+  abbrev pub IsShown : Cell → Type 0
+  IsShown (Entry d name) = Unit {0}
+  IsShown (Names d) = Unit {0}
+  IsShown (Parent d) = Unit {0}
+  IsShown (Links i) = Unit {0}
+  IsShown (Bytes i) = Named cells i
+  IsShown (Fd f) = Unit {0}
+
+  abbrev pub AllShown : List Cell → Type 0
+  AllShown [] = Unit {0}
+  AllShown (c ∷ cs) = IsShown c × AllShown cs
+
+  module _ {A : Type 0} where
+    -- all that is looked at is shown
+    abbrev LooksWell : Looks A → Type 0
+    LooksWell s = AllShown (looked_at s (view_of cells))
+
+    -- whichever of two is taken
+    either-shown : (b : Bool) (s t : Looks A) → LooksWell s → LooksWell t → LooksWell (cond b s t)
+    either-shown true s t p q = p
+    either-shown false s t p q = q
+
+  -- and then what is looked at behind it
+  then-shown : {A B : Type 0} (s : Looks A) (f : A → Looks B) → LooksWell s → LooksWell (f (answer s (view_of cells))) → LooksWell (then s f)
+  then-shown (Answer x) f p q = q
+  then-shown (Look c next) f p q = (p.0, then-shown (next (view_of cells c)) f p.1 q)
+
+  or_else-shown : {A B E : Type 0} (fail : E → B) (go : A → Looks B) (r : Result A E) → ((x : A) → LooksWell (go x)) → LooksWell (or_else fail go r)
+  or_else-shown fail go (Ok x) each = each x
+  or_else-shown fail go (Err e) each = tt
+
+  unless-shown : (fault : Option Errno) (go : Looks Outcome) → LooksWell go → LooksWell (unless fault go)
+  unless-shown None go h = h
+  unless-shown (Some e) go h = tt
+
+  -- A walk looks at entries and parents alone.
+
+  up-shown : (d : ℕ) → LooksWell (up d)
+  up-shown d = either-shown (d == 1) (Answer 1) (Look (Parent d) (λ p. Answer (unwrap_or p 1))) tt (tt, tt)
+
+  inner-shown : (d : ℕ) (name : List ℕ) → LooksWell (inner d name)
+  inner-shown d name =
+      either-shown (is_dot name) (Answer (Ok d)) _ tt
+      (either-shown (is_dot_dot name) (then (up d) (λ p. Answer (Ok p))) (Look (Entry d name) (λ x. Answer (passed x))) (then-shown (up d) (λ p. Answer (Ok p)) (up-shown d) tt) (tt, tt))
+
+  last-shown : (d : ℕ) (name : List ℕ) (trailing : Bool) → LooksWell (last d name trailing)
+  last-shown d name trailing =
+      either-shown (is_dot name) (Answer (Ok (Itself d))) _ tt
+      (either-shown (is_dot_dot name) (then (up d) (λ p. Answer (Ok (Itself p)))) (Look (Entry d name) (λ x. Answer (reached d name trailing x))) (then-shown (up d) (λ p. Answer (Ok (Itself p))) (up-shown d) tt) (tt, tt))
+
+  walk_from-shown : (names : List (List ℕ)) (d : ℕ) (name : List ℕ) (trailing : Bool) → LooksWell (walk_from d name names trailing)
+  walk_from-shown [] d name trailing = last-shown d name trailing
+  walk_from-shown (m ∷ ms) d name trailing =
+      let go : ℕ → Looks (Result Spot Errno) = λ i. walk_from i m ms trailing in
+      then-shown (inner d name) (or_else Err go) (inner-shown d name) (or_else-shown Err go _ (λ i. walk_from-shown ms i m trailing))
+
+  walk-shown : (names : List (List ℕ)) (trailing : Bool) → LooksWell (walk names trailing)
+  walk-shown [] trailing = tt
+  walk-shown (name ∷ names) trailing = walk_from-shown names 1 name trailing
+
+  -- A call looks at a file only that its path leads to, or its descriptor.
+
+  remove_dir-shown : (spot : Spot) → IsSpot cells spot → LooksWell (remove_dir spot)
+  remove_dir-shown (AtName d name None) h = tt
+  remove_dir-shown (AtName d name (Some (DirNode i))) h = (tt, tt)
+  remove_dir-shown (AtName d name (Some (FileNode i))) h = tt
+  remove_dir-shown (Itself d) h = tt
+
+  make_dir-shown : (k : ℕ) (spot : Spot) → IsSpot cells spot → LooksWell (make_dir k spot)
+  make_dir-shown k (AtName d name None) h = tt
+  make_dir-shown k (AtName d name (Some x)) h = tt
+  make_dir-shown k (Itself d) h = tt
+
+  list_dir-shown : (spot : Spot) → IsSpot cells spot → LooksWell (list_dir spot)
+  list_dir-shown (AtName d name None) h = tt
+  list_dir-shown (AtName d name (Some (DirNode i))) h = (tt, tt)
+  list_dir-shown (AtName d name (Some (FileNode i))) h = tt
+  list_dir-shown (Itself d) h = (tt, tt)
+
+  truncate_spot-shown : (size : ℕ) (spot : Spot) → IsSpot cells spot → LooksWell (truncate_spot size spot)
+  truncate_spot-shown size (AtName d name None) h = tt
+  truncate_spot-shown size (AtName d name (Some (DirNode i))) h = tt
+  truncate_spot-shown size (AtName d name (Some (FileNode i))) h = (by_entry d name i (sym h.1), tt)
+  truncate_spot-shown size (Itself d) h = tt
+
+  stat_spot-shown : (spot : Spot) → IsSpot cells spot → LooksWell (stat_spot spot)
+  stat_spot-shown (AtName d name None) h = tt
+  stat_spot-shown (AtName d name (Some (DirNode i))) h = tt
+  stat_spot-shown (AtName d name (Some (FileNode i))) h = (tt, (by_entry d name i (sym h.1), tt))
+  stat_spot-shown (Itself d) h = tt
+
+  with_open-shown : (fd : ℕ) (fits : OpenFile → Bool) (go : OpenFile → Looks Outcome) → ((o : OpenFile) → Named cells o.file → LooksWell (go o)) → LooksWell (with_open fd fits go)
+  with_open-shown fd fits go each = (tt, by_place (open_of cells fd) refl)
+    where
+      by_place : (place : Option OpenFile) → open_of cells fd ≡ place → LooksWell (on_open fits go place)
+      by_place None is = tt
+      by_place (Some o) is = either-shown (fits o) (go o) (Answer (failed EBADF)) (each o (by_open fd o is)) tt
+
+  write_place-shown : (o : OpenFile) → Named cells o.file → LooksWell (write_place o)
+  write_place-shown o named = either-shown o.append (Look (Bytes o.file) (λ bytes. Answer (length bytes))) (Answer o.offset) (named, tt) tt
+
+  write_open-shown : (fd : ℕ) (bytes : List ℕ) (o : OpenFile) → Named cells o.file → LooksWell (write_open fd bytes o)
+  write_open-shown fd [] o named = tt
+  write_open-shown fd (first ∷ more) o named =
+      then-shown (write_place o) (write_at fd o (first ∷ more)) (write_place-shown o named)
+      (either-shown (nat_le SIZE_LIMIT (answer (write_place o) (view_of cells))) (Answer (failed EFBIG)) _ tt (named, tt))
+
+  pwrite_at-shown : (o : OpenFile) → Named cells o.file → (bytes : List ℕ) (at : ℕ) → LooksWell (pwrite_at o bytes at)
+  pwrite_at-shown o named [] at = tt
+  pwrite_at-shown o named (first ∷ more) at = either-shown (nat_le SIZE_LIMIT at) (Answer (failed EFBIG)) _ tt (named, tt)
+
+  seek_from-shown : (whence : Whence) (o : OpenFile) → Named cells o.file → LooksWell (seek_from whence o)
+  seek_from-shown Set o named = tt
+  seek_from-shown Cur o named = tt
+  seek_from-shown End o named = (named, tt)
+
+  module _ (sound : AreSoundCells cells) where
+    spot-shown : (go : Spot → Looks Outcome) → ((spot : Spot) → IsSpot cells spot → LooksWell (go spot)) → (r : Result Spot Errno) → EndsWell cells r → LooksWell (or_else failed go r)
+    spot-shown go each (Ok spot) h = each spot h
+    spot-shown go each (Err e) h = tt
+
+    from_parts-shown : (go : Spot → Looks Outcome) → ((spot : Spot) → IsSpot cells spot → LooksWell (go spot)) → (parts : Result Parts Errno) → LooksWell (from_parts parts go)
+    from_parts-shown go each (Err e) = tt
+    from_parts-shown go each (Ok parts) =
+        then-shown (walk parts.names parts.trailing) (or_else failed go) (walk-shown parts.names parts.trailing)
+        (spot-shown go each _ (walk-ends cells sound parts.names parts.trailing))
+
+    remove_parts-shown : (parts : Result Parts Errno) → LooksWell (remove_parts parts)
+    remove_parts-shown (Err e) = tt
+    remove_parts-shown (Ok parts) = unless-shown (last_fault (last_of parts.names)) (from_parts (Ok parts) remove_dir) (from_parts-shown remove_dir remove_dir-shown (Ok parts))
+
+    open_parts-shown : (k : ℕ) (flags : OpenFlags) (parts : Result Parts Errno) → LooksWell (open_parts k flags parts)
+    open_parts-shown k flags (Err e) = tt
+    open_parts-shown k flags (Ok parts) =
+        either-shown (flags.trunc && not (can_write flags.access)) (Answer (failed EINVAL)) _ tt
+        (from_parts-shown (λ spot. Answer (open_spot k flags parts.trailing spot)) (λ spot h. tt) (Ok parts))
+
+    truncate_parts-shown : (len : ℤ) (parts : Result Parts Errno) → LooksWell (truncate_parts len parts)
+    truncate_parts-shown len (Err e) = tt
+    truncate_parts-shown len (Ok parts) =
+        or_else-shown failed (λ size. from_parts (Ok parts) (truncate_spot size)) (to_size len) (λ size. from_parts-shown (truncate_spot size) (truncate_spot-shown size) (Ok parts))
+
+-- on sound cells each cell that a call looks at is one that the plain tree shows alike
+pub call-looks : (cells : Cells) → AreSoundCells cells → (k : ℕ) (call : Call) → AllShown cells (looked_at (steps k call) (view_of cells))
+call-looks cells sound k (Mkdir path) = from_parts-shown cells sound (make_dir k) (make_dir-shown cells k) (parts_of path)
+call-looks cells sound k (Rmdir path) = remove_parts-shown cells sound (parts_of path)
+call-looks cells sound k (ListDir path) = from_parts-shown cells sound list_dir (list_dir-shown cells) (parts_of path)
+call-looks cells sound k (Open path access create excl trunc append) = open_parts-shown cells sound k _ (parts_of path)
+call-looks cells sound k (Close fd) = with_open-shown cells fd any_open (close_open fd) (λ o named. (tt, tt))
+call-looks cells sound k (Read fd len) = with_open-shown cells fd is_readable (read_open fd len) (λ o named. (named, tt))
+call-looks cells sound k (WriteCall fd bytes) = with_open-shown cells fd is_writable (write_open fd bytes) (write_open-shown cells fd bytes)
+call-looks cells sound k (Pread fd off len) =
+    with_open-shown cells fd is_readable (pread_open off len) (λ o named. or_else-shown cells failed (pread_at len o) (not_negative off) (λ at. (named, tt)))
+call-looks cells sound k (Pwrite fd off bytes) =
+    with_open-shown cells fd is_writable (pwrite_open off bytes) (λ o named. or_else-shown cells failed (pwrite_at o bytes) (not_negative off) (pwrite_at-shown cells o named bytes))
+call-looks cells sound k (Lseek fd whence off) =
+    with_open-shown cells fd any_open (seek_open fd whence off) (λ o named. then-shown cells (seek_from whence o) (λ from. Answer (sought fd o (moved from off))) (seek_from-shown cells whence o named) tt)
+call-looks cells sound k (Truncate len path) = truncate_parts-shown cells sound len (parts_of path)
+call-looks cells sound k (Ftruncate fd len) =
+    with_open-shown cells fd is_writable (ftruncate_open len) (λ o named. or_else-shown cells failed (cut_file o.file) (to_size len) (λ size. (named, tt)))
+call-looks cells sound k (Stat path) = from_parts-shown cells sound stat_spot (stat_spot-shown cells) (parts_of path)
+call-looks cells sound k (Fstat fd) = with_open-shown cells fd any_open fstat_open (λ o named. (tt, (named, tt)))

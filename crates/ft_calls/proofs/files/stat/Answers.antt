@@ -1,0 +1,16 @@
+use Rattle.std.proofs.Common.{Ok, sym, ◌∙◌}
+use Rattle.ft_path.specs.FilePath.{parts_of}
+use Rattle.ft_tree.specs.Walk.{seen_at}
+use Rattle.ft_calls.specs.FileSteps.{stat_spot}
+use Rattle.ft_calls.proofs.Reaching.{performed-at_spot, performed-at_fault}
+use Rattle.ft_calls.proofs.files.stat.Goals as goal
+
+pub returns-in-Err-walk : goal.returns-in-Err-walk
+returns-in-Err-walk c _ =
+    performed-at_fault c.args.tree.now stat_spot (parts_of c.args.path.now) c.in-Ok.parts (sym c.in_ok-errno.ensures ∙ c.in-Ok.is) c.as_slice.result.now c.as_slice.ensures
+    c.in-Err-walk.errno c.in-Err-walk.ensures
+
+pub returns : goal.returns
+returns c _ =
+    performed-at_spot c.args.tree.now stat_spot (parts_of c.args.path.now) c.in-Ok.parts (sym c.in_ok-errno.ensures ∙ c.in-Ok.is) c.as_slice.result.now c.as_slice.ensures
+    (seen_at c.in-Ok-walk.spot) c.in-Ok-walk.ensures c.args.tree.now (Ok c.stat_spot.result) c.stat_spot.ensures

@@ -1,0 +1,202 @@
+-- What the calls on files and descriptors look at, and what they come to.
+use Rattle.std.specs.Prelude.{ℕ, Bool, true, cond, not, ◌&&◌, ◌+◌, ◌-◌, suc, nat_le, ℤ, pos, negsuc, length, List, [], ◌∷◌, Option, Some, None, Result, Ok, Err}
+use Rattle.ft_body.specs.declared.TheConstants.{SIZE_LIMIT}
+use Rattle.ft_body.specs.Bytes.{bytes_at, fitting, written, resized}
+use Rattle.ft_path.specs.declared.path.Parts.{Parts}
+use Rattle.ft_path.specs.declared.errno.Errno.{Errno}
+use Rattle.ft_path.specs.declared.errno.Errno.TheVariants.{ENOENT, EEXIST, EINVAL, EISDIR, EBADF, EFBIG, EOVERFLOW}
+use Rattle.ft_tree.specs.declared.cell.Cell.TheVariants.{Links, Bytes, Fd}
+use Rattle.ft_tree.specs.declared.node.Kind.TheVariants.{Dir as DirKind, File as FileKind}
+use Rattle.ft_tree.specs.declared.node.Node.{Node}
+use Rattle.ft_tree.specs.declared.node.Node.TheVariants.{Dir as DirNode, File as FileNode}
+use Rattle.ft_tree.specs.declared.open_file.OpenFile.{OpenFile}
+use Rattle.ft_tree.specs.Modes.{can_read, can_write}
+use Rattle.ft_tree.specs.Looks.{Looks, Answer, Look, then, or_else}
+use Rattle.ft_tree.specs.Walk.{Spot, Named, Itself}
+use Rattle.ft_calls.specs.declared.TheConstants.{LAST_OFFSET}
+use Rattle.ft_calls.specs.declared.call.OpenFlags.{OpenFlags}
+use Rattle.ft_calls.specs.declared.call.Whence.{Whence}
+use Rattle.ft_calls.specs.declared.call.Whence.TheVariants.{Set, Cur, End}
+use Rattle.ft_calls.specs.declared.call.Reply.TheVariants.{Done, Number, Bytes as BytesReply, Info}
+use Rattle.ft_calls.specs.Outcomes.{SetEntry, SetLinks, SetBytes, SetOpen, Outcome, failed, told, from_parts}
+
+-- open (POSIX.1-2017, System Interfaces, open)
+
+-- the new description, at the start of the file
+abbrev pub description : OpenFlags → ℕ → OpenFile
+description flags file = record { file = file; access = flags.access; append = flags.append; offset = 0 }
+
+-- the descriptor gets the call's stamp as its number, and so does a file that is made
+abbrev pub creates : ℕ → OpenFlags → ℕ → List ℕ → Outcome
+creates k flags d name = record {
+  reply = Number k;
+  writes = SetLinks k 1 ∷ SetBytes k [] ∷ SetOpen k (Some (description flags k)) ∷ SetEntry d name (Some (FileNode k)) ∷ [];
+}
+
+-- an existing file is cut to nothing, where that is asked
+abbrev pub opens : ℕ → OpenFlags → ℕ → Outcome
+opens k flags i = record {
+  reply = Number k;
+  writes = SetOpen k (Some (description flags i)) ∷ cond flags.trunc (SetBytes i [] ∷ []) [];
+}
+
+abbrev pub open_node : ℕ → OpenFlags → Node → Outcome
+open_node k flags (DirNode i) = failed EISDIR
+open_node k flags (FileNode i) = opens k flags i
+
+-- what exists is not to exist
+abbrev pub is_exclusive : OpenFlags → Bool
+is_exclusive flags = flags.create && flags.excl
+
+abbrev pub open_spot : ℕ → OpenFlags → Bool → Spot → Outcome
+open_spot k flags trailing (Named d name None) = cond (flags.create && not trailing) (creates k flags d name) (failed ENOENT)
+open_spot k flags trailing (Named d name (Some x)) = cond (is_exclusive flags) (failed EEXIST) (open_node k flags x)
+open_spot k flags trailing (Itself d) = cond (is_exclusive flags) (failed EEXIST) (failed EISDIR)
+
+abbrev pub open_parts : ℕ → OpenFlags → Result Parts Errno → Looks Outcome
+open_parts k flags (Err e) = Answer (failed e)
+open_parts k flags (Ok parts) =
+    cond (flags.trunc && not (can_write flags.access)) (Answer (failed EINVAL)) (from_parts (Ok parts) (λ spot. Answer (open_spot k flags parts.trailing spot)))
+
+-- Calls on a descriptor: one that is not open, or not for this, is bad.
+
+abbrev pub on_open : (OpenFile → Bool) → (OpenFile → Looks Outcome) → Option OpenFile → Looks Outcome
+on_open fits go None = Answer (failed EBADF)
+on_open fits go (Some o) = cond (fits o) (go o) (Answer (failed EBADF))
+
+abbrev pub with_open : ℕ → (OpenFile → Bool) → (OpenFile → Looks Outcome) → Looks Outcome
+with_open fd fits go = Look (Fd fd) (λ place. on_open fits go place)
+
+abbrev pub any_open : OpenFile → Bool
+any_open o = true
+
+abbrev pub is_readable : OpenFile → Bool
+is_readable o = can_read o.access
+
+abbrev pub is_writable : OpenFile → Bool
+is_writable o = can_write o.access
+
+abbrev pub at_offset : OpenFile → ℕ → OpenFile
+at_offset o offset = record { file = o.file; access = o.access; append = o.append; offset = offset }
+
+-- close (POSIX.1-2017, System Interfaces, close); whether entries name the file is looked at
+abbrev pub close_open : ℕ → OpenFile → Looks Outcome
+close_open fd o = Look (Links o.file) (λ _. Answer (record { reply = Done; writes = SetOpen fd None ∷ [] }))
+
+-- read (POSIX.1-2017, System Interfaces, read): the offset moves by the count of bytes that are read
+abbrev pub has_read : ℕ → OpenFile → List ℕ → Outcome
+has_read fd o bytes = record { reply = BytesReply bytes; writes = SetOpen fd (Some (at_offset o (o.offset + length bytes))) ∷ [] }
+
+abbrev pub read_open : ℕ → ℕ → OpenFile → Looks Outcome
+read_open fd len o = Look (Bytes o.file) (λ bytes. Answer (has_read fd o (bytes_at bytes o.offset len)))
+
+-- an offset or a length below zero is invalid
+abbrev pub not_negative : ℤ → Result ℕ Errno
+not_negative (pos n) = Ok n
+not_negative (negsuc n) = Err EINVAL
+
+-- pread (POSIX.1-2017, System Interfaces, read)
+abbrev pub pread_at : ℕ → OpenFile → ℕ → Looks Outcome
+pread_at len o at = Look (Bytes o.file) (λ bytes. Answer (told (BytesReply (bytes_at bytes at len))))
+
+abbrev pub pread_open : ℤ → ℕ → OpenFile → Looks Outcome
+pread_open off len o = or_else failed (pread_at len o) (not_negative off)
+
+-- write (POSIX.1-2017, System Interfaces, write): with append the offset is first the size
+
+abbrev pub write_place : OpenFile → Looks ℕ
+write_place o = cond o.append (Look (Bytes o.file) (λ bytes. Answer (length bytes))) (Answer o.offset)
+
+-- the offset becomes the end of what was written
+abbrev pub has_written : ℕ → OpenFile → ℕ → List ℕ → List ℕ → Outcome
+has_written fd o at taken bytes = record {
+  reply = Number (length taken);
+  writes = SetBytes o.file (written bytes at taken) ∷ SetOpen fd (Some (at_offset o (at + length taken))) ∷ [];
+}
+
+abbrev pub write_at : ℕ → OpenFile → List ℕ → ℕ → Looks Outcome
+write_at fd o bytes at = cond (nat_le SIZE_LIMIT at) (Answer (failed EFBIG)) (Look (Bytes o.file) (λ old. Answer (has_written fd o at (fitting bytes at) old)))
+
+-- to write no bytes changes nothing
+abbrev pub write_open : ℕ → List ℕ → OpenFile → Looks Outcome
+write_open fd [] o = Answer (told (Number 0))
+write_open fd (first ∷ more) o = then (write_place o) (write_at fd o (first ∷ more))
+
+-- pwrite (POSIX.1-2017, System Interfaces, write): the offset of the description stays, and append has no effect
+
+abbrev pub has_pwritten : OpenFile → ℕ → List ℕ → List ℕ → Outcome
+has_pwritten o at taken bytes = record { reply = Number (length taken); writes = SetBytes o.file (written bytes at taken) ∷ [] }
+
+abbrev pub pwrite_at : OpenFile → List ℕ → ℕ → Looks Outcome
+pwrite_at o [] at = Answer (told (Number 0))
+pwrite_at o (first ∷ more) at =
+    cond (nat_le SIZE_LIMIT at) (Answer (failed EFBIG)) (Look (Bytes o.file) (λ old. Answer (has_pwritten o at (fitting (first ∷ more) at) old)))
+
+abbrev pub pwrite_open : ℤ → List ℕ → OpenFile → Looks Outcome
+pwrite_open off bytes o = or_else failed (pwrite_at o bytes) (not_negative off)
+
+-- lseek (POSIX.1-2017, System Interfaces, lseek)
+
+abbrev pub seek_from : Whence → OpenFile → Looks ℕ
+seek_from Set o = Answer 0
+seek_from Cur o = Answer o.offset
+seek_from End o = Look (Bytes o.file) (λ bytes. Answer (length bytes))
+
+-- where an offset leads from a place, unless below zero
+abbrev pub moved : ℕ → ℤ → Option ℕ
+moved from (pos n) = Some (from + n)
+moved from (negsuc n) = cond (nat_le (suc n) from) (Some (from - suc n)) None
+
+abbrev pub offset_within : Option ℕ → Result ℕ Errno
+offset_within None = Err EINVAL
+offset_within (Some at) = cond (nat_le at LAST_OFFSET) (Ok at) (Err EOVERFLOW)
+
+abbrev pub sought : ℕ → OpenFile → Option ℕ → Outcome
+sought fd o None = failed EINVAL
+sought fd o (Some at) = cond (nat_le at LAST_OFFSET) (record { reply = Number at; writes = SetOpen fd (Some (at_offset o at)) ∷ [] }) (failed EOVERFLOW)
+
+abbrev pub seek_open : ℕ → Whence → ℤ → OpenFile → Looks Outcome
+seek_open fd whence off o = then (seek_from whence o) (λ from. Answer (sought fd o (moved from off)))
+
+-- truncate and ftruncate (POSIX.1-2017, System Interfaces, truncate, ftruncate)
+
+-- a length that a file may have
+abbrev pub size_within : ℕ → Result ℕ Errno
+size_within n = cond (nat_le n SIZE_LIMIT) (Ok n) (Err EFBIG)
+
+abbrev pub to_size : ℤ → Result ℕ Errno
+to_size (pos n) = size_within n
+to_size (negsuc n) = Err EINVAL
+
+abbrev pub cut_file : ℕ → ℕ → Looks Outcome
+cut_file i size = Look (Bytes i) (λ bytes. Answer (record { reply = Done; writes = SetBytes i (resized bytes size) ∷ [] }))
+
+abbrev pub truncate_spot : ℕ → Spot → Looks Outcome
+truncate_spot size (Named d name None) = Answer (failed ENOENT)
+truncate_spot size (Named d name (Some (DirNode i))) = Answer (failed EISDIR)
+truncate_spot size (Named d name (Some (FileNode i))) = cut_file i size
+truncate_spot size (Itself d) = Answer (failed EISDIR)
+
+abbrev pub truncate_parts : ℤ → Result Parts Errno → Looks Outcome
+truncate_parts len (Err e) = Answer (failed e)
+truncate_parts len (Ok parts) = or_else failed (λ size. from_parts (Ok parts) (truncate_spot size)) (to_size len)
+
+abbrev pub ftruncate_open : ℤ → OpenFile → Looks Outcome
+ftruncate_open len o = or_else failed (cut_file o.file) (to_size len)
+
+-- stat and fstat (POSIX.1-2017, System Interfaces, stat, fstat): a directory has one link and size 0
+
+abbrev pub dir_info : ℕ → Outcome
+dir_info i = told (Info DirKind i 1 0)
+
+abbrev pub file_info : ℕ → Looks Outcome
+file_info i = Look (Links i) (λ links. Look (Bytes i) (λ bytes. Answer (told (Info FileKind i links (length bytes)))))
+
+abbrev pub stat_spot : Spot → Looks Outcome
+stat_spot (Named d name None) = Answer (failed ENOENT)
+stat_spot (Named d name (Some (DirNode i))) = Answer (dir_info i)
+stat_spot (Named d name (Some (FileNode i))) = file_info i
+stat_spot (Itself d) = Answer (dir_info d)
+
+abbrev pub fstat_open : OpenFile → Looks Outcome
+fstat_open o = file_info o.file
