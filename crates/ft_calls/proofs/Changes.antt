@@ -1,34 +1,37 @@
 -- What a call changes: nothing, a directory that it makes or removes, a file that it makes, or files and descriptions that are there.
-use Rattle.std.proofs.Common.{◌≡◌, ◌⊎◌, inl, inr, ℕ, ℤ, Bool, true, false, cond, List, [], ◌∷◌, Option, Some, None, IsSome, Result, Ok, Err, refl, sym, subst}
-use Rattle.std.specs.Prelude.{◌&&◌, not, nat_le}
+use Rattle.std.proofs.Common.{◌≡◌, ◌≢◌, ◌⊎◌, inl, inr, ℕ, ℤ, Bool, true, false, cond, List, [], ◌∷◌, Option, Some, None, IsSome, Result, Ok, Err, eq-eqb, refl, sym, subst, ◌∙◌}
+use Rattle.std.specs.Prelude.{◌-◌, ◌==◌, ◌&&◌, not, nat_lt, nat_le}
 use Rattle.std.specs.List.{AllByRecursion}
 use Rattle.std.proofs.lemmas.Bool.{false≢true}
 use Rattle.ft_body.specs.declared.TheConstants.{SIZE_LIMIT}
 use Rattle.ft_path.specs.declared.errno.Errno.{Errno}
-use Rattle.ft_path.specs.declared.errno.Errno.TheVariants.{EINVAL, EEXIST, EISDIR, ENOENT, EBADF, EFBIG, EOVERFLOW}
+use Rattle.ft_path.specs.declared.errno.Errno.TheVariants.{EINVAL, EEXIST, EISDIR, ENOENT, ENOTDIR, EBADF, EFBIG, EMLINK, EOVERFLOW}
 use Rattle.ft_path.specs.declared.path.Parts.{Parts}
 use Rattle.ft_path.specs.FilePath.{parts_of}
 use Rattle.ft_tree.specs.declared.node.Node.{Node}
 use Rattle.ft_tree.specs.declared.node.Node.TheVariants.{Dir as DirNode, File as FileNode}
 use Rattle.ft_tree.specs.declared.open_file.OpenFile.{OpenFile}
-use Rattle.ft_tree.specs.Cells.{Cells, entry_of, names_of, parent_of, open_of}
+use Rattle.ft_tree.specs.Cells.{Cells, entry_of, names_of, parent_of, links_of, open_of, stored_dirs}
 use Rattle.ft_tree.specs.Modes.{can_write}
 use Rattle.ft_tree.specs.Views.{view_of}
 use Rattle.ft_tree.specs.Looks.{Looks, Answer, answer, answer-then, or_else}
 use Rattle.ft_tree.specs.Walk.{Spot, Named as AtName, Itself, walk}
 use Rattle.ft_tree.specs.Sound.{Hangs, AreSoundCells}
-use Rattle.ft_calls.specs.declared.TheConstants.{LAST_OFFSET}
+use Rattle.ft_calls.specs.declared.TheConstants.{LAST_OFFSET, MOST_LINKS}
 use Rattle.ft_calls.specs.declared.call.Call.{Call}
-use Rattle.ft_calls.specs.declared.call.Call.TheVariants.{Mkdir, Rmdir, List as ListDir, Open, Close, Read, Write as WriteCall, Pread, Pwrite, Lseek, Truncate, Ftruncate, Stat, Fstat}
+use Rattle.ft_calls.specs.declared.call.Call.TheVariants.{Mkdir, Rmdir, List as ListDir, Open, Close, Read, Write as WriteCall, Pread, Pwrite, Lseek, Truncate, Ftruncate, Stat, Fstat, Link, Unlink, Rename}
 use Rattle.ft_calls.specs.declared.call.OpenFlags.{OpenFlags}
 use Rattle.ft_calls.specs.declared.call.Whence.{Whence}
 use Rattle.ft_calls.specs.declared.call.Reply.{Reply}
 use Rattle.ft_calls.specs.declared.call.Reply.TheVariants.{Done, Number}
-use Rattle.ft_calls.specs.Outcomes.{Write, SetEntry, SetParent, SetBytes, SetOpen, Outcome, told, failed, from_parts, unless}
+use Rattle.ft_calls.specs.Outcomes.{Write, SetEntry, SetParent, SetLinks, SetBytes, SetOpen, Outcome, told, failed, from_parts, unless}
 use Rattle.ft_calls.specs.DirSteps.{make_dir, remove_dir, if_empty, last_of, last_fault, remove_parts, list_dir}
+use Rattle.ft_calls.specs.LinkSteps.{linked, link_new, link_old, link_parts, unlinked, unlink_spot, climb, unless_below, rename_fault, renamed, with_parent, replace_file, if_bare, replace_dir, rename_file, rename_dir, rename_old, rename_parts}
 use Rattle.ft_calls.specs.FileSteps.{description, creates, opens, open_node, is_exclusive, open_spot, open_parts, on_open, with_open, any_open, is_readable, is_writable, at_offset, close_open, read_open, not_negative, pread_at, pread_open, write_place, write_at, write_open, pwrite_at, pwrite_open, seek_from, moved, sought, seek_open, to_size, cut_file, truncate_spot, truncate_parts, ftruncate_open, stat_spot, fstat_open}
 use Rattle.ft_calls.specs.Perform.{OnlyTells, IsList, is_read}
 use Rattle.ft_calls.specs.Stored.{outcome}
+use Rattle.ft_calls.proofs.Below.{Avoids, IsEnough}
+use Rattle.ft_calls.proofs.Climbing.{not_under, stored-enough, climb-avoids}
 use Rattle.ft_calls.proofs.Named.{Named, by_entry, by_open}
 use Rattle.ft_calls.proofs.Walked.{IsSpot, EndsWell, walk-ends}
 
@@ -57,6 +60,18 @@ module _ (cells : Cells) where
     makes : (d : ℕ) (name : List ℕ) → Hangs (parent_of cells) d → entry_of cells d name ≡ None → Change k reads (made k d name)
     removes : (d : ℕ) (name : List ℕ) (i : ℕ) → entry_of cells d name ≡ Some (DirNode i) → names_of cells i ≡ [] → Change k reads (removed d name i)
     creates_file : (flags : OpenFlags) (d : ℕ) (name : List ℕ) → Hangs (parent_of cells) d → entry_of cells d name ≡ None → Change k reads (creates k flags d name)
+    -- file i gets another entry
+    links_file : (i : ℕ) (d : ℕ) (name : List ℕ) → Named cells i → Hangs (parent_of cells) d → entry_of cells d name ≡ None → Change k reads (linked i d name (links_of cells i))
+    -- or loses one
+    unlinks : (d : ℕ) (name : List ℕ) (i : ℕ) → entry_of cells d name ≡ Some (FileNode i) → Change k reads (unlinked d name i (links_of cells i))
+    -- an entry is moved to another place: that of nothing, of a file, or of an empty directory
+    moves_file : (d : ℕ) (name : List ℕ) (i e : ℕ) (other : List ℕ) → entry_of cells d name ≡ Some (FileNode i) → Hangs (parent_of cells) e → entry_of cells e other ≡ None → Change k reads (renamed d name (FileNode i) e other [])
+    replaces_file : (d : ℕ) (name : List ℕ) (i e : ℕ) (other : List ℕ) (j : ℕ) → entry_of cells d name ≡ Some (FileNode i) → entry_of cells e other ≡ Some (FileNode j) → i ≢ j
+        → Change k reads (renamed d name (FileNode i) e other (SetLinks j (links_of cells j - 1) ∷ []))
+    moves_dir : (d : ℕ) (name : List ℕ) (i e : ℕ) (other : List ℕ) → entry_of cells d name ≡ Some (DirNode i) → Hangs (parent_of cells) e → Avoids (parent_of cells) i e → entry_of cells e other ≡ None
+        → Change k reads (renamed d name (DirNode i) e other (with_parent i d e))
+    replaces_dir : (d : ℕ) (name : List ℕ) (i e : ℕ) (other : List ℕ) (j : ℕ) → entry_of cells d name ≡ Some (DirNode i) → entry_of cells e other ≡ Some (DirNode j) → i ≢ j → Avoids (parent_of cells) i e
+        → names_of cells j ≡ [] → Change k reads (renamed d name (DirNode i) e other (SetParent j None ∷ with_parent i d e))
     on_files : (reply : Reply) (ws : List Write) → AreFileWrites k ws → (OnlyTells reply → ⊥) → (IsList reply → reads ≡ true) → Change k reads (record { reply = reply; writes = ws })
 
   module _ (k : ℕ) (reads : Bool) where
@@ -187,6 +202,41 @@ module _ (cells : Cells) where
     truncate_spot-changes size (AtName d name (Some (FileNode i))) h = cut_file-changes i size (by_entry d name i (sym h.1))
     truncate_spot-changes size (Itself d) h = no_change _
 
+    -- link gives a file another entry
+    link_new-changes : (i : ℕ) → Named cells i → (trailing : Bool) (spot : Spot) → IsSpot cells spot → ComesTo (link_new i trailing spot)
+    link_new-changes i named trailing (AtName d name None) h =
+        either-changes trailing (Answer (failed ENOENT)) _ (no_change _)
+        (elim (nat_lt (links_of cells i) MOST_LINKS) as (λ b. Change k reads (cond b (linked i d name (links_of cells i)) (failed EMLINK))) [ true ↦ links_file i d name named h.0 (sym h.1) | false ↦ no_change _ ])
+    link_new-changes i named trailing (AtName d name (Some x)) h = no_change _
+    link_new-changes i named trailing (Itself d) h = no_change _
+
+    -- unlink takes an entry of a file away
+    unlink_spot-changes : (spot : Spot) → IsSpot cells spot → ComesTo (unlink_spot spot)
+    unlink_spot-changes (AtName d name None) h = no_change _
+    unlink_spot-changes (AtName d name (Some (DirNode i))) h = no_change _
+    unlink_spot-changes (AtName d name (Some (FileNode i))) h = unlinks d name i (sym h.1)
+    unlink_spot-changes (Itself d) h = no_change _
+
+    -- what is renamed to itself stays, and else the new entry named another
+    unless_same-changes : (i j : ℕ) (go : Looks Outcome) → (i ≢ j → ComesTo go) → ComesTo (cond (i == j) (Answer (told Done)) go)
+    unless_same-changes i j go each = by_number (i == j) refl
+      where
+        by_number : (b : Bool) → (i == j) ≡ b → ComesTo (cond b (Answer (told Done)) go)
+        by_number true is = no_change Done
+        by_number false is = each (λ same. false≢true (sym is ∙ eq-eqb i j same))
+
+    -- rename moves the entry of a file
+    rename_file-changes : (d : ℕ) (name : List ℕ) (i : ℕ) → entry_of cells d name ≡ Some (FileNode i) → (trailing : Bool) (spot : Spot) → IsSpot cells spot → ComesTo (rename_file d name i trailing spot)
+    rename_file-changes d name i is trailing (AtName e other None) h =
+        elim trailing as (λ b. Change k reads (cond b (failed ENOTDIR) (renamed d name (FileNode i) e other []))) [
+          | true ↦ no_change _
+          | false ↦ moves_file d name i e other is h.0 (sym h.1)
+        ]
+    rename_file-changes d name i is trailing (AtName e other (Some (FileNode j))) h =
+        unless_same-changes i j (replace_file d name i e other j) (λ apart. replaces_file d name i e other j is (sym h.1) apart)
+    rename_file-changes d name i is trailing (AtName e other (Some (DirNode j))) h = no_change _
+    rename_file-changes d name i is trailing (Itself e) h = no_change _
+
     module _ (sound : AreSoundCells cells) where
       -- a failed walk changes nothing
       spot-changes : (go : Spot → Looks Outcome) → ((spot : Spot) → IsSpot cells spot → ComesTo (go spot)) → (r : Result Spot Errno) → EndsWell cells r → ComesTo (or_else failed go r)
@@ -198,7 +248,7 @@ module _ (cells : Cells) where
       from_parts-changes go each (Err e) = no_change _
       from_parts-changes go each (Ok parts) =
           subst (Change k reads) (sym (answer-then (walk parts.names parts.trailing) (or_else failed go) (view_of cells)))
-          (spot-changes go each _ (walk-ends cells sound parts.names parts.trailing))
+          (spot-changes go each _ (walk-ends cells sound.tree parts.names parts.trailing))
 
       -- with the faults of the last component
       remove_parts-changes : (parts : Result Parts Errno) → ComesTo (remove_parts parts)
@@ -217,6 +267,56 @@ module _ (cells : Cells) where
       truncate_parts-changes len (Err e) = no_change _
       truncate_parts-changes len (Ok parts) =
           or_else-changes (λ size. from_parts (Ok parts) (truncate_spot size)) (to_size len) (λ size. from_parts-changes (truncate_spot size) (truncate_spot-changes size) (Ok parts))
+
+      -- link, with two paths
+      link_old-changes : (new : Parts) (spot : Spot) → IsSpot cells spot → ComesTo (link_old new spot)
+      link_old-changes new (AtName d name None) h = no_change _
+      link_old-changes new (AtName d name (Some (DirNode i))) h = no_change _
+      link_old-changes new (AtName d name (Some (FileNode i))) h = from_parts-changes (link_new i new.trailing) (link_new-changes i (by_entry d name i (sym h.1)) new.trailing) (Ok new)
+      link_old-changes new (Itself d) h = no_change _
+
+      link_parts-changes : (old new : Result Parts Errno) → ComesTo (link_parts old new)
+      link_parts-changes (Err e) new = no_change _
+      link_parts-changes (Ok old) (Err e) = no_change _
+      link_parts-changes (Ok old) (Ok new) = from_parts-changes (link_old new) (link_old-changes new) (Ok old)
+
+      module _ (n : ℕ) (enough : IsEnough cells n) where
+        -- a directory that is not the root goes only where it is not on the way up
+        unless_below-changes : (i e : ℕ) → i ≢ 1 → Hangs (parent_of cells) e → (go : Looks Outcome) → (Avoids (parent_of cells) i e → ComesTo go) → ComesTo (unless_below n i e go)
+        unless_below-changes i e other h go each =
+            subst (Change k reads) (sym (answer-then (climb n i e) (λ met. cond met (Answer (failed EINVAL)) go) (view_of cells))) (by_met (answer (climb n i e) (view_of cells)) refl)
+          where
+            by_met : (b : Bool) → answer (climb n i e) (view_of cells) ≡ b → ComesTo (cond b (Answer (failed EINVAL)) go)
+            by_met true met = no_change _
+            by_met false met = each (climb-avoids cells sound.tree n i e h (enough e h) other met)
+
+        -- rename moves the entry of a directory
+        rename_dir-changes : (d : ℕ) (name : List ℕ) (i : ℕ) → entry_of cells d name ≡ Some (DirNode i) → (spot : Spot) → IsSpot cells spot → ComesTo (rename_dir n d name i spot)
+        rename_dir-changes d name i is (AtName e other None) h =
+            unless_below-changes i e (not_under (parent_of cells) sound.tree.top i d (sound.tree.leads d name i is)) h.0 _ (λ clear. moves_dir d name i e other is h.0 clear (sym h.1))
+        rename_dir-changes d name i is (AtName e other (Some (FileNode j))) h = no_change _
+        rename_dir-changes d name i is (AtName e other (Some (DirNode j))) h =
+            unless_same-changes i j (unless_below n i e (replace_dir d name i e other j))
+            (λ apart. unless_below-changes i e (not_under (parent_of cells) sound.tree.top i d (sound.tree.leads d name i is)) h.0 (replace_dir d name i e other j) (λ clear. by_names apart clear (names_of cells j) refl))
+          where
+            by_names : i ≢ j → Avoids (parent_of cells) i e → (names : List (List ℕ × Node)) → names_of cells j ≡ names → Change k reads (if_bare d name i e other j names)
+            by_names apart clear [] bare = replaces_dir d name i e other j is (sym h.1) apart clear bare
+            by_names apart clear (x ∷ xs) bare = no_change _
+        rename_dir-changes d name i is (Itself e) h = no_change _
+
+        -- rename, with two paths
+        rename_old-changes : (new : Parts) (spot : Spot) → IsSpot cells spot → ComesTo (rename_old n new spot)
+        rename_old-changes new (AtName d name None) h = no_change _
+        rename_old-changes new (AtName d name (Some (FileNode i))) h = from_parts-changes (rename_file d name i new.trailing) (rename_file-changes d name i (sym h.1) new.trailing) (Ok new)
+        rename_old-changes new (AtName d name (Some (DirNode i))) h = from_parts-changes (rename_dir n d name i) (rename_dir-changes d name i (sym h.1)) (Ok new)
+        rename_old-changes new (Itself d) h = no_change _
+
+        -- with the faults of the last components
+        rename_parts-changes : (old new : Result Parts Errno) → ComesTo (rename_parts n old new)
+        rename_parts-changes (Err e) new = no_change _
+        rename_parts-changes (Ok old) (Err e) = no_change _
+        rename_parts-changes (Ok old) (Ok new) =
+            unless-changes (rename_fault (last_of old.names) (last_of new.names)) (from_parts (Ok old) (rename_old n new)) (from_parts-changes (rename_old n new) (rename_old-changes new) (Ok old))
 
 -- read moves its descriptor's offset
 read_open-changes : (cells : Cells) (k fd len : ℕ) (o : OpenFile) → open_of cells fd ≡ Some o → ComesTo cells k true (read_open fd len o)
@@ -242,6 +342,9 @@ call-changes cells sound k (Ftruncate fd len) =
     with_open-changes cells k false fd is_writable (ftruncate_open len) (λ o is. or_else-changes cells k false (cut_file o.file) (to_size len) (λ size. cut_file-changes cells k false o.file size (by_open fd o is)))
 call-changes cells sound k (Stat path) = from_parts-changes cells k false sound stat_spot (stat_spot-changes cells k false) (parts_of path)
 call-changes cells sound k (Fstat fd) = with_open-changes cells k false fd any_open fstat_open (λ o is. no_change _)
+call-changes cells sound k (Link old new) = link_parts-changes cells k false sound (parts_of old) (parts_of new)
+call-changes cells sound k (Unlink path) = from_parts-changes cells k false sound unlink_spot (unlink_spot-changes cells k false) (parts_of path)
+call-changes cells sound k (Rename old new) = rename_parts-changes cells k false sound (stored_dirs cells) (stored-enough cells sound.tree) (parts_of old) (parts_of new)
 
 -- what only tells is told without a change
 pub only_tells-none : (cells : Cells) (k : ℕ) (reads : Bool) (o : Outcome) → Change cells k reads o → OnlyTells o.reply → o.writes ≡ []
@@ -249,6 +352,12 @@ only_tells-none cells k reads _ (no_change reply) tells = refl
 only_tells-none cells k reads _ (makes d name hangs empty) tells = absurd tells
 only_tells-none cells k reads _ (removes d name i is bare) tells = absurd tells
 only_tells-none cells k reads _ (creates_file flags d name hangs empty) tells = absurd tells
+only_tells-none cells k reads _ (links_file i d name named hangs empty) tells = absurd tells
+only_tells-none cells k reads _ (unlinks d name i is) tells = absurd tells
+only_tells-none cells k reads _ (moves_file d name i e other is hangs empty) tells = absurd tells
+only_tells-none cells k reads _ (replaces_file d name i e other j is was apart) tells = absurd tells
+only_tells-none cells k reads _ (moves_dir d name i e other is hangs clear empty) tells = absurd tells
+only_tells-none cells k reads _ (replaces_dir d name i e other j is was apart clear bare) tells = absurd tells
 only_tells-none cells k reads _ (on_files reply ws each acts lists) tells = absurd (acts tells)
 
 -- and so is a list, but that of a read
@@ -257,4 +366,10 @@ lists-none cells k _ (no_change reply) list = refl
 lists-none cells k _ (makes d name hangs empty) list = absurd list
 lists-none cells k _ (removes d name i is bare) list = absurd list
 lists-none cells k _ (creates_file flags d name hangs empty) list = absurd list
+lists-none cells k _ (links_file i d name named hangs empty) list = absurd list
+lists-none cells k _ (unlinks d name i is) list = absurd list
+lists-none cells k _ (moves_file d name i e other is hangs empty) list = absurd list
+lists-none cells k _ (replaces_file d name i e other j is was apart) list = absurd list
+lists-none cells k _ (moves_dir d name i e other is hangs clear empty) list = absurd list
+lists-none cells k _ (replaces_dir d name i e other j is was apart clear bare) list = absurd list
 lists-none cells k _ (on_files reply ws each acts lists) list = absurd (false≢true (lists list))

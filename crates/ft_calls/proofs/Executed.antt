@@ -1,6 +1,6 @@
 -- A call on the plain tree is the call on the stored cells.
-use Rattle.std.proofs.Common.{◌≡◌, ◌≢◌, ℕ, Bool, true, false, cond, ◌||◌, List, [], ◌∷◌, Option, Some, None, is_some, eqb-true, ne_eqb, refl, sym, ap, subst, ◌∙◌}
-use Rattle.std.specs.Prelude.{T, ◌==◌, nat_lt}
+use Rattle.std.proofs.Common.{◌≡◌, ◌≢◌, ℕ, suc, Bool, true, false, cond, ◌||◌, List, [], ◌∷◌, Option, Some, None, is_some, eqb-true, ne_eqb, refl, sym, ap, subst, ◌∙◌}
+use Rattle.std.specs.Prelude.{T, ◌==◌, ◌-◌, nat_lt}
 use Rattle.std.proofs.lemmas.Bool.{false≢true}
 use Rattle.std.proofs.lemmas.Map.Lookups.{exact_unsigned}
 use Rattle.std.proofs.lemmas.Option.{same_Some}
@@ -10,32 +10,35 @@ use Rattle.std.specs.List.{list_any}
 use Rattle.std.specs.Option.{option_map}
 use Rattle.std.specs.FinMap.{FinMap, get, contains_key, insert, entries, entries_sorted, is_sorted, get-insert, get-retain_keys, get-from_entries, from_sorted, get-from_sorted, entries-from_sorted, same_map}
 use Rattle.std.specs.FinMap.Entries.{below_all}
+use Rattle.ft_tree.specs.declared.node.Node.TheVariants.{Dir as DirNode, File as FileNode}
 use Rattle.ft_tree.specs.declared.open_file.OpenFile.{OpenFile}
 use Rattle.ft_tree.specs.Cells.{Cells, FileCells, parent_of, links_of, bytes_of, body_in, open_of, put_links, put_bytes, is_of_file, is_open, has_file, HasDirPlace}
 use Rattle.ft_tree.specs.Plain.{PlainTree}
 use Rattle.ft_tree.specs.Tidy.{opens_from, tidy}
-use Rattle.ft_tree.specs.Sound.{AreSoundCells, IsFree}
+use Rattle.ft_tree.specs.Sound.{IsNoDir, AreSoundCells, IsFree}
 use Rattle.ft_calls.specs.declared.call.OpenFlags.{OpenFlags}
 use Rattle.ft_calls.specs.Exec.{put_plain, put_all_plain, is_named_in, without_dead_files}
 use Rattle.ft_calls.specs.FileSteps.{creates, description}
 use Rattle.ft_calls.specs.Laws.{TidyingLaw}
-use Rattle.ft_calls.specs.Outcomes.{Write, Outcome}
+use Rattle.ft_calls.specs.LinkSteps.{linked, unlinked, renamed, with_parent}
+use Rattle.ft_calls.specs.Outcomes.{Write, SetParent, SetLinks, Outcome}
 use Rattle.ft_calls.specs.Stored.{put, put_all, after, outcome}
-use Rattle.ft_calls.proofs.Changes.{FileWrite, AreFileWrites, sets_bytes, closes, sets_open, Change, no_change, makes, removes, creates_file, on_files, made, removed, call-changes}
+use Rattle.ft_calls.proofs.Changes.{FileWrite, AreFileWrites, sets_bytes, closes, sets_open, Change, no_change, makes, removes, creates_file, links_file, unlinks, moves_file, replaces_file, moves_dir, replaces_dir, on_files, made, removed, call-changes}
 use Rattle.ft_calls.proofs.Conjunction.{first, second, both}
 use Rattle.ft_calls.proofs.Counting.{any-count}
 use Rattle.ft_calls.proofs.FileWrites.{parent-files, links-files, named-files}
 use Rattle.ft_calls.proofs.Kept.{soundness}
 use Rattle.ft_calls.proofs.Left.{value-other, above-not_root, other_than}
-use Rattle.ft_calls.proofs.Named.{by_open}
+use Rattle.ft_calls.proofs.Named.{Named, by_entry, by_open}
 use Rattle.ft_calls.proofs.Opens.{named-open}
-use Rattle.ft_calls.proofs.Parents.{contains-no_dir}
-use Rattle.ft_calls.proofs.Places.{dir_place-put_all}
+use Rattle.ft_calls.proofs.Parents.{contains-no_dir, no_dir-contains}
+use Rattle.ft_calls.proofs.Places.{body-place, dir_place-put_all, file_place-put_all}
 use Rattle.ft_calls.proofs.PlainPuts.{AreAlike, tidy-put_all}
 use Rattle.ft_calls.proofs.PlainSound.{links-no_dir, dir-no_file}
-use Rattle.ft_calls.proofs.Puts.{parent-put_all, links-put_all, open-put_all}
+use Rattle.ft_calls.proofs.Puts.{with_value, parent_after, links_after, bytes_after, open_after, parent-put_all, links-put_all, bytes-put_all, open-put_all}
+use Rattle.ft_calls.proofs.Rehung.{kept-hung, no_dir-dir_moved, no_dir-dir_replaced}
 use Rattle.ft_calls.proofs.Shown.{named-there, outcome-shown}
-use Rattle.ft_calls.proofs.Tidied.{get-files, contains-parent, same_plain}
+use Rattle.ft_calls.proofs.Tidied.{get-files, file_place-there, contains-parent, same_plain}
 
 -- Which files the descriptions of the plain tree name.
 
@@ -129,15 +132,17 @@ get-bytes_set : (m : FinMap nat_cmp (List ℕ)) (j : ℕ) (bytes : List ℕ) (i 
 get-bytes_set m j bytes i = get-insert nat_cmp_total m j bytes i ∙ ap (λ b. cond b (Some bytes) (get m i)) (unsigned_tied i j)
 
 module _ (cells : Cells) (sound : AreSoundCells cells) where
-  -- a file that no description names but those of files that were there, and whose links are as before, was there
-  there-before : (new : Cells) (i : ℕ) → links_of new i ≡ links_of cells i → ((f : ℕ) (o : OpenFile) → open_of new f ≡ Some o → o.file ≡ i → has_file cells i ≡ true) → has_file new i ≡ true → has_file cells i ≡ true
-  there-before new i links each there = by_links (nat_lt 0 (links_of cells i)) refl
+  -- a file that has links is there
+  links-there : (i links : ℕ) → links ≡ links_of cells i → nat_lt 0 links ≡ true → has_file cells i ≡ true
+  links-there i links same is = ap (λ b. b || is_open cells.opens i) (sym (ap (nat_lt 0) same) ∙ is)
+
+  -- a file was there, if it was where it has links, and no description names it but those of files that were there
+  there-before : (new : Cells) (i : ℕ) → (nat_lt 0 (links_of new i) ≡ true → has_file cells i ≡ true) → ((f : ℕ) (o : OpenFile) → open_of new f ≡ Some o → o.file ≡ i → has_file cells i ≡ true) → has_file new i ≡ true → has_file cells i ≡ true
+  there-before new i linked each there = by_links (nat_lt 0 (links_of new i)) refl
     where
-      by_links : (b : Bool) → nat_lt 0 (links_of cells i) ≡ b → has_file cells i ≡ true
-      by_links true is = ap (λ b. b || is_open cells.opens i) is
-      by_links false is =
-          let x = named-open new i (sym (ap (λ b. b || is_open new.opens i) (ap (nat_lt 0) links ∙ is)) ∙ there) in
-          each x.0 x.1 x.2 x.3
+      by_links : (b : Bool) → nat_lt 0 (links_of new i) ≡ b → has_file cells i ≡ true
+      by_links true is = linked is
+      by_links false is = let x = named-open new i (sym (ap (λ b. b || is_open new.opens i) is) ∙ there) in each x.0 x.1 x.2 x.3
 
   -- a file that a description names is there
   open-there : (f : ℕ) (o : OpenFile) → open_of cells f ≡ Some o → has_file cells o.file ≡ true
@@ -158,7 +163,7 @@ module _ (cells : Cells) (sound : AreSoundCells cells) where
 
     was_there : (i : ℕ) → i ≢ k → has_file (put_all cells created) i ≡ true → has_file cells i ≡ true
     was_there i other there =
-        there-before (put_all cells created) i (ap (λ f. f i) (links-put_all created cells) ∙ value-other (links_of cells) k 1 i other)
+        there-before (put_all cells created) i (links-there i _ (ap (λ f. f i) (links-put_all created cells) ∙ value-other (links_of cells) k 1 i other))
         (λ f o is file. by_number f o file (f == k) (sym (ap (λ g. g f) (open-put_all created cells)) ∙ is)) there
       where
         by_number : (f : ℕ) (o : OpenFile) → o.file ≡ i → (b : Bool) → cond b (Some (description flags k)) (open_of cells f) ≡ Some o → has_file cells i ≡ true
@@ -207,9 +212,50 @@ module _ (cells : Cells) (sound : AreSoundCells cells) where
           λ dir. let was_dir = dir-before (put_all cells ws) (dir_place-put_all ws cells 1 sound.root_is) (parent-put_all ws cells ∙ parent-files cells k ws h (parent_of cells)) i dir in
               still_none ws h (tidy cells) i (dir-no_file cells sound i was_dir) (dir-unstored i was_dir),
           λ there. still_same ws h cells (tidy cells) i ((own-files cells sound i).1
-              (there-before (put_all cells ws) i (ap (λ f. f i) (links-put_all ws cells ∙ links-files cells k ws h (links_of cells)))
+              (there-before (put_all cells ws) i (links-there i _ (ap (λ f. f i) (links-put_all ws cells ∙ links-files cells k ws h (links_of cells))))
               (λ f o is file. subst (λ j. has_file cells j ≡ true) file (was_open f o (sym (ap (λ g. g f) (open-put_all ws cells)) ∙ is))) there)),
         )
+
+  -- Entries, parents and links that are set: no bytes and no description, no directory where none was, and the links of files that were there.
+  module _ (ws : List Write) (new : AreSoundCells (put_all cells ws)) (files : (put_all_plain (tidy cells) ws).files ≡ (tidy cells).files) (bytes : bytes_after (bytes_of cells) ws ≡ bytes_of cells) (opens : open_after (open_of cells) ws ≡ open_of cells)
+      (no_dirs : (i : ℕ) → IsNoDir (parent_of cells) i → IsNoDir (parent_of (put_all cells ws)) i) (linked : (i : ℕ) → nat_lt 0 (links_after (links_of cells) ws i) ≡ true → has_file cells i ≡ true) where
+    -- a directory was one before
+    dir_was : (i : ℕ) → contains_key (tidy (put_all cells ws)).dirs i ≡ true → contains_key (tidy cells).dirs i ≡ true
+    dir_was i dir = by_dir (contains_key (tidy cells).dirs i) refl
+      where
+        by_dir : (b : Bool) → contains_key (tidy cells).dirs i ≡ b → contains_key (tidy cells).dirs i ≡ true
+        by_dir true is = is
+        by_dir false is = absurd (false≢true (sym (contains-no_dir (put_all cells ws) new i (no_dirs i (no_dir-contains cells sound i is))) ∙ dir))
+
+    -- a file was there before
+    file_was : (i : ℕ) → has_file (put_all cells ws) i ≡ true → has_file cells i ≡ true
+    file_was i there =
+        there-before (put_all cells ws) i (λ h. linked i (sym (ap (λ f. nat_lt 0 (f i)) (links-put_all ws cells)) ∙ h))
+        (λ f o is file. subst (λ j. has_file cells j ≡ true) file (open-there f o (sym (ap (λ g. g f) (open-put_all ws cells ∙ opens)) ∙ is))) there
+
+    -- with the same bytes
+    body_was : (i : ℕ) → has_file cells i ≡ true → body_in (put_all cells ws) i ≡ body_in cells i
+    body_was i there =
+        let place = file_place-there cells sound i there in
+        body-place (put_all cells ws) i (file_place-put_all ws cells i place) ∙ ap (λ f. Some (f i)) (bytes-put_all ws cells ∙ bytes) ∙ sym (body-place cells i place)
+
+    kept-files : HasFiles (put_all cells ws) (put_all_plain (tidy cells) ws)
+    kept-files i = (
+      λ dir. ap (λ m. get m i) files ∙ dir-unstored i (dir_was i dir),
+      λ there. let was = file_was i there in ap (λ m. get m i) files ∙ (own-files cells sound i).1 was ∙ sym (body_was i was),
+    )
+
+  -- where no parent is set, what was no directory is none
+  same-no_dirs : (ws : List Write) → parent_after (parent_of cells) ws ≡ parent_of cells → (i : ℕ) → IsNoDir (parent_of cells) i → IsNoDir (parent_of (put_all cells ws)) i
+  same-no_dirs ws same i h = (h.0, ap (λ f. f i) (parent-put_all ws cells ∙ same) ∙ h.1)
+
+  -- the links of a file that is named are set
+  named-linked : (i links : ℕ) → Named cells i → (n : ℕ) → nat_lt 0 (with_value (links_of cells) i links n) ≡ true → has_file cells n ≡ true
+  named-linked i links named n = by_number (n == i) refl
+    where
+      by_number : (b : Bool) → (n == i) ≡ b → nat_lt 0 (cond b links (links_of cells n)) ≡ true → has_file cells n ≡ true
+      by_number true at h = subst (λ j. has_file cells j ≡ true) (sym (eqb-true n i at)) (named-there cells sound i named)
+      by_number false at h = links-there n _ refl h
 
 -- After each change the plain tree has the files of the cells.
 change-files : (cells : Cells) → AreSoundCells cells → (k : ℕ) → IsFree cells k → (reads : Bool) (o : Outcome) → AreSoundCells (put_all cells o.writes) → Change cells k reads o → HasFiles (put_all cells o.writes) (put_all_plain (tidy cells) o.writes)
@@ -217,6 +263,25 @@ change-files cells sound k free reads _ new (no_change reply) = own-files cells 
 change-files cells sound k free reads _ new (makes d name hangs empty) = own-files (put_all cells (made k d name).writes) new
 change-files cells sound k free reads _ new (removes d name i is bare) = own-files (put_all cells (removed d name i).writes) new
 change-files cells sound k free reads _ new (creates_file flags d name hangs empty) = created-files cells sound k free flags d name
+change-files cells sound k free reads _ new (links_file i d name named hangs empty) =
+    let ws = (linked i d name (links_of cells i)).writes in kept-files cells sound ws new refl refl refl (same-no_dirs cells sound ws refl) (named-linked cells sound i (suc (links_of cells i)) named)
+change-files cells sound k free reads _ new (unlinks d name i is) =
+    let ws = (unlinked d name i (links_of cells i)).writes in kept-files cells sound ws new refl refl refl (same-no_dirs cells sound ws refl) (named-linked cells sound i (links_of cells i - 1) (by_entry d name i is))
+change-files cells sound k free reads _ new (moves_file d name i e other is hangs empty) =
+    let ws = (renamed d name (FileNode i) e other []).writes in kept-files cells sound ws new refl refl refl (same-no_dirs cells sound ws refl) (λ n. links-there cells sound n _ refl)
+change-files cells sound k free reads _ new (replaces_file d name i e other j is was apart) =
+    let ws = (renamed d name (FileNode i) e other (SetLinks j (links_of cells j - 1) ∷ [])).writes in
+    kept-files cells sound ws new refl refl refl (same-no_dirs cells sound ws refl) (named-linked cells sound j (links_of cells j - 1) (by_entry e other j was))
+change-files cells sound k free reads _ new (moves_dir d name i e other is hangs clear empty) =
+    let writes : List Write → List Write = λ more. (renamed d name (DirNode i) e other more).writes in
+    kept-files cells sound (writes (with_parent i d e)) new (kept-hung i d e (λ more. (put_all_plain (tidy cells) (writes more)).files) refl) (kept-hung i d e (λ more. bytes_after (bytes_of cells) (writes more)) refl)
+    (kept-hung i d e (λ more. open_after (open_of cells) (writes more)) refl) (no_dir-dir_moved cells sound d name i e other is clear empty)
+    (λ n. links-there cells sound n _ (ap (λ f. f n) (kept-hung i d e (λ more. links_after (links_of cells) (writes more)) refl)))
+change-files cells sound k free reads _ new (replaces_dir d name i e other j is was apart clear bare) =
+    let writes : List Write → List Write = λ more. (renamed d name (DirNode i) e other (SetParent j None ∷ more)).writes in
+    kept-files cells sound (writes (with_parent i d e)) new (kept-hung i d e (λ more. (put_all_plain (tidy cells) (writes more)).files) refl) (kept-hung i d e (λ more. bytes_after (bytes_of cells) (writes more)) refl)
+    (kept-hung i d e (λ more. open_after (open_of cells) (writes more)) refl) (no_dir-dir_replaced cells sound d name i e other j is was apart clear bare)
+    (λ n. links-there cells sound n _ (ap (λ f. f n) (kept-hung i d e (λ more. links_after (links_of cells) (writes more)) refl)))
 change-files cells sound k free reads _ new (on_files reply ws each acts lists) = written-files cells sound k ws each
 
 pub tidying : TidyingLaw

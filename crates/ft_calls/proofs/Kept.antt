@@ -1,15 +1,13 @@
 -- Each call leaves sound cells, and each other number that was free.
 use Rattle.std.proofs.Common.{◌≡◌, ◌≢◌, ◌+◌, ℕ, Bool, true, false, cond, ◌||◌, List, [], ◌∷◌, Option, Some, None, is_some, refl, sym, ap, subst, eqb-true, eq-eqb, ne_eqb, ◌∙◌}
 use Rattle.std.specs.Prelude.{◌==◌}
-use Rattle.std.proofs.lemmas.Option.{none-some, same_Some}
+use Rattle.std.proofs.lemmas.Option.{same_Some}
 use Rattle.std.proofs.Math.Bool.{or-true}
-use Rattle.std.specs.Option.{option_map}
 use Rattle.ft_tree.specs.declared.node.Node.{Node}
 use Rattle.ft_tree.specs.declared.node.Node.TheVariants.{Dir as DirNode, File as FileNode}
 use Rattle.ft_tree.specs.declared.open_file.OpenFile.{OpenFile}
-use Rattle.ft_tree.specs.Nodes.{number_of}
-use Rattle.ft_tree.specs.Cells.{Cells, dir_of, entry_of, parent_of, links_of, bytes_of, open_of, names_of, put_links, HasFilePlace}
-use Rattle.ft_tree.specs.Plain.{EdgeKey, links_in}
+use Rattle.ft_tree.specs.Cells.{Cells, entry_of, parent_of, links_of, bytes_of, open_of, put_links, HasFilePlace}
+use Rattle.ft_tree.specs.Plain.{links_in}
 use Rattle.ft_tree.specs.Tidy.{tidy}
 use Rattle.ft_tree.specs.Sound.{Hangs, IsNoDir, IsTree, AreSoundCells, IsFree}
 use Rattle.ft_calls.specs.declared.call.OpenFlags.{OpenFlags}
@@ -18,17 +16,16 @@ use Rattle.ft_calls.specs.Outcomes.{Write, SetEntry, SetBytes, SetOpen, Outcome}
 use Rattle.ft_calls.specs.FileSteps.{creates, description}
 use Rattle.ft_calls.specs.Stored.{put_all}
 use Rattle.ft_calls.proofs.Places.{file_place-put_all, file_place-set}
-use Rattle.ft_calls.proofs.Puts.{with_entry, with_parent, with_value, parent_after, entry-put_all}
-use Rattle.ft_calls.proofs.Listed.{dir_entry-none}
-use Rattle.ft_calls.proofs.Tidied.{get-tidy}
-use Rattle.ft_calls.proofs.Drawn.{edges-same, count-drawn, count-erased, count-other}
-use Rattle.ft_calls.proofs.Counting.{count_edges, count-none}
+use Rattle.ft_calls.proofs.Puts.{with_parent, with_value, parent_after, entry-put_all}
+use Rattle.ft_calls.proofs.Drawn.{edges-same, count-drawn, count-other}
+use Rattle.ft_calls.proofs.Counting.{count_edges}
 use Rattle.ft_calls.proofs.Made.{tree-made}
-use Rattle.ft_calls.proofs.Removed.{no_dir_left, none_left, tree-removed}
 use Rattle.ft_calls.proofs.Created.{tree-created}
 use Rattle.ft_calls.proofs.Named.{Named, by_open}
-use Rattle.ft_calls.proofs.Changes.{Change, no_change, makes, removes, creates_file, on_files, made, removed, AreFileWrites, call-changes}
+use Rattle.ft_calls.proofs.Changes.{Change, no_change, makes, removes, creates_file, links_file, unlinks, moves_file, replaces_file, moves_dir, replaces_dir, on_files, made, AreFileWrites, call-changes}
 use Rattle.ft_calls.proofs.Left.{shown, shown-no_dir, IsFile, links-shown, links-counted, named-file, sound-after, named-not_free, free-after, entries-apart, node-apart, value-other, above-not_root, other_than}
+use Rattle.ft_calls.proofs.Relinked.{sound-linked, free-linked, sound-unlinked, free-unlinked, sound-file_moved, free-file_moved, sound-file_replaced, free-file_replaced}
+use Rattle.ft_calls.proofs.Rehung.{sound-removed, free-removed, sound-dir_moved, free-dir_moved, sound-dir_replaced, free-dir_replaced}
 use Rattle.ft_calls.proofs.FileWrites.{entry-files, parent-files, links-files, bytes-files, open-files, named-files}
 
 -- The call with stamp k makes the directory k.
@@ -58,51 +55,6 @@ module _ (cells : Cells) (sound : AreSoundCells cells) (k : ℕ) (free : IsFree 
   free-made j too other =
       free-after cells made_writes j too.above_root (ap (λ b. cond b (Some d) (parent_of cells j)) (ne_eqb j k other) ∙ too.no_parent) too.no_links too.no_bytes too.no_open
       (entries-apart cells d name (Some (DirNode k)) j too (λ x. node-apart (DirNode k) x j other)) too.no_file
-
--- It removes the empty directory i.
-module _ (cells : Cells) (sound : AreSoundCells cells) (d : ℕ) (name : List ℕ) (i : ℕ) (is : entry_of cells d name ≡ Some (DirNode i)) (bare : names_of cells i ≡ []) where
-  abbrev removed_writes : List Write
-  removed_writes = (removed d name i).writes
-
-  no_entry : (other : List ℕ) → entry_of cells i other ≡ None
-  no_entry = dir_entry-none (dir_of cells i) bare
-
-  -- no edge that is left leads to it
-  count-gone : links_in (tidy (put_all cells removed_writes)) i ≡ 0
-  count-gone =
-      count-none (tidy (put_all cells removed_writes)).edges i
-      (λ e h. by_entry_of e (with_entry (entry_of cells) d name None e.0 e.1) refl (sym (get-tidy (put_all cells removed_writes) e.0 e.1 ∙ ap (λ f. option_map number_of (f e.0 e.1)) (entry-put_all removed_writes cells)) ∙ h))
-    where
-      by_entry_of : (e : EdgeKey) (o : Option Node) → with_entry (entry_of cells) d name None e.0 e.1 ≡ o → option_map number_of o ≡ Some i → ⊥
-      by_entry_of e None at h = none-some i h
-      by_entry_of e (Some x) at h = none_left (entry_of cells) (parent_of cells) sound.tree d name i is no_entry e.0 e.1 x at (same_Some (number_of x) i h)
-
-  -- and the edges to others stay
-  count-left : (j : ℕ) → j ≢ i → links_in (tidy (put_all cells removed_writes)) j ≡ links_in (tidy cells) j
-  count-left j other = sym (count-other i j _ _ other (sym (count-erased cells (put_all cells removed_writes) d name (DirNode i) (entry-put_all removed_writes cells) is j)))
-
-  links-removed : (j : ℕ) → links_of cells j ≡ shown (put_all cells removed_writes) (with_parent (parent_of cells) i None) j
-  links-removed j = by_number (j == i) refl
-    where
-      none : (b : Bool) → ◌≡◌ {A = ℕ} (cond (b || false) 0 0) 0
-      none true = refl
-      none false = refl
-
-      by_number : (b : Bool) → (j == i) ≡ b → links_of cells j ≡ cond ((j == 1) || is_some (cond b None (parent_of cells j))) 0 (links_in (tidy (put_all cells removed_writes)) j)
-      by_number true at =
-          ap (links_of cells) (eqb-true j i at) ∙ links-shown cells sound i ∙ ap (λ o. cond ((i == 1) || is_some o) 0 (links_in (tidy cells) i)) (sound.tree.leads d name i is)
-          ∙ ap (λ b. cond b 0 (links_in (tidy cells) i)) (or-true (i == 1)) ∙ sym (ap (cond ((j == 1) || false) 0) (ap (links_in (tidy (put_all cells removed_writes))) (eqb-true j i at) ∙ count-gone) ∙ none (j == 1))
-      by_number false at = links-shown cells sound j ∙ ap (cond ((j == 1) || is_some (parent_of cells j)) 0) (sym (count-left j (other_than j i at)))
-
-  sound-removed : AreSoundCells (put_all cells removed_writes)
-  sound-removed =
-      sound-after cells sound removed_writes (tree-removed (entry_of cells) (parent_of cells) sound.tree d name i is no_entry) links-removed
-      (λ f o h. let file = sound.opens f o h in (file_place-put_all removed_writes cells o.file file.0, no_dir_left (entry_of cells) (parent_of cells) sound.tree d name i is no_entry o.file file.1))
-
-  free-removed : (j : ℕ) → IsFree cells j → IsFree (put_all cells removed_writes) j
-  free-removed j too =
-      free-after cells removed_writes j too.above_root (elim (j == i) as (λ b. cond b None (parent_of cells j) ≡ None) [ true ↦ refl | false ↦ too.no_parent ]) too.no_links too.no_bytes too.no_open
-      (entries-apart cells d name None j too (λ x h. absurd (none-some x h))) too.no_file
 
 -- It makes the file k, with a description.
 module _ (cells : Cells) (sound : AreSoundCells cells) (k : ℕ) (free : IsFree cells k) (flags : OpenFlags) (d : ℕ) (name : List ℕ) (hangs : Hangs (parent_of cells) d) (empty : entry_of cells d name ≡ None) where
@@ -178,6 +130,12 @@ change-sound cells k reads sound free _ (no_change reply) = sound
 change-sound cells k reads sound free _ (makes d name hangs empty) = sound-made cells sound k free d name hangs empty
 change-sound cells k reads sound free _ (removes d name i is bare) = sound-removed cells sound d name i is bare
 change-sound cells k reads sound free _ (creates_file flags d name hangs empty) = sound-created cells sound k free flags d name hangs empty
+change-sound cells k reads sound free _ (links_file i d name named hangs empty) = sound-linked cells sound i d name named hangs empty
+change-sound cells k reads sound free _ (unlinks d name i is) = sound-unlinked cells sound d name i is
+change-sound cells k reads sound free _ (moves_file d name i e other is hangs empty) = sound-file_moved cells sound d name i e other is hangs empty
+change-sound cells k reads sound free _ (replaces_file d name i e other j is was apart) = sound-file_replaced cells sound d name i e other j is was apart
+change-sound cells k reads sound free _ (moves_dir d name i e other is hangs clear empty) = sound-dir_moved cells sound d name i e other is clear empty
+change-sound cells k reads sound free _ (replaces_dir d name i e other j is was apart clear bare) = sound-dir_replaced cells sound d name i e other j is was apart clear bare
 change-sound cells k reads sound free _ (on_files reply ws each acts lists) = sound-files cells k sound ws each
 
 pub soundness : SoundnessLaw
@@ -189,6 +147,12 @@ change-free cells k reads sound free _ (no_change reply) j too other = too
 change-free cells k reads sound free _ (makes d name hangs empty) j too other = free-made cells sound k free d name hangs empty j too other
 change-free cells k reads sound free _ (removes d name i is bare) j too other = free-removed cells sound d name i is bare j too
 change-free cells k reads sound free _ (creates_file flags d name hangs empty) j too other = free-created cells sound k free flags d name hangs empty j too other
+change-free cells k reads sound free _ (links_file i d name named hangs empty) j too other = free-linked cells sound i d name named hangs empty j too
+change-free cells k reads sound free _ (unlinks d name i is) j too other = free-unlinked cells sound d name i is j too
+change-free cells k reads sound free _ (moves_file d name i e new is hangs empty) j too other = free-file_moved cells sound d name i e new is hangs empty j too
+change-free cells k reads sound free _ (replaces_file d name i e new n is was apart) j too other = free-file_replaced cells sound d name i e new n is was apart j too
+change-free cells k reads sound free _ (moves_dir d name i e new is hangs clear empty) j too other = free-dir_moved cells sound d name i e new is clear empty j too
+change-free cells k reads sound free _ (replaces_dir d name i e new n is was apart clear bare) j too other = free-dir_replaced cells sound d name i e new n is was apart clear bare j too
 change-free cells k reads sound free _ (on_files reply ws each acts lists) j too other = free-files cells k ws each j too other
 
 pub freshness : FreshnessLaw

@@ -11,7 +11,7 @@ use Rattle.std.specs.FinMap.{FinMap, find, get, entries, entries_sorted, get-ent
 use Rattle.std.specs.FinMap.Entries.{below_all}
 use Rattle.ft_tree.specs.declared.node.Node.{Node}
 use Rattle.ft_tree.specs.Cells.{DirCells, filled, dir_names, dir_entry}
-use Rattle.ft_calls.proofs.Conjunction.{first, second}
+use Rattle.ft_calls.proofs.Conjunction.{both, first, second}
 
 -- what tests as less is Less
 pub lesser : (r : Ordering) → T (is_lt r) → r ≡ Less
@@ -63,3 +63,15 @@ none_filled name ((other, Some i) ∷ es) h = cc
 -- a directory whose list of names is empty has no entry
 pub dir_entry-none : (x : DirCells) → dir_names x ≡ [] → (name : List ℕ) → dir_entry x name ≡ None
 dir_entry-none x h name = ap option_flatten (get-entries x.entries name) ∙ none_filled name (entries x.entries) h
+
+-- names are in order without the empty places too
+below_filled : (name : List ℕ) (es : List (List ℕ × Option Node)) → T (below_all (slice_cmp nat_cmp) name es) → T (below_all (slice_cmp nat_cmp) name (filter_map filled es))
+below_filled name [] h = tt
+below_filled name ((other, None) ∷ es) h = below_filled name es (second _ _ h)
+below_filled name ((other, Some x) ∷ es) h = both _ _ (first _ _ h) (below_filled name es (second _ _ h))
+
+-- so they stay in order
+pub sorted_filled : (es : List (List ℕ × Option Node)) → T (is_sorted (slice_cmp nat_cmp) es) → T (is_sorted (slice_cmp nat_cmp) (filter_map filled es))
+sorted_filled [] h = tt
+sorted_filled ((name, None) ∷ es) h = sorted_filled es (second _ _ h)
+sorted_filled ((name, Some x) ∷ es) h = both _ _ (below_filled name es (first _ _ h)) (sorted_filled es (second _ _ h))

@@ -1,10 +1,10 @@
 -- What the calls look at: beside the bytes of files that are named, only what the plain tree shows as the stored cells do.
-use Rattle.std.proofs.Common.{◌≡◌, ℕ, ℤ, Bool, true, false, cond, length, List, [], ◌∷◌, Option, Some, None, unwrap_or, Result, Ok, Err, refl, sym}
+use Rattle.std.proofs.Common.{◌≡◌, ℕ, zero, suc, ℤ, Bool, true, false, cond, length, List, [], ◌∷◌, Option, Some, None, unwrap_or, Result, Ok, Err, refl, sym}
 use Rattle.std.specs.Prelude.{◌==◌, ◌&&◌, not, nat_le}
 use Rattle.ft_body.specs.declared.TheConstants.{SIZE_LIMIT}
 use Rattle.ft_path.specs.Name.{is_dot, is_dot_dot}
 use Rattle.ft_path.specs.declared.errno.Errno.{Errno}
-use Rattle.ft_path.specs.declared.errno.Errno.TheVariants.{EINVAL, EBADF, EFBIG}
+use Rattle.ft_path.specs.declared.errno.Errno.TheVariants.{ENOENT, EINVAL, EBADF, EFBIG}
 use Rattle.ft_path.specs.declared.path.Parts.{Parts}
 use Rattle.ft_path.specs.FilePath.{parts_of}
 use Rattle.ft_tree.specs.declared.cell.Cell.{Cell}
@@ -18,12 +18,14 @@ use Rattle.ft_tree.specs.Looks.{Looks, Answer, Look, answer, looked_at, then, or
 use Rattle.ft_tree.specs.Walk.{Spot, Named as AtName, Itself, up, passed, inner, reached, last, walk_from, walk}
 use Rattle.ft_tree.specs.Sound.{AreSoundCells}
 use Rattle.ft_calls.specs.declared.call.Call.{Call}
-use Rattle.ft_calls.specs.declared.call.Call.TheVariants.{Mkdir, Rmdir, List as ListDir, Open, Close, Read, Write as WriteCall, Pread, Pwrite, Lseek, Truncate, Ftruncate, Stat, Fstat}
+use Rattle.ft_calls.specs.declared.call.Call.TheVariants.{Mkdir, Rmdir, List as ListDir, Open, Close, Read, Write as WriteCall, Pread, Pwrite, Lseek, Truncate, Ftruncate, Stat, Fstat, Link, Unlink, Rename}
 use Rattle.ft_calls.specs.declared.call.OpenFlags.{OpenFlags}
 use Rattle.ft_calls.specs.declared.call.Whence.{Whence}
 use Rattle.ft_calls.specs.declared.call.Whence.TheVariants.{Set, Cur, End}
-use Rattle.ft_calls.specs.Outcomes.{Outcome, failed, from_parts, unless}
+use Rattle.ft_calls.specs.declared.call.Reply.TheVariants.{Done}
+use Rattle.ft_calls.specs.Outcomes.{Outcome, failed, told, from_parts, unless}
 use Rattle.ft_calls.specs.DirSteps.{make_dir, remove_dir, last_of, last_fault, remove_parts, list_dir}
+use Rattle.ft_calls.specs.LinkSteps.{link_new, link_old, link_parts, unlink_spot, climb, unless_below, rename_fault, replace_dir, rename_file, rename_dir, rename_old, rename_parts}
 use Rattle.ft_calls.specs.FileSteps.{open_spot, open_parts, on_open, with_open, any_open, is_readable, is_writable, close_open, read_open, not_negative, pread_at, pread_open, write_place, write_at, write_open, pwrite_at, pwrite_open, seek_from, moved, sought, seek_open, to_size, cut_file, truncate_spot, truncate_parts, ftruncate_open, stat_spot, fstat_open}
 use Rattle.ft_calls.specs.Steps.{steps}
 use Rattle.ft_calls.proofs.Named.{Named, by_entry, by_open}
@@ -91,6 +93,16 @@ module _ (cells : Cells) where
   walk-shown [] trailing = tt
   walk-shown (name ∷ names) trailing = walk_from-shown names 1 name trailing
 
+  -- And a climb at parents.
+
+  climb-shown : (n i d : ℕ) → LooksWell (climb n i d)
+  climb-shown zero i d = tt
+  climb-shown (suc n) i d = either-shown (d == i) (Answer true) _ tt (either-shown (d == 1) (Answer false) _ tt (tt, climb-shown n i _))
+
+  unless_below-shown : (n i e : ℕ) (go : Looks Outcome) → LooksWell go → LooksWell (unless_below n i e go)
+  unless_below-shown n i e go h =
+      then-shown (climb n i e) (λ met. cond met (Answer (failed EINVAL)) go) (climb-shown n i e) (either-shown (answer (climb n i e) (view_of cells)) (Answer (failed EINVAL)) go tt h)
+
   -- A call looks at a file only that its path leads to, or its descriptor.
 
   remove_dir-shown : (spot : Spot) → IsSpot cells spot → LooksWell (remove_dir spot)
@@ -121,6 +133,29 @@ module _ (cells : Cells) where
   stat_spot-shown (AtName d name (Some (DirNode i))) h = tt
   stat_spot-shown (AtName d name (Some (FileNode i))) h = (tt, (by_entry d name i (sym h.1), tt))
   stat_spot-shown (Itself d) h = tt
+
+  link_new-shown : (i : ℕ) (trailing : Bool) (spot : Spot) → IsSpot cells spot → LooksWell (link_new i trailing spot)
+  link_new-shown i trailing (AtName d name None) h = either-shown trailing (Answer (failed ENOENT)) _ tt (tt, tt)
+  link_new-shown i trailing (AtName d name (Some x)) h = tt
+  link_new-shown i trailing (Itself d) h = tt
+
+  unlink_spot-shown : (spot : Spot) → IsSpot cells spot → LooksWell (unlink_spot spot)
+  unlink_spot-shown (AtName d name None) h = tt
+  unlink_spot-shown (AtName d name (Some (DirNode i))) h = tt
+  unlink_spot-shown (AtName d name (Some (FileNode i))) h = (tt, tt)
+  unlink_spot-shown (Itself d) h = tt
+
+  rename_file-shown : (d : ℕ) (name : List ℕ) (i : ℕ) (trailing : Bool) (spot : Spot) → IsSpot cells spot → LooksWell (rename_file d name i trailing spot)
+  rename_file-shown d name i trailing (AtName e other None) h = tt
+  rename_file-shown d name i trailing (AtName e other (Some (DirNode j))) h = tt
+  rename_file-shown d name i trailing (AtName e other (Some (FileNode j))) h = either-shown (i == j) (Answer (told Done)) _ tt (tt, tt)
+  rename_file-shown d name i trailing (Itself e) h = tt
+
+  rename_dir-shown : (n d : ℕ) (name : List ℕ) (i : ℕ) (spot : Spot) → IsSpot cells spot → LooksWell (rename_dir n d name i spot)
+  rename_dir-shown n d name i (AtName e other None) h = unless_below-shown n i e _ tt
+  rename_dir-shown n d name i (AtName e other (Some (DirNode j))) h = either-shown (i == j) (Answer (told Done)) _ tt (unless_below-shown n i e (replace_dir d name i e other j) (tt, tt))
+  rename_dir-shown n d name i (AtName e other (Some (FileNode j))) h = tt
+  rename_dir-shown n d name i (Itself e) h = tt
 
   with_open-shown : (fd : ℕ) (fits : OpenFile → Bool) (go : OpenFile → Looks Outcome) → ((o : OpenFile) → Named cells o.file → LooksWell (go o)) → LooksWell (with_open fd fits go)
   with_open-shown fd fits go each = (tt, by_place (open_of cells fd) refl)
@@ -156,7 +191,7 @@ module _ (cells : Cells) where
     from_parts-shown go each (Err e) = tt
     from_parts-shown go each (Ok parts) =
         then-shown (walk parts.names parts.trailing) (or_else failed go) (walk-shown parts.names parts.trailing)
-        (spot-shown go each _ (walk-ends cells sound parts.names parts.trailing))
+        (spot-shown go each _ (walk-ends cells sound.tree parts.names parts.trailing))
 
     remove_parts-shown : (parts : Result Parts Errno) → LooksWell (remove_parts parts)
     remove_parts-shown (Err e) = tt
@@ -173,23 +208,51 @@ module _ (cells : Cells) where
     truncate_parts-shown len (Ok parts) =
         or_else-shown failed (λ size. from_parts (Ok parts) (truncate_spot size)) (to_size len) (λ size. from_parts-shown (truncate_spot size) (truncate_spot-shown size) (Ok parts))
 
+    -- A path leads on from where another one led.
+
+    link_old-shown : (new : Parts) (spot : Spot) → IsSpot cells spot → LooksWell (link_old new spot)
+    link_old-shown new (AtName d name None) h = tt
+    link_old-shown new (AtName d name (Some (DirNode i))) h = tt
+    link_old-shown new (AtName d name (Some (FileNode i))) h = from_parts-shown (link_new i new.trailing) (link_new-shown i new.trailing) (Ok new)
+    link_old-shown new (Itself d) h = tt
+
+    link_parts-shown : (old new : Result Parts Errno) → LooksWell (link_parts old new)
+    link_parts-shown (Err e) new = tt
+    link_parts-shown (Ok old) (Err e) = tt
+    link_parts-shown (Ok old) (Ok new) = from_parts-shown (link_old new) (link_old-shown new) (Ok old)
+
+    rename_old-shown : (n : ℕ) (new : Parts) (spot : Spot) → IsSpot cells spot → LooksWell (rename_old n new spot)
+    rename_old-shown n new (AtName d name None) h = tt
+    rename_old-shown n new (AtName d name (Some (DirNode i))) h = from_parts-shown (rename_dir n d name i) (rename_dir-shown n d name i) (Ok new)
+    rename_old-shown n new (AtName d name (Some (FileNode i))) h = from_parts-shown (rename_file d name i new.trailing) (rename_file-shown d name i new.trailing) (Ok new)
+    rename_old-shown n new (Itself d) h = tt
+
+    rename_parts-shown : (n : ℕ) (old new : Result Parts Errno) → LooksWell (rename_parts n old new)
+    rename_parts-shown n (Err e) new = tt
+    rename_parts-shown n (Ok old) (Err e) = tt
+    rename_parts-shown n (Ok old) (Ok new) =
+        unless-shown (rename_fault (last_of old.names) (last_of new.names)) (from_parts (Ok old) (rename_old n new)) (from_parts-shown (rename_old n new) (rename_old-shown n new) (Ok old))
+
 -- on sound cells each cell that a call looks at is one that the plain tree shows alike
-pub call-looks : (cells : Cells) → AreSoundCells cells → (k : ℕ) (call : Call) → AllShown cells (looked_at (steps k call) (view_of cells))
-call-looks cells sound k (Mkdir path) = from_parts-shown cells sound (make_dir k) (make_dir-shown cells k) (parts_of path)
-call-looks cells sound k (Rmdir path) = remove_parts-shown cells sound (parts_of path)
-call-looks cells sound k (ListDir path) = from_parts-shown cells sound list_dir (list_dir-shown cells) (parts_of path)
-call-looks cells sound k (Open path access create excl trunc append) = open_parts-shown cells sound k _ (parts_of path)
-call-looks cells sound k (Close fd) = with_open-shown cells fd any_open (close_open fd) (λ o named. (tt, tt))
-call-looks cells sound k (Read fd len) = with_open-shown cells fd is_readable (read_open fd len) (λ o named. (named, tt))
-call-looks cells sound k (WriteCall fd bytes) = with_open-shown cells fd is_writable (write_open fd bytes) (write_open-shown cells fd bytes)
-call-looks cells sound k (Pread fd off len) =
+pub call-looks : (cells : Cells) → AreSoundCells cells → (n k : ℕ) (call : Call) → AllShown cells (looked_at (steps n k call) (view_of cells))
+call-looks cells sound n k (Mkdir path) = from_parts-shown cells sound (make_dir k) (make_dir-shown cells k) (parts_of path)
+call-looks cells sound n k (Rmdir path) = remove_parts-shown cells sound (parts_of path)
+call-looks cells sound n k (ListDir path) = from_parts-shown cells sound list_dir (list_dir-shown cells) (parts_of path)
+call-looks cells sound n k (Open path access create excl trunc append) = open_parts-shown cells sound k _ (parts_of path)
+call-looks cells sound n k (Close fd) = with_open-shown cells fd any_open (close_open fd) (λ o named. (tt, tt))
+call-looks cells sound n k (Read fd len) = with_open-shown cells fd is_readable (read_open fd len) (λ o named. (named, tt))
+call-looks cells sound n k (WriteCall fd bytes) = with_open-shown cells fd is_writable (write_open fd bytes) (write_open-shown cells fd bytes)
+call-looks cells sound n k (Pread fd off len) =
     with_open-shown cells fd is_readable (pread_open off len) (λ o named. or_else-shown cells failed (pread_at len o) (not_negative off) (λ at. (named, tt)))
-call-looks cells sound k (Pwrite fd off bytes) =
+call-looks cells sound n k (Pwrite fd off bytes) =
     with_open-shown cells fd is_writable (pwrite_open off bytes) (λ o named. or_else-shown cells failed (pwrite_at o bytes) (not_negative off) (pwrite_at-shown cells o named bytes))
-call-looks cells sound k (Lseek fd whence off) =
+call-looks cells sound n k (Lseek fd whence off) =
     with_open-shown cells fd any_open (seek_open fd whence off) (λ o named. then-shown cells (seek_from whence o) (λ from. Answer (sought fd o (moved from off))) (seek_from-shown cells whence o named) tt)
-call-looks cells sound k (Truncate len path) = truncate_parts-shown cells sound len (parts_of path)
-call-looks cells sound k (Ftruncate fd len) =
+call-looks cells sound n k (Truncate len path) = truncate_parts-shown cells sound len (parts_of path)
+call-looks cells sound n k (Ftruncate fd len) =
     with_open-shown cells fd is_writable (ftruncate_open len) (λ o named. or_else-shown cells failed (cut_file o.file) (to_size len) (λ size. (named, tt)))
-call-looks cells sound k (Stat path) = from_parts-shown cells sound stat_spot (stat_spot-shown cells) (parts_of path)
-call-looks cells sound k (Fstat fd) = with_open-shown cells fd any_open fstat_open (λ o named. (tt, (named, tt)))
+call-looks cells sound n k (Stat path) = from_parts-shown cells sound stat_spot (stat_spot-shown cells) (parts_of path)
+call-looks cells sound n k (Fstat fd) = with_open-shown cells fd any_open fstat_open (λ o named. (tt, (named, tt)))
+call-looks cells sound n k (Link old new) = link_parts-shown cells sound (parts_of old) (parts_of new)
+call-looks cells sound n k (Unlink path) = from_parts-shown cells sound unlink_spot (unlink_spot-shown cells) (parts_of path)
+call-looks cells sound n k (Rename old new) = rename_parts-shown cells sound n (parts_of old) (parts_of new)

@@ -6,16 +6,16 @@ use Rattle.std.specs.declared.cmp.Ordering.TheVariants.{Equal}
 use Rattle.std.specs.Ordering.{nat_cmp, is_lt, ordering_then}
 use Rattle.std.specs.Cmp.{unsigned_tied, nat_cmp_total, tied_itself}
 use Rattle.std.specs.Cmp.Lexicographic.{slice_cmp}
-use Rattle.std.specs.List.{AllByRecursion, filter_map}
+use Rattle.std.specs.List.{AllByRecursion}
 use Rattle.std.specs.Option.{option_map}
-use Rattle.std.specs.FinMap.{get, entries, entries_sorted, is_sorted, retain_keys, get-retain_keys, from_sorted, get-from_sorted, entries-from_sorted, same_map}
+use Rattle.std.specs.FinMap.{get, len, entries, entries_sorted, is_sorted, retain_keys, get-retain_keys, from_sorted, get-from_sorted, entries-from_sorted, same_map}
 use Rattle.std.specs.FinMap.Entries.{below_all}
 use Rattle.ft_tree.specs.declared.node.Node.{Node}
 use Rattle.ft_tree.specs.declared.node.Node.TheVariants.{Dir as DirNode, File as FileNode}
 use Rattle.ft_tree.specs.declared.cell.Cell.{Cell}
 use Rattle.ft_tree.specs.declared.cell.Cell.TheVariants.{Entry, Names, Parent, Links, Bytes, Fd}
 use Rattle.ft_tree.specs.Nodes.{number_of}
-use Rattle.ft_tree.specs.Cells.{Cells, dir_of, dir_entry, filled, entry_of, names_of, links_of, bytes_of, has_file}
+use Rattle.ft_tree.specs.Cells.{Cells, dir_of, dir_entry, stored_dirs, entry_of, names_of, links_of, bytes_of, has_file}
 use Rattle.ft_tree.specs.Views.{view_of}
 use Rattle.ft_tree.specs.Looks.{Agree, answer, looked_at, answer-agree}
 use Rattle.ft_tree.specs.Plain.{EdgeKey, edge_cmp, node_in, names_in, view_in}
@@ -24,8 +24,9 @@ use Rattle.ft_tree.specs.Sound.{AreSoundCells}
 use Rattle.ft_calls.specs.declared.call.Call.{Call}
 use Rattle.ft_calls.specs.Steps.{steps}
 use Rattle.ft_calls.specs.Stored.{outcome}
+use Rattle.ft_calls.proofs.Climbing.{stored-enough, dirs-enough, steps-alike}
 use Rattle.ft_calls.proofs.Conjunction.{first, second, both}
-use Rattle.ft_calls.proofs.Listed.{dir_names-entry}
+use Rattle.ft_calls.proofs.Listed.{dir_names-entry, sorted_filled}
 use Rattle.ft_calls.proofs.Looked.{IsShown, AllShown, call-looks}
 use Rattle.ft_calls.proofs.Named.{Named, by_entry, by_open}
 use Rattle.ft_calls.proofs.Opens.{open-named}
@@ -34,17 +35,6 @@ use Rattle.ft_calls.proofs.PlainSound.{file-edge}
 use Rattle.ft_calls.proofs.Tidied.{edge_total, edge_exact, edges_named, edges_named-find, dir_names-find, get-tidy, get-bytes, get-opens}
 
 -- Lists of names in order.
-
--- names are in order without the empty places too
-below_filled : (name : List ℕ) (es : List (List ℕ × Option Node)) → T (below_all (slice_cmp nat_cmp) name es) → T (below_all (slice_cmp nat_cmp) name (filter_map filled es))
-below_filled name [] h = tt
-below_filled name ((other, None) ∷ es) h = below_filled name es (second _ _ h)
-below_filled name ((other, Some x) ∷ es) h = both _ _ (first _ _ h) (below_filled name es (second _ _ h))
-
-sorted_filled : (es : List (List ℕ × Option Node)) → T (is_sorted (slice_cmp nat_cmp) es) → T (is_sorted (slice_cmp nat_cmp) (filter_map filled es))
-sorted_filled [] h = tt
-sorted_filled ((name, None) ∷ es) h = sorted_filled es (second _ _ h)
-sorted_filled ((name, Some x) ∷ es) h = both _ _ (below_filled name es (first _ _ h)) (sorted_filled es (second _ _ h))
 
 -- edges of one directory are in the order of their names
 less_edge : (d : ℕ) (name other : List ℕ) → T (is_lt (slice_cmp nat_cmp name other)) → T (is_lt (edge_cmp (d, name) (d, other)))
@@ -122,6 +112,9 @@ module _ (cells : Cells) (sound : AreSoundCells cells) where
   all-shown [] shown = tt
   all-shown (c ∷ cs) shown = (sym (cell-shown c shown.0), all-shown cs shown.1)
 
-  -- so a call comes to the same on the plain tree as on the cells
-  pub outcome-shown : (k : ℕ) (call : Call) → answer (steps k call) (view_in (tidy cells)) ≡ outcome cells k call
-  outcome-shown k call = sym (answer-agree (steps k call) (view_of cells) (view_in (tidy cells)) (all-shown (looked_at (steps k call) (view_of cells)) (call-looks cells sound k call)))
+  -- so a call comes to the same on the plain tree as on the cells: the directories of either are enough
+  pub outcome-shown : (k : ℕ) (call : Call) → answer (steps (len (tidy cells).dirs) k call) (view_in (tidy cells)) ≡ outcome cells k call
+  outcome-shown k call =
+      let n = len (tidy cells).dirs in
+      sym (answer-agree (steps n k call) (view_of cells) (view_in (tidy cells)) (all-shown (looked_at (steps n k call) (view_of cells)) (call-looks cells sound n k call)))
+      ∙ (steps-alike cells sound.tree n (stored_dirs cells) (dirs-enough cells sound) (stored-enough cells sound.tree) k call).0

@@ -11,7 +11,7 @@ use Rattle.ft_tree.specs.Cells.{Cells, entry_of, parent_of}
 use Rattle.ft_tree.specs.Views.{view_of}
 use Rattle.ft_tree.specs.Looks.{Looks, Answer, Look, answer, then, or_else, answer-then}
 use Rattle.ft_tree.specs.Walk.{Spot, Named, Itself, up, passed, inner, reached, last, walk_from, walk}
-use Rattle.ft_tree.specs.Sound.{Hangs, the_root, under, AreSoundCells}
+use Rattle.ft_tree.specs.Sound.{Hangs, the_root, under, IsTree, AreSoundCells}
 use Rattle.ft_calls.specs.Perform.{IsSpotIn}
 use Rattle.ft_calls.proofs.Places.{dir_place-hangs}
 
@@ -31,7 +31,7 @@ module _ (cells : Cells) where
   GoesWell (Ok d) = Hangs (parent_of cells) d
   GoesWell (Err e) = Unit {0}
 
-  module _ (sound : AreSoundCells cells) where
+  module _ (tree : IsTree (entry_of cells) (parent_of cells)) where
     -- the parent of a directory of the tree is one
     up-hangs : (d : ℕ) → Hangs (parent_of cells) d → Hangs (parent_of cells) (answer (up d) (view_of cells))
     up-hangs d h = by_root d (d == 1) refl h
@@ -44,7 +44,7 @@ module _ (cells : Cells) where
     -- what an entry of the tree leads to is in the tree
     passed-goes : (d : ℕ) (name : List ℕ) (x : Option Node) → entry_of cells d name ≡ x → Hangs (parent_of cells) d → GoesWell (passed x)
     passed-goes d name None is h = tt
-    passed-goes d name (Some (DirNode i)) is h = under i d (sound.tree.leads d name i is) h
+    passed-goes d name (Some (DirNode i)) is h = under i d (tree.leads d name i is) h
     passed-goes d name (Some (FileNode i)) is h = tt
 
     -- a component that is not the last leads to a directory of the tree
@@ -96,7 +96,7 @@ module _ (cells : Cells) where
 
 -- so a walk ends in a directory that is stored, and tells what the name leads to there
 pub spot-in : (cells : Cells) → AreSoundCells cells → (names : List (List ℕ)) (trailing : Bool) (spot : Spot) → Ok spot ≡ answer (walk names trailing) (view_of cells) → IsSpotIn cells spot
-spot-in cells sound names trailing spot led = by_spot spot (subst (EndsWell cells) (sym led) (walk-ends cells sound names trailing))
+spot-in cells sound names trailing spot led = by_spot spot (subst (EndsWell cells) (sym led) (walk-ends cells sound.tree names trailing))
   where
     by_spot : (spot : Spot) → IsSpot cells spot → IsSpotIn cells spot
     by_spot (Named d name x) h = (dir_place-hangs cells sound d h.0, h.1)

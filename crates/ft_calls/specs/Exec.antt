@@ -49,4 +49,4 @@ without_dead_files p = record p { files = finite.retain_keys p.files (is_named_i
 
 -- the call with stamp k: the tree after it, and its reply
 abbrev pub exec : PlainTree → ℕ → Call → PlainTree × Reply
-exec p k call = let outcome = answer (steps k call) (view_in p) in (without_dead_files (put_all_plain p outcome.writes), outcome.reply)
+exec p k call = let outcome = answer (steps (finite.len p.dirs) k call) (view_in p) in (without_dead_files (put_all_plain p outcome.writes), outcome.reply)

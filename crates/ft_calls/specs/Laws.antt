@@ -1,11 +1,18 @@
 -- Laws of the calls.
-use Rattle.std.specs.Prelude.{◌≡◌, ◌≢◌, ℕ}
+use Rattle.std.specs.Prelude.{◌≡◌, ◌≢◌, ℕ, Bool, false, ◌&&◌, List, [], ◌∷◌}
+use Rattle.std.specs.List.{list_any}
+use Rattle.ft_tree.specs.declared.cell.Cell.{Cell}
+use Rattle.ft_tree.specs.CellOrder.{overlap}
+use Rattle.ft_tree.specs.Views.{view_of}
 use Rattle.ft_tree.specs.Cells.{Cells}
 use Rattle.ft_tree.specs.Sound.{AreSoundCells, IsFree, IsSoundTree, KeepsValues}
 use Rattle.ft_tree.specs.Tidy.{tidy}
 use Rattle.ft_calls.specs.declared.call.Call.{Call}
 use Rattle.ft_calls.specs.Exec.{exec}
+use Rattle.ft_calls.specs.declared.call.Access.{Access}
 use Rattle.ft_calls.specs.Stored.{outcome, after}
+use Rattle.ft_calls.specs.Accesses.{is_write, accesses_of, some_conflict}
+use Rattle.ft_calls.specs.Posix.{SameValues}
 
 -- a call whose stamp numbers nothing leaves sound cells
 abbrev pub SoundnessLaw : Type 0
@@ -31,3 +38,37 @@ ValuesLaw = (old new : Cells) → AreSoundCells old → KeepsValues old new → 
 -- sound cells are a sound plain tree
 abbrev pub PlainSoundnessLaw : Type 0
 PlainSoundnessLaw = (cells : Cells) → AreSoundCells cells → IsSoundTree (tidy cells)
+
+-- each cell that is accessed shows the same in both
+abbrev pub AgreeOn : Cells → Cells → List Access → Type 0
+AgreeOn s t [] = Unit {0}
+AgreeOn s t (a ∷ more) = (view_of s a.cell ≡ view_of t a.cell) × AgreeOn s t more
+
+-- one of the accesses writes what the cell shows
+abbrev pub is_written : List Access → Cell → Bool
+is_written accesses c = list_any (λ a. is_write a.mode && overlap a.cell c) accesses
+
+-- the call does the same in both
+pub record ActsAlike (s t : Cells) (k : ℕ) (call : Call) : Type 0 where
+  pub accesses : accesses_of t k call ≡ accesses_of s k call
+  pub reply : (outcome t k call).reply ≡ (outcome s k call).reply
+  pub writes : (outcome t k call).writes ≡ (outcome s k call).writes
+
+-- the frame law: on sound cells that show the same where a call accesses them, it does the same
+abbrev pub FrameLaw : Type 0
+FrameLaw = (s t : Cells) (k : ℕ) (call : Call) → AreSoundCells s → AreSoundCells t → IsFree s k → IsFree t k → AgreeOn s t (accesses_of s k call) → ActsAlike s t k call
+
+-- nothing but the written cells changes
+abbrev pub KeptLaw : Type 0
+KeptLaw = (cells : Cells) (k : ℕ) (call : Call) (c : Cell) → is_written (accesses_of cells k call) c ≡ false → view_of (after cells k call) c ≡ view_of cells c
+
+-- two calls in the other order: the same replies, and cells of the same values
+pub record AreExchanged (cells : Cells) (j : ℕ) (a : Call) (k : ℕ) (b : Call) : Type 0 where
+  pub first : (outcome (after cells k b) j a).reply ≡ (outcome cells j a).reply
+  pub second : (outcome cells k b).reply ≡ (outcome (after cells j a) k b).reply
+  pub values : SameValues (after (after cells j a) k b) (after (after cells k b) j a)
+
+-- the exchange law: neighbours without conflicting accesses can be made in either order
+abbrev pub ExchangeLaw : Type 0
+ExchangeLaw = (cells : Cells) (j : ℕ) (a : Call) (k : ℕ) (b : Call) → AreSoundCells cells → IsFree cells j → IsFree cells k → j ≢ k
+    → some_conflict (accesses_of cells j a) (accesses_of (after cells j a) k b) ≡ false → AreExchanged cells j a k b

@@ -1,8 +1,11 @@
 pub mod Outcomes
 pub mod DirSteps
 pub mod FileSteps
+pub mod LinkSteps
 pub mod Steps
 pub mod Exec
 pub mod Stored
+pub mod Accesses
+pub mod Posix
 pub mod Laws
 pub mod Perform

@@ -5,7 +5,7 @@ use Rattle.ft_tree.specs.Cells.{Cells, entry_of, HasDirPlace}
 use Rattle.ft_tree.specs.Sound.{KeepsValues}
 use Rattle.ft_tree.specs.Walk.{Spot, Named, Itself}
 use Rattle.ft_calls.specs.declared.call.Call.{Call}
-use Rattle.ft_calls.specs.declared.call.Call.TheVariants.{Mkdir, Rmdir, List as ListDir, Open, Close, Read, Write, Pread, Pwrite, Lseek, Truncate, Ftruncate, Stat, Fstat}
+use Rattle.ft_calls.specs.declared.call.Call.TheVariants.{Mkdir, Rmdir, List as ListDir, Open, Close, Read, Write, Pread, Pwrite, Lseek, Truncate, Ftruncate, Stat, Fstat, Link, Unlink, Rename}
 use Rattle.ft_calls.specs.declared.call.Reply.{Reply}
 use Rattle.ft_calls.specs.declared.call.Reply.TheVariants.{Done, Names as NamesReply, Number, Bytes as BytesReply, Info, Failed}
 use Rattle.ft_calls.specs.Outcomes.{Outcome}
@@ -60,3 +60,6 @@ is_read (Truncate len path) = false
 is_read (Ftruncate fd len) = false
 is_read (Stat path) = false
 is_read (Fstat fd) = false
+is_read (Link old new) = false
+is_read (Unlink path) = false
+is_read (Rename old new) = false

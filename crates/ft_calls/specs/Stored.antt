@@ -1,6 +1,6 @@
 -- The execution of a call on the stored cells.
 use Rattle.std.specs.Prelude.{ℕ, List, [], ◌∷◌}
-use Rattle.ft_tree.specs.Cells.{Cells, put_entry, put_parent, put_links, put_bytes, put_open}
+use Rattle.ft_tree.specs.Cells.{Cells, stored_dirs, put_entry, put_parent, put_links, put_bytes, put_open}
 use Rattle.ft_tree.specs.Views.{view_of}
 use Rattle.ft_tree.specs.Looks.{answer}
 use Rattle.ft_calls.specs.declared.call.Call.{Call}
@@ -20,7 +20,7 @@ put_all cells (w ∷ ws) = put_all (put cells w) ws
 
 -- what the call with stamp k comes to
 abbrev pub outcome : Cells → ℕ → Call → Outcome
-outcome cells k call = answer (steps k call) (view_of cells)
+outcome cells k call = answer (steps (stored_dirs cells) k call) (view_of cells)
 
 -- the cells after it
 abbrev pub after : Cells → ℕ → Call → Cells

@@ -10,6 +10,7 @@ use crate::call::{Call, OpenFlags, Reply};
 use crate::descriptors::{close, fstat, ftruncate, lseek, pread, pwrite, read, read_twice, write};
 use crate::dirs::{list, mkdir, rmdir};
 use crate::files::{open, stat, truncate};
+use crate::links::{link, rename, unlink};
 use ft_base::Memory;
 use ft_tree::Tree;
 use std::alloc::Global;
@@ -110,6 +111,9 @@ fn act(alloc: Global, tree: &mut Tree, stamp: u64, call: &Call) -> Result<Reply,
         }
         Call::Truncate { len, path } => truncate(alloc, tree, *len, path),
         Call::Stat { path } => stat(alloc, tree, path),
+        Call::Link { old, new } => link(alloc, tree, old, new),
+        Call::Unlink { path } => unlink(alloc, tree, path),
+        Call::Rename { old, new } => rename(alloc, tree, old, new),
         Call::Close { fd } => close(tree, *fd),
         Call::Read { fd, len } => read(alloc, tree, *fd, *len),
         Call::Write { fd, bytes } => write(tree, *fd, bytes.as_slice()),

@@ -146,6 +146,39 @@ pub enum Call {
     Fstat {
         fd: u64,
     },
+    /// Makes another entry for a file, and answers `Done` (POSIX.1-2017, System Interfaces, link).
+    ///
+    /// Fails with the fault of the text of `old`, then of `new`; the fault of the look-up of `old`;
+    /// ENOENT where it is missing; EPERM where it is a directory; the fault of the look-up of `new`;
+    /// EEXIST where it leads to a directory or file; ENOENT where it is missing and a slash stands
+    /// behind it; EMLINK where the file has 1,000 links.
+    Link {
+        old: FilePath,
+        new: FilePath,
+    },
+    /// Removes an entry of a file, and answers `Done`. A file without entries lives on while a
+    /// descriptor has it open (POSIX.1-2017, System Interfaces, unlink).
+    ///
+    /// Fails with the fault of the text; that of the look-up; ENOENT where the last name is missing;
+    /// EPERM for a directory.
+    Unlink {
+        path: FilePath,
+    },
+    /// Gives a file or a directory another name, in place of what had that name, and answers `Done`.
+    /// Where both names lead to the same file or directory, nothing changes (POSIX.1-2017, System
+    /// Interfaces, rename).
+    ///
+    /// Fails with the fault of the text of `old`, then of `new`; EINVAL where the last component of
+    /// one of them is `.` or `..`; EBUSY where one of them is the root; the fault of the look-up of
+    /// `old`; ENOENT where it is missing; the fault of the look-up of `new`; ENOTDIR where `old` is a
+    /// file, `new` is missing and a slash stands behind it; EISDIR for a file in place of a
+    /// directory, and ENOTDIR for a directory in place of a file; EINVAL for a directory that would
+    /// come to stand below itself; ENOTEMPTY in place of a directory that has an entry. EINVAL for
+    /// dots and EBUSY are choices of this project.
+    Rename {
+        old: FilePath,
+        new: FilePath,
+    },
 }
 
 /// From where an offset counts (POSIX.1-2017, Base Definitions, unistd.h: SEEK_SET, SEEK_CUR and

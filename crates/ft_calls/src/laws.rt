@@ -1,5 +1,8 @@
 // Laws of the calls: each is the contract of a function that does nothing.
-ghost use Rattle.ft_calls.specs.Laws.{SoundnessLaw, FreshnessLaw, TidyingLaw, ValuesLaw, PlainSoundnessLaw};
+ghost use Rattle.ft_laws.specs.Laws.{Lawful};
+ghost use Rattle.ft_laws.specs.Runs.{Exchange, Deletion};
+ghost use Rattle.ft_calls.specs.Laws.{SoundnessLaw, FreshnessLaw, TidyingLaw, ValuesLaw, PlainSoundnessLaw, FrameLaw, KeptLaw, ExchangeLaw};
+ghost use Rattle.ft_calls.specs.Posix.{posix_calls};
 
 /// A call whose stamp numbers nothing leaves sound cells sound.
 pub fn soundness()
@@ -29,4 +32,38 @@ pub fn values()
 /// each description names a file.
 pub fn plain_soundness()
     ensures { PlainSoundnessLaw }
+{}
+
+/// The frame law: where a call accesses them, sound cells that show the same give it the same
+/// accesses, the same reply and the same writes.
+pub fn frame()
+    ensures { FrameLaw }
+{}
+
+/// Nothing but the cells that a call writes changes.
+pub fn others_kept()
+    ensures { KeptLaw }
+{}
+
+/// The calls are lawful, as `ft_laws` asks: what it proves of runs of calls holds of these. Among
+/// the laws are two of files. A call touches the links or the bytes of a file only where it made the
+/// file, or an entry or a description that it accesses names it. And a call that takes an entry or a
+/// description of a file away touches the file, or leaves the name in another cell that it writes, as
+/// a rename does.
+pub fn lawful()
+    ensures { Lawful posix_calls }
+{}
+
+/// The exchange law: two neighbouring calls without conflicting accesses have the same replies in
+/// either order, and leave cells of the same values.
+pub fn exchange()
+    ensures two { ExchangeLaw }
+    ensures in_runs { Exchange posix_calls }
+{}
+
+/// The deletion law: a call that conflicts with no later one of a list can be left out. Every other
+/// call has the same reply, and only the cells that it wrote differ: they have their values from
+/// before it.
+pub fn deletion()
+    ensures { Deletion posix_calls }
 {}

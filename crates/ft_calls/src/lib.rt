@@ -1,11 +1,13 @@
 //! The calls that a tree answers, and what each of them does.
 //!
 //! The rules are those of POSIX.1-2017, System Interfaces (mkdir, rmdir, open, close, read, write,
-//! pread, pwrite, lseek, truncate, ftruncate, stat, fstat), over Base Definitions, 4.13 (Pathname
+//! pread, pwrite, lseek, truncate, ftruncate, stat, fstat, link, unlink, rename), over Base Definitions, 4.13 (Pathname
 //! Resolution). The order in which errors are tested is this project's own, and so is `List`, which
 //! stands for opendir and readdir.
 #![tactic(auto)]
 
+#[cfg(test)]
+mod access_tests;
 mod action;
 mod bytes;
 mod call;
@@ -13,12 +15,25 @@ mod descriptors;
 mod dirs;
 mod files;
 pub mod laws;
+mod links;
+mod look_descriptors;
+mod look_dirs;
+mod look_files;
+mod look_links;
+mod look_rename;
+mod look_walk;
+mod looks;
 mod parts;
 #[cfg(test)]
 mod tests;
+mod touched;
 
 pub use action::{perform, perform_and_copy};
 pub use call::{Access, Call, Mode, OpenFlags, Reply, Whence};
+pub use looks::accesses;
+
+/// The largest count of a file's links.
+pub const MOST_LINKS: u64 = 1_000;
 
 /// The largest offset of a description: 2^63 - 1.
 pub const LAST_OFFSET: u64 = 9_223_372_036_854_775_807;

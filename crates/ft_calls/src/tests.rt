@@ -24,6 +24,11 @@ enum Verb {
     Lseek(u64, Whence, i64),
     Ftruncate(u64, i64),
     Fstat(u64),
+    /// Of what this path leads to, under the path of the call.
+    Link(&'static [u8]),
+    Unlink,
+    /// From this path to that of the call.
+    Rename(&'static [u8]),
 }
 
 /// What a call is to answer.
@@ -32,17 +37,21 @@ enum Wanted {
     Done,
     /// The names of directories, a letter each.
     Directories(&'static [u8]),
+    /// The names of files, a letter each.
+    Files(&'static [u8]),
     Number(u64),
     Bytes(&'static [u8]),
     /// A file with one link: its number and its size.
     File(u64, u64),
+    /// A file: its number, its links and its size.
+    Linked(u64, u64, u64),
     Failed(Errno),
 }
 
-fn are_directories(names: &[(Name, Kind)], letters: &[u8]) -> bool {
+fn are_names(names: &[(Name, Kind)], letters: &[u8], wanted: Kind) -> bool {
     let mut are_alike = names.len() == letters.len();
     for ((name, kind), letter) in names.iter().zip(letters) {
-        are_alike = are_alike && name.as_bytes() == [*letter].as_slice() && *kind == Kind::Dir;
+        are_alike = are_alike && name.as_bytes() == [*letter].as_slice() && *kind == wanted;
     }
     are_alike
 }
@@ -51,7 +60,10 @@ fn is_reply(reply: &Reply, wanted: Wanted) -> bool {
     match (reply, wanted) {
         (Reply::Done, Wanted::Done) => true,
         (Reply::Names(names), Wanted::Directories(letters)) => {
-            are_directories(names.as_slice(), letters)
+            are_names(names.as_slice(), letters, Kind::Dir)
+        }
+        (Reply::Names(names), Wanted::Files(letters)) => {
+            are_names(names.as_slice(), letters, Kind::File)
         }
         (Reply::Number(number), Wanted::Number(wanted)) => *number == wanted,
         (Reply::Bytes(bytes), Wanted::Bytes(wanted)) => bytes.as_slice() == wanted,
@@ -64,6 +76,15 @@ fn is_reply(reply: &Reply, wanted: Wanted) -> bool {
             },
             Wanted::File(wanted, length),
         ) => *number == wanted && *size == length,
+        (
+            Reply::Info {
+                kind: Kind::File,
+                number,
+                links,
+                size,
+            },
+            Wanted::Linked(wanted, count, length),
+        ) => *number == wanted && *links == count && *size == length,
         (Reply::Failed(errno), Wanted::Failed(wanted)) => *errno == wanted,
         _ => false,
     }
@@ -78,6 +99,15 @@ fn call_of(alloc: Global, verb: Verb, text: &[u8]) -> Result<Call, Fail> {
         Verb::Stat => Call::Stat { path },
         Verb::Open(flags) => open_of(path, flags),
         Verb::Truncate(len) => Call::Truncate { len, path },
+        Verb::Link(old) => Call::Link {
+            old: FilePath::new(alloc, old)?,
+            new: path,
+        },
+        Verb::Unlink => Call::Unlink { path },
+        Verb::Rename(old) => Call::Rename {
+            old: FilePath::new(alloc, old)?,
+            new: path,
+        },
         verb => descriptor_call(alloc, verb, text)?,
     })
 }
@@ -479,6 +509,212 @@ fn descriptor_errors_in_order(rt: HostRuntime) -> Result<(), Fail> {
             Verb::Ftruncate(2, 1_048_577),
             b"".as_slice(),
             Wanted::Failed(Errno::EFBIG),
+        ),
+    ];
+    make_calls(&rt, alloc, &calls)?;
+    Ok(())
+}
+
+#[test]
+fn files_have_more_names(rt: HostRuntime) -> Result<(), Fail> {
+    let alloc = rt.alloc();
+    let calls = [
+        (Verb::Open(b"wc"), b"/f".as_slice(), Wanted::Number(2)),
+        (Verb::Link(b"/f"), b"/g".as_slice(), Wanted::Done),
+        (Verb::Stat, b"/g".as_slice(), Wanted::Linked(2, 2, 0)),
+        (Verb::Unlink, b"/f".as_slice(), Wanted::Done),
+        (Verb::Stat, b"/g".as_slice(), Wanted::File(2, 0)),
+        (Verb::List, b"/".as_slice(), Wanted::Files(b"g")),
+    ];
+    make_calls(&rt, alloc, &calls)?;
+    Ok(())
+}
+
+#[test]
+fn orphans_are_open(rt: HostRuntime) -> Result<(), Fail> {
+    let alloc = rt.alloc();
+    let calls = [
+        (Verb::Open(b"rwc"), b"/f".as_slice(), Wanted::Number(2)),
+        (Verb::Write(2), b"hi".as_slice(), Wanted::Number(2)),
+        (Verb::Unlink, b"/f".as_slice(), Wanted::Done),
+        (Verb::Fstat(2), b"".as_slice(), Wanted::Linked(2, 0, 2)),
+    ];
+    make_calls(&rt, alloc, &calls)?;
+    Ok(())
+}
+
+#[test]
+fn link_errors_in_order(rt: HostRuntime) -> Result<(), Fail> {
+    let alloc = rt.alloc();
+    let calls = [
+        (Verb::Open(b"wc"), b"/f".as_slice(), Wanted::Number(2)),
+        (
+            Verb::Link(b"/x"),
+            b"/f".as_slice(),
+            Wanted::Failed(Errno::ENOENT),
+        ),
+        (
+            Verb::Link(b"/"),
+            b"/x/y".as_slice(),
+            Wanted::Failed(Errno::EPERM),
+        ),
+        (
+            Verb::Link(b"/f"),
+            b"/f".as_slice(),
+            Wanted::Failed(Errno::EEXIST),
+        ),
+        (
+            Verb::Link(b"/f"),
+            b"/x/".as_slice(),
+            Wanted::Failed(Errno::ENOENT),
+        ),
+    ];
+    make_calls(&rt, alloc, &calls)?;
+    Ok(())
+}
+
+#[test]
+fn unlink_errors_in_order(rt: HostRuntime) -> Result<(), Fail> {
+    let alloc = rt.alloc();
+    let calls = [
+        (Verb::Mkdir, b"/a".as_slice(), Wanted::Done),
+        (
+            Verb::Unlink,
+            b"/x".as_slice(),
+            Wanted::Failed(Errno::ENOENT),
+        ),
+        (Verb::Unlink, b"/a".as_slice(), Wanted::Failed(Errno::EPERM)),
+        (Verb::Unlink, b"/".as_slice(), Wanted::Failed(Errno::EPERM)),
+    ];
+    make_calls(&rt, alloc, &calls)?;
+    Ok(())
+}
+
+#[test]
+fn files_are_renamed(rt: HostRuntime) -> Result<(), Fail> {
+    let alloc = rt.alloc();
+    let calls = [
+        (Verb::Open(b"wc"), b"/f".as_slice(), Wanted::Number(2)),
+        (Verb::Open(b"wc"), b"/g".as_slice(), Wanted::Number(3)),
+        (Verb::Rename(b"/f"), b"/g".as_slice(), Wanted::Done),
+        (Verb::List, b"/".as_slice(), Wanted::Files(b"g")),
+        (Verb::Stat, b"/g".as_slice(), Wanted::File(2, 0)),
+        (Verb::Fstat(3), b"".as_slice(), Wanted::Linked(3, 0, 0)),
+    ];
+    make_calls(&rt, alloc, &calls)?;
+    Ok(())
+}
+
+#[test]
+fn directories_are_renamed(rt: HostRuntime) -> Result<(), Fail> {
+    let alloc = rt.alloc();
+    let calls = [
+        (Verb::Mkdir, b"/a".as_slice(), Wanted::Done),
+        (Verb::Mkdir, b"/b".as_slice(), Wanted::Done),
+        (Verb::Mkdir, b"/b/c".as_slice(), Wanted::Done),
+        (Verb::Rename(b"/a"), b"/b/c".as_slice(), Wanted::Done),
+        (Verb::List, b"/".as_slice(), Wanted::Directories(b"b")),
+        (Verb::List, b"/b/c/..".as_slice(), Wanted::Directories(b"c")),
+    ];
+    let tree = make_calls(&rt, alloc, &calls)?;
+    assert!(rt; tree.parent(2) == Some(3));
+    Ok(())
+}
+
+#[test]
+fn rename_between_links(rt: HostRuntime) -> Result<(), Fail> {
+    let alloc = rt.alloc();
+    let calls = [
+        (Verb::Open(b"wc"), b"/f".as_slice(), Wanted::Number(2)),
+        (Verb::Link(b"/f"), b"/h".as_slice(), Wanted::Done),
+        (Verb::Rename(b"/f"), b"/h".as_slice(), Wanted::Done),
+        (Verb::List, b"/".as_slice(), Wanted::Files(b"fh")),
+    ];
+    make_calls(&rt, alloc, &calls)?;
+    Ok(())
+}
+
+#[test]
+fn rename_errors_of_paths(rt: HostRuntime) -> Result<(), Fail> {
+    let alloc = rt.alloc();
+    let calls = [
+        (Verb::Mkdir, b"/a".as_slice(), Wanted::Done),
+        (
+            Verb::Rename(b"/a/."),
+            b"/b".as_slice(),
+            Wanted::Failed(Errno::EINVAL),
+        ),
+        (
+            Verb::Rename(b"/"),
+            b"/b".as_slice(),
+            Wanted::Failed(Errno::EBUSY),
+        ),
+        (
+            Verb::Rename(b"/a"),
+            b"/".as_slice(),
+            Wanted::Failed(Errno::EBUSY),
+        ),
+        (
+            Verb::Rename(b"/x"),
+            b"/x/y".as_slice(),
+            Wanted::Failed(Errno::ENOENT),
+        ),
+    ];
+    make_calls(&rt, alloc, &calls)?;
+    Ok(())
+}
+
+#[test]
+fn rename_errors_of_directories(rt: HostRuntime) -> Result<(), Fail> {
+    let alloc = rt.alloc();
+    let calls = [
+        (Verb::Mkdir, b"/a".as_slice(), Wanted::Done),
+        (Verb::Mkdir, b"/a/b".as_slice(), Wanted::Done),
+        (
+            Verb::Rename(b"/a"),
+            b"/a/b/c".as_slice(),
+            Wanted::Failed(Errno::EINVAL),
+        ),
+        (
+            Verb::Rename(b"/a"),
+            b"/a/b/../b/c".as_slice(),
+            Wanted::Failed(Errno::EINVAL),
+        ),
+        (
+            Verb::Rename(b"/a"),
+            b"/a/x/c".as_slice(),
+            Wanted::Failed(Errno::ENOENT),
+        ),
+        (
+            Verb::Rename(b"/a/b"),
+            b"/a".as_slice(),
+            Wanted::Failed(Errno::ENOTEMPTY),
+        ),
+    ];
+    make_calls(&rt, alloc, &calls)?;
+    Ok(())
+}
+
+#[test]
+fn rename_errors_of_files(rt: HostRuntime) -> Result<(), Fail> {
+    let alloc = rt.alloc();
+    let calls = [
+        (Verb::Mkdir, b"/a".as_slice(), Wanted::Done),
+        (Verb::Open(b"wc"), b"/f".as_slice(), Wanted::Number(3)),
+        (
+            Verb::Rename(b"/f"),
+            b"/a".as_slice(),
+            Wanted::Failed(Errno::EISDIR),
+        ),
+        (
+            Verb::Rename(b"/a"),
+            b"/f".as_slice(),
+            Wanted::Failed(Errno::ENOTDIR),
+        ),
+        (
+            Verb::Rename(b"/f"),
+            b"/x/".as_slice(),
+            Wanted::Failed(Errno::ENOTDIR),
         ),
     ];
     make_calls(&rt, alloc, &calls)?;

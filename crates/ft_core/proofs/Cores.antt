@@ -1,5 +1,5 @@
 -- A core after one more event.
-use Rattle.std.proofs.Common.{◌≡◌, ◌≢◌, ◌<◌, ◌≤◌, ◌+◌, ℕ, Bool, true, false, cond, not, List, [], ◌∷◌, ◌++◌, Option, Some, None, is_some, length, filter, nat_le, arith, eqb-true, refl, sym, ap, subst, ◌∙◌}
+use Rattle.std.proofs.Common.{◌≡◌, ◌≢◌, ◌<◌, ◌≤◌, ◌+◌, ℕ, Bool, true, false, cond, List, [], ◌∷◌, Option, Some, None, is_some, length, filter, nat_le, arith, eqb-true, refl, sym, ap, subst, ◌∙◌}
 use Rattle.std.specs.Prelude.{◌==◌}
 use borrow.Author.Tests.{eqb-false}
 use Rattle.std.proofs.lemmas.Bool.{or_parts}
@@ -15,9 +15,9 @@ use Rattle.ft_calls.specs.Exec.{exec}
 use Rattle.ft_calls.specs.Laws.{MakesNoDifference}
 use Rattle.ft_core.specs.declared.journal.Life.TheVariants.{Live}
 use Rattle.ft_core.specs.declared.manager.Saved.{Saved}
-use Rattle.ft_core.specs.History.{standing, is_of, life_of, sole_holders, tree_after, GiveReplies, Granted}
-use Rattle.ft_core.specs.State.{State, at_base, first_base, next_stamp, has_most_calls, after_begin, after_grant, after_commit, after_abort, tree_of, reply_of, count_standing}
-use Rattle.ft_core.specs.Kept.{IsCounted, AreHolders, IsTreeAfter, IsSaved, IfSaved, IsCore, holder_of, others, saved_more, saved_own, saved_without}
+use Rattle.ft_core.specs.History.{standing, is_of, life_of, sole_holders, tree_after, Granted}
+use Rattle.ft_core.specs.State.{State, at_base, first_base, next_stamp, has_most_calls, after_begin, after_grant, after_commit, after_abort, reply_of, count_standing}
+use Rattle.ft_core.specs.Kept.{AreHolders, IsTreeAfter, IfSaved, IsCore, holder_of, others, saved_more, saved_own, saved_without}
 use Rattle.ft_core.proofs.Counting.{counted-begin, counted-grant, counted-commit, counted-abort}
 use Rattle.ft_core.proofs.Holders.{holders-begin, holders-grant, holders-commit_own, holders-abort_own, holders-commit_other, holders-abort_other, blockers-none, blockers-own, blockers-other}
 use Rattle.ft_core.proofs.Standing.{standing-begin, standing-commit, standing-grant, standing-abort, others-all, count_standing-none, others-grant, count_standing-grant, count_standing-bound, tree_after-append, replies-append}
@@ -100,13 +100,14 @@ core-abort_own s cells x t own core = record {
   before = tt;
 }
 
+-- the reply of a call is that of the tree of the state
+pub reply-is : (s : State) (cells cells' : Cells) (call : Call) (reply : Reply) → exec (tidy cells) (next_stamp s) call ≡ (tidy cells', reply) → IsTreeAfter cells s.base.tree (standing s.events) s.last_stamp
+    → reply ≡ reply_of s call
+reply-is s cells cells' call reply does tree = sym (ap (λ p. (exec p (next_stamp s) call).1) (sym tree.plain) ∙ ap (λ r. r.1) does)
+
 -- One more call is granted to t, whom nobody blocks.
 module _ (s : State) (cells cells' : Cells) (t : ℕ) (call : Call) (reply : Reply) (live : life_of s.events t ≡ Some Live) (does : exec (tidy cells) (next_stamp s) call ≡ (tidy cells', reply))
     (sound : AreSoundCells cells') (free : (k : ℕ) → IsFree cells k → k ≢ next_stamp s → IsFree cells' k) where
-  -- the reply is that of the tree of the state
-  pub reply-is : IsTreeAfter cells s.base.tree (standing s.events) s.last_stamp → reply ≡ reply_of s call
-  reply-is tree = sym (ap (λ p. (exec p (next_stamp s) call).1) (sym tree.plain) ∙ ap (λ r. r.1) does)
-
   tree-grant : IsTreeAfter cells s.base.tree (standing s.events) s.last_stamp → IsTreeAfter cells' s.base.tree (standing (after_grant s t call reply).events) (next_stamp s)
   tree-grant tree =
       let c : Granted = record { stamp = next_stamp s; txn = t; call = call; reply = reply } in

@@ -1,5 +1,5 @@
 -- A journal after one more event.
-use Rattle.std.proofs.Common.{◌≡◌, ◌<◌, ◌≤◌, ◌+◌, ◌-◌, ℕ, Bool, true, false, cond, List, [], ◌∷◌, ◌++◌, Option, Some, None, IsSome, length, nat_cmp, arith, refl, sym, ap, subst, ◌∙◌}
+use Rattle.std.proofs.Common.{◌≡◌, ◌≤◌, ◌+◌, ◌-◌, ℕ, cond, List, [], Some, IsSome, nat_cmp, arith, refl, sym, ap, subst, ◌∙◌}
 use Rattle.std.specs.Prelude.{◌==◌}
 use Rattle.std.specs.Cmp.{nat_cmp_total, unsigned_tied}
 use Rattle.std.specs.FinMap as finite
@@ -9,8 +9,8 @@ use Rattle.ft_core.specs.declared.journal.Life.{Life}
 use Rattle.ft_core.specs.declared.journal.Life.TheVariants.{Live, Committed, Aborted}
 use Rattle.ft_core.specs.declared.request.Event.{Event}
 use Rattle.ft_core.specs.History.{life_of}
-use Rattle.ft_core.specs.State.{State, first_base, at_base, next_txn, next_stamp, after_begin, after_grant, after_commit, after_abort}
-use Rattle.ft_core.specs.Kept.{IsCounted, IsJournal, count_live}
+use Rattle.ft_core.specs.State.{State, first_base, at_base, next_txn, after_begin, after_grant, after_commit, after_abort}
+use Rattle.ft_core.specs.Kept.{IsCounted, IsJournal}
 use Rattle.ft_core.proofs.Lives.{life-begin, life-grant, life-commit, life-abort, ended-begin, ended-grant, ended-commit, ended-abort, count_live-begin, count_live-grant, count_live-commit, count_live-abort}
 use Rattle.ft_core.proofs.Counting.{counted-begin, counted-grant, counted-commit, counted-abort}
 

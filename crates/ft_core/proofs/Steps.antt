@@ -1,5 +1,5 @@
 -- Legal steps.
-use Rattle.std.proofs.Common.{◌≡◌, ℕ, Option, Some, None, MatchOption, refl, sym, subst}
+use Rattle.std.proofs.Common.{◌≡◌, ℕ, Option, Some, None, MatchOption, sym, subst}
 use Rattle.ft_core.specs.declared.journal.Life.{Life}
 use Rattle.ft_core.specs.declared.journal.Life.TheVariants.{Live}
 use Rattle.ft_core.specs.declared.request.Request.TheVariants.{Abort}

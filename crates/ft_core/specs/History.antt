@@ -1,5 +1,5 @@
 -- What has happened, and what follows from it.
-use Rattle.std.specs.Prelude.{◌≡◌, ℕ, Bool, true, false, cond, not, ◌==◌, ◌&&◌, ◌-◌, List, [], ◌∷◌, Option, Some, None, length, filter}
+use Rattle.std.specs.Prelude.{◌≡◌, ℕ, Bool, false, cond, not, ◌==◌, ◌&&◌, List, [], ◌∷◌, Option, Some, None, filter}
 use Rattle.std.specs.List.{list_any, filter_map}
 use Rattle.ft_tree.specs.Plain.{PlainTree}
 use Rattle.ft_calls.specs.declared.call.Call.{Call}

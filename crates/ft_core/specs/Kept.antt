@@ -1,6 +1,6 @@
 -- What a journal and a core keep true of themselves.
-use Rattle.std.specs.Prelude.{◌≡◌, ◌≢◌, ◌<◌, ◌≤◌, ◌+◌, ℕ, suc, zero, Bool, true, false, cond, not, ◌==◌, List, [], ◌∷◌, ◌++◌, Option, Some, None, length, filter, refl}
-use Rattle.std.specs.List.{list_any, list_all}
+use Rattle.std.specs.Prelude.{◌≡◌, ◌<◌, ◌≤◌, ◌+◌, ℕ, suc, zero, true, false, cond, not, ◌==◌, List, [], ◌∷◌, ◌++◌, Option, Some, None, length, filter, refl}
+use Rattle.std.specs.List.{list_all}
 use Rattle.std.specs.FinMap as finite
 use Rattle.std.specs.Ordering.{nat_cmp}
 use Rattle.ft_tree.specs.Cells.{Cells}
@@ -12,7 +12,7 @@ use Rattle.ft_core.specs.declared.journal.Life.{Life}
 use Rattle.ft_core.specs.declared.manager.Saved.{Saved}
 use Rattle.ft_core.specs.declared.request.Event.{Event}
 use Rattle.ft_core.specs.History.{begun, granted, standing, is_begun, is_committed, is_aborted, is_live, life_of, holds, is_of, tree_after, GiveReplies, Granted}
-use Rattle.ft_core.specs.State.{State, coded_state, first_base, tree_of, count_standing}
+use Rattle.ft_core.specs.State.{State, coded_state, first_base, count_standing}
 
 -- 1, 2, .. up to n
 abbrev pub up_to : ℕ → List ℕ

@@ -1,5 +1,5 @@
 -- The state of a core.
-use Rattle.std.specs.Prelude.{◌≡◌, ℕ, ◌+◌, Bool, cond, ◌||◌, nat_le, List, [], ◌∷◌, ◌++◌, Option, Some, None, length, filter, refl}
+use Rattle.std.specs.Prelude.{ℕ, ◌+◌, Bool, ◌||◌, nat_le, List, [], ◌∷◌, ◌++◌, None, length, filter, refl}
 use Rattle.std.specs.Ordering.{nat_cmp}
 use Rattle.std.specs.FinMap as finite
 use Rattle.ft_tree.specs.Cells.{fresh_cells}
@@ -17,7 +17,7 @@ use Rattle.ft_calls.specs.Exec.{exec}
 use Rattle.ft_core.specs.declared.TheConstants.{MOST_TRANSACTIONS, MOST_CALLS, LAST_NUMBER}
 use Rattle.ft_core.specs.declared.request.Event.{Event}
 use Rattle.ft_core.specs.declared.request.Event.TheVariants.{Begin, Call as CallEvent, Commit, Abort}
-use Rattle.ft_core.specs.History.{begun, granted, standing, tree_after, Granted, is_of}
+use Rattle.ft_core.specs.History.{begun, granted, standing, tree_after, is_of}
 
 abbrev pub coded_tree : Coded PlainTree
 coded_tree =

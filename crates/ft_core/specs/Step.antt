@@ -1,5 +1,5 @@
 -- Which answer and which new state a request may have, and a run of requests.
-use Rattle.std.specs.Prelude.{◌≡◌, ◌≢◌, ℕ, Bool, cond, List, [], ◌∷◌, Option, Some, None, MatchOption, Result, Ok, Err}
+use Rattle.std.specs.Prelude.{◌≡◌, ◌≢◌, ℕ, cond, List, [], ◌∷◌, Option, Some, None, MatchOption, Result, Ok, Err}
 use Rattle.ft_calls.specs.declared.call.Call.{Call}
 use Rattle.ft_core.specs.declared.journal.Life.{Life}
 use Rattle.ft_core.specs.declared.journal.Life.TheVariants.{Live, Committed as CommittedLife, Aborted as AbortedLife}

@@ -19,11 +19,15 @@ enum Line<'a> {
     Mkdir(u64, &'a [u8]),
     /// A mkdir, whose path has so many slashes, and so many letters behind them.
     MkdirLong(u64, usize, usize),
+    Rmdir(u64, &'a [u8]),
     List(u64, &'a [u8]),
     Stat(u64, &'a [u8]),
     /// With the flags as letters: r, w, c (create), x (excl), t (trunc), a (append).
     Open(u64, &'a [u8], &'a [u8]),
     Truncate(u64, i64, &'a [u8]),
+    Link(u64, &'a [u8], &'a [u8]),
+    Unlink(u64, &'a [u8]),
+    Rename(u64, &'a [u8], &'a [u8]),
     /// A call on a descriptor.
     On(u64, u64, Verb<'a>),
     Commit(u64),
@@ -39,6 +43,7 @@ enum Verb<'a> {
     Pwrite(i64, &'a [u8]),
     Lseek(Whence, i64),
     Fstat,
+    Close,
 }
 
 /// An answer: the stamp comes first, and a name is that of the one directory listed.
@@ -49,6 +54,8 @@ enum Wanted<'a> {
     Failed(u64, Errno),
     Name(u64, &'a [u8]),
     NoName(u64),
+    /// Two names, of files.
+    Files(u64, &'a [u8], &'a [u8]),
     Number(u64, u64),
     Bytes(u64, &'a [u8]),
     /// Of a file: its number, its links and its size.
@@ -99,6 +106,7 @@ fn descriptor_call(alloc: Global, fd: u64, verb: Verb) -> Result<Call, Fail> {
         }
         Verb::Lseek(whence, off) => Call::Lseek { fd, whence, off },
         Verb::Fstat => Call::Fstat { fd },
+        Verb::Close => Call::Close { fd },
     })
 }
 
@@ -127,6 +135,31 @@ fn path_request(alloc: Global, line: Line) -> Result<Request, Fail> {
         Line::Truncate(txn, len, path) => {
             let path = FilePath::new(alloc, path)?;
             (txn, Call::Truncate { len, path })
+        }
+        _ => return name_request(alloc, line),
+    };
+    Ok(Request::Ask(TxnId(txn), call))
+}
+
+fn name_request(alloc: Global, line: Line) -> Result<Request, Fail> {
+    let (txn, call) = match line {
+        Line::Rmdir(txn, path) => {
+            let path = FilePath::new(alloc, path)?;
+            (txn, Call::Rmdir { path })
+        }
+        Line::Unlink(txn, path) => {
+            let path = FilePath::new(alloc, path)?;
+            (txn, Call::Unlink { path })
+        }
+        Line::Link(txn, old, new) => {
+            let old = FilePath::new(alloc, old)?;
+            let new = FilePath::new(alloc, new)?;
+            (txn, Call::Link { old, new })
+        }
+        Line::Rename(txn, old, new) => {
+            let old = FilePath::new(alloc, old)?;
+            let new = FilePath::new(alloc, new)?;
+            (txn, Call::Rename { old, new })
         }
         _ => return Err(Fail::from("no call on a path")),
     };
@@ -183,6 +216,12 @@ fn is_reply(reply: &Reply, wanted: Wanted) -> bool {
             [(name, Kind::Dir)] => name.as_bytes() == wanted,
             _ => false,
         },
+        (Reply::Names(names), Wanted::Files(_, one, two)) => match names.as_slice() {
+            [(first, Kind::File), (second, Kind::File)] => {
+                first.as_bytes() == one && second.as_bytes() == two
+            }
+            _ => false,
+        },
         _ => false,
     }
 }
@@ -194,6 +233,7 @@ fn wanted_stamp(wanted: Wanted) -> Option<u64> {
         | Wanted::Failed(stamp, _)
         | Wanted::Name(stamp, _)
         | Wanted::NoName(stamp)
+        | Wanted::Files(stamp, ..)
         | Wanted::Number(stamp, _)
         | Wanted::Bytes(stamp, _)
         | Wanted::File(stamp, ..)
@@ -347,8 +387,131 @@ fn path_limits(rt: HostRuntime) -> Result<(), Fail> {
             Line::Stat(1, b"//n//.//../n".as_slice()),
             Wanted::Dir(12, 9),
         ),
+        (
+            Line::Unlink(1, b"/n".as_slice()),
+            Wanted::Failed(13, Errno::EPERM),
+        ),
+        (
+            Line::Rmdir(1, b"/n/.".as_slice()),
+            Wanted::Failed(14, Errno::EINVAL),
+        ),
+        (
+            Line::Rmdir(1, b"/n/..".as_slice()),
+            Wanted::Failed(15, Errno::ENOTEMPTY),
+        ),
+        (
+            Line::Rmdir(1, b"/".as_slice()),
+            Wanted::Failed(16, Errno::EBUSY),
+        ),
     ];
     play(&rt, rt.alloc(), &script)?;
+    Ok(())
+}
+
+#[test]
+fn rename_between_links(rt: HostRuntime) -> Result<(), Fail> {
+    let file = b"/f".as_slice();
+    let other = b"/h".as_slice();
+    let script = [
+        (Line::Begin, Wanted::Txn(1)),
+        (Line::Open(1, b"wc".as_slice(), file), Wanted::Number(2, 2)),
+        (Line::Link(1, file, other), Wanted::Done(3)),
+        (Line::Rename(1, file, other), Wanted::Done(4)),
+        (
+            Line::List(1, b"/".as_slice()),
+            Wanted::Files(5, b"f".as_slice(), b"h".as_slice()),
+        ),
+    ];
+    play(&rt, rt.alloc(), &script)?;
+    Ok(())
+}
+
+#[test]
+fn rename_errors_in_order(rt: HostRuntime) -> Result<(), Fail> {
+    let dir = b"/a".as_slice();
+    let below = b"/a/b".as_slice();
+    let root = b"/".as_slice();
+    let script = [
+        (Line::Begin, Wanted::Txn(1)),
+        (Line::Mkdir(1, dir), Wanted::Done(2)),
+        (Line::Mkdir(1, below), Wanted::Done(3)),
+        (
+            Line::Rename(1, dir, b"/a/b/c".as_slice()),
+            Wanted::Failed(4, Errno::EINVAL),
+        ),
+        (
+            Line::Rename(1, dir, b"/a/b/../b/c".as_slice()),
+            Wanted::Failed(5, Errno::EINVAL),
+        ),
+        (
+            Line::Rename(1, dir, b"/a/x/c".as_slice()),
+            Wanted::Failed(6, Errno::ENOENT),
+        ),
+        (
+            Line::Rename(1, below, dir),
+            Wanted::Failed(7, Errno::ENOTEMPTY),
+        ),
+        (
+            Line::Rename(1, b"/a/.".as_slice(), b"/b".as_slice()),
+            Wanted::Failed(8, Errno::EINVAL),
+        ),
+        (
+            Line::Rename(1, root, b"/b".as_slice()),
+            Wanted::Failed(9, Errno::EBUSY),
+        ),
+        (Line::Rename(1, dir, root), Wanted::Failed(10, Errno::EBUSY)),
+    ];
+    play(&rt, rt.alloc(), &script)?;
+    Ok(())
+}
+
+#[test]
+fn orphan_lives_on(rt: HostRuntime) -> Result<(), Fail> {
+    let script = [
+        (Line::Begin, Wanted::Txn(1)),
+        (
+            Line::Open(1, b"rwc".as_slice(), b"/f".as_slice()),
+            Wanted::Number(2, 2),
+        ),
+        (
+            Line::On(1, 2, Verb::Write(b"hi".as_slice())),
+            Wanted::Number(3, 2),
+        ),
+        (Line::Unlink(1, b"/f".as_slice()), Wanted::Done(4)),
+        (Line::On(1, 2, Verb::Fstat), Wanted::File(5, 2, 0, 2)),
+        (
+            Line::On(1, 2, Verb::Pread(0, 9)),
+            Wanted::Bytes(6, b"hi".as_slice()),
+        ),
+        (Line::On(1, 2, Verb::Close), Wanted::Done(7)),
+    ];
+    let core = play(&rt, rt.alloc(), &script)?;
+    // A file that neither an entry nor a descriptor names is gone.
+    assert!(rt; is_bare(&core)?);
+    Ok(())
+}
+
+#[test]
+fn thousand_links(rt: HostRuntime) -> Result<(), Fail> {
+    let alloc = rt.alloc();
+    let file = b"/f".as_slice();
+    let script = [
+        (Line::Begin, Wanted::Txn(1)),
+        (Line::Open(1, b"wc".as_slice(), file), Wanted::Number(2, 2)),
+    ];
+    let mut core = play(&rt, alloc, &script)?;
+    for number in 1..1000u64 {
+        let path = format!(in alloc; "/l{number}")?;
+        let request = request(alloc, Line::Link(1, file, path.as_bytes()))?;
+        let answer = answer(&mut core, request);
+        assert!(rt; is_answer(&answer, Wanted::Done(number + 2)), "{answer:?}");
+    }
+    let request = request(alloc, Line::Link(1, file, b"/x".as_slice()))?;
+    let answer = answer(&mut core, request);
+    assert!(rt;
+        is_answer(&answer, Wanted::Failed(1002, Errno::EMLINK)),
+        "{answer:?}"
+    );
     Ok(())
 }
 

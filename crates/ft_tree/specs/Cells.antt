@@ -74,6 +74,10 @@ no_file = record { links = 0; bytes = [] }
 abbrev pub file_of : Cells → ℕ → FileCells
 file_of cells i = unwrap_or (map.get cells.files i) no_file
 
+-- how many directories are stored, the empty places among them
+abbrev pub stored_dirs : Cells → ℕ
+stored_dirs cells = map.len cells.directories
+
 -- The value of each cell.
 
 abbrev pub entry_of : Cells → ℕ → List ℕ → Option Node

@@ -1,5 +1,6 @@
 pub mod Nodes
 pub mod Modes
+pub mod CellOrder
 pub mod Cells
 pub mod Looks
 pub mod Views

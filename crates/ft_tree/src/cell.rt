@@ -1,11 +1,17 @@
+ghost use Rattle.std.specs.Prelude.{Some, refl};
+ghost use Rattle.std.specs.Ordering.{eq_by_cmp};
+ghost use Rattle.std.specs.Cmp.{eq_by_cmp_equiv, partial_equiv_from_equiv, partial_order_from_total};
+ghost use Rattle.ft_tree.specs.CellOrder.{cell_cmp, cell_cmp_total};
+
 use ft_path::Name;
+use std::cmp::Ordering;
 
 /// A part of a tree that calls read and write as one; locks are taken on cells.
 ///
 /// Two cells overlap when they are the same, or when one is the names of a directory and the other
 /// an entry of it. The order is that in which locks are listed: by the kind of cell, as they stand
 /// here, then by its number, and then by its name. A rule of this project.
-#[derive(Debug, PartialEq, Eq, PartialOrd, Ord, Drop)]
+#[derive(Debug, Drop)]
 pub enum Cell {
     /// What a name leads to in the directory of this number, if it is an entry.
     Entry(u64, Name),
@@ -19,4 +25,88 @@ pub enum Cell {
     Bytes(u64),
     /// The open file description of a descriptor.
     Fd(u64),
+}
+
+impl Cell {
+    ghost use Rattle.std.specs.Prelude.{◌≡◌};
+    ghost use Rattle.ft_tree.specs.CellOrder.{cell_rank, cell_number, cell_name};
+
+    /// The place of its kind among the kinds.
+    fn rank(&self) -> u8
+        ensures { result ≡ cell_rank self.now }
+    {
+        match self {
+            Cell::Entry(..) => 0,
+            Cell::Names(_) => 1,
+            Cell::Parent(_) => 2,
+            Cell::Links(_) => 3,
+            Cell::Bytes(_) => 4,
+            Cell::Fd(_) => 5,
+        }
+    }
+
+    /// The number of its directory, file or descriptor.
+    fn number(&self) -> u64
+        ensures { result ≡ cell_number self.now }
+    {
+        match self {
+            Cell::Entry(number, _)
+            | Cell::Names(number)
+            | Cell::Parent(number)
+            | Cell::Links(number)
+            | Cell::Bytes(number)
+            | Cell::Fd(number) => *number,
+        }
+    }
+
+    /// The bytes of its name, where it is an entry.
+    fn name(&self) -> &[u8]
+        ensures { result.now ≡ cell_name self.now }
+    {
+        match self {
+            Cell::Entry(_, name) => name.as_bytes(),
+            _ => &[],
+        }
+    }
+}
+
+impl PartialEq for Cell {
+    ghost eq = { eq_by_cmp cell_cmp };
+
+    ghost laws = { partial_equiv_from_equiv (eq_by_cmp_equiv cell_cmp_total) };
+
+    fn eq(&self, other: &Cell) -> bool {
+        self.cmp(other).is_eq()
+    }
+}
+
+impl Eq for Cell {
+    ghost laws = { eq_by_cmp_equiv cell_cmp_total };
+}
+
+impl PartialOrd for Cell {
+    ghost partial_cmp = { λ x y. Some (cell_cmp x y) };
+
+    ghost laws = { partial_order_from_total cell_cmp_total };
+
+    fn partial_cmp(&self, other: &Cell) -> Option<Ordering> {
+        Some(self.cmp(other))
+    }
+}
+
+impl Ord for Cell {
+    ghost cmp = { cell_cmp };
+
+    ghost total = { cell_cmp_total };
+
+    ghost matches_partial_cmp = { λ x y. refl };
+
+    ghost matches_eq = { λ x y. refl };
+
+    fn cmp(&self, other: &Cell) -> Ordering {
+        self.rank()
+            .cmp(&other.rank())
+            .then(self.number().cmp(&other.number()))
+            .then(self.name().cmp(other.name()))
+    }
 }

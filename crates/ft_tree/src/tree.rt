@@ -8,7 +8,7 @@ ghost use Rattle.ft_tree.specs.Views.{view_of};
 ghost use Rattle.ft_tree.specs.Walk.{up, inner, last, walk, found, seen};
 ghost use Rattle.ft_body.specs.declared.TheConstants.{SIZE_LIMIT};
 ghost use Rattle.ft_body.specs.Bytes.{fitting, written, resized};
-ghost use Rattle.ft_tree.specs.Cells.{DirCells, entry_of, names_of, parent_of, links_of, bytes_of, body_in, open_of, kind_of, has_dir, has_file, put_entry, put_parent, put_links, put_bytes, put_open, HasEntryPlace, HasDirPlace, HasFilePlace, HasOpenPlace, fresh_cells};
+ghost use Rattle.ft_tree.specs.Cells.{DirCells, entry_of, names_of, parent_of, links_of, bytes_of, body_in, open_of, kind_of, has_dir, has_file, put_entry, put_parent, put_links, put_bytes, put_open, stored_dirs, HasEntryPlace, HasDirPlace, HasFilePlace, HasOpenPlace, fresh_cells};
 ghost use Rattle.ft_tree.specs.Rows.{rows_of};
 ghost use Rattle.ft_tree.specs.Tidy.{tidy};
 ghost use Rattle.ft_tree.specs.Sound.{AreSoundCells, IsFree};
@@ -134,6 +134,14 @@ impl Tree {
         ensures { result ≡ open_of self.now fd }
     {
         self.opens.get(fd).copied().flatten()
+    }
+
+    /// How many directories are stored: those that are there, and those whose place was emptied.
+    /// From each directory that is there as many steps up to a parent lead to the root, or fewer.
+    pub fn stored_dirs(&self) -> usize
+        ensures { result ≡ stored_dirs self.now }
+    {
+        self.directories.len()
     }
 
     /// Whether a directory has no entry. A number that is no directory has none.

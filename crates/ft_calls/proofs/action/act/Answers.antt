@@ -33,6 +33,15 @@ returns-in-Truncate c =
 pub returns-in-Stat : goal.returns-in-Stat
 returns-in-Stat c = named c.args.tree.now c.args.stamp _ _ c.in-Stat.is c.args.tree.now c.stat.result (c.stat.ensures c.args.stamp)
 
+pub returns-in-Link : goal.returns-in-Link
+returns-in-Link c = named c.args.tree.now c.args.stamp _ _ c.in-Link.is c.link.new.tree c.link.result (c.link.ensures c.args.stamp)
+
+pub returns-in-Unlink : goal.returns-in-Unlink
+returns-in-Unlink c = named c.args.tree.now c.args.stamp _ _ c.in-Unlink.is c.unlink.new.tree c.unlink.result (c.unlink.ensures c.args.stamp)
+
+pub returns-in-Rename : goal.returns-in-Rename
+returns-in-Rename c = named c.args.tree.now c.args.stamp _ _ c.in-Rename.is c.rename.new.tree c.rename.result (c.rename.ensures c.args.stamp)
+
 pub returns-in-Close : goal.returns-in-Close
 returns-in-Close c = named c.args.tree.now c.args.stamp _ _ c.in-Close.is c.close.new.tree c.close.result (c.close.ensures c.args.stamp)
 

@@ -5,7 +5,7 @@ use Rattle.ft_base.specs.declared.memory.Memory.{Memory}
 use Rattle.ft_tree.specs.Cells.{Cells}
 use Rattle.ft_tree.specs.Sound.{KeepsValues}
 use Rattle.ft_calls.specs.declared.call.Call.{Call}
-use Rattle.ft_calls.specs.declared.call.Call.TheVariants.{Mkdir, Rmdir, List as ListDir, Open, Close, Read, Write, Pread, Pwrite, Lseek, Truncate, Ftruncate, Stat, Fstat}
+use Rattle.ft_calls.specs.declared.call.Call.TheVariants.{Mkdir, Rmdir, List as ListDir, Open, Close, Read, Write, Pread, Pwrite, Lseek, Truncate, Ftruncate, Stat, Fstat, Link, Unlink, Rename}
 use Rattle.ft_calls.specs.declared.call.Reply.{Reply}
 use Rattle.ft_calls.specs.Outcomes.{Outcome}
 use Rattle.ft_calls.specs.Stored.{outcome}
@@ -52,6 +52,9 @@ is_read-other (Truncate len path) other = refl
 is_read-other (Ftruncate fd len) other = refl
 is_read-other (Stat path) other = refl
 is_read-other (Fstat fd) other = refl
+is_read-other (Link old new) other = refl
+is_read-other (Unlink path) other = refl
+is_read-other (Rename old new) other = refl
 
 pub returns-in-Read-clause-performed : goal.returns-in-Read-clause-performed
 returns-in-Read-clause-performed c =

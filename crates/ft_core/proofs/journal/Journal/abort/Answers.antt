@@ -1,4 +1,4 @@
-use Rattle.std.proofs.Common.{◌≡◌, ◌<◌, ◌≤◌, arith, ap, sym, subst, ◌∙◌, Some, ◌+◌, vec_len, vec_capacity}
+use Rattle.std.proofs.Common.{◌≡◌, ◌≤◌, arith, ap, ◌∙◌, Some, ◌+◌, vec_len, vec_capacity}
 use Rattle.std.specs.FinMap as finite
 use Rattle.ft_core.specs.declared.journal.Life.TheVariants.{Live, Aborted}
 use Rattle.ft_core.specs.History.{life_of}

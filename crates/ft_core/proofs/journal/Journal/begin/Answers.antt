@@ -1,4 +1,4 @@
-use Rattle.std.proofs.Common.{◌≡◌, ◌<◌, ◌≤◌, ◌+◌, ◌-◌, arith, ap, sym, subst, List, ◌∷◌, [], ◌++◌, ◌∙◌, None, vec_len, vec_capacity}
+use Rattle.std.proofs.Common.{◌≡◌, ◌≤◌, ◌+◌, arith, ap, sym, subst, List, ◌∷◌, [], ◌++◌, ◌∙◌, None, vec_len, vec_capacity}
 use Rattle.ft_core.specs.declared.request.Event.{Event}
 use Rattle.ft_core.specs.declared.request.Event.TheVariants.{Begin}
 use Rattle.std.specs.FinMap as finite

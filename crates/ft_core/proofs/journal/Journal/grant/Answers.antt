@@ -1,7 +1,6 @@
-use Rattle.std.proofs.Common.{◌≡◌, ◌<◌, ◌≤◌, ◌+◌, ◌-◌, arith, ap, sym, subst, List, [], ◌∷◌, ◌++◌, ◌∙◌, Some, vec_len, vec_capacity}
+use Rattle.std.proofs.Common.{◌≡◌, ◌<◌, ◌+◌, ◌-◌, arith, ap, sym, subst, List, [], ◌∷◌, ◌++◌, ◌∙◌, Some, vec_len, vec_capacity}
 use Rattle.ft_calls.specs.declared.call.Access.{Access}
 use Rattle.ft_core.specs.declared.journal.Life.TheVariants.{Live}
-use Rattle.ft_core.specs.declared.request.Event.{Event}
 use Rattle.ft_core.specs.declared.request.Event.TheVariants.{Call as CallEvent}
 use Rattle.ft_core.specs.History.{life_of}
 use Rattle.ft_core.specs.Kept.{Journaled}

@@ -1,8 +1,7 @@
-use Rattle.std.proofs.Common.{◌≡◌, ℕ, Bool, true, false, ◌<◌, ◌≤◌, ◌||◌, arith, ap, sym, refl, ◌∙◌, length, nat_le, le-leb}
+use Rattle.std.proofs.Common.{◌≡◌, ℕ, Bool, true, false, ◌<◌, ◌||◌, arith, ap, sym, refl, ◌∙◌, nat_le, le-leb}
 use Rattle.std.proofs.lemmas.Bool.Decides.{nat_tests}
-use Rattle.ft_core.specs.declared.TheConstants.{MOST_TRANSACTIONS, LAST_NUMBER}
-use Rattle.ft_core.specs.History.{begun}
-use Rattle.ft_core.specs.State.{State, has_most_transactions}
+use Rattle.ft_core.specs.declared.TheConstants.{LAST_NUMBER}
+use Rattle.ft_core.specs.State.{has_most_transactions}
 use Rattle.ft_core.specs.Kept.{Journaled}
 use Rattle.ft_core.proofs.Lives.{length-begun}
 use Rattle.ft_core.proofs.journal.Journal.has_most_transactions.Goals as goal

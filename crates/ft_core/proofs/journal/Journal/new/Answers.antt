@@ -1,4 +1,4 @@
-use Rattle.std.proofs.Common.{◌≡◌, subst, sym, vec_len, vec_capacity}
+use Rattle.std.proofs.Common.{subst, sym, vec_len, vec_capacity}
 use Rattle.std.specs.FinMap as finite
 use Rattle.std.specs.Ordering.{nat_cmp}
 use Rattle.ft_core.specs.declared.journal.Life.{Life}

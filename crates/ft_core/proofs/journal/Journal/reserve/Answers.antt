@@ -1,4 +1,4 @@
-use Rattle.std.proofs.Common.{◌≡◌, ◌≤◌, ◌+◌, arith, vec_len, vec_capacity}
+use Rattle.std.proofs.Common.{◌≤◌, ◌+◌, arith, vec_len, vec_capacity}
 use Rattle.ft_core.proofs.Journals.{journal-same}
 use Rattle.ft_core.proofs.journal.Journal.reserve.Goals as goal
 

@@ -1,4 +1,4 @@
-use Rattle.std.proofs.Common.{◌≡◌, Option, Some, None, ap, sym, subst, ◌∙◌}
+use Rattle.std.proofs.Common.{◌≡◌, Option, Some, ap, sym, subst, ◌∙◌}
 use Rattle.ft_core.specs.declared.journal.Life.TheVariants.{Live}
 use Rattle.ft_core.specs.declared.manager.Saved.{Saved}
 use Rattle.ft_core.specs.History.{life_of}

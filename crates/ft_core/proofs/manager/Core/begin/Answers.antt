@@ -1,4 +1,4 @@
-use Rattle.std.proofs.Common.{◌≡◌, sym, subst}
+use Rattle.std.proofs.Common.{sym, subst}
 use Rattle.ft_core.specs.State.{State}
 use Rattle.ft_core.specs.Kept.{IsCore}
 use Rattle.ft_core.proofs.Cores.{core-begin}

@@ -1,4 +1,4 @@
-use Rattle.std.proofs.Common.{◌≡◌, Option, Some, None, Bool, true, false, ap, sym, subst, ◌∙◌}
+use Rattle.std.proofs.Common.{Option, ap, sym, subst, ◌∙◌}
 use Rattle.ft_core.specs.declared.manager.Saved.{Saved}
 use Rattle.ft_core.specs.History.{sole_holders}
 use Rattle.ft_core.specs.State.{State}

@@ -1,4 +1,4 @@
-use Rattle.std.proofs.Common.{◌≡◌, Option, sym, subst}
+use Rattle.std.proofs.Common.{Option, sym, subst}
 use Rattle.ft_core.specs.declared.manager.Saved.{Saved}
 use Rattle.ft_core.specs.State.{State}
 use Rattle.ft_core.specs.Kept.{IsCore, saved_without}

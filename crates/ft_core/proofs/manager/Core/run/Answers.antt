@@ -1,6 +1,5 @@
-use Rattle.std.proofs.Common.{◌≡◌, ◌≤◌, ◌<◌, ◌+◌, List, [], ◌∷◌, ◌++◌, length, arith, vec_len, vec_capacity, append_assoc, add-one, sym, ap, subst, ◌∙◌, IsOk, if◌then◌else◌}
+use Rattle.std.proofs.Common.{◌≡◌, ◌≤◌, ◌+◌, List, [], ◌∷◌, ◌++◌, length, arith, vec_len, vec_capacity, append_assoc, add-one, sym, ap, subst, ◌∙◌, IsOk, if◌then◌else◌}
 use Rattle.std.specs.Vec.Iter.{into_iter_items}
-use Rattle.std.specs.Result.{is_ok}
 use Rattle.ft_core.specs.declared.request.Request.{Request}
 use Rattle.ft_core.specs.declared.request.Answer.{Answer}
 use Rattle.ft_core.specs.Step.{IsRun, interim_rule}

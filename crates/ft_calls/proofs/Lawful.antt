@@ -1,0 +1,488 @@
+-- The calls meet the laws of calls.
+use Rattle.std.proofs.Common.{◌≡◌, ◌≢◌, ℕ, Bool, true, false, cond, not, ◌&&◌, List, [], ◌∷◌, map, ◌⊎◌, inl, inr, Option, Some, None, IsSome, unwrap_or, nat_eq, eqb-true, eq-eqb, refl, sym, ap, ap₂, subst, ◌∙◌}
+use Rattle.std.specs.Prelude.{◌==◌}
+use Rattle.std.proofs.lemmas.Bool.{false≢true, or_cases, or_left, or_right, and_parts, and_from, false_from_ne_true}
+use Rattle.std.proofs.lemmas.Option.{none-some, same_Some}
+use Rattle.std.specs.Cmp.{both_ways}
+use Rattle.std.specs.Cmp.Lexicographic.{pointwise, bytes_decides}
+use Rattle.std.specs.Option.{option_map}
+use Rattle.std.specs.FinMap.{get, contains_key, retain_keys, get-retain_keys}
+use Rattle.std.proofs.lemmas.Map.Lookups.{exact_unsigned}
+use Rattle.ft_laws.specs.Lists.{Each, In}
+use Rattle.ft_laws.specs.Laws.{Lawful, Knows, TouchesFile, LeavesName, Hides, is_hidden}
+use Rattle.ft_laws.specs.Effects.{Access as PlaceAccess, SetsCells, EffectLaws, is_written, write_all, touch, change}
+use Rattle.ft_laws.specs.Runs.{Exchange, Deletion, Undoing, MayGoFirst, MayBeSorted}
+use Rattle.ft_laws.specs.Hiding.{RunAlike, StaysHidden, UndoingHidden, HidesMore, NotOwn}
+use Rattle.ft_laws.specs.Tidying.{TidyingLaw}
+use Rattle.ft_laws.proofs.Tests.{by_test}
+use Rattle.ft_laws.proofs.Lists.{Each-at}
+use Rattle.ft_laws.proofs.Writing.{written_all}
+use Rattle.ft_laws.proofs.Effects.{effects_lawful}
+use Rattle.ft_laws.proofs.Exchanging as exchanging
+use Rattle.ft_laws.proofs.Deleting as deleting
+use Rattle.ft_laws.proofs.Hiding as hiding
+use Rattle.ft_laws.proofs.Forgetting as forgetting
+use Rattle.ft_tree.specs.declared.node.Node.{Node}
+use Rattle.ft_tree.specs.declared.node.Node.TheVariants.{Dir as DirNode, File as FileNode}
+use Rattle.ft_tree.specs.declared.cell.Cell.{Cell}
+use Rattle.ft_tree.specs.declared.cell.Cell.TheVariants.{Entry, Names, Parent, Links, Bytes, Fd}
+use Rattle.ft_tree.specs.declared.open_file.OpenFile.{OpenFile}
+use Rattle.ft_tree.specs.CellOrder.{cell_number, same_cell, overlap, same_cell-is}
+use Rattle.ft_tree.specs.Nodes.{number_of}
+use Rattle.ft_tree.specs.Cells.{Cells, FileCells, no_file, file_of as file_cells, stored_dirs, entry_of, parent_of, links_of, bytes_of, open_of}
+use Rattle.ft_tree.specs.Plain.{EdgeKey, view_in, links_in}
+use Rattle.ft_tree.specs.Tidy.{tidy}
+use Rattle.ft_tree.specs.Views.{view_of}
+use Rattle.ft_tree.specs.Sound.{AreSoundCells, IsFree}
+use Rattle.ft_calls.specs.declared.call.Access.{Access}
+use Rattle.ft_calls.specs.Outcomes.{Write, SetEntry, SetParent, SetLinks, SetBytes, SetOpen}
+use Rattle.ft_calls.specs.Stored.{put_all, outcome, after}
+use Rattle.ft_calls.specs.Steps.{steps}
+use Rattle.ft_calls.specs.Accesses.{written_cell, is_write, accesses_of}
+use Rattle.ft_calls.specs.Laws.{SoundnessLaw, FreshnessLaw}
+use Rattle.ft_calls.specs.Posix.{Holds, held, set_cell, covers, Stamped, as_place, as_change, SameValues, HasSoundValues, file_of, node_names, description_names, names_file, blank, does, posix, posix_calls}
+use Rattle.ft_calls.proofs.Accessed.{in-any, any-in, in-map, map-in, same_cell-refl, looked-accessed, written-accessed, accessed-cases, accessed-written, access}
+use Rattle.ft_calls.proofs.Alike.{view-covered, agree-each, same_back, same_free, same_after, tree-values, looked, accesses-alike, does-alike, does-same}
+use Rattle.ft_calls.proofs.Below.{StoredEnough, StepsAlike}
+use Rattle.ft_calls.proofs.Upon.{Sees, sees_entry, sees_open, Upon, CallUpon, EachCallUpon}
+use Rattle.ft_calls.proofs.Puts.{is_place, with_value, entry-put_entry, parent-put_entry, entry-put_parent, parent-put_parent, links-put_links, bytes-put_links, links-put_bytes, bytes-put_bytes, open-put_open}
+use Rattle.ft_calls.proofs.Left.{value-other}
+use Rattle.ft_calls.proofs.Parents.{contains-under}
+use Rattle.ft_calls.proofs.Counting.{count-none}
+use Rattle.ft_calls.proofs.Tidied.{get-tidy}
+
+-- Cells and places.
+
+-- cells that the test tells apart are different
+other_cell : (x y : Cell) → same_cell x y ≡ false → x ≢ y
+other_cell x y h is = false≢true (sym h ∙ subst (λ z. same_cell x z ≡ true) is (same_cell-refl x))
+
+-- the place of an entry is its own
+place-same : (d : ℕ) (name : List ℕ) → is_place d name d name ≡ true
+place-same d name = and_from (d == d) (pointwise nat_eq name name) (eq-eqb d d refl) ((bytes_decides name name).1 refl)
+
+-- and not that of another
+place-other : (d : ℕ) (name : List ℕ) (e : ℕ) (other : List ℕ) → same_cell (Entry d name) (Entry e other) ≡ false → is_place d name e other ≡ false
+place-other d name e other h =
+    false_from_ne_true (is_place d name e other)
+    (λ is. let parts = and_parts (e == d) (pointwise nat_eq other name) is in
+    other_cell (Entry d name) (Entry e other) h (ap₂ Entry (sym (eqb-true e d parts.0)) (sym ((bytes_decides other name).0 parts.1))))
+
+-- a value that is set is there
+value-same : {A : Type 0} (f : ℕ → A) (i : ℕ) (x : A) → with_value f i x i ≡ x
+value-same f i x = ap (λ b. cond b x (f i)) (eq-eqb i i refl)
+
+-- to set a cell sets it
+cell_written : (s : Cells) (x : Cell) (v : Holds x) → held (set_cell s x v) x ≡ v
+cell_written s (Entry d name) v = entry-put_entry s d name v d name ∙ ap (λ b. cond b v (entry_of s d name)) (place-same d name)
+cell_written s (Names d) v = refl
+cell_written s (Parent d) v = parent-put_parent s d v d ∙ value-same (parent_of s) d v
+cell_written s (Links i) v = links-put_links s i v i ∙ value-same (links_of s) i v
+cell_written s (Bytes i) v = bytes-put_bytes s i v i ∙ value-same (bytes_of s) i v
+cell_written s (Fd f) v = open-put_open s f v f ∙ value-same (open_of s) f v
+
+-- and no other
+cell_kept : (s : Cells) (x : Cell) (v : Holds x) (y : Cell) → same_cell x y ≡ false → held (set_cell s x v) y ≡ held s y
+cell_kept s (Entry d name) v (Entry e other) h = entry-put_entry s d name v e other ∙ ap (λ b. cond b v (entry_of s e other)) (place-other d name e other h)
+cell_kept s (Entry d name) v (Parent e) h = parent-put_entry s d name v e
+cell_kept s (Parent d) v (Entry e other) h = entry-put_parent s d v e other
+cell_kept s (Parent d) v (Parent e) h = parent-put_parent s d v e ∙ value-other (parent_of s) d v e (λ is. other_cell (Parent d) (Parent e) h (ap Parent (sym is)))
+cell_kept s (Links i) v (Links j) h = links-put_links s i v j ∙ value-other (links_of s) i v j (λ is. other_cell (Links i) (Links j) h (ap Links (sym is)))
+cell_kept s (Links i) v (Bytes j) h = bytes-put_links s i v j
+cell_kept s (Bytes i) v (Links j) h = links-put_bytes s i v j
+cell_kept s (Bytes i) v (Bytes j) h = bytes-put_bytes s i v j ∙ value-other (bytes_of s) i v j (λ is. other_cell (Bytes i) (Bytes j) h (ap Bytes (sym is)))
+cell_kept s (Fd f) v (Fd g) h = open-put_open s f v g ∙ value-other (open_of s) f v g (λ is. other_cell (Fd f) (Fd g) h (ap Fd (sym is)))
+cell_kept s x v y h = refl
+
+pub sets : SetsCells posix
+sets = record { same_is = same_cell-is; cell_written = cell_written; cell_kept = cell_kept }
+
+-- a place covers the cell that it is
+pub covers-refl : (x : Cell) → covers x x ≡ true
+covers-refl (Entry d name) = same_cell-refl (Entry d name)
+covers-refl (Names d) = same_cell-refl (Names d)
+covers-refl (Parent d) = same_cell-refl (Parent d)
+covers-refl (Links i) = same_cell-refl (Links i)
+covers-refl (Bytes i) = same_cell-refl (Bytes i)
+covers-refl (Fd f) = same_cell-refl (Fd f)
+
+-- p is the names of a directory, and x an entry of it
+abbrev IsOfNames : Cell → Cell → Type 0
+IsOfNames p x = (d : ℕ) × (name : List ℕ) × (p ≡ Names d) × (x ≡ Entry d name)
+
+-- what a place covers is the cell that it is, or an entry where it is the names of a directory
+covers-cases : (p x : Cell) → covers p x ≡ true → (p ≡ x) ⊎ IsOfNames p x
+covers-cases (Names d) (Entry e name) h = inr (d, name, refl, ap (λ n. Entry n name) (sym (eqb-true d e h)))
+covers-cases p x h = inl (same_cell-is p x h)
+
+-- a cell overlaps itself
+overlap-refl : (x : Cell) → overlap x x ≡ true
+overlap-refl (Entry d name) = same_cell-refl (Entry d name)
+overlap-refl (Names d) = same_cell-refl (Names d)
+overlap-refl (Parent d) = same_cell-refl (Parent d)
+overlap-refl (Links i) = same_cell-refl (Links i)
+overlap-refl (Bytes i) = same_cell-refl (Bytes i)
+overlap-refl (Fd f) = same_cell-refl (Fd f)
+
+-- places that cover a cell in common overlap
+pub overlaps : (p q x : Cell) → covers p x ≡ true → covers q x ≡ true → overlap p q ≡ true
+overlaps p q x h k = by_cover (covers-cases p x h) (covers-cases q x k)
+  where
+    by_cover : (p ≡ x) ⊎ IsOfNames p x → (q ≡ x) ⊎ IsOfNames q x → overlap p q ≡ true
+    by_cover (inl a) (inl b) = ap₂ overlap a b ∙ overlap-refl x
+    by_cover (inl a) (inr b) = ap₂ overlap (a ∙ b.3) b.2 ∙ eq-eqb b.0 b.0 refl
+    by_cover (inr a) (inl b) = ap₂ overlap a.2 (b ∙ a.3) ∙ eq-eqb a.0 a.0 refl
+    by_cover (inr a) (inr b) = ap₂ overlap a.2 (b.2 ∙ ap Names (ap cell_number (sym b.3 ∙ a.3))) ∙ overlap-refl (Names a.0)
+
+-- overlapping is symmetric
+turned : (p q : Cell) → overlap p q ≡ true → overlap q p ≡ true
+turned (Entry d name) (Names e) h = eq-eqb e d (sym (eqb-true d e h))
+turned (Names d) (Entry e name) h = eq-eqb e d (sym (eqb-true d e h))
+turned p q h = subst (λ c. overlap c p ≡ true) (same_cell-is p q h) (overlap-refl p)
+
+overlap_sym : (p q : Cell) → overlap p q ≡ overlap q p
+overlap_sym p q = both_ways (overlap p q) (overlap q p) (turned p q) (turned q p)
+
+-- What is written.
+
+-- to write the cells is to put them
+pub write-put : (ws : List Write) (s : Cells) → write_all posix s (map as_change ws) ≡ put_all s ws
+write-put [] s = refl
+write-put (SetEntry d name to ∷ ws) s = write-put ws _
+write-put (SetParent d parent ∷ ws) s = write-put ws _
+write-put (SetLinks i links ∷ ws) s = write-put ws _
+write-put (SetBytes i bytes ∷ ws) s = write-put ws _
+write-put (SetOpen f to ∷ ws) s = write-put ws _
+
+-- the cell of a write
+change-cell : (w : Write) → (as_change w).cell ≡ written_cell w
+change-cell (SetEntry d name to) = refl
+change-cell (SetParent d parent) = refl
+change-cell (SetLinks i links) = refl
+change-cell (SetBytes i bytes) = refl
+change-cell (SetOpen f to) = refl
+
+-- the cells that are written are those of the writes
+pub written-in : (ws : List Write) (x : Cell) → is_written posix (map as_change ws) x ≡ true → In x (map written_cell ws)
+written-in [] x h = absurd (false≢true h)
+written-in (w ∷ ws) x h = elim (or_cases (same_cell (as_change w).cell x) (is_written posix (map as_change ws) x) h) [
+  | inl is ↦ inl (sym (same_cell-is (as_change w).cell x is) ∙ change-cell w)
+  | inr more ↦ inr (written-in ws x more)
+]
+
+-- and each cell of a write is written
+in-written : (ws : List Write) (x : Cell) → In x (map written_cell ws) → is_written posix (map as_change ws) x ≡ true
+in-written [] x i = absurd i
+in-written (w ∷ ws) x (inl is) =
+    or_left (same_cell (as_change w).cell x) (is_written posix (map as_change ws) x) (subst (λ c. same_cell c x ≡ true) (is ∙ sym (change-cell w)) (same_cell-refl x))
+in-written (w ∷ ws) x (inr i) = or_right (same_cell (as_change w).cell x) (is_written posix (map as_change ws) x) (in-written ws x i)
+
+-- the names of a directory are never written
+names-not_written : (ws : List Write) (d : ℕ) → In (Names d) (map written_cell ws) → ⊥
+names-not_written [] d i = absurd i
+names-not_written (w ∷ ws) d (inl is) = by_write w is
+  where
+    by_write : (w : Write) → Names d ≡ written_cell w → ⊥
+    by_write (SetEntry e name to) is = cc
+    by_write (SetParent e parent) is = cc
+    by_write (SetLinks n links) is = cc
+    by_write (SetBytes n bytes) is = cc
+    by_write (SetOpen f to) is = cc
+names-not_written (w ∷ ws) d (inr i) = names-not_written ws d i
+
+-- each of a list is each of it under a function
+each-of_map : {A B : Type 0} (P : B → Type 0) (f : A → B) (xs : List A) → Each (λ x. P (f x)) xs → Each P (map f xs)
+each-of_map P f [] h = tt
+each-of_map P f (x ∷ xs) h = (h.0, each-of_map P f xs h.1)
+
+-- What is touched.
+
+-- a cell is touched where an access covers it
+touched-in : (accesses : List Access) (x : Cell) → touch posix (map as_place accesses) x ≡ true → (a : Access) × In a accesses × (covers a.cell x ≡ true)
+touched-in accesses x h =
+    let found = any-in (λ (p : PlaceAccess Cell). covers p.place x) (map as_place accesses) h in
+    let from = map-in as_place accesses found.0 found.1 in
+    (from.0, from.1, ap (λ (p : PlaceAccess Cell). covers p.place x) (sym from.2) ∙ found.2)
+
+-- and an access that covers it touches it
+in-touched : (accesses : List Access) (a : Access) (x : Cell) → In a accesses → covers a.cell x ≡ true → touch posix (map as_place accesses) x ≡ true
+in-touched accesses a x i h = in-any (λ (p : PlaceAccess Cell). covers p.place x) (as_place a) (map as_place accesses) (in-map as_place a accesses i) h
+
+-- a cell is changed where an access that writes covers it
+changed-in : (accesses : List Access) (x : Cell) → change posix (map as_place accesses) x ≡ true → (a : Access) × In a accesses × ((is_write a.mode && covers a.cell x) ≡ true)
+changed-in accesses x h =
+    let found = any-in (λ (p : PlaceAccess Cell). p.writes && covers p.place x) (map as_place accesses) h in
+    let from = map-in as_place accesses found.0 found.1 in
+    (from.0, from.1, ap (λ (p : PlaceAccess Cell). p.writes && covers p.place x) (sym from.2) ∙ found.2)
+
+-- and an access that writes changes what it covers
+in-changed : (accesses : List Access) (a : Access) (x : Cell) → In a accesses → (is_write a.mode && covers a.cell x) ≡ true → change posix (map as_place accesses) x ≡ true
+in-changed accesses a x i h = in-any (λ (p : PlaceAccess Cell). p.writes && covers p.place x) (as_place a) (map as_place accesses) (in-map as_place a accesses i) h
+
+module _ (s : Cells) (a : Stamped) where
+  abbrev writes : List Write
+  writes = (outcome s a.stamp a.call).writes
+
+  abbrev accesses : List Access
+  accesses = accesses_of s a.stamp a.call
+
+  -- what is covered by a cell that is looked at is touched
+  looked-touched : (c x : Cell) → In c (looked s a.stamp a.call) → covers c x ≡ true → touch posix (does s a).accesses x ≡ true
+  looked-touched c x i h = let at = looked-accessed (steps (stored_dirs s) a.stamp a.call) (view_of s) c i in in-touched accesses (access c at.0) x at.1 h
+
+  -- what is written is changed
+  told-back : (x : Cell) → is_written posix (map as_change writes) x ≡ true → change posix (does s a).accesses x ≡ true
+  told-back x h =
+      let i = written-in writes x h in
+      in-changed accesses _ x (written-accessed (steps (stored_dirs s) a.stamp a.call) (view_of s) x i) (covers-refl x)
+
+  -- and nothing else is
+  told-on : (x : Cell) → change posix (does s a).accesses x ≡ true → is_written posix (map as_change writes) x ≡ true
+  told-on x h =
+      let found = changed-in accesses x h in
+      let parts = and_parts (is_write found.0.mode) (covers found.0.cell x) found.2 in
+      let i : In found.0.cell (map written_cell writes) = accessed-written (steps (stored_dirs s) a.stamp a.call) (view_of s) found.0 found.1 parts.0 in
+      in-written writes x (elim (covers-cases found.0.cell x parts.1) [
+        | inl is ↦ subst (λ c. In c (map written_cell writes)) is i
+        | inr of ↦ absurd (names-not_written writes of.0 (subst (λ c. In c (map written_cell writes)) of.2 i))
+      ])
+
+  -- the accesses that write tell what is written
+  told : (x : Cell) → change posix (does s a).accesses x ≡ is_written posix (map as_change writes) x
+  told x = both_ways _ _ (told-on x) (told-back x)
+
+  -- a file that the call comes upon is known to it
+  known : (i : ℕ) → Upon s a.stamp (looked s a.stamp a.call) i → Knows posix_calls s a i
+  known i (inl own) = inl own
+  known i (inr sees) = inr (seen i sees)
+    where
+      seen : (i : ℕ) → Sees s (looked s a.stamp a.call) i → (y : Cell) × (touch posix (does s a).accesses y ≡ true) × (names_file y (held s y) i ≡ true)
+      seen _ (sees_entry d name i at is) = (Entry d name, looked-touched (Entry d name) (Entry d name) at (covers-refl (Entry d name)), ap (λ o. node_names o i) is ∙ eq-eqb i i refl)
+      seen _ (sees_open f o at is) = (Fd f, looked-touched (Fd f) (Fd f) at (covers-refl (Fd f)), ap (λ p. description_names p o.file) is ∙ eq-eqb o.file o.file refl)
+
+  module _ (upon : CallUpon s a.stamp (looked s a.stamp a.call) writes) where
+    -- only files that it comes upon are touched
+    comes_upon : (x : Cell) (i : ℕ) → file_of x ≡ Some i → touch posix (does s a).accesses x ≡ true → Knows posix_calls s a i
+    comes_upon x i is h =
+        let found = touched-in accesses x h in
+        elim (covers-cases found.0.cell x found.2) [
+          | inr of ↦ absurd (none-some i (sym (ap file_of of.3) ∙ is))
+          | inl at ↦ elim (accessed-cases (steps (stored_dirs s) a.stamp a.call) (view_of s) found.0 found.1) [
+            | inl w ↦ let from = map-in written_cell writes found.0.cell w in
+                known i (Each-at (λ v. (j : ℕ) → file_of (written_cell v) ≡ Some j → Upon s a.stamp (looked s a.stamp a.call) j) writes from.0 upon.writes from.1 i (ap file_of (sym from.2 ∙ at) ∙ is))
+            | inr l ↦ known i (Each-at (λ c. (j : ℕ) → file_of c ≡ Some j → Upon s a.stamp (looked s a.stamp a.call) j) (looked s a.stamp a.call) found.0.cell upon.looks l i (ap file_of at ∙ is))
+          ]
+        ]
+
+    -- and the names that are written are of such files
+    names_known : (x : Cell) (i : ℕ) → change posix (does s a).accesses x ≡ true → names_file x (held (write_all posix s (map as_change writes)) x) i ≡ true → Knows posix_calls s a i
+    names_known x i changed named =
+        known i (written_all posix sets (λ y v. (j : ℕ) → names_file y v j ≡ true → Upon s a.stamp (looked s a.stamp a.call) j) (map as_change writes) s x
+        (each-of_map (λ w. (j : ℕ) → names_file w.cell w.value j ≡ true → Upon s a.stamp (looked s a.stamp a.call) j) as_change writes upon.names) (told-on x changed) i named)
+
+    -- a file whose name is taken away is touched, unless the name is left elsewhere
+    lets_go : (x : Cell) (i : ℕ) → names_file x (held s x) i ≡ true → names_file x (held (write_all posix s (map as_change writes)) x) i ≡ false
+        → TouchesFile posix_calls (does s a).accesses i ⊎ LeavesName posix_calls s a i
+    lets_go x i had lost = elim (upon.lets_go x i had (ap (λ c. names_file x (held c x) i) (sym (write-put writes s)) ∙ lost)) [
+      | inl links ↦ inl (Links i, refl, looked-touched (Links i) (Links i) links (covers-refl (Links i)))
+      | inr left ↦ inr (left.0, told-back left.0 (in-written writes left.0 left.1), ap (λ c. names_file left.0 (held c left.0) i) (write-put writes s) ∙ left.2)
+    ]
+
+-- Files.
+
+-- the cells of a file name no file
+nameless : (x : Cell) (v : Holds x) (i j : ℕ) → file_of x ≡ Some i → names_file x v j ≡ false
+nameless (Entry d name) v i j h = absurd (none-some i h)
+nameless (Names d) v i j h = refl
+nameless (Parent d) v i j h = refl
+nameless (Links n) v i j h = refl
+nameless (Bytes n) v i j h = refl
+nameless (Fd f) v i j h = absurd (none-some i h)
+
+-- nothing is stored of a free number
+own_blank : (s : Cells) (k : ℕ) → IsFree s k → (x : Cell) → file_of x ≡ Some k → held s x ≡ blank x
+own_blank s k free (Entry d name) h = absurd (none-some k h)
+own_blank s k free (Names d) h = refl
+own_blank s k free (Parent d) h = absurd (none-some k h)
+own_blank s k free (Links i) h = ap (links_of s) (same_Some i k h) ∙ free.no_links
+own_blank s k free (Bytes i) h = ap (bytes_of s) (same_Some i k h) ∙ free.no_bytes
+own_blank s k free (Fd f) h = absurd (none-some k h)
+
+-- Hidden files.
+
+module _ (hidden : ℕ → Bool) where
+  -- the cells without the hidden files
+  abbrev without : Cells → Cells
+  without p = record p { files = retain_keys p.files (λ i. not (hidden i)) }
+
+  -- the places that are left
+  get-without : (p : Cells) (i : ℕ) → get (without p).files i ≡ cond (not (hidden i)) (get p.files i) None
+  get-without p i = get-retain_keys p.files (λ j. not (hidden j)) i (λ j tied. ap (λ n. not (hidden n)) (sym (exact_unsigned i j tied)))
+
+  -- what is read of a file then
+  read-without : {A : Type 0} (read : FileCells → A) (p : Cells) (i : ℕ) → read (file_cells (without p) i) ≡ cond (hidden i) (read no_file) (read (file_cells p i))
+  read-without read p i = ap (λ o. read (unwrap_or o no_file)) (get-without p i) ∙ by_hidden (hidden i) (get p.files i)
+    where
+      by_hidden : (b : Bool) (o : Option FileCells) → read (unwrap_or (cond (not b) o None) no_file) ≡ cond b (read no_file) (read (unwrap_or o no_file))
+      by_hidden true o = refl
+      by_hidden false o = refl
+
+  module _ (r s : Cells) (hides : Hides posix_calls hidden r s) where
+    -- a hidden cell is blank, and each other is the same
+    still_blank : (x : Cell) → held r x ≡ blank x → held s x ≡ blank x
+    still_blank x h = by_test (is_hidden posix_calls hidden x) (λ k. hides.gone x k) (λ k. sym (hides.others x k) ∙ h)
+
+    -- a number that is free is free without them
+    hides_ready : (k : ℕ) → IsFree r k → IsFree s k
+    hides_ready k free = record {
+      above_root = free.above_root;
+      no_parent = still_blank (Parent k) free.no_parent;
+      no_links = still_blank (Links k) free.no_links;
+      no_bytes = still_blank (Bytes k) free.no_bytes;
+      no_open = still_blank (Fd k) free.no_open;
+      no_entry = λ d name x h. free.no_entry d name x (hides.others (Entry d name) refl ∙ h);
+      no_file = λ f o h. free.no_file f o (hides.others (Fd f) refl ∙ h);
+    }
+
+    module _ (p : Cells) (sound : AreSoundCells p) (same : SameValues p r) where
+      -- the values that are left are those of the cells without the hidden files
+      same-without : SameValues (without p) s
+      same-without = record {
+        entries = λ d name. sym (hides.others (Entry d name) refl) ∙ same.entries d name;
+        parents = λ d. sym (hides.others (Parent d) refl) ∙ same.parents d;
+        links = λ i. by_test (hidden i)
+            (λ k. hides.gone (Links i) k ∙ sym (read-without (λ f. f.links) p i ∙ ap (λ b. cond b 0 (links_of p i)) k))
+            (λ k. sym (hides.others (Links i) k) ∙ same.links i ∙ sym (read-without (λ f. f.links) p i ∙ ap (λ b. cond b 0 (links_of p i)) k));
+        bytes = λ i. by_test (hidden i)
+            (λ k. hides.gone (Bytes i) k ∙ sym (read-without (λ f. f.bytes) p i ∙ ap (λ b. cond b [] (bytes_of p i)) k))
+            (λ k. sym (hides.others (Bytes i) k) ∙ same.bytes i ∙ sym (read-without (λ f. f.bytes) p i ∙ ap (λ b. cond b [] (bytes_of p i)) k));
+        opens = λ f. sym (hides.others (Fd f) refl) ∙ same.opens f;
+      }
+
+      -- no entry names a hidden file
+      not_named : (i d : ℕ) (name : List ℕ) → hidden i ≡ true → entry_of p d name ≡ Some (FileNode i) → ⊥
+      not_named i d name k is =
+          false≢true (sym (hides.unnamed (Entry d name) i k) ∙ ap (λ o. node_names o i) (same-without.entries d name ∙ is) ∙ eq-eqb i i refl)
+
+      -- and no description has one open
+      not_open : (f : ℕ) (o : OpenFile) → open_of p f ≡ Some o → hidden o.file ≡ false
+      not_open f o is =
+          false_from_ne_true (hidden o.file)
+          (λ k. false≢true (sym (hides.unnamed (Fd f) o.file k) ∙ ap (λ x. description_names x o.file) (same-without.opens f ∙ is) ∙ eq-eqb o.file o.file refl))
+
+      -- a hidden file shows no links
+      none_shown : (i : ℕ) → hidden i ≡ true → view_in (tidy p) (Links i) ≡ 0
+      none_shown i k = by_dir (contains_key (tidy p).dirs i) refl
+        where
+          by_entry : (e : EdgeKey) → contains_key (tidy p).dirs i ≡ false → (o : Option Node) → entry_of p e.0 e.1 ≡ o → option_map number_of o ≡ Some i → ⊥
+          by_entry e file None at h = none-some i h
+          by_entry e file (Some (DirNode j)) at h = false≢true (sym file ∙ contains-under p sound i e.0 (sound.tree.leads e.0 e.1 i (at ∙ ap (λ n. Some (DirNode n)) (same_Some j i h))))
+          by_entry e file (Some (FileNode j)) at h = not_named i e.0 e.1 k (at ∙ ap (λ n. Some (FileNode n)) (same_Some j i h))
+
+          by_dir : (b : Bool) → contains_key (tidy p).dirs i ≡ b → cond b 0 (links_in (tidy p) i) ≡ 0
+          by_dir true is = refl
+          by_dir false is = count-none (tidy p).edges i (λ e h. by_entry e is (entry_of p e.0 e.1) refl (sym (get-tidy p e.0 e.1) ∙ h))
+
+      -- so what is left is sound
+      sound-without : AreSoundCells (without p)
+      sound-without = record {
+        root_is = sound.root_is;
+        tree = sound.tree;
+        links = λ i. read-without (λ f. f.links) p i ∙ by_test (hidden i)
+            (λ k. ap (λ b. cond b 0 (links_of p i)) k ∙ sym (none_shown i k))
+            (λ k. ap (λ b. cond b 0 (links_of p i)) k ∙ sound.links i);
+        opens = λ f o h.
+            let was = sound.opens f o h in
+            (subst IsSome (sym (get-without p o.file ∙ ap (λ b. cond (not b) (get p.files o.file) None) (not_open f o h))) was.0, was.1);
+      }
+
+    -- sound values are sound without the hidden files
+    hides_sound : HasSoundValues r → HasSoundValues s
+    hides_sound has = record { with_places = without has.with_places; sound = sound-without has.with_places has.sound has.same; same = same-without has.with_places has.sound has.same }
+
+-- The laws.
+
+module _ (steps-alike : StepsAlike) (stored-enough : StoredEnough) where
+  -- what a call does depends on the cells that it touches alone
+  local : (s t : Cells) (a : Stamped) → HasSoundValues s → HasSoundValues t → ((x : Cell) → touch posix (does s a).accesses x ≡ true → held s x ≡ held t x) → does t a ≡ does s a
+  local s t a sound_s sound_t same =
+      let alike = does-alike steps-alike stored-enough s t (tree-values s sound_s) (tree-values t sound_t) a.stamp a.call
+      (agree-each (view_of s) (view_of t) (looked s a.stamp a.call) (λ c i. view-covered s t c (λ x h. same x (looked-touched s a c x i h)))) in
+      let accesses = accesses-alike s t a.stamp a.call alike in
+      sym (λ i. record { accesses = map as_place (accesses i); writes = map as_change (alike.outcomes i).writes; reply = (alike.outcomes i).reply })
+
+  -- after a call the values are those of the cells with places after it
+  after-places : (s : Cells) (a : Stamped) → (has : HasSoundValues s) → SameValues (after has.with_places a.stamp a.call) (write_all posix s (does s a).writes)
+  after-places s a has =
+      let p = has.with_places in
+      let alike = does-same steps-alike stored-enough p s has.same has.sound.tree a.stamp a.call in
+      subst (SameValues (after p a.stamp a.call)) (ap (λ o. put_all s o.writes) alike.outcomes ∙ sym (write-put (outcome s a.stamp a.call).writes s)) (same_after (outcome p a.stamp a.call).writes p s has.same)
+
+module _ (steps-alike : StepsAlike) (stored-enough : StoredEnough) (upon : EachCallUpon) (soundness : SoundnessLaw) (freshness : FreshnessLaw) where
+  -- the calls meet the laws of effects
+  pub posix-laws : EffectLaws posix
+  posix-laws = record {
+    sets = sets;
+    overlaps = overlaps;
+    overlap_sym = overlap_sym;
+    told = told;
+    local = λ s t a gs gt rs rt same. local steps-alike stored-enough s t a gs gt same;
+    stays_sound = λ s a has free.
+        let p = has.with_places in
+        record {
+          with_places = after p a.stamp a.call;
+          sound = soundness p a.stamp a.call has.sound (same_free s p (same_back p s has.same) a.stamp free);
+          same = after-places steps-alike stored-enough s a has;
+        };
+    stays_ready = λ s a b has free too other.
+        let p = has.with_places in
+        let back = same_back p s has.same in
+        same_free (after p a.stamp a.call) (write_all posix s (does s a).writes) (after-places steps-alike stored-enough s a has) b.stamp
+        (freshness p a.stamp a.call has.sound (same_free s p back a.stamp free) b.stamp (same_free s p back b.stamp too) (λ is. other (sym is)));
+    nameless = nameless;
+    own_blank = λ s a has free x h. own_blank s a.stamp free x h;
+    comes_upon = λ s a has free x i is h. comes_upon s a (upon s a.stamp free (stored_dirs s) a.call) x i is h;
+    names_known = λ s a has free x i changed named. names_known s a (upon s a.stamp free (stored_dirs s) a.call) x i changed named;
+    lets_go = λ s a has free x i had lost. lets_go s a (upon s a.stamp free (stored_dirs s) a.call) x i had lost;
+    hides_sound = hides_sound;
+    hides_ready = λ hidden r s a hides free. hides_ready hidden r s hides a.stamp free;
+  }
+
+  -- and so the laws of calls
+  pub lawful : Lawful posix_calls
+  lawful = effects_lawful posix posix-laws
+
+  -- What follows for any lawful calls.
+
+  pub exchange : Exchange posix_calls
+  exchange = exchanging.exchange posix_calls lawful
+
+  pub deletion : Deletion posix_calls
+  deletion = deleting.deletion posix_calls lawful
+
+  pub undoing : Undoing posix_calls
+  undoing = deleting.undone posix_calls lawful
+
+  pub may_go_first : MayGoFirst posix_calls
+  may_go_first = exchanging.may_go_first posix_calls lawful
+
+  pub may_be_sorted : MayBeSorted posix_calls
+  may_be_sorted = exchanging.may_be_sorted posix_calls lawful
+
+  pub run_alike : RunAlike posix_calls
+  run_alike = hiding.run_alike posix_calls lawful
+
+  pub stays_hidden : StaysHidden posix_calls
+  stays_hidden = hiding.stays_hidden posix_calls lawful
+
+  pub undoing_hidden : UndoingHidden posix_calls
+  undoing_hidden = hiding.undone_hidden posix_calls lawful
+
+  pub hides_more : HidesMore posix_calls
+  hides_more = hiding.hides_more posix_calls lawful
+
+  pub not_own : NotOwn posix_calls
+  not_own = hiding.not_own posix_calls lawful
+
+  pub tidying : TidyingLaw posix_calls
+  tidying = forgetting.tidying posix_calls lawful

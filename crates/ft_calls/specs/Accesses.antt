@@ -1,0 +1,60 @@
+-- The accesses of a call: the cells that it looks at and those that it writes.
+use Rattle.std.specs.Prelude.{ℕ, Bool, true, false, ◌&&◌, ◌||◌, List, [], ◌∷◌, map}
+use Rattle.std.specs.List.{list_any}
+use Rattle.std.specs.FinMap as finite
+use Rattle.ft_tree.specs.declared.cell.Cell.{Cell}
+use Rattle.ft_tree.specs.declared.cell.Cell.TheVariants.{Entry, Parent, Links, Bytes, Fd}
+use Rattle.ft_tree.specs.CellOrder.{cell_cmp, overlap}
+use Rattle.ft_tree.specs.Cells.{Cells, stored_dirs}
+use Rattle.ft_tree.specs.Views.{view_of}
+use Rattle.ft_tree.specs.Looks.{Looks, Answer, Look, View}
+use Rattle.ft_calls.specs.declared.call.Call.{Call}
+use Rattle.ft_calls.specs.declared.call.Mode.{Mode}
+use Rattle.ft_calls.specs.declared.call.Mode.TheVariants.{Read as ReadMode, Write as WriteMode}
+use Rattle.ft_calls.specs.declared.call.Access.{Access}
+use Rattle.ft_calls.specs.Outcomes.{Write, SetEntry, SetParent, SetLinks, SetBytes, SetOpen, Outcome}
+use Rattle.ft_calls.specs.Steps.{steps}
+
+-- how each cell is accessed, in the order of cells
+abbrev pub Modes : Type 0
+Modes = finite.FinMap cell_cmp Mode
+
+abbrev pub with_looks : Modes → List Cell → Modes
+with_looks m [] = m
+with_looks m (c ∷ cs) = with_looks (finite.insert m c ReadMode) cs
+
+abbrev pub written_cell : Write → Cell
+written_cell (SetEntry d name to) = Entry d name
+written_cell (SetParent d parent) = Parent d
+written_cell (SetLinks i links) = Links i
+written_cell (SetBytes i bytes) = Bytes i
+written_cell (SetOpen f to) = Fd f
+
+-- a cell that is looked at and written is written
+abbrev pub with_writes : Modes → List Write → Modes
+with_writes m [] = m
+with_writes m (w ∷ ws) = with_writes (finite.insert m (written_cell w) WriteMode) ws
+
+-- with what is looked at, and what is written then
+abbrev pub with_accesses : Modes → Looks Outcome → View → Modes
+with_accesses m (Answer o) v = with_writes m o.writes
+with_accesses m (Look c next) v = with_accesses (finite.insert m c ReadMode) (next (v c)) v
+
+-- each cell once, in order
+abbrev pub listed : Modes → List Access
+listed m = map (λ e. record { cell = e.0; mode = e.1 }) (finite.entries m)
+
+-- the accesses of the call with stamp k
+abbrev pub accesses_of : Cells → ℕ → Call → List Access
+accesses_of cells k call = listed (with_accesses finite.empty (steps (stored_dirs cells) k call) (view_of cells))
+
+abbrev pub is_write : Mode → Bool
+is_write ReadMode = false
+is_write WriteMode = true
+
+-- Two accesses conflict where their cells overlap and one of them writes (Moss, Nested Transactions, MIT 1981, the locking rules).
+abbrev pub conflict : Access → Access → Bool
+conflict a b = overlap a.cell b.cell && (is_write a.mode || is_write b.mode)
+
+abbrev pub some_conflict : List Access → List Access → Bool
+some_conflict xs ys = list_any (λ a. list_any (conflict a) ys) xs

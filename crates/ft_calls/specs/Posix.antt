@@ -1,0 +1,148 @@
+-- The calls on a tree, seen as calls in the abstract: what ft_laws asks of calls is shown of these.
+use Rattle.std.specs.Prelude.{◌≡◌, ℕ, Bool, false, ◌==◌, List, [], map, Option, Some, None}
+use Rattle.ft_laws.specs.Calls.{Calls}
+use Rattle.ft_laws.specs.Effects.{Access as PlaceAccess, Write as CellWrite, Effect, Effects, calls_of}
+use Rattle.ft_tree.specs.declared.cell.Cell.{Cell}
+use Rattle.ft_tree.specs.declared.cell.Cell.TheVariants.{Entry, Names, Parent, Links, Bytes, Fd}
+use Rattle.ft_tree.specs.declared.node.Node.{Node}
+use Rattle.ft_tree.specs.declared.node.Node.TheVariants.{Dir as DirNode, File as FileNode}
+use Rattle.ft_tree.specs.declared.open_file.OpenFile.{OpenFile}
+use Rattle.ft_tree.specs.CellOrder.{same_cell, overlap}
+use Rattle.ft_tree.specs.Cells.{Cells, entry_of, parent_of, links_of, bytes_of, open_of, put_entry, put_parent, put_links, put_bytes, put_open}
+use Rattle.ft_tree.specs.Sound.{AreSoundCells, IsFree}
+use Rattle.ft_calls.specs.declared.call.Call.{Call}
+use Rattle.ft_calls.specs.declared.call.Reply.{Reply}
+use Rattle.ft_calls.specs.declared.call.Access.{Access}
+use Rattle.ft_calls.specs.Outcomes.{Write, SetEntry, SetParent, SetLinks, SetBytes, SetOpen}
+use Rattle.ft_calls.specs.Stored.{outcome}
+use Rattle.ft_calls.specs.Accesses.{is_write, accesses_of}
+
+-- what a cell holds by itself; the names of a directory are read off its entries
+abbrev pub Holds : Cell → Type 0
+Holds (Entry d name) = Option Node
+Holds (Names d) = Unit {0}
+Holds (Parent d) = Option ℕ
+Holds (Links i) = ℕ
+Holds (Bytes i) = List ℕ
+Holds (Fd f) = Option OpenFile
+
+abbrev pub held : Cells → (c : Cell) → Holds c
+held cells (Entry d name) = entry_of cells d name
+held cells (Names d) = tt
+held cells (Parent d) = parent_of cells d
+held cells (Links i) = links_of cells i
+held cells (Bytes i) = bytes_of cells i
+held cells (Fd f) = open_of cells f
+
+abbrev pub set_cell : Cells → (c : Cell) → Holds c → Cells
+set_cell cells (Entry d name) to = put_entry cells d name to
+set_cell cells (Names d) to = cells
+set_cell cells (Parent d) to = put_parent cells d to
+set_cell cells (Links i) to = put_links cells i to
+set_cell cells (Bytes i) to = put_bytes cells i to
+set_cell cells (Fd f) to = put_open cells f to
+
+-- an access to the names of a directory is one to each of its entries
+abbrev pub covers : Cell → Cell → Bool
+covers (Names d) (Entry e name) = d == e
+covers x y = same_cell x y
+
+-- a call with its stamp
+pub record Stamped : Type 0 where
+  pub stamp : ℕ
+  pub call : Call
+
+abbrev pub as_place : Access → PlaceAccess Cell
+as_place a = record { place = a.cell; writes = is_write a.mode }
+
+abbrev pub as_change : Write → CellWrite Cell Holds
+as_change (SetEntry d name to) = record { cell = Entry d name; value = to }
+as_change (SetParent d to) = record { cell = Parent d; value = to }
+as_change (SetLinks i to) = record { cell = Links i; value = to }
+as_change (SetBytes i to) = record { cell = Bytes i; value = to }
+as_change (SetOpen f to) = record { cell = Fd f; value = to }
+
+-- cells of the same values, whatever their places
+pub record SameValues (old new : Cells) : Type 0 where
+  pub entries : (d : ℕ) (name : List ℕ) → entry_of new d name ≡ entry_of old d name
+  pub parents : (d : ℕ) → parent_of new d ≡ parent_of old d
+  pub links : (i : ℕ) → links_of new i ≡ links_of old i
+  pub bytes : (i : ℕ) → bytes_of new i ≡ bytes_of old i
+  pub opens : (f : ℕ) → open_of new f ≡ open_of old f
+
+-- the values are those of sound cells
+pub record HasSoundValues (cells : Cells) : Type 0 where
+  pub with_places : Cells
+  pub sound : AreSoundCells with_places
+  pub same : SameValues with_places cells
+
+-- the file to which a cell belongs
+abbrev pub file_of : Cell → Option ℕ
+file_of (Entry d name) = None
+file_of (Names d) = None
+file_of (Parent d) = None
+file_of (Links i) = Some i
+file_of (Bytes i) = Some i
+file_of (Fd f) = None
+
+abbrev pub node_names : Option Node → ℕ → Bool
+node_names None i = false
+node_names (Some (DirNode j)) i = false
+node_names (Some (FileNode j)) i = j == i
+
+abbrev pub description_names : Option OpenFile → ℕ → Bool
+description_names None i = false
+description_names (Some o) i = o.file == i
+
+-- an entry names its file, and a description the file that it has open
+abbrev pub names_file : (c : Cell) → Holds c → ℕ → Bool
+names_file (Entry d name) to i = node_names to i
+names_file (Names d) to i = false
+names_file (Parent d) to i = false
+names_file (Links j) to i = false
+names_file (Bytes j) to i = false
+names_file (Fd f) to i = description_names to i
+
+-- what a cell holds where nothing is stored
+abbrev pub blank : (c : Cell) → Holds c
+blank (Entry d name) = None
+blank (Names d) = tt
+blank (Parent d) = None
+blank (Links i) = 0
+blank (Bytes i) = []
+blank (Fd f) = None
+
+abbrev pub does : Cells → Stamped → Effect Cell Cell Holds Reply
+does cells a = let o = outcome cells a.stamp a.call in record {
+  accesses = map as_place (accesses_of cells a.stamp a.call);
+  writes = map as_change o.writes;
+  reply = o.reply;
+}
+
+-- a file that a call makes has its stamp for a number
+abbrev pub posix : Effects
+posix = record {
+  Store = Cells;
+  Cell = Cell;
+  Value = Holds;
+  Place = Cell;
+  Call = Stamped;
+  Reply = Reply;
+  File = ℕ;
+  cell = held;
+  write = set_cell;
+  same_cell = same_cell;
+  covers = covers;
+  overlap = overlap;
+  stamp = λ a. a.stamp;
+  does = does;
+  IsSound = HasSoundValues;
+  IsReady = λ a cells. IsFree cells a.stamp;
+  file_of = file_of;
+  names = names_file;
+  blank = blank;
+  own = λ a. a.stamp;
+}
+
+abbrev pub posix_calls : Calls
+posix_calls = calls_of posix
