@@ -1,2 +1,4 @@
 pub mod Table
 pub mod Copies
+pub mod Chains
+pub mod Linked

@@ -1,13 +1,16 @@
 //! What every crate above uses: the error for want of memory, a list that clauses see as a list,
-//! and a table that clauses see as a finite map.
+//! a table that clauses see as a finite map, and lists by owner, linked in one slab.
 #![tactic(auto)]
 
+mod chains;
 mod memory;
+mod node;
 mod sequence;
 mod table;
 #[cfg(test)]
 mod tests;
 
+pub use chains::Chains;
 pub use memory::Memory;
 pub use sequence::Sequence;
 pub use table::Table;

@@ -1,5 +1,5 @@
 // A map from numbers, seen as a finite map.
-ghost use Rattle.std.specs.Prelude.{◌≡◌, ◌==◌, ℕ, IsSome, IsOk, OnOk, OnErr};
+ghost use Rattle.std.specs.Prelude.{◌≡◌, ◌==◌, ℕ, IsSome, IsOk, IfOk, OnOk, OnErr};
 ghost use Rattle.std.specs.Ordering.{nat_cmp};
 ghost use Rattle.std.specs.Option.{option_copied, option_copied_mut};
 ghost use Rattle.std.specs.Coded.{coded_ℕ};
@@ -86,16 +86,16 @@ impl<V: Drop> Table<V> {
         self.map.iter()
     }
 
-    /// Sets the value at a key; the value that it had is dropped.
+    /// Sets the value at a key, and gives back the value that it had.
     ///
     /// Only a key that is new can want memory.
-    pub fn insert(&mut self, key: u64, value: V) -> Result<(), Memory>
+    pub fn insert(&mut self, key: u64, value: V) -> Result<Option<V>, Memory>
+        ensures was { IfOk result (λ was. was ≡ finite.get self.old key) }
         ensures ok { OnOk result (self.new ≡ finite.insert self.old key value) }
         ensures err { OnErr result (self.new ≡ self.old) }
         ensures place { IsSome (finite.get self.old key) → IsOk result }
     {
-        self.map.insert(key, value)?;
-        Ok(())
+        Ok(self.map.insert(key, value)?)
     }
 
     /// Takes a key out, and gives back its value. Takes no memory.

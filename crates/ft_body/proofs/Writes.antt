@@ -12,7 +12,7 @@ laid_over-resized : (xs : List ℕ) (start : ℕ) (ys : List ℕ) (n : ℕ) → 
 laid_over-resized xs start ys n e = same_lists _ _ (search (rules, places)) (λ k d h. grind (arith, places))
 
 -- what is written where there is something to write
-written-some : (xs : List ℕ) (start : ℕ) (ys : List ℕ) → 0 < length ys → written xs start ys ≡ laid_over (padded xs start) start ys
+pub written-some : (xs : List ℕ) (start : ℕ) (ys : List ℕ) → 0 < length ys → written xs start ys ≡ laid_over (padded xs start) start ys
 written-some xs start [] h = absurd (omega arith)
 written-some xs start (y ∷ ys) h = refl
 
@@ -24,21 +24,21 @@ padded_then_laid_over xs wide after start ys n size some is e pads lays =
     ∙ laid_over-resized xs start ys n (e ∙ ap (λ m. max (start + length ys) m) is) ∙ sym (written-some xs start ys some)
 
 -- the elements before those that were laid over
-laid_over-before : (xs : List ℕ) (start : ℕ) (ys : List ℕ) (k d : ℕ) → k < start → start ≤ length xs → get_or (laid_over xs start ys) k d ≡ get_or xs k d
+pub laid_over-before : (xs : List ℕ) (start : ℕ) (ys : List ℕ) (k d : ℕ) → k < start → start ≤ length xs → get_or (laid_over xs start ys) k d ≡ get_or xs k d
 laid_over-before xs start ys k d h l = grind (arith, places)
 
 -- those behind them
-laid_over-behind : (xs : List ℕ) (start : ℕ) (ys : List ℕ) (k d : ℕ) → start + length ys ≤ k → start ≤ length xs → get_or (laid_over xs start ys) k d ≡ get_or xs k d
+pub laid_over-behind : (xs : List ℕ) (start : ℕ) (ys : List ℕ) (k d : ℕ) → start + length ys ≤ k → start ≤ length xs → get_or (laid_over xs start ys) k d ≡ get_or xs k d
 laid_over-behind xs start ys k d h l = grind (arith, places)
 
 -- and they themselves
-laid_over-there : (xs : List ℕ) (start : ℕ) (ys : List ℕ) (k d : ℕ) → start ≤ k → k < start + length ys → start ≤ length xs → get_or (laid_over xs start ys) k d ≡ get_or ys (k - start) d
+pub laid_over-there : (xs : List ℕ) (start : ℕ) (ys : List ℕ) (k d : ℕ) → start ≤ k → k < start + length ys → start ≤ length xs → get_or (laid_over xs start ys) k d ≡ get_or ys (k - start) d
 laid_over-there xs start ys k d g h l = grind (arith, places)
 
-length-laid_over : (xs : List ℕ) (start : ℕ) (ys : List ℕ) → start ≤ length xs → length (laid_over xs start ys) ≡ max (start + length ys) (length xs)
+pub length-laid_over : (xs : List ℕ) (start : ℕ) (ys : List ℕ) → start ≤ length xs → length (laid_over xs start ys) ≡ max (start + length ys) (length xs)
 length-laid_over xs start ys l = grind (arith, places)
 
-length-padded : (xs : List ℕ) (n : ℕ) → length (padded xs n) ≡ max n (length xs)
+pub length-padded : (xs : List ℕ) (n : ℕ) → length (padded xs n) ≡ max n (length xs)
 length-padded xs n = grind (arith, places)
 
 padded-at : (xs : List ℕ) (n k d : ℕ) → k < length xs → get_or (padded xs n) k d ≡ get_or xs k d

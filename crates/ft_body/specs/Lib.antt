@@ -1,2 +1,3 @@
 pub mod Bytes
+pub mod Paging
 pub mod PutBack

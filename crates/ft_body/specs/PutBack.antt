@@ -1,12 +1,48 @@
--- When what a change destroyed brings back the bytes from before it.
-use Rattle.std.specs.Prelude.{◌≡◌, ℕ, ◌+◌, ◌≤◌, List, length, take}
-use Rattle.ft_body.specs.declared.buffer.Lost.{Lost}
-use Rattle.ft_body.specs.declared.buffer.Lost.TheVariants.{Part, Whole}
+-- When what a change destroyed brings back what was there before it.
+use Rattle.std.specs.Prelude.{◌≡◌, ℕ, ◌+◌, ◌<◌, ◌≤◌, List, [], ◌++◌, length, take, drop, slice_index_or}
+use Rattle.ft_body.specs.declared.buffer.LostBytes.{LostBytes}
+use Rattle.ft_body.specs.declared.buffer.LostBytes.TheVariants as bytes
+use Rattle.ft_body.specs.declared.pages.Lost.{Lost}
+use Rattle.ft_body.specs.declared.pages.Lost.TheVariants.{Parts, Tail}
 use Rattle.ft_body.specs.Bytes.{laid_over}
 
--- what was lost brings back the bytes from before: a part is laid over its place and the old length restored,
--- and where all was lost it is all of them
-abbrev pub PutsBack : Lost → List ℕ → List ℕ → Type 0
-PutsBack (Part from bytes size) after before = (from + length bytes.items ≤ length after)
-    × (before ≡ take size (laid_over after from bytes.items))
-PutsBack (Whole bytes) after before = before ≡ bytes.items
+-- a part that is to be laid over its place is not longer than what is there
+abbrev pub LiesWithin : LostBytes → List ℕ → Type 0
+LiesWithin bytes.Nothing after = Unit {0}
+LiesWithin (bytes.Part from bytes size) after = from + length bytes.items ≤ length after
+LiesWithin (bytes.Whole bytes) after = Unit {0}
+
+-- the bytes with what was lost put back: a part is laid over its place and the old length restored, and where all
+-- was lost it is all of them
+abbrev pub bytes_back : LostBytes → List ℕ → List ℕ
+bytes_back bytes.Nothing after = after
+bytes_back (bytes.Part from bytes size) after = take size (laid_over after from bytes.items)
+bytes_back (bytes.Whole bytes) after = bytes.items
+
+-- a buffer's change is taken back by what it destroyed
+abbrev pub PutsBytesBack : LostBytes → List ℕ → List ℕ → Type 0
+PutsBytesBack lost after before = LiesWithin lost after × (before ≡ bytes_back lost after)
+
+-- the part that was lost in a page, counted from the first page that was written
+abbrev pub part_at : List LostBytes → ℕ → LostBytes
+part_at parts i = slice_index_or parts i bytes.Nothing
+
+-- the page at an index, and a hole where there is none
+abbrev pub page_at : List (List ℕ) → ℕ → List ℕ
+page_at pages i = slice_index_or pages i []
+
+-- parts of pages, the first of which stood in the page `first`, bring back the pages from before
+pub record PutPartsBack (first : ℕ) (parts : List LostBytes) (after before : List (List ℕ)) : Type 0 where
+  pub count : length after ≡ length before
+  pub room : first + length parts ≤ length after
+  pub there : (i : ℕ) → i < length parts → PutsBytesBack (part_at parts i) (page_at after (first + i)) (page_at before (first + i))
+  pub front : (i : ℕ) → i < first → page_at before i ≡ page_at after i
+  pub behind : (i : ℕ) → first + length parts ≤ i → page_at before i ≡ page_at after i
+
+-- what was lost brings back the pages from before: parts of pages, after which the pages behind the old count go, or
+-- all pages from an index on
+abbrev pub PutsBack : Lost → List (List ℕ) → List (List ℕ) → Type 0
+PutsBack (Parts count first parts) after before =
+    (whole : List (List ℕ)) × PutPartsBack first parts.items after whole × (before ≡ take count whole)
+PutsBack (Tail kept pages) after before =
+    (kept ≤ length after) × (kept ≤ length pages.items) × (before ≡ take kept after ++ drop kept pages.items)

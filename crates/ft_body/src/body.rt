@@ -1,10 +1,12 @@
 // The body of a file, seen as a list of bytes.
-ghost use Rattle.std.specs.Prelude.{◌≡◌, ◌==◌, ◌≤◌, [], length, IsOk, IfOk, OnOk, OnErr};
+ghost use Rattle.std.specs.Prelude.{◌≡◌, ◌==◌, ◌≤◌, ◌+◌, ◌/◌, ℕ, false, [], length, slice_index, IsOk, IfOk, OnOk, OnErr};
 ghost use Rattle.ft_body.specs.Bytes.{bytes_at, fitting, written, resized};
+ghost use Rattle.ft_body.specs.Paging.{made_pages, is_made, KeepsPagesOutside, MakesNoPage};
 
-use crate::SIZE_LIMIT;
-use crate::buffer::{copy_of, overwrite, resize};
+use crate::page::Page;
+use crate::pages::{Lost, copy_of_pages, read, resize, write};
 use crate::undo::BodyUndo;
+use crate::{PAGE_SIZE, SIZE_LIMIT};
 use ft_base::Memory;
 use std::alloc::Global;
 use std::marker::Model;
@@ -12,22 +14,25 @@ use std::snapshot::Snapshot;
 
 /// The bytes of a file, which clauses see as a list.
 ///
-/// A write takes time as the bytes that it writes, zeros in a gap among them, a read as those that
-/// it gives, and a cut as those that stay.
+/// They stand in pages of `PAGE_SIZE` bytes. A page is made where one of its bytes is not zero; any
+/// other is a hole, which takes no bytes. A write takes time as the bytes that it writes and a page
+/// at most, a read as those that it gives, and a change of the length as the pages that stay or are
+/// added, and the bytes of one page at most.
 #[derive(Drop)]
 pub struct Body {
-    bytes: Vec<u8>,
+    size: usize,
+    pages: Vec<Page>,
 }
 
 impl Model for Body {
-    ghost use Rattle.std.specs.Prelude.{ℕ, ◌≤◌, List, length};
-    ghost use Rattle.ft_body.specs.declared.TheConstants.{SIZE_LIMIT};
+    ghost use Rattle.std.specs.Prelude.{ℕ, List};
+    ghost use Rattle.ft_body.specs.Paging.{IsPaged, bytes_in};
 
     ghost Value = { List ℕ };
 
-    ghost view = { λ a. a.bytes.items };
+    ghost view = { λ a. bytes_in a.size a.pages.items };
 
-    ghost invariant = { λ a. length a.bytes.items ≤ SIZE_LIMIT };
+    ghost invariant = { λ a. IsPaged a.size a.pages.items };
 }
 
 impl Body {
@@ -36,7 +41,8 @@ impl Body {
         ensures { result ≡ [] }
     {
         Body {
-            bytes: Vec::new(alloc),
+            size: 0,
+            pages: Vec::new(alloc),
         }
     }
 
@@ -45,14 +51,14 @@ impl Body {
         ensures count { result ≡ length self.now }
         ensures limit { result ≤ SIZE_LIMIT }
     {
-        self.bytes.len() as u64
+        self.size as u64
     }
 
     /// Whether there is none.
     pub fn is_empty(&self) -> bool
         ensures { result ≡ (length self.now == 0) }
     {
-        self.bytes.is_empty()
+        self.size == 0
     }
 
     /// The bytes from an offset on, at most `count`; at or past the end none. To read none takes
@@ -61,13 +67,11 @@ impl Body {
         ensures bytes { IfOk result (λ read. read.items ≡ bytes_at self.now offset count) }
         ensures nothing { bytes_at self.now offset count ≡ [] → IsOk result }
     {
-        let size = self.len();
+        let size = self.size as u64;
         let start = offset.min(size);
-        let end = start + count.min(size - start);
-        copy_of(
-            *self.bytes.allocator(),
-            &self.bytes[start as usize..end as usize],
-        )
+        let count = count.min(size - start);
+        let alloc = *self.pages.allocator();
+        read(alloc, &self.pages, start as usize, count as usize)
     }
 
     /// Writes as many of the bytes as there is room for below the size limit at an offset, and
@@ -80,12 +84,32 @@ impl Body {
         ensures undo { IfOk result (λ done. done.1 ≡ record { before = self.old; after = self.new }) }
         ensures err { OnErr result (self.new ≡ self.old) }
         ensures nothing { fitting bytes.now offset ≡ [] → IsOk result }
+        ensures pages { OnOk result (KeepsPagesOutside self.old self.new offset (offset + length (fitting bytes.now offset))) }
     {
-        let taken = (SIZE_LIMIT - offset).min(bytes.len() as u64);
-        let before = Snapshot::of(self);
-        let lost = overwrite(&mut self.bytes, offset as usize, &bytes[..taken as usize])?;
-        let after = Snapshot::of(self);
-        Ok((taken, BodyUndo::new(lost, before, after)))
+        let taken = (SIZE_LIMIT - offset).min(bytes.len() as u64) as usize;
+        if taken == 0 {
+            return Ok((0, self.unchanged()));
+        }
+        let offset = offset as usize;
+        let size = self.size;
+        let before = Snapshot::of(&self.pages);
+        let lost = write(&mut self.pages, offset, &bytes[..taken])?;
+        self.size = size.max(offset + taken);
+        let size_after = Snapshot::of(&self.size);
+        let after = Snapshot::of(&self.pages);
+        let undo = BodyUndo::new(lost, size, before, size_after, after);
+        Ok((taken as u64, undo))
+    }
+
+    /// What takes back that nothing was changed.
+    fn unchanged(&self) -> BodyUndo
+        ensures { result ≡ record { before = self.now; after = self.now } }
+    {
+        let lost = Lost::nothing(&self.pages);
+        let before = Snapshot::of(&self.pages);
+        let size_after = Snapshot::of(&self.size);
+        let after = Snapshot::of(&self.pages);
+        BodyUndo::new(lost, self.size, before, size_after, after)
     }
 
     /// Cuts the body to a size, or adds zeros up to it. To set the size that it has takes no
@@ -96,11 +120,15 @@ impl Body {
         ensures undo { IfOk result (λ undo. undo ≡ record { before = self.old; after = self.new }) }
         ensures err { OnErr result (self.new ≡ self.old) }
         ensures nothing { length self.old ≡ size → IsOk result }
+        ensures pages { OnOk result (MakesNoPage self.old self.new size) }
     {
-        let before = Snapshot::of(self);
-        let lost = resize(&mut self.bytes, size as usize)?;
-        let after = Snapshot::of(self);
-        Ok(BodyUndo::new(lost, before, after))
+        let old_size = self.size;
+        let before = Snapshot::of(&self.pages);
+        let lost = resize(&mut self.pages, old_size, size as usize)?;
+        self.size = size as usize;
+        let size_after = Snapshot::of(&self.size);
+        let after = Snapshot::of(&self.pages);
+        Ok(BodyUndo::new(lost, old_size, before, size_after, after))
     }
 
     /// Takes a change back, where the body is as the change left it. Takes no memory.
@@ -108,7 +136,16 @@ impl Body {
         requires { self.old ≡ undo.after }
         ensures { self.new ≡ undo.before }
     {
-        undo.put_back(&mut self.bytes);
+        undo.put_back(&mut self.size, &mut self.pages);
+    }
+
+    /// How many pages are made. A page is made where one of its bytes is not zero; any other is a
+    /// hole, which takes no bytes.
+    pub fn pages(&self) -> u64
+        ensures count { result ≡ made_pages self.now }
+        ensures holes { (k : ℕ) → is_made self.now (k / PAGE_SIZE) ≡ false → slice_index self.now k ≡ 0 }
+    {
+        self.pages.iter().filter(|page| page.is_made()).count() as u64
     }
 
     /// A body of its own with equal bytes. An empty one takes no memory.
@@ -116,7 +153,10 @@ impl Body {
         ensures equal { IfOk result (λ copy. copy ≡ self.now) }
         ensures nothing { self.now ≡ [] → IsOk result }
     {
-        let bytes = copy_of(*self.bytes.allocator(), &self.bytes)?;
-        Ok(Body { bytes })
+        let pages = copy_of_pages(*self.pages.allocator(), &self.pages)?;
+        Ok(Body {
+            size: self.size,
+            pages,
+        })
     }
 }

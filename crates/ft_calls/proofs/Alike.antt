@@ -9,16 +9,17 @@ use Rattle.ft_laws.specs.Lists.{In}
 use Rattle.ft_tree.specs.declared.node.Node.{Node}
 use Rattle.ft_tree.specs.declared.cell.Cell.{Cell}
 use Rattle.ft_tree.specs.declared.cell.Cell.TheVariants.{Entry, Names, Parent, Links, Bytes, Fd}
-use Rattle.ft_tree.specs.Cells.{Cells, DirCells, dir_entry, dir_names, dir_of, stored_dirs, entry_of, parent_of, links_of, bytes_of, open_of}
+use Rattle.ft_tree.specs.Cells.{Cells, DirCells, dir_entry, dir_names, dir_of, stored_dirs, entry_of, parent_of}
 use Rattle.ft_tree.specs.Views.{view_of}
 use Rattle.ft_tree.specs.Looks.{View, Agree, looked_at, answer-agree, looked_at-agree}
-use Rattle.ft_tree.specs.Sound.{IsTree, IsFree}
+use Rattle.ft_tree.specs.Held.{held}
+use Rattle.ft_tree.specs.Sound.{IsTree, SaysNothingOf, IsFree, SameValues}
 use Rattle.ft_calls.specs.declared.call.Call.{Call}
 use Rattle.ft_calls.specs.Outcomes.{Write}
 use Rattle.ft_calls.specs.Steps.{steps}
 use Rattle.ft_calls.specs.Stored.{put_all, outcome}
 use Rattle.ft_calls.specs.Accesses.{with_looks, with_writes, listed, accesses_of}
-use Rattle.ft_calls.specs.Posix.{held, covers, SameValues, HasSoundValues}
+use Rattle.ft_calls.specs.Posix.{covers, HasSoundValues}
 use Rattle.ft_calls.proofs.Puts.{entry_after, parent_after, links_after, bytes_after, open_after, entry-put_all, parent-put_all, links-put_all, bytes-put_all, open-put_all}
 use Rattle.ft_calls.proofs.Tidied.{dir_names-find}
 use Rattle.ft_calls.proofs.Below.{IsEnough, StoredEnough, StepsAlike}
@@ -53,57 +54,30 @@ agree-each v w (c ∷ cs) same = (same c (inl refl), agree-each v w cs (λ d i. 
 
 -- the other way round
 pub same_back : (old new : Cells) → SameValues old new → SameValues new old
-same_back old new same = record {
-  entries = λ d name. sym (same.entries d name);
-  parents = λ d. sym (same.parents d);
-  links = λ i. sym (same.links i);
-  bytes = λ i. sym (same.bytes i);
-  opens = λ f. sym (same.opens f);
-}
-
--- each cell holds the same
-pub same_held : (old new : Cells) → SameValues old new → (x : Cell) → held old x ≡ held new x
-same_held old new same (Entry d name) = sym (same.entries d name)
-same_held old new same (Names d) = refl
-same_held old new same (Parent d) = sym (same.parents d)
-same_held old new same (Links i) = sym (same.links i)
-same_held old new same (Bytes i) = sym (same.bytes i)
-same_held old new same (Fd f) = sym (same.opens f)
+same_back old new same = record { values = λ c. sym (same.values c) }
 
 -- they are a tree alike
 pub same_tree : (old new : Cells) → SameValues old new → IsTree (entry_of old) (parent_of old) → IsTree (entry_of new) (parent_of new)
 same_tree old new same tree =
-    let entries : entry_of old ≡ entry_of new = λ i d name. sym (same.entries d name) i in
-    let parents : parent_of old ≡ parent_of new = λ i d. sym (same.parents d) i in
+    let entries : entry_of old ≡ entry_of new = λ i d name. sym (same.values (Entry d name)) i in
+    let parents : parent_of old ≡ parent_of new = λ i d. sym (same.values (Parent d)) i in
     subst (λ (f : ℕ → List ℕ → Option Node). IsTree f (parent_of new)) entries (subst (λ (f : ℕ → Option ℕ). IsTree (entry_of old) f) parents tree)
 
 -- the same numbers are free
-pub same_free : (old new : Cells) → SameValues old new → (k : ℕ) → IsFree old k → IsFree new k
-same_free old new same k free = record {
-  above_root = free.above_root;
-  no_parent = same.parents k ∙ free.no_parent;
-  no_links = same.links k ∙ free.no_links;
-  no_bytes = same.bytes k ∙ free.no_bytes;
-  no_open = same.opens k ∙ free.no_open;
-  no_entry = λ d name x h. free.no_entry d name x (sym (same.entries d name) ∙ h);
-  no_file = λ f o h. free.no_file f o (sym (same.opens f) ∙ h);
-}
+pub same_free : (old new : Cells) → ((c : Cell) → held new c ≡ held old c) → (k : ℕ) → IsFree old k → IsFree new k
+same_free old new same k free = record { above_root = free.above_root; unused = λ c. subst (SaysNothingOf k c) (sym (same c)) (free.unused c) }
 
 -- and they have the same values after the same writes
 pub same_after : (ws : List Write) (old new : Cells) → SameValues old new → SameValues (put_all old ws) (put_all new ws)
-same_after ws old new same =
-    let entries : entry_of new ≡ entry_of old = λ i d name. same.entries d name i in
-    let parents : parent_of new ≡ parent_of old = λ i d. same.parents d i in
-    let links : links_of new ≡ links_of old = λ i n. same.links n i in
-    let bytes : bytes_of new ≡ bytes_of old = λ i n. same.bytes n i in
-    let opens : open_of new ≡ open_of old = λ i f. same.opens f i in
-    record {
-      entries = λ d name. ap (λ f. f d name) (entry-put_all ws new ∙ ap (λ f. entry_after f ws) entries ∙ sym (entry-put_all ws old));
-      parents = λ d. ap (λ f. f d) (parent-put_all ws new ∙ ap (λ f. parent_after f ws) parents ∙ sym (parent-put_all ws old));
-      links = λ i. ap (λ f. f i) (links-put_all ws new ∙ ap (λ f. links_after f ws) links ∙ sym (links-put_all ws old));
-      bytes = λ i. ap (λ f. f i) (bytes-put_all ws new ∙ ap (λ f. bytes_after f ws) bytes ∙ sym (bytes-put_all ws old));
-      opens = λ f. ap (λ g. g f) (open-put_all ws new ∙ ap (λ g. open_after g ws) opens ∙ sym (open-put_all ws old));
-    }
+same_after ws old new same = record { values = values }
+  where
+    values : (c : Cell) → held (put_all new ws) c ≡ held (put_all old ws) c
+    values (Entry d name) = ap (λ f. f d name) (entry-put_all ws new ∙ (λ i. entry_after (λ e other. same.values (Entry e other) i) ws) ∙ sym (entry-put_all ws old))
+    values (Names d) = refl
+    values (Parent d) = ap (λ f. f d) (parent-put_all ws new ∙ (λ i. parent_after (λ e. same.values (Parent e) i) ws) ∙ sym (parent-put_all ws old))
+    values (Links n) = ap (λ f. f n) (links-put_all ws new ∙ (λ i. links_after (λ e. same.values (Links e) i) ws) ∙ sym (links-put_all ws old))
+    values (Bytes n) = ap (λ f. f n) (bytes-put_all ws new ∙ (λ i. bytes_after (λ e. same.values (Bytes e) i) ws) ∙ sym (bytes-put_all ws old))
+    values (Fd f) = ap (λ g. g f) (open-put_all ws new ∙ (λ i. open_after (λ e. same.values (Fd e) i) ws) ∙ sym (open-put_all ws old))
 
 -- sound values are those of a tree
 pub tree-values : (cells : Cells) → HasSoundValues cells → IsTree (entry_of cells) (parent_of cells)
@@ -149,4 +123,4 @@ module _ (steps-alike : StepsAlike) (stored-enough : StoredEnough) where
   pub does-same : (old new : Cells) → SameValues old new → IsTree (entry_of old) (parent_of old) → (k : ℕ) (call : Call) → DoesAlike old new k call
   does-same old new same tree k call =
       does-alike old new tree (same_tree old new same tree) k call
-      (agree-each (view_of old) (view_of new) (looked old k call) (λ c i. view-covered old new c (λ x h. same_held old new same x)))
+      (agree-each (view_of old) (view_of new) (looked old k call) (λ c i. view-covered old new c (λ x h. sym (same.values x))))

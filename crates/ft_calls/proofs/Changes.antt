@@ -7,7 +7,7 @@ use Rattle.ft_body.specs.declared.TheConstants.{SIZE_LIMIT}
 use Rattle.ft_path.specs.declared.errno.Errno.{Errno}
 use Rattle.ft_path.specs.declared.errno.Errno.TheVariants.{EINVAL, EEXIST, EISDIR, ENOENT, ENOTDIR, EBADF, EFBIG, EMLINK, EOVERFLOW}
 use Rattle.ft_path.specs.declared.path.Parts.{Parts}
-use Rattle.ft_path.specs.FilePath.{parts_of}
+use Rattle.ft_path.specs.FilePath.{last_of, parts_of}
 use Rattle.ft_tree.specs.declared.node.Node.{Node}
 use Rattle.ft_tree.specs.declared.node.Node.TheVariants.{Dir as DirNode, File as FileNode}
 use Rattle.ft_tree.specs.declared.open_file.OpenFile.{OpenFile}
@@ -25,11 +25,13 @@ use Rattle.ft_calls.specs.declared.call.Whence.{Whence}
 use Rattle.ft_calls.specs.declared.call.Reply.{Reply}
 use Rattle.ft_calls.specs.declared.call.Reply.TheVariants.{Done, Number}
 use Rattle.ft_calls.specs.Outcomes.{Write, SetEntry, SetParent, SetLinks, SetBytes, SetOpen, Outcome, told, failed, from_parts, unless}
-use Rattle.ft_calls.specs.DirSteps.{make_dir, remove_dir, if_empty, last_of, last_fault, remove_parts, list_dir}
-use Rattle.ft_calls.specs.LinkSteps.{linked, link_new, link_old, link_parts, unlinked, unlink_spot, climb, unless_below, rename_fault, renamed, with_parent, replace_file, if_bare, replace_dir, rename_file, rename_dir, rename_old, rename_parts}
-use Rattle.ft_calls.specs.FileSteps.{description, creates, opens, open_node, is_exclusive, open_spot, open_parts, on_open, with_open, any_open, is_readable, is_writable, at_offset, close_open, read_open, not_negative, pread_at, pread_open, write_place, write_at, write_open, pwrite_at, pwrite_open, seek_from, moved, sought, seek_open, to_size, cut_file, truncate_spot, truncate_parts, ftruncate_open, stat_spot, fstat_open}
+use Rattle.ft_calls.specs.Dirs.{make_dir, remove_dir, if_empty, last_fault, remove_parts, list_dir}
+use Rattle.ft_calls.specs.Links.{linked, link_new, link_old, link_parts, unlinked, unlink_spot, climb, unless_below, rename_fault, renamed, with_parent, replace_file, if_bare, replace_dir, rename_file, rename_dir, rename_old, rename_parts}
+use Rattle.ft_calls.specs.Files.{description, creates, opens, open_node, is_exclusive, open_spot, open_parts, to_size, cut_file, truncate_spot, truncate_parts, stat_spot}
+use Rattle.ft_calls.specs.Descriptors.{on_open, with_open, any_open, is_readable, is_writable, at_offset, close_open, read_open, not_negative, pread_at, pread_open, write_place, write_at, write_open, pwrite_at, pwrite_open, seek_from, moved, sought, seek_open, ftruncate_open, fstat_open}
 use Rattle.ft_calls.specs.Perform.{OnlyTells, IsList, is_read}
 use Rattle.ft_calls.specs.Stored.{outcome}
+use Rattle.ft_calls.specs.Edits.{AreApart}
 use Rattle.ft_calls.proofs.Below.{Avoids, IsEnough}
 use Rattle.ft_calls.proofs.Climbing.{not_under, stored-enough, climb-avoids}
 use Rattle.ft_calls.proofs.Named.{Named, by_entry, by_open}
@@ -72,7 +74,7 @@ module _ (cells : Cells) where
         → Change k reads (renamed d name (DirNode i) e other (with_parent i d e))
     replaces_dir : (d : ℕ) (name : List ℕ) (i e : ℕ) (other : List ℕ) (j : ℕ) → entry_of cells d name ≡ Some (DirNode i) → entry_of cells e other ≡ Some (DirNode j) → i ≢ j → Avoids (parent_of cells) i e
         → names_of cells j ≡ [] → Change k reads (renamed d name (DirNode i) e other (SetParent j None ∷ with_parent i d e))
-    on_files : (reply : Reply) (ws : List Write) → AreFileWrites k ws → (OnlyTells reply → ⊥) → (IsList reply → reads ≡ true) → Change k reads (record { reply = reply; writes = ws })
+    on_files : (reply : Reply) (ws : List Write) → AreFileWrites k ws → AreApart ws → (OnlyTells reply → ⊥) → (IsList reply → reads ≡ true) → Change k reads (record { reply = reply; writes = ws })
 
   module _ (k : ℕ) (reads : Bool) where
     -- what is answered comes to such a change
@@ -126,11 +128,15 @@ module _ (cells : Cells) where
 
     -- to open a file that is there sets a new description, and may cut the file
     opens-changes : (flags : OpenFlags) (i : ℕ) → Named cells i → Change k reads (opens k flags i)
-    opens-changes flags i named = on_files (Number k) _ (sets_open k (description flags i) named (inl refl), cut flags.trunc) (λ x. x) (λ x. absurd x)
+    opens-changes flags i named = on_files (Number k) _ (sets_open k (description flags i) named (inl refl), cut flags.trunc) (apart flags.trunc) (λ x. x) (λ x. absurd x)
       where
         cut : (trunc : Bool) → AreFileWrites k (cond trunc (SetBytes i [] ∷ []) [])
         cut true = (sets_bytes i [] named, tt)
         cut false = tt
+
+        apart : (trunc : Bool) → AreApart (SetOpen k (Some (description flags i)) ∷ cond trunc (SetBytes i [] ∷ []) [])
+        apart true = ((refl, tt), (tt, tt))
+        apart false = (tt, tt)
 
     open_node-changes : (flags : OpenFlags) (d : ℕ) (name : List ℕ) (x : Node) → Some x ≡ entry_of cells d name → Change k reads (open_node k flags x)
     open_node-changes flags d name (DirNode i) is = no_change _
@@ -166,7 +172,7 @@ module _ (cells : Cells) where
     write_at-changes : (fd : ℕ) (o : OpenFile) → open_of cells fd ≡ Some o → (bytes : List ℕ) (at : ℕ) → ComesTo (write_at fd o bytes at)
     write_at-changes fd o is bytes at =
         either-changes (nat_le SIZE_LIMIT at) (Answer (failed EFBIG)) _ (no_change _)
-        (on_files _ _ (sets_bytes o.file _ (by_open fd o is), (moves fd o is _, tt)) (λ x. x) (λ x. absurd x))
+        (on_files _ _ (sets_bytes o.file _ (by_open fd o is), (moves fd o is _, tt)) ((refl, tt), (tt, tt)) (λ x. x) (λ x. absurd x))
 
     write_open-changes : (fd : ℕ) (bytes : List ℕ) (o : OpenFile) → open_of cells fd ≡ Some o → ComesTo (write_open fd bytes o)
     write_open-changes fd [] o is = no_change _
@@ -177,14 +183,14 @@ module _ (cells : Cells) where
     pwrite_at-changes : (fd : ℕ) (o : OpenFile) → open_of cells fd ≡ Some o → (bytes : List ℕ) (at : ℕ) → ComesTo (pwrite_at o bytes at)
     pwrite_at-changes fd o is [] at = no_change _
     pwrite_at-changes fd o is (first ∷ more) at =
-        either-changes (nat_le SIZE_LIMIT at) (Answer (failed EFBIG)) _ (no_change _) (on_files _ _ (sets_bytes o.file _ (by_open fd o is), tt) (λ x. x) (λ x. absurd x))
+        either-changes (nat_le SIZE_LIMIT at) (Answer (failed EFBIG)) _ (no_change _) (on_files _ _ (sets_bytes o.file _ (by_open fd o is), tt) (tt, tt) (λ x. x) (λ x. absurd x))
 
     -- lseek moves the offset
     sought-changes : (fd : ℕ) (o : OpenFile) → open_of cells fd ≡ Some o → (place : Option ℕ) → Change k reads (sought fd o place)
     sought-changes fd o is None = no_change _
     sought-changes fd o is (Some at) =
         elim (nat_le at LAST_OFFSET) as (λ b. Change k reads (cond b (record { reply = Number at; writes = SetOpen fd (Some (at_offset o at)) ∷ [] }) (failed EOVERFLOW))) [
-          | true ↦ on_files _ _ (moves fd o is at, tt) (λ x. x) (λ x. absurd x)
+          | true ↦ on_files _ _ (moves fd o is at, tt) (tt, tt) (λ x. x) (λ x. absurd x)
           | false ↦ no_change _
         ]
 
@@ -194,7 +200,7 @@ module _ (cells : Cells) where
 
     -- truncate and ftruncate set the bytes
     cut_file-changes : (i size : ℕ) → Named cells i → ComesTo (cut_file i size)
-    cut_file-changes i size named = on_files Done _ (sets_bytes i _ named, tt) (λ x. x) (λ x. absurd x)
+    cut_file-changes i size named = on_files Done _ (sets_bytes i _ named, tt) (tt, tt) (λ x. x) (λ x. absurd x)
 
     truncate_spot-changes : (size : ℕ) (spot : Spot) → IsSpot cells spot → ComesTo (truncate_spot size spot)
     truncate_spot-changes size (AtName d name None) h = no_change _
@@ -320,7 +326,7 @@ module _ (cells : Cells) where
 
 -- read moves its descriptor's offset
 read_open-changes : (cells : Cells) (k fd len : ℕ) (o : OpenFile) → open_of cells fd ≡ Some o → ComesTo cells k true (read_open fd len o)
-read_open-changes cells k fd len o is = on_files _ _ (moves cells k true fd o is _, tt) (λ x. x) (λ _. refl)
+read_open-changes cells k fd len o is = on_files _ _ (moves cells k true fd o is _, tt) (tt, tt) (λ x. x) (λ _. refl)
 
 -- what each call changes on sound cells
 pub call-changes : (cells : Cells) → AreSoundCells cells → (k : ℕ) (call : Call) → Change cells k (is_read call) (outcome cells k call)
@@ -329,7 +335,7 @@ call-changes cells sound k (Rmdir path) = remove_parts-changes cells k false sou
 call-changes cells sound k (ListDir path) = from_parts-changes cells k false sound list_dir (list_dir-changes cells k false) (parts_of path)
 call-changes cells sound k (Open path access create excl trunc append) = open_parts-changes cells k false sound _ (parts_of path)
 call-changes cells sound k (Close fd) =
-    with_open-changes cells k false fd any_open (close_open fd) (λ o is. on_files Done _ (closes fd o is, tt) (λ x. x) (λ x. absurd x))
+    with_open-changes cells k false fd any_open (close_open fd) (λ o is. on_files Done _ (closes fd o is, tt) (tt, tt) (λ x. x) (λ x. absurd x))
 call-changes cells sound k (Read fd len) = with_open-changes cells k true fd is_readable (read_open fd len) (read_open-changes cells k fd len)
 call-changes cells sound k (WriteCall fd bytes) = with_open-changes cells k false fd is_writable (write_open fd bytes) (write_open-changes cells k false fd bytes)
 call-changes cells sound k (Pread fd off len) =
@@ -358,7 +364,7 @@ only_tells-none cells k reads _ (moves_file d name i e other is hangs empty) tel
 only_tells-none cells k reads _ (replaces_file d name i e other j is was apart) tells = absurd tells
 only_tells-none cells k reads _ (moves_dir d name i e other is hangs clear empty) tells = absurd tells
 only_tells-none cells k reads _ (replaces_dir d name i e other j is was apart clear bare) tells = absurd tells
-only_tells-none cells k reads _ (on_files reply ws each acts lists) tells = absurd (acts tells)
+only_tells-none cells k reads _ (on_files reply ws each apart acts lists) tells = absurd (acts tells)
 
 -- and so is a list, but that of a read
 pub lists-none : (cells : Cells) (k : ℕ) (o : Outcome) → Change cells k false o → IsList o.reply → o.writes ≡ []
@@ -372,4 +378,4 @@ lists-none cells k _ (moves_file d name i e other is hangs empty) list = absurd 
 lists-none cells k _ (replaces_file d name i e other j is was apart) list = absurd list
 lists-none cells k _ (moves_dir d name i e other is hangs clear empty) list = absurd list
 lists-none cells k _ (replaces_dir d name i e other j is was apart clear bare) list = absurd list
-lists-none cells k _ (on_files reply ws each acts lists) list = absurd (false≢true (lists list))
+lists-none cells k _ (on_files reply ws each apart acts lists) list = absurd (false≢true (lists list))

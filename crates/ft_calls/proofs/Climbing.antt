@@ -9,7 +9,7 @@ use Rattle.std.specs.FinMap.{FinMap, get, contains_key, remove, len, empty_of_le
 use Rattle.ft_path.specs.declared.path.Parts.{Parts}
 use Rattle.ft_path.specs.declared.errno.Errno.{Errno}
 use Rattle.ft_path.specs.declared.errno.Errno.TheVariants.{EINVAL}
-use Rattle.ft_path.specs.FilePath.{parts_of}
+use Rattle.ft_path.specs.FilePath.{last_of, parts_of}
 use Rattle.ft_tree.specs.declared.node.Node.TheVariants.{Dir as DirNode, File as FileNode}
 use Rattle.ft_tree.specs.declared.cell.Cell.{Cell}
 use Rattle.ft_tree.specs.declared.cell.Cell.TheVariants.{Parent}
@@ -22,8 +22,7 @@ use Rattle.ft_tree.specs.Sound.{Hangs, the_root, under, IsTree, AreSoundCells}
 use Rattle.ft_calls.specs.declared.call.Call.TheVariants.{Rename}
 use Rattle.ft_calls.specs.declared.call.Reply.TheVariants.{Done}
 use Rattle.ft_calls.specs.Outcomes.{Outcome, failed, told, from_parts, unless}
-use Rattle.ft_calls.specs.DirSteps.{last_of}
-use Rattle.ft_calls.specs.LinkSteps.{climb, unless_below, rename_fault, renamed, with_parent, replace_dir, rename_dir, rename_old, rename_parts}
+use Rattle.ft_calls.specs.Links.{climb, unless_below, rename_fault, renamed, with_parent, replace_dir, rename_dir, rename_old, rename_parts}
 use Rattle.ft_calls.proofs.Below.{Avoids, at_root, not_here, height, IsEnough, Alike, StoredEnough, StepsAlike}
 use Rattle.ft_calls.proofs.Parents.{contains-under}
 use Rattle.ft_calls.proofs.Places.{dir_place-parent}

@@ -10,9 +10,10 @@ use Rattle.ft_tree.specs.Looks.{answer, looked_at}
 use Rattle.ft_tree.specs.Sound.{IsFree}
 use Rattle.ft_calls.specs.declared.call.Call.{Call}
 use Rattle.ft_calls.specs.declared.call.Call.TheVariants.{Mkdir, Rmdir, List as ListDir, Open, Close, Read, Write as WriteCall, Pread, Pwrite, Lseek, Truncate, Ftruncate, Stat, Fstat, Link, Unlink, Rename}
-use Rattle.ft_calls.specs.DirSteps.{make_dir, list_dir}
-use Rattle.ft_calls.specs.LinkSteps.{unlink_spot}
-use Rattle.ft_calls.specs.FileSteps.{any_open, is_readable, is_writable, close_open, read_open, pread_open, write_open, pwrite_open, seek_open, stat_spot, ftruncate_open, fstat_open}
+use Rattle.ft_calls.specs.Dirs.{make_dir, list_dir}
+use Rattle.ft_calls.specs.Links.{unlink_spot}
+use Rattle.ft_calls.specs.Files.{stat_spot}
+use Rattle.ft_calls.specs.Descriptors.{any_open, is_readable, is_writable, close_open, read_open, pread_open, write_open, pwrite_open, seek_open, ftruncate_open, fstat_open}
 use Rattle.ft_calls.specs.Steps.{steps}
 use Rattle.ft_calls.specs.Accesses.{written_cell}
 use Rattle.ft_calls.specs.Posix.{as_change, file_of, names_file}
@@ -20,13 +21,14 @@ use Rattle.ft_calls.proofs.Upon.{Upon, EachCallUpon}
 use Rattle.ft_calls.proofs.WritesUpon.{IsUpon, upon-cell, upon-name, upon-lost}
 use Rattle.ft_calls.proofs.FilesUpon.{GoesUpon, from_parts-goes, make_dir-goes, remove_parts-goes, list_dir-goes, open_parts-goes, with_open-goes, close_open-goes, read_open-goes, pread_open-goes, write_open-goes, pwrite_open-goes, seek_open-goes, truncate_parts-goes, ftruncate_open-goes, stat_spot-goes, fstat_open-goes}
 use Rattle.ft_calls.proofs.LinksUpon.{link_parts-goes, unlink_spot-goes, rename_parts-goes}
+use Rattle.ft_calls.proofs.Free.{no_open}
 
 -- where all that a call looks at is seen, it comes upon its files
 call-goes : (cells : Cells) (k : ℕ) (seen : List Cell) → IsFree cells k → (n : ℕ) (call : Call) → GoesUpon cells k seen (steps n k call)
 call-goes cells k seen free n (Mkdir path) = from_parts-goes cells k seen (make_dir k) (make_dir-goes cells k seen) (parts_of path)
 call-goes cells k seen free n (Rmdir path) = remove_parts-goes cells k seen (parts_of path)
 call-goes cells k seen free n (ListDir path) = from_parts-goes cells k seen list_dir (list_dir-goes cells k seen) (parts_of path)
-call-goes cells k seen free n (Open path access create excl trunc append) = open_parts-goes cells k seen free.no_open _ (parts_of path)
+call-goes cells k seen free n (Open path access create excl trunc append) = open_parts-goes cells k seen (no_open free) _ (parts_of path)
 call-goes cells k seen free n (Close fd) = with_open-goes cells k seen fd any_open (close_open fd) (close_open-goes cells k seen fd)
 call-goes cells k seen free n (Read fd len) = with_open-goes cells k seen fd is_readable (read_open fd len) (read_open-goes cells k seen fd len)
 call-goes cells k seen free n (WriteCall fd bytes) = with_open-goes cells k seen fd is_writable (write_open fd bytes) (write_open-goes cells k seen fd bytes)

@@ -18,9 +18,9 @@ use Rattle.ft_tree.specs.Tidy.{opens_from, tidy}
 use Rattle.ft_tree.specs.Sound.{IsNoDir, AreSoundCells, IsFree}
 use Rattle.ft_calls.specs.declared.call.OpenFlags.{OpenFlags}
 use Rattle.ft_calls.specs.Exec.{put_plain, put_all_plain, is_named_in, without_dead_files}
-use Rattle.ft_calls.specs.FileSteps.{creates, description}
+use Rattle.ft_calls.specs.Files.{creates, description}
 use Rattle.ft_calls.specs.Laws.{TidyingLaw}
-use Rattle.ft_calls.specs.LinkSteps.{linked, unlinked, renamed, with_parent}
+use Rattle.ft_calls.specs.Links.{linked, unlinked, renamed, with_parent}
 use Rattle.ft_calls.specs.Outcomes.{Write, SetParent, SetLinks, Outcome}
 use Rattle.ft_calls.specs.Stored.{put, put_all, after, outcome}
 use Rattle.ft_calls.proofs.Changes.{FileWrite, AreFileWrites, sets_bytes, closes, sets_open, Change, no_change, makes, removes, creates_file, links_file, unlinks, moves_file, replaces_file, moves_dir, replaces_dir, on_files, made, removed, call-changes}
@@ -39,6 +39,7 @@ use Rattle.ft_calls.proofs.Puts.{with_value, parent_after, links_after, bytes_af
 use Rattle.ft_calls.proofs.Rehung.{kept-hung, no_dir-dir_moved, no_dir-dir_replaced}
 use Rattle.ft_calls.proofs.Shown.{named-there, outcome-shown}
 use Rattle.ft_calls.proofs.Tidied.{get-files, file_place-there, contains-parent, same_plain}
+use Rattle.ft_calls.proofs.Free.{no_parent}
 
 -- Which files the descriptions of the plain tree name.
 
@@ -177,7 +178,7 @@ module _ (cells : Cells) (sound : AreSoundCells cells) where
     )
       where
         by_dir : (b : Bool) → (i == k) ≡ b → contains_key (tidy cells).dirs i ≡ true → cond b (Some []) (get (tidy cells).files i) ≡ None
-        by_dir true is dir = absurd (false≢true (sym (contains-no_dir cells sound k (above-not_root k free.above_root, free.no_parent)) ∙ ap (contains_key (tidy cells).dirs) (sym (eqb-true i k is)) ∙ dir))
+        by_dir true is dir = absurd (false≢true (sym (contains-no_dir cells sound k (above-not_root k free.above_root, (no_parent free))) ∙ ap (contains_key (tidy cells).dirs) (sym (eqb-true i k is)) ∙ dir))
         by_dir false is dir = dir-unstored i dir
 
         by_file : (b : Bool) → (i == k) ≡ b → has_file (put_all cells created) i ≡ true → cond b (Some []) (get (tidy cells).files i) ≡ cond b (Some []) (body_in (put_links cells k 1) i)
@@ -282,7 +283,7 @@ change-files cells sound k free reads _ new (replaces_dir d name i e other j is 
     kept-files cells sound (writes (with_parent i d e)) new (kept-hung i d e (λ more. (put_all_plain (tidy cells) (writes more)).files) refl) (kept-hung i d e (λ more. bytes_after (bytes_of cells) (writes more)) refl)
     (kept-hung i d e (λ more. open_after (open_of cells) (writes more)) refl) (no_dir-dir_replaced cells sound d name i e other j is was apart clear bare)
     (λ n. links-there cells sound n _ (ap (λ f. f n) (kept-hung i d e (λ more. links_after (links_of cells) (writes more)) refl)))
-change-files cells sound k free reads _ new (on_files reply ws each acts lists) = written-files cells sound k ws each
+change-files cells sound k free reads _ new (on_files reply ws each apart acts lists) = written-files cells sound k ws each
 
 pub tidying : TidyingLaw
 tidying cells k call sound free =

@@ -25,12 +25,14 @@ use Rattle.ft_calls.specs.declared.call.Whence.{Whence}
 use Rattle.ft_calls.specs.declared.call.Whence.TheVariants.{Set, Cur, End}
 use Rattle.ft_calls.specs.declared.call.Reply.TheVariants.{Done, Number}
 use Rattle.ft_calls.specs.Outcomes.{Write, SetBytes, SetOpen, Outcome, failed, told, from_parts, unless}
-use Rattle.ft_calls.specs.DirSteps.{make_dir, if_empty, remove_dir, last_of, last_fault, remove_parts, list_dir}
-use Rattle.ft_calls.specs.FileSteps.{description, creates, opens, open_node, is_exclusive, open_spot, open_parts, on_open, with_open, at_offset, close_open, read_open, not_negative, pread_at, pread_open, write_place, write_at, write_open, pwrite_at, pwrite_open, seek_from, moved, sought, seek_open, to_size, cut_file, truncate_spot, truncate_parts, file_info, stat_spot, ftruncate_open, fstat_open}
+use Rattle.ft_calls.specs.Dirs.{make_dir, if_empty, remove_dir, last_fault, remove_parts, list_dir}
+use Rattle.ft_calls.specs.Files.{description, creates, opens, open_node, is_exclusive, open_spot, open_parts, to_size, cut_file, truncate_spot, truncate_parts, file_info, stat_spot}
+use Rattle.ft_calls.specs.Descriptors.{on_open, with_open, at_offset, close_open, read_open, not_negative, pread_at, pread_open, write_place, write_at, write_open, pwrite_at, pwrite_open, seek_from, moved, sought, seek_open, ftruncate_open, fstat_open}
 use Rattle.ft_calls.specs.Posix.{file_of}
 use Rattle.ft_calls.proofs.Upon.{Upon, sees_entry, sees_open}
 use Rattle.ft_calls.proofs.WalkedUpon.{AreSeen, MeetsNone, walk-meets, IsFound, EndsFound, walk-finds}
 use Rattle.ft_calls.proofs.WritesUpon.{IsUpon, upon_parent, upon_links, upon_bytes, AreUpon, of_same, fills, opens_new, keeps_open, shuts}
+use Rattle.ft_path.specs.FilePath.{last_of}
 
 module _ (cells : Cells) (k : ℕ) (seen : List Cell) where
   -- where the cell is of a file, that is come upon

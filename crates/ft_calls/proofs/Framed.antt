@@ -8,7 +8,6 @@ use Rattle.ft_laws.specs.Effects as effects
 use Rattle.ft_laws.proofs.Writing.{write_kept}
 use Rattle.ft_laws.proofs.Running.{made_faithful}
 use Rattle.ft_tree.specs.declared.cell.Cell.{Cell}
-use Rattle.ft_tree.specs.declared.cell.Cell.TheVariants.{Entry, Parent, Links, Bytes, Fd}
 use Rattle.ft_tree.specs.CellOrder.{overlap}
 use Rattle.ft_tree.specs.Cells.{Cells, stored_dirs}
 use Rattle.ft_tree.specs.Views.{view_of}
@@ -18,7 +17,8 @@ use Rattle.ft_calls.specs.Steps.{steps}
 use Rattle.ft_calls.specs.Stored.{outcome, after}
 use Rattle.ft_calls.specs.Accesses.{is_write, accesses_of, some_conflict}
 use Rattle.ft_calls.specs.Laws.{SoundnessLaw, FreshnessLaw, AgreeOn, FrameLaw, KeptLaw, ExchangeLaw}
-use Rattle.ft_calls.specs.Posix.{as_place, as_change, held, covers, Stamped, HasSoundValues, posix, posix_calls}
+use Rattle.ft_tree.specs.Held.{held}
+use Rattle.ft_calls.specs.Posix.{as_place, as_change, covers, Stamped, HasSoundValues, posix, posix_calls}
 use Rattle.ft_calls.proofs.Accessed.{access, looked-accessed, written-accessed}
 use Rattle.ft_calls.proofs.Alike.{view-covered, agree-each, looked, accesses-alike, does-alike}
 use Rattle.ft_calls.proofs.Lawful.{sets, covers-refl, overlaps, write-put, written-in, exchange}
@@ -87,7 +87,7 @@ module _ (steps-alike : StepsAlike) (stored-enough : StoredEnough) (upon : EachC
       let has : HasSoundValues cells = record {
         with_places = cells;
         sound = sound;
-        same = record { entries = λ d name. refl; parents = λ d. refl; links = λ i. refl; bytes = λ i. refl; opens = λ f. refl };
+        same = record { values = λ c. refl };
       } in
       let apart : effects.some_conflict posix (posix_calls.accesses cells x) (posix_calls.accesses s y) ≡ false =
       conflict-places (accesses_of cells j a) (accesses_of s k b) ∙ ap (λ c. some_conflict (accesses_of cells j a) (accesses_of c k b)) (act-after cells x) ∙ clear in
@@ -100,11 +100,5 @@ module _ (steps-alike : StepsAlike) (stored-enough : StoredEnough) (upon : EachC
       record {
         first = ap (λ c. (outcome c j a).reply) (sym (act-after cells y)) ∙ law.0.1.0.reply;
         second = law.0.0.reply ∙ ap (λ c. (outcome c k b).reply) (act-after cells x);
-        values = record {
-          entries = λ d name. same (Entry d name);
-          parents = λ d. same (Parent d);
-          links = λ i. same (Links i);
-          bytes = λ i. same (Bytes i);
-          opens = λ f. same (Fd f);
-        };
+        values = record { values = same };
       }

@@ -13,7 +13,7 @@ use Rattle.ft_tree.specs.Sound.{Hangs, IsNoDir, IsTree, AreSoundCells, IsFree}
 use Rattle.ft_calls.specs.declared.call.OpenFlags.{OpenFlags}
 use Rattle.ft_calls.specs.Laws.{SoundnessLaw, FreshnessLaw}
 use Rattle.ft_calls.specs.Outcomes.{Write, SetEntry, SetBytes, SetOpen, Outcome}
-use Rattle.ft_calls.specs.FileSteps.{creates, description}
+use Rattle.ft_calls.specs.Files.{creates, description}
 use Rattle.ft_calls.specs.Stored.{put_all}
 use Rattle.ft_calls.proofs.Places.{file_place-put_all, file_place-set}
 use Rattle.ft_calls.proofs.Puts.{with_parent, with_value, parent_after, entry-put_all}
@@ -27,6 +27,7 @@ use Rattle.ft_calls.proofs.Left.{shown, shown-no_dir, IsFile, links-shown, links
 use Rattle.ft_calls.proofs.Relinked.{sound-linked, free-linked, sound-unlinked, free-unlinked, sound-file_moved, free-file_moved, sound-file_replaced, free-file_replaced}
 use Rattle.ft_calls.proofs.Rehung.{sound-removed, free-removed, sound-dir_moved, free-dir_moved, sound-dir_replaced, free-dir_replaced}
 use Rattle.ft_calls.proofs.FileWrites.{entry-files, parent-files, links-files, bytes-files, open-files, named-files}
+use Rattle.ft_calls.proofs.Free.{no_bytes, no_entry, no_file, no_links, no_open, no_parent}
 
 -- The call with stamp k makes the directory k.
 module _ (cells : Cells) (sound : AreSoundCells cells) (k : ℕ) (free : IsFree cells k) (d : ℕ) (name : List ℕ) (hangs : Hangs (parent_of cells) d) (empty : entry_of cells d name ≡ None) where
@@ -37,7 +38,7 @@ module _ (cells : Cells) (sound : AreSoundCells cells) (k : ℕ) (free : IsFree 
   links-made i = by_number (i == k) refl
     where
       by_number : (b : Bool) → (i == k) ≡ b → links_of cells i ≡ cond ((i == 1) || is_some (cond b (Some d) (parent_of cells i))) 0 (links_in (tidy (put_all cells made_writes)) i)
-      by_number true at = ap (links_of cells) (eqb-true i k at) ∙ free.no_links ∙ sym (ap (λ b. cond b 0 (links_in (tidy (put_all cells made_writes)) i)) (or-true (i == 1)))
+      by_number true at = ap (links_of cells) (eqb-true i k at) ∙ (no_links free) ∙ sym (ap (λ b. cond b 0 (links_in (tidy (put_all cells made_writes)) i)) (or-true (i == 1)))
       by_number false at =
           links-shown cells sound i
           ∙ ap (cond ((i == 1) || is_some (parent_of cells i)) 0) (sym (count-other k i _ _ (other_than i k at) (count-drawn cells (put_all cells made_writes) d name (DirNode k) (entry-put_all made_writes cells) empty i)))
@@ -48,13 +49,13 @@ module _ (cells : Cells) (sound : AreSoundCells cells) (k : ℕ) (free : IsFree 
   sound-made : AreSoundCells (put_all cells made_writes)
   sound-made =
       sound-after cells sound made_writes
-      (tree-made (entry_of cells) (parent_of cells) sound.tree d name k empty free.no_parent (above-not_root k free.above_root) hangs free.no_entry)
-      links-made (λ f o h. file-made o.file (free.no_file f o h) (sound.opens f o h))
+      (tree-made (entry_of cells) (parent_of cells) sound.tree d name k empty (no_parent free) (above-not_root k free.above_root) hangs (no_entry free))
+      links-made (λ f o h. file-made o.file ((no_file free) f o h) (sound.opens f o h))
 
   free-made : (j : ℕ) → IsFree cells j → j ≢ k → IsFree (put_all cells made_writes) j
   free-made j too other =
-      free-after cells made_writes j too.above_root (ap (λ b. cond b (Some d) (parent_of cells j)) (ne_eqb j k other) ∙ too.no_parent) too.no_links too.no_bytes too.no_open
-      (entries-apart cells d name (Some (DirNode k)) j too (λ x. node-apart (DirNode k) x j other)) too.no_file
+      free-after cells made_writes j too.above_root (ap (λ b. cond b (Some d) (parent_of cells j)) (ne_eqb j k other) ∙ (no_parent too)) (no_links too) (no_bytes too) (no_open too)
+      (entries-apart cells d name (Some (DirNode k)) j too (λ x. node-apart (DirNode k) x j other)) (no_file too)
 
 -- It makes the file k, with a description.
 module _ (cells : Cells) (sound : AreSoundCells cells) (k : ℕ) (free : IsFree cells k) (flags : OpenFlags) (d : ℕ) (name : List ℕ) (hangs : Hangs (parent_of cells) d) (empty : entry_of cells d name ≡ None) where
@@ -69,14 +70,14 @@ module _ (cells : Cells) (sound : AreSoundCells cells) (k : ℕ) (free : IsFree 
 
   -- its own count is one
   count-own : links_in (tidy (put_all cells created_writes)) k ≡ 1
-  count-own = count-created k ∙ (λ x. cond (eq-eqb k k refl x) 1 0 + (sym (links-counted cells sound k (not_root, free.no_parent)) ∙ free.no_links) x)
+  count-own = count-created k ∙ (λ x. cond (eq-eqb k k refl x) 1 0 + (sym (links-counted cells sound k (not_root, (no_parent free))) ∙ (no_links free)) x)
 
   links-created : (i : ℕ) → with_value (links_of cells) k 1 i ≡ shown (put_all cells created_writes) (parent_of cells) i
   links-created i = by_number (i == k) refl
     where
       by_number : (b : Bool) → (i == k) ≡ b → cond b 1 (links_of cells i) ≡ shown (put_all cells created_writes) (parent_of cells) i
       by_number true at =
-          sym (ap (shown (put_all cells created_writes) (parent_of cells)) (eqb-true i k at) ∙ shown-no_dir (put_all cells created_writes) (parent_of cells) k (not_root, free.no_parent) ∙ count-own)
+          sym (ap (shown (put_all cells created_writes) (parent_of cells)) (eqb-true i k at) ∙ shown-no_dir (put_all cells created_writes) (parent_of cells) k (not_root, (no_parent free)) ∙ count-own)
       by_number false at = links-shown cells sound i ∙ ap (cond ((i == 1) || is_some (parent_of cells i)) 0) (sym (count-other k i _ _ (other_than i k at) (count-created i)))
 
   place-created : HasFilePlace (put_all cells created_writes) k
@@ -93,15 +94,15 @@ module _ (cells : Cells) (sound : AreSoundCells cells) (k : ℕ) (free : IsFree 
 
   sound-created : AreSoundCells (put_all cells created_writes)
   sound-created =
-      sound-after cells sound created_writes (tree-created (entry_of cells) (parent_of cells) sound.tree d name k empty free.no_parent not_root hangs) links-created
-      (opens-created (IsFile (put_all cells created_writes) (parent_of cells)) (place-created, (not_root, free.no_parent))
+      sound-after cells sound created_writes (tree-created (entry_of cells) (parent_of cells) sound.tree d name k empty (no_parent free) not_root hangs) links-created
+      (opens-created (IsFile (put_all cells created_writes) (parent_of cells)) (place-created, (not_root, (no_parent free)))
       (λ f o h. let file = sound.opens f o h in (file_place-put_all created_writes cells o.file file.0, file.1)))
 
   free-created : (j : ℕ) → IsFree cells j → j ≢ k → IsFree (put_all cells created_writes) j
   free-created j too other =
-      free-after cells created_writes j too.above_root too.no_parent (value-other (links_of cells) k 1 j other ∙ too.no_links) (value-other (bytes_of cells) k [] j other ∙ too.no_bytes)
-      (value-other (open_of cells) k (Some (description flags k)) j other ∙ too.no_open) (entries-apart cells d name (Some (FileNode k)) j too (λ x. node-apart (FileNode k) x j other))
-      (opens-created (λ i. i ≢ j) (λ same. other (sym same)) too.no_file)
+      free-after cells created_writes j too.above_root (no_parent too) (value-other (links_of cells) k 1 j other ∙ (no_links too)) (value-other (bytes_of cells) k [] j other ∙ (no_bytes too))
+      (value-other (open_of cells) k (Some (description flags k)) j other ∙ (no_open too)) (entries-apart cells d name (Some (FileNode k)) j too (λ x. node-apart (FileNode k) x j other))
+      (opens-created (λ i. i ≢ j) (λ same. other (sym same)) (no_file too))
 
 -- It sets the bytes of files that are named, and descriptions of them.
 module _ (cells : Cells) (k : ℕ) where
@@ -119,10 +120,10 @@ module _ (cells : Cells) (k : ℕ) where
 
   free-files : (ws : List Write) → AreFileWrites cells k ws → (j : ℕ) → IsFree cells j → j ≢ k → IsFree (put_all cells ws) j
   free-files ws h j free other =
-      free-after cells ws j free.above_root (ap (λ f. f j) (parent-files cells k ws h (parent_of cells)) ∙ free.no_parent) (ap (λ f. f j) (links-files cells k ws h (links_of cells)) ∙ free.no_links)
-      (bytes-files cells k ws h (bytes_of cells) j (named-not_free cells j free) ∙ free.no_bytes) (open-files cells k ws h (open_of cells) j free.no_open other free.no_open)
-      (λ d name x is. free.no_entry d name x (sym (ap (λ f. f d name) (entry-files cells k ws h (entry_of cells))) ∙ is))
-      (named-files cells k (λ i. i ≢ j) (named-not_free cells j free) ws h (open_of cells) free.no_file)
+      free-after cells ws j free.above_root (ap (λ f. f j) (parent-files cells k ws h (parent_of cells)) ∙ (no_parent free)) (ap (λ f. f j) (links-files cells k ws h (links_of cells)) ∙ (no_links free))
+      (bytes-files cells k ws h (bytes_of cells) j (named-not_free cells j free) ∙ (no_bytes free)) (open-files cells k ws h (open_of cells) j (no_open free) other (no_open free))
+      (λ d name x is. (no_entry free) d name x (sym (ap (λ f. f d name) (entry-files cells k ws h (entry_of cells))) ∙ is))
+      (named-files cells k (λ i. i ≢ j) (named-not_free cells j free) ws h (open_of cells) (no_file free))
 
 -- Each change leaves sound cells.
 change-sound : (cells : Cells) (k : ℕ) (reads : Bool) → AreSoundCells cells → IsFree cells k → (o : Outcome) → Change cells k reads o → AreSoundCells (put_all cells o.writes)
@@ -136,7 +137,7 @@ change-sound cells k reads sound free _ (moves_file d name i e other is hangs em
 change-sound cells k reads sound free _ (replaces_file d name i e other j is was apart) = sound-file_replaced cells sound d name i e other j is was apart
 change-sound cells k reads sound free _ (moves_dir d name i e other is hangs clear empty) = sound-dir_moved cells sound d name i e other is clear empty
 change-sound cells k reads sound free _ (replaces_dir d name i e other j is was apart clear bare) = sound-dir_replaced cells sound d name i e other j is was apart clear bare
-change-sound cells k reads sound free _ (on_files reply ws each acts lists) = sound-files cells k sound ws each
+change-sound cells k reads sound free _ (on_files reply ws each apart acts lists) = sound-files cells k sound ws each
 
 pub soundness : SoundnessLaw
 soundness cells k call sound free = change-sound cells k _ sound free _ (call-changes cells sound k call)
@@ -153,7 +154,7 @@ change-free cells k reads sound free _ (moves_file d name i e new is hangs empty
 change-free cells k reads sound free _ (replaces_file d name i e new n is was apart) j too other = free-file_replaced cells sound d name i e new n is was apart j too
 change-free cells k reads sound free _ (moves_dir d name i e new is hangs clear empty) j too other = free-dir_moved cells sound d name i e new is clear empty j too
 change-free cells k reads sound free _ (replaces_dir d name i e new n is was apart clear bare) j too other = free-dir_replaced cells sound d name i e new n is was apart clear bare j too
-change-free cells k reads sound free _ (on_files reply ws each acts lists) j too other = free-files cells k ws each j too other
+change-free cells k reads sound free _ (on_files reply ws each apart acts lists) j too other = free-files cells k ws each j too other
 
 pub freshness : FreshnessLaw
 freshness cells k call sound free j too other = change-free cells k _ sound free _ (call-changes cells sound k call) j too other

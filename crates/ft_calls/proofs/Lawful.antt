@@ -1,18 +1,16 @@
 -- The calls meet the laws of calls.
-use Rattle.std.proofs.Common.{◌≡◌, ◌≢◌, ℕ, Bool, true, false, cond, not, ◌&&◌, List, [], ◌∷◌, map, ◌⊎◌, inl, inr, Option, Some, None, IsSome, unwrap_or, nat_eq, eqb-true, eq-eqb, refl, sym, ap, ap₂, subst, ◌∙◌}
-use Rattle.std.specs.Prelude.{◌==◌}
-use Rattle.std.proofs.lemmas.Bool.{false≢true, or_cases, or_left, or_right, and_parts, and_from, false_from_ne_true}
+use Rattle.std.proofs.Common.{◌≡◌, ℕ, Bool, true, false, cond, not, ◌&&◌, List, [], ◌∷◌, map, ◌⊎◌, inl, inr, Option, Some, None, IsSome, unwrap_or, eqb-true, eq-eqb, refl, sym, ap, ap₂, subst, ◌∙◌}
+use Rattle.std.proofs.lemmas.Bool.{false≢true, or_cases, or_left, or_right, and_parts, false_from_ne_true}
 use Rattle.std.proofs.lemmas.Option.{none-some, same_Some}
 use Rattle.std.specs.Cmp.{both_ways}
-use Rattle.std.specs.Cmp.Lexicographic.{pointwise, bytes_decides}
 use Rattle.std.specs.Option.{option_map}
 use Rattle.std.specs.FinMap.{get, contains_key, retain_keys, get-retain_keys}
 use Rattle.std.proofs.lemmas.Map.Lookups.{exact_unsigned}
 use Rattle.ft_laws.specs.Lists.{Each, In}
 use Rattle.ft_laws.specs.Laws.{Lawful, Knows, TouchesFile, LeavesName, Hides, is_hidden}
 use Rattle.ft_laws.specs.Effects.{Access as PlaceAccess, SetsCells, EffectLaws, is_written, write_all, touch, change}
-use Rattle.ft_laws.specs.Runs.{Exchange, Deletion, Undoing, MayGoFirst, MayBeSorted}
-use Rattle.ft_laws.specs.Hiding.{RunAlike, StaysHidden, UndoingHidden, HidesMore, NotOwn}
+use Rattle.ft_laws.specs.Runs.{Exchange, Deletion, MayGoFirst, MayBeSorted}
+use Rattle.ft_laws.specs.Hiding.{RunAlike, StaysHidden, HidesMore, NotOwn}
 use Rattle.ft_laws.specs.Tidying.{TidyingLaw}
 use Rattle.ft_laws.proofs.Tests.{by_test}
 use Rattle.ft_laws.proofs.Lists.{Each-at}
@@ -29,70 +27,30 @@ use Rattle.ft_tree.specs.declared.cell.Cell.TheVariants.{Entry, Names, Parent, L
 use Rattle.ft_tree.specs.declared.open_file.OpenFile.{OpenFile}
 use Rattle.ft_tree.specs.CellOrder.{cell_number, same_cell, overlap, same_cell-is}
 use Rattle.ft_tree.specs.Nodes.{number_of}
-use Rattle.ft_tree.specs.Cells.{Cells, FileCells, no_file, file_of as file_cells, stored_dirs, entry_of, parent_of, links_of, bytes_of, open_of}
+use Rattle.ft_tree.specs.Cells.{Cells, FileCells, no_file, file_of as file_cells, stored_dirs, entry_of, links_of, bytes_of, open_of}
 use Rattle.ft_tree.specs.Plain.{EdgeKey, view_in, links_in}
 use Rattle.ft_tree.specs.Tidy.{tidy}
 use Rattle.ft_tree.specs.Views.{view_of}
-use Rattle.ft_tree.specs.Sound.{AreSoundCells, IsFree}
+use Rattle.ft_tree.specs.Sound.{AreSoundCells, IsFree, SameValues}
 use Rattle.ft_calls.specs.declared.call.Access.{Access}
 use Rattle.ft_calls.specs.Outcomes.{Write, SetEntry, SetParent, SetLinks, SetBytes, SetOpen}
 use Rattle.ft_calls.specs.Stored.{put_all, outcome, after}
 use Rattle.ft_calls.specs.Steps.{steps}
 use Rattle.ft_calls.specs.Accesses.{written_cell, is_write, accesses_of}
 use Rattle.ft_calls.specs.Laws.{SoundnessLaw, FreshnessLaw}
-use Rattle.ft_calls.specs.Posix.{Holds, held, set_cell, covers, Stamped, as_place, as_change, SameValues, HasSoundValues, file_of, node_names, description_names, names_file, blank, does, posix, posix_calls}
+use Rattle.ft_tree.specs.Held.{Holds, held, blank}
+use Rattle.ft_calls.specs.Posix.{covers, Stamped, as_place, as_change, HasSoundValues, file_of, node_names, description_names, names_file, does, posix, posix_calls}
 use Rattle.ft_calls.proofs.Accessed.{in-any, any-in, in-map, map-in, same_cell-refl, looked-accessed, written-accessed, accessed-cases, accessed-written, access}
 use Rattle.ft_calls.proofs.Alike.{view-covered, agree-each, same_back, same_free, same_after, tree-values, looked, accesses-alike, does-alike, does-same}
 use Rattle.ft_calls.proofs.Below.{StoredEnough, StepsAlike}
 use Rattle.ft_calls.proofs.Upon.{Sees, sees_entry, sees_open, Upon, CallUpon, EachCallUpon}
-use Rattle.ft_calls.proofs.Puts.{is_place, with_value, entry-put_entry, parent-put_entry, entry-put_parent, parent-put_parent, links-put_links, bytes-put_links, links-put_bytes, bytes-put_bytes, open-put_open}
-use Rattle.ft_calls.proofs.Left.{value-other}
+use Rattle.ft_calls.proofs.Held.{cell_written, cell_kept}
 use Rattle.ft_calls.proofs.Parents.{contains-under}
 use Rattle.ft_calls.proofs.Counting.{count-none}
 use Rattle.ft_calls.proofs.Tidied.{get-tidy}
+use Rattle.ft_calls.proofs.Free.{made_free, no_bytes, no_entry, no_file as names_no_file, no_links, no_open, no_parent}
 
 -- Cells and places.
-
--- cells that the test tells apart are different
-other_cell : (x y : Cell) → same_cell x y ≡ false → x ≢ y
-other_cell x y h is = false≢true (sym h ∙ subst (λ z. same_cell x z ≡ true) is (same_cell-refl x))
-
--- the place of an entry is its own
-place-same : (d : ℕ) (name : List ℕ) → is_place d name d name ≡ true
-place-same d name = and_from (d == d) (pointwise nat_eq name name) (eq-eqb d d refl) ((bytes_decides name name).1 refl)
-
--- and not that of another
-place-other : (d : ℕ) (name : List ℕ) (e : ℕ) (other : List ℕ) → same_cell (Entry d name) (Entry e other) ≡ false → is_place d name e other ≡ false
-place-other d name e other h =
-    false_from_ne_true (is_place d name e other)
-    (λ is. let parts = and_parts (e == d) (pointwise nat_eq other name) is in
-    other_cell (Entry d name) (Entry e other) h (ap₂ Entry (sym (eqb-true e d parts.0)) (sym ((bytes_decides other name).0 parts.1))))
-
--- a value that is set is there
-value-same : {A : Type 0} (f : ℕ → A) (i : ℕ) (x : A) → with_value f i x i ≡ x
-value-same f i x = ap (λ b. cond b x (f i)) (eq-eqb i i refl)
-
--- to set a cell sets it
-cell_written : (s : Cells) (x : Cell) (v : Holds x) → held (set_cell s x v) x ≡ v
-cell_written s (Entry d name) v = entry-put_entry s d name v d name ∙ ap (λ b. cond b v (entry_of s d name)) (place-same d name)
-cell_written s (Names d) v = refl
-cell_written s (Parent d) v = parent-put_parent s d v d ∙ value-same (parent_of s) d v
-cell_written s (Links i) v = links-put_links s i v i ∙ value-same (links_of s) i v
-cell_written s (Bytes i) v = bytes-put_bytes s i v i ∙ value-same (bytes_of s) i v
-cell_written s (Fd f) v = open-put_open s f v f ∙ value-same (open_of s) f v
-
--- and no other
-cell_kept : (s : Cells) (x : Cell) (v : Holds x) (y : Cell) → same_cell x y ≡ false → held (set_cell s x v) y ≡ held s y
-cell_kept s (Entry d name) v (Entry e other) h = entry-put_entry s d name v e other ∙ ap (λ b. cond b v (entry_of s e other)) (place-other d name e other h)
-cell_kept s (Entry d name) v (Parent e) h = parent-put_entry s d name v e
-cell_kept s (Parent d) v (Entry e other) h = entry-put_parent s d v e other
-cell_kept s (Parent d) v (Parent e) h = parent-put_parent s d v e ∙ value-other (parent_of s) d v e (λ is. other_cell (Parent d) (Parent e) h (ap Parent (sym is)))
-cell_kept s (Links i) v (Links j) h = links-put_links s i v j ∙ value-other (links_of s) i v j (λ is. other_cell (Links i) (Links j) h (ap Links (sym is)))
-cell_kept s (Links i) v (Bytes j) h = bytes-put_links s i v j
-cell_kept s (Bytes i) v (Links j) h = links-put_bytes s i v j
-cell_kept s (Bytes i) v (Bytes j) h = bytes-put_bytes s i v j ∙ value-other (bytes_of s) i v j (λ is. other_cell (Bytes i) (Bytes j) h (ap Bytes (sym is)))
-cell_kept s (Fd f) v (Fd g) h = open-put_open s f v g ∙ value-other (open_of s) f v g (λ is. other_cell (Fd f) (Fd g) h (ap Fd (sym is)))
-cell_kept s x v y h = refl
 
 pub sets : SetsCells posix
 sets = record { same_is = same_cell-is; cell_written = cell_written; cell_kept = cell_kept }
@@ -304,8 +262,8 @@ own_blank : (s : Cells) (k : ℕ) → IsFree s k → (x : Cell) → file_of x �
 own_blank s k free (Entry d name) h = absurd (none-some k h)
 own_blank s k free (Names d) h = refl
 own_blank s k free (Parent d) h = absurd (none-some k h)
-own_blank s k free (Links i) h = ap (links_of s) (same_Some i k h) ∙ free.no_links
-own_blank s k free (Bytes i) h = ap (bytes_of s) (same_Some i k h) ∙ free.no_bytes
+own_blank s k free (Links i) h = ap (links_of s) (same_Some i k h) ∙ (no_links free)
+own_blank s k free (Bytes i) h = ap (bytes_of s) (same_Some i k h) ∙ (no_bytes free)
 own_blank s k free (Fd f) h = absurd (none-some k h)
 
 -- Hidden files.
@@ -334,41 +292,37 @@ module _ (hidden : ℕ → Bool) where
 
     -- a number that is free is free without them
     hides_ready : (k : ℕ) → IsFree r k → IsFree s k
-    hides_ready k free = record {
-      above_root = free.above_root;
-      no_parent = still_blank (Parent k) free.no_parent;
-      no_links = still_blank (Links k) free.no_links;
-      no_bytes = still_blank (Bytes k) free.no_bytes;
-      no_open = still_blank (Fd k) free.no_open;
-      no_entry = λ d name x h. free.no_entry d name x (hides.others (Entry d name) refl ∙ h);
-      no_file = λ f o h. free.no_file f o (hides.others (Fd f) refl ∙ h);
-    }
+    hides_ready k free = made_free s k free.above_root
+        (still_blank (Parent k) (no_parent free)) (still_blank (Links k) (no_links free)) (still_blank (Bytes k) (no_bytes free)) (still_blank (Fd k) (no_open free))
+        (λ d name x h. no_entry free d name x (hides.others (Entry d name) refl ∙ h)) (λ f o h. names_no_file free f o (hides.others (Fd f) refl ∙ h))
 
     module _ (p : Cells) (sound : AreSoundCells p) (same : SameValues p r) where
       -- the values that are left are those of the cells without the hidden files
       same-without : SameValues (without p) s
-      same-without = record {
-        entries = λ d name. sym (hides.others (Entry d name) refl) ∙ same.entries d name;
-        parents = λ d. sym (hides.others (Parent d) refl) ∙ same.parents d;
-        links = λ i. by_test (hidden i)
-            (λ k. hides.gone (Links i) k ∙ sym (read-without (λ f. f.links) p i ∙ ap (λ b. cond b 0 (links_of p i)) k))
-            (λ k. sym (hides.others (Links i) k) ∙ same.links i ∙ sym (read-without (λ f. f.links) p i ∙ ap (λ b. cond b 0 (links_of p i)) k));
-        bytes = λ i. by_test (hidden i)
-            (λ k. hides.gone (Bytes i) k ∙ sym (read-without (λ f. f.bytes) p i ∙ ap (λ b. cond b [] (bytes_of p i)) k))
-            (λ k. sym (hides.others (Bytes i) k) ∙ same.bytes i ∙ sym (read-without (λ f. f.bytes) p i ∙ ap (λ b. cond b [] (bytes_of p i)) k));
-        opens = λ f. sym (hides.others (Fd f) refl) ∙ same.opens f;
-      }
+      same-without = record { values = values }
+        where
+          values : (c : Cell) → held s c ≡ held (without p) c
+          values (Entry d name) = sym (hides.others (Entry d name) refl) ∙ same.values (Entry d name)
+          values (Names d) = refl
+          values (Parent d) = sym (hides.others (Parent d) refl) ∙ same.values (Parent d)
+          values (Links i) = by_test (hidden i)
+              (λ k. hides.gone (Links i) k ∙ sym (read-without (λ f. f.links) p i ∙ ap (λ b. cond b 0 (links_of p i)) k))
+              (λ k. sym (hides.others (Links i) k) ∙ same.values (Links i) ∙ sym (read-without (λ f. f.links) p i ∙ ap (λ b. cond b 0 (links_of p i)) k))
+          values (Bytes i) = by_test (hidden i)
+              (λ k. hides.gone (Bytes i) k ∙ sym (read-without (λ f. f.bytes) p i ∙ ap (λ b. cond b [] (bytes_of p i)) k))
+              (λ k. sym (hides.others (Bytes i) k) ∙ same.values (Bytes i) ∙ sym (read-without (λ f. f.bytes) p i ∙ ap (λ b. cond b [] (bytes_of p i)) k))
+          values (Fd f) = sym (hides.others (Fd f) refl) ∙ same.values (Fd f)
 
       -- no entry names a hidden file
       not_named : (i d : ℕ) (name : List ℕ) → hidden i ≡ true → entry_of p d name ≡ Some (FileNode i) → ⊥
       not_named i d name k is =
-          false≢true (sym (hides.unnamed (Entry d name) i k) ∙ ap (λ o. node_names o i) (same-without.entries d name ∙ is) ∙ eq-eqb i i refl)
+          false≢true (sym (hides.unnamed (Entry d name) i k) ∙ ap (λ o. node_names o i) (same-without.values (Entry d name) ∙ is) ∙ eq-eqb i i refl)
 
       -- and no description has one open
       not_open : (f : ℕ) (o : OpenFile) → open_of p f ≡ Some o → hidden o.file ≡ false
       not_open f o is =
           false_from_ne_true (hidden o.file)
-          (λ k. false≢true (sym (hides.unnamed (Fd f) o.file k) ∙ ap (λ x. description_names x o.file) (same-without.opens f ∙ is) ∙ eq-eqb o.file o.file refl))
+          (λ k. false≢true (sym (hides.unnamed (Fd f) o.file k) ∙ ap (λ x. description_names x o.file) (same-without.values (Fd f) ∙ is) ∙ eq-eqb o.file o.file refl))
 
       -- a hidden file shows no links
       none_shown : (i : ℕ) → hidden i ≡ true → view_in (tidy p) (Links i) ≡ 0
@@ -431,13 +385,13 @@ module _ (steps-alike : StepsAlike) (stored-enough : StoredEnough) (upon : EachC
         let p = has.with_places in
         record {
           with_places = after p a.stamp a.call;
-          sound = soundness p a.stamp a.call has.sound (same_free s p (same_back p s has.same) a.stamp free);
+          sound = soundness p a.stamp a.call has.sound (same_free s p (same_back p s has.same).values a.stamp free);
           same = after-places steps-alike stored-enough s a has;
         };
     stays_ready = λ s a b has free too other.
         let p = has.with_places in
-        let back = same_back p s has.same in
-        same_free (after p a.stamp a.call) (write_all posix s (does s a).writes) (after-places steps-alike stored-enough s a has) b.stamp
+        let back = (same_back p s has.same).values in
+        same_free (after p a.stamp a.call) (write_all posix s (does s a).writes) (after-places steps-alike stored-enough s a has).values b.stamp
         (freshness p a.stamp a.call has.sound (same_free s p back a.stamp free) b.stamp (same_free s p back b.stamp too) (λ is. other (sym is)));
     nameless = nameless;
     own_blank = λ s a has free x h. own_blank s a.stamp free x h;
@@ -460,9 +414,6 @@ module _ (steps-alike : StepsAlike) (stored-enough : StoredEnough) (upon : EachC
   pub deletion : Deletion posix_calls
   deletion = deleting.deletion posix_calls lawful
 
-  pub undoing : Undoing posix_calls
-  undoing = deleting.undone posix_calls lawful
-
   pub may_go_first : MayGoFirst posix_calls
   may_go_first = exchanging.may_go_first posix_calls lawful
 
@@ -474,9 +425,6 @@ module _ (steps-alike : StepsAlike) (stored-enough : StoredEnough) (upon : EachC
 
   pub stays_hidden : StaysHidden posix_calls
   stays_hidden = hiding.stays_hidden posix_calls lawful
-
-  pub undoing_hidden : UndoingHidden posix_calls
-  undoing_hidden = hiding.undone_hidden posix_calls lawful
 
   pub hides_more : HidesMore posix_calls
   hides_more = hiding.hides_more posix_calls lawful

@@ -20,6 +20,7 @@ use Rattle.ft_calls.proofs.Puts.{is_place, with_entry, with_value, entry_after, 
 use Rattle.ft_calls.proofs.Tidied.{get-tidy, contains-parent}
 use Rattle.ft_calls.proofs.Counting.{count-some}
 use Rattle.ft_calls.proofs.Named.{Named, by_entry, by_open}
+use Rattle.ft_calls.proofs.Free.{made_free, no_entry, no_file}
 
 -- The links that are shown: none of a directory, and the count of its edges of anything else.
 abbrev pub shown : Cells → (ℕ → Option ℕ) → ℕ → ℕ
@@ -68,22 +69,17 @@ module _ (cells : Cells) (sound : AreSoundCells cells) where
 
 -- a number that is free is named by nothing
 pub named-not_free : (cells : Cells) (j : ℕ) → IsFree cells j → (i : ℕ) → Named cells i → i ≢ j
-named-not_free cells j free _ (by_open f o is) = free.no_file f o is
-named-not_free cells j free _ (by_entry d name i is) = free.no_entry d name (FileNode i) is
+named-not_free cells j free _ (by_open f o is) = (no_file free) f o is
+named-not_free cells j free _ (by_entry d name i is) = (no_entry free) d name (FileNode i) is
 
 -- a number is free after writes, if no value that they leave names it
 pub free-after : (cells : Cells) (ws : List Write) (j : ℕ) → 2 ≤ j → parent_after (parent_of cells) ws j ≡ None → links_after (links_of cells) ws j ≡ 0 → bytes_after (bytes_of cells) ws j ≡ []
     → open_after (open_of cells) ws j ≡ None → ((d : ℕ) (name : List ℕ) (x : Node) → entry_after (entry_of cells) ws d name ≡ Some x → number_of x ≢ j)
     → ((f : ℕ) (o : OpenFile) → open_after (open_of cells) ws f ≡ Some o → o.file ≢ j) → IsFree (put_all cells ws) j
-free-after cells ws j above parent links bytes opens entries files = record {
-  above_root = above;
-  no_parent = ap (λ f. f j) (parent-put_all ws cells) ∙ parent;
-  no_links = ap (λ f. f j) (links-put_all ws cells) ∙ links;
-  no_bytes = ap (λ f. f j) (bytes-put_all ws cells) ∙ bytes;
-  no_open = ap (λ f. f j) (open-put_all ws cells) ∙ opens;
-  no_entry = λ d name x h. entries d name x (sym (ap (λ f. f d name) (entry-put_all ws cells)) ∙ h);
-  no_file = λ f o h. files f o (sym (ap (λ g. g f) (open-put_all ws cells)) ∙ h);
-}
+free-after cells ws j above parent links bytes opens entries files =
+    made_free (put_all cells ws) j above
+    (ap (λ f. f j) (parent-put_all ws cells) ∙ parent) (ap (λ f. f j) (links-put_all ws cells) ∙ links) (ap (λ f. f j) (bytes-put_all ws cells) ∙ bytes) (ap (λ f. f j) (open-put_all ws cells) ∙ opens)
+    (λ d name x h. entries d name x (sym (ap (λ f. f d name) (entry-put_all ws cells)) ∙ h)) (λ f o h. files f o (sym (ap (λ g. g f) (open-put_all ws cells)) ∙ h))
 
 -- an entry that is set names no free number, if what it is set to does not
 pub entries-apart : (cells : Cells) (d : ℕ) (name : List ℕ) (to : Option Node) (j : ℕ) → IsFree cells j → ((x : Node) → to ≡ Some x → number_of x ≢ j)
@@ -92,7 +88,7 @@ entries-apart cells d name to j free apart e other x h = by_place (is_place d na
   where
     by_place : (b : Bool) → cond b to (entry_of cells e other) ≡ Some x → number_of x ≢ j
     by_place true is = apart x is
-    by_place false is = free.no_entry e other x is
+    by_place false is = (no_entry free) e other x is
 
 -- a node that is not of this number
 pub node-apart : (node x : Node) (j : ℕ) → j ≢ number_of node → Some node ≡ Some x → number_of x ≢ j

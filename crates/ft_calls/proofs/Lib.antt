@@ -1,6 +1,7 @@
 pub mod Conjunction
 pub mod Puts
 pub mod Places
+mod Placing
 pub mod Listed
 pub mod Opens
 pub mod Free
@@ -39,10 +40,17 @@ pub mod Framed
 pub mod Shown
 pub mod PlainPuts
 pub mod Executed
-pub mod Performing
-pub mod Results
-pub mod Reaching
-pub mod Placing
-pub mod Filing
-pub mod Relinking
 pub mod Recorded
+pub mod Looking
+pub mod Moving
+pub mod Held
+pub mod Restoring
+pub mod Noting
+pub mod Withins
+pub mod Applying
+pub mod SoundPlaces
+pub mod WholeRuns
+pub mod PlainLooks
+pub mod HiddenFiles
+pub mod Edited
+pub mod Setting

@@ -17,8 +17,8 @@ use Rattle.ft_tree.specs.Walk.{Spot, Named as AtName, Itself}
 use Rattle.ft_calls.specs.declared.TheConstants.{MOST_LINKS}
 use Rattle.ft_calls.specs.declared.call.Reply.TheVariants.{Done}
 use Rattle.ft_calls.specs.Outcomes.{Write, SetEntry, SetParent, Outcome, failed, told, from_parts}
-use Rattle.ft_calls.specs.DirSteps.{last_of}
-use Rattle.ft_calls.specs.LinkSteps.{linked, link_new, link_old, link_parts, unlink_spot, rename_fault, climb, unless_below, renamed, with_parent, replace_file, if_bare, replace_dir, rename_file, rename_dir, rename_old, rename_parts}
+use Rattle.ft_path.specs.FilePath.{last_of}
+use Rattle.ft_calls.specs.Links.{linked, link_new, link_old, link_parts, unlink_spot, rename_fault, climb, unless_below, renamed, with_parent, replace_file, if_bare, replace_dir, rename_file, rename_dir, rename_old, rename_parts}
 use Rattle.ft_calls.specs.Posix.{node_names}
 use Rattle.ft_calls.proofs.Puts.{is_place, entry_after}
 use Rattle.ft_calls.proofs.Upon.{Upon}

@@ -6,7 +6,7 @@ use Rattle.ft_path.specs.Name.{is_dot, is_dot_dot}
 use Rattle.ft_path.specs.declared.errno.Errno.{Errno}
 use Rattle.ft_path.specs.declared.errno.Errno.TheVariants.{ENOENT, EINVAL, EBADF, EFBIG}
 use Rattle.ft_path.specs.declared.path.Parts.{Parts}
-use Rattle.ft_path.specs.FilePath.{parts_of}
+use Rattle.ft_path.specs.FilePath.{last_of, parts_of}
 use Rattle.ft_tree.specs.declared.cell.Cell.{Cell}
 use Rattle.ft_tree.specs.declared.cell.Cell.TheVariants.{Entry, Names, Parent, Links, Bytes, Fd}
 use Rattle.ft_tree.specs.declared.node.Node.TheVariants.{Dir as DirNode, File as FileNode}
@@ -24,9 +24,10 @@ use Rattle.ft_calls.specs.declared.call.Whence.{Whence}
 use Rattle.ft_calls.specs.declared.call.Whence.TheVariants.{Set, Cur, End}
 use Rattle.ft_calls.specs.declared.call.Reply.TheVariants.{Done}
 use Rattle.ft_calls.specs.Outcomes.{Outcome, failed, told, from_parts, unless}
-use Rattle.ft_calls.specs.DirSteps.{make_dir, remove_dir, last_of, last_fault, remove_parts, list_dir}
-use Rattle.ft_calls.specs.LinkSteps.{link_new, link_old, link_parts, unlink_spot, climb, unless_below, rename_fault, replace_dir, rename_file, rename_dir, rename_old, rename_parts}
-use Rattle.ft_calls.specs.FileSteps.{open_spot, open_parts, on_open, with_open, any_open, is_readable, is_writable, close_open, read_open, not_negative, pread_at, pread_open, write_place, write_at, write_open, pwrite_at, pwrite_open, seek_from, moved, sought, seek_open, to_size, cut_file, truncate_spot, truncate_parts, ftruncate_open, stat_spot, fstat_open}
+use Rattle.ft_calls.specs.Dirs.{make_dir, remove_dir, last_fault, remove_parts, list_dir}
+use Rattle.ft_calls.specs.Links.{link_new, link_old, link_parts, unlink_spot, climb, unless_below, rename_fault, replace_dir, rename_file, rename_dir, rename_old, rename_parts}
+use Rattle.ft_calls.specs.Files.{open_spot, open_parts, to_size, cut_file, truncate_spot, truncate_parts, stat_spot}
+use Rattle.ft_calls.specs.Descriptors.{on_open, with_open, any_open, is_readable, is_writable, close_open, read_open, not_negative, pread_at, pread_open, write_place, write_at, write_open, pwrite_at, pwrite_open, seek_from, moved, sought, seek_open, ftruncate_open, fstat_open}
 use Rattle.ft_calls.specs.Steps.{steps}
 use Rattle.ft_calls.proofs.Named.{Named, by_entry, by_open}
 use Rattle.ft_calls.proofs.Walked.{IsSpot, EndsWell, walk-ends}

@@ -1,12 +1,12 @@
 -- Which places are there.
-use Rattle.std.proofs.Common.{◌≡◌, ◌≢◌, ℕ, suc, Bool, true, false, cond, List, [], ◌∷◌, Option, Some, None, IsSome, unwrap_or, eq-eqb, eqb-true, refl, sym, ap, subst, ◌∙◌}
+use Rattle.std.proofs.Common.{◌≡◌, ◌≢◌, ℕ, suc, Bool, true, false, cond, List, [], ◌∷◌, Option, Some, None, IsSome, is_some, unwrap_or, eq-eqb, eqb-true, refl, sym, ap, subst, ◌∙◌}
 use Rattle.std.specs.Prelude.{◌==◌}
 use Rattle.std.proofs.lemmas.Bool.{false≢true}
 use Rattle.std.specs.Ordering.{nat_cmp, is_eq, eq_by_cmp}
 use Rattle.std.specs.Cmp.{nat_cmp_total, unsigned_tied, tied_itself}
 use Rattle.std.specs.Cmp.Lexicographic.{slice_cmp, nat_list_cmp_total}
 use Rattle.std.specs.Option.{option_flatten, option_map}
-use Rattle.std.specs.FinMap.{get, get-insert}
+use Rattle.std.specs.FinMap.{get, get-insert, get-empty}
 use Rattle.ft_tree.specs.declared.node.Node.{Node}
 use Rattle.ft_tree.specs.declared.open_file.OpenFile.{OpenFile}
 use Rattle.ft_tree.specs.Cells.{Cells, DirCells, FileCells, no_dir, no_file, dir_of, parent_of, links_of, bytes_of, body_in, open_of, HasDirPlace, HasPlace, HasEntryPlace, HasFilePlace, HasOpenPlace, put_dir, put_dir_entry, put_dir_parent, put_file, put_entry, put_parent, put_links, put_bytes, put_open}
@@ -29,14 +29,18 @@ pub dir_place-hangs : (cells : Cells) → AreSoundCells cells → (d : ℕ) → 
 dir_place-hangs cells sound _ the_root = sound.root_is
 dir_place-hangs cells sound _ (under d p h up) = dir_place-parent cells d p h
 
+-- a directory that has the place of an entry is stored
+pub dir_place-entry : (cells : Cells) (d : ℕ) (name : List ℕ) → HasEntryPlace cells d name → HasDirPlace cells d
+dir_place-entry cells d name h = by_place (get cells.directories d) h
+  where
+    by_place : (o : Option DirCells) → HasPlace (unwrap_or o no_dir) name → IsSome o
+    by_place None place = absurd (false≢true (sym (ap is_some (get-empty {X = Option Node} (slice_cmp nat_cmp) name)) ∙ place))
+    by_place (Some x) place = refl
+
 -- what has links is not the file that stands for none
 has_links : (o : Option FileCells) (n : ℕ) → (unwrap_or o no_file).links ≡ suc n → IsSome o
 has_links None n h = cc
 has_links (Some x) n h = refl
-
--- a file with links is stored
-pub file_place-links : (cells : Cells) (i n : ℕ) → links_of cells i ≡ suc n → HasFilePlace cells i
-file_place-links cells i n h = has_links (get cells.files i) n h
 
 -- and so is one whose links are not none
 pub file_place-linked : (cells : Cells) (i : ℕ) → links_of cells i ≢ 0 → HasFilePlace cells i
@@ -52,14 +56,6 @@ body-place cells i h = by_place (get cells.files i) h
   where
     by_place : (o : Option FileCells) → IsSome o → option_map (λ (x : FileCells). x.bytes) o ≡ Some (unwrap_or o no_file).bytes
     by_place None is = absurd (false≢true is)
-    by_place (Some x) is = refl
-
--- a description that is there has its place
-pub open_place-open : (cells : Cells) (f : ℕ) (o : OpenFile) → open_of cells f ≡ Some o → HasOpenPlace cells f
-open_place-open cells f o h = by_place (get cells.opens f) h
-  where
-    by_place : (p : Option (Option OpenFile)) → option_flatten p ≡ Some o → IsSome p
-    by_place None is = cc
     by_place (Some x) is = refl
 
 -- one of two that are there is there

@@ -1,28 +1,120 @@
--- The cells after a directory was made and unmade.
-use Rattle.std.proofs.Common.{◌≡◌, ℕ, Bool, true, false, cond, Option, None, eqb-true, refl, sym, ap, ◌∙◌}
-use Rattle.std.specs.Prelude.{◌==◌}
-use Rattle.ft_tree.specs.Cells.{Cells, put_parent, parent_of}
-use Rattle.ft_tree.specs.Sound.{IsFree, KeepsValues}
-use Rattle.ft_calls.proofs.Free.{parent-free}
-use Rattle.ft_calls.proofs.Places.{dir_place-put_dir, entry_place-put_parent}
-use Rattle.ft_calls.proofs.Puts.{entry-put_parent, parent-put_parent}
+-- Where a cell's access stands in a list in order, and what the list is with it.
+use Rattle.std.proofs.Common.{◌≡◌, ◌≤◌, ◌<◌, ◌+◌, ℕ, suc, Bool, true, false, List, [], ◌∷◌, map, length, refl, sym, ap, ◌∙◌, subst, arith, Ordering}
+use Rattle.std.specs.Prelude.{T}
+use Rattle.std.proofs.lemmas.Bool.{false≢true}
+use Rattle.std.specs.declared.cmp.Ordering.TheVariants.{Less, Equal, Greater}
+use Rattle.std.specs.List.{insert}
+use Rattle.std.specs.Prelude.{slice_set, slice_index_or}
+use Rattle.std.specs.FinMap as finite
+use Rattle.std.specs.FinMap.Entries.{by_order, is_sorted-put}
+use Rattle.ft_tree.specs.declared.cell.Cell.{Cell}
+use Rattle.ft_tree.specs.CellOrder.{cell_cmp, cell_cmp_total}
+use Rattle.ft_calls.specs.declared.call.Mode.{Mode}
+use Rattle.ft_calls.specs.declared.call.Access.{Access}
+use Rattle.ft_calls.specs.Accesses.{Modes, listed, as_entries, AreInOrder, place_in, is_noted}
 
--- to make a directory and unmake it
-pub keeps-unmade : (cells : Cells) (k : ℕ) (p : Option ℕ) → IsFree cells k → KeepsValues cells (put_parent (put_parent cells k p) k None)
-keeps-unmade cells k p free =
-    let made : Cells = put_parent cells k p in
-    record {
-      entries = λ d name. entry-put_parent made k None d name ∙ entry-put_parent cells k p d name;
-      parents = λ d. parent-put_parent made k None d ∙ ap (cond (d == k) None) (parent-put_parent cells k p d) ∙ by_number d (d == k) refl;
-      links = λ i. refl;
-      bytes = λ i. refl;
-      opens = λ f. refl;
-      dir_places = λ d h. dir_place-put_dir made k _ d (dir_place-put_dir cells k _ d h);
-      entry_places = λ d name h. entry_place-put_parent made k None d name (entry_place-put_parent cells k p d name h);
-      file_places = λ i h. h;
-      open_places = λ f h. h;
-    }
-  where
-    by_number : (d : ℕ) (b : Bool) → (d == k) ≡ b → cond b None (cond b p (parent_of cells d)) ≡ parent_of cells d
-    by_number d true is = sym (ap (parent_of cells) (eqb-true d k is) ∙ parent-free cells k free)
-    by_number d false is = refl
+abbrev map_of : List Access → Modes
+map_of list = finite.from_sorted (as_entries list)
+
+abbrev pub access : Cell → Mode → Access
+access c m = record { cell = c; mode = m }
+
+-- it stands within the list, or right behind it
+pub place-within : (c : Cell) (list : List Access) → place_in c list ≤ length list
+place-within c [] = omega arith
+place-within c (a ∷ more) = elim (cell_cmp c a.cell) as (λ r. by_order r 0 0 (suc (place_in c more)) ≤ suc (length more)) [
+  | Less ↦ omega arith
+  | Equal ↦ omega arith
+  | Greater ↦ (let rest = place-within c more in omega arith)
+]
+
+pub noted-within : (c : Cell) (list : List Access) → is_noted c list ≡ true → place_in c list < length list
+noted-within c [] h = absurd (false≢true h)
+noted-within c (a ∷ more) given = elim (cell_cmp c a.cell) as (λ r. by_order r false true (is_noted c more) ≡ true → by_order r 0 0 (suc (place_in c more)) < suc (length more)) [
+  | Less ↦ λ h. absurd (false≢true h)
+  | Equal ↦ λ h. omega arith
+  | Greater ↦ λ h. (let rest = noted-within c more h in omega arith)
+] given
+
+-- one that is not noted is put in
+pub put-new : (c : Cell) (m : Mode) (list : List Access) → is_noted c list ≡ false
+    → as_entries (insert list (place_in c list) (access c m)) ≡ finite.put cell_cmp c m (as_entries list)
+put-new c m [] h = refl
+put-new c m (a ∷ more) given =
+    elim (cell_cmp c a.cell) as (λ r. by_order r false true (is_noted c more) ≡ false
+    → as_entries (insert (a ∷ more) (by_order r 0 0 (suc (place_in c more))) (access c m))
+    ≡ by_order r ((c, m) ∷ (a.cell, a.mode) ∷ as_entries more) ((a.cell, m) ∷ as_entries more) ((a.cell, a.mode) ∷ finite.put cell_cmp c m (as_entries more))) [
+      | Less ↦ λ h. refl
+      | Equal ↦ λ h. absurd (false≢true (sym h))
+      | Greater ↦ λ h. ap (λ es. (a.cell, a.mode) ∷ es) (put-new c m more h)
+    ] given
+
+-- one that is noted gets another mode
+pub put-again : (c : Cell) (m : Mode) (there d : Access) (list : List Access) → is_noted c list ≡ true → there ≡ slice_index_or list (place_in c list) d
+    → as_entries (slice_set list (place_in c list) (access there.cell m)) ≡ finite.put cell_cmp c m (as_entries list)
+put-again c m there d [] h is = absurd (false≢true h)
+put-again c m there d (a ∷ more) given found =
+    elim (cell_cmp c a.cell) as (λ r. by_order r false true (is_noted c more) ≡ true → there ≡ slice_index_or (a ∷ more) (by_order r 0 0 (suc (place_in c more))) d
+    → as_entries (slice_set (a ∷ more) (by_order r 0 0 (suc (place_in c more))) (access there.cell m))
+    ≡ by_order r ((c, m) ∷ (a.cell, a.mode) ∷ as_entries more) ((a.cell, m) ∷ as_entries more) ((a.cell, a.mode) ∷ finite.put cell_cmp c m (as_entries more))) [
+      | Less ↦ λ h is. absurd (false≢true h)
+      | Equal ↦ λ h is. ap (λ (t : Access). (t.cell, m) ∷ as_entries more) is
+      | Greater ↦ λ h is. ap (λ es. (a.cell, a.mode) ∷ es) (put-again c m there d more h is)
+    ] given found
+
+-- a list in order, with one cell more or one of them accessed in another way, is the map with that cell put in
+pub noted-map : (c : Cell) (m : Mode) (old new : List Access) → AreInOrder old → as_entries new ≡ finite.put cell_cmp c m (as_entries old)
+    → AreInOrder new × (map_of new ≡ finite.insert (map_of old) c m)
+noted-map c m old new order is =
+    let up = subst (λ es. T (finite.is_sorted cell_cmp es)) (sym is) (is_sorted-put cell_cmp cell_cmp_total c m (as_entries old) order) in (
+      up,
+      finite.same_entries_map _ _ (finite.entries-from_sorted cell_cmp (as_entries new) up ∙ is
+          ∙ ap (finite.put cell_cmp c m) (sym (finite.entries-from_sorted cell_cmp (as_entries old) order)) ∙ sym (finite.entries-insert cell_cmp_total _ c m)),
+    )
+
+-- no access is no cell
+pub nothing_noted : finite.from_sorted {R = cell_cmp} (as_entries []) ≡ finite.empty
+nothing_noted = finite.empty_of_len _ (finite.len-entries _ ∙ ap length (finite.entries-from_sorted cell_cmp [] tt))
+
+again : (list : List Access) → map (λ (e : Cell × Mode). access e.0 e.1) (as_entries list) ≡ list
+again [] = refl
+again (a ∷ more) = ap (λ rest. a ∷ rest) (again more)
+
+-- the list is what the map lists
+pub told : (list : List Access) → AreInOrder list → list ≡ listed (finite.from_sorted (as_entries list))
+told list order = sym (ap (map (λ (e : Cell × Mode). access e.0 e.1)) (finite.entries-from_sorted cell_cmp (as_entries list) order) ∙ again list)
+
+-- where the cell's place was found in these accesses
+pub record IsFoundAt (c : Cell) (items seen : List Access) (at : ℕ) (b : Bool) : Type 0 where
+  pub seen_is : seen ≡ items
+  pub place : at ≡ place_in c seen
+  pub noted : b ≡ is_noted c seen
+
+module _ (c : Cell) (items seen : List Access) (at : ℕ) (b : Bool) (found : IsFoundAt c items seen at b) where
+  place_is : at ≡ place_in c items
+  place_is = found.place ∙ ap (place_in c) found.seen_is
+
+  noted_is : b ≡ is_noted c items
+  noted_is = found.noted ∙ ap (is_noted c) found.seen_is
+
+  pub at-within : (n : ℕ) → length seen ≡ n → at ≤ n
+  at-within n is = subst (λ k. at ≤ k) is (subst (λ k. k ≤ length seen) (sym found.place) (place-within c seen))
+
+  pub at-below : (n : ℕ) → length seen ≡ n → b ≡ true → at < n
+  at-below n is sure = subst (λ k. at < k) is (subst (λ k. k < length seen) (sym found.place) (noted-within c seen (sym found.noted ∙ sure)))
+
+  module _ (m : Mode) (old : Modes) (order : AreInOrder items) (view : map_of items ≡ old) where
+    pub note-again : b ≡ true → (there d : Access) → there ≡ slice_index_or items at d
+        → AreInOrder (slice_set items at (access there.cell m)) × (map_of (slice_set items at (access there.cell m)) ≡ finite.insert old c m)
+    note-again sure there d is =
+        let both = noted-map c m items (slice_set items at (access there.cell m)) order
+        (ap (λ n. as_entries (slice_set items n (access there.cell m))) place_is
+        ∙ put-again c m there d items (sym noted_is ∙ sure) (is ∙ ap (λ n. slice_index_or items n d) place_is)) in
+        (both.0, both.1 ∙ ap (λ n. finite.insert n c m) view)
+
+    pub note-new : b ≡ false → (new : List Access) → new ≡ insert items at (access c m)
+        → AreInOrder new × (map_of new ≡ finite.insert old c m)
+    note-new none new is =
+        let both = noted-map c m items new order
+        (ap as_entries is ∙ ap (λ n. as_entries (insert items n (access c m))) place_is ∙ put-new c m items (sym noted_is ∙ none)) in
+        (both.0, both.1 ∙ ap (λ n. finite.insert n c m) view)

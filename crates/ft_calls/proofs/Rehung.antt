@@ -12,8 +12,8 @@ use Rattle.ft_tree.specs.Plain.{EdgeKey, links_in}
 use Rattle.ft_tree.specs.Tidy.{tidy}
 use Rattle.ft_tree.specs.Sound.{IsNoDir, AreSoundCells, IsFree}
 use Rattle.ft_calls.specs.Outcomes.{Write, SetParent}
-use Rattle.ft_calls.specs.LinkSteps as steps
-use Rattle.ft_calls.specs.LinkSteps.{renamed}
+use Rattle.ft_calls.specs.Links as steps
+use Rattle.ft_calls.specs.Links.{renamed}
 use Rattle.ft_calls.specs.Stored.{put_all}
 use Rattle.ft_calls.proofs.Below.{Avoids}
 use Rattle.ft_calls.proofs.Places.{dir_place-put_all, file_place-put_all}
@@ -27,6 +27,7 @@ use Rattle.ft_calls.proofs.Moved.{parents-alike, tree-moved_dir, avoids-left}
 use Rattle.ft_calls.proofs.Changes.{removed}
 use Rattle.ft_calls.proofs.Left.{shown, links-shown, sound-after, free-after, entries-apart, value-other, other_than}
 use Rattle.ft_calls.proofs.Relinked.{Moves, no_dir-moves, sound-moves, free-moves, was-left, empty-left, entries-left}
+use Rattle.ft_calls.proofs.Free.{no_bytes, no_file, no_links, no_open, no_parent}
 
 -- The empty directory i is removed.
 module _ (cells : Cells) (sound : AreSoundCells cells) (d : ℕ) (name : List ℕ) (i : ℕ) (is : entry_of cells d name ≡ Some (DirNode i)) (bare : names_of cells i ≡ []) where
@@ -70,8 +71,8 @@ module _ (cells : Cells) (sound : AreSoundCells cells) (d : ℕ) (name : List �
 
   pub free-removed : (j : ℕ) → IsFree cells j → IsFree (put_all cells removed_writes) j
   free-removed j too =
-      free-after cells removed_writes j too.above_root (elim (j == i) as (λ b. cond b None (parent_of cells j) ≡ None) [ true ↦ refl | false ↦ too.no_parent ]) too.no_links too.no_bytes too.no_open
-      (entries-apart cells d name None j too (λ x h. absurd (none-some x h))) too.no_file
+      free-after cells removed_writes j too.above_root (elim (j == i) as (λ b. cond b None (parent_of cells j) ≡ None) [ true ↦ refl | false ↦ (no_parent too) ]) (no_links too) (no_bytes too) (no_open too)
+      (entries-apart cells d name None j too (λ x h. absurd (none-some x h))) (no_file too)
 
   -- what was no directory is none
   pub no_dir-removed : (j : ℕ) → IsNoDir (parent_of cells) j → IsNoDir (parent_of (put_all cells removed_writes)) j

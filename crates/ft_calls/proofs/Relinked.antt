@@ -12,7 +12,7 @@ use Rattle.ft_tree.specs.Plain.{links_in}
 use Rattle.ft_tree.specs.Tidy.{tidy}
 use Rattle.ft_tree.specs.Sound.{Hangs, IsNoDir, IsTree, AreSoundCells, IsFree}
 use Rattle.ft_calls.specs.Outcomes.{Write, SetLinks}
-use Rattle.ft_calls.specs.LinkSteps.{linked, unlinked, renamed}
+use Rattle.ft_calls.specs.Links.{linked, unlinked, renamed}
 use Rattle.ft_calls.specs.Stored.{put_all}
 use Rattle.ft_calls.proofs.Places.{dir_place-put_all, file_place-put_all}
 use Rattle.ft_calls.proofs.Puts.{with_entry, with_value, entry-put_entry, entry-put_all, parent-put_all, links-put_all, bytes-put_all, open-put_all}
@@ -23,6 +23,7 @@ use Rattle.ft_calls.proofs.Linked.{entry-kept, entry-set, entry-twice, entry-lef
 use Rattle.ft_calls.proofs.Moved.{tree-moved_file}
 use Rattle.ft_calls.proofs.Named.{Named, by_entry}
 use Rattle.ft_calls.proofs.Left.{shown, shown-no_dir, IsFile, links-shown, links-counted, named-file, sound-after, named-not_free, free-after, entries-apart, node-apart, value-other, other_than}
+use Rattle.ft_calls.proofs.Free.{made_free, no_bytes, no_entry, no_file, no_links, no_open, no_parent}
 
 -- a number is counted at itself
 one_own : (i : ℕ) → ◌≡◌ {A = ℕ} (cond (i == i) 1 0) 1
@@ -65,8 +66,8 @@ module _ (cells : Cells) (sound : AreSoundCells cells) (i : ℕ) (d : ℕ) (name
   pub free-linked : (j : ℕ) → IsFree cells j → IsFree (put_all cells linked_writes) j
   free-linked j too =
       let other : j ≢ i = λ same. named-not_free cells j too i named (sym same) in
-      free-after cells linked_writes j too.above_root too.no_parent (value-other (links_of cells) i (suc (links_of cells i)) j other ∙ too.no_links) too.no_bytes too.no_open
-      (entries-apart cells d name (Some (FileNode i)) j too (λ x. node-apart (FileNode i) x j other)) too.no_file
+      free-after cells linked_writes j too.above_root (no_parent too) (value-other (links_of cells) i (suc (links_of cells i)) j other ∙ (no_links too)) (no_bytes too) (no_open too)
+      (entries-apart cells d name (Some (FileNode i)) j too (λ x. node-apart (FileNode i) x j other)) (no_file too)
 
 -- A file loses one.
 module _ (cells : Cells) (sound : AreSoundCells cells) (d : ℕ) (name : List ℕ) (i : ℕ) (is : entry_of cells d name ≡ Some (FileNode i)) where
@@ -95,8 +96,8 @@ module _ (cells : Cells) (sound : AreSoundCells cells) (d : ℕ) (name : List �
   pub free-unlinked : (j : ℕ) → IsFree cells j → IsFree (put_all cells unlinked_writes) j
   free-unlinked j too =
       let other : j ≢ i = λ same. named-not_free cells j too i (by_entry d name i is) (sym same) in
-      free-after cells unlinked_writes j too.above_root too.no_parent (value-other (links_of cells) i (links_of cells i - 1) j other ∙ too.no_links) too.no_bytes too.no_open
-      (entries-apart cells d name None j too (λ x h. absurd (none-some x h))) too.no_file
+      free-after cells unlinked_writes j too.above_root (no_parent too) (value-other (links_of cells) i (links_of cells i - 1) j other ∙ (no_links too)) (no_bytes too) (no_open too)
+      (entries-apart cells d name None j too (λ x h. absurd (none-some x h))) (no_file too)
 
 -- The new cells have what the old ones have, but that one entry is moved to an empty place, and the parents are these.
 pub record Moves (old new : Cells) (d : ℕ) (name : List ℕ) (x : Node) (e : ℕ) (other : List ℕ) (parent : ℕ → Option ℕ) : Type 0 where
@@ -150,15 +151,11 @@ module _ (old new : Cells) (d : ℕ) (name : List ℕ) (x : Node) (e : ℕ) (oth
 
   -- and no number is named that was not
   pub free-moves : (j : ℕ) → IsFree old j → IsFree new j
-  free-moves j too = record {
-    above_root = too.above_root;
-    no_parent = none-alike (parent_of new j) (parent_of old j) (parents-moved j) too.no_parent;
-    no_links = ap (λ f. f j) m.links ∙ too.no_links;
-    no_bytes = ap (λ f. f j) m.bytes ∙ too.no_bytes;
-    no_open = ap (λ f. f j) m.opens ∙ too.no_open;
-    no_entry = λ f text y h. entries-apart old e other (Some x) j too (λ z is. too.no_entry d name z (m.was ∙ is)) f text y (entry-left (with_entry (entry_of old) e other (Some x)) d name f text y (sym (ap (λ g. g f text) m.entries) ∙ h));
-    no_file = λ f o h. too.no_file f o (ap (λ g. g f) (sym m.opens) ∙ h);
-  }
+  free-moves j too =
+      made_free new j too.above_root
+      (none-alike (parent_of new j) (parent_of old j) (parents-moved j) (no_parent too)) (ap (λ f. f j) m.links ∙ no_links too) (ap (λ f. f j) m.bytes ∙ no_bytes too) (ap (λ f. f j) m.opens ∙ no_open too)
+      (λ f text y h. entries-apart old e other (Some x) j too (λ z is. no_entry too d name z (m.was ∙ is)) f text y (entry-left (with_entry (entry_of old) e other (Some x)) d name f text y (sym (ap (λ g. g f text) m.entries) ∙ h)))
+      (λ f o h. no_file too f o (ap (λ g. g f) (sym m.opens) ∙ h))
 
 -- so it is where a file is moved
 pub sound-moves_file : (old new : Cells) (d : ℕ) (name : List ℕ) (i e : ℕ) (other : List ℕ) → Moves old new d name (FileNode i) e other (parent_of old) → AreSoundCells old → Hangs (parent_of old) e → AreSoundCells new

@@ -14,7 +14,8 @@ use Rattle.ft_calls.specs.Outcomes.{Write}
 use Rattle.ft_calls.specs.Steps.{steps}
 use Rattle.ft_calls.specs.Stored.{put_all}
 use Rattle.ft_calls.specs.Accesses.{written_cell}
-use Rattle.ft_calls.specs.Posix.{held, as_change, file_of, names_file}
+use Rattle.ft_tree.specs.Held.{held}
+use Rattle.ft_calls.specs.Posix.{as_change, file_of, names_file}
 
 -- an entry or a description among those that are seen names file i
 pub data Sees (cells : Cells) (seen : List Cell) : ℕ → Type 0 where

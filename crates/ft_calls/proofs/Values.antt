@@ -3,21 +3,22 @@ use Rattle.std.proofs.Common.{◌≡◌, ℕ, Bool, true, false, cond, ◌||◌,
 use Rattle.std.specs.Prelude.{◌==◌, nat_lt}
 use Rattle.std.specs.Option.{option_map}
 use Rattle.ft_tree.specs.declared.node.Node.{Node}
-use Rattle.ft_tree.specs.declared.cell.Cell.TheVariants.{Links}
+use Rattle.ft_tree.specs.declared.cell.Cell.TheVariants.{Entry, Parent, Links, Bytes, Fd}
 use Rattle.ft_tree.specs.Nodes.{number_of}
 use Rattle.ft_tree.specs.Cells.{Cells, entry_of, parent_of, body_in, has_file}
 use Rattle.ft_tree.specs.Plain.{view_in}
-use Rattle.ft_tree.specs.Sound.{IsTree, IsNoDir, IsFree, AreSoundCells, KeepsValues}
+use Rattle.ft_tree.specs.Sound.{IsTree, IsNoDir, AreSoundCells, KeepsValues}
 use Rattle.ft_tree.specs.Tidy.{tidy}
 use Rattle.ft_calls.specs.Laws.{ValuesLaw}
 use Rattle.ft_calls.proofs.Places.{body-place}
+use Rattle.ft_calls.proofs.Alike.{same_free}
 use Rattle.ft_calls.proofs.Opens.{is_open-alike}
 use Rattle.ft_calls.proofs.Tidied.{get-tidy, contains-parent, get-files, get-opens, file_place-there, same_plain}
 
 module _ (old new : Cells) (sound : AreSoundCells old) (keeps : KeepsValues old new) where
   -- the same files are there
   same_file : (i : ℕ) → has_file new i ≡ has_file old i
-  same_file i = λ x. nat_lt 0 (keeps.links i x) || is_open-alike new.opens old.opens keeps.opens i x
+  same_file i = λ x. nat_lt 0 (keeps.values (Links i) x) || is_open-alike new.opens old.opens (λ f. keeps.values (Fd f)) i x
 
   -- with the same bytes
   same_bytes : (i : ℕ) → cond (has_file old i) (body_in new i) None ≡ cond (has_file old i) (body_in old i) None
@@ -26,38 +27,27 @@ module _ (old new : Cells) (sound : AreSoundCells old) (keeps : KeepsValues old 
       by_there : (b : Bool) → has_file old i ≡ b → cond b (body_in new i) None ≡ cond b (body_in old i) None
       by_there true is =
           let place = file_place-there old sound i is in
-          body-place new i (keeps.file_places i place) ∙ ap Some (keeps.bytes i) ∙ sym (body-place old i place)
+          body-place new i (keeps.places (Links i) place) ∙ ap Some (keeps.values (Bytes i)) ∙ sym (body-place old i place)
       by_there false is = refl
 
   one_plain : tidy new ≡ tidy old
   one_plain = same_plain (tidy new) (tidy old)
-      (λ d name. get-tidy new d name ∙ ap (option_map number_of) (keeps.entries d name) ∙ sym (get-tidy old d name))
-      (λ d. contains-parent new (keeps.dir_places 1 sound.root_is) d ∙ ap (λ o. (d == 1) || is_some o) (keeps.parents d) ∙ sym (contains-parent old sound.root_is d))
+      (λ d name. get-tidy new d name ∙ ap (option_map number_of) (keeps.values (Entry d name)) ∙ sym (get-tidy old d name))
+      (λ d. contains-parent new (keeps.places (Parent 1) sound.root_is) d ∙ ap (λ o. (d == 1) || is_some o) (keeps.values (Parent d)) ∙ sym (contains-parent old sound.root_is d))
       (λ i. get-files new i ∙ ap (λ b. cond b (body_in new i) None) (same_file i) ∙ same_bytes i ∙ sym (get-files old i))
-      (λ f. get-opens new f ∙ keeps.opens f ∙ sym (get-opens old f))
+      (λ f. get-opens new f ∙ keeps.values (Fd f) ∙ sym (get-opens old f))
 
   still_sound : AreSoundCells new
   still_sound =
-      let entries : entry_of new ≡ entry_of old = λ i d name. keeps.entries d name i in
-      let parents : parent_of new ≡ parent_of old = λ i d. keeps.parents d i in
+      let entries : entry_of new ≡ entry_of old = λ i d name. keeps.values (Entry d name) i in
+      let parents : parent_of new ≡ parent_of old = λ i d. keeps.values (Parent d) i in
       record {
-        root_is = keeps.dir_places 1 sound.root_is;
+        root_is = keeps.places (Parent 1) sound.root_is;
         tree = subst (λ (f : ℕ → List ℕ → Option Node). IsTree f (parent_of new)) (sym entries) (subst (λ (f : ℕ → Option ℕ). IsTree (entry_of old) f) (sym parents) sound.tree);
-        links = λ i. keeps.links i ∙ sound.links i ∙ ap (λ p. view_in p (Links i)) (sym one_plain);
-        opens = λ f o h. let was = sound.opens f o (sym (keeps.opens f) ∙ h) in (keeps.file_places o.file was.0, subst (λ (g : ℕ → Option ℕ). IsNoDir g o.file) (sym parents) was.1);
+        links = λ i. keeps.values (Links i) ∙ sound.links i ∙ ap (λ p. view_in p (Links i)) (sym one_plain);
+        opens = λ f o h. let was = sound.opens f o (sym (keeps.values (Fd f)) ∙ h) in (keeps.places (Links o.file) was.0, subst (λ (g : ℕ → Option ℕ). IsNoDir g o.file) (sym parents) was.1);
       }
-
-  still_free : (k : ℕ) → IsFree old k → IsFree new k
-  still_free k free = record {
-    above_root = free.above_root;
-    no_parent = keeps.parents k ∙ free.no_parent;
-    no_links = keeps.links k ∙ free.no_links;
-    no_bytes = keeps.bytes k ∙ free.no_bytes;
-    no_open = keeps.opens k ∙ free.no_open;
-    no_entry = λ d name x h. free.no_entry d name x (sym (keeps.entries d name) ∙ h);
-    no_file = λ f o h. free.no_file f o (sym (keeps.opens f) ∙ h);
-  }
 
 -- cells of equal values are one plain tree, sound alike, with the same numbers free
 pub values : ValuesLaw
-values old new sound keeps = record { plain = one_plain old new sound keeps; sound = still_sound old new sound keeps; free = still_free old new sound keeps }
+values old new sound keeps = record { plain = one_plain old new sound keeps; sound = still_sound old new sound keeps; free = same_free old new keeps.values }

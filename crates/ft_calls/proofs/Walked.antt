@@ -11,9 +11,7 @@ use Rattle.ft_tree.specs.Cells.{Cells, entry_of, parent_of}
 use Rattle.ft_tree.specs.Views.{view_of}
 use Rattle.ft_tree.specs.Looks.{Looks, Answer, Look, answer, then, or_else, answer-then}
 use Rattle.ft_tree.specs.Walk.{Spot, Named, Itself, up, passed, inner, reached, last, walk_from, walk}
-use Rattle.ft_tree.specs.Sound.{Hangs, the_root, under, IsTree, AreSoundCells}
-use Rattle.ft_calls.specs.Perform.{IsSpotIn}
-use Rattle.ft_calls.proofs.Places.{dir_place-hangs}
+use Rattle.ft_tree.specs.Sound.{Hangs, the_root, under, IsTree}
 
 module _ (cells : Cells) where
   -- a spot as a walk finds it: its directory is in the tree, and a name leads to its entry there
@@ -93,11 +91,3 @@ module _ (cells : Cells) where
     pub walk-ends : (names : List (List ℕ)) (trailing : Bool) → EndsWell (answer (walk names trailing) (view_of cells))
     walk-ends [] trailing = the_root
     walk-ends (name ∷ names) trailing = walk_from-ends names 1 name trailing the_root
-
--- so a walk ends in a directory that is stored, and tells what the name leads to there
-pub spot-in : (cells : Cells) → AreSoundCells cells → (names : List (List ℕ)) (trailing : Bool) (spot : Spot) → Ok spot ≡ answer (walk names trailing) (view_of cells) → IsSpotIn cells spot
-spot-in cells sound names trailing spot led = by_spot spot (subst (EndsWell cells) (sym led) (walk-ends cells sound.tree names trailing))
-  where
-    by_spot : (spot : Spot) → IsSpot cells spot → IsSpotIn cells spot
-    by_spot (Named d name x) h = (dir_place-hangs cells sound d h.0, h.1)
-    by_spot (Itself d) h = dir_place-hangs cells sound d h

@@ -12,7 +12,7 @@ use Rattle.ft_tree.specs.Cells.{Cells, entry_of}
 use Rattle.ft_tree.specs.Views.{view_of}
 use Rattle.ft_tree.specs.Looks.{Looks, Answer, Look, answer, looked_at, then, or_else}
 use Rattle.ft_tree.specs.Walk.{Spot, Named as AtName, Itself, up, passed, inner, reached, last, walk_from, walk}
-use Rattle.ft_calls.specs.LinkSteps.{climb}
+use Rattle.ft_calls.specs.Links.{climb}
 use Rattle.ft_calls.specs.Posix.{file_of}
 
 -- each of the cells is among those that are seen

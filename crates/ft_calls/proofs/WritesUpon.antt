@@ -12,11 +12,12 @@ use Rattle.ft_tree.specs.declared.node.Node.TheVariants.{File as FileNode}
 use Rattle.ft_tree.specs.declared.open_file.OpenFile.{OpenFile}
 use Rattle.ft_tree.specs.Cells.{Cells, entry_of, open_of}
 use Rattle.ft_calls.specs.Outcomes.{Write, SetEntry, SetParent, SetLinks, SetBytes, SetOpen}
-use Rattle.ft_calls.specs.FileSteps.{at_offset}
-use Rattle.ft_calls.specs.LinkSteps.{renamed}
+use Rattle.ft_calls.specs.Descriptors.{at_offset}
+use Rattle.ft_calls.specs.Links.{renamed}
 use Rattle.ft_calls.specs.Stored.{put, put_all}
 use Rattle.ft_calls.specs.Accesses.{written_cell}
-use Rattle.ft_calls.specs.Posix.{held, as_change, file_of, node_names, description_names, names_file}
+use Rattle.ft_tree.specs.Held.{held}
+use Rattle.ft_calls.specs.Posix.{as_change, file_of, node_names, description_names, names_file}
 use Rattle.ft_calls.proofs.Puts.{is_place, with_entry, entry_after, entry-put_entry, entry-put_parent, entry-put_all, open-put_open}
 use Rattle.ft_calls.proofs.Made.{same_place, own_place}
 use Rattle.ft_calls.proofs.Upon.{Upon, IsLeft}

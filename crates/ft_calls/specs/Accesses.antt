@@ -1,7 +1,8 @@
 -- The accesses of a call: the cells that it looks at and those that it writes.
-use Rattle.std.specs.Prelude.{ℕ, Bool, true, false, ◌&&◌, ◌||◌, List, [], ◌∷◌, map}
+use Rattle.std.specs.Prelude.{ℕ, suc, Bool, true, false, T, ◌&&◌, ◌||◌, List, [], ◌∷◌, map}
 use Rattle.std.specs.List.{list_any}
 use Rattle.std.specs.FinMap as finite
+use Rattle.std.specs.FinMap.Entries.{by_order}
 use Rattle.ft_tree.specs.declared.cell.Cell.{Cell}
 use Rattle.ft_tree.specs.declared.cell.Cell.TheVariants.{Entry, Parent, Links, Bytes, Fd}
 use Rattle.ft_tree.specs.CellOrder.{cell_cmp, overlap}
@@ -43,6 +44,24 @@ with_accesses m (Look c next) v = with_accesses (finite.insert m c ReadMode) (ne
 -- each cell once, in order
 abbrev pub listed : Modes → List Access
 listed m = map (λ e. record { cell = e.0; mode = e.1 }) (finite.entries m)
+
+-- accesses as a map's entries
+abbrev pub as_entries : List Access → List (Cell × Mode)
+as_entries list = map (λ a. (a.cell, a.mode)) list
+
+-- each cell once, in the order of cells
+abbrev pub AreInOrder : List Access → Type 0
+AreInOrder list = T (finite.is_sorted cell_cmp (as_entries list))
+
+-- how many accesses stand before a cell's
+abbrev pub place_in : Cell → List Access → ℕ
+place_in c [] = 0
+place_in c (a ∷ more) = by_order (cell_cmp c a.cell) 0 0 (suc (place_in c more))
+
+-- whether it is among accesses in order
+abbrev pub is_noted : Cell → List Access → Bool
+is_noted c [] = false
+is_noted c (a ∷ more) = by_order (cell_cmp c a.cell) false true (is_noted c more)
 
 -- the accesses of the call with stamp k
 abbrev pub accesses_of : Cells → ℕ → Call → List Access

@@ -5,14 +5,14 @@ use Rattle.ft_tree.specs.declared.cell.Cell.{Cell}
 use Rattle.ft_tree.specs.CellOrder.{overlap}
 use Rattle.ft_tree.specs.Views.{view_of}
 use Rattle.ft_tree.specs.Cells.{Cells}
-use Rattle.ft_tree.specs.Sound.{AreSoundCells, IsFree, IsSoundTree, KeepsValues}
+use Rattle.ft_tree.specs.Sound.{AreSoundCells, IsFree, IsSoundTree, SameValues, KeepsValues}
 use Rattle.ft_tree.specs.Tidy.{tidy}
 use Rattle.ft_calls.specs.declared.call.Call.{Call}
 use Rattle.ft_calls.specs.Exec.{exec}
 use Rattle.ft_calls.specs.declared.call.Access.{Access}
+use Rattle.ft_calls.specs.Perform.{OnlyTells}
 use Rattle.ft_calls.specs.Stored.{outcome, after}
 use Rattle.ft_calls.specs.Accesses.{is_write, accesses_of, some_conflict}
-use Rattle.ft_calls.specs.Posix.{SameValues}
 
 -- a call whose stamp numbers nothing leaves sound cells
 abbrev pub SoundnessLaw : Type 0
@@ -72,3 +72,7 @@ pub record AreExchanged (cells : Cells) (j : ℕ) (a : Call) (k : ℕ) (b : Call
 abbrev pub ExchangeLaw : Type 0
 ExchangeLaw = (cells : Cells) (j : ℕ) (a : Call) (k : ℕ) (b : Call) → AreSoundCells cells → IsFree cells j → IsFree cells k → j ≢ k
     → some_conflict (accesses_of cells j a) (accesses_of (after cells j a) k b) ≡ false → AreExchanged cells j a k b
+
+-- a call whose reply only tells writes nothing
+abbrev pub TellingLaw : Type 0
+TellingLaw = (cells : Cells) (k : ℕ) (call : Call) → AreSoundCells cells → OnlyTells (outcome cells k call).reply → (outcome cells k call).writes ≡ []

@@ -1,5 +1,5 @@
 -- The calls on a tree, seen as calls in the abstract: what ft_laws asks of calls is shown of these.
-use Rattle.std.specs.Prelude.{◌≡◌, ℕ, Bool, false, ◌==◌, List, [], map, Option, Some, None}
+use Rattle.std.specs.Prelude.{ℕ, Bool, false, ◌==◌, map, Option, Some, None}
 use Rattle.ft_laws.specs.Calls.{Calls}
 use Rattle.ft_laws.specs.Effects.{Access as PlaceAccess, Write as CellWrite, Effect, Effects, calls_of}
 use Rattle.ft_tree.specs.declared.cell.Cell.{Cell}
@@ -8,39 +8,15 @@ use Rattle.ft_tree.specs.declared.node.Node.{Node}
 use Rattle.ft_tree.specs.declared.node.Node.TheVariants.{Dir as DirNode, File as FileNode}
 use Rattle.ft_tree.specs.declared.open_file.OpenFile.{OpenFile}
 use Rattle.ft_tree.specs.CellOrder.{same_cell, overlap}
-use Rattle.ft_tree.specs.Cells.{Cells, entry_of, parent_of, links_of, bytes_of, open_of, put_entry, put_parent, put_links, put_bytes, put_open}
-use Rattle.ft_tree.specs.Sound.{AreSoundCells, IsFree}
+use Rattle.ft_tree.specs.Cells.{Cells}
+use Rattle.ft_tree.specs.Held.{Holds, held, blank, set_cell}
+use Rattle.ft_tree.specs.Sound.{AreSoundCells, IsFree, SameValues}
 use Rattle.ft_calls.specs.declared.call.Call.{Call}
 use Rattle.ft_calls.specs.declared.call.Reply.{Reply}
 use Rattle.ft_calls.specs.declared.call.Access.{Access}
 use Rattle.ft_calls.specs.Outcomes.{Write, SetEntry, SetParent, SetLinks, SetBytes, SetOpen}
 use Rattle.ft_calls.specs.Stored.{outcome}
 use Rattle.ft_calls.specs.Accesses.{is_write, accesses_of}
-
--- what a cell holds by itself; the names of a directory are read off its entries
-abbrev pub Holds : Cell → Type 0
-Holds (Entry d name) = Option Node
-Holds (Names d) = Unit {0}
-Holds (Parent d) = Option ℕ
-Holds (Links i) = ℕ
-Holds (Bytes i) = List ℕ
-Holds (Fd f) = Option OpenFile
-
-abbrev pub held : Cells → (c : Cell) → Holds c
-held cells (Entry d name) = entry_of cells d name
-held cells (Names d) = tt
-held cells (Parent d) = parent_of cells d
-held cells (Links i) = links_of cells i
-held cells (Bytes i) = bytes_of cells i
-held cells (Fd f) = open_of cells f
-
-abbrev pub set_cell : Cells → (c : Cell) → Holds c → Cells
-set_cell cells (Entry d name) to = put_entry cells d name to
-set_cell cells (Names d) to = cells
-set_cell cells (Parent d) to = put_parent cells d to
-set_cell cells (Links i) to = put_links cells i to
-set_cell cells (Bytes i) to = put_bytes cells i to
-set_cell cells (Fd f) to = put_open cells f to
 
 -- an access to the names of a directory is one to each of its entries
 abbrev pub covers : Cell → Cell → Bool
@@ -61,14 +37,6 @@ as_change (SetParent d to) = record { cell = Parent d; value = to }
 as_change (SetLinks i to) = record { cell = Links i; value = to }
 as_change (SetBytes i to) = record { cell = Bytes i; value = to }
 as_change (SetOpen f to) = record { cell = Fd f; value = to }
-
--- cells of the same values, whatever their places
-pub record SameValues (old new : Cells) : Type 0 where
-  pub entries : (d : ℕ) (name : List ℕ) → entry_of new d name ≡ entry_of old d name
-  pub parents : (d : ℕ) → parent_of new d ≡ parent_of old d
-  pub links : (i : ℕ) → links_of new i ≡ links_of old i
-  pub bytes : (i : ℕ) → bytes_of new i ≡ bytes_of old i
-  pub opens : (f : ℕ) → open_of new f ≡ open_of old f
 
 -- the values are those of sound cells
 pub record HasSoundValues (cells : Cells) : Type 0 where
@@ -102,15 +70,6 @@ names_file (Parent d) to i = false
 names_file (Links j) to i = false
 names_file (Bytes j) to i = false
 names_file (Fd f) to i = description_names to i
-
--- what a cell holds where nothing is stored
-abbrev pub blank : (c : Cell) → Holds c
-blank (Entry d name) = None
-blank (Names d) = tt
-blank (Parent d) = None
-blank (Links i) = 0
-blank (Bytes i) = []
-blank (Fd f) = None
 
 abbrev pub does : Cells → Stamped → Effect Cell Cell Holds Reply
 does cells a = let o = outcome cells a.stamp a.call in record {

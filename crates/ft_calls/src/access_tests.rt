@@ -143,7 +143,8 @@ fn check(
 fn put(tree: &mut Tree, dir: u64, name: &Name, to: Node) -> Result<(), Memory> {
     let parent = tree.parent(dir);
     tree.set_parent(dir, parent)?;
-    tree.set_entry(dir, name, Some(to))
+    tree.set_entry(dir, name.try_clone()?, Some(to))?;
+    Ok(())
 }
 
 /// Stores a file of zeros.
@@ -161,7 +162,8 @@ fn open(tree: &mut Tree, fd: u64, access: AccessMode, append: bool) -> Result<()
         append,
         offset: 1,
     };
-    tree.set_open_file(fd, Some(description))
+    tree.set_open_file(fd, Some(description))?;
+    Ok(())
 }
 
 /// Directories 2, `/d`, 3, `/d/e`, and 6, `/k`; files 4, `/f`, with so many links and bytes, and 5,

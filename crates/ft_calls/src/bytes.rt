@@ -3,7 +3,8 @@ ghost use Rattle.std.specs.Prelude.{◌≡◌, ◌≤◌, length, IfOk};
 ghost use Rattle.ft_body.specs.declared.TheConstants.{SIZE_LIMIT};
 ghost use Rattle.ft_body.specs.Bytes.{bytes_at};
 ghost use Rattle.ft_tree.specs.Cells.{bytes_of};
-ghost use Rattle.ft_calls.specs.FileSteps.{not_negative, to_size, moved, offset_within};
+ghost use Rattle.ft_calls.specs.Files.{to_size};
+ghost use Rattle.ft_calls.specs.Descriptors.{not_negative, moved, offset_within};
 
 use crate::LAST_OFFSET;
 use ft_base::Memory;
@@ -51,7 +52,8 @@ pub(crate) fn not_negative(offset: i64) -> Result<u64, Errno>
 
 /// A length that a file may have.
 pub(crate) fn to_size(length: i64) -> Result<u64, Errno>
-    ensures { result ≡ to_size length }
+    ensures size { result ≡ to_size length }
+    ensures limit { IfOk result (λ size. size ≤ SIZE_LIMIT) }
 {
     let size = not_negative(length)?;
     if size > SIZE_LIMIT {

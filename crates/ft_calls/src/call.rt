@@ -210,7 +210,7 @@ pub struct OpenFlags {
 
 impl OpenFlags {
     ghost use Rattle.std.specs.Prelude.{◌≡◌};
-    ghost use Rattle.ft_calls.specs.FileSteps.{is_exclusive, description};
+    ghost use Rattle.ft_calls.specs.Files.{is_exclusive, description};
 
     /// Whether an existing file is refused.
     pub(crate) fn is_exclusive(self) -> bool

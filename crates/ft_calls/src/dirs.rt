@@ -1,190 +1,172 @@
-// The calls on directories.
-ghost use Rattle.std.specs.Prelude.{◌≡◌, ℕ, Ok, Some, None, OnOk, OnErr, IsOk};
+// What the calls on directories come to.
+ghost use Rattle.std.specs.Prelude.{◌≡◌, Ok, Some};
+ghost use Rattle.ft_path.specs.FilePath.{parts_of};
 ghost use Rattle.ft_tree.specs.declared.node.Node.TheVariants.{Dir as DirNode};
-ghost use Rattle.ft_tree.specs.Cells.{put_entry, put_parent, HasDirPlace, HasEntryPlace};
-ghost use Rattle.ft_tree.specs.Looks.{answer};
-ghost use Rattle.ft_tree.specs.Views.{view_of};
-ghost use Rattle.ft_tree.specs.Walk.{seen_at};
-ghost use Rattle.ft_tree.specs.Sound.{AreSoundCells, IsFree, KeepsValues};
-ghost use Rattle.ft_calls.specs.declared.call.Call.TheVariants.{Mkdir, Rmdir, List as ListDir};
-ghost use Rattle.ft_calls.specs.DirSteps.{make_dir, remove_dir, list_dir, list_names, remove_parts, last_fault, last_of};
-ghost use Rattle.ft_calls.specs.Stored.{outcome};
-ghost use Rattle.ft_calls.specs.Perform.{IsPerformed, IsSpotIn};
+ghost use Rattle.ft_tree.specs.Walk.{Named, seen_at};
+ghost use Rattle.ft_calls.specs.Outcomes.{from_parts};
+ghost use Rattle.ft_calls.specs.Dirs.{make_dir, remove_parts, remove_dir, last_fault, list_dir};
+ghost use Rattle.ft_calls.specs.Comes.{Comes};
 
-use crate::call::Reply;
-use crate::parts::text_parts;
-use ft_base::Memory;
-use ft_path::{Errno, FilePath, Name, Parts};
-use ft_tree::{Node, Spot, Tree};
+use crate::intent::{Edit, Intent, Stop, Told};
+use crate::look::{Look, text_parts};
+use ft_path::{Errno, FilePath, LastName, Name, Parts};
+use ft_tree::{Node, Spot};
 use std::alloc::Global;
 
 /// Makes a directory, which gets the stamp as its number.
-pub(crate) fn mkdir(
+pub(crate) fn mkdir<'c>(
     alloc: Global,
-    tree: &mut Tree,
+    look: &mut Look<'_>,
     stamp: u64,
     path: &FilePath,
-) -> Result<Reply, Memory>
-    requires sound { AreSoundCells tree.old }
-    requires free { IsFree tree.old stamp }
-    ensures { IsPerformed tree.old (outcome tree.old stamp (Mkdir path.now)) tree.new result }
+) -> Result<Intent<'c>, Stop>
+    ensures { Comes look.old (from_parts (parts_of path.now) (make_dir stamp)) look.new result }
 {
-    match text_parts(alloc, path)? {
-        Err(errno) => Ok(Reply::Failed(errno)),
-        Ok(parts) => match tree.walk(parts.names.as_slice(), parts.trailing) {
-            Err(errno) => Ok(Reply::Failed(errno)),
-            Ok(spot) => make_dir(tree, stamp, spot),
-        },
-    }
-}
-
-/// Removes an empty directory.
-pub(crate) fn rmdir(alloc: Global, tree: &mut Tree, path: &FilePath) -> Result<Reply, Memory>
-    requires { AreSoundCells tree.old }
-    ensures { (stamp : ℕ) → IsPerformed tree.old (outcome tree.old stamp (Rmdir path.now)) tree.new result }
-{
-    match text_parts(alloc, path)? {
-        Err(errno) => Ok(Reply::Failed(errno)),
-        Ok(parts) => remove_parts(tree, &parts),
-    }
-}
-
-/// Removes the directory that a path's components lead to.
-fn remove_parts(tree: &mut Tree, parts: &Parts) -> Result<Reply, Memory>
-    requires { AreSoundCells tree.old }
-    ensures { IsPerformed tree.old (answer (remove_parts (Ok parts.now)) (view_of tree.old)) tree.new result }
-{
-    let names = parts.names.as_slice();
-    if let Some(errno) = last_fault(names) {
-        return Ok(Reply::Failed(errno));
-    }
-    match tree.walk(names, parts.trailing) {
-        Err(errno) => Ok(Reply::Failed(errno)),
-        Ok(spot) => remove_dir(tree, spot),
-    }
-}
-
-/// Lists the names of a directory.
-pub(crate) fn list(alloc: Global, tree: &Tree, path: &FilePath) -> Result<Reply, Memory>
-    ensures { (stamp : ℕ) → IsPerformed tree.now (outcome tree.now stamp (ListDir path.now)) tree.now result }
-{
-    match text_parts(alloc, path)? {
-        Err(errno) => Ok(Reply::Failed(errno)),
-        Ok(parts) => match tree.walk(parts.names.as_slice(), parts.trailing) {
-            Err(errno) => Ok(Reply::Failed(errno)),
-            Ok(spot) => list_spot(tree, spot),
-        },
-    }
+    let parts = text_parts(alloc, path)?;
+    let spot = look.walk(&parts)?;
+    make_dir(alloc, look, stamp, spot)
 }
 
 /// Makes a directory where a walk ended.
-fn make_dir(tree: &mut Tree, stamp: u64, spot: Spot<'_>) -> Result<Reply, Memory>
-    requires spot { IsSpotIn tree.old (seen_at spot) }
-    requires free { IsFree tree.old stamp }
-    ensures { IsPerformed tree.old (answer (make_dir stamp (seen_at spot.entry)) (view_of tree.old)) tree.new result }
+fn make_dir<'c>(
+    alloc: Global,
+    look: &mut Look<'_>,
+    stamp: u64,
+    spot: Spot<'_>,
+) -> Result<Intent<'c>, Stop>
+    ensures { Comes look.old (make_dir stamp (seen_at spot.entry)) look.new result }
 {
-    match spot {
-        Spot::Named {
+    let Spot::Named {
+        dir,
+        name,
+        node: None,
+    } = spot
+    else {
+        return Err(Stop::Errno(Errno::EEXIST));
+    };
+    let intent = Intent::tell(alloc, Told::Done)
+        .and(Edit::Parent {
+            dir: stamp,
+            to: Some(dir),
+        })?
+        .and(Edit::Entry {
             dir,
-            name,
-            node: None,
-        } => {
-            hang(tree, stamp, dir, name)?;
-            Ok(Reply::Done)
-        }
-        _ => Ok(Reply::Failed(Errno::EEXIST)),
+            name: name.try_clone()?,
+            to: Some(Node::Dir(stamp)),
+        })?;
+    Ok(intent)
+}
+
+/// Removes an empty directory.
+pub(crate) fn rmdir<'c>(
+    alloc: Global,
+    look: &mut Look<'_>,
+    path: &FilePath,
+) -> Result<Intent<'c>, Stop>
+    ensures { Comes look.old (remove_parts (parts_of path.now)) look.new result }
+{
+    let parts = text_parts(alloc, path)?;
+    remove_parts(alloc, look, &parts)
+}
+
+/// Removes the directory that a path's components lead to.
+fn remove_parts<'c>(alloc: Global, look: &mut Look<'_>, parts: &Parts) -> Result<Intent<'c>, Stop>
+    ensures { Comes look.old (remove_parts (Ok parts.now)) look.new result }
+{
+    if let Some(errno) = last_fault(parts.last()) {
+        return Err(Stop::Errno(errno));
+    }
+    let spot = look.walk(parts)?;
+    remove_dir(alloc, look, spot)
+}
+
+/// What is wrong with the last component of a path whose directory is to be removed.
+fn last_fault(last: LastName) -> Option<Errno>
+    ensures { result ≡ last_fault last }
+{
+    match last {
+        LastName::Absent => Some(Errno::EBUSY),
+        LastName::Dot => Some(Errno::EINVAL),
+        LastName::DotDot => Some(Errno::ENOTEMPTY),
+        LastName::Plain => None,
     }
 }
 
 /// Removes the directory at which a walk ended.
-fn remove_dir(tree: &mut Tree, spot: Spot<'_>) -> Result<Reply, Memory>
-    requires sound { AreSoundCells tree.old }
-    requires spot { IsSpotIn tree.old (seen_at spot) }
-    ensures { IsPerformed tree.old (answer (remove_dir (seen_at spot.entry)) (view_of tree.old)) tree.new result }
+fn remove_dir<'c>(alloc: Global, look: &mut Look<'_>, spot: Spot<'_>) -> Result<Intent<'c>, Stop>
+    ensures { Comes look.old (remove_dir (seen_at spot.entry)) look.new result }
 {
     match spot {
-        Spot::Itself(_) => Ok(Reply::Failed(Errno::EBUSY)),
-        Spot::Named { node: None, .. } => Ok(Reply::Failed(Errno::ENOENT)),
+        Spot::Itself(_) => Err(Stop::Errno(Errno::EBUSY)),
+        Spot::Named { node: None, .. } => Err(Stop::Errno(Errno::ENOENT)),
         Spot::Named {
             node: Some(Node::File(_)),
             ..
-        } => Ok(Reply::Failed(Errno::ENOTDIR)),
+        } => Err(Stop::Errno(Errno::ENOTDIR)),
         Spot::Named {
             dir,
             name,
             node: Some(Node::Dir(number)),
-        } => {
-            if !tree.is_empty_dir(number) {
-                return Ok(Reply::Failed(Errno::ENOTEMPTY));
-            }
-            unhang(tree, dir, name, number)?;
-            Ok(Reply::Done)
-        }
+        } => remove_bare(alloc, look, dir, name, number),
     }
+}
+
+/// Removes a directory, unless it has an entry.
+fn remove_bare<'c>(
+    alloc: Global,
+    look: &mut Look<'_>,
+    dir: u64,
+    name: &Name,
+    number: u64,
+) -> Result<Intent<'c>, Stop>
+    ensures { Comes look.old (remove_dir (Named dir name.now (Some (DirNode number)))) look.new result }
+{
+    if !look.is_empty_dir(number)? {
+        return Err(Stop::Errno(Errno::ENOTEMPTY));
+    }
+    let intent = Intent::tell(alloc, Told::Done)
+        .and(Edit::Parent {
+            dir: number,
+            to: None,
+        })?
+        .and(Edit::Entry {
+            dir,
+            name: name.try_clone()?,
+            to: None,
+        })?;
+    Ok(intent)
+}
+
+/// Lists the names of a directory.
+pub(crate) fn list<'c>(
+    alloc: Global,
+    look: &mut Look<'_>,
+    path: &FilePath,
+) -> Result<Intent<'c>, Stop>
+    ensures { Comes look.old (from_parts (parts_of path.now) list_dir) look.new result }
+{
+    let parts = text_parts(alloc, path)?;
+    let spot = look.walk(&parts)?;
+    list_dir(alloc, look, spot)
 }
 
 /// Lists the directory at which a walk ended.
-fn list_spot(tree: &Tree, spot: Spot<'_>) -> Result<Reply, Memory>
-    ensures { IsPerformed tree.now (answer (list_dir (seen_at spot.entry)) (view_of tree.now)) tree.now result }
+fn list_dir<'c>(alloc: Global, look: &mut Look<'_>, spot: Spot<'_>) -> Result<Intent<'c>, Stop>
+    ensures { Comes look.old (list_dir (seen_at spot.entry)) look.new result }
 {
     match spot {
-        Spot::Itself(number) => list_names(tree, number),
-        Spot::Named { node: None, .. } => Ok(Reply::Failed(Errno::ENOENT)),
+        Spot::Named { node: None, .. } => Err(Stop::Errno(Errno::ENOENT)),
         Spot::Named {
             node: Some(Node::File(_)),
             ..
-        } => Ok(Reply::Failed(Errno::ENOTDIR)),
+        } => Err(Stop::Errno(Errno::ENOTDIR)),
         Spot::Named {
             node: Some(Node::Dir(number)),
             ..
-        } => list_names(tree, number),
+        }
+        | Spot::Itself(number) => {
+            look.note_names(number)?;
+            Ok(Intent::tell(alloc, Told::NamesOf(number)))
+        }
     }
-}
-
-/// The names of a directory, as a reply.
-fn list_names(tree: &Tree, dir: u64) -> Result<Reply, Memory>
-    ensures { IsPerformed tree.now (answer (list_names dir) (view_of tree.now)) tree.now result }
-{
-    let names = tree.names(dir)?;
-    Ok(Reply::Names(names.into()))
-}
-
-/// What is wrong with the last name of a path whose directory is to be removed.
-fn last_fault(names: &[Name]) -> Option<Errno>
-    ensures { result ≡ last_fault (last_of names.now) }
-{
-    match names.last() {
-        None => Some(Errno::EBUSY),
-        Some(name) if name.is_dot() => Some(Errno::EINVAL),
-        Some(name) if name.is_dot_dot() => Some(Errno::ENOTEMPTY),
-        Some(_) => None,
-    }
-}
-
-/// Makes a directory under a name that is not there. Where there is no memory for its entry, it is
-/// taken away again.
-fn hang(tree: &mut Tree, stamp: u64, dir: u64, name: &Name) -> Result<(), Memory>
-    requires place { HasDirPlace tree.old dir }
-    requires free { IsFree tree.old stamp }
-    ensures ok { OnOk result (tree.new ≡ put_entry (put_parent tree.old stamp (Some dir)) dir name.now (Some (DirNode stamp))) }
-    ensures err { OnErr result (KeepsValues tree.old tree.new) }
-{
-    tree.set_parent(stamp, Some(dir))?;
-    if tree.set_entry(dir, name, Some(Node::Dir(stamp))).is_err() {
-        let _ = tree.set_parent(stamp, None);
-        return Err(Memory);
-    }
-    Ok(())
-}
-
-/// Takes a directory and its entry away. Both have their places, so it takes no memory.
-fn unhang(tree: &mut Tree, dir: u64, name: &Name, number: u64) -> Result<(), Memory>
-    requires dir_place { HasDirPlace tree.old dir }
-    requires parent_place { HasDirPlace tree.old number }
-    requires entry_place { HasEntryPlace tree.old dir name.now }
-    ensures removed { tree.new ≡ put_entry (put_parent tree.old number None) dir name.now None }
-    ensures ok { IsOk result }
-{
-    tree.set_parent(number, None)?;
-    tree.set_entry(dir, name, None)
 }

@@ -1,73 +1,62 @@
-// The calls on files by path.
-ghost use Rattle.std.specs.Prelude.{◌≡◌, ◌≤◌, ℕ, Ok, OnOk, OnErr};
-ghost use Rattle.ft_tree.specs.declared.node.Kind.TheVariants.{Dir as DirKind};
-ghost use Rattle.ft_tree.specs.declared.node.Node.TheVariants.{File as FileNode};
-ghost use Rattle.ft_path.specs.FilePath.{parts_of};
+// What open, truncate and stat come to.
+ghost use Rattle.std.specs.Prelude.{◌≡◌, ◌≤◌, Ok};
 ghost use Rattle.ft_body.specs.declared.TheConstants.{SIZE_LIMIT};
-ghost use Rattle.ft_tree.specs.Cells.{HasDirPlace, HasFilePlace};
-ghost use Rattle.ft_tree.specs.Looks.{answer};
-ghost use Rattle.ft_tree.specs.Views.{view_of};
+ghost use Rattle.ft_path.specs.FilePath.{parts_of};
+ghost use Rattle.ft_tree.specs.Looks.{Answer};
 ghost use Rattle.ft_tree.specs.Walk.{seen_at};
-ghost use Rattle.ft_tree.specs.Sound.{AreSoundCells, IsFree, KeepsValues};
-ghost use Rattle.ft_calls.specs.declared.call.Call.TheVariants.{Stat, Truncate};
-ghost use Rattle.ft_calls.specs.FileSteps.{open_parts, open_spot, open_node, opens, creates, truncate_parts, truncate_spot, cut_file, stat_spot, file_info};
 ghost use Rattle.ft_calls.specs.Outcomes.{from_parts};
-ghost use Rattle.ft_calls.specs.Stored.{outcome, put_all};
-ghost use Rattle.ft_calls.specs.Perform.{IsPerformed, IsSpotIn};
+ghost use Rattle.ft_calls.specs.Files.{open_node, open_spot, open_parts, cut_file, truncate_spot, truncate_parts, file_info, stat_spot};
+ghost use Rattle.ft_calls.specs.Comes.{Comes};
 
-use crate::bytes::{size_of, to_size};
-use crate::call::{OpenFlags, Reply};
-use crate::parts::text_parts;
-use ft_base::Memory;
-use ft_path::{Errno, FilePath, Name, Parts};
-use ft_tree::{Kind, Node, Spot, Tree};
+use crate::bytes::to_size;
+use crate::call::OpenFlags;
+use crate::intent::{Edit, Intent, Stop, Told};
+use crate::look::{Look, text_parts};
+use ft_path::{Errno, FilePath, Parts};
+use ft_tree::{Kind, Node, Spot};
 use std::alloc::Global;
 
 /// Opens a file, and makes it where that is asked. What is new gets the stamp as its number.
-pub(crate) fn open(
+pub(crate) fn open<'c>(
     alloc: Global,
-    tree: &mut Tree,
+    look: &mut Look<'_>,
     stamp: u64,
     path: &FilePath,
     flags: OpenFlags,
-) -> Result<Reply, Memory>
-    requires sound { AreSoundCells tree.old }
-    requires free { IsFree tree.old stamp }
-    ensures { IsPerformed tree.old (answer (open_parts stamp flags (parts_of path.now)) (view_of tree.old)) tree.new result }
+) -> Result<Intent<'c>, Stop>
+    ensures { Comes look.old (open_parts stamp flags (parts_of path.now)) look.new result }
 {
-    match text_parts(alloc, path)? {
-        Err(errno) => Ok(Reply::Failed(errno)),
-        Ok(parts) => open_parts(tree, stamp, flags, &parts),
-    }
+    let parts = text_parts(alloc, path)?;
+    open_parts(alloc, look, stamp, flags, &parts)
 }
 
 /// Opens the file that a path's components lead to.
-fn open_parts(tree: &mut Tree, stamp: u64, flags: OpenFlags, parts: &Parts) -> Result<Reply, Memory>
-    requires sound { AreSoundCells tree.old }
-    requires free { IsFree tree.old stamp }
-    ensures { IsPerformed tree.old (answer (open_parts stamp flags (Ok parts.now)) (view_of tree.old)) tree.new result }
+fn open_parts<'c>(
+    alloc: Global,
+    look: &mut Look<'_>,
+    stamp: u64,
+    flags: OpenFlags,
+    parts: &Parts,
+) -> Result<Intent<'c>, Stop>
+    ensures { Comes look.old (open_parts stamp flags (Ok parts.now)) look.new result }
 {
     if flags.trunc && !flags.access.can_write() {
-        return Ok(Reply::Failed(Errno::EINVAL));
+        return Err(Stop::Errno(Errno::EINVAL));
     }
-    match tree.walk(parts.names.as_slice(), parts.trailing) {
-        Err(errno) => Ok(Reply::Failed(errno)),
-        Ok(spot) => open_spot(tree, stamp, flags, parts.trailing, spot),
-    }
+    let spot = look.walk(parts)?;
+    open_spot(alloc, look, stamp, flags, parts.trailing, spot)
 }
 
 /// Opens the file at which a walk ended.
-fn open_spot(
-    tree: &mut Tree,
+fn open_spot<'c>(
+    alloc: Global,
+    look: &mut Look<'_>,
     stamp: u64,
     flags: OpenFlags,
     trailing: bool,
     spot: Spot<'_>,
-) -> Result<Reply, Memory>
-    requires sound { AreSoundCells tree.old }
-    requires free { IsFree tree.old stamp }
-    requires spot { IsSpotIn tree.old (seen_at spot) }
-    ensures { IsPerformed tree.old (open_spot stamp flags trailing (seen_at spot.entry)) tree.new result }
+) -> Result<Intent<'c>, Stop>
+    ensures { Comes look.old (Answer (open_spot stamp flags trailing (seen_at spot.entry))) look.new result }
 {
     match spot {
         Spot::Named {
@@ -76,189 +65,177 @@ fn open_spot(
             node: None,
         } => {
             if !flags.create || trailing {
-                return Ok(Reply::Failed(Errno::ENOENT));
+                return Err(Stop::Errno(Errno::ENOENT));
             }
-            create_file(tree, stamp, flags, dir, name)?;
-            Ok(Reply::Number(stamp))
+            let intent = Intent::tell(alloc, Told::Number(stamp))
+                .and(Edit::Links { file: stamp, to: 1 })?
+                .and(Edit::Resize {
+                    file: stamp,
+                    size: 0,
+                })?
+                .and(Edit::Open {
+                    fd: stamp,
+                    to: Some(flags.description(stamp)),
+                })?
+                .and(Edit::Entry {
+                    dir,
+                    name: name.try_clone()?,
+                    to: Some(Node::File(stamp)),
+                })?;
+            Ok(intent)
         }
-        _ if flags.is_exclusive() => Ok(Reply::Failed(Errno::EEXIST)),
+        _ if flags.is_exclusive() => Err(Stop::Errno(Errno::EEXIST)),
         Spot::Named {
             node: Some(node),
             ..
-        } => open_node(tree, stamp, flags, node),
-        Spot::Itself(_) => Ok(Reply::Failed(Errno::EISDIR)),
+        } => open_node(alloc, look, stamp, flags, node),
+        Spot::Itself(_) => Err(Stop::Errno(Errno::EISDIR)),
     }
 }
 
 /// Opens what an entry leads to.
-fn open_node(tree: &mut Tree, stamp: u64, flags: OpenFlags, node: Node) -> Result<Reply, Memory>
-    requires free { IsFree tree.old stamp }
-    requires place { (file : ℕ) → node ≡ FileNode file → HasFilePlace tree.old file }
-    ensures { IsPerformed tree.old (open_node stamp flags node) tree.new result }
-{
-    match node {
-        Node::Dir(_) => Ok(Reply::Failed(Errno::EISDIR)),
-        Node::File(file) => {
-            open_file(tree, stamp, flags, file)?;
-            Ok(Reply::Number(stamp))
-        }
-    }
-}
-
-/// Opens an existing file. Where there is no memory to cut it, the descriptor is closed again.
-fn open_file(tree: &mut Tree, stamp: u64, flags: OpenFlags, file: u64) -> Result<(), Memory>
-    requires free { IsFree tree.old stamp }
-    requires place { HasFilePlace tree.old file }
-    ensures ok { OnOk result (tree.new ≡ put_all tree.old (opens stamp flags file).writes) }
-    ensures err { OnErr result (KeepsValues tree.old tree.new) }
-{
-    tree.set_open_file(stamp, Some(flags.description(file)))?;
-    if flags.trunc && tree.set_size(file, 0).is_err() {
-        let _ = tree.set_open_file(stamp, None);
-        return Err(Memory);
-    }
-    Ok(())
-}
-
-/// Makes a file under a name that is not there, and opens it. Where there is no memory for all of
-/// it, what was made is taken away again.
-fn create_file(
-    tree: &mut Tree,
+fn open_node<'c>(
+    alloc: Global,
+    look: &mut Look<'_>,
     stamp: u64,
     flags: OpenFlags,
-    dir: u64,
-    name: &Name,
-) -> Result<(), Memory>
-    requires free { IsFree tree.old stamp }
-    requires place { HasDirPlace tree.old dir }
-    ensures ok { OnOk result (tree.new ≡ put_all tree.old (creates stamp flags dir name.now).writes) }
-    ensures err { OnErr result (KeepsValues tree.old tree.new) }
+    node: Node,
+) -> Result<Intent<'c>, Stop>
+    ensures { Comes look.old (Answer (open_node stamp flags node)) look.new result }
 {
-    tree.set_links(stamp, 1)?;
-    if tree
-        .set_open_file(stamp, Some(flags.description(stamp)))
-        .is_err()
-    {
-        let _ = tree.set_links(stamp, 0);
-        return Err(Memory);
+    let Node::File(file) = node else {
+        return Err(Stop::Errno(Errno::EISDIR));
+    };
+    let intent = Intent::tell(alloc, Told::Number(stamp)).and(Edit::Open {
+        fd: stamp,
+        to: Some(flags.description(file)),
+    })?;
+    if !flags.trunc {
+        return Ok(intent);
     }
-    if tree.set_entry(dir, name, Some(Node::File(stamp))).is_err() {
-        let _ = tree.set_open_file(stamp, None);
-        let _ = tree.set_links(stamp, 0);
-        return Err(Memory);
-    }
-    Ok(())
+    let cut = intent.and(Edit::Resize { file, size: 0 })?;
+    Ok(cut)
 }
 
 /// Cuts a file to a length, or adds zeros up to it.
-pub(crate) fn truncate(
+pub(crate) fn truncate<'c>(
     alloc: Global,
-    tree: &mut Tree,
+    look: &mut Look<'_>,
     length: i64,
     path: &FilePath,
-) -> Result<Reply, Memory>
-    requires { AreSoundCells tree.old }
-    ensures { (stamp : ℕ) → IsPerformed tree.old (outcome tree.old stamp (Truncate length path.now)) tree.new result }
+) -> Result<Intent<'c>, Stop>
+    ensures { Comes look.old (truncate_parts length (parts_of path.now)) look.new result }
 {
-    match text_parts(alloc, path)? {
-        Err(errno) => Ok(Reply::Failed(errno)),
-        Ok(parts) => match to_size(length) {
-            Err(errno) => Ok(Reply::Failed(errno)),
-            Ok(size) => truncate_parts(tree, size, &parts),
-        },
-    }
+    let parts = text_parts(alloc, path)?;
+    let size = to_size(length)?;
+    truncate_to(alloc, look, size, &parts)
 }
 
 /// Cuts the file that a path's components lead to.
-fn truncate_parts(tree: &mut Tree, size: u64, parts: &Parts) -> Result<Reply, Memory>
-    requires sound { AreSoundCells tree.old }
-    requires limit { size ≤ SIZE_LIMIT }
-    ensures { IsPerformed tree.old (answer (from_parts (Ok parts.now) (truncate_spot size)) (view_of tree.old)) tree.new result }
+fn truncate_to<'c>(
+    alloc: Global,
+    look: &mut Look<'_>,
+    size: u64,
+    parts: &Parts,
+) -> Result<Intent<'c>, Stop>
+    requires { size ≤ SIZE_LIMIT }
+    ensures { Comes look.old (from_parts (Ok parts.now) (truncate_spot size)) look.new result }
 {
-    match tree.walk(parts.names.as_slice(), parts.trailing) {
-        Err(errno) => Ok(Reply::Failed(errno)),
-        Ok(spot) => truncate_spot(tree, size, spot),
-    }
+    let spot = look.walk(parts)?;
+    truncate_spot(alloc, look, size, spot)
 }
 
 /// Cuts the file at which a walk ended.
-fn truncate_spot(tree: &mut Tree, size: u64, spot: Spot<'_>) -> Result<Reply, Memory>
-    requires sound { AreSoundCells tree.old }
-    requires limit { size ≤ SIZE_LIMIT }
-    requires spot { IsSpotIn tree.old (seen_at spot) }
-    ensures { IsPerformed tree.old (answer (truncate_spot size (seen_at spot.entry)) (view_of tree.old)) tree.new result }
+fn truncate_spot<'c>(
+    alloc: Global,
+    look: &mut Look<'_>,
+    size: u64,
+    spot: Spot<'_>,
+) -> Result<Intent<'c>, Stop>
+    requires { size ≤ SIZE_LIMIT }
+    ensures { Comes look.old (truncate_spot size (seen_at spot.entry)) look.new result }
 {
     match spot {
-        Spot::Named { node: None, .. } => Ok(Reply::Failed(Errno::ENOENT)),
+        Spot::Named { node: None, .. } => Err(Stop::Errno(Errno::ENOENT)),
         Spot::Named {
             node: Some(Node::File(file)),
             ..
-        } => cut_file(tree, file, size),
-        _ => Ok(Reply::Failed(Errno::EISDIR)),
+        } => cut_file(alloc, look, file, size),
+        _ => Err(Stop::Errno(Errno::EISDIR)),
     }
 }
 
-/// Cuts a file that is stored.
-pub(crate) fn cut_file(tree: &mut Tree, file: u64, size: u64) -> Result<Reply, Memory>
-    requires place { HasFilePlace tree.old file }
-    requires limit { size ≤ SIZE_LIMIT }
-    ensures { IsPerformed tree.old (answer (cut_file file size) (view_of tree.old)) tree.new result }
+/// Cuts a file.
+pub(crate) fn cut_file<'c>(
+    alloc: Global,
+    look: &mut Look<'_>,
+    file: u64,
+    size: u64,
+) -> Result<Intent<'c>, Stop>
+    requires { size ≤ SIZE_LIMIT }
+    ensures { Comes look.old (cut_file file size) look.new result }
 {
-    let _undo = tree.set_size(file, size)?;
-    Ok(Reply::Done)
+    look.size(file)?;
+    let intent = Intent::tell(alloc, Told::Done).and(Edit::Resize { file, size })?;
+    Ok(intent)
 }
 
 /// Tells what a path leads to.
-pub(crate) fn stat(alloc: Global, tree: &Tree, path: &FilePath) -> Result<Reply, Memory>
-    ensures { (stamp : ℕ) → IsPerformed tree.now (outcome tree.now stamp (Stat path.now)) tree.now result }
+pub(crate) fn stat<'c>(
+    alloc: Global,
+    look: &mut Look<'_>,
+    path: &FilePath,
+) -> Result<Intent<'c>, Stop>
+    ensures { Comes look.old (from_parts (parts_of path.now) stat_spot) look.new result }
 {
-    match text_parts(alloc, path)? {
-        Err(errno) => Ok(Reply::Failed(errno)),
-        Ok(parts) => match tree.walk(parts.names.as_slice(), parts.trailing) {
-            Err(errno) => Ok(Reply::Failed(errno)),
-            Ok(spot) => Ok(stat_spot(tree, spot)),
-        },
-    }
+    let parts = text_parts(alloc, path)?;
+    let spot = look.walk(&parts)?;
+    stat_spot(alloc, look, spot)
 }
 
 /// Tells at what a walk ended.
-fn stat_spot(tree: &Tree, spot: Spot<'_>) -> Reply
-    ensures { IsPerformed tree.now (answer (stat_spot (seen_at spot.entry)) (view_of tree.now)) tree.now (Ok result) }
+fn stat_spot<'c>(alloc: Global, look: &mut Look<'_>, spot: Spot<'_>) -> Result<Intent<'c>, Stop>
+    ensures { Comes look.old (stat_spot (seen_at spot.entry)) look.new result }
 {
     match spot {
-        Spot::Named { node: None, .. } => Reply::Failed(Errno::ENOENT),
+        Spot::Named { node: None, .. } => Err(Stop::Errno(Errno::ENOENT)),
         Spot::Named {
             node: Some(Node::File(file)),
             ..
-        } => file_info(tree, file),
+        } => file_info(alloc, look, file),
         Spot::Named {
             node: Some(Node::Dir(number)),
             ..
         }
-        | Spot::Itself(number) => dir_info(number),
+        | Spot::Itself(number) => Ok(Intent::tell(
+            alloc,
+            Told::Info {
+                kind: Kind::Dir,
+                number,
+                links: 1,
+                size: 0,
+            },
+        )),
     }
 }
 
-/// What is told of a directory: one link and size 0.
-fn dir_info(number: u64) -> Reply
-    ensures { result ≡ Reply.Info DirKind number 1 0 }
+/// Tells what a file is.
+pub(crate) fn file_info<'c>(
+    alloc: Global,
+    look: &mut Look<'_>,
+    file: u64,
+) -> Result<Intent<'c>, Stop>
+    ensures { Comes look.old (file_info file) look.new result }
 {
-    Reply::Info {
-        kind: Kind::Dir,
-        number,
-        links: 1,
-        size: 0,
-    }
-}
-
-/// What is told of a file.
-pub(crate) fn file_info(tree: &Tree, file: u64) -> Reply
-    ensures { IsPerformed tree.now (answer (file_info file) (view_of tree.now)) tree.now (Ok result) }
-{
-    Reply::Info {
-        kind: Kind::File,
-        number: file,
-        links: tree.links(file),
-        size: size_of(tree, file),
-    }
+    let links = look.links(file)?;
+    let size = look.size(file)?;
+    Ok(Intent::tell(
+        alloc,
+        Told::Info {
+            kind: Kind::File,
+            number: file,
+            links,
+            size,
+        },
+    ))
 }

@@ -1,7 +1,10 @@
 // Laws of the calls: each is the contract of a function that does nothing.
 ghost use Rattle.ft_laws.specs.Laws.{Lawful};
 ghost use Rattle.ft_laws.specs.Runs.{Exchange, Deletion};
-ghost use Rattle.ft_calls.specs.Laws.{SoundnessLaw, FreshnessLaw, TidyingLaw, ValuesLaw, PlainSoundnessLaw, FrameLaw, KeptLaw, ExchangeLaw};
+ghost use Rattle.ft_calls.specs.Laws.{SoundnessLaw, FreshnessLaw, TidyingLaw, ValuesLaw, PlainSoundnessLaw, FrameLaw, KeptLaw, ExchangeLaw, TellingLaw};
+ghost use Rattle.ft_calls.specs.RunLaws.{PlainAccessesLaw, HidingLaw, RunLaw, PlacedLaw};
+ghost use Rattle.ft_calls.specs.Edits.{PlacesLaw, EditingLaw};
+ghost use Rattle.ft_calls.specs.CellLaws.{SettingLaw, RestoringLaw};
 ghost use Rattle.ft_calls.specs.Posix.{posix_calls};
 
 /// A call whose stamp numbers nothing leaves sound cells sound.
@@ -66,4 +69,53 @@ pub fn exchange()
 /// before it.
 pub fn deletion()
     ensures { Deletion posix_calls }
+{}
+
+/// On sound cells, what a call writes are different cells, each of which has its place or can make
+/// it.
+pub fn places()
+    ensures { PlacesLaw }
+{}
+
+/// A call whose reply only tells writes nothing.
+pub fn telling()
+    ensures { TellingLaw }
+{}
+
+/// Edits of different cells do not come in each other's way.
+pub fn editing()
+    ensures { EditingLaw }
+{}
+
+/// To set a cell sets it and no other, and every place stays.
+pub fn setting()
+    ensures { SettingLaw }
+{}
+
+/// A cell that was set gives the cells back as they were.
+pub fn restoring()
+    ensures { RestoringLaw }
+{}
+
+/// The accesses of a call on the plain tree are those on the sound cells that the tree is.
+pub fn plain_accesses()
+    ensures { PlainAccessesLaw }
+{}
+
+/// Files that nothing names may be hidden: their cells hold nothing then, and the plain tree is the
+/// same.
+pub fn hiding()
+    ensures { HidingLaw }
+{}
+
+/// Calls that run from sound cells with the replies that they got leave sound cells, and run on the
+/// plain tree alike: each gives its reply, and the tree after them is that of the cells. Their stamps
+/// are distinct and number nothing before.
+pub fn runs()
+    ensures { RunLaw }
+{}
+
+/// Cells of sound values are sound where the root is stored, and the file of each description.
+pub fn placed()
+    ensures { PlacedLaw }
 {}

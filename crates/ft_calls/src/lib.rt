@@ -8,29 +8,21 @@
 
 #[cfg(test)]
 mod access_tests;
-mod action;
 mod bytes;
 mod call;
 mod descriptors;
 mod dirs;
 mod files;
+mod intent;
 pub mod laws;
 mod links;
-mod look_descriptors;
-mod look_dirs;
-mod look_files;
-mod look_links;
-mod look_rename;
-mod look_walk;
-mod looks;
-mod parts;
-#[cfg(test)]
-mod tests;
+mod look;
+mod preparing;
 mod touched;
 
-pub use action::{perform, perform_and_copy};
 pub use call::{Access, Call, Mode, OpenFlags, Reply, Whence};
-pub use looks::accesses;
+pub use intent::{Edit, Edits, Intent, Told};
+pub use preparing::{Prepared, accesses, prepare};
 
 /// The largest count of a file's links.
 pub const MOST_LINKS: u64 = 1_000;

@@ -1,431 +1,427 @@
-// The calls that give files other entries, and that take entries away or move them.
-ghost use Rattle.std.specs.Prelude.{◌≡◌, ◌≢◌, ℕ, Ok, [], Some, OnOk, OnErr, IsOk};
-ghost use Rattle.ft_tree.specs.declared.node.Node.TheVariants.{Dir as DirNode, File as FileNode};
-ghost use Rattle.ft_tree.specs.Cells.{entry_of, links_of, stored_dirs, HasDirPlace, HasFilePlace};
-ghost use Rattle.ft_tree.specs.Looks.{answer};
-ghost use Rattle.ft_tree.specs.Views.{view_of};
-ghost use Rattle.ft_tree.specs.Walk.{seen_at, Named};
-ghost use Rattle.ft_tree.specs.Sound.{AreSoundCells};
-ghost use Rattle.ft_calls.specs.declared.call.Call.TheVariants.{Link, Unlink, Rename};
-ghost use Rattle.ft_calls.specs.LinkSteps.{linked, link_at, link_new, link_old, link_parts, unlinked, unlink_spot, is_dots, rename_fault, climb, renamed, with_parent, replace_file, replace_dir, rename_file, rename_dir, rename_old, rename_parts};
-ghost use Rattle.ft_calls.specs.DirSteps.{last_of};
+// What link, unlink and rename come to.
+ghost use Rattle.std.specs.Prelude.{◌≡◌, [], ◌++◌, Ok, IfOk};
+ghost use Rattle.ft_path.specs.FilePath.{parts_of};
+ghost use Rattle.ft_tree.specs.declared.node.Node.TheVariants.{Dir as DirNode};
+ghost use Rattle.ft_tree.specs.Cells.{Cells, stored_dirs};
+ghost use Rattle.ft_tree.specs.Looks.{Answer};
+ghost use Rattle.ft_tree.specs.Walk.{seen_at};
 ghost use Rattle.ft_calls.specs.Outcomes.{from_parts};
-ghost use Rattle.ft_calls.specs.Stored.{outcome, put_all};
-ghost use Rattle.ft_calls.specs.Perform.{IsPerformed, IsSpotIn};
+ghost use Rattle.ft_calls.specs.Links.{link_at, link_new, link_old, link_parts, unlink_spot, rename_fault, renamed, with_parent, unless_below, replace_file, replace_dir, rename_file, rename_dir, rename_old, rename_parts};
+ghost use Rattle.ft_calls.specs.Comes.{writes_of, outcome_of, Comes};
 
 use crate::MOST_LINKS;
-use crate::call::Reply;
-use crate::parts::text_parts;
+use crate::intent::{Edit, Intent, Stop, Told};
+use crate::look::{Look, text_parts};
 use ft_base::Memory;
-use ft_path::{Errno, FilePath, Name, Parts};
-use ft_tree::{Node, ROOT, Spot, Tree};
+use ft_path::{Errno, FilePath, LastName, Name, Parts};
+use ft_tree::{Node, Spot};
 use std::alloc::Global;
 
-/// Where an entry stands: its directory, and its name there.
-#[derive(Clone, Copy)]
-struct Entry<'a> {
-    dir: u64,
-    name: &'a Name,
-}
-
-/// Makes another entry for a file.
-pub(crate) fn link(
-    alloc: Global,
-    tree: &mut Tree,
-    old: &FilePath,
-    new: &FilePath,
-) -> Result<Reply, Memory>
-    requires { AreSoundCells tree.old }
-    ensures { (stamp : ℕ) → IsPerformed tree.old (outcome tree.old stamp (Link old.now new.now)) tree.new result }
-{
-    match text_parts(alloc, old)? {
-        Err(errno) => Ok(Reply::Failed(errno)),
-        Ok(from) => match text_parts(alloc, new)? {
-            Err(errno) => Ok(Reply::Failed(errno)),
-            Ok(to) => link_parts(tree, &from, &to),
-        },
-    }
-}
-
-/// Links the file that a path's components lead to, where those of another lead.
-fn link_parts(tree: &mut Tree, old: &Parts, new: &Parts) -> Result<Reply, Memory>
-    requires { AreSoundCells tree.old }
-    ensures { IsPerformed tree.old (answer (link_parts (Ok old.now) (Ok new.now)) (view_of tree.old)) tree.new result }
-{
-    match tree.walk(old.names.as_slice(), old.trailing) {
-        Err(errno) => Ok(Reply::Failed(errno)),
-        Ok(spot) => link_old(tree, new, spot),
-    }
-}
-
-/// Links the file at which a walk ended.
-fn link_old(tree: &mut Tree, new: &Parts, spot: Spot<'_>) -> Result<Reply, Memory>
-    requires sound { AreSoundCells tree.old }
-    requires spot { IsSpotIn tree.old (seen_at spot) }
-    ensures { IsPerformed tree.old (answer (link_old new.now (seen_at spot.entry)) (view_of tree.old)) tree.new result }
-{
-    match spot {
-        Spot::Named { node: None, .. } => Ok(Reply::Failed(Errno::ENOENT)),
-        Spot::Named {
-            node: Some(Node::File(file)),
-            ..
-        } => link_file(tree, file, new),
-        _ => Ok(Reply::Failed(Errno::EPERM)),
-    }
-}
-
-/// Links a file that is stored, where a path's components lead.
-fn link_file(tree: &mut Tree, file: u64, new: &Parts) -> Result<Reply, Memory>
-    requires sound { AreSoundCells tree.old }
-    requires place { HasFilePlace tree.old file }
-    ensures { IsPerformed tree.old (answer (from_parts (Ok new.now) (link_new file new.now.trailing)) (view_of tree.old)) tree.new result }
-{
-    match tree.walk(new.names.as_slice(), new.trailing) {
-        Err(errno) => Ok(Reply::Failed(errno)),
-        Ok(spot) => link_new(tree, file, new.trailing, spot),
-    }
-}
-
-/// Links a file where a walk ended.
-fn link_new(tree: &mut Tree, file: u64, trailing: bool, spot: Spot<'_>) -> Result<Reply, Memory>
-    requires place { HasFilePlace tree.old file }
-    requires spot { IsSpotIn tree.old (seen_at spot) }
-    ensures { IsPerformed tree.old (answer (link_new file trailing (seen_at spot.entry)) (view_of tree.old)) tree.new result }
-{
-    match spot {
-        Spot::Named {
-            dir,
-            name,
-            node: None,
-        } => {
-            if trailing {
-                return Ok(Reply::Failed(Errno::ENOENT));
-            }
-            link_at(tree, file, Entry { dir, name })
-        }
-        _ => Ok(Reply::Failed(Errno::EEXIST)),
-    }
-}
-
-/// Links a file under a name that is not there, unless it has as many links as a file may have.
-fn link_at(tree: &mut Tree, file: u64, to: Entry<'_>) -> Result<Reply, Memory>
-    requires file { HasFilePlace tree.old file }
-    requires to { HasDirPlace tree.old to.dir }
-    ensures { IsPerformed tree.old (link_at file to.entry.dir to.entry.name.now (links_of tree.old file)) tree.new result }
-{
-    let links = tree.links(file);
-    if links >= MOST_LINKS {
-        return Ok(Reply::Failed(Errno::EMLINK));
-    }
-    tree.set_entry(to.dir, to.name, Some(Node::File(file)))?;
-    tree.set_links(file, links + 1)?;
-    Ok(Reply::Done)
-}
-
 /// Removes an entry of a file.
-pub(crate) fn unlink(alloc: Global, tree: &mut Tree, path: &FilePath) -> Result<Reply, Memory>
-    requires { AreSoundCells tree.old }
-    ensures { (stamp : ℕ) → IsPerformed tree.old (outcome tree.old stamp (Unlink path.now)) tree.new result }
+pub(crate) fn unlink<'c>(
+    alloc: Global,
+    look: &mut Look<'_>,
+    path: &FilePath,
+) -> Result<Intent<'c>, Stop>
+    ensures { Comes look.old (from_parts (parts_of path.now) unlink_spot) look.new result }
 {
-    match text_parts(alloc, path)? {
-        Err(errno) => Ok(Reply::Failed(errno)),
-        Ok(parts) => match tree.walk(parts.names.as_slice(), parts.trailing) {
-            Err(errno) => Ok(Reply::Failed(errno)),
-            Ok(spot) => unlink_spot(tree, spot),
-        },
-    }
+    let parts = text_parts(alloc, path)?;
+    let spot = look.walk(&parts)?;
+    unlink_spot(alloc, look, spot)
 }
 
 /// Removes the entry of a file at which a walk ended.
-fn unlink_spot(tree: &mut Tree, spot: Spot<'_>) -> Result<Reply, Memory>
-    requires sound { AreSoundCells tree.old }
-    requires spot { IsSpotIn tree.old (seen_at spot) }
-    ensures { IsPerformed tree.old (answer (unlink_spot (seen_at spot.entry)) (view_of tree.old)) tree.new result }
+fn unlink_spot<'c>(alloc: Global, look: &mut Look<'_>, spot: Spot<'_>) -> Result<Intent<'c>, Stop>
+    ensures { Comes look.old (unlink_spot (seen_at spot.entry)) look.new result }
 {
     match spot {
-        Spot::Named { node: None, .. } => Ok(Reply::Failed(Errno::ENOENT)),
+        Spot::Named { node: None, .. } => Err(Stop::Errno(Errno::ENOENT)),
         Spot::Named {
             dir,
             name,
             node: Some(Node::File(file)),
-        } => unlink_entry(tree, Entry { dir, name }, file),
-        _ => Ok(Reply::Failed(Errno::EPERM)),
+        } => {
+            let links = look.links(file)?;
+            let intent = Intent::tell(alloc, Told::Done)
+                .and(Edit::Links {
+                    file,
+                    to: links.saturating_sub(1),
+                })?
+                .and(Edit::Entry {
+                    dir,
+                    name: name.try_clone()?,
+                    to: None,
+                })?;
+            Ok(intent)
+        }
+        _ => Err(Stop::Errno(Errno::EPERM)),
     }
 }
 
-/// Removes an entry of a file. The file and the entry have their places, so it takes no memory.
-fn unlink_entry(tree: &mut Tree, at: Entry<'_>, file: u64) -> Result<Reply, Memory>
-    requires at { entry_of tree.old at.dir at.name.now ≡ Some (FileNode file) }
-    requires linked { links_of tree.old file ≢ 0 }
-    ensures { IsPerformed tree.old (unlinked at.entry.dir at.entry.name.now file (links_of tree.old file)) tree.new result }
+/// Makes another entry for a file.
+pub(crate) fn link<'c>(
+    alloc: Global,
+    look: &mut Look<'_>,
+    old: &FilePath,
+    new: &FilePath,
+) -> Result<Intent<'c>, Stop>
+    ensures { Comes look.old (link_parts (parts_of old.now) (parts_of new.now)) look.new result }
 {
-    let links = tree.links(file);
-    tree.set_links(file, links - 1)?;
-    tree.set_entry(at.dir, at.name, None)?;
-    Ok(Reply::Done)
+    let from = text_parts(alloc, old)?;
+    let to = text_parts(alloc, new)?;
+    link_parts(alloc, look, &from, &to)
+}
+
+/// Links the file that a path's components lead to, where those of another lead.
+fn link_parts<'c>(
+    alloc: Global,
+    look: &mut Look<'_>,
+    old: &Parts,
+    new: &Parts,
+) -> Result<Intent<'c>, Stop>
+    ensures { Comes look.old (link_parts (Ok old.now) (Ok new.now)) look.new result }
+{
+    let spot = look.walk(old)?;
+    link_old(alloc, look, new, spot)
+}
+
+/// Links the file at which a walk ended.
+fn link_old<'c>(
+    alloc: Global,
+    look: &mut Look<'_>,
+    new: &Parts,
+    spot: Spot<'_>,
+) -> Result<Intent<'c>, Stop>
+    ensures { Comes look.old (link_old new.now (seen_at spot.entry)) look.new result }
+{
+    match spot {
+        Spot::Named { node: None, .. } => Err(Stop::Errno(Errno::ENOENT)),
+        Spot::Named {
+            node: Some(Node::File(file)),
+            ..
+        } => link_file(alloc, look, file, new),
+        _ => Err(Stop::Errno(Errno::EPERM)),
+    }
+}
+
+/// Links a file where a path's components lead.
+fn link_file<'c>(
+    alloc: Global,
+    look: &mut Look<'_>,
+    file: u64,
+    new: &Parts,
+) -> Result<Intent<'c>, Stop>
+    ensures { Comes look.old (from_parts (Ok new.now) (link_new file new.now.trailing)) look.new result }
+{
+    let spot = look.walk(new)?;
+    link_new(alloc, look, file, new.trailing, spot)
+}
+
+/// Links a file where a walk ended, unless it has as many links as a file may have.
+fn link_new<'c>(
+    alloc: Global,
+    look: &mut Look<'_>,
+    file: u64,
+    trailing: bool,
+    spot: Spot<'_>,
+) -> Result<Intent<'c>, Stop>
+    ensures { Comes look.old (link_new file trailing (seen_at spot.entry)) look.new result }
+{
+    let Spot::Named {
+        dir,
+        name,
+        node: None,
+    } = spot
+    else {
+        return Err(Stop::Errno(Errno::EEXIST));
+    };
+    if trailing {
+        return Err(Stop::Errno(Errno::ENOENT));
+    }
+    let links = look.links(file)?;
+    if links >= MOST_LINKS {
+        return Err(Stop::Errno(Errno::EMLINK));
+    }
+    let intent = Intent::tell(alloc, Told::Done)
+        .and(Edit::Entry {
+            dir,
+            name: name.try_clone()?,
+            to: Some(Node::File(file)),
+        })?
+        .and(Edit::Links {
+            file,
+            to: links + 1,
+        })?;
+    Ok(intent)
+}
+
+/// An entry that is to go, and the one that is to name what it names.
+#[derive(Clone, Copy)]
+struct Renaming<'a> {
+    dir: u64,
+    name: &'a Name,
+    into: u64,
+    other: &'a Name,
 }
 
 /// Gives a file or a directory another name.
-pub(crate) fn rename(
+pub(crate) fn rename<'c>(
     alloc: Global,
-    tree: &mut Tree,
+    look: &mut Look<'_>,
     old: &FilePath,
     new: &FilePath,
-) -> Result<Reply, Memory>
-    requires { AreSoundCells tree.old }
-    ensures { (stamp : ℕ) → IsPerformed tree.old (outcome tree.old stamp (Rename old.now new.now)) tree.new result }
+) -> Result<Intent<'c>, Stop>
+    ensures { Comes look.old (rename_parts (stored_dirs look.old.cells) (parts_of old.now) (parts_of new.now)) look.new result }
 {
-    match text_parts(alloc, old)? {
-        Err(errno) => Ok(Reply::Failed(errno)),
-        Ok(from) => match text_parts(alloc, new)? {
-            Err(errno) => Ok(Reply::Failed(errno)),
-            Ok(to) => rename_parts(tree, &from, &to),
-        },
-    }
+    let from = text_parts(alloc, old)?;
+    let to = text_parts(alloc, new)?;
+    rename_parts(alloc, look, &from, &to)
 }
 
 /// Moves what a path's components lead to, to where those of another lead.
-fn rename_parts(tree: &mut Tree, old: &Parts, new: &Parts) -> Result<Reply, Memory>
-    requires { AreSoundCells tree.old }
-    ensures { IsPerformed tree.old (answer (rename_parts (stored_dirs tree.old) (Ok old.now) (Ok new.now)) (view_of tree.old)) tree.new result }
+fn rename_parts<'c>(
+    alloc: Global,
+    look: &mut Look<'_>,
+    old: &Parts,
+    new: &Parts,
+) -> Result<Intent<'c>, Stop>
+    ensures { Comes look.old (rename_parts (stored_dirs look.old.cells) (Ok old.now) (Ok new.now)) look.new result }
 {
-    let names = old.names.as_slice();
-    if let Some(errno) = rename_fault(names, new.names.as_slice()) {
-        return Ok(Reply::Failed(errno));
+    if let Some(errno) = rename_fault(old.last(), new.last()) {
+        return Err(Stop::Errno(errno));
     }
-    match tree.walk(names, old.trailing) {
-        Err(errno) => Ok(Reply::Failed(errno)),
-        Ok(spot) => rename_old(tree, new, spot),
-    }
+    let spot = look.walk(old)?;
+    rename_old(alloc, look, new, spot)
 }
 
-/// What is wrong with the last names of two paths, before anything is looked up.
-fn rename_fault(old: &[Name], new: &[Name]) -> Option<Errno>
-    ensures { result ≡ rename_fault (last_of old.now) (last_of new.now) }
+/// What is wrong with the last components of two paths, before anything is looked up.
+fn rename_fault(old: LastName, new: LastName) -> Option<Errno>
+    ensures { result ≡ rename_fault old new }
 {
-    if is_dots(old) || is_dots(new) {
-        return Some(Errno::EINVAL);
-    }
-    if old.is_empty() || new.is_empty() {
-        return Some(Errno::EBUSY);
-    }
-    None
-}
-
-/// Whether the last name of a path is `.` or `..`.
-fn is_dots(names: &[Name]) -> bool
-    ensures { result ≡ is_dots (last_of names.now) }
-{
-    match names.last() {
-        None => false,
-        Some(name) => name.is_dot() || name.is_dot_dot(),
+    match (old, new) {
+        (LastName::Dot | LastName::DotDot, _) | (_, LastName::Dot | LastName::DotDot) => {
+            Some(Errno::EINVAL)
+        }
+        (LastName::Absent, _) | (_, LastName::Absent) => Some(Errno::EBUSY),
+        (LastName::Plain, LastName::Plain) => None,
     }
 }
 
 /// Moves the entry at which a walk ended, to where a path's components lead.
-fn rename_old(tree: &mut Tree, new: &Parts, spot: Spot<'_>) -> Result<Reply, Memory>
-    requires sound { AreSoundCells tree.old }
-    requires spot { IsSpotIn tree.old (seen_at spot) }
-    ensures { IsPerformed tree.old (answer (rename_old (stored_dirs tree.old) new.now (seen_at spot.entry)) (view_of tree.old)) tree.new result }
+fn rename_old<'c>(
+    alloc: Global,
+    look: &mut Look<'_>,
+    new: &Parts,
+    spot: Spot<'_>,
+) -> Result<Intent<'c>, Stop>
+    ensures { Comes look.old (rename_old (stored_dirs look.old.cells) new.now (seen_at spot.entry)) look.new result }
 {
     match spot {
-        Spot::Itself(_) => Ok(Reply::Failed(Errno::EBUSY)),
-        Spot::Named { node: None, .. } => Ok(Reply::Failed(Errno::ENOENT)),
+        Spot::Itself(_) => Err(Stop::Errno(Errno::EBUSY)),
+        Spot::Named { node: None, .. } => Err(Stop::Errno(Errno::ENOENT)),
         Spot::Named {
             dir,
             name,
-            node: Some(node),
-        } => rename_node(tree, Entry { dir, name }, node, new),
+            node: Some(Node::File(file)),
+        } => { rename_file_to(alloc, look, dir, name, file, new) }
+        Spot::Named {
+            dir,
+            name,
+            node: Some(Node::Dir(number)),
+        } => { rename_dir_to(alloc, look, dir, name, number, new) }
     }
 }
 
-/// Moves an entry to where a path's components lead.
-fn rename_node(tree: &mut Tree, from: Entry<'_>, node: Node, new: &Parts) -> Result<Reply, Memory>
-    requires sound { AreSoundCells tree.old }
-    requires from { entry_of tree.old from.dir from.name.now ≡ Some node }
-    ensures { IsPerformed tree.old (answer (rename_old (stored_dirs tree.old) new.now (Named from.entry.dir from.entry.name.now (Some node))) (view_of tree.old)) tree.new result }
+/// Moves the entry of a file to where a path's components lead.
+fn rename_file_to<'c>(
+    alloc: Global,
+    look: &mut Look<'_>,
+    dir: u64,
+    name: &Name,
+    file: u64,
+    new: &Parts,
+) -> Result<Intent<'c>, Stop>
+    ensures { Comes look.old (from_parts (Ok new.now) (rename_file dir name.now file new.now.trailing)) look.new result }
 {
-    match tree.walk(new.names.as_slice(), new.trailing) {
-        Err(errno) => Ok(Reply::Failed(errno)),
-        Ok(spot) => match node {
-            Node::File(file) => rename_file(tree, from, file, new.trailing, spot),
-            Node::Dir(moved) => rename_dir(tree, from, moved, spot),
-        },
-    }
+    let spot = look.walk(new)?;
+    rename_file(alloc, look, dir, name, file, new.trailing, spot)
 }
 
 /// Moves the entry of a file to where a walk ended.
-fn rename_file(
-    tree: &mut Tree,
-    from: Entry<'_>,
+fn rename_file<'c>(
+    alloc: Global,
+    look: &mut Look<'_>,
+    dir: u64,
+    name: &Name,
     file: u64,
     trailing: bool,
     spot: Spot<'_>,
-) -> Result<Reply, Memory>
-    requires sound { AreSoundCells tree.old }
-    requires from { entry_of tree.old from.dir from.name.now ≡ Some (FileNode file) }
-    requires spot { IsSpotIn tree.old (seen_at spot) }
-    ensures { IsPerformed tree.old (answer (rename_file from.entry.dir from.entry.name.now file trailing (seen_at spot.entry)) (view_of tree.old)) tree.new result }
+) -> Result<Intent<'c>, Stop>
+    ensures { Comes look.old (rename_file dir name.now file trailing (seen_at spot.entry)) look.new result }
 {
-    match spot {
-        Spot::Itself(_) => Ok(Reply::Failed(Errno::EBUSY)),
-        Spot::Named {
-            dir,
-            name,
-            node: None,
-        } => {
-            if trailing {
-                return Ok(Reply::Failed(Errno::ENOTDIR));
-            }
-            move_entry(tree, from, Node::File(file), Entry { dir, name })?;
-            Ok(Reply::Done)
+    let Spot::Named {
+        dir: into,
+        name: other,
+        node,
+    } = spot
+    else {
+        return Err(Stop::Errno(Errno::EBUSY));
+    };
+    let renaming = Renaming {
+        dir,
+        name,
+        into,
+        other,
+    };
+    match node {
+        None if trailing => Err(Stop::Errno(Errno::ENOTDIR)),
+        None => Ok(renamed(alloc, renaming, Node::File(file))?),
+        Some(Node::File(replaced)) if replaced == file => Ok(Intent::tell(alloc, Told::Done)),
+        Some(Node::File(replaced)) => {
+            let links = look.links(replaced)?;
+            let intent = renamed(alloc, renaming, Node::File(file))?.and(Edit::Links {
+                file: replaced,
+                to: links.saturating_sub(1),
+            })?;
+            Ok(intent)
         }
-        Spot::Named {
-            dir,
-            name,
-            node: Some(Node::File(replaced)),
-        } => {
-            if file == replaced {
-                return Ok(Reply::Done);
-            }
-            replace_file(tree, from, file, Entry { dir, name }, replaced)
-        }
-        Spot::Named {
-            node: Some(Node::Dir(_)),
-            ..
-        } => Ok(Reply::Failed(Errno::EISDIR)),
+        Some(Node::Dir(_)) => Err(Stop::Errno(Errno::EISDIR)),
     }
 }
 
-/// Moves the entry of a file to that of another file, which has one link less then.
-fn replace_file(
-    tree: &mut Tree,
-    from: Entry<'_>,
-    file: u64,
-    to: Entry<'_>,
-    replaced: u64,
-) -> Result<Reply, Memory>
-    requires from { entry_of tree.old from.dir from.name.now ≡ Some (FileNode file) }
-    requires to { HasDirPlace tree.old to.dir }
-    requires linked { links_of tree.old replaced ≢ 0 }
-    ensures { IsPerformed tree.old (answer (replace_file from.entry.dir from.entry.name.now file to.entry.dir to.entry.name.now replaced) (view_of tree.old)) tree.new result }
+/// Moves the entry of a directory to where a path's components lead.
+fn rename_dir_to<'c>(
+    alloc: Global,
+    look: &mut Look<'_>,
+    dir: u64,
+    name: &Name,
+    number: u64,
+    new: &Parts,
+) -> Result<Intent<'c>, Stop>
+    ensures { Comes look.old (from_parts (Ok new.now) (rename_dir (stored_dirs look.old.cells) dir name.now number)) look.new result }
 {
-    let links = tree.links(replaced);
-    move_entry(tree, from, Node::File(file), to)?;
-    tree.set_links(replaced, links - 1)?;
-    Ok(Reply::Done)
+    let spot = look.walk(new)?;
+    rename_dir(alloc, look, dir, name, number, spot)
 }
 
 /// Moves the entry of a directory to where a walk ended.
-fn rename_dir(tree: &mut Tree, from: Entry<'_>, moved: u64, spot: Spot<'_>) -> Result<Reply, Memory>
-    requires sound { AreSoundCells tree.old }
-    requires from { entry_of tree.old from.dir from.name.now ≡ Some (DirNode moved) }
-    requires spot { IsSpotIn tree.old (seen_at spot) }
-    ensures { IsPerformed tree.old (answer (rename_dir (stored_dirs tree.old) from.entry.dir from.entry.name.now moved (seen_at spot.entry)) (view_of tree.old)) tree.new result }
+fn rename_dir<'c>(
+    alloc: Global,
+    look: &mut Look<'_>,
+    dir: u64,
+    name: &Name,
+    number: u64,
+    spot: Spot<'_>,
+) -> Result<Intent<'c>, Stop>
+    ensures { Comes look.old (rename_dir (stored_dirs look.old.cells) dir name.now number (seen_at spot.entry)) look.new result }
 {
-    match spot {
-        Spot::Itself(_) => Ok(Reply::Failed(Errno::EBUSY)),
-        Spot::Named {
-            dir,
-            name,
-            node: None,
-        } => {
-            if is_below(tree, dir, moved) {
-                return Ok(Reply::Failed(Errno::EINVAL));
-            }
-            move_dir(tree, from, moved, Entry { dir, name })
-        }
-        Spot::Named {
-            dir,
-            name,
-            node: Some(Node::Dir(replaced)),
-        } => {
-            if moved == replaced {
-                return Ok(Reply::Done);
-            }
-            if is_below(tree, dir, moved) {
-                return Ok(Reply::Failed(Errno::EINVAL));
-            }
-            replace_dir(tree, from, moved, Entry { dir, name }, replaced)
-        }
-        Spot::Named {
-            node: Some(Node::File(_)),
-            ..
-        } => Ok(Reply::Failed(Errno::ENOTDIR)),
+    let Spot::Named {
+        dir: into,
+        name: other,
+        node,
+    } = spot
+    else {
+        return Err(Stop::Errno(Errno::EBUSY));
+    };
+    let renaming = Renaming {
+        dir,
+        name,
+        into,
+        other,
+    };
+    match node {
+        None => move_dir(alloc, look, number, renaming),
+        Some(Node::Dir(replaced)) if replaced == number => Ok(Intent::tell(alloc, Told::Done)),
+        Some(Node::Dir(replaced)) => replace_dir(alloc, look, number, renaming, replaced),
+        Some(Node::File(_)) => Err(Stop::Errno(Errno::ENOTDIR)),
     }
 }
 
-/// Moves the entry of a directory to a name that is not there.
-fn move_dir(tree: &mut Tree, from: Entry<'_>, moved: u64, to: Entry<'_>) -> Result<Reply, Memory>
-    requires from { entry_of tree.old from.dir from.name.now ≡ Some (DirNode moved) }
-    requires to { HasDirPlace tree.old to.dir }
-    requires moved { HasDirPlace tree.old moved }
-    ensures { IsPerformed tree.old (renamed from.entry.dir from.entry.name.now (DirNode moved) to.entry.dir to.entry.name.now (with_parent moved from.entry.dir to.entry.dir)) tree.new result }
+/// Moves the entry of a directory to a name that is not there, unless it would come to stand below
+/// itself.
+fn move_dir<'c>(
+    alloc: Global,
+    look: &mut Look<'_>,
+    number: u64,
+    renaming: Renaming<'_>,
+) -> Result<Intent<'c>, Stop>
+    ensures { Comes look.old (unless_below (stored_dirs look.old.cells) number renaming.entry.into (Answer (renamed renaming.entry.dir renaming.entry.name.now (DirNode number) renaming.entry.into renaming.entry.other.now (with_parent number renaming.entry.dir renaming.entry.into)))) look.new result }
 {
-    move_entry(tree, from, Node::Dir(moved), to)?;
-    change_parent(tree, moved, from.dir, to.dir)?;
-    Ok(Reply::Done)
+    if look.climb(number, renaming.into)? {
+        return Err(Stop::Errno(Errno::EINVAL));
+    }
+    let intent = renamed(alloc, renaming, Node::Dir(number))?;
+    Ok(with_parent(intent, number, renaming)?)
+}
+
+/// Moves the entry of a directory to that of another, which is gone then, unless it would come to
+/// stand below itself or that one is not empty.
+fn replace_dir<'c>(
+    alloc: Global,
+    look: &mut Look<'_>,
+    number: u64,
+    renaming: Renaming<'_>,
+    replaced: u64,
+) -> Result<Intent<'c>, Stop>
+    ensures { Comes look.old (unless_below (stored_dirs look.old.cells) number renaming.entry.into (replace_dir renaming.entry.dir renaming.entry.name.now number renaming.entry.into renaming.entry.other.now replaced)) look.new result }
+{
+    if look.climb(number, renaming.into)? {
+        return Err(Stop::Errno(Errno::EINVAL));
+    }
+    replace_empty(alloc, look, number, renaming, replaced)
 }
 
 /// Moves the entry of a directory to that of an empty one, which is gone then.
-fn replace_dir(
-    tree: &mut Tree,
-    from: Entry<'_>,
-    moved: u64,
-    to: Entry<'_>,
+fn replace_empty<'c>(
+    alloc: Global,
+    look: &mut Look<'_>,
+    number: u64,
+    renaming: Renaming<'_>,
     replaced: u64,
-) -> Result<Reply, Memory>
-    requires from { entry_of tree.old from.dir from.name.now ≡ Some (DirNode moved) }
-    requires to { HasDirPlace tree.old to.dir }
-    requires moved { HasDirPlace tree.old moved }
-    requires replaced { HasDirPlace tree.old replaced }
-    ensures { IsPerformed tree.old (answer (replace_dir from.entry.dir from.entry.name.now moved to.entry.dir to.entry.name.now replaced) (view_of tree.old)) tree.new result }
+) -> Result<Intent<'c>, Stop>
+    ensures { Comes look.old (replace_dir renaming.entry.dir renaming.entry.name.now number renaming.entry.into renaming.entry.other.now replaced) look.new result }
 {
-    if !tree.is_empty_dir(replaced) {
-        return Ok(Reply::Failed(Errno::ENOTEMPTY));
+    if !look.is_empty_dir(replaced)? {
+        return Err(Stop::Errno(Errno::ENOTEMPTY));
     }
-    move_entry(tree, from, Node::Dir(moved), to)?;
-    tree.set_parent(replaced, None)?;
-    change_parent(tree, moved, from.dir, to.dir)?;
-    Ok(Reply::Done)
+    let intent = renamed(alloc, renaming, Node::Dir(number))?.and(Edit::Parent {
+        dir: replaced,
+        to: None,
+    })?;
+    Ok(with_parent(intent, number, renaming)?)
 }
 
-/// Moves an entry. Only the new one may want a place, and then nothing has changed.
-fn move_entry(tree: &mut Tree, from: Entry<'_>, node: Node, to: Entry<'_>) -> Result<(), Memory>
-    requires from { entry_of tree.old from.dir from.name.now ≡ Some node }
-    requires to { HasDirPlace tree.old to.dir }
-    ensures ok { OnOk result (tree.new ≡ put_all tree.old (renamed from.entry.dir from.entry.name.now node to.entry.dir to.entry.name.now []).writes) }
-    ensures err { OnErr result (tree.new ≡ tree.old) }
+/// The new entry names what the old one named, and that one is gone.
+fn renamed<'c>(alloc: Global, renaming: Renaming<'_>, node: Node) -> Result<Intent<'c>, Memory>
+    ensures { (cells : Cells) → IfOk result (λ intent. outcome_of cells intent ≡ renamed renaming.entry.dir renaming.entry.name.now node renaming.entry.into renaming.entry.other.now []) }
 {
-    tree.set_entry(to.dir, to.name, Some(node))?;
-    tree.set_entry(from.dir, from.name, None)
+    Intent::tell(alloc, Told::Done)
+        .and(Edit::Entry {
+            dir: renaming.into,
+            name: renaming.other.try_clone()?,
+            to: Some(node),
+        })?
+        .and(Edit::Entry {
+            dir: renaming.dir,
+            name: renaming.name.try_clone()?,
+            to: None,
+        })
 }
 
-/// Gives a directory that went from one directory to another its new parent, in its place.
-fn change_parent(tree: &mut Tree, moved: u64, from: u64, to: u64) -> Result<(), Memory>
-    requires place { HasDirPlace tree.old moved }
-    ensures changed { tree.new ≡ put_all tree.old (with_parent moved from to) }
-    ensures ok { IsOk result }
+/// A directory has another parent where another one holds it.
+fn with_parent<'c>(
+    intent: Intent<'c>,
+    number: u64,
+    renaming: Renaming<'_>,
+) -> Result<Intent<'c>, Memory>
+    ensures told { IfOk result (λ more. more.told ≡ intent.entry.told) }
+    ensures edits { (cells : Cells) → IfOk result (λ more. writes_of cells more.edits ≡ writes_of cells intent.entry.edits ++ with_parent number renaming.entry.dir renaming.entry.into) }
 {
-    if from == to {
-        return Ok(());
+    if renaming.dir == renaming.into {
+        return Ok(intent);
     }
-    tree.set_parent(moved, Some(to))
-}
-
-/// Whether a directory is `moved`, or stands below it: by its parents, up to the root.
-fn is_below(tree: &Tree, dir: u64, moved: u64) -> bool
-    ensures { result ≡ answer (climb (stored_dirs tree.now) moved dir) (view_of tree.now) }
-{
-    let mut at = dir;
-    for _ in 0..tree.stored_dirs() {
-        if at == moved {
-            return true;
-        }
-        if at == ROOT {
-            return false;
-        }
-        at = tree.parent(at).unwrap_or(ROOT);
-    }
-    at == moved
+    intent.and(Edit::Parent {
+        dir: number,
+        to: Some(renaming.into),
+    })
 }

@@ -3,35 +3,39 @@ ghost use Rattle.std.specs.Prelude.{◌≡◌, IfOk, OnOk};
 ghost use Rattle.std.specs.FinMap as finite;
 ghost use Rattle.ft_tree.specs.declared.cell.Cell.TheVariants.{Entry};
 ghost use Rattle.ft_calls.specs.declared.call.Mode.TheVariants.{Read as ReadMode, Write as WriteMode};
-ghost use Rattle.ft_calls.specs.Accesses.{listed};
+ghost use Rattle.ft_calls.specs.Accesses.{listed, place_in, is_noted};
 
 use crate::call::{Access, Mode};
 use ft_base::Memory;
 use ft_path::Name;
 use ft_tree::Cell;
 use std::alloc::Global;
-use std::collections::BTreeMap;
+use std::cmp::Ordering;
 use std::marker::Model;
 
 /// The cells that a call reads and writes, each once: one that is read and then written is written.
 ///
-/// A call reads before it writes, so that a read is never noted behind a write of the same cell.
+/// They stand in the order of cells. A call touches few, so that they are looked through from the
+/// first on. It reads before it writes, so that a read is never noted behind a write of the same
+/// cell.
 #[derive(Drop)]
 pub(crate) struct Touched {
-    modes: BTreeMap<Cell, Mode>,
+    list: Vec<Access>,
 }
 
 impl Model for Touched {
     ghost use Rattle.std.specs.FinMap as finite;
     ghost use Rattle.ft_tree.specs.contracts.cell.Cell as cell;
     ghost use Rattle.ft_calls.specs.contracts.call.Mode as mode;
-    ghost use Rattle.ft_calls.specs.Accesses.{Modes};
+    ghost use Rattle.ft_calls.specs.Accesses.{Modes, as_entries, AreInOrder};
 
     ghost Value = { Modes };
 
     ghost coded = { finite.code cell.the_row.coded mode.the_row.coded };
 
-    ghost view = { λ a. finite.from_entries a.modes.entries };
+    ghost view = { λ a. finite.from_sorted (as_entries a.list.items) };
+
+    ghost invariant = { λ a. AreInOrder a.list.items };
 }
 
 impl Touched {
@@ -40,7 +44,7 @@ impl Touched {
         ensures { result ≡ finite.empty }
     {
         Touched {
-            modes: BTreeMap::new(alloc),
+            list: Vec::new(alloc),
         }
     }
 
@@ -48,41 +52,94 @@ impl Touched {
     pub(crate) fn read(&mut self, cell: Cell) -> Result<(), Memory>
         ensures { OnOk result (self.new ≡ finite.insert self.old cell ReadMode) }
     {
-        self.modes.insert(cell, Mode::Read)?;
-        Ok(())
+        self.note(cell, Mode::Read)
     }
 
     /// Notes that an entry is looked at.
     pub(crate) fn read_entry(&mut self, dir: u64, name: &Name) -> Result<(), Memory>
         ensures { OnOk result (self.new ≡ finite.insert self.old (Entry dir name.now) ReadMode) }
     {
-        self.read(Cell::Entry(dir, name.try_clone()?))
+        self.note_entry(dir, name, Mode::Read)
     }
 
     /// Notes that a cell is given a value.
     pub(crate) fn write(&mut self, cell: Cell) -> Result<(), Memory>
         ensures { OnOk result (self.new ≡ finite.insert self.old cell WriteMode) }
     {
-        self.modes.insert(cell, Mode::Write)?;
-        Ok(())
+        self.note(cell, Mode::Write)
     }
 
     /// Notes that an entry is given a value.
     pub(crate) fn write_entry(&mut self, dir: u64, name: &Name) -> Result<(), Memory>
         ensures { OnOk result (self.new ≡ finite.insert self.old (Entry dir name.now) WriteMode) }
     {
-        self.write(Cell::Entry(dir, name.try_clone()?))
+        self.note_entry(dir, name, Mode::Write)
     }
 
-    /// The accesses, in the order of their cells.
-    pub(crate) fn into_accesses(self, alloc: Global) -> Result<Vec<Access>, Memory>
-        ensures { IfOk result (λ list. list.items ≡ listed self) }
+    /// The accesses, in the order of their cells. Takes no memory.
+    pub(crate) fn into_accesses(self) -> Vec<Access>
+        ensures { result.items ≡ listed self }
     {
-        let Self { modes } = self;
-        let mut list = Vec::new(alloc);
-        for (cell, mode) in modes {
-            list.push(Access { cell, mode })?;
-        }
-        Ok(list)
+        let Self { list } = self;
+        list
     }
+
+    /// Notes how a cell is touched.
+    fn note(&mut self, cell: Cell, mode: Mode) -> Result<(), Memory>
+        ensures { OnOk result (self.new ≡ finite.insert self.old cell mode) }
+    {
+        let (at, is_noted) = place_of(self.list.as_slice(), &cell);
+        if is_noted {
+            self.list[at].mode = mode;
+            return Ok(());
+        }
+        self.list.insert(at, Access { cell, mode })?;
+        Ok(())
+    }
+
+    /// Notes how an entry is touched. Its name is copied only where it was not noted yet.
+    fn note_entry(&mut self, dir: u64, name: &Name, mode: Mode) -> Result<(), Memory>
+        ensures { OnOk result (self.new ≡ finite.insert self.old (Entry dir name.now) mode) }
+    {
+        let (at, is_noted) = place_of_entry(self.list.as_slice(), dir, name);
+        if is_noted {
+            self.list[at].mode = mode;
+            return Ok(());
+        }
+        let cell = Cell::Entry(dir, name.try_clone()?);
+        self.list.insert(at, Access { cell, mode })?;
+        Ok(())
+    }
+}
+
+/// How many accesses stand before a cell's, and whether it has one.
+fn place_of(list: &[Access], cell: &Cell) -> (usize, bool)
+    ensures place { result.0 ≡ place_in cell.now list.now }
+    ensures noted { result.1 ≡ is_noted cell.now list.now }
+{
+    let mut at = 0;
+    for access in list {
+        match cell.cmp(&access.cell) {
+            Ordering::Less => return (at, false),
+            Ordering::Equal => return (at, true),
+            Ordering::Greater => at += 1,
+        }
+    }
+    (at, false)
+}
+
+/// The same of an entry's cell.
+fn place_of_entry(list: &[Access], dir: u64, name: &Name) -> (usize, bool)
+    ensures place { result.0 ≡ place_in (Entry dir name.now) list.now }
+    ensures noted { result.1 ≡ is_noted (Entry dir name.now) list.now }
+{
+    let mut at = 0;
+    for access in list {
+        match access.cell.cmp_entry(dir, name) {
+            Ordering::Less => return (at, false),
+            Ordering::Equal => return (at, true),
+            Ordering::Greater => at += 1,
+        }
+    }
+    (at, false)
 }

@@ -12,7 +12,6 @@ use Rattle.ft_tree.specs.Tidy.{tidy}
 use Rattle.ft_calls.specs.declared.call.Call.{Call}
 use Rattle.ft_calls.specs.declared.call.Reply.{Reply}
 use Rattle.ft_calls.specs.Exec.{exec}
-use Rattle.ft_calls.specs.Laws.{MakesNoDifference}
 use Rattle.ft_core.specs.declared.journal.Life.TheVariants.{Live}
 use Rattle.ft_core.specs.declared.manager.Saved.{Saved}
 use Rattle.ft_core.specs.History.{standing, is_of, life_of, sole_holders, tree_after, Granted}
@@ -31,13 +30,6 @@ core-first cells is sound free = record {
   holders = refl;
   before = tt;
 }
-
--- a tree in which nothing but places changed
-tree-alike : (cells cells' : Cells) (base : PlainTree) (calls : List Granted) (last : ℕ) → IsTreeAfter cells base calls last → MakesNoDifference cells cells' → IsTreeAfter cells' base calls last
-tree-alike cells cells' base calls last t same = record { sound = same.sound; free = λ k h. same.free k (t.free k h); plain = same.plain ∙ t.plain; replies = t.replies }
-
-pub core-alike : (s : State) (cells cells' : Cells) (saved : Option Saved) → IsCore s cells saved → MakesNoDifference cells cells' → IsCore s cells' saved
-core-alike s cells cells' saved core same = record { counted = core.counted; tree = tree-alike cells cells' _ _ _ core.tree same; holders = core.holders; before = core.before }
 
 -- the saved tree where the same calls stand
 saved-kept : (s s' : State) (saved : Option Saved) → s'.base ≡ s.base → s'.last_stamp ≡ s.last_stamp → standing s'.events ≡ standing s.events → IfSaved s saved → IfSaved s' saved

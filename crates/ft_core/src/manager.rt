@@ -1,8 +1,9 @@
 // The core: transactions over one tree.
-ghost use Rattle.std.specs.Prelude.{◌≡◌, ◌<◌, ◌+◌, ◌∷◌, ℕ, [], false, Some, None, Option, MatchResult, IfOk, IfErr, OnOk, OnErr, option_to_list, cond, is_some, ◌^◌};
+ghost use Rattle.std.specs.Prelude.{◌≡◌, ◌≢◌, ◌<◌, ◌+◌, ◌∷◌, ℕ, [], false, Some, None, Option, MatchResult, IfOk, IfErr, OnOk, OnErr, option_to_list, cond, is_some, ◌^◌};
 ghost use Rattle.std.specs.Option.{ForSome};
 ghost use Rattle.ft_tree.specs.Tidy.{tidy};
-ghost use Rattle.ft_tree.specs.Sound.{AreSoundCells, IsSoundTree};
+ghost use Rattle.ft_tree.specs.Sound.{AreSoundCells, IsFree, IsSoundTree};
+ghost use Rattle.ft_calls.specs.Exec.{exec};
 ghost use Rattle.ft_core.specs.declared.fault.Fault.{Fault as FaultOf};
 ghost use Rattle.ft_core.specs.declared.fault.Fault.TheVariants.{Memory as MemoryFault};
 ghost use Rattle.ft_core.specs.declared.journal.Life.TheVariants.{Live};
@@ -18,9 +19,10 @@ use crate::journal::{Journal, Life};
 use crate::request::{Answer, Event, Outcome, Request};
 use crate::txn::TxnId;
 use ft_base::Memory;
-use ft_calls::laws::plain_soundness;
-use ft_calls::{Call, perform_and_copy};
+use ft_calls::laws::{freshness, plain_soundness, soundness, tidying};
+use ft_calls::{Call, Prepared, Reply, prepare};
 use ft_tree::Tree;
+use ft_undo::apply;
 use std::alloc::Global;
 use std::marker::Model;
 
@@ -241,11 +243,40 @@ impl Core {
         let first = copy_first(&self.saved, &self.tree)?;
         self.journal.reserve()?;
         let stamp = self.journal.next_stamp();
-        let (reply, kept) = perform_and_copy(self.alloc, &mut self.tree, stamp, &call)?;
+        let (reply, kept) = perform_twice(self.alloc, &mut self.tree, stamp, &call)?;
         self.journal.grant(txn, call, kept);
-        self.saved = one_more(self.saved.take(), first, txn);
+        one_more(&mut self.saved, first, txn);
         Ok(Outcome::Granted { stamp, reply })
     }
+}
+
+/// Makes a call, and answers its reply twice: one to be told and one to be kept. Both are there before
+/// anything is changed.
+fn perform_twice(
+    alloc: Global,
+    tree: &mut Tree,
+    stamp: u64,
+    call: &Call,
+) -> Result<(Reply, Reply), Memory>
+    requires sound { AreSoundCells tree.old }
+    requires free { IsFree tree.old stamp }
+    ensures twice { IfOk result (λ replies. replies.0 ≡ replies.1) }
+    ensures plain { IfOk result (λ replies. exec (tidy tree.old) stamp call.now ≡ (tidy tree.new, replies.1)) }
+    ensures refused { OnErr result (tree.new ≡ tree.old) }
+    ensures stays_sound { AreSoundCells tree.new }
+    ensures stays_free { OnOk result ((k : ℕ) → IsFree tree.old k → k ≢ stamp → IsFree tree.new k) }
+{
+    soundness();
+    freshness();
+    tidying();
+    let Prepared {
+        accesses: _,
+        intent,
+    } = prepare(alloc, tree, stamp, call)?;
+    let reply = intent.reply(alloc, tree)?;
+    let kept = reply.copy(alloc)?;
+    apply(alloc, tree, intent)?;
+    Ok((reply, kept))
 }
 
 /// A copy of the tree, where none is saved yet.
@@ -269,24 +300,20 @@ fn take_own(saved: &mut Option<Saved>, txn: TxnId) -> Option<Saved>
     }
 }
 
-/// What is saved after one more call: the tree from before the first one stays.
-fn one_more(saved: Option<Saved>, first: Option<Tree>, txn: TxnId) -> Option<Saved>
-    requires { ForSome saved (λ before. before.calls < 2 ^ 63) }
-    ensures { result ≡ saved_more saved first txn }
+/// Notes one more call: the tree from before the first one stays.
+fn one_more(saved: &mut Option<Saved>, first: Option<Tree>, txn: TxnId)
+    requires { ForSome saved.old (λ before. before.calls < 2 ^ 63) }
+    ensures { saved.new ≡ saved_more saved.old first txn }
 {
-    match saved {
-        Some(Saved { txn, tree, calls }) => Some(Saved {
+    if let Some(before) = saved {
+        before.calls += 1;
+        return;
+    }
+    if let Some(tree) = first {
+        *saved = Some(Saved {
             txn,
             tree,
-            calls: calls + 1,
-        }),
-        None => match first {
-            Some(tree) => Some(Saved {
-                txn,
-                tree,
-                calls: 1,
-            }),
-            None => None,
-        },
+            calls: 1,
+        });
     }
 }

@@ -1,9 +1,9 @@
 -- Walks up the forest.
-use Rattle.std.proofs.Common.{◌≡◌, ◌<◌, ◌≤◌, ℕ, zero, suc, Bool, true, false, cond, ◌||◌, Option, Some, None, ◌⊎◌, inl, inr, sym, refl, ap, ◌∙◌, subst, arith, ◌==◌, eqb-true, eq-eqb, ne_eqb}
+use Rattle.std.proofs.Common.{◌≡◌, ◌≢◌, ◌<◌, ◌≤◌, ℕ, zero, suc, Bool, true, false, cond, ◌||◌, Option, Some, None, ◌⊎◌, inl, inr, sym, refl, ap, ◌∙◌, subst, arith, ◌==◌, eqb-true, eq-eqb, ne_eqb}
 use Rattle.std.proofs.lemmas.Bool.{false≢true, or_cases, or_left, or_right, or_from}
 use Rattle.ft_laws.proofs.Tests.{by_test, by_option}
 use Rattle.ft_history.specs.Forest.{is_some_and, and_then, IsForest, meets, above, first_up, nearest}
-use Rattle.ft_history.proofs.Words.{by_number, moved}
+use Rattle.ft_history.proofs.Words.{by_number, same_some, none_some, moved}
 
 -- What is used of a forest, where above y x says that y is x or an ancestor of x.
 pub record ForestLaws (parent : ℕ → Option ℕ) (above : ℕ → ℕ → Bool) : Type 0 where
@@ -14,12 +14,6 @@ pub record ForestLaws (parent : ℕ → Option ℕ) (above : ℕ → ℕ → Boo
   pub to_parent : (x p y : ℕ) → parent x ≡ Some p → above y x ≡ true → (y ≡ x) ⊎ (above y p ≡ true)
   pub at_top : (x y : ℕ) → parent x ≡ None → above y x ≡ true → y ≡ x
   pub along : (x y z : ℕ) → above x y ≡ true → above y z ≡ true → above x z ≡ true
-
-pub same_some : (a b : ℕ) → Some a ≡ Some b → a ≡ b
-same_some a b e = cc
-
-pub none_some : (a : ℕ) → None ≡ Some a → ⊥
-none_some a e = cc
 
 module _ (parent : ℕ → Option ℕ) (lower : IsForest parent) where
   -- more steps than the number change nothing
@@ -117,6 +111,18 @@ module _ (parent : ℕ → Option ℕ) (lower : IsForest parent) where
         | inr k ↦ above_through x w q e (ih k)
       ])
       z
+
+  -- Where the parents of what lives below x live, up to x, and no child of x lives, nothing lives below x.
+  pub none_below : (Lives : ℕ → Type 0) (x : ℕ) → ((y p : ℕ) → Lives y → parent y ≡ Some p → above parent x p ≡ true → Lives p) → ((y : ℕ) → Lives y → parent y ≡ Some x → ⊥)
+      → (y : ℕ) → above parent x y ≡ true → y ≢ x → Lives y → ⊥
+  none_below Lives x up childless = climb (λ y. above parent x y ≡ true → y ≢ x → Lives y → ⊥)
+      (λ y e h ne lives. ne (sym (eqb-true x y (sym (above_root x y e) ∙ h))))
+      (λ y p e ih h ne lives. elim (or_cases (x == y) (above parent x p) (sym (above_child x y p e) ∙ h)) [
+        | inl k ↦ ne (sym (eqb-true x y k))
+        | inr k ↦ by_number p x
+            (λ is. childless y lives (e ∙ ap Some is))
+            (λ differ. ih k differ (up y p lives e k))
+      ])
 
   pub forest_laws : ForestLaws parent (above parent)
   forest_laws = record {

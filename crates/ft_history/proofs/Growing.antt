@@ -7,13 +7,13 @@ use Rattle.ft_laws.specs.Laws.{Lawful}
 use Rattle.ft_laws.proofs.Lists.{Each-from}
 use Rattle.ft_laws.proofs.Tests.{by_test}
 use Rattle.ft_history.specs.Forest.{root}
-use Rattle.ft_history.specs.Logs.{passing}
+use Rattle.ft_history.specs.Logs.{passing, joined}
 use Rattle.ft_history.specs.History.{Base, Event, number, parent, over, is_committed, IsLive, standing}
 use Rattle.ft_history.specs.History.Event.{Begin, Call, Undo, Commit, Abort}
 use Rattle.ft_history.specs.Legal.{Legal}
 use Rattle.ft_history.specs.Ledger.{lists}
-use Rattle.ft_history.specs.Serial.{joined, root_of, committed_roots, calls_under, committed_part, CommittedGrows}
-use Rattle.ft_history.proofs.Words.{put_other, passing_agree, passing_twice, passing_front}
+use Rattle.ft_history.specs.Serial.{root_of, committed_roots, calls_under, committed_part, CommittedGrows}
+use Rattle.ft_history.proofs.Words.{put_other, passing_agree, passing_twice, passing_front, not_false}
 use Rattle.ft_history.proofs.Kept.{one_number, taken_owned}
 use Rattle.ft_history.proofs.History.{owner, asker_known, begin_forest, begin_standing, call_standing}
 use Rattle.ft_history.proofs.Legal.{sound_all, target_newest}
@@ -46,7 +46,7 @@ module _ (C : Calls) (L : Lawful C) where
       ∙ sym (append-nil (committed_part C h))
 
   -- a committed root isn't that of a live transaction
-  apart : (base : Base C) → C.IsSound base.store → (h : List (Event C)) → Legal C base h → (t : ℕ) → IsLive C base h t → (r : ℕ) → is_committed C h r ≡ true → root (parent C h) t ≢ r
+  apart : (base : Base C) → C.IsSound base.store → (h : List (Event C)) → Legal C base h → (t : ℕ) → IsLive C base.transaction h t → (r : ℕ) → is_committed C h r ≡ true → root (parent C h) t ≢ r
   apart base base_sound h legal t live r k e = false≢true (sym (live_root C L base base_sound h (sound_all C L base base_sound h legal) t live) ∙ ap (is_committed C h) e ∙ k)
 
   pub committed_grows : CommittedGrows C
@@ -81,13 +81,9 @@ module _ (C : Calls) (L : Lawful C) where
             ap (passing (λ c. root_of C h c == r)) (sym (less_standing C j h))
             ∙ passing_alone (λ c. not (number C c == j)) (λ c. root_of C h c == r) (standing C h)
             (Each-from (λ c. not (number C c == j) ≡ false → (root_of C h c == r) ≡ false) (standing C h) (λ c i e.
-            let is : c ≡ d = one_number C (over C h) (owner C h) (standing C h) (lists C h) sound.runs.kept c d i own.0 (eqb-true (number C c) j (negated (number C c == j) e) ∙ sym legal.0.3) in
+            let is : c ≡ d = one_number C (over C h) (owner C h) (standing C h) (lists C h) sound.runs.kept c d i own.0 (eqb-true (number C c) j (not_false (number C c == j) e) ∙ sym legal.0.3) in
             ne_eqb (root_of C h c) r (λ m. apart base base_sound h legal.1 t may.live r k (ap (root (parent C h)) (sym found.2) ∙ ap (root_of C h) (sym is) ∙ m))))),
       )
-    where
-      negated : (b : Bool) → not b ≡ false → b ≡ true
-      negated true e = refl
-      negated false e = absurd (false≢true (sym e))
   committed_grows base base_sound h (Commit t) legal = by_test (is_some (parent C h t))
       (λ k. ([], stays_part h (Commit t) (ap (λ b. cond b (committed_roots C h) (committed_roots C h ++ t ∷ [])) k) (λ r m. refl)))
       (λ k. (calls_under C h t, ap (λ b. joined (calls_under C h) (cond b (committed_roots C h) (committed_roots C h ++ t ∷ []))) k ∙ joined_push (calls_under C h) (committed_roots C h) t))
@@ -98,9 +94,5 @@ module _ (C : Calls) (L : Lawful C) where
             ap (passing (λ c. root_of C h c == r)) (abort_left C L base base_sound h legal.1 t legal.0)
             ∙ passing_alone (λ c. not (over C h t c.asker)) (λ c. root_of C h c == r) (standing C h)
             (Each-from (λ c. not (over C h t c.asker) ≡ false → (root_of C h c == r) ≡ false) (standing C h) (λ c i e.
-            ne_eqb (root_of C h c) r (λ m. apart base base_sound h legal.1 t legal.0 r k (root_above (parent C h) sound.forest t c.asker (negated (over C h t c.asker) e) ∙ m))))),
+            ne_eqb (root_of C h c) r (λ m. apart base base_sound h legal.1 t legal.0 r k (root_above (parent C h) sound.forest t c.asker (not_false (over C h t c.asker) e) ∙ m))))),
       )
-    where
-      negated : (b : Bool) → not b ≡ false → b ≡ true
-      negated true e = refl
-      negated false e = absurd (false≢true (sym e))

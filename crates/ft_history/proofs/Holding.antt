@@ -2,17 +2,19 @@
 use Rattle.std.proofs.Common.{◌≡◌, ◌≢◌, ◌<◌, ℕ, Bool, true, false, cond, Option, Some, List, [], ◌∷◌, ◌++◌, ◌⊎◌, inl, inr, length, map, suc, sym, refl, ap, ◌∙◌, subst, arith}
 use Rattle.std.proofs.lemmas.Bool.{false≢true}
 use Rattle.ft_laws.specs.Lists.{Each, In}
-use Rattle.ft_laws.specs.Calls.{Calls, Agree, PutBack, Reverts, Done, Fits}
-use Rattle.ft_laws.specs.Laws.{Lawful, Knows, Hides, is_hidden, holds}
+use Rattle.ft_laws.specs.Calls.{Calls, Reverts, Done, Fits}
+use Rattle.ft_laws.specs.Laws.{Lawful, Hides, is_hidden, holds}
+use Rattle.ft_laws.specs.Hiding.{Unseen}
 use Rattle.ft_laws.specs.Runs.{run, Along, Faithful, Able, Clear, IsLocal}
 use Rattle.ft_laws.proofs.Lists.{Each-append, Each-map, Each-at, Each-from, Pairs-push, In-split, In-cases, In-with}
 use Rattle.ft_laws.proofs.Tests.{by_test, by_option}
-use Rattle.ft_laws.proofs.Running.{run-append, along_append, along_back, able_without, able_at, fits_alike, reverts_alike, act_alike}
-use Rattle.ft_laws.proofs.Deleting.{deletion, deletion_along, still_written}
+use Rattle.ft_laws.proofs.Running.{run-append, along_append, along_back, able_without, able_at, reverts_alike}
+use Rattle.ft_laws.proofs.Hiding.{stays_hidden, undone_hidden}
+use Rattle.ft_laws.proofs.Deleting.{deletion, deletion_along}
 use Rattle.ft_history.specs.History.{number}
 use Rattle.ft_history.specs.Logs.{passing, put, pushed}
 use Rattle.ft_history.specs.Orders.{Covers}
-use Rattle.ft_history.specs.Core.{Entry, AreInverses, Spares}
+use Rattle.ft_history.specs.Core.{Entry, AreInverses}
 use Rattle.ft_history.proofs.Words.{put_same, put_other, by_number, In-map, map_put, map_pushed}
 use Rattle.ft_history.proofs.Kept.{Kept, without, taken_owned, taken_calls, taken_clear, taken_kept, granted_kept}
 
@@ -32,7 +34,7 @@ module _ (C : Calls) where
     pub store : Hides C hidden (run C base cs) s
     pub listed : (t : ℕ) → map (λ e. e.done) (kept t) ≡ log t
     pub inverses : Along C (AreInverses C kept) base cs
-    pub spared : (c : Done C) (y : ℕ) → In c cs → owner c ≡ Some y → Spares C hidden c
+    pub spared : (c : Done C) (y : ℕ) → In c cs → owner c ≡ Some y → Unseen C hidden c.accesses
 
   -- fewer entries
   pub fewer_inverses : (old new : ℕ → List (Entry C)) → ((t : ℕ) (e : Entry C) → In e (new t) → (v : ℕ) × In e (old v)) → (s : C.Store) (cs : List (Done C)) → Along C (AreInverses C old) s cs → Along C (AreInverses C new) s cs
@@ -45,99 +47,18 @@ module _ (C : Calls) where
       (λ e. absurd (false≢true (sym (ap (holds hidden) e) ∙ h)))
       (λ i e. f i e (sym (ap (holds hidden) e) ∙ h))
 
-  file_hidden : (hidden : C.File → Bool) (x : C.Cell) (i : C.File) → C.file_of x ≡ Some i → hidden i ≡ true → is_hidden C hidden x ≡ true
-  file_hidden hidden x i e h = ap (holds hidden) e ∙ h
-
 module _ (C : Calls) (L : Lawful C) where
   inverses_local : (kept : ℕ → List (Entry C)) → IsLocal C (AreInverses C kept)
   inverses_local kept s t c gs gt rs rt fit agree h u n i = reverts_alike C L s t c u gs gt rs rt fit agree (h u n i)
 
-  -- The inverse of a call that conflicts with no later one, put to a store without the hidden files, of which it touched none.
-  module _ (base : C.Store) (hidden : C.File → Bool) (xs : List (Done C)) (d : Done C) (ys : List (Done C)) (s : C.Store) (u : C.Inverse)
-      (able : Able C base (xs ++ d ∷ ys)) (faithful : Faithful C base (xs ++ d ∷ ys)) (clear : Clear C d ys)
-      (reverts : Reverts C (run C base xs) d.call d.accesses u) (spares : Spares C hidden d) (hides : Hides C hidden (run C base (xs ++ d ∷ ys)) s) where
-    abbrev before : C.Store
-    before = run C base xs
-
-    abbrev after : C.Store
-    after = C.act before d.call
-
-    there : Able C before (d ∷ ys)
-    there = able_at C L base xs (d ∷ ys) able
-
-    fits : Fits C before d
-    fits = (along_back C (Fits C) base xs (d ∷ ys) faithful).0
-
-    -- what it changed isn't hidden
-    changed_seen : (x : C.Cell) → C.changes d.accesses x ≡ true → is_hidden C hidden x ≡ false
-    changed_seen x k = by_test (is_hidden C hidden x) (λ h. absurd (false≢true (sym (spares x h) ∙ L.changes_touch d.accesses x k))) (λ h. h)
-
-    hidden_unchanged : (x : C.Cell) → is_hidden C hidden x ≡ true → C.changes d.accesses x ≡ false
-    hidden_unchanged x h = by_test (C.changes d.accesses x) (λ k. absurd (false≢true (sym (spares x h) ∙ L.changes_touch d.accesses x k))) (λ k. k)
-
-    -- what it wrote still stands
-    left : (x : C.Cell) → C.changes d.accesses x ≡ true → C.cell s x ≡ C.cell after x
-    left x k = sym (hides.others x (changed_seen x k)) ∙ still_written C L base xs d ys able faithful clear x k
-
-    put_back : PutBack C d.accesses before s (C.revert s u)
-    put_back = reverts s left
-
-    gone_before : (x : C.Cell) (i : C.File) → hidden i ≡ true → C.changes d.accesses x ≡ true → C.names x (C.cell before x) i ≡ false
-    gone_before x i h k = by_test (C.names x (C.cell before x) i)
-        (λ m. elim (L.lets_go before d.call there.sound there.ready.0 x i m (ap (λ v. C.names x v i) (sym (left x k)) ∙ hides.unnamed x i h)) [
-          | inl touch ↦ absurd (false≢true (sym (spares touch.0 (file_hidden C hidden touch.0 i touch.1 h)) ∙ subst (λ f. C.touches f touch.0 ≡ true) fits.accesses touch.2))
-          | inr name ↦
-              let changed : C.changes d.accesses name.0 ≡ true = subst (λ f. C.changes f name.0 ≡ true) fits.accesses name.1 in
-              absurd (false≢true (sym (hides.unnamed name.0 i h) ∙ ap (λ v. C.names name.0 v i) (left name.0 changed) ∙ name.2))
-        ])
-        (λ m. m)
-
-    pub hides_taken : Hides C hidden (run C base (xs ++ ys)) (C.revert s u)
-    hides_taken = record {
-      others = λ x h. (deletion C L base xs d ys able faithful clear).1 x ∙ ap (λ v. cond (C.changes d.accesses x) (C.cell before x) v) (hides.others x h) ∙ sym (put_back x);
-      gone = λ x h. put_back x ∙ ap (λ b. cond b (C.cell before x) (C.cell s x)) (hidden_unchanged x h) ∙ hides.gone x h;
-      unnamed = λ x i h. by_test (C.changes d.accesses x)
-          (λ k. ap (λ v. C.names x v i) (put_back x ∙ ap (λ b. cond b (C.cell before x) (C.cell s x)) k) ∙ gone_before x i h k)
-          (λ k. ap (λ v. C.names x v i) (put_back x ∙ ap (λ b. cond b (C.cell before x) (C.cell s x)) k) ∙ hides.unnamed x i h);
-    }
-
-  -- A call that is made in a store without the hidden files does the same as with them.
+  -- A call that is made in a store without the hidden files does the same as with them, and touches none of them.
   module _ (hidden : C.File → Bool) (r s : C.Store) (c : Done C) (sound : C.IsSound r) (ready : C.IsReady c.call r) (hides : Hides C hidden r s) (new : hidden (C.own c.call) ≡ false) (fits : Fits C s c) where
-    pub hides_sound : C.IsSound s
-    hides_sound = L.hides_sound hidden r s hides sound
+    pub whole : Fits C r c × Unseen C hidden c.accesses × Hides C hidden (C.act r c.call) (C.act s c.call)
+    whole = stays_hidden C L hidden r s c hides sound ready new fits
 
-    pub hides_ready : C.IsReady c.call s
-    hides_ready = L.hides_ready hidden r s c.call hides ready
-
-    unknown : (i : C.File) → hidden i ≡ true → Knows C s c.call i → ⊥
-    unknown i h (inl e) = false≢true (sym new ∙ ap hidden e ∙ h)
-    unknown i h (inr n) = false≢true (sym (hides.unnamed n.0 i h) ∙ n.2)
-
-    pub granted_spares : Spares C hidden c
-    granted_spares x h = by_test (C.touches c.accesses x)
-        (λ k. hidden_file C hidden x h (λ i e m. absurd (unknown i m (L.comes_upon s c.call hides_sound hides_ready x i e (subst (λ f. C.touches f x ≡ true) (sym fits.accesses) k)))))
-        (λ k. k)
-
-    granted_agree : Agree C c.accesses s r
-    granted_agree x k = by_test (is_hidden C hidden x) (λ h. absurd (false≢true (sym (granted_spares x h) ∙ k))) (λ h. sym (hides.others x h))
-
-    pub fits_whole : Fits C r c
-    fits_whole = fits_alike C L s r c hides_sound sound hides_ready ready granted_agree fits
-
-    pub whole_reverts : (u : C.Inverse) → Reverts C s c.call c.accesses u → Reverts C r c.call c.accesses u
-    whole_reverts u h = reverts_alike C L s r c u hides_sound sound hides_ready ready fits granted_agree h
-
-    pub hides_granted : Hides C hidden (C.act r c.call) (C.act s c.call)
-    hides_granted = record {
-      others = λ x h. sym (act_alike C L s r c hides_sound sound hides_ready ready fits granted_agree x (sym (hides.others x h)));
-      gone = λ x h. L.kept s c.call hides_sound hides_ready x (subst (λ f. C.changes f x ≡ false) (sym fits.accesses) (hidden_same x h)) ∙ hides.gone x h;
-      unnamed = λ x i h. by_test (C.changes (C.accesses s c.call) x)
-          (λ k. by_test (C.names x (C.cell (C.act s c.call) x) i) (λ m. absurd (unknown i h (L.names_known s c.call hides_sound hides_ready x i k m))) (λ m. m))
-          (λ k. ap (λ v. C.names x v i) (L.kept s c.call hides_sound hides_ready x k) ∙ hides.unnamed x i h);
-    }
-      where
-        hidden_same : (x : C.Cell) → is_hidden C hidden x ≡ true → C.changes c.accesses x ≡ false
-        hidden_same x h = by_test (C.changes c.accesses x) (λ k. absurd (false≢true (sym (granted_spares x h) ∙ L.changes_touch c.accesses x k))) (λ k. k)
+    whole_reverts : (u : C.Inverse) → Reverts C s c.call c.accesses u → Reverts C r c.call c.accesses u
+    whole_reverts u h = reverts_alike C L s r c u (L.hides_sound hidden r s hides sound) sound (L.hides_ready hidden r s c.call hides ready) ready fits
+        (λ x k. by_test (is_hidden C hidden x) (λ m. absurd (false≢true (sym (whole.1 x m) ∙ k))) (λ m. sym (hides.others x m))) h
 
   -- The newest call of n's list is taken back, where the lists below n have older calls alone.
   module _ (above : ℕ → ℕ → Bool) (owner : Done C → Option ℕ) (base : C.Store) (cs : List (Done C)) (log : ℕ → List (Done C)) (runs : Runs C above owner base cs log)
@@ -186,17 +107,20 @@ module _ (C : Calls) (L : Lawful C) where
       kept = taken_kept C above owner cs log runs.kept n d ds newest xs ys split.2;
     }
 
+    -- The inverse may be put to the store, and then all is as without the call.
     pub holds_taken : (hidden : C.File → Bool) (s : C.Store) (kept : ℕ → List (Entry C)) (u : C.Inverse) (es : List (Entry C)) → Holds C owner base hidden cs log s kept
         → kept n ≡ record { done = d; inverse = u } ∷ es → map (λ e. e.done) es ≡ ds
-        → Holds C owner base hidden (without C (number C d) cs) (put log n ds) (C.revert s u) (put kept n es)
-    holds_taken hidden s kept u es h is list = record {
-      store = subst (λ zs. Hides C hidden (run C base zs) (C.revert s u)) (sym calls)
-          (hides_taken base hidden xs d ys s u able faithful clear reverts (h.spared d n own.0 own.1) (subst (λ zs. Hides C hidden (run C base zs) s) split.2 h.store));
-      listed = map_put (λ e. e.done) kept log h.listed n es ds list;
-      inverses = subst (Along C (AreInverses C (put kept n es)) base) (sym calls) (deletion_along C L (AreInverses C (put kept n es)) (inverses_local (put kept n es)) base xs d ys able faithful clear
-          (fewer_inverses C kept (put kept n es) (λ t e i. (t, fewer t e i)) base (xs ++ d ∷ ys) split_inverses)).0;
-      spared = λ c y i e. h.spared c y (In-less c i) e;
-    }
+        → C.MayRevert s u × Holds C owner base hidden (without C (number C d) cs) (put log n ds) (C.revert s u) (put kept n es)
+    holds_taken hidden s kept u es h is list = (
+      undo.1,
+      record {
+        store = subst (λ zs. Hides C hidden (run C base zs) (C.revert s u)) (sym calls) undo.2;
+        listed = map_put (λ e. e.done) kept log h.listed n es ds list;
+        inverses = subst (Along C (AreInverses C (put kept n es)) base) (sym calls) (deletion_along C L (AreInverses C (put kept n es)) (inverses_local (put kept n es)) base xs d ys able faithful clear
+            (fewer_inverses C kept (put kept n es) (λ t e i. (t, fewer t e i)) base (xs ++ d ∷ ys) split_inverses)).0;
+        spared = λ c y i e. h.spared c y (In-less c i) e;
+      },
+    )
       where
         own : In d cs × (owner d ≡ Some n)
         own = taken_owned C above owner cs log runs.kept n d ds newest
@@ -206,6 +130,9 @@ module _ (C : Calls) (L : Lawful C) where
 
         reverts : Reverts C (run C base xs) d.call d.accesses u
         reverts = (along_back C (AreInverses C kept) base xs (d ∷ ys) split_inverses).0 u n (subst (In (record { done = d; inverse = u })) (sym is) (inl refl))
+
+        undo : Faithful C base (xs ++ ys) × C.MayRevert s u × Hides C hidden (run C base (xs ++ ys)) (C.revert s u)
+        undo = undone_hidden C L hidden base xs d ys u s able faithful clear (h.spared d n own.0 own.1) reverts (subst (λ zs. Hides C hidden (run C base zs) s) split.2 h.store)
 
         fewer : (t : ℕ) (e : Entry C) → In e (put kept n es t) → In e (kept t)
         fewer t e i = by_number t n
@@ -242,7 +169,7 @@ module _ (C : Calls) (L : Lawful C) where
         → hidden (C.own c.call) ≡ false → Fits C s c → Reverts C s c.call c.accesses u
         → Holds C owner base hidden (cs ++ c ∷ []) (pushed log t c) (C.act s c.call) (pushed kept t (record { done = c; inverse = u }))
     holds_granted hidden s kept u h new fits reverts = record {
-      store = subst (λ r. Hides C hidden r (C.act s c.call)) (sym (run-append C base cs (c ∷ []))) (hides_granted hidden (run C base cs) s c granted_there.sound granted_there.ready.0 h.store new fits);
+      store = subst (λ r. Hides C hidden r (C.act s c.call)) (sym (run-append C base cs (c ∷ []))) (whole hidden (run C base cs) s c granted_there.sound granted_there.ready.0 h.store new fits).2;
       listed = map_pushed (λ e. e.done) kept log h.listed t (record { done = c; inverse = u }) c refl;
       inverses = along_append C (AreInverses C (pushed kept t (record { done = c; inverse = u }))) base cs (c ∷ [])
           (along_map C (AreInverses C kept) (AreInverses C (pushed kept t (record { done = c; inverse = u }))) (λ b. number C b < number C c)
@@ -251,7 +178,7 @@ module _ (C : Calls) (L : Lawful C) where
             | inr j ↦ k v n j
           ]) base cs newer h.inverses) (
             (λ v n i. elim (pushed_cases n (record { done = c; inverse = v }) i) [
-              | inl e ↦ subst (Reverts C (run C base cs) c.call c.accesses) (sym (ap (λ w. w.inverse) e)) whole
+              | inl e ↦ subst (Reverts C (run C base cs) c.call c.accesses) (sym (ap (λ w. w.inverse) e)) at_run
               | inr j ↦ absurd (no_entry n v j)
             ]),
             tt,
@@ -260,13 +187,13 @@ module _ (C : Calls) (L : Lawful C) where
         | inl j ↦ h.spared b y j e
         | inr j ↦ elim j [
           | inr none ↦ absurd none
-          | inl is ↦ subst (Spares C hidden) (sym is) (granted_spares hidden (run C base cs) s c granted_there.sound granted_there.ready.0 h.store new fits)
+          | inl is ↦ subst (λ a. Unseen C hidden a.accesses) (sym is) (whole hidden (run C base cs) s c granted_there.sound granted_there.ready.0 h.store new fits).1
         ]
       ];
     }
       where
-        whole : Reverts C (run C base cs) c.call c.accesses u
-        whole = whole_reverts hidden (run C base cs) s c granted_there.sound granted_there.ready.0 h.store new fits u reverts
+        at_run : Reverts C (run C base cs) c.call c.accesses u
+        at_run = whole_reverts hidden (run C base cs) s c granted_there.sound granted_there.ready.0 h.store new fits u reverts
 
         pushed_cases : (n : ℕ) (e : Entry C) → In e (pushed kept t (record { done = c; inverse = u }) n) → (e ≡ record { done = c; inverse = u }) ⊎ In e (kept n)
         pushed_cases n e i = by_number n t

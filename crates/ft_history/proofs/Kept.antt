@@ -6,9 +6,9 @@ use Rattle.ft_laws.specs.Calls.{Calls, Done}
 use Rattle.ft_laws.specs.Runs.{Clear}
 use Rattle.ft_laws.proofs.Lists.{Each-map, Each-back, Each-at, Each-from, Pairs-without, Pairs-map, Pairs-push, Pairs-append, Pairs-before, Pairs-after, Pairs-with, In-front, In-back, In-cases, In-with, In-without}
 use Rattle.ft_history.specs.History.{number}
-use Rattle.ft_history.specs.Logs.{passing, put, pushed, handed}
+use Rattle.ft_history.specs.Logs.{put, pushed, handed}
 use Rattle.ft_history.specs.Orders.{Covers, IsNested, IsInFront}
-use Rattle.ft_history.proofs.Words.{put_same, put_other, by_number, none_some, moved, moved_same, moved_other, moved_from, Each-passing}
+use Rattle.ft_history.proofs.Words.{put_same, put_other, by_number, none_some, moved, moved_same, moved_other, moved_from}
 use Rattle.ft_history.proofs.Forest.{ForestLaws}
 
 -- what the first owner covers has an owner, below it
@@ -52,13 +52,6 @@ module _ (C : Calls) where
       let less : number C c < number C x = Each-at (λ a. number C c < number C a) cs x rise.0 i in
       absurd (omega arith)
   ordered R (c ∷ cs) x y rise h (inr i) (inr j) lt = ordered R cs x y rise.1 h.1 i j lt
-
-  Pairs-passing : (R : Done C → Done C → Type 0) (p : Done C → Bool) (cs : List (Done C)) → Pairs R cs → Pairs R (passing p cs)
-  Pairs-passing R p [] h = tt
-  Pairs-passing R p (c ∷ cs) h = elim (cases_Bool (p c)) [
-    | inl k ↦ subst (Pairs R) (sym (ap (λ b. cond b (c ∷ passing p cs) (passing p cs)) k)) (Each-passing (R c) p cs h.0, Pairs-passing R p cs h.1)
-    | inr k ↦ subst (Pairs R) (sym (ap (λ b. cond b (c ∷ passing p cs) (passing p cs)) k)) (Pairs-passing R p cs h.1)
-  ]
 
   -- The standing calls, oldest first, with their owners, and the lists of those that have owners, newest first.
   pub record Kept (above : ℕ → ℕ → Bool) (owner : Done C → Option ℕ) (cs : List (Done C)) (log : ℕ → List (Done C)) : Type 0 where

@@ -18,7 +18,10 @@ module _ (C : Calls) (L : Lawful C) (base : Base C) (base_sound : C.IsSound base
     forest = λ x p e. absurd (none_some p e);
     since = λ x p e. absurd (none_some p e);
     asked_since = tt;
-    begun = omega arith;
+    counted = omega arith;
+    numbers_rise = tt;
+    numbers_known = tt;
+    numbers_all = λ x since last. absurd (omega arith);
     stamped = omega arith;
     stamps = tt;
     rising = tt;
@@ -34,8 +37,8 @@ module _ (C : Calls) (L : Lawful C) (base : Base C) (base_sound : C.IsSound base
   }
 
   pub both_all : (h : List (Event C)) → Legal C base h → Sound C L base h × AllMarked C L base h
-  both_all [] legal = (sound_empty, record { known = λ u i. absurd i; marked = λ t live. refl })
-  both_all (Begin n p ∷ h) legal = let so = both_all h legal.1 in (sound_begin C L base h so.0 n p legal.0, marked_begin C L base h so.0 so.1 n p legal.0)
+  both_all [] legal = (sound_empty, λ t live. refl)
+  both_all (Begin n p ∷ h) legal = let so = both_all h legal.1 in (sound_begin C L base h so.0 n p legal.0, marked_begin C L base h so.0 so.1 legal.1 n p legal.0)
   both_all (Call c ∷ h) legal = let so = both_all h legal.1 in (sound_call C L base h so.0 c legal.0, marked_call C L base h so.0 so.1 c legal.0)
   both_all (Undo k ∷ h) legal =
       let so = both_all h legal.1 in
@@ -53,12 +56,12 @@ module _ (C : Calls) (L : Lawful C) (base : Base C) (base_sound : C.IsSound base
   sound_all h legal = (both_all h legal).0
 
   -- What an undo comes upon is the newest of its list, and the asker's own.
-  pub target_newest : (h : List (Event C)) → Legal C base h → (t : ℕ) (d : Done C) → IsLive C base h t → undo_target C h t ≡ Found d → (ds : List (Done C)) × (lists C h t ≡ d ∷ ds) × (d.asker ≡ t)
+  pub target_newest : (h : List (Event C)) → Legal C base h → (t : ℕ) (d : Done C) → IsLive C base.transaction h t → undo_target C h t ≡ Found d → (ds : List (Done C)) × (lists C h t ≡ d ∷ ds) × (d.asker ≡ t)
   target_newest h legal t d live e =
       let so = both_all h legal in
       let f = undo_newest C L base h so.0 so.1 t d live e in
       (f.1, f.3, f.5)
 
   -- At a fresh base each call with a new stamp may be made.
-  pub fresh_ready : IsFresh C base → (h : List (Event C)) → Legal C base h → (a : C.Call) → last_stamp C base h < C.stamp a → C.IsReady a base.store
+  pub fresh_ready : IsFresh C base → (h : List (Event C)) → Legal C base h → (a : C.Call) → last_stamp C base.stamp h < C.stamp a → C.IsReady a base.store
   fresh_ready fresh h legal a next = let old = (sound_all h legal).stamped in fresh a (omega arith)

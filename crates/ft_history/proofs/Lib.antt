@@ -1,7 +1,10 @@
 pub mod Words
 pub mod Forest
+pub mod Living
+pub mod Owning
 pub mod Kept
 pub mod Holding
+pub mod Draining
 pub mod Aborting
 pub mod History
 pub mod Undoing
@@ -12,6 +15,7 @@ pub mod Promises
 pub mod Serial
 pub mod Sorted
 pub mod Locks
+pub mod Fates
 pub mod Example
 pub mod Without
 pub mod Growing

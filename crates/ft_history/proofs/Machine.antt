@@ -3,11 +3,13 @@ use Rattle.std.proofs.Common.{◌≡◌, ℕ, false, Some, List, [], ◌∷◌, 
 use Rattle.ft_laws.specs.Calls.{Calls, Same, Reverts, Done}
 use Rattle.ft_laws.specs.Laws.{Lawful}
 use Rattle.ft_history.specs.Logs.{put, rest}
-use Rattle.ft_history.specs.History.{Base, Event, number}
+use Rattle.ft_history.specs.History.{Base, Event, number, newest_below}
 use Rattle.ft_history.specs.History.Event.{Begin, Call, Undo, Commit, Abort}
 use Rattle.ft_history.specs.Legal.{outcome, MayGrant, Legal}
 use Rattle.ft_history.specs.Ledger.{asker_of}
 use Rattle.ft_history.specs.Core.{Entry, Machine, undo, machine, take_newest, IsMade, IsCore}
+use Rattle.ft_history.proofs.History.{newest_order}
+use Rattle.ft_history.proofs.Legal.{sound_all}
 use Rattle.ft_history.proofs.Methods.{core_new, core_begun, core_asked, core_undone, core_committed, core_taken_back, core_sound, core_ready, core_accesses, core_reply, none_hidden}
 
 module _ (C : Calls) (L : Lawful C) (base : Base C) (base_sound : C.IsSound base.store) where
@@ -49,9 +51,11 @@ module _ (C : Calls) (L : Lawful C) (base : Base C) (base_sound : C.IsSound base
       let d = legal.0.1 in
       let after = core_undone C L base base_sound h (λ i. false) m.store m.log core t d legal.0.2 in
       subst (λ j. IsCoreOf (Undo j ∷ h) (machine C base (Undo j ∷ h))) legal.0.3
-      (machine_undone h m core (number C d) t (record { done = d; inverse = after.0 }) after.1 after.4 after.2 after.3)
+      (machine_undone h m core (number C d) t (record { done = d; inverse = after.0 }) after.1 after.5 after.2 after.4)
   machine_core (Commit t ∷ h) legal = let m = machine C base h in core_committed C L base base_sound h (λ i. false) m.store m.log (machine_core h legal.1) t legal.0
-  machine_core (Abort t ∷ h) legal = let m = machine C base h in core_taken_back C L base base_sound h (λ i. false) m.store m.log (machine_core h legal.1) t legal.0
+  machine_core (Abort t ∷ h) legal =
+      let m = machine C base h in
+      (core_taken_back C L base base_sound h (λ i. false) m.store m.log (machine_core h legal.1) t (newest_below C h t) legal.0 (newest_order C L base h (sound_all C L base base_sound h legal.1) t)).1
 
   -- So its store is that of the standing calls.
   pub machine_same : (h : List (Event C)) → Legal C base h → Same C (outcome C base h) (machine C base h).store

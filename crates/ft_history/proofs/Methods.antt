@@ -1,5 +1,5 @@
 -- One law for each method of a core: what it has to show, and what it then keeps.
-use Rattle.std.proofs.Common.{◌≡◌, ◌≢◌, ◌<◌, ◌≤◌, ◌+◌, ℕ, zero, suc, Bool, true, false, Option, Some, None, List, [], ◌∷◌, ◌++◌, inl, inr, length, map, sym, refl, ap, ◌∙◌, subst, arith}
+use Rattle.std.proofs.Common.{◌≡◌, ◌≢◌, ◌<◌, ◌+◌, ℕ, suc, Bool, true, false, Option, Some, None, List, [], ◌∷◌, ◌++◌, inl, inr, length, map, sym, refl, ap, ◌∙◌, subst, arith}
 use Rattle.std.proofs.lemmas.Bool.{false≢true}
 use Rattle.ft_laws.specs.Lists.{In}
 use Rattle.ft_laws.specs.Calls.{Calls, Same, Done, Fits}
@@ -8,28 +8,37 @@ use Rattle.ft_laws.specs.Runs.{run, Along}
 use Rattle.ft_laws.proofs.Lists.{Each-from}
 use Rattle.ft_laws.proofs.Tests.{by_test}
 use Rattle.ft_laws.proofs.Running.{run_sound, run_ready}
-use Rattle.ft_history.specs.Logs.{put, pushed, handed, emptied}
-use Rattle.ft_history.specs.History.{Base, Event, number, last_transaction, last_stamp, parent, over, IsLive, standing}
+use Rattle.ft_history.specs.Logs.{joined, put, pushed, handed, emptied}
+use Rattle.ft_history.specs.History.{Base, Event, number, last_stamp, parent, over, IsLive, standing}
 use Rattle.ft_history.specs.History.Event.{Begin, Call, Undo, Commit, Abort}
 use Rattle.ft_history.specs.Undoing.{MayUndo}
 use Rattle.ft_history.specs.Legal.{outcome, MayBegin, MayGrant, MayCommit}
 use Rattle.ft_history.specs.Ledger.{asker_of, lists}
-use Rattle.ft_history.specs.Core.{Entry, AreInverses, IsMade, IsSweep, IsCore, take_back}
+use Rattle.ft_history.specs.Core.{Entry, AreInverses, IsMade, IsSweep, IsCore, take_back, MayTakeBack}
+use Rattle.ft_history.specs.Orders.{IsAbortOrder}
 use Rattle.ft_history.specs.Promises.{IsCheckpoint}
 use Rattle.ft_history.proofs.Words.{by_list, moved_from, map_handed, In-handed}
+use Rattle.ft_history.proofs.Owning.{one_owns}
 use Rattle.ft_history.proofs.Kept.{without}
-use Rattle.ft_history.proofs.Holding.{Holds, holds_taken, holds_granted, fits_whole, hidden_file, fewer_inverses}
-use Rattle.ft_history.proofs.Aborting.{Taking, taking_first, taking_step, taking_end, taking_past, taking_down, taking_count, taking_lists, taking_holds, take_all}
-use Rattle.ft_history.proofs.History.{Sound, owner, laws, stands, owner_is_live, asker_known, stamp_known, lists_end, begin_standing, begin_owner, call_owner, call_standing, standing_newer, undo_asker, undo_standing, undo_lists, undo_older, commit_owner, abort_owner, abort_standing}
+use Rattle.ft_history.proofs.Holding.{Holds, holds_taken, holds_granted, whole, hidden_file, fewer_inverses}
+use Rattle.ft_history.proofs.Aborting.{Taking, taking_first, taking_step, taking_count, taking_lists, taking_holds, take_all}
+use Rattle.ft_history.proofs.History.{Sound, owner, laws, stands, asker_known, stamp_known, no_list, begin_standing, begin_owner, call_owner, call_standing, standing_newer, undo_asker, undo_standing, undo_lists, undo_older, commit_owner, abort_owner, abort_standing}
 use Rattle.ft_history.proofs.Legal.{sound_all, target_newest}
 
 pub none_hidden : (C : Calls) (o : Option C.File) → holds (λ i. false) o ≡ false
 none_hidden C None = refl
 none_hidden C (Some i) = refl
 
--- On the way of an abort of t that begins with the lists log: the lists from k on are taken back, with m inverses, and the store and the lists are now these.
-abbrev pub IsTakingBack : (C : Calls) (base : Base C) → List (Event C) → (C.File → Bool) → (ℕ → List (Entry C)) → ℕ → (k m : ℕ) → C.Store → (ℕ → List (Entry C)) → Type 0
+-- On the way of an abort of t that begins with the lists log: m inverses are put to the store, and the store and the lists are now these.
+abbrev pub IsTakingBack : (C : Calls) (base : Base C) → List (Event C) → (C.File → Bool) → (ℕ → List (Entry C)) → ℕ → ℕ → C.Store → (ℕ → List (Entry C)) → Type 0
 IsTakingBack C base h hidden log t = Taking C (over C h) (owner C h) base.store t (standing C h) (lists C h) hidden log
+
+no_entries : {A B : Type 0} (f : A → B) (xs : List A) → map f xs ≡ [] → xs ≡ []
+no_entries f [] e = refl
+no_entries f (x ∷ xs) e = absurd (other e)
+  where
+    other : f x ∷ map f xs ≡ [] → ⊥
+    other k = cc
 
 module _ (C : Calls) (L : Lawful C) (base : Base C) (base_sound : C.IsSound base.store) where
   -- what a core holds, of the standing calls and the lists of its history
@@ -46,7 +55,7 @@ module _ (C : Calls) (L : Lawful C) (base : Base C) (base_sound : C.IsSound base
     outcome_sound : C.IsSound (outcome C base h)
     outcome_sound = run_sound C L base.store (standing C h) sound.runs.able
 
-    outcome_ready : (a : C.Call) → C.IsReady a base.store → last_stamp C base h < C.stamp a → C.IsReady a (outcome C base h)
+    outcome_ready : (a : C.Call) → C.IsReady a base.store → last_stamp C base.stamp h < C.stamp a → C.IsReady a (outcome C base h)
     outcome_ready a ready next = run_ready C L a base.store (standing C h) sound.runs.able ready
         (Each-from (λ c. C.stamp c.call ≢ C.stamp a) (standing C h) (λ c i e. let le = stamp_known C L base h sound c i in absurd (omega arith)))
 
@@ -54,17 +63,17 @@ module _ (C : Calls) (L : Lawful C) (base : Base C) (base_sound : C.IsSound base
     pub core_sound : C.IsSound s
     core_sound = L.hides_sound hidden (outcome C base h) s core.store outcome_sound
 
-    pub core_ready : (a : C.Call) → C.IsReady a base.store → last_stamp C base h < C.stamp a → C.IsReady a s
+    pub core_ready : (a : C.Call) → C.IsReady a base.store → last_stamp C base.stamp h < C.stamp a → C.IsReady a s
     core_ready a ready next = L.hides_ready hidden (outcome C base h) s a core.store (outcome_ready a ready next)
 
     -- A new call does the same there as after the standing calls: the same accesses, and the same reply.
-    pub core_fits : (c : Done C) → C.IsReady c.call base.store → last_stamp C base h < number C c → Fits C s c → Fits C (outcome C base h) c
-    core_fits c ready next fits = fits_whole C L hidden (outcome C base h) s c outcome_sound (outcome_ready c.call ready next) core.store (core.old c.call next) fits
+    pub core_fits : (c : Done C) → C.IsReady c.call base.store → last_stamp C base.stamp h < number C c → Fits C s c → Fits C (outcome C base h) c
+    core_fits c ready next fits = (whole C L hidden (outcome C base h) s c outcome_sound (outcome_ready c.call ready next) core.store (core.old c.call next) fits).0
 
-    pub core_accesses : (a : C.Call) → C.IsReady a base.store → last_stamp C base h < C.stamp a → C.accesses s a ≡ C.accesses (outcome C base h) a
+    pub core_accesses : (a : C.Call) → C.IsReady a base.store → last_stamp C base.stamp h < C.stamp a → C.accesses s a ≡ C.accesses (outcome C base h) a
     core_accesses a ready next = sym (core_fits (record { asker = 0; call = a; accesses = C.accesses s a; reply = C.reply s a }) ready next (record { accesses = refl; reply = refl })).accesses
 
-    pub core_reply : (a : C.Call) → C.IsReady a base.store → last_stamp C base h < C.stamp a → C.reply s a ≡ C.reply (outcome C base h) a
+    pub core_reply : (a : C.Call) → C.IsReady a base.store → last_stamp C base.stamp h < C.stamp a → C.reply s a ≡ C.reply (outcome C base h) a
     core_reply a ready next = sym (core_fits (record { asker = 0; call = a; accesses = C.accesses s a; reply = C.reply s a }) ready next (record { accesses = refl; reply = refl })).reply
 
     -- The same in each cell is as good.
@@ -83,7 +92,7 @@ module _ (C : Calls) (L : Lawful C) (base : Base C) (base_sound : C.IsSound base
     }
 
     -- begin and sub
-    pub core_begun : (n : ℕ) (p : Option ℕ) → MayBegin C base h n p → IsCore C base (Begin n p ∷ h) hidden s log
+    pub core_begun : (n : ℕ) (p : Option ℕ) → MayBegin C base.transaction h n p → IsCore C base (Begin n p ∷ h) hidden s log
     core_begun n p may =
         let same : standing C h ≡ standing C (Begin n p ∷ h) = sym (begin_standing C L base h sound n p may) in
         record {
@@ -117,8 +126,8 @@ module _ (C : Calls) (L : Lawful C) (base : Base C) (base_sound : C.IsSound base
         }
 
     -- undo_call: the newest of t's list is the call that is found
-    pub core_undone : (t : ℕ) (d : Done C) → MayUndo C base h t d
-        → (u : C.Inverse) × (es : List (Entry C)) × (log t ≡ record { done = d; inverse = u } ∷ es) × IsCore C base (Undo (number C d) ∷ h) hidden (C.revert s u) (put log t es) × (asker_of C h (number C d) ≡ Some t)
+    pub core_undone : (t : ℕ) (d : Done C) → MayUndo C base.transaction h t d
+        → (u : C.Inverse) × (es : List (Entry C)) × (log t ≡ record { done = d; inverse = u } ∷ es) × C.MayRevert s u × IsCore C base (Undo (number C d) ∷ h) hidden (C.revert s u) (put log t es) × (asker_of C h (number C d) ≡ Some t)
     core_undone t d may =
         let found = target_newest C L base base_sound h core.legal t d may.live may.target in
         let ds = found.0 in
@@ -135,12 +144,13 @@ module _ (C : Calls) (L : Lawful C) (base : Base C) (base_sound : C.IsSound base
           e.inverse,
           es,
           entry,
+          after.0,
           record {
             legal = ((t, d, may, refl), core.legal);
-            store = subst (λ cs. Hides C hidden (run C base.store cs) (C.revert s e.inverse)) less after.store;
-            listed = λ x. after.listed x ∙ ap (λ l. l x) left;
-            inverses = subst (Along C (AreInverses C (put log t es)) base.store) less after.inverses;
-            spared = λ c y i k. after.spared c y (subst (In c) (sym less) i) k;
+            store = subst (λ cs. Hides C hidden (run C base.store cs) (C.revert s e.inverse)) less after.1.store;
+            listed = λ x. after.1.listed x ∙ ap (λ l. l x) left;
+            inverses = subst (Along C (AreInverses C (put log t es)) base.store) less after.1.inverses;
+            spared = λ c y i k. after.1.spared c y (subst (In c) (sym less) i) k;
             old = core.old;
           },
           undo_asker C L base h sound t d ds may.live may.no_child found.1 found.2,
@@ -156,7 +166,7 @@ module _ (C : Calls) (L : Lawful C) (base : Base C) (base_sound : C.IsSound base
         tail e = cc
 
     -- commit: the store stays
-    pub core_committed : (t : ℕ) → MayCommit C base h t → IsCore C base (Commit t ∷ h) hidden s (handed log t (parent C h t))
+    pub core_committed : (t : ℕ) → MayCommit C base.transaction h t → IsCore C base (Commit t ∷ h) hidden s (handed log t (parent C h t))
     core_committed t may = record {
       legal = (may, core.legal);
       store = core.store;
@@ -170,41 +180,25 @@ module _ (C : Calls) (L : Lawful C) (base : Base C) (base_sound : C.IsSound base
     }
 
     -- abort: the beginning, with no inverse yet
-    pub abort_first : (t : ℕ) → IsTakingBack C base h hidden log t (suc (last_transaction C base h)) 0 s log
-    abort_first t =
-        taking_first C L (parent C h) (over C h) (laws C L base h sound) (owner C h) base.store t (standing C h) (lists C h) hidden log (suc (last_transaction C base h)) s sound.runs holds_of (lists_end C L base h sound)
+    pub abort_first : (t : ℕ) → IsTakingBack C base h hidden log t 0 s log
+    abort_first t = taking_first C L (parent C h) (over C h) (laws C L base h sound) (owner C h) base.store t (standing C h) (lists C h) hidden log s sound.runs holds_of
 
-    -- the newest inverse of the list of n, at or below t, is put to the store
-    pub abort_step : (t n m : ℕ) (now : C.Store) (kept : ℕ → List (Entry C)) (e : Entry C) (es : List (Entry C)) → over C h t n ≡ true → kept n ≡ e ∷ es → IsTakingBack C base h hidden log t (suc n) m now kept
-        → IsTakingBack C base h hidden log t (suc n) (suc m) (C.revert now e.inverse) (put kept n es)
-    abort_step t n m now kept e es = taking_step C L (parent C h) (over C h) (laws C L base h sound) (owner C h) base.store t (standing C h) (lists C h) hidden log n m now kept e es
+    -- the newest inverse of the list of x, at or below t, may be put to the store, and is, where the lists strictly below x are empty
+    pub abort_step : (t x m : ℕ) (now : C.Store) (kept : ℕ → List (Entry C)) (e : Entry C) (es : List (Entry C)) → over C h t x ≡ true → kept x ≡ e ∷ es → ((y : ℕ) → over C h x y ≡ true → y ≢ x → kept y ≡ [])
+        → IsTakingBack C base h hidden log t m now kept → C.MayRevert now e.inverse × IsTakingBack C base h hidden log t (suc m) (C.revert now e.inverse) (put kept x es)
+    abort_step t x m now kept e es = taking_step C L (parent C h) (over C h) (laws C L base h sound) (owner C h) base.store t (standing C h) (lists C h) hidden log x m now kept e es
 
-    -- the list of n is at its end, or n is not at or below t
-    pub abort_end : (t n m : ℕ) (now : C.Store) (kept : ℕ → List (Entry C)) → kept n ≡ [] → IsTakingBack C base h hidden log t (suc n) m now kept → IsTakingBack C base h hidden log t n m now kept
-    abort_end t n m now kept = taking_end C L (parent C h) (over C h) (laws C L base h sound) (owner C h) base.store t (standing C h) (lists C h) hidden log n m now kept
+    -- a transaction that isn't live has no list
+    pub ended_list : (x : ℕ) → (IsLive C base.transaction h x → ⊥) → log x ≡ []
+    ended_list x ended = no_entries (λ e. e.done) (log x) (core.listed x ∙ no_list C L base h sound x ended)
 
-    pub abort_past : (t n m : ℕ) (now : C.Store) (kept : ℕ → List (Entry C)) → over C h t n ≡ false → IsTakingBack C base h hidden log t (suc n) m now kept → IsTakingBack C base h hidden log t n m now kept
-    abort_past t n m now kept = taking_past C L (parent C h) (over C h) (laws C L base h sound) (owner C h) base.store t (standing C h) (lists C h) hidden log n m now kept
-
-    -- down to k over transactions that are not at or below t, or had no list, as none has that isn't live
-    pub abort_down : (t i k m : ℕ) (now : C.Store) (kept : ℕ → List (Entry C)) → ((x : ℕ) → k ≤ x → x < i + k → over C h t x ≡ true → log x ≡ []) → IsTakingBack C base h hidden log t (i + k) m now kept
-        → IsTakingBack C base h hidden log t k m now kept
-    abort_down t i k m now kept = taking_down C L (parent C h) (over C h) (laws C L base h sound) (owner C h) base.store t (standing C h) (lists C h) hidden log i k m now kept
-
-    pub ended_list : (x : ℕ) → (IsLive C base h x → ⊥) → log x ≡ []
-    ended_list x ended = by_list (log x) (λ e. e) (λ y ys e.
-        let c = y.done in
-        let i : In c (lists C h x) = subst (In c) (sym (ap (map (λ z. z.done)) e) ∙ core.listed x) (inl refl) in
-        let own = sound.runs.kept.owned x c i in
-        absurd (ended (owner_is_live C L base h sound c (stands C L base h sound c own.0).0 x own.1)))
-
-    -- at the end: the core's, and as many inverses as calls that went
-    pub core_aborted : (t m : ℕ) (now : C.Store) (kept : ℕ → List (Entry C)) → IsLive C base h t → IsTakingBack C base h hidden log t zero m now kept
+    -- at the end, with all lists at or below t empty: the core's, and as many inverses as calls that went
+    pub core_aborted : (t m : ℕ) (now : C.Store) (kept : ℕ → List (Entry C)) → IsLive C base.transaction h t → ((x : ℕ) → over C h t x ≡ true → kept x ≡ []) → IsTakingBack C base h hidden log t m now kept
         → IsCore C base (Abort t ∷ h) hidden now kept × (length (standing C (Abort t ∷ h)) + m ≡ length (standing C h)) × ((x : ℕ) → kept x ≡ emptied (over C h) log t x)
-    core_aborted t m now kept live taking =
+    core_aborted t m now kept live empty taking =
         let all = laws C L base h sound in
         let left = abort_standing C L base h sound t live in
-        let after = taking_holds C L (parent C h) (over C h) all (owner C h) base.store t (standing C h) (lists C h) hidden log m now kept taking in (
+        let after = taking_holds C L (parent C h) (over C h) all (owner C h) base.store t (standing C h) (lists C h) hidden log m now kept empty taking in (
           record {
             legal = (live, core.legal);
             store = subst (λ cs. Hides C hidden (run C base.store cs) now) (sym left) after.store;
@@ -213,20 +207,22 @@ module _ (C : Calls) (L : Lawful C) (base : Base C) (base_sound : C.IsSound base
             spared = λ c y i e. after.spared c y (subst (In c) left i) (sym (abort_owner C L base h sound t live c.asker) ∙ e);
             old = core.old;
           },
-          ap (λ cs. length cs + m) left ∙ taking_count C L (parent C h) (over C h) all (owner C h) base.store t (standing C h) (lists C h) hidden log m now kept taking,
-          taking_lists C L (parent C h) (over C h) all (owner C h) base.store t (standing C h) (lists C h) hidden log m now kept taking,
+          ap (λ cs. length cs + m) left ∙ taking_count C L (parent C h) (over C h) all (owner C h) base.store t (standing C h) (lists C h) hidden log m now kept empty taking,
+          taking_lists C L (parent C h) (over C h) all (owner C h) base.store t (standing C h) (lists C h) hidden log m now kept empty taking,
         )
 
-    -- the same in the order of the definition, all at once
-    pub core_taken_back : (t : ℕ) → IsLive C base h t → IsCore C base (Abort t ∷ h) hidden (take_back C (over C h) t log (suc (last_transaction C base h)) s) (emptied (over C h) log t)
-    core_taken_back t live =
-        let last = suc (last_transaction C base h) in
-        let end = take_all C L (parent C h) (over C h) (laws C L base h sound) (owner C h) base.store t (standing C h) (lists C h) hidden log last 0 s log (λ x lt. refl) (abort_first t) in
-        let after = core_aborted t end.0 (take_back C (over C h) t log last s) end.1 live end.2 in
-        subst (IsCore C base (Abort t ∷ h) hidden (take_back C (over C h) t log last s)) (λ i x. after.2 x i) after.0
+    -- the same all at once, in any order in which each comes before its parent
+    pub core_taken_back : (t : ℕ) (xs : List ℕ) → IsLive C base.transaction h t → IsAbortOrder C base.transaction h t xs
+        → MayTakeBack C (joined log xs) s × IsCore C base (Abort t ∷ h) hidden (take_back C (joined log xs) s) (emptied (over C h) log t)
+    core_taken_back t xs live order =
+        let es : List (Entry C) = joined log xs in
+        let end = take_all C L (parent C h) (over C h) (laws C L base h sound) (owner C h) base.store t (standing C h) (lists C h) hidden log xs s
+        (record { below = order.below; before = order.before; others = λ y a out. ended_list y (λ below. out (order.all y a below)) }) (abort_first t) in
+        let after = core_aborted t (length es) (take_back C es s) end.0 live end.2 end.1 in
+        (end.3, subst (IsCore C base (Abort t ∷ h) hidden (take_back C es s)) (λ i x. after.2 x i) after.0)
 
     -- sweep: nothing happens
-    pub core_swept : (more : C.File → Bool) (new : C.Store) → IsSweep C base h hidden more s new → IsCore C base h more new log
+    pub core_swept : (more : C.File → Bool) (new : C.Store) → IsSweep C base.stamp h hidden more s new → IsCore C base h more new log
     core_swept more new sweep = record {
       legal = core.legal;
       store = record {
@@ -238,7 +234,9 @@ module _ (C : Calls) (L : Lawful C) (base : Base C) (base_sound : C.IsSound base
       };
       listed = core.listed;
       inverses = core.inverses;
-      spared = λ c y i e. sweep.unlocked y c.accesses (record { call = c; granted = (stands C L base h sound c i).0; owner = e; accesses = refl });
+      spared = λ c y i e x k. by_test (C.touches c.accesses x)
+          (λ m. absurd (false≢true (sym (sweep.unlocked y x k) ∙ one_owns C h y (λ f. C.touches f x) (record { call = c; granted = (stands C L base h sound c i).0; owner = e; asker = refl; passes = m }))))
+          (λ m. m);
       old = sweep.old;
     }
       where
@@ -249,24 +247,19 @@ module _ (C : Calls) (L : Lawful C) (base : Base C) (base_sound : C.IsSound base
             (λ m. m)
 
     -- checkpoint: where no transaction is live, the lists are empty
-    pub core_checkpoint : ((t : ℕ) → IsLive C base h t → ⊥) → IsCheckpoint C base h s log
+    pub core_checkpoint : ((t : ℕ) → IsLive C base.transaction h t → ⊥) → IsCheckpoint C base h s log
     core_checkpoint none = record {
       sound = core_sound;
       core = record {
         legal = tt;
         store = record { others = λ x k. refl; gone = λ x k. absurd (false≢true (sym (none_hidden C (C.file_of x)) ∙ k)); unnamed = λ x i k. absurd (false≢true k) };
-        listed = λ t. core.listed t ∙ no_list t;
+        listed = λ t. core.listed t ∙ no_list C L base h sound t (none t);
         inverses = tt;
         spared = λ c y i e. absurd i;
         old = λ a next. refl;
       };
       fresh = λ fresh a next. core_ready a (let le = sound.stamped in fresh a (omega arith)) next;
     }
-      where
-        no_list : (t : ℕ) → lists C h t ≡ []
-        no_list t = by_list (lists C h t) (λ e. e) (λ c cs e.
-            let own = sound.runs.kept.owned t c (subst (In c) (sym e) (inl refl)) in
-            absurd (none t (owner_is_live C L base h sound c (stands C L base h sound c own.0).0 t own.1)))
 
   -- new: nothing is hidden, and the lists are empty
   pub core_new : IsCore C base [] (λ i. false) base.store (λ t. [])

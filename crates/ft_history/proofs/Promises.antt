@@ -1,6 +1,6 @@
 -- The promises, from what every history keeps.
-use Rattle.std.proofs.Common.{◌≡◌, ◌≢◌, ◌<◌, ◌≤◌, ◌+◌, ℕ, zero, suc, Bool, true, false, not, cond, ◌||◌, ◌&&◌, Option, List, [], ◌∷◌, ◌++◌, length, map, sym, refl, ap, ◌∙◌, subst, arith, eq-eqb, ne_eqb, append_assoc, append-nil}
-use Rattle.std.proofs.lemmas.Bool.{false≢true, and_parts}
+use Rattle.std.proofs.Common.{◌≡◌, ◌≢◌, ◌<◌, ◌≤◌, ◌+◌, ℕ, suc, Bool, true, false, not, cond, ◌||◌, ◌&&◌, Option, Some, List, [], ◌∷◌, ◌++◌, inl, length, sym, refl, ap, ◌∙◌, subst, arith, eq-eqb, ne_eqb, append_assoc, append-nil}
+use Rattle.std.proofs.lemmas.Bool.{false≢true}
 use Rattle.ft_laws.specs.Lists.{Each, In}
 use Rattle.ft_laws.specs.Calls.{Calls, Done}
 use Rattle.ft_laws.specs.Laws.{Lawful}
@@ -15,15 +15,16 @@ use Rattle.ft_history.specs.Undoing.Target.{Found}
 use Rattle.ft_history.specs.Legal.{Legal}
 use Rattle.ft_history.specs.Ledger.{lists}
 use Rattle.ft_history.specs.Orders.{IsInFront}
-use Rattle.ft_history.specs.Core.{machine, take_back}
-use Rattle.ft_history.specs.Promises.{entries_below, Headline, Ownership, LogOrder, AbortOrder, IsAsBefore, JustMade, AbortAlone, AbortCount, ExactLedger, BeginKeeps, AskKeeps, UndoKeeps, CommitKeeps, AbortKeeps, SweepKeeps, LiveOwners, CheckpointKeeps}
-use Rattle.ft_history.proofs.Words.{put_other, passing_agree, passing_front}
+use Rattle.ft_history.specs.Promises.{NewestFirst, Headline, Ownership, LogOrder, AbortOrder, IsAsBefore, JustMade, AbortAlone, AbortCount, ExactLedger, BeginKeeps, AskKeeps, UndoKeeps, CommitKeeps, AbortKeeps, SweepKeeps, LiveOwners, CheckpointKeeps}
+use Rattle.ft_history.proofs.Words.{put_other, by_list, passing_agree, passing_front}
 use Rattle.ft_history.proofs.Forest.{above_grown}
-use Rattle.ft_history.proofs.Aborting.{stays, take_all}
-use Rattle.ft_history.proofs.History.{owner, laws, stands, owner_is_live, abort_standing, abort_under}
+use Rattle.ft_history.proofs.Owning.{owns_one}
+use Rattle.ft_history.proofs.Aborting.{stays, runs_dropped}
+use Rattle.ft_history.proofs.History.{owner, laws, list_live, lists_order, newest_order, asker_there, owner_is_live, owner_over, live_owner, abort_standing, abort_under}
 use Rattle.ft_history.proofs.Legal.{sound_all}
-use Rattle.ft_history.proofs.Methods.{core_begun, core_asked, core_undone, core_committed, core_swept, core_checkpoint, core_taken_back, core_aborted, abort_first}
-use Rattle.ft_history.proofs.Machine.{machine_core, machine_same}
+use Rattle.ft_history.proofs.Methods.{core_begun, core_asked, core_undone, core_committed, core_swept, core_checkpoint, core_taken_back}
+use Rattle.ft_history.proofs.Machine.{machine_same}
+use Rattle.ft_history.proofs.Living.{lived}
 
 module _ (C : Calls) (L : Lawful C) where
   pub headline : Headline C
@@ -38,30 +39,46 @@ module _ (C : Calls) (L : Lawful C) where
   log_order base base_sound h legal = (sound_all C L base base_sound h legal).runs.kept.behind
 
   pub abort_order : AbortOrder C
-  abort_order base base_sound h hidden s log core t live = (core_taken_back C L base base_sound h hidden s log core t live).store
+  abort_order base base_sound h hidden s log core t xs live order = (core_taken_back C L base base_sound h hidden s log core t xs live order).1.store
 
   pub exact_ledger : ExactLedger C
   exact_ledger base base_sound h legal t =
-      let kept = (sound_all C L base base_sound h legal).runs.kept in
-      record { owned = kept.owned t; all = kept.logged t; once = Pairs-map (IsInFront C) (λ a b. number C a ≢ number C b) (λ a b f. f.0) (lists C h t) (kept.behind t) }
+      let sound = sound_all C L base base_sound h legal in
+      let kept = sound.runs.kept in
+      record {
+        owned = kept.owned t;
+        all = kept.logged t;
+        once = Pairs-map (IsInFront C) (λ a b. number C a ≢ number C b) (λ a b f. f.0) (lists C h t) (kept.behind t);
+        live = λ some. by_list (lists C h t) (λ e. absurd (some e)) (λ c cs e. list_live C L base h sound t c (subst (In c) (sym e) (inl refl)));
+      }
 
   pub begin_keeps : BeginKeeps C
   begin_keeps base base_sound h hidden s log core n p may = core_begun C L base base_sound h hidden s log core n p may
 
   pub abort_keeps : AbortKeeps C
-  abort_keeps base base_sound h hidden s log core t live = core_taken_back C L base base_sound h hidden s log core t live
+  abort_keeps base base_sound h hidden s log core t xs live order = core_taken_back C L base base_sound h hidden s log core t xs live order
+
+  pub newest_first : NewestFirst C
+  newest_first base base_sound h legal t = newest_order C L base h (sound_all C L base base_sound h legal) t
 
   pub ask_keeps : AskKeeps C
   ask_keeps base base_sound h hidden s log core c u made = core_asked C L base base_sound h hidden s log core c u made
 
   pub undo_keeps : UndoKeeps C
-  undo_keeps base base_sound h hidden s log core t d may = let after = core_undone C L base base_sound h hidden s log core t d may in (after.0, after.1, after.2, after.3)
+  undo_keeps base base_sound h hidden s log core t d may = let after = core_undone C L base base_sound h hidden s log core t d may in (after.0, after.1, after.2, after.3, after.4)
 
   pub commit_keeps : CommitKeeps C
   commit_keeps base base_sound h hidden s log core t may = core_committed C L base base_sound h hidden s log core t may
 
   pub live_owners : LiveOwners C
-  live_owners base base_sound h legal y f lock = owner_is_live C L base h (sound_all C L base base_sound h legal) lock.call lock.granted y lock.owner
+  live_owners base base_sound h legal =
+      let sound = sound_all C L base base_sound h legal in
+      let above : (c : Done C) (y : ℕ) → In c (grants C h) → owner C h c ≡ Some y → IsLive C base.transaction h y × (over C h y c.asker ≡ true) = λ c y i e. (owner_is_live C L base h sound c i y e, owner_over C L base h sound c i y e) in
+      record {
+        above = above;
+        live = λ y test k. let one = owns_one C h y test k in (above one.call y one.granted one.owner).0;
+        itself = λ t live. live_owner C L base h sound t live;
+      }
 
   pub checkpoint_keeps : CheckpointKeeps C
   checkpoint_keeps base base_sound h hidden s log core none = core_checkpoint C L base base_sound h hidden s log core none
@@ -80,7 +97,7 @@ module _ (C : Calls) (L : Lawful C) where
       let next = legal.0.next in
       passing_refused (is_standing C (Undo k ∷ Call c ∷ h)) (grants C h) c (ap (λ b. not (b || is_undone C h k) && not (is_gone C h c.asker)) (eq-eqb k k refl))
       ∙ passing_agree (is_standing C (Undo k ∷ Call c ∷ h)) (is_standing C h) (grants C h)
-      (Each-map (λ d. number C d ≤ last_stamp C base h) (λ d. is_standing C (Undo k ∷ Call c ∷ h) d ≡ is_standing C h d)
+      (Each-map (λ d. number C d ≤ last_stamp C base.stamp h) (λ d. is_standing C (Undo k ∷ Call c ∷ h) d ≡ is_standing C h d)
       (λ d le. ap (λ b. not (b || is_undone C h (number C d)) && not (is_gone C h d.asker)) (ne_eqb (number C d) k (λ e. absurd (omega arith)))) (grants C h) before.stamps)
 
   -- where the same calls stand, the machine's store is the same
@@ -94,9 +111,9 @@ module _ (C : Calls) (L : Lawful C) where
   just_made base base_sound h c legal none =
       let sound = sound_all C L base base_sound h legal.1 in
       let own : is_own C (Call c ∷ h) c.asker c ≡ true =
-      ap (λ b. b && is_standing C h c) (eq-eqb c.asker c.asker refl) ∙ ap (λ b. not b && not (is_gone C h c.asker)) (sound.undone_old (number C c) legal.0.next) ∙ ap not legal.0.live.there in
-      let may : MayUndo C base (Call c ∷ h) c.asker c = record {
-        live = record { since = legal.0.live.since; begun = legal.0.live.begun; uncommitted = legal.0.live.uncommitted; there = legal.0.live.there };
+      ap (λ b. b && is_standing C h c) (eq-eqb c.asker c.asker refl) ∙ ap (λ b. not b && not (is_gone C h c.asker)) (sound.undone_old (number C c) legal.0.next) ∙ ap not (lived C base.transaction h c.asker legal.0.live).there in
+      let may : MayUndo C base.transaction (Call c ∷ h) c.asker c = record {
+        live = legal.0.live;
         no_child = none;
         target = ap (λ b. cond b (Found c) (find_back C (Call c ∷ h) c.asker h)) own;
       } in
@@ -115,43 +132,21 @@ module _ (C : Calls) (L : Lawful C) where
       let one = ap (λ b. length (cond (not b) (x ∷ passing (λ y. not (p y)) xs) (passing (λ y. not (p y)) xs))) k in
       let two = ap (λ b. length (cond b (x ∷ passing p xs) (passing p xs))) k in omega arith)
 
-  entries_same : {A B : Type 0} (above : ℕ → ℕ → Bool) (t : ℕ) (f : ℕ → List A) (g : ℕ → List B) → ((k : ℕ) → length (f k) ≡ length (g k)) → (n : ℕ) → entries_below above t f n ≡ entries_below above t g n
-  entries_same above t f g same zero = refl
-  entries_same above t f g same (suc n) = ap (λ m. cond (above t n) m 0 + entries_below above t f n) (same n) ∙ ap (λ m. cond (above t n) (length (g n)) 0 + m) (entries_same above t f g same n)
-
-  length_map : {A B : Type 0} (f : A → B) (xs : List A) → length (map f xs) ≡ length xs
-  length_map f [] = refl
-  length_map f (x ∷ xs) = ap suc (length_map f xs)
-
-  pub abort_left : (base : Base C) → C.IsSound base.store → (h : List (Event C)) → Legal C base h → (t : ℕ) → IsLive C base h t → standing C (Abort t ∷ h) ≡ passing (λ c. not (over C h t c.asker)) (standing C h)
+  pub abort_left : (base : Base C) → C.IsSound base.store → (h : List (Event C)) → Legal C base h → (t : ℕ) → IsLive C base.transaction h t → standing C (Abort t ∷ h) ≡ passing (λ c. not (over C h t c.asker)) (standing C h)
   abort_left base base_sound h legal t live =
       let sound = sound_all C L base base_sound h legal in
       abort_standing C L base h sound t live
       ∙ passing_agree (stays (over C h) (owner C h) t) (λ c. not (over C h t c.asker)) (standing C h)
       (Each-from (λ c. stays (over C h) (owner C h) t c ≡ not (over C h t c.asker)) (standing C h)
-      (λ c i. ap not (abort_under C L base h sound t live c.asker (there c (stands C L base h sound c i).1))))
-    where
-      negated : (b : Bool) → not b ≡ true → b ≡ false
-      negated true k = absurd (false≢true k)
-      negated false k = refl
-
-      there : (c : Done C) → is_standing C h c ≡ true → is_gone C h c.asker ≡ false
-      there c k = negated (is_gone C h c.asker) (and_parts (not (is_undone C h (number C c))) (not (is_gone C h c.asker)) k).1
+      (λ c i. ap not (abort_under C L base h sound t live c.asker (asker_there C L base h sound c i))))
 
   pub abort_count : AbortCount C
-  abort_count base base_sound h legal t live =
-      let m = machine C base h in
-      let core = machine_core C L base base_sound h legal in
-      let last = suc (last_transaction C base h) in
+  abort_count base base_sound h legal t xs live order =
       let sound = sound_all C L base base_sound h legal in
-      let end = take_all C L (parent C h) (over C h) (laws C L base h sound) (owner C h) base.store t (standing C h) (lists C h) (λ i. false) m.log last 0 m.store m.log (λ x lt. refl)
-      (abort_first C L base base_sound h (λ i. false) m.store m.log core t) in
-      let went = (core_aborted C L base base_sound h (λ i. false) m.store m.log core t end.0 (take_back C (over C h) t m.log last m.store) end.1 live end.2).1 in
+      let went = (runs_dropped C L (parent C h) (over C h) (laws C L base h sound) (owner C h) base.store t (standing C h) (lists C h) xs (lists_order C L base h sound t xs order) sound.runs).1 in
       let parts : length (passing (λ c. not (over C h t c.asker)) (standing C h)) + length (passing (λ c. over C h t c.asker) (standing C h)) ≡ length (standing C h) = partition (λ c. over C h t c.asker) (standing C h) in
+      let stays_is : length (passing (stays (over C h) (owner C h) t) (standing C h)) ≡ length (standing C (Abort t ∷ h)) = ap length (sym (abort_standing C L base h sound t live)) in
       let left : length (standing C (Abort t ∷ h)) ≡ length (passing (λ c. not (over C h t c.asker)) (standing C h)) = ap length (abort_left base base_sound h legal t live) in
-      let same : entries_below (over C h) t m.log last ≡ entries_below (over C h) t (lists C h) last =
-      entries_same (over C h) t m.log (lists C h) (λ k. sym (length_map (λ e. e.done) (m.log k)) ∙ ap length (core.listed k)) last in
-      let count : end.0 ≡ entries_below (over C h) t m.log last + 0 = end.3 in
       record { calls = omega arith; entries = omega arith }
 
 -- A transaction that ran alone.
@@ -160,7 +155,7 @@ module _ (C : Calls) (base : Base C) (h : List (Event C)) (t : ℕ) (p : Option 
   legal_back [] l = l
   legal_back (e ∷ g) l = legal_back g l.1
 
-  last_grows : (g : List (Event C)) → Legal C base (g ++ (Begin t p ∷ h)) → t ≤ last_transaction C base (g ++ (Begin t p ∷ h))
+  last_grows : (g : List (Event C)) → Legal C base (g ++ (Begin t p ∷ h)) → t ≤ last_transaction C base.transaction (g ++ (Begin t p ∷ h))
   last_grows [] l = omega arith
   last_grows (Begin n q ∷ g) l = let le = last_grows g l.1 in let next = l.0.next in omega arith
   last_grows (Call c ∷ g) l = last_grows g l.1
@@ -214,13 +209,13 @@ module _ (C : Calls) (L : Lawful C) where
       let begun = legal_back C base h t p all g legal.1 in
       let old = sound_all C L base base_sound h begun.1 in
       let new = sound_all C L base base_sound all legal.1 in
-      let next : t ≡ suc (last_transaction C base h) = begun.0.next in
+      let next : t ≡ suc (last_transaction C base.transaction h) = begun.0.next in
       let forest = laws C L base all new in
       let split = own_grants C base h t p all g own in
       let test = is_standing C (Abort t ∷ all) in
       -- what t is not above, since it is older
       let outside : (y : ℕ) → y < t → over C all t y ≡ false = λ y lt. by_test (over C all t y) (λ k. let le = forest.falls t y k in absurd (omega arith)) (λ k. k) in
-      let same : (c : Done C) → c.asker ≤ last_transaction C base h → In c (grants C all) → test c ≡ is_standing C h c = λ c le i.
+      let same : (c : Done C) → c.asker ≤ last_transaction C base.transaction h → In c (grants C all) → test c ≡ is_standing C h c = λ c le i.
       let lt : c.asker < t = omega arith in
       let gone : is_gone C all c.asker ≡ is_gone C h c.asker =
       not_aborted C base h t p all (λ u. over C all u c.asker) (λ u a. by_test (over C all u c.asker) (λ k. let one = forest.falls t u a in let two = forest.falls u c.asker k in absurd (omega arith)) (λ k. k)) g own
@@ -231,7 +226,7 @@ module _ (C : Calls) (L : Lawful C) where
       ap (passing test) split.1
       ∙ passing_front test (grants C h) split.0 (Each-map (λ c. over C all t c.asker ≡ true) (λ c. test c ≡ false) (λ c a. ap (λ b. not (is_undone C all (number C c)) && not (b || is_gone C all c.asker)) a ∙ none (is_undone C all (number C c))) split.0 split.2)
       ∙ passing_agree test (is_standing C h) (grants C h) (Each-from (λ c. test c ≡ is_standing C h c) (grants C h) (λ c i.
-      same c (Each-at (λ d. d.asker ≤ last_transaction C base h) (grants C h) c old.askers i) (subst (In c) (sym split.1) (In-front c (grants C h) split.0 i))))
+      same c (Each-at (λ d. d.asker ≤ last_transaction C base.transaction h) (grants C h) c old.askers i) (subst (In c) (sym split.1) (In-front c (grants C h) split.0 i))))
     where
       none : (u : Bool) → (not u && not true) ≡ false
       none true = refl
@@ -241,7 +236,7 @@ module _ (C : Calls) (L : Lawful C) where
   abort_alone base base_sound h legal t before alone =
       let split = alone.split in
       let legal_split : Legal C base (alone.later ++ Begin t alone.up ∷ before) = subst (Legal C base) split legal in
-      let live_split : IsLive C base (alone.later ++ Begin t alone.up ∷ before) t = subst (λ all. IsLive C base all t) split alone.live in
+      let live_split : IsLive C base.transaction (alone.later ++ Begin t alone.up ∷ before) t = subst (λ all. IsLive C base.transaction all t) split alone.live in
       let within : Each (IsWithin C (alone.later ++ Begin t alone.up ∷ before) t) alone.later = subst (λ all. Each (IsWithin C all t) alone.later) split alone.within in
       let begun = legal_back C base before t alone.up h alone.later legal_split in
       subst (λ all. IsAsBefore C base (Abort t ∷ all) before) (sym split)

@@ -12,11 +12,12 @@ use Rattle.ft_history.specs.History.{Base, Event, number, last_transaction, pare
 use Rattle.ft_history.specs.History.Event.{Begin, Call, Undo, Commit, Abort}
 use Rattle.ft_history.specs.Legal.{MayGrant, Legal}
 use Rattle.ft_history.specs.Serial.{place, root_of, committed_roots, IsSerialPair}
-use Rattle.ft_history.proofs.Words.{put_other, by_number, none_some, passing_twice, Each-passing}
+use Rattle.ft_history.proofs.Words.{put_other, by_number, none_some, passing_twice, Pairs-passing}
 use Rattle.ft_history.proofs.Forest.{climb, above_root, above_child, nearest_root, nearest_child}
 use Rattle.ft_history.proofs.Aborting.{stays}
-use Rattle.ft_history.proofs.History.{Sound, owner, stands, asker_known, owner_there, owner_live, begin_forest, begin_standing, unblocked_over, call_standing, abort_standing}
+use Rattle.ft_history.proofs.History.{Sound, owner, asker_there, stands, asker_known, owner_there, owner_live, begin_forest, begin_standing, unblocked_over, call_standing, abort_standing}
 use Rattle.ft_history.proofs.Legal.{sound_all}
+use Rattle.ft_history.proofs.Living.{lived}
 
 -- Roots.
 module _ (up : ℕ → Option ℕ) (lower : IsForest up) where
@@ -145,34 +146,28 @@ module _ (C : Calls) where
       test false false true = refl
       test false false false = refl
 
-  Pairs-less : (R : Done C → Done C → Type 0) (p : Done C → Bool) (cs : List (Done C)) → Pairs R cs → Pairs R (passing p cs)
-  Pairs-less R p [] h = tt
-  Pairs-less R p (c ∷ cs) h = by_test (p c)
-      (λ e. subst (Pairs R) (sym (ap (λ b. cond b (c ∷ passing p cs) (passing p cs)) e)) (Each-passing (R c) p cs h.0, Pairs-less R p cs h.1))
-      (λ e. subst (Pairs R) (sym (ap (λ b. cond b (c ∷ passing p cs) (passing p cs)) e)) (Pairs-less R p cs h.1))
-
 module _ (C : Calls) (L : Lawful C) (base : Base C) (base_sound : C.IsSound base.store) where
   -- the root of a live transaction is live, so it isn't committed
-  pub live_root : (h : List (Event C)) → Sound C L base h → (t : ℕ) → IsLive C base h t → is_committed C h (root (parent C h) t) ≡ false
-  live_root h sound = climb (parent C h) sound.forest (λ t. IsLive C base h t → is_committed C h (root (parent C h) t) ≡ false)
-      (λ t e live. ap (is_committed C h) (root_top (parent C h) sound.forest t e) ∙ live.uncommitted)
+  pub live_root : (h : List (Event C)) → Sound C L base h → (t : ℕ) → IsLive C base.transaction h t → is_committed C h (root (parent C h) t) ≡ false
+  live_root h sound = climb (parent C h) sound.forest (λ t. IsLive C base.transaction h t → is_committed C h (root (parent C h) t) ≡ false)
+      (λ t e live. ap (is_committed C h) (root_top (parent C h) sound.forest t e) ∙ (lived C base.transaction h t live).uncommitted)
       (λ t p e ih live. ap (is_committed C h) (root_child (parent C h) sound.forest t p e) ∙ ih (sound.live_up t p live e))
 
   -- a committed top-level transaction is listed
-  committed_listed : (h : List (Event C)) → Legal C base h → (r : ℕ) → r ≤ last_transaction C base h → parent C h r ≡ None → is_committed C h r ≡ true → In r (committed_roots C h)
+  committed_listed : (h : List (Event C)) → Legal C base h → (r : ℕ) → r ≤ last_transaction C base.transaction h → parent C h r ≡ None → is_committed C h r ≡ true → In r (committed_roots C h)
   committed_listed [] legal r le top k = absurd (false≢true k)
   committed_listed (Begin n p ∷ h) legal r le top k = by_number r n
       (λ e. absurd (false≢true (sym (new_open h legal.1 r (let next = legal.0.next in omega arith)) ∙ k)))
       (λ e. let next = legal.0.next in committed_listed h legal.1 r (omega arith) (sym (put_other (parent C h) n p r e) ∙ top) k)
     where
       -- what isn't begun isn't committed
-      new_open : (g : List (Event C)) → Legal C base g → (x : ℕ) → last_transaction C base g < x → is_committed C g x ≡ false
+      new_open : (g : List (Event C)) → Legal C base g → (x : ℕ) → last_transaction C base.transaction g < x → is_committed C g x ≡ false
       new_open [] l x lt = refl
       new_open (Begin n p ∷ g) l x lt = let next = l.0.next in new_open g l.1 x (omega arith)
       new_open (Call c ∷ g) l x lt = new_open g l.1 x lt
       new_open (Undo k ∷ g) l x lt = new_open g l.1 x lt
       new_open (Abort t ∷ g) l x lt = new_open g l.1 x lt
-      new_open (Commit t ∷ g) l x lt = let live = l.0.live.begun in or_from (x == t) (is_committed C g x) (ne_eqb x t (λ e. absurd (omega arith))) (new_open g l.1 x lt)
+      new_open (Commit t ∷ g) l x lt = let le = (lived C base.transaction g t l.0.live).begun in or_from (x == t) (is_committed C g x) (ne_eqb x t (λ e. absurd (omega arith))) (new_open g l.1 x lt)
   committed_listed (Call c ∷ h) legal r le top k = committed_listed h legal.1 r le top k
   committed_listed (Undo j ∷ h) legal r le top k = committed_listed h legal.1 r le top k
   committed_listed (Abort t ∷ h) legal r le top k = committed_listed h legal.1 r le top k
@@ -193,15 +188,15 @@ module _ (C : Calls) (L : Lawful C) (base : Base C) (base_sound : C.IsSound base
       let rc = root_of C h c in
       by_option (owner_of C h b.asker)
       (λ e.
-      let committed : is_committed C h rb ≡ true = nearest_none (parent C h) sound.forest (is_committed C h) b.asker (sym (owner_there C L base h sound b.asker (standing_there b there.1)) ∙ e) in
-      let known : b.asker ≤ last_transaction C base h = asker_known C L base h sound b i in
+      let committed : is_committed C h rb ≡ true = nearest_none (parent C h) sound.forest (is_committed C h) b.asker (sym (owner_there C L base h sound b.asker (asker_there C L base h sound b i)) ∙ e) in
+      let known : b.asker ≤ last_transaction C base.transaction h = asker_known C L base h sound b i in
       let falls : rb ≤ b.asker = root_falls (parent C h) sound.forest b.asker in
       let open_root : is_committed C h rc ≡ false = live_root h sound c.asker may.live in
       let first = place_in (committed_roots C h) rb (committed_listed h legal rb (omega arith) (root_is_top (parent C h) sound.forest b.asker) committed) in
       let second : place (committed_roots C h) rc ≡ length (committed_roots C h) = place_out (committed_roots C h) rc (λ j. false≢true (sym open_root ∙ roots_committed C h rc j)) in
       inr (omega arith))
       (λ y e.
-      let above_c : over C h y c.asker ≡ true = unblocked_over C L base h sound c may y b.accesses (record { call = b; granted = there.0; owner = e; accesses = refl }) k in
+      let above_c : over C h y c.asker ≡ true = unblocked_over C L base h sound c may b there.0 y e k in
       let above_b : over C h y b.asker ≡ true = (owner_live C L base h sound b.asker y (asker_known C L base h sound b i) e).0 in
       inl (sym (root_above (parent C h) sound.forest y b.asker above_b) ∙ root_above (parent C h) sound.forest y c.asker above_c))
     where
@@ -212,14 +207,6 @@ module _ (C : Calls) (L : Lawful C) (base : Base C) (base_sound : C.IsSound base
       root_falls up lower = climb up lower (λ x. root up x ≤ x)
           (λ x e. let same = root_top up lower x e in omega arith)
           (λ x p e ih. let same = root_child up lower x p e in let lt = lower x p e in omega arith)
-
-      standing_there : (d : Done C) → is_standing C h d ≡ true → is_gone C h d.asker ≡ false
-      standing_there d s = both (is_undone C h (number C d)) (is_gone C h d.asker) s
-        where
-          both : (u g : Bool) → (not u && not g) ≡ true → g ≡ false
-          both u false s = refl
-          both true true s = absurd (false≢true s)
-          both false true s = absurd (false≢true s)
 
   pub serial_order_of : (h : List (Event C)) → Legal C base h → Pairs (IsSerialPair C h) (standing C h)
   serial_order_of [] legal = tt
@@ -240,7 +227,7 @@ module _ (C : Calls) (L : Lawful C) (base : Base C) (base_sound : C.IsSound base
       let sound = sound_all C L base base_sound h legal.1 in
       subst (Pairs (IsSerialPair C h)) (sym (call_standing C L base h sound c legal.0))
       (Pairs-push (IsSerialPair C h) (standing C h) c (serial_order_of h legal.1) (Each-from (λ b. IsSerialPair C h b c) (standing C h) (call_pair h legal.1 c legal.0)))
-  serial_order_of (Undo k ∷ h) legal = subst (Pairs (IsSerialPair C h)) (less_standing C k h) (Pairs-less C (IsSerialPair C h) (λ c. not (number C c == k)) (standing C h) (serial_order_of h legal.1))
+  serial_order_of (Undo k ∷ h) legal = subst (Pairs (IsSerialPair C h)) (less_standing C k h) (Pairs-passing (IsSerialPair C h) (λ c. not (number C c == k)) (standing C h) (serial_order_of h legal.1))
   serial_order_of (Commit t ∷ h) legal =
       Pairs-map (IsSerialPair C h) (IsSerialPair C (Commit t ∷ h)) (λ b a r k. elim (r k) [ inl e ↦ inl e | inr lt ↦ inr (more (is_some (parent C h t)) (root_of C h b) (root_of C h a) lt) ]) (standing C h) (serial_order_of h legal.1)
     where
@@ -250,4 +237,4 @@ module _ (C : Calls) (L : Lawful C) (base : Base C) (base_sound : C.IsSound base
       more false x y lt = place_push (committed_roots C h) t x y lt
   serial_order_of (Abort t ∷ h) legal =
       let sound = sound_all C L base base_sound h legal.1 in
-      subst (Pairs (IsSerialPair C h)) (sym (abort_standing C L base h sound t legal.0)) (Pairs-less C (IsSerialPair C h) (stays (over C h) (owner C h) t) (standing C h) (serial_order_of h legal.1))
+      subst (Pairs (IsSerialPair C h)) (sym (abort_standing C L base h sound t legal.0)) (Pairs-passing (IsSerialPair C h) (stays (over C h) (owner C h) t) (standing C h) (serial_order_of h legal.1))

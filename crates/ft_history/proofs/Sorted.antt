@@ -1,22 +1,23 @@
 -- The calls by rising ranks are those of each rank, one rank behind another; so the serial list is the standing calls by the places of their roots.
-use Rattle.std.proofs.Common.{◌≡◌, ◌≢◌, ◌<◌, ◌≤◌, ◌+◌, ℕ, zero, suc, true, false, not, cond, is_some, List, [], ◌∷◌, ◌++◌, inl, inr, length, sym, refl, ap, ◌∙◌, subst, arith, ◌==◌, eq-eqb, ne_eqb, append-nil, append_assoc}
+use Rattle.std.proofs.Common.{◌≡◌, ◌≢◌, ◌<◌, ◌≤◌, ◌+◌, ℕ, zero, suc, true, false, not, cond, is_some, List, [], ◌∷◌, ◌++◌, ◌⊎◌, nat_lt, inl, inr, length, sym, refl, ap, ◌∙◌, subst, arith, ◌==◌, eq-eqb, ne_eqb, append-nil, append_assoc}
 use Rattle.std.proofs.lemmas.Bool.{false≢true, or_left, or_right, or_from, le-ltb, lt-ltb}
 use Rattle.ft_laws.specs.Lists.{Each, Pairs, In, any}
 use Rattle.ft_laws.specs.Calls.{Calls, Same, Done, Fits}
 use Rattle.ft_laws.specs.Laws.{Lawful}
-use Rattle.ft_laws.specs.Runs.{run, Faithful, insert_by, sort_by, Respects}
-use Rattle.ft_laws.proofs.Lists.{Each-append, Each-map, Each-at, Each-from, Pairs-map, Pairs-append, Pairs-before}
+use Rattle.ft_laws.specs.Runs.{run, Faithful, Able, insert_by, sort_by, Respects}
+use Rattle.ft_laws.proofs.Lists.{Each-append, Each-front, Each-map, Each-at, Each-from, Pairs-map, Pairs-append, Pairs-before}
 use Rattle.ft_laws.proofs.Tests.{by_test}
 use Rattle.ft_laws.proofs.Running.{along_front}
-use Rattle.ft_laws.proofs.Exchanging.{may_be_sorted}
-use Rattle.ft_history.specs.Logs.{passing}
+use Rattle.ft_laws.proofs.Exchanging.{may_be_sorted, each_sort, able_sort}
+use Rattle.ft_history.specs.Logs.{passing, joined}
 use Rattle.ft_history.specs.History.{Base, Event, parent, is_committed, standing}
 use Rattle.ft_history.specs.History.Event.{Begin, Call, Undo, Commit, Abort}
 use Rattle.ft_history.specs.Legal.{outcome, Legal}
-use Rattle.ft_history.specs.Serial.{joined, place, root_of, committed_roots, committed_part, open_part, serial_list, IsSerialPair, SerialOrder, Serial}
-use Rattle.ft_history.proofs.Words.{by_number, passing_agree}
+use Rattle.ft_history.specs.Serial.{place, root_of, committed_roots, committed_part, open_part, serial_list, IsSerialPair, SerialOrder, Serial}
+use Rattle.ft_history.proofs.Words.{by_number, passing_agree, Pairs-front}
 use Rattle.ft_history.proofs.Legal.{sound_all}
 use Rattle.ft_history.proofs.Serial.{place_within, place_in, place_back, place_front, by_in, roots_committed, serial_order_of}
+use Rattle.ft_history.proofs.Living.{lived}
 
 module _ (C : Calls) (rank : Done C → ℕ) where
   abbrev of_rank : ℕ → List (Done C) → List (Done C)
@@ -73,6 +74,25 @@ module _ (C : Calls) (rank : Done C → ℕ) where
   sorted_groups : (n : ℕ) (cs : List (Done C)) → Each (λ c. rank c < n) cs → sort_by C rank cs ≡ groups 0 n cs
   sorted_groups n [] h = sym (groups_none n 0)
   sorted_groups n (c ∷ cs) h = ap (insert_by C rank c) (sorted_groups n cs h.1) ∙ insert_groups n 0 c cs (omega arith) (let lt = h.0 in omega arith)
+
+module _ (C : Calls) (rank : Done C → ℕ) where
+  In-insert : (x c : Done C) (ds : List (Done C)) → (x ≡ c) ⊎ In x ds → In x (insert_by C rank c ds)
+  In-insert x c [] i = i
+  In-insert x c (d ∷ ds) i = by_test (nat_lt (rank d) (rank c))
+      (λ k. subst (λ b. In x (cond b (d ∷ insert_by C rank c ds) (c ∷ d ∷ ds))) (sym k) (elim i [
+        | inl e ↦ inr (In-insert x c ds (inl e))
+        | inr j ↦ elim (cased j) [ inl e ↦ inl e | inr m ↦ inr (In-insert x c ds (inr m)) ]
+      ]))
+      (λ k. subst (λ b. In x (cond b (d ∷ insert_by C rank c ds) (c ∷ d ∷ ds))) (sym k) i)
+    where
+      cased : In x (d ∷ ds) → (x ≡ d) ⊎ In x ds
+      cased j = j
+
+  -- a call stands among the same calls sorted
+  In-sort : (x : Done C) (cs : List (Done C)) → In x cs → In x (sort_by C rank cs)
+  In-sort x [] i = i
+  In-sort x (c ∷ cs) (inl e) = In-insert x c (sort_by C rank cs) (inl e)
+  In-sort x (c ∷ cs) (inr i) = In-insert x c (sort_by C rank cs) (inr (In-sort x cs i))
 
 any_in : (x : ℕ) (rs : List ℕ) → In x rs → any (λ r. x == r) rs ≡ true
 any_in x [] i = absurd i
@@ -151,7 +171,7 @@ module _ (C : Calls) (L : Lawful C) where
       (λ k. subst (λ b. Pairs (λ x y. x ≢ y) (cond b (committed_roots C h) (committed_roots C h ++ t ∷ []))) (sym k) old)
       (λ k. subst (λ b. Pairs (λ x y. x ≢ y) (cond b (committed_roots C h) (committed_roots C h ++ t ∷ []))) (sym k)
       (Pairs-append (λ x y. x ≢ y) (committed_roots C h) (t ∷ []) old (tt, tt) (λ x y i j e. elim j [
-        | inl is ↦ false≢true (sym legal.0.live.uncommitted ∙ ap (is_committed C h) (sym (e ∙ is)) ∙ roots_committed C h x i)
+        | inl is ↦ false≢true (sym (lived C base.transaction h t legal.0.live).uncommitted ∙ ap (is_committed C h) (sym (e ∙ is)) ∙ roots_committed C h x i)
         | inr none ↦ absurd none
       ])))
 
@@ -172,8 +192,20 @@ module _ (C : Calls) (L : Lawful C) where
       ]) cs (serial_order base base_sound h legal) in
       let sorted = may_be_sorted C L rank base.store cs sound.runs.able sound.runs.faithful respects in
       let replies = subst (Faithful C base.store) same sorted.0 in
+      let able = subst (Able C base.store) same (able_sort C L rank base.store cs sound.runs.able) in
       record {
+        all = λ c. (
+          λ i. Each-at (λ d. In d cs) (sort_by C rank cs) c (each_sort C L rank (λ d. In d cs) cs (Each-from (λ d. In d cs) cs (λ d j. j))) (subst (In c) (sym same) i),
+          λ i. subst (In c) same (In-sort C rank c cs i),
+        );
+        made = record { able = able; replies = replies };
         store = subst (λ ds. Same C (outcome C base h) (run C base.store ds)) same sorted.1;
-        replies = replies;
-        committed = along_front C (Fits C) base.store (committed_part C h) (open_part C h) replies;
+        committed = record {
+          able = record {
+            sound = able.sound;
+            ready = Each-front (λ c. C.IsReady c.call base.store) (committed_part C h) (open_part C h) able.ready;
+            distinct = Pairs-front (λ a b. C.stamp a.call ≢ C.stamp b.call) (committed_part C h) (open_part C h) able.distinct;
+          };
+          replies = along_front C (Fits C) base.store (committed_part C h) (open_part C h) replies;
+        };
       }

@@ -1,5 +1,5 @@
 -- What lacks a part of a rule, or turns it, is false of the tiny tree.
-use Rattle.std.proofs.Common.{◌≡◌, ◌<◌, ◌≤◌, ℕ, Bool, true, false, cond, ◌==◌, ◌&&◌, Option, Some, None, [], ◌∷◌, inl, inr, sym, refl, ap, ◌∙◌, subst, arith}
+use Rattle.std.proofs.Common.{◌≡◌, ◌<◌, ◌≤◌, ℕ, Bool, true, false, cond, ◌==◌, ◌&&◌, Option, Some, None, [], ◌∷◌, inl, inr, sym, refl, ap, ◌∙◌, subst, arith, eqb-true}
 use Rattle.std.proofs.lemmas.Bool.{false≢true}
 use Rattle.ft_laws.specs.Lists.{In}
 use Rattle.ft_laws.specs.Calls.{Done, Fits}
@@ -9,14 +9,15 @@ use Rattle.ft_laws.specs.Tiny.Node.{FileNode}
 use Rattle.ft_laws.specs.Tiny.What.{Mkdir, Create, Unlink, Stat}
 use Rattle.ft_laws.specs.Tiny.Cell.{Entry, Parent, Links, Bytes}
 use Rattle.ft_laws.proofs.Tiny.{empty_sound, empty_ready}
-use Rattle.ft_history.specs.History.{parent, over, IsLive, owner_of, is_committed}
+use Rattle.ft_history.specs.History.{over, IsLive, owner_of}
 use Rattle.ft_history.specs.History.Event.{Begin, Call, Commit, Abort}
 use Rattle.ft_history.specs.Legal.{Legal}
-use Rattle.ft_history.specs.Core.{machine}
-use Rattle.ft_history.specs.Example.{Events, start, asked, begun, with_directory}
-use Rattle.ft_history.specs.Without.{WeakOwnership, AbortOldestFirst, AbortRising, AbortOwnAlone, AbortLeavesDescendants, CommitInFront, LooselyLegal, LocksLetGo, SerialReversed, SweepLocked, UndoOverChild, UndoPastCommit}
-use Rattle.ft_history.proofs.Words.{put_same, put_other, by_number, same_some, none_some}
-use Rattle.ft_history.proofs.Example.{clear_way, is_live, is_granted, no_live_child, directory_legal}
+use Rattle.ft_history.specs.Core.{Entry as Taken, machine}
+use Rattle.ft_history.specs.Example.{Events, start, asked, with_directory}
+use Rattle.ft_history.specs.Without.{WeakOwnership, AbortOldestFirst, AbortRising, AbortOwnAlone, AbortLeavesDescendants, CommitInFront, LooselyLegal, LocksLetGo, RevertOverChild, SerialReversed, SweepLocked, UndoOverChild, UndoPastCommit}
+use Rattle.ft_history.proofs.Owning.{owned}
+use Rattle.ft_history.proofs.Words.{same_some, none_some}
+use Rattle.ft_history.proofs.Example.{is_granted, directory_legal}
 
 missing_not : Reply.NoEntry ≡ Reply.Success → ⊥
 missing_not e = cc
@@ -59,7 +60,7 @@ alone_legal : Legal tiny_calls start alone
 alone_legal = (record { next = refl; live = λ q e. absurd (none_some q e) }, tt)
 
 made_legal : Legal tiny_calls start file_made
-made_legal = (is_granted alone 1 2 (Create None 0) (is_live alone 1 (omega arith) (omega arith) refl refl) (omega arith) (omega arith) (omega arith) (clear_way tiny_calls alone (asked alone 1 2 (Create None 0)) tt), alone_legal)
+made_legal = (is_granted alone 1 2 (Create None 0) refl (omega arith) (omega arith) (omega arith) refl, alone_legal)
 
 -- 1's own lock isn't in its way
 own_way : (h : Events) (y : ℕ) → Some 1 ≡ Some y → over tiny_calls h 1 1 ≡ true → over tiny_calls h y 1 ≡ true
@@ -67,8 +68,7 @@ own_way h y e k = subst (λ z. over tiny_calls h z 1 ≡ true) (same_some 1 y e)
 
 gone_legal : Legal tiny_calls start file_gone
 gone_legal = (
-  is_granted file_made 1 3 (Unlink None 0) (is_live file_made 1 (omega arith) (omega arith) refl refl) (omega arith) (omega arith) tt
-      (clear_way tiny_calls file_made (asked file_made 1 3 (Unlink None 0)) (inr (λ y e. own_way file_made y e refl), tt)),
+  is_granted file_made 1 3 (Unlink None 0) refl (omega arith) (omega arith) tt refl,
   made_legal,
 )
 
@@ -76,7 +76,7 @@ entry_not : {A : Type 0} {x : A} → None ≡ Some x → ⊥
 entry_not e = cc
 
 pub abort_oldest_first : AbortOldestFirst tiny_calls → ⊥
-abort_oldest_first h = entry_not (h start empty_sound file_gone gone_legal 1 (is_live file_gone 1 (omega arith) (omega arith) refl refl) (Entry 1 0))
+abort_oldest_first h = entry_not (h start empty_sound file_gone gone_legal 1 refl (Entry 1 0))
 
 -- 1 makes a file, and its child 2 takes it away.
 abbrev nested : Events
@@ -90,39 +90,31 @@ child_took = Call (asked parent_made 2 3 (Unlink None 0)) ∷ parent_made
 
 nested_legal : Legal tiny_calls start nested
 nested_legal = (
-  record { next = refl; live = λ q e. subst (IsLive tiny_calls start (Begin 1 None ∷ [])) (same_some 1 q e) (is_live (Begin 1 None ∷ []) 1 (omega arith) (omega arith) refl refl) },
+  record { next = refl; live = λ q e. subst (IsLive tiny_calls start.transaction (Begin 1 None ∷ [])) (same_some 1 q e) refl },
   alone_legal,
 )
 
 child_took_legal : Legal tiny_calls start child_took
 child_took_legal = (
-  is_granted parent_made 2 3 (Unlink None 0) (is_live parent_made 2 (omega arith) (omega arith) refl refl) (omega arith) (omega arith) tt
-      (clear_way tiny_calls parent_made (asked parent_made 2 3 (Unlink None 0)) (inr (λ y e. subst (λ z. over tiny_calls parent_made z 2 ≡ true) (same_some 1 y e) refl), tt)),
+  is_granted parent_made 2 3 (Unlink None 0) refl (omega arith) (omega arith) tt refl,
   (
-    is_granted nested 1 2 (Create None 0) (is_live nested 1 (omega arith) (omega arith) refl refl) (omega arith) (omega arith) (omega arith) (clear_way tiny_calls nested (asked nested 1 2 (Create None 0)) tt),
+    is_granted nested 1 2 (Create None 0) refl (omega arith) (omega arith) (omega arith) refl,
     nested_legal,
   ),
 )
 
--- in these histories 2 alone has a parent
-only_one : (x p : ℕ) → parent tiny_calls nested x ≡ Some p → p ≡ 1
-only_one x p e = by_number x 2
-    (λ k. same_some p 1 (sym e ∙ put_same (parent tiny_calls alone) 2 (Some 1) x k))
-    (λ k.
-    let one = sym (put_other (parent tiny_calls alone) 2 (Some 1) x k) ∙ e in
-    by_number x 1
-    (λ m. absurd (none_some p (sym (put_same (parent tiny_calls []) 1 None x m) ∙ one)))
-    (λ m. absurd (none_some p (sym (put_other (parent tiny_calls []) 1 None x m) ∙ one))))
-
-childless : (x : ℕ) → parent tiny_calls nested x ≡ Some 2 → ⊥
-childless x e = let wrong = only_one x 2 e in absurd (omega arith)
-
 pub abort_rising : AbortRising tiny_calls → ⊥
-abort_rising h = entry_not (h start empty_sound child_took child_took_legal 1 (is_live child_took 1 (omega arith) (omega arith) refl refl) (Entry 1 0))
+abort_rising h = entry_not (h start empty_sound child_took child_took_legal 1 refl (Entry 1 0))
+
+-- The entry of the file isn't as its call left it.
+pub revert_over_child : RevertOverChild tiny_calls → ⊥
+revert_over_child h =
+    let made : Taken tiny_calls = record { done = asked nested 1 2 (Create None 0); inverse = tiny_calls.inverse empty (asked nested 1 2 (Create None 0)).call } in
+    entry_not ((h start empty_sound child_took child_took_legal 1 made [] refl refl).0)
 
 pub commit_in_front : CommitInFront tiny_calls → ⊥
 commit_in_front h =
-    let front = h start empty_sound child_took child_took_legal 2 1 refl (record { live = is_live child_took 2 (omega arith) (omega arith) refl refl; no_child = λ x live e. childless x e }) in
+    let front = h start empty_sound child_took child_took_legal 2 1 refl (record { live = refl; no_child = refl }) in
     let wrong : 3 < 2 = front.0.0.1 refl in
     absurd (omega arith)
 
@@ -138,8 +130,7 @@ parent_made_legal = child_took_legal.1
 
 child_looked_legal : Legal tiny_calls start child_looked
 child_looked_legal = (
-  is_granted parent_made 2 3 (Stat None 0) (is_live parent_made 2 (omega arith) (omega arith) refl refl) (omega arith) (omega arith) tt
-      (clear_way tiny_calls parent_made seen_file (inr (λ y e. subst (λ z. over tiny_calls parent_made z 2 ≡ true) (same_some 1 y e) refl), tt)),
+  is_granted parent_made 2 3 (Stat None 0) refl (omega arith) (omega arith) tt refl,
   parent_made_legal,
 )
 
@@ -148,23 +139,13 @@ not_seen : Fits tiny_calls empty seen_file → ⊥
 not_seen fit = no_file 2 (Some 1) (Some 0) fit.reply
 
 pub undo_over_child : UndoOverChild tiny_calls → ⊥
-undo_over_child h = not_seen (h start empty_sound child_looked child_looked_legal 1 (asked nested 1 2 (Create None 0)) (is_live child_looked 1 (omega arith) (omega arith) refl refl) refl).0
+undo_over_child h = not_seen (h start empty_sound child_looked child_looked_legal 1 (asked nested 1 2 (Create None 0)) refl refl).0
 
 pub undo_past_commit : UndoPastCommit tiny_calls → ⊥
 undo_past_commit h = not_seen (h start empty_sound (Commit 2 ∷ child_looked)
-    (record { live = is_live child_looked 2 (omega arith) (omega arith) refl refl; no_child = λ x live e. childless x e }, child_looked_legal) 1 (asked nested 1 2 (Create None 0))
-    (is_live (Commit 2 ∷ child_looked) 1 (omega arith) (omega arith) refl refl) (λ x live e. ended x live (child_of_one x e)) (inl refl) refl own_older).0
+    (record { live = refl; no_child = refl }, child_looked_legal) 1 (asked nested 1 2 (Create None 0))
+    refl refl (inl refl) refl own_older).0
   where
-    child_of_one : (x : ℕ) → parent tiny_calls nested x ≡ Some 1 → x ≡ 2
-    child_of_one x e = by_number x 2 (λ k. k) (λ k.
-        let one = sym (put_other (parent tiny_calls alone) 2 (Some 1) x k) ∙ e in
-        by_number x 1
-        (λ m. absurd (none_some 1 (sym (put_same (parent tiny_calls []) 1 None x m) ∙ one)))
-        (λ m. absurd (none_some 1 (sym (put_other (parent tiny_calls []) 1 None x m) ∙ one))))
-
-    ended : (x : ℕ) → IsLive tiny_calls start (Commit 2 ∷ child_looked) x → x ≡ 2 → ⊥
-    ended x live e = false≢true (sym live.uncommitted ∙ ap (is_committed tiny_calls (Commit 2 ∷ child_looked)) e)
-
     own_older : (c : Done tiny_calls) → In c (asked nested 1 2 (Create None 0) ∷ seen_file ∷ []) → c.asker ≡ 1 → c.call.stamp ≤ 2
     own_older c (inl e) own = let is = ap (λ d. d.call.stamp) e in omega arith
     own_older c (inr (inl e)) own = let is = ap (λ d. d.asker) e in absurd (omega arith)
@@ -175,16 +156,16 @@ abbrev child_made : Events
 child_made = Call (asked nested 2 2 (Mkdir None 0)) ∷ nested
 
 child_made_legal : Legal tiny_calls start child_made
-child_made_legal = (is_granted nested 2 2 (Mkdir None 0) (is_live nested 2 (omega arith) (omega arith) refl refl) (omega arith) (omega arith) (omega arith) (clear_way tiny_calls nested (asked nested 2 2 (Mkdir None 0)) tt), nested_legal)
+child_made_legal = (is_granted nested 2 2 (Mkdir None 0) refl (omega arith) (omega arith) (omega arith) refl, nested_legal)
 
 child_done_legal : Legal tiny_calls start (Commit 2 ∷ child_made)
-child_done_legal = (record { live = is_live child_made 2 (omega arith) (omega arith) refl refl; no_child = λ x live e. childless x e }, child_made_legal)
+child_done_legal = (record { live = refl; no_child = refl }, child_made_legal)
 
 pub abort_leaves_descendants : AbortLeavesDescendants tiny_calls → ⊥
-abort_leaves_descendants h = entry_not (h start empty_sound child_made child_made_legal 1 (is_live child_made 1 (omega arith) (omega arith) refl refl) (Entry 1 0))
+abort_leaves_descendants h = entry_not (h start empty_sound child_made child_made_legal 1 refl (Entry 1 0))
 
 pub abort_own_alone : AbortOwnAlone tiny_calls → ⊥
-abort_own_alone h = entry_not (h start empty_sound (Commit 2 ∷ child_made) child_done_legal 1 (is_live (Commit 2 ∷ child_made) 1 (omega arith) (omega arith) refl refl) (Entry 1 0))
+abort_own_alone h = entry_not (h start empty_sound (Commit 2 ∷ child_made) child_done_legal 1 refl (Entry 1 0))
 
 -- 2, a child of 1, makes a directory and commits, 3 makes a file in it, and 1 aborts.
 abbrev handed_up : Events
@@ -195,30 +176,32 @@ made_by_third = asked handed_up 3 3 (Create (Some 0) 2)
 
 loosely_made : LooselyLegal tiny_calls start (Abort 1 ∷ Call made_by_third ∷ handed_up)
 loosely_made = (
-  is_live (Call made_by_third ∷ handed_up) 1 (omega arith) (omega arith) refl refl,
+  refl,
   (
     record {
-      live = is_live handed_up 3 (omega arith) (omega arith) refl refl;
+      live = refl;
       next = omega arith;
       ready = empty_ready 3 (Create (Some 0) 2) (omega arith) (omega arith);
       fits = record { accesses = refl; reply = refl };
-      unblocked = λ y f lock held k. elim (lock.granted) [
-        | inl e ↦
-            let two : y ≡ 2 = sym held ∙ ap (λ c. c.asker) e in
-            let one : 1 ≡ y = same_some 1 y (sym (ap (λ c. owner_of tiny_calls handed_up c.asker) e) ∙ lock.owner) in
-            absurd (omega arith)
-        | inr none ↦ absurd none
-      ];
+      unblocked = λ y k.
+          let held = owned tiny_calls handed_up y (λ a. a == y) (λ f. tiny_calls.conflict f made_by_third.accesses) k in
+          elim (held.granted) [
+            | inl e ↦
+                let two : y ≡ 2 = sym (eqb-true held.call.asker y held.asker) ∙ ap (λ c. c.asker) e in
+                let one : 1 ≡ y = same_some 1 y (sym (ap (λ c. owner_of tiny_calls handed_up c.asker) e) ∙ held.owner) in
+                absurd (omega arith)
+            | inr none ↦ absurd none
+          ];
     },
     (
-      record { live = is_live with_directory 2 (omega arith) (omega arith) refl refl; no_child = no_live_child with_directory (λ x. refl) 2 (λ e. absurd (omega arith)) },
+      record { live = refl; no_child = refl },
       (
         record {
-          live = is_live begun 2 (omega arith) (omega arith) refl refl;
+          live = refl;
           next = omega arith;
           ready = empty_ready 2 (Mkdir None 0) (omega arith) (omega arith);
           fits = record { accesses = refl; reply = refl };
-          unblocked = λ y f lock held k. absurd (lock.granted);
+          unblocked = λ y k. absurd (false≢true k);
         },
         directory_legal.1,
       ),
@@ -239,20 +222,11 @@ made_then_kept = Commit 1 ∷ Call (asked two_begun 1 2 (Create None 0)) ∷ two
 abbrev looked : Events
 looked = Commit 2 ∷ Call (asked made_then_kept 2 3 (Stat None 0)) ∷ made_then_kept
 
-no_parent : (x q : ℕ) → parent tiny_calls two_begun x ≡ Some q → ⊥
-no_parent x q e = by_number x 2
-    (λ k. none_some q (sym (put_same (parent tiny_calls alone) 2 None x k) ∙ e))
-    (λ k.
-    let one = sym (put_other (parent tiny_calls alone) 2 None x k) ∙ e in
-    by_number x 1
-    (λ m. none_some q (sym (put_same (parent tiny_calls []) 1 None x m) ∙ one))
-    (λ m. none_some q (sym (put_other (parent tiny_calls []) 1 None x m) ∙ one)))
-
 kept_legal : Legal tiny_calls start made_then_kept
 kept_legal = (
-  record { live = is_live (Call (asked two_begun 1 2 (Create None 0)) ∷ two_begun) 1 (omega arith) (omega arith) refl refl; no_child = λ x live e. no_parent x 1 e },
+  record { live = refl; no_child = refl },
   (
-    is_granted two_begun 1 2 (Create None 0) (is_live two_begun 1 (omega arith) (omega arith) refl refl) (omega arith) (omega arith) (omega arith) (clear_way tiny_calls two_begun (asked two_begun 1 2 (Create None 0)) tt),
+    is_granted two_begun 1 2 (Create None 0) refl (omega arith) (omega arith) (omega arith) refl,
     (record { next = refl; live = λ q e. absurd (none_some q e) }, alone_legal),
   ),
 )
@@ -263,10 +237,9 @@ freed h y e = absurd (none_some y e)
 
 looked_legal : Legal tiny_calls start looked
 looked_legal = (
-  record { live = is_live (Call (asked made_then_kept 2 3 (Stat None 0)) ∷ made_then_kept) 2 (omega arith) (omega arith) refl refl; no_child = λ x live e. no_parent x 2 e },
+  record { live = refl; no_child = refl },
   (
-    is_granted made_then_kept 2 3 (Stat None 0) (is_live made_then_kept 2 (omega arith) (omega arith) refl refl) (omega arith) (omega arith) tt
-        (clear_way tiny_calls made_then_kept (asked made_then_kept 2 3 (Stat None 0)) (inr (λ y e. freed made_then_kept y e), tt)),
+    is_granted made_then_kept 2 3 (Stat None 0) refl (omega arith) (omega arith) tt refl,
     kept_legal,
   ),
 )
@@ -280,8 +253,7 @@ orphaned = Call (asked made_then_kept 2 3 (Unlink None 0)) ∷ made_then_kept
 
 orphaned_legal : Legal tiny_calls start orphaned
 orphaned_legal = (
-  is_granted made_then_kept 2 3 (Unlink None 0) (is_live made_then_kept 2 (omega arith) (omega arith) refl refl) (omega arith) (omega arith) tt
-      (clear_way tiny_calls made_then_kept (asked made_then_kept 2 3 (Unlink None 0)) (inr (λ y e. freed made_then_kept y e), tt)),
+  is_granted made_then_kept 2 3 (Unlink None 0) refl (omega arith) (omega arith) tt refl,
   kept_legal,
 )
 
@@ -324,4 +296,4 @@ sweep_hides = record { others = others; gone = gone; unnamed = unnamed }
     unnamed (Bytes j) i k = refl
 
 pub sweep_locked : SweepLocked tiny_calls → ⊥
-sweep_locked h = false≢true (sym ((h start empty_sound orphaned orphaned_legal dropped swept sweep_hides 2 (is_live orphaned 2 (omega arith) (omega arith) refl refl)).unnamed (Entry 1 0) 2 refl))
+sweep_locked h = false≢true (sym ((h start empty_sound orphaned orphaned_legal dropped swept sweep_hides 2 refl).unnamed (Entry 1 0) 2 refl))

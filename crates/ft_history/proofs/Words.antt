@@ -1,20 +1,36 @@
 -- Laws of the words on lists and on maps from numbers.
-use Rattle.std.proofs.Common.{◌≡◌, ◌≢◌, ℕ, Bool, true, false, cond, Option, Some, None, List, [], ◌∷◌, ◌++◌, ◌⊎◌, inl, inr, map, sym, refl, ap, ◌∙◌, subst, ◌==◌, eqb-true, eq-eqb, ne_eqb}
-use Rattle.std.proofs.lemmas.Bool.{cases_Bool, eqb-false}
-use Rattle.ft_laws.specs.Lists.{Each, In}
-use Rattle.ft_laws.proofs.Lists.{In-cases}
+use Rattle.std.proofs.Common.{◌≡◌, ◌≢◌, ℕ, Bool, true, false, cond, Option, Some, None, List, [], ◌∷◌, ◌++◌, ◌⊎◌, inl, inr, map, reverse, sym, refl, ap, ◌∙◌, subst, ◌==◌, eq-eqb, ne_eqb, ◌<◌, arith, not}
+use Rattle.std.proofs.lemmas.Bool.{false≢true}
+use Rattle.ft_laws.specs.Lists.{Each, Pairs, In}
+use Rattle.std.proofs.lemmas.Grind.{reverse_onto}
+use Rattle.ft_laws.proofs.Lists.{Each-append, Each-front, Each-at, Pairs-push, In-front, In-back, In-cases}
+pub use Rattle.ft_laws.proofs.Tests.{by_number}
 use Rattle.ft_laws.proofs.Tests.{by_test}
 use Rattle.ft_history.specs.Logs.{passing, put, rest, pushed, popped, handed, emptied}
+
+-- Tests.
+
+-- two that imply each other are one
+pub same_test : (a b : Bool) → (a ≡ true → b ≡ true) → (b ≡ true → a ≡ true) → a ≡ b
+same_test true b f g = sym (f refl)
+same_test false true f g = absurd (false≢true (g refl))
+same_test false false f g = refl
+
+pub not_true : (b : Bool) → not b ≡ true → b ≡ false
+not_true true e = absurd (false≢true e)
+not_true false e = refl
+
+pub not_false : (b : Bool) → not b ≡ false → b ≡ true
+not_false true e = refl
+not_false false e = absurd (false≢true (sym e))
+
+-- Maps from numbers, and lists.
 
 pub put_same : {A : Type 0} (f : ℕ → A) (n : ℕ) (new : A) (x : ℕ) → x ≡ n → put f n new x ≡ new
 put_same f n new x e = ap (λ b. cond b new (f x)) (eq-eqb x n e)
 
 pub put_other : {A : Type 0} (f : ℕ → A) (n : ℕ) (new : A) (x : ℕ) → x ≢ n → put f n new x ≡ f x
 put_other f n new x e = ap (λ b. cond b new (f x)) (ne_eqb x n e)
-
--- a number is n or not
-pub by_number : {P : Type 0} (x n : ℕ) → (x ≡ n → P) → (x ≢ n → P) → P
-by_number {P} x n f g = elim (cases_Bool (x == n)) [ inl e ↦ f (eqb-true x n e) | inr e ↦ g (eqb-false x n e) ]
 
 -- a list, with what it is
 pub by_list : {A P : Type 0} (xs : List A) → (xs ≡ [] → P) → ((y : A) (ys : List A) → xs ≡ y ∷ ys → P) → P
@@ -158,3 +174,47 @@ pub In-emptied : {A : Type 0} (above : ℕ → ℕ → Bool) (log : ℕ → List
 In-emptied above log n t x i = by_test (above n t)
     (λ k. absurd (subst (In x) (ap (λ b. cond b [] (log t)) k) i))
     (λ k. subst (In x) (ap (λ b. cond b [] (log t)) k) i)
+
+-- a list from its end on
+pub In-reverse : {A : Type 0} (x : A) (xs : List A) → In x xs → In x (reverse xs)
+In-reverse x [] i = i
+In-reverse x (y ∷ ys) (inl e) = subst (In x) (sym (reverse_onto ys y [])) (In-back x (reverse ys) (y ∷ []) (inl e))
+In-reverse x (y ∷ ys) (inr i) = subst (In x) (sym (reverse_onto ys y [])) (In-front x (reverse ys) (y ∷ []) (In-reverse x ys i))
+
+pub Each-reverse : {A : Type 0} (P : A → Type 0) (xs : List A) → Each P xs → Each P (reverse xs)
+Each-reverse P [] h = tt
+Each-reverse P (x ∷ xs) h = subst (Each P) (sym (reverse_onto xs x [])) (Each-append P (reverse xs) (x ∷ []) (Each-reverse P xs h.1) (h.0, tt))
+
+pub Pairs-reverse : {A : Type 0} (R : A → A → Type 0) (xs : List A) → Pairs R xs → Pairs (λ x y. R y x) (reverse xs)
+Pairs-reverse R [] h = tt
+Pairs-reverse R (x ∷ xs) h = subst (Pairs (λ y z. R z y)) (sym (reverse_onto xs x [])) (Pairs-push (λ y z. R z y) (reverse xs) x (Pairs-reverse R xs h.1) (Each-reverse (R x) xs h.0))
+
+pub Pairs-passing : {A : Type 0} (R : A → A → Type 0) (p : A → Bool) (xs : List A) → Pairs R xs → Pairs R (passing p xs)
+Pairs-passing R p [] h = tt
+Pairs-passing R p (x ∷ xs) h = by_test (p x)
+    (λ k. subst (Pairs R) (sym (ap (λ b. cond b (x ∷ passing p xs) (passing p xs)) k)) (Each-passing (R x) p xs h.0, Pairs-passing R p xs h.1))
+    (λ k. subst (Pairs R) (sym (ap (λ b. cond b (x ∷ passing p xs) (passing p xs)) k)) (Pairs-passing R p xs h.1))
+
+pub Pairs-front : {A : Type 0} (R : A → A → Type 0) (xs ys : List A) → Pairs R (xs ++ ys) → Pairs R xs
+Pairs-front R [] ys h = tt
+Pairs-front R (x ∷ xs) ys h = (Each-front (R x) xs ys h.0, Pairs-front R xs ys h.1)
+
+-- Two rising lists of the same numbers are one.
+pub rising_one : (xs ys : List ℕ) → Pairs (λ x y. x < y) xs → Pairs (λ x y. x < y) ys → ((x : ℕ) → In x xs → In x ys) → ((x : ℕ) → In x ys → In x xs) → xs ≡ ys
+rising_one [] [] rx ry to from = refl
+rising_one [] (y ∷ ys) rx ry to from = absurd (from y (inl refl))
+rising_one (x ∷ xs) [] rx ry to from = absurd (to x (inl refl))
+rising_one (x ∷ xs) (y ∷ ys) rx ry to from =
+    let head : x ≡ y = heads (to x (inl refl)) (from y (inl refl)) in
+    ap (λ z. z ∷ xs) head ∙ ap (λ zs. y ∷ zs) (rising_one xs ys rx.1 ry.1
+    (λ z j. behind z x y ys (Each-at (λ w. x < w) xs z rx.0 j) head (to z (inr j)))
+    (λ z j. behind z y x xs (Each-at (λ w. y < w) ys z ry.0 j) (sym head) (from z (inr j))))
+  where
+    heads : (x ≡ y) ⊎ In x ys → (y ≡ x) ⊎ In y xs → x ≡ y
+    heads (inl e) other = e
+    heads (inr i) (inl e) = sym e
+    heads (inr i) (inr j) = let one = Each-at (λ w. y < w) ys x ry.0 i in let two = Each-at (λ w. x < w) xs y rx.0 j in absurd (omega arith)
+
+    behind : (z a b : ℕ) (bs : List ℕ) → a < z → a ≡ b → (z ≡ b) ⊎ In z bs → In z bs
+    behind z a b bs lt e (inl is) = absurd (omega arith)
+    behind z a b bs lt e (inr i) = i

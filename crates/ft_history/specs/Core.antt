@@ -1,13 +1,14 @@
 -- A core: one store, changed in place, and for each transaction a list of inverses.
-use Rattle.std.specs.Prelude.{◌≡◌, ◌<◌, ℕ, Bool, true, false, cond, Option, Some, None, List, [], ◌∷◌, map, zero, suc}
+use Rattle.std.specs.Prelude.{◌≡◌, ◌<◌, ℕ, Bool, true, false, Option, Some, None, List, [], ◌∷◌, map}
 use Rattle.ft_laws.specs.Lists.{In}
 use Rattle.ft_laws.specs.Calls.{Calls, Reverts, Done, Fits}
 use Rattle.ft_laws.specs.Laws.{is_hidden, Hides}
+use Rattle.ft_laws.specs.Hiding.{Unseen}
 use Rattle.ft_laws.specs.Runs.{Along}
-use Rattle.ft_history.specs.Logs.{pushed, popped, handed, emptied}
-use Rattle.ft_history.specs.History.{Base, Event, number, last_transaction, last_stamp, parent, over, IsLive, owner_of, standing}
+use Rattle.ft_history.specs.Logs.{joined, pushed, popped, handed, emptied}
+use Rattle.ft_history.specs.History.{Base, Event, number, last_transaction, last_stamp, parent, over, newest_below, IsLive, owner_of, standing}
 use Rattle.ft_history.specs.History.Event.{Begin, Call, Undo, Commit, Abort}
-use Rattle.ft_history.specs.Locks.{IsLock, IsUnblocked}
+use Rattle.ft_history.specs.Locks.{owns_lock, blockers_of}
 use Rattle.ft_history.specs.Legal.{outcome, Legal}
 use Rattle.ft_history.specs.Ledger.{asker_of, lists}
 
@@ -18,14 +19,14 @@ module _ (C : Calls) where
     pub inverse : C.Inverse
 
   -- the inverses of a list are put to the store, from the newest on
-  abbrev pub take_list : List Entry → C.Store → C.Store
-  take_list [] s = s
-  take_list (e ∷ es) s = take_list es (C.revert s e.inverse)
+  abbrev pub take_back : List Entry → C.Store → C.Store
+  take_back [] s = s
+  take_back (e ∷ es) s = take_back es (C.revert s e.inverse)
 
-  -- the lists of t and of all below it, of the transactions with numbers below k, by falling numbers
-  abbrev pub take_back : (ℕ → ℕ → Bool) → ℕ → (ℕ → List Entry) → ℕ → C.Store → C.Store
-  take_back above t log zero s = s
-  take_back above t log (suc k) s = take_back above t log k (cond (above t k) (take_list (log k) s) s)
+  -- each of them may be put there when its turn comes
+  abbrev pub MayTakeBack : List Entry → C.Store → Type 0
+  MayTakeBack [] s = Unit {0}
+  MayTakeBack (e ∷ es) s = C.MayRevert s e.inverse × MayTakeBack es (C.revert s e.inverse)
 
   pub record Machine : Type 0 where
     pub store : C.Store
@@ -52,7 +53,7 @@ module _ (C : Calls) where
   machine base (Undo k ∷ h) = undo (machine base h) (asker_of C h k)
   machine base (Commit t ∷ h) = record { store = (machine base h).store; log = handed (machine base h).log t (parent C h t) }
   machine base (Abort t ∷ h) = record {
-    store = take_back (over C h) t (machine base h).log (suc (last_transaction C base h)) (machine base h).store;
+    store = take_back (joined (machine base h).log (newest_below C h t)) (machine base h).store;
     log = emptied (over C h) (machine base h).log t;
   }
 
@@ -60,31 +61,27 @@ module _ (C : Calls) where
   abbrev pub AreInverses : (ℕ → List Entry) → C.Store → Done C → Type 0
   AreInverses log s c = (u : C.Inverse) (t : ℕ) → In (record { done = c; inverse = u }) (log t) → Reverts C s c.call c.accesses u
 
-  -- the call touches no cell of a hidden file
-  abbrev pub Spares : (C.File → Bool) → Done C → Type 0
-  Spares hidden c = (x : C.Cell) → is_hidden C hidden x ≡ true → C.touches c.accesses x ≡ false
-
-  -- A live transaction's call is made in the core's store s, with the inverse u, where nobody foreign is in the way.
+  -- A live transaction's call is made in the core's store s, with the inverse u, where nobody is in the way.
   pub record IsMade (base : Base C) (h : List (Event C)) (s : C.Store) (c : Done C) (u : C.Inverse) : Type 0 where
-    pub live : IsLive C base h c.asker
-    pub next : last_stamp C base h < number C c
+    pub live : IsLive C base.transaction h c.asker
+    pub next : last_stamp C base.stamp h < number C c
     pub ready : C.IsReady c.call base.store
     pub fits : Fits C s c
-    pub unblocked : IsUnblocked C h c
+    pub unblocked : blockers_of C h c.asker c.accesses ≡ []
     pub inverse : Reverts C s c.call c.accesses u
 
   -- A sweep hides more files, that nothing stored names and no lock covers: it blanks their cells and changes no other (POSIX unlink and close: a file without a name and without an open description is gone).
-  pub record IsSweep (base : Base C) (h : List (Event C)) (hidden more : C.File → Bool) (s new : C.Store) : Type 0 where
+  pub record IsSweep (first : ℕ) (h : List (Event C)) (hidden more : C.File → Bool) (s new : C.Store) : Type 0 where
     pub kept : (i : C.File) → hidden i ≡ true → more i ≡ true
-    pub old : (a : C.Call) → last_stamp C base h < C.stamp a → more (C.own a) ≡ false
+    pub old : (a : C.Call) → last_stamp C first h < C.stamp a → more (C.own a) ≡ false
     pub unnamed : (x : C.Cell) (i : C.File) → more i ≡ true → C.names x (C.cell s x) i ≡ false
-    pub unlocked : (y : ℕ) (f : C.Accesses) → IsLock C h y f → (x : C.Cell) → is_hidden C more x ≡ true → C.touches f x ≡ false
+    pub unlocked : (y : ℕ) (x : C.Cell) → is_hidden C more x ≡ true → owns_lock C h y (λ f. C.touches f x) ≡ false
     pub others : (x : C.Cell) → is_hidden C more x ≡ false → C.cell new x ≡ C.cell s x
     pub blanked : (x : C.Cell) → is_hidden C more x ≡ true → C.cell new x ≡ C.blank x
 
   -- The base of a checkpoint: the store as it is, with the last transaction and the last stamp.
   abbrev pub checkpoint : Base C → List (Event C) → C.Store → Base C
-  checkpoint base h s = record { store = s; transaction = last_transaction C base h; stamp = last_stamp C base h }
+  checkpoint base h s = record { store = s; transaction = last_transaction C base.transaction h; stamp = last_stamp C base.stamp h }
 
   -- What a core keeps, with the files that its sweeps dropped hidden.
   pub record IsCore (base : Base C) (h : List (Event C)) (hidden : C.File → Bool) (s : C.Store) (log : ℕ → List Entry) : Type 0 where
@@ -96,6 +93,6 @@ module _ (C : Calls) where
     -- Each inverse in them reverts its call.
     pub inverses : Along C (AreInverses log) base.store (standing C h)
     -- What an owned call touched, its locks protect from the sweep.
-    pub spared : (c : Done C) (y : ℕ) → In c (standing C h) → owner_of C h c.asker ≡ Some y → Spares hidden c
+    pub spared : (c : Done C) (y : ℕ) → In c (standing C h) → owner_of C h c.asker ≡ Some y → Unseen C hidden c.accesses
     -- A new file is not hidden.
-    pub old : (a : C.Call) → last_stamp C base h < C.stamp a → hidden (C.own a) ≡ false
+    pub old : (a : C.Call) → last_stamp C base.stamp h < C.stamp a → hidden (C.own a) ≡ false

@@ -1,8 +1,19 @@
 -- What has happened, and what follows from it alone. A history is a list of events, newest first.
-use Rattle.std.specs.Prelude.{◌≡◌, ◌<◌, ◌≤◌, ℕ, Bool, false, cond, not, ◌==◌, ◌||◌, ◌&&◌, Option, None, List, [], ◌∷◌, ◌++◌}
+use Rattle.std.specs.Prelude.{◌≡◌, ◌<◌, ℕ, Bool, true, false, cond, not, nat_lt, nat_le, ◌==◌, ◌||◌, ◌&&◌, Option, Some, None, List, [], ◌∷◌, ◌++◌, reverse}
 use Rattle.ft_laws.specs.Calls.{Calls, Done}
-use Rattle.ft_history.specs.Forest.{above, nearest}
+use Rattle.ft_history.specs.Forest.{is_some_and, above, nearest}
 use Rattle.ft_history.specs.Logs.{put, passing}
+
+pub data Fate : Type 0 where
+  Live : Fate
+  Committed : Fate
+  Aborted : Fate
+
+abbrev pub is_live : Option Fate → Bool
+is_live None = false
+is_live (Some Live) = true
+is_live (Some Committed) = false
+is_live (Some Aborted) = false
 
 module _ (C : Calls) where
   -- what a history starts from: a store, the last transaction's number and the last stamp
@@ -29,25 +40,41 @@ module _ (C : Calls) where
   abbrev pub number : Done C → ℕ
   number c = C.stamp c.call
 
-  -- the last transaction's number
-  abbrev pub last_transaction : Base → List Event → ℕ
-  last_transaction base [] = base.transaction
-  last_transaction base (Begin n p ∷ h) = n
-  last_transaction base (other ∷ h) = last_transaction base h
+  -- the last transaction's number, where that of the base is first
+  abbrev pub last_transaction : ℕ → List Event → ℕ
+  last_transaction first [] = first
+  last_transaction first (Begin n p ∷ h) = n
+  last_transaction first (other ∷ h) = last_transaction first h
 
-  abbrev pub last_stamp : Base → List Event → ℕ
-  last_stamp base [] = base.stamp
-  last_stamp base (Call c ∷ h) = number c
-  last_stamp base (other ∷ h) = last_stamp base h
+  -- the last stamp, where that of the base is first
+  abbrev pub last_stamp : ℕ → List Event → ℕ
+  last_stamp first [] = first
+  last_stamp first (Call c ∷ h) = number c
+  last_stamp first (other ∷ h) = last_stamp first h
 
+  -- the transactions begun since the base, oldest first
+  abbrev pub begun : List Event → List ℕ
+  begun [] = []
+  begun (Begin n p ∷ h) = begun h ++ n ∷ []
+  begun (other ∷ h) = begun h
+
+  -- the parent of a subtransaction begun since the base
   abbrev pub parent : List Event → ℕ → Option ℕ
   parent [] = λ t. None
   parent (Begin n p ∷ h) = put (parent h) n p
   parent (other ∷ h) = parent h
 
+  -- u is a child of t
+  abbrev pub is_child : List Event → ℕ → ℕ → Bool
+  is_child h t u = is_some_and (parent h u) (λ p. p == t)
+
   -- y is x or an ancestor of x
   abbrev pub over : List Event → ℕ → ℕ → Bool
   over h = above (parent h)
+
+  -- the transactions begun since the base that are at or below t, newest first
+  abbrev pub newest_below : List Event → ℕ → List ℕ
+  newest_below h t = reverse (passing (over h t) (begun h))
 
   -- x's commit stands in the history
   abbrev pub is_committed : List Event → ℕ → Bool
@@ -65,12 +92,16 @@ module _ (C : Calls) where
   abbrev pub is_gone : List Event → ℕ → Bool
   is_gone h x = some_abort h (λ u. over h u x)
 
-  -- begun since the base, not committed, and no aborted one is at or above it
-  pub record IsLive (base : Base) (h : List Event) (t : ℕ) : Type 0 where
-    pub since : base.transaction < t
-    pub begun : t ≤ last_transaction base h
-    pub uncommitted : is_committed h t ≡ false
-    pub there : is_gone h t ≡ false
+  -- What has become of a transaction begun since the base, whose last one is first: it is committed if its commit has happened, else aborted if it or one above it was aborted, else live (Moss).
+  abbrev pub fate : ℕ → List Event → ℕ → Option Fate
+  fate first h t = cond (nat_lt first t && nat_le t (last_transaction first h)) (Some (cond (is_committed h t) Committed (cond (is_gone h t) Aborted Live))) None
+
+  abbrev pub IsLive : ℕ → List Event → ℕ → Type 0
+  IsLive first h t = fate first h t ≡ Some Live
+
+  -- the live children of t, oldest first
+  abbrev pub live_children : ℕ → List Event → ℕ → List ℕ
+  live_children first h t = passing (λ x. is_child h t x && is_live (fate first h x)) (begun h)
 
   -- The owner of t's calls: the nearest transaction at or above t that isn't committed (Moss: at a commit the parent inherits).
   -- There is none if an aborted one is at or above t, or if all are committed.

@@ -2,10 +2,10 @@
 use Rattle.std.specs.Prelude.{◌≡◌, ◌<◌, ℕ, Option, Some, List, [], ◌∷◌, suc}
 use Rattle.ft_laws.specs.Calls.{Calls, Done, Fits}
 use Rattle.ft_laws.specs.Runs.{run}
-use Rattle.ft_history.specs.History.{Base, Event, number, last_transaction, last_stamp, IsLive, standing}
+use Rattle.ft_history.specs.History.{Base, Event, number, last_transaction, last_stamp, IsLive, live_children, standing}
 use Rattle.ft_history.specs.History.Event.{Begin, Call, Undo, Commit, Abort}
-use Rattle.ft_history.specs.Locks.{IsUnblocked}
-use Rattle.ft_history.specs.Undoing.{HasNoLiveChild, MayUndo}
+use Rattle.ft_history.specs.Locks.{blockers_of}
+use Rattle.ft_history.specs.Undoing.{MayUndo}
 
 module _ (C : Calls) where
   -- the store that the standing calls leave, made one after another from the base: no locks, no logs, no transactions
@@ -13,30 +13,30 @@ module _ (C : Calls) where
   outcome base h = run C base.store (standing C h)
 
   -- A transaction has the next number, and its parent, where it has one, is live.
-  pub record MayBegin (base : Base C) (h : List (Event C)) (n : ℕ) (p : Option ℕ) : Type 0 where
-    pub next : n ≡ suc (last_transaction C base h)
-    pub live : (q : ℕ) → p ≡ Some q → IsLive C base h q
+  pub record MayBegin (first : ℕ) (h : List (Event C)) (n : ℕ) (p : Option ℕ) : Type 0 where
+    pub next : n ≡ suc (last_transaction C first h)
+    pub live : (q : ℕ) → p ≡ Some q → IsLive C first h q
 
-  -- A call is granted only if its asker is live and nobody foreign is in the way. Its stamp is new and numbers nothing at the base, and its accesses and reply are those that it has after the standing calls.
+  -- A call is granted only if its asker is live and nobody is in the way. Its stamp is new and numbers nothing at the base, and its accesses and reply are those that it has after the standing calls.
   pub record MayGrant (base : Base C) (h : List (Event C)) (c : Done C) : Type 0 where
-    pub live : IsLive C base h c.asker
-    pub next : last_stamp C base h < number C c
+    pub live : IsLive C base.transaction h c.asker
+    pub next : last_stamp C base.stamp h < number C c
     pub ready : C.IsReady c.call base.store
     pub fits : Fits C (outcome base h) c
-    pub unblocked : IsUnblocked C h c
+    pub unblocked : blockers_of C h c.asker c.accesses ≡ []
 
   -- A transaction commits only when it has no live child (Moss: a parent may not commit before its children have ended).
-  pub record MayCommit (base : Base C) (h : List (Event C)) (t : ℕ) : Type 0 where
-    pub live : IsLive C base h t
-    pub no_child : HasNoLiveChild C base h t
+  pub record MayCommit (first : ℕ) (h : List (Event C)) (t : ℕ) : Type 0 where
+    pub live : IsLive C first h t
+    pub no_child : live_children C first h t ≡ []
 
   -- An abort ends any live transaction, with what is live below it (Moss: the abort of a superior undoes all below it).
   abbrev pub Allowed : Base C → List (Event C) → Event C → Type 0
-  Allowed base h (Begin n p) = MayBegin base h n p
+  Allowed base h (Begin n p) = MayBegin base.transaction h n p
   Allowed base h (Call c) = MayGrant base h c
-  Allowed base h (Undo k) = (t : ℕ) × (d : Done C) × MayUndo C base h t d × (number C d ≡ k)
-  Allowed base h (Commit t) = MayCommit base h t
-  Allowed base h (Abort t) = IsLive C base h t
+  Allowed base h (Undo k) = (t : ℕ) × (d : Done C) × MayUndo C base.transaction h t d × (number C d ≡ k)
+  Allowed base h (Commit t) = MayCommit base.transaction h t
+  Allowed base h (Abort t) = IsLive C base.transaction h t
 
   -- each event was allowed when it came
   abbrev pub Legal : Base C → List (Event C) → Type 0

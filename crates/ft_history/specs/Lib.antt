@@ -7,6 +7,7 @@ pub mod Legal
 pub mod Ledger
 pub mod Orders
 pub mod Core
+pub mod Fates
 pub mod Promises
 pub mod Serial
 pub mod Example

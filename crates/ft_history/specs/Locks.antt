@@ -1,46 +1,53 @@
--- Which locks there are, and when a call may be granted.
-use Rattle.std.specs.Prelude.{◌≡◌, ◌≢◌, ◌↔◌, ℕ, true, false, Some, List, ◌∷◌, ◌⊎◌}
-use Rattle.ft_laws.specs.Lists.{In}
+-- Which locks there are, who is in the way of a call, and what each event does to the locks.
+use Rattle.std.specs.Prelude.{◌≡◌, ℕ, Bool, not, ◌==◌, ◌&&◌, ◌||◌, List, ◌∷◌}
+use Rattle.ft_laws.specs.Lists.{any}
 use Rattle.ft_laws.specs.Calls.{Calls, Done}
-use Rattle.ft_history.specs.History.{Event, parent, over, owner_of, grants}
+use Rattle.ft_history.specs.Forest.{is_some_and}
+use Rattle.ft_history.specs.Logs.{passing}
+use Rattle.ft_history.specs.History.{Event, begun, is_child, over, owner_of, grants}
 use Rattle.ft_history.specs.History.Event.{Begin, Call, Undo, Commit, Abort}
 
+-- Locks are told by a test of accesses, as whether one of them writes a cell. They are those of granted calls. An undone call counts too (a rule of this project: locks stay until the owner's commit or abort).
 module _ (C : Calls) where
-  -- y owns locks on these accesses: they are those of a granted call that y owns now. An undone call counts too (a rule of this project: locks stay until the owner's commit or abort).
-  pub record IsLock (h : List (Event C)) (y : ℕ) (f : C.Accesses) : Type 0 where
-    pub call : Done C
-    pub granted : In call (grants C h)
-    pub owner : owner_of C h call.asker ≡ Some y
-    pub accesses : call.accesses ≡ f
+  -- y owns the call now
+  abbrev pub is_owner : List (Event C) → ℕ → Done C → Bool
+  is_owner h y c = is_some_and (owner_of C h c.asker) (λ o. o == y)
 
-  -- y holds the lock: it asked itself (Moss: to hold a lock).
-  abbrev pub IsHeld : (h : List (Event C)) (y : ℕ) (f : C.Accesses) → IsLock h y f → Type 0
-  IsHeld h y f lock = lock.call.asker ≡ y
+  -- y holds a lock on accesses that pass the test: it asked for them itself (Moss: to hold a lock).
+  abbrev pub holds_lock : List (Event C) → ℕ → (C.Accesses → Bool) → Bool
+  holds_lock h y test = any (λ c. is_owner h y c && ((c.asker == y) && test c.accesses)) (grants C h)
 
-  -- y retains the lock: it inherited it at the commit of a subtransaction (Moss: to retain a lock).
-  abbrev pub IsRetained : (h : List (Event C)) (y : ℕ) (f : C.Accesses) → IsLock h y f → Type 0
-  IsRetained h y f lock = lock.call.asker ≢ y
+  -- y retains such a lock: it inherited it at the commit of a subtransaction (Moss: to retain a lock).
+  abbrev pub retains_lock : List (Event C) → ℕ → (C.Accesses → Bool) → Bool
+  retains_lock h y test = any (λ c. is_owner h y c && (not (c.asker == y) && test c.accesses)) (grants C h)
 
-  -- y is in the way of c: it owns a conflicting lock, and is neither the asker nor an ancestor of the asker
+  -- y holds such a lock or retains it
+  abbrev pub owns_lock : List (Event C) → ℕ → (C.Accesses → Bool) → Bool
+  owns_lock h y test = holds_lock h y test || retains_lock h y test
+
+  -- y is in the way of a call of t with these accesses: it owns a conflicting lock, and is neither t nor an ancestor of t
   -- (Moss: all who retain a conflicting lock must be superiors; a rule of this project: an ancestor that holds is treated as one that retains).
-  pub record IsBlocker (h : List (Event C)) (c : Done C) (y : ℕ) : Type 0 where
-    pub accesses : C.Accesses
-    pub lock : IsLock h y accesses
-    pub conflict : C.conflict accesses c.accesses ≡ true
-    pub foreign : over C h y c.asker ≡ false
+  abbrev pub is_blocker : List (Event C) → ℕ → C.Accesses → ℕ → Bool
+  is_blocker h t f y = owns_lock h y (λ g. C.conflict g f) && not (over C h y t)
 
-  -- Nobody is in the way of c.
-  abbrev pub IsUnblocked : List (Event C) → Done C → Type 0
-  IsUnblocked h c = (y : ℕ) → IsBlocker h c y → ⊥
+  -- all who are in the way, oldest first
+  abbrev pub blockers_of : List (Event C) → ℕ → C.Accesses → List ℕ
+  blockers_of h t f = passing (is_blocker h t f) (begun C h)
+
+  -- What each transaction holds and retains in this history.
+  pub record AreLocks (h : List (Event C)) (holds retains : ℕ → (C.Accesses → Bool) → Bool) : Type 0 where
+    pub held : (y : ℕ) (test : C.Accesses → Bool) → holds_lock h y test ≡ holds y test
+    pub retained : (y : ℕ) (test : C.Accesses → Bool) → retains_lock h y test ≡ retains y test
 
   -- What each event does to the locks.
   abbrev pub LocksAfter : Event C → List (Event C) → Type 0
-  LocksAfter (Begin n p) h = (y : ℕ) (f : C.Accesses) → IsLock (Begin n p ∷ h) y f ↔ IsLock h y f
-  -- The asker gets the call's locks.
-  LocksAfter (Call c) h = (y : ℕ) (f : C.Accesses) → IsLock (Call c ∷ h) y f ↔ (IsLock h y f ⊎ ((c.asker ≡ y) × (c.accesses ≡ f)))
+  LocksAfter (Begin n p) h = AreLocks (Begin n p ∷ h) (holds_lock h) (retains_lock h)
+  -- The asker holds the call's locks besides its own.
+  LocksAfter (Call c) h = AreLocks (Call c ∷ h) (λ y test. holds_lock h y test || ((c.asker == y) && test c.accesses)) (retains_lock h)
   -- An undo keeps them (a rule of this project).
-  LocksAfter (Undo k) h = (y : ℕ) (f : C.Accesses) → IsLock (Undo k ∷ h) y f ↔ IsLock h y f
-  -- The parent inherits what t held or retained; at the top level all of it is let go (Moss: commit of a transaction).
-  LocksAfter (Commit t) h = (y : ℕ) (f : C.Accesses) → IsLock (Commit t ∷ h) y f ↔ ((IsLock h y f × (y ≢ t)) ⊎ (IsLock h t f × (parent C h t ≡ Some y)))
-  -- Those of t and of all below it are discarded; an ancestor keeps its own (Moss: abort of a transaction).
-  LocksAfter (Abort t) h = (y : ℕ) (f : C.Accesses) → IsLock (Abort t ∷ h) y f ↔ (IsLock h y f × (over C h t y ≡ false))
+  LocksAfter (Undo k) h = AreLocks (Undo k ∷ h) (holds_lock h) (retains_lock h)
+  -- The parent retains what t held or retained, besides its own; t has none, and at the top level they are let go (Moss: commit of a transaction).
+  LocksAfter (Commit t) h =
+      AreLocks (Commit t ∷ h) (λ y test. not (y == t) && holds_lock h y test) (λ y test. not (y == t) && (retains_lock h y test || (is_child C h y t && owns_lock h t test)))
+  -- Those of t and of all below it are discarded; all others keep their own (Moss: abort of a transaction).
+  LocksAfter (Abort t) h = AreLocks (Abort t ∷ h) (λ y test. not (over C h t y) && holds_lock h y test) (λ y test. not (over C h t y) && retains_lock h y test)

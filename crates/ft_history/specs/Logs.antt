@@ -6,6 +6,11 @@ abbrev pub passing : {A : Type 0} → (A → Bool) → List A → List A
 passing p [] = []
 passing p (x ∷ xs) = cond (p x) (x ∷ passing p xs) (passing p xs)
 
+-- the lists of the elements, one behind another
+abbrev pub joined : {A B : Type 0} → (A → List B) → List A → List B
+joined f [] = []
+joined f (x ∷ xs) = f x ++ joined f xs
+
 -- f with a new value at n
 abbrev pub put : {A : Type 0} → (ℕ → A) → ℕ → A → ℕ → A
 put f n new x = cond (x == n) new (f x)

@@ -1,7 +1,8 @@
--- How owners and lists order two calls.
-use Rattle.std.specs.Prelude.{◌≡◌, ◌≢◌, ◌<◌, ℕ, Bool, true, Option, Some, None}
+-- How owners and lists order two calls, and in which order an abort takes its lists.
+use Rattle.std.specs.Prelude.{◌≡◌, ◌≢◌, ◌<◌, ℕ, Bool, true, false, Option, Some, None, List}
+use Rattle.ft_laws.specs.Lists.{Each, Pairs, In}
 use Rattle.ft_laws.specs.Calls.{Calls, Done}
-use Rattle.ft_history.specs.History.{number}
+use Rattle.ft_history.specs.History.{Event, number, over, IsLive}
 
 -- Where there is a first owner, there is a second, at or below it.
 abbrev pub Covers : (ℕ → ℕ → Bool) → Option ℕ → Option ℕ → Type 0
@@ -17,3 +18,12 @@ module _ (C : Calls) where
   -- a stands in front of b in a list: it is another call, and a later one where they conflict.
   abbrev pub IsInFront : Done C → Done C → Type 0
   IsInFront a b = (number C a ≢ number C b) × (C.conflict a.accesses b.accesses ≡ true → number C b < number C a)
+
+  -- The live transactions at or below t, in an order in which an abort may take their lists. (A rule of this project.)
+  pub record IsAbortOrder (first : ℕ) (h : List (Event C)) (t : ℕ) (xs : List ℕ) : Type 0 where
+    -- All that are listed are at or below t,
+    pub below : Each (λ x. over C h t x ≡ true) xs
+    -- none behind itself or behind one above it: each comes once, and before its parent;
+    pub before : Pairs (λ x y. over C h x y ≡ false) xs
+    -- and no live one is left out.
+    pub all : (x : ℕ) → over C h t x ≡ true → IsLive C first h x → In x xs

@@ -1,19 +1,14 @@
 -- The serial order: the committed transactions one after another, then the others.
-use Rattle.std.specs.Prelude.{◌≡◌, ◌<◌, ℕ, true, cond, not, is_some, ◌==◌, List, [], ◌∷◌, ◌++◌, ◌⊎◌, suc}
-use Rattle.ft_laws.specs.Lists.{Pairs, any}
+use Rattle.std.specs.Prelude.{◌≡◌, ◌<◌, ◌↔◌, ℕ, true, cond, not, is_some, ◌==◌, List, [], ◌∷◌, ◌++◌, ◌⊎◌, suc}
+use Rattle.ft_laws.specs.Lists.{Pairs, In, any}
 use Rattle.ft_laws.specs.Calls.{Calls, Same, Done}
-use Rattle.ft_laws.specs.Runs.{run, Faithful}
+use Rattle.ft_laws.specs.Runs.{run, Faithful, Able}
 use Rattle.ft_history.specs.Forest.{root}
-use Rattle.ft_history.specs.Logs.{passing}
+use Rattle.ft_history.specs.Logs.{passing, joined}
 use Rattle.ft_history.specs.History.{Base, Event, parent, standing}
 use Rattle.ft_history.specs.History.Event.{Commit}
 use Rattle.ft_history.specs.Legal.{outcome, Legal}
 use Rattle.ft_history.specs.Promises.{OfHistories}
-
--- the lists of the elements, one behind another
-abbrev pub joined : {A B : Type 0} → (A → List B) → List A → List B
-joined f [] = []
-joined f (x ∷ xs) = f x ++ joined f xs
 
 -- the place at which a number stands first in a list; where it doesn't stand there, the list's length
 abbrev pub place : List ℕ → ℕ → ℕ
@@ -55,13 +50,19 @@ module _ (C : Calls) where
   abbrev pub SerialOrder : Type 0
   SerialOrder = OfHistories C (λ base h. Pairs (IsSerialPair h) (standing C h))
 
+  -- The calls can be made from the base, no two of one stamp, and each then has its recorded accesses and reply.
+  pub record AreMade (base : Base C) (cs : List (Done C)) : Type 0 where
+    pub able : Able C base.store cs
+    pub replies : Faithful C base.store cs
+
   pub record IsSerial (base : Base C) (h : List (Event C)) : Type 0 where
-    -- Made in the serial order from the base, the standing calls leave the same store,
+    -- The serial list has the standing calls and no others.
+    pub all : (c : Done C) → In c (serial_list h) ↔ In c (standing C h)
+    -- Made in that order, they leave the same store.
+    pub made : AreMade base (serial_list h)
     pub store : Same C (outcome C base h) (run C base.store (serial_list h))
-    -- and each has its recorded accesses and reply.
-    pub replies : Faithful C base.store (serial_list h)
     -- The committed part alone can be made.
-    pub committed : Faithful C base.store (committed_part h)
+    pub committed : AreMade base (committed_part h)
 
   abbrev pub Serial : Type 0
   Serial = OfHistories C IsSerial

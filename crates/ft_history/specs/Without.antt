@@ -1,21 +1,21 @@
 -- Each rule is needed: laws that lack a part of one, or turn it. All of them are false of the tiny tree.
-use Rattle.std.specs.Prelude.{◌≡◌, ◌<◌, ◌≤◌, ℕ, Bool, true, false, cond, not, ◌==◌, Option, Some, None, List, [], ◌∷◌, ◌++◌, reverse, zero, suc}
+use Rattle.std.specs.Prelude.{◌≡◌, ◌<◌, ◌≤◌, ℕ, Bool, true, false, not, ◌==◌, Option, Some, None, List, [], ◌∷◌, ◌++◌, reverse}
 use Rattle.ft_laws.specs.Lists.{Pairs, In}
 use Rattle.ft_laws.specs.Calls.{Calls, Same, Done, Fits}
 use Rattle.ft_laws.specs.Laws.{Hides}
 use Rattle.ft_laws.specs.Runs.{Faithful, Able}
-use Rattle.ft_history.specs.Logs.{passing}
-use Rattle.ft_history.specs.History.{Base, Event, number, last_transaction, last_stamp, parent, over, IsLive, standing}
+use Rattle.ft_history.specs.Logs.{passing, joined}
+use Rattle.ft_history.specs.History.{Base, Event, number, last_stamp, parent, over, newest_below, IsLive, live_children, standing}
 use Rattle.ft_history.specs.History.Event.{Call, Undo, Abort}
-use Rattle.ft_history.specs.Locks.{IsLock, IsHeld}
-use Rattle.ft_history.specs.Undoing.{HasNoLiveChild, undo_target}
+use Rattle.ft_history.specs.Locks.{holds_lock}
+use Rattle.ft_history.specs.Undoing.{undo_target}
 use Rattle.ft_history.specs.Undoing.Target.{Found}
 use Rattle.ft_history.specs.Legal.{outcome, MayCommit, Allowed}
 use Rattle.ft_history.specs.Ledger.{lists}
 use Rattle.ft_history.specs.Orders.{IsInFront}
-use Rattle.ft_history.specs.Core.{Entry, take_list, take_back, machine}
+use Rattle.ft_history.specs.Core.{Entry, take_back, machine}
 use Rattle.ft_history.specs.Promises.{OfHistories}
-use Rattle.ft_history.specs.Serial.{joined, committed_roots, calls_under, open_part}
+use Rattle.ft_history.specs.Serial.{committed_roots, calls_under, open_part}
 
 -- Of two owners, where there are both, the first is at or above the second. Where there is a first alone, nothing is said.
 abbrev pub CoversWeakly : (ℕ → ℕ → Bool) → Option ℕ → Option ℕ → Type 0
@@ -33,51 +33,36 @@ module _ (C : Calls) where
       → Pairs (λ b a. C.conflict b.accesses a.accesses ≡ true → CoversWeakly above (owner b) (owner a)) cs
       → Faithful C s (passing (λ c. not (is_owned_below above t (owner c))) cs)
 
-  -- the inverses of a list, from the oldest on
-  abbrev pub take_oldest : List (Entry C) → C.Store → C.Store
-  take_oldest [] s = s
-  take_oldest (e ∷ es) s = C.revert (take_oldest es s) e.inverse
-
-  abbrev pub take_back_oldest : (ℕ → ℕ → Bool) → ℕ → (ℕ → List (Entry C)) → ℕ → C.Store → C.Store
-  take_back_oldest above t log zero s = s
-  take_back_oldest above t log (suc k) s = take_back_oldest above t log k (cond (above t k) (take_oldest (log k) s) s)
-
   -- An abort takes each list oldest first.
   abbrev pub AbortOldestFirst : Type 0
-  AbortOldestFirst = OfHistories C (λ base h. (t : ℕ) → IsLive C base h t
-      → Same C (outcome C base (Abort t ∷ h)) (take_back_oldest (over C h) t (machine C base h).log (suc (last_transaction C base h)) (machine C base h).store))
+  AbortOldestFirst = OfHistories C (λ base h. (t : ℕ) → IsLive C base.transaction h t
+      → Same C (outcome C base (Abort t ∷ h)) (take_back C (joined (λ x. reverse ((machine C base h).log x)) (newest_below C h t)) (machine C base h).store))
 
-  -- the lists of t and of all below it, by rising numbers
-  abbrev pub take_back_rising : (ℕ → ℕ → Bool) → ℕ → (ℕ → List (Entry C)) → ℕ → C.Store → C.Store
-  take_back_rising above t log zero s = s
-  take_back_rising above t log (suc k) s = let before = take_back_rising above t log k s in cond (above t k) (take_list C (log k) before) before
-
-  -- An abort takes the lists by rising transaction number.
+  -- An abort takes the lists by rising transaction number, each parent's before its child's.
   abbrev pub AbortRising : Type 0
-  AbortRising = OfHistories C (λ base h. (t : ℕ) → IsLive C base h t
-      → Same C (outcome C base (Abort t ∷ h)) (take_back_rising (over C h) t (machine C base h).log (suc (last_transaction C base h)) (machine C base h).store))
+  AbortRising = OfHistories C (λ base h. (t : ℕ) → IsLive C base.transaction h t
+      → Same C (outcome C base (Abort t ∷ h)) (take_back C (joined (machine C base h).log (reverse (newest_below C h t))) (machine C base h).store))
 
   -- An abort skips the calls of committed children.
   abbrev pub AbortOwnAlone : Type 0
-  AbortOwnAlone = OfHistories C (λ base h. (t : ℕ) → IsLive C base h t
-      → Same C (outcome C base (Abort t ∷ h))
-      (take_back C (over C h) t (λ x. passing (λ e. e.done.asker == x) ((machine C base h).log x)) (suc (last_transaction C base h)) (machine C base h).store))
+  AbortOwnAlone = OfHistories C (λ base h. (t : ℕ) → IsLive C base.transaction h t
+      → Same C (outcome C base (Abort t ∷ h)) (take_back C (joined (λ x. passing (λ e. e.done.asker == x) ((machine C base h).log x)) (newest_below C h t)) (machine C base h).store))
 
   -- An abort takes t's own list alone, and leaves those of its live descendants.
   abbrev pub AbortLeavesDescendants : Type 0
-  AbortLeavesDescendants = OfHistories C (λ base h. (t : ℕ) → IsLive C base h t → Same C (outcome C base (Abort t ∷ h)) (take_list C ((machine C base h).log t) (machine C base h).store))
+  AbortLeavesDescendants = OfHistories C (λ base h. (t : ℕ) → IsLive C base.transaction h t → Same C (outcome C base (Abort t ∷ h)) (take_back C ((machine C base h).log t) (machine C base h).store))
 
   -- A commit places the child's list in front of the parent's, all of it older.
   abbrev pub CommitInFront : Type 0
-  CommitInFront = OfHistories C (λ base h. (t p : ℕ) → parent C h t ≡ Some p → MayCommit C base h t → Pairs (IsInFront C) (lists C h p ++ lists C h t))
+  CommitInFront = OfHistories C (λ base h. (t p : ℕ) → parent C h t ≡ Some p → MayCommit C base.transaction h t → Pairs (IsInFront C) (lists C h p ++ lists C h t))
 
   -- Only who holds a conflicting lock is in the way: what a parent would inherit at a child's commit is let go.
   pub record MayGrantLoosely (base : Base C) (h : List (Event C)) (c : Done C) : Type 0 where
-    pub live : IsLive C base h c.asker
-    pub next : last_stamp C base h < number C c
+    pub live : IsLive C base.transaction h c.asker
+    pub next : last_stamp C base.stamp h < number C c
     pub ready : C.IsReady c.call base.store
     pub fits : Fits C (outcome C base h) c
-    pub unblocked : (y : ℕ) (f : C.Accesses) → (lock : IsLock C h y f) → IsHeld C h y f lock → C.conflict f c.accesses ≡ true → over C h y c.asker ≡ true
+    pub unblocked : (y : ℕ) → holds_lock C h y (λ f. C.conflict f c.accesses) ≡ true → over C h y c.asker ≡ true
 
   abbrev pub LooselyLegal : Base C → List (Event C) → Type 0
   LooselyLegal base [] = Unit {0}
@@ -88,13 +73,17 @@ module _ (C : Calls) where
   abbrev pub LocksLetGo : Type 0
   LocksLetGo = (base : Base C) → C.IsSound base.store → (h : List (Event C)) → LooselyLegal base h → Faithful C base.store (standing C h)
 
+  -- The newest inverse of a live transaction's list may be put to the store, also while a child is live.
+  abbrev pub RevertOverChild : Type 0
+  RevertOverChild = OfHistories C (λ base h. (t : ℕ) (e : Entry C) (es : List (Entry C)) → IsLive C base.transaction h t → (machine C base h).log t ≡ e ∷ es → C.MayRevert (machine C base h).store e.inverse)
+
   -- An undo may take back a call though a child is live.
   abbrev pub UndoOverChild : Type 0
-  UndoOverChild = OfHistories C (λ base h. (t : ℕ) (d : Done C) → IsLive C base h t → undo_target C h t ≡ Found d → Faithful C base.store (standing C (Undo (number C d) ∷ h)))
+  UndoOverChild = OfHistories C (λ base h. (t : ℕ) (d : Done C) → IsLive C base.transaction h t → undo_target C h t ≡ Found d → Faithful C base.store (standing C (Undo (number C d) ∷ h)))
 
   -- An undo takes back the newest standing call of t's own, also one that a child's commit came after.
   abbrev pub UndoPastCommit : Type 0
-  UndoPastCommit = OfHistories C (λ base h. (t : ℕ) (d : Done C) → IsLive C base h t → HasNoLiveChild C base h t → In d (standing C h) → d.asker ≡ t
+  UndoPastCommit = OfHistories C (λ base h. (t : ℕ) (d : Done C) → IsLive C base.transaction h t → live_children C base.transaction h t ≡ [] → In d (standing C h) → d.asker ≡ t
       → ((c : Done C) → In c (standing C h) → c.asker ≡ t → number C c ≤ number C d) → Faithful C base.store (standing C (Undo (number C d) ∷ h)))
 
   -- The committed transactions are made in the reverse order of commit.
@@ -103,5 +92,5 @@ module _ (C : Calls) where
 
   -- A sweep drops a file that nothing names, though a lock covers it.
   abbrev pub SweepLocked : Type 0
-  SweepLocked = OfHistories C (λ base h. (hidden : C.File → Bool) (new : C.Store) → Hides C hidden (machine C base h).store new → (t : ℕ) → IsLive C base h t
-      → Hides C hidden (outcome C base (Abort t ∷ h)) (take_back C (over C h) t (machine C base h).log (suc (last_transaction C base h)) new))
+  SweepLocked = OfHistories C (λ base h. (hidden : C.File → Bool) (new : C.Store) → Hides C hidden (machine C base h).store new → (t : ℕ) → IsLive C base.transaction h t
+      → Hides C hidden (outcome C base (Abort t ∷ h)) (take_back C (joined (machine C base h).log (newest_below C h t)) new))

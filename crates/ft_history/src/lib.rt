@@ -12,9 +12,9 @@ ghost use Rattle.ft_history.specs.Core.{machine};
 ghost use Rattle.ft_history.specs.Example.{start, neighbour, with_file, interleaved};
 ghost use Rattle.ft_history.specs.History.{standing};
 ghost use Rattle.ft_history.specs.Legal.{Legal};
-ghost use Rattle.ft_history.specs.Promises.{AbortAlone, AbortCount, AbortKeeps, AbortOrder, AskKeeps, BeginKeeps, CheckpointKeeps, CommitKeeps, ExactLedger, Headline, JustMade, LiveOwners, LockRules, LogOrder, Ownership, SweepKeeps, TargetByStamps, UndoKeeps};
+ghost use Rattle.ft_history.specs.Promises.{AbortAlone, AbortCount, AbortKeeps, AbortOrder, AskKeeps, BeginKeeps, Blockers, CheckpointKeeps, CommitKeeps, ExactLedger, FateRules, Headline, JustMade, LiveChildren, LiveOwners, LockRules, LogOrder, NewestFirst, Numbered, Ownership, SubCommits, SweepKeeps, TargetByStamps, UndoKeeps};
 ghost use Rattle.ft_history.specs.Serial.{CommittedGrows, Serial, SerialOrder};
-ghost use Rattle.ft_history.specs.Without.{AbortLeavesDescendants, AbortOldestFirst, AbortOwnAlone, AbortRising, CommitInFront, LocksLetGo, SerialReversed, SweepLocked, UndoOverChild, UndoPastCommit, WeakOwnership};
+ghost use Rattle.ft_history.specs.Without.{AbortLeavesDescendants, AbortOldestFirst, AbortOwnAlone, AbortRising, CommitInFront, LocksLetGo, RevertOverChild, SerialReversed, SweepLocked, UndoOverChild, UndoPastCommit, WeakOwnership};
 ghost use Rattle.ft_laws.specs.Tiny.{tiny_calls};
 ghost use Rattle.ft_laws.specs.Tiny.Cell.{Entry};
 ghost use Rattle.ft_laws.specs.Tiny.Node.{FileNode};
@@ -31,12 +31,36 @@ pub fn ownership()
     ensures { Ownership tiny_calls }
 {}
 
-/// What each event does to the locks: Moss's rules of grant, inheritance and abort.
+/// Transactions are numbered one after another from the base's last number on, and a later number has
+/// neither a parent nor an end.
+pub fn numbered()
+    ensures { Numbered tiny_calls }
+{}
+
+/// The live children of a transaction, each once and in the order of their numbers.
+pub fn children()
+    ensures { LiveChildren tiny_calls }
+{}
+
+/// What each event does to the transactions: a new one is live, a commit makes its own committed, an
+/// abort makes aborted what is live at or below it.
+pub fn fate_rules()
+    ensures { FateRules tiny_calls }
+{}
+
+/// What each event does to the locks, held and retained: Moss's rules of grant, inheritance and abort.
 pub fn lock_rules()
     ensures { LockRules tiny_calls }
 {}
 
-/// The owner of each lock is a live transaction.
+/// The blockers of a call, each once and in the order of their numbers, are all who own a conflicting
+/// lock and are neither the asker nor above it.
+pub fn blockers()
+    ensures { Blockers tiny_calls }
+{}
+
+/// The owner of a granted call is live, at or above its asker, so who owns a lock is live; and a live
+/// transaction owns its calls itself.
 pub fn live_owners()
     ensures { LiveOwners tiny_calls }
 {}
@@ -47,9 +71,14 @@ pub fn log_order()
 {}
 
 /// An abort of any live transaction, amid the calls of others, leaves the store of the standing calls
-/// that remain.
+/// that remain, in whichever order it takes the lists, each before that of its parent.
 pub fn abort_order()
     ensures { AbortOrder tiny_calls }
+{}
+
+/// From the newest transaction on is such an order.
+pub fn newest_first()
+    ensures { NewestFirst tiny_calls }
 {}
 
 /// The call just made is what an undo comes upon where its asker has no live child, and the undo gives
@@ -69,7 +98,7 @@ pub fn abort_count()
 {}
 
 /// The ledger holds one entry for each standing call that has an owner, in its owner's list, and no
-/// others.
+/// others; so only live transactions have lists.
 pub fn exact_ledger()
     ensures { ExactLedger tiny_calls }
 {}
@@ -80,8 +109,8 @@ pub fn serial_order()
     ensures { SerialOrder tiny_calls }
 {}
 
-/// The committed transactions in order of commit, then the other calls: made so, the standing calls
-/// leave the same store and get the same replies.
+/// The committed transactions in order of commit, then the other calls: this list has each standing call
+/// once, and made so they leave the same store and get the same replies.
 pub fn serial_store()
     ensures { Serial tiny_calls }
 {}
@@ -93,9 +122,10 @@ pub fn committed_grows()
 {}
 
 /// The newest of a live transaction's list and the last commit of a child decide what an undo comes
-/// upon.
+/// upon; the commit of a child sets the latter to the last stamp.
 pub fn target_by_stamps()
-    ensures { TargetByStamps tiny_calls }
+    ensures decides { TargetByStamps tiny_calls }
+    ensures commits { SubCommits tiny_calls }
 {}
 
 /// A begin keeps what a core keeps.
@@ -108,8 +138,8 @@ pub fn ask_keeps()
     ensures { AskKeeps tiny_calls }
 {}
 
-/// An undo finds its call as the newest of the transaction's list, and keeps what a core keeps, whatever
-/// files were swept.
+/// An undo finds its call as the newest of the transaction's list, whose inverse may be put to the
+/// store, and keeps what a core keeps, whatever files were swept.
 pub fn undo_keeps()
     ensures { UndoKeeps tiny_calls }
 {}
@@ -119,7 +149,8 @@ pub fn commit_keeps()
     ensures { CommitKeeps tiny_calls }
 {}
 
-/// An abort keeps what a core keeps, whatever files were swept.
+/// In an abort each inverse may be put to the store when its turn comes, and the abort keeps what a
+/// core keeps, whatever files were swept.
 pub fn abort_keeps()
     ensures { AbortKeeps tiny_calls }
 {}
@@ -156,9 +187,10 @@ pub fn aborts_need_their_order()
     ensures in_front { CommitInFront tiny_calls → ⊥ }
 {}
 
-/// An undo is false of another target: of a call though a child is live, or of one that a child's
-/// commit came after.
+/// An undo is false of another target: of a call though a child is live, whose inverse need not fit the
+/// store any more, or of one that a child's commit came after.
 pub fn undos_need_their_target()
+    ensures misfit { RevertOverChild tiny_calls → ⊥ }
     ensures live_child { UndoOverChild tiny_calls → ⊥ }
     ensures past_commit { UndoPastCommit tiny_calls → ⊥ }
 {}

@@ -1,7 +1,7 @@
 -- A call that conflicts with no later one is deleted, and its inverse does it.
 use Rattle.std.proofs.Common.{◌≡◌, true, false, cond, List, [], ◌∷◌, ◌++◌, sym, ap, ◌∙◌, subst}
 use Rattle.std.proofs.lemmas.Bool.{false≢true}
-use Rattle.ft_laws.specs.Calls.{Calls, Agree, PutBack, Done, Fits}
+use Rattle.ft_laws.specs.Calls.{Calls, IsAsLeft, Agree, PutBack, Done, Fits}
 use Rattle.ft_laws.specs.Laws.{Lawful}
 use Rattle.ft_laws.specs.Runs.{run, Along, Faithful, Able, Clear, IsLocal, Deletion, Undoing}
 use Rattle.ft_laws.proofs.Lists.{Each-map}
@@ -76,5 +76,6 @@ module _ (C : Calls) (L : Lawful C) where
   pub undone : Undoing C
   undone s xs a ys u t able faith clear reverts same =
       let without = deletion s xs a ys able faith clear in
-      let left : (x : C.Cell) → C.changes a.accesses x ≡ true → C.cell t x ≡ C.cell (C.act (run C s xs) a.call) x = λ x k. sym (same x) ∙ still_written s xs a ys able faith clear x k in
-      (without.0, λ x. without.1 x ∙ ap (λ v. cond (C.changes a.accesses x) (C.cell (run C s xs) x) v) (same x) ∙ sym (reverts t left x))
+      let left : IsAsLeft C a.accesses (C.act (run C s xs) a.call) t = λ x k. sym (same x) ∙ still_written s xs a ys able faith clear x k in
+      let back = reverts t left in
+      (without.0, back.0, λ x. without.1 x ∙ ap (λ v. cond (C.changes a.accesses x) (C.cell (run C s xs) x) v) (same x) ∙ sym (back.1 x))

@@ -1,9 +1,10 @@
 -- Calls by their effects meet the laws of calls.
 use Rattle.std.proofs.Common.{◌≡◌, Bool, true, false, cond, ◌||◌, ◌&&◌, List, [], ◌∷◌, inl, inr, sym, refl, ap, ◌∙◌}
 use Rattle.std.proofs.lemmas.Bool.{false≢true, or_cases, or_parts, or_from, or_left, or_right, and_parts, and_from}
-use Rattle.ft_laws.specs.Lists.{any}
+use Rattle.ft_laws.specs.Lists.{In, any}
+use Rattle.ft_laws.specs.Calls.{IsAsLeft}
 use Rattle.ft_laws.specs.Laws.{Lawful}
-use Rattle.ft_laws.specs.Effects.{Access, Effects, write_all, before, touch, change, conflict, some_conflict, calls_of, EffectLaws}
+use Rattle.ft_laws.specs.Effects.{Access, Write, Effects, Has, reversal_of, is_written, write_all, before, touch, change, conflict, some_conflict, calls_of, EffectLaws}
 use Rattle.ft_laws.proofs.Tests.{by_test}
 use Rattle.ft_laws.proofs.Writing.{write_kept, write_same, before_written, before_back}
 
@@ -57,6 +58,26 @@ module _ (E : Effects) (laws : EffectLaws E) where
             (λ t. t)
       ]
 
+  -- a cell that is among the writes is written, where cells are the same as themselves
+  in_writes : (w : Write E.Cell E.Value) (ws : List (Write E.Cell E.Value)) → In w ws → E.same_cell w.cell w.cell ≡ true → is_written E ws w.cell ≡ true
+  in_writes w [] i k = absurd i
+  in_writes w (v ∷ vs) (inl e) k = or_left (E.same_cell v.cell w.cell) (is_written E vs w.cell) (ap (λ z. E.same_cell z.cell w.cell) (sym e) ∙ k)
+  in_writes w (v ∷ vs) (inr i) k = or_right (E.same_cell v.cell w.cell) (is_written E vs w.cell) (in_writes w vs i k)
+
+  has_values : (u t : E.Store) (ws : List (Write E.Cell E.Value)) → ((w : Write E.Cell E.Value) → In w ws → E.cell t w.cell ≡ E.cell u w.cell) → Has E t (before E u ws)
+  has_values u t [] f = tt
+  has_values u t (w ∷ ws) f = (f w (inl refl), has_values u t ws (λ v i. f v (inr i)))
+
+  -- A store whose written cells are as the call left them has what it left.
+  has_left : (s : E.Store) (a : E.Call) (t : E.Store) → IsAsLeft (calls_of E) (E.does s a).accesses (write_all E s (E.does s a).writes) t → Has E t (reversal_of E s (E.does s a).writes).after
+  has_left s a t left =
+      let ws = (E.does s a).writes in
+      let end = write_all E s ws in
+      has_values end t ws (λ w i. by_test (E.same_cell w.cell w.cell)
+      (λ k. left w.cell (laws.told s a w.cell ∙ in_writes w ws i k))
+      -- a cell that isn't the same as itself has one value alone
+      (λ k. sym (laws.sets.cell_kept t w.cell (E.cell end w.cell) w.cell k) ∙ laws.sets.cell_written t w.cell (E.cell end w.cell)))
+
   pub effects_lawful : Lawful (calls_of E)
   effects_lawful = record {
     changes_touch = λ f x h. any_weaker (λ a. a.writes && E.covers a.place x) (λ a. E.covers a.place x) (λ a k. (and_parts a.writes (E.covers a.place x) k).1) f h;
@@ -72,11 +93,14 @@ module _ (E : Effects) (laws : EffectLaws E) where
     kept = λ s a g r x k. write_kept E laws.sets (E.does s a).writes s x (sym (laws.told s a x) ∙ k);
     stays_sound = laws.stays_sound;
     stays_ready = laws.stays_ready;
-    inverts = λ s a g r t left x.
-        let ws = (E.does s a).writes in
-        by_test (change E (E.does s a).accesses x)
-        (λ k. before_back E laws.sets ws s t x (before_written E laws.sets ws s x ∙ sym (laws.told s a x) ∙ k) ∙ sym (ap (λ b. cond b (E.cell s x) (E.cell t x)) k))
-        (λ k. write_kept E laws.sets (before E s ws) t x (before_written E laws.sets ws s x ∙ sym (laws.told s a x) ∙ k) ∙ sym (ap (λ b. cond b (E.cell s x) (E.cell t x)) k));
+    inverts = λ s a g r t left. (
+      has_left s a t left,
+      λ x.
+          let ws = (E.does s a).writes in
+          by_test (change E (E.does s a).accesses x)
+          (λ k. before_back E laws.sets ws s t x (before_written E laws.sets ws s x ∙ sym (laws.told s a x) ∙ k) ∙ sym (ap (λ b. cond b (E.cell s x) (E.cell t x)) k))
+          (λ k. write_kept E laws.sets (before E s ws) t x (before_written E laws.sets ws s x ∙ sym (laws.told s a x) ∙ k) ∙ sym (ap (λ b. cond b (E.cell s x) (E.cell t x)) k)),
+    );
     nameless = laws.nameless;
     own_blank = laws.own_blank;
     comes_upon = laws.comes_upon;

@@ -1,7 +1,7 @@
 -- Stores without the hidden files: calls and inverses do there what they do in the run.
 use Rattle.std.proofs.Common.{◌≡◌, Bool, true, false, cond, ◌||◌, Some, [], ◌∷◌, ◌++◌, inl, inr, sym, ap, ◌∙◌, subst}
 use Rattle.std.proofs.lemmas.Bool.{false≢true, or_cases, or_parts}
-use Rattle.ft_laws.specs.Calls.{Calls, Agree, Fits}
+use Rattle.ft_laws.specs.Calls.{Calls, IsAsLeft, Agree, Fits}
 use Rattle.ft_laws.specs.Laws.{Lawful, Alike, Hides, Knows, holds, is_hidden}
 use Rattle.ft_laws.specs.Runs.{run}
 use Rattle.ft_laws.specs.Hiding.{AgreeOff, Unseen, RunAlike, StaysHidden, UndoingHidden, HidesMore, NotOwn}
@@ -77,13 +77,15 @@ module _ (C : Calls) (L : Lawful C) where
       let fit : Fits C s₀ a = (along_back C (Fits C) s xs (a ∷ ys) faith).0 in
       let without = deletion C L s xs a ys able faith clear in
       let seen : (x : C.Cell) → C.touches a.accesses x ≡ true → is_hidden C hidden x ≡ false = λ x touched. by_test (is_hidden C hidden x) (λ k. absurd (false≢true (sym (unseen x k) ∙ touched))) (λ no. no) in
-      let written : (x : C.Cell) → C.changes a.accesses x ≡ true → C.cell t x ≡ C.cell (C.act s₀ a.call) x =
+      let written : IsAsLeft C a.accesses (C.act s₀ a.call) t =
       λ x w. sym (hides.others x (seen x (L.changes_touch a.accesses x w))) ∙ still_written C L s xs a ys able faith clear x w in
       -- what the call wrote still stands, so it names no hidden file
       let names_none : (x : C.Cell) (i : C.File) → hidden i ≡ true → C.changes a.accesses x ≡ true → C.names x (C.cell (C.act s₀ a.call) x) i ≡ true → ⊥ =
       λ x i h w n. false≢true (sym (hides.unnamed x i h) ∙ ap (λ v. C.names x v i) (written x w) ∙ n) in
-      let put = reverts t written in (
+      let back = reverts t written in
+      let put = back.1 in (
         without.0,
+        back.0,
         record {
           others = λ x k. without.1 x ∙ ap (λ v. cond (C.changes a.accesses x) (C.cell s₀ x) v) (hides.others x k) ∙ sym (put x);
           gone = λ x k.

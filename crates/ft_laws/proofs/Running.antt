@@ -91,12 +91,14 @@ module _ (C : Calls) (L : Lawful C) where
 
   pub reverts_alike : (s t : C.Store) (c : Done C) (u : C.Inverse) → C.IsSound s → C.IsSound t → C.IsReady c.call s → C.IsReady c.call t → Fits C s c → Agree C c.accesses s t
       → Reverts C s c.call c.accesses u → Reverts C t c.call c.accesses u
-  reverts_alike s t c u gs gt rs rt fit agree reverts v h x =
+  reverts_alike s t c u gs gt rs rt fit agree reverts v h =
       let alike = L.frame s t c.call gs gt rs rt (λ y k. agree y (subst (λ f. C.touches f y ≡ true) fit.accesses k)) in
-      reverts v (λ y k. h y k ∙ alike.written y (subst (λ f. C.changes f y ≡ true) (sym fit.accesses) k)) x
-      ∙ by_test (C.changes c.accesses x)
-      (λ k. ap (λ b. cond b (C.cell s x) (C.cell v x)) k ∙ agree x (L.changes_touch c.accesses x k) ∙ ap (λ b. cond b (C.cell t x) (C.cell v x)) (sym k))
-      (λ k. ap (λ b. cond b (C.cell s x) (C.cell v x)) k ∙ ap (λ b. cond b (C.cell t x) (C.cell v x)) (sym k))
+      let back = reverts v (λ y k. h y k ∙ alike.written y (subst (λ f. C.changes f y ≡ true) (sym fit.accesses) k)) in (
+        back.0,
+        λ x. back.1 x ∙ by_test (C.changes c.accesses x)
+            (λ k. ap (λ b. cond b (C.cell s x) (C.cell v x)) k ∙ agree x (L.changes_touch c.accesses x k) ∙ ap (λ b. cond b (C.cell t x) (C.cell v x)) (sym k))
+            (λ k. ap (λ b. cond b (C.cell s x) (C.cell v x)) k ∙ ap (λ b. cond b (C.cell t x) (C.cell v x)) (sym k)),
+      )
 
   -- What a call writes is the same in stores that agree on what it touches; and where the stores are equal in a cell, they stay so.
   pub act_alike : (s t : C.Store) (c : Done C) → C.IsSound s → C.IsSound t → C.IsReady c.call s → C.IsReady c.call t → Fits C s c → Agree C c.accesses s t

@@ -10,7 +10,7 @@ use Rattle.ft_laws.specs.Tiny.Cell.{Entry, Parent, Links, Bytes}
 use Rattle.ft_laws.specs.Tiny.Node.{FileNode}
 use Rattle.ft_laws.specs.Tiny.What.{Mkdir, Rmdir, Create, Unlink, Rename, Fill, Stat}
 use Rattle.ft_laws.specs.Hiding.{StaysHidden}
-use Rattle.ft_laws.specs.Without.{ExchangeAny, ExchangeReaders, DeleteAny, DeleteForgets, UndoAny, SortAny, FrameByWrites, ReadyTwice, ComesUponNamed, LetsGoTouching, OwnStaysHidden, HidesNamed, UndoSeen, names_alone, writers_alone, GoFirstAny, Inverts, SoundNamed, RunAlikeSeen, TidyNamed, links_forgotten, StaysSound, readers_alone, full_removed, others_made}
+use Rattle.ft_laws.specs.Without.{asks_for_before, ExchangeAny, ExchangeReaders, DeleteAny, DeleteForgets, UndoAny, SortAny, FrameByWrites, ReadyTwice, ComesUponNamed, LetsGoTouching, OwnStaysHidden, HidesNamed, UndoSeen, names_alone, writers_alone, GoFirstAny, Inverts, SoundNamed, RunAlikeSeen, TidyNamed, links_forgotten, StaysSound, readers_alone, full_removed, others_made}
 use Rattle.ft_laws.proofs.Running.{made_faithful}
 use Rattle.ft_laws.proofs.Tiny.{tiny_lawful, empty_sound, empty_ready}
 
@@ -231,10 +231,16 @@ tidy_named h = info_not (sym (h rob (λ s. two) others empty (first ∷ looked �
 pub inverse_forgets : Inverts links_forgotten → ⊥
 inverse_forgets h =
     let unlink = call 3 (Unlink None 0) in
-    zero_one (h whole unlink after_sound (after_ready (Unlink None 0) tt) (act whole unlink) (λ x k. refl) (Links 2))
+    zero_one ((h whole unlink after_sound (after_ready (Unlink None 0) tt) (act whole unlink) (λ x k. refl)).1 (Links 2))
   where
     zero_one : ◌≡◌ {A = Option ℕ} (Some 0) (Some 1) → ⊥
     zero_one e = let same : ◌≡◌ {A = ℕ} 0 1 = some_is 0 1 e in omega arith
+
+-- Right after an unlink the entry is empty, and was not before.
+pub inverse_asks_for_before : Inverts asks_for_before → ⊥
+inverse_asks_for_before h =
+    let unlink = call 3 (Unlink None 0) in
+    some_none (FileNode 2) (sym (h whole unlink after_sound (after_ready (Unlink None 0) tt) (act whole unlink) (λ x k. refl)).0.0)
 
 -- The file was made and unlinked, and is dropped; then the unlink is undone.
 pub undo_seen : UndoSeen tiny_calls → ⊥

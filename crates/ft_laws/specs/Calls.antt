@@ -24,6 +24,8 @@ pub record Calls : Type 1 where
   pub accesses : Store → Call → Accesses
   pub inverse : Store → Call → Inverse
   pub revert : Store → Inverse → Store
+  -- what putting the inverse to the store asks of the store, as code does that overwrites bytes in place
+  pub MayRevert : Store → Inverse → Type 0
   -- the cell is read or written, and the cell is written
   pub touches : Accesses → Cell → Bool
   pub changes : Accesses → Cell → Bool
@@ -55,9 +57,13 @@ module _ (C : Calls) where
   abbrev pub PutBack : C.Accesses → C.Store → C.Store → C.Store → Type 0
   PutBack f s t new = (x : C.Cell) → C.cell new x ≡ cond (C.changes f x) (C.cell s x) (C.cell t x)
 
-  -- The inverse u of the call a, made in s with the accesses f: in each store whose cells that a writes are as a left them, u gives these cells their values from before a, and changes no other. (Moss 1981, state restoration: what an aborted transaction wrote gets back its version from before.)
+  -- The cells that f writes are in t as they are in s.
+  abbrev pub IsAsLeft : C.Accesses → C.Store → C.Store → Type 0
+  IsAsLeft f s t = (x : C.Cell) → C.changes f x ≡ true → C.cell t x ≡ C.cell s x
+
+  -- The inverse u of the call a, made in s with the accesses f: to each store whose cells that a writes are as a left them, u may be put; it gives these cells their values from before a, and changes no other. (Moss 1981, state restoration: what an aborted transaction wrote gets back its version from before.)
   abbrev pub Reverts : C.Store → C.Call → C.Accesses → C.Inverse → Type 0
-  Reverts s a f u = (t : C.Store) → ((x : C.Cell) → C.changes f x ≡ true → C.cell t x ≡ C.cell (C.act s a) x) → PutBack f s t (C.revert t u)
+  Reverts s a f u = (t : C.Store) → IsAsLeft f (C.act s a) t → C.MayRevert t u × PutBack f s t (C.revert t u)
 
   -- What is kept of a call that was granted. (A rule of this project: its inverse isn't, so that what happened is told without it.)
   pub record Done : Type 0 where

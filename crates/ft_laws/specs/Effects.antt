@@ -1,6 +1,6 @@
 -- Calls that tell, in a store, what they access, what they write and what they reply. The laws of calls follow from fewer laws of these. (A rule of this project.)
 use Rattle.std.specs.Prelude.{◌≡◌, ◌≢◌, ℕ, Bool, true, false, ◌||◌, ◌&&◌, Option, Some, List, [], ◌∷◌, map, ◌⊎◌}
-use Rattle.ft_laws.specs.Lists.{any}
+use Rattle.ft_laws.specs.Lists.{Each, any}
 use Rattle.ft_laws.specs.Calls.{Calls}
 use Rattle.ft_laws.specs.Laws.{Knows, TouchesFile, LeavesName, Hides}
 
@@ -13,6 +13,11 @@ pub record Access (Place : Type 0) : Type 0 where
 pub record Write (Cell : Type 0) (Value : Cell → Type 0) : Type 0 where
   pub cell : Cell
   pub value : Value cell
+
+-- what takes writes back: the written cells with their values from before and from after
+pub record Reversal (Cell : Type 0) (Value : Cell → Type 0) : Type 0 where
+  pub before : List (Write Cell Value)
+  pub after : List (Write Cell Value)
 
 pub record Effect (Place Cell : Type 0) (Value : Cell → Type 0) (Reply : Type 0) : Type 0 where
   pub accesses : List (Access Place)
@@ -56,6 +61,14 @@ module _ (E : Effects) where
   abbrev pub before : E.Store → List (Write E.Cell E.Value) → List (Write E.Cell E.Value)
   before s ws = map (λ w. record { cell = w.cell; value = E.cell s w.cell }) ws
 
+  -- the store has these values in these cells
+  abbrev pub Has : E.Store → List (Write E.Cell E.Value) → Type 0
+  Has s ws = Each (λ w. E.cell s w.cell ≡ w.value) ws
+
+  -- what takes the writes back that are made in s
+  abbrev pub reversal_of : E.Store → List (Write E.Cell E.Value) → Reversal E.Cell E.Value
+  reversal_of s ws = record { before = before s ws; after = before (write_all s ws) ws }
+
   abbrev pub touch : List (Access E.Place) → E.Cell → Bool
   touch f x = any (λ a. E.covers a.place x) f
 
@@ -69,7 +82,7 @@ module _ (E : Effects) where
   abbrev pub some_conflict : List (Access E.Place) → List (Access E.Place) → Bool
   some_conflict f g = any (λ a. any (conflict a) g) f
 
-  -- The calls: what is written is set, and the inverse sets what was there before.
+  -- The calls: what is written is set, and the inverse sets what was there before, in a store that has what the call left.
   abbrev pub calls_of : Calls
   calls_of = record {
     Store = E.Store;
@@ -78,15 +91,16 @@ module _ (E : Effects) where
     Call = E.Call;
     Reply = E.Reply;
     Accesses = List (Access E.Place);
-    Inverse = List (Write E.Cell E.Value);
+    Inverse = Reversal E.Cell E.Value;
     File = E.File;
     cell = E.cell;
     stamp = E.stamp;
     act = λ s a. write_all s (E.does s a).writes;
     reply = λ s a. (E.does s a).reply;
     accesses = λ s a. (E.does s a).accesses;
-    inverse = λ s a. before s (E.does s a).writes;
-    revert = write_all;
+    inverse = λ s a. reversal_of s (E.does s a).writes;
+    revert = λ s u. write_all s u.before;
+    MayRevert = λ s u. Has s u.after;
     touches = touch;
     changes = change;
     conflict = some_conflict;

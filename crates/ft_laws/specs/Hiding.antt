@@ -24,11 +24,11 @@ module _ (C : Calls) where
   StaysHidden = (hidden : C.File → Bool) (r s : C.Store) (c : Done C) → Hides C hidden r s → C.IsSound r → C.IsReady c.call r → hidden (C.own c.call) ≡ false → Fits C s c
       → Fits C r c × Unseen hidden c.accesses × Hides C hidden (C.act r c.call) (C.act s c.call)
 
-  -- The inverse of a call that touches nothing hidden and conflicts with no later one is a deletion, also in a store without the hidden files; and it brings none of their names back.
+  -- The inverse of a call that touches nothing hidden and conflicts with no later one is a deletion, also in a store without the hidden files: it may be put there, and brings none of their names back.
   abbrev pub UndoingHidden : Type 0
   UndoingHidden = (hidden : C.File → Bool) (s : C.Store) (xs : List (Done C)) (a : Done C) (ys : List (Done C)) (u : C.Inverse) (t : C.Store) → Able C s (xs ++ a ∷ ys) → Faithful C s (xs ++ a ∷ ys)
       → Clear C a ys → Unseen hidden a.accesses → Reverts C (run C s xs) a.call a.accesses u → Hides C hidden (run C s (xs ++ a ∷ ys)) t
-      → Faithful C s (xs ++ ys) × Hides C hidden (run C s (xs ++ ys)) (C.revert t u)
+      → Faithful C s (xs ++ ys) × C.MayRevert t u × Hides C hidden (run C s (xs ++ ys)) (C.revert t u)
 
   -- What is hidden of what is left is hidden of the whole: a sweep adds to the hidden files.
   abbrev pub HidesMore : Type 0

@@ -47,11 +47,11 @@ module _ (C : Calls) where
   Deletion = (s : C.Store) (xs : List (Done C)) (a : Done C) (ys : List (Done C)) → Able s (xs ++ a ∷ ys) → Faithful s (xs ++ a ∷ ys) → Clear a ys
       → Faithful s (xs ++ ys) × PutBack C a.accesses (run s xs) (run s (xs ++ a ∷ ys)) (run s (xs ++ ys))
 
-  -- Applying an inverse is a deletion: put to a store that is as the run left it, the inverse of a call that conflicts with no later one gives the run without the call.
+  -- Applying an inverse is a deletion: to a store that is as the run left it, the inverse of a call that conflicts with no later one may be put, and gives the run without the call.
   abbrev pub Undoing : Type 0
   Undoing = (s : C.Store) (xs : List (Done C)) (a : Done C) (ys : List (Done C)) (u : C.Inverse) (t : C.Store) → Able s (xs ++ a ∷ ys) → Faithful s (xs ++ a ∷ ys) → Clear a ys
       → Reverts C (run s xs) a.call a.accesses u → Same C (run s (xs ++ a ∷ ys)) t
-      → Faithful s (xs ++ ys) × Same C (run s (xs ++ ys)) (C.revert t u)
+      → Faithful s (xs ++ ys) × C.MayRevert t u × Same C (run s (xs ++ ys)) (C.revert t u)
 
   -- A call that conflicts with none in front of it may go first.
   abbrev pub MayGoFirst : Type 0

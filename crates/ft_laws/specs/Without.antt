@@ -2,7 +2,7 @@
 use Rattle.std.specs.Prelude.{◌≡◌, ℕ, Bool, true, false, ◌&&◌, Some, List, [], ◌∷◌, ◌++◌, map, cond, Option, None}
 use Rattle.ft_laws.specs.Calls.{Calls, Same, Reverts, Done, Fits}
 use Rattle.ft_laws.specs.Laws.{Alike, TouchesFile, is_hidden, Hides}
-use Rattle.ft_laws.specs.Effects.{Write, Effects}
+use Rattle.ft_laws.specs.Effects.{Write, Effects, Has}
 use Rattle.ft_laws.specs.Runs.{run, Faithful, Able, Clear, sort_by}
 use Rattle.ft_laws.specs.Hiding.{AgreeOff}
 use Rattle.ft_laws.specs.Tiny.{Node, Cell, Shows, Place, What, Steps, overlap, replies, inside, rmdir_if, steps, reads, wrote, effect_of, does, tiny, tiny_calls}
@@ -144,4 +144,8 @@ without_links [] = []
 without_links (w ∷ ws) = cond (is_links w.cell) (without_links ws) (w ∷ without_links ws)
 
 abbrev pub links_forgotten : Calls
-links_forgotten = record tiny_calls { inverse = λ s a. without_links (tiny_calls.inverse s a) }
+links_forgotten = record tiny_calls { inverse = λ s a. let u = tiny_calls.inverse s a in record u { before = without_links u.before } }
+
+-- An inverse that may be put only where the cells have their values from before the call. The inverse law is false of these calls.
+abbrev pub asks_for_before : Calls
+asks_for_before = record tiny_calls { MayRevert = λ s u. Has tiny s u.before }

@@ -13,7 +13,7 @@ ghost use Rattle.ft_laws.specs.Laws.{Lawful};
 ghost use Rattle.ft_laws.specs.Runs.{Deletion, Exchange, MayBeSorted, MayGoFirst, Undoing};
 ghost use Rattle.ft_laws.specs.Tidying.{IsTidying, TidyingLaw};
 ghost use Rattle.ft_laws.specs.Tiny.{is_dead, tidy, tiny_calls};
-ghost use Rattle.ft_laws.specs.Without.{ComesUponNamed, DeleteAny, DeleteForgets, ExchangeAny, ExchangeReaders, FrameByWrites, GoFirstAny, HidesNamed, Inverts, LetsGoTouching, OwnStaysHidden, ReadyTwice, RunAlikeSeen, SortAny, SoundNamed, TidyNamed, UndoAny, UndoSeen, StaysSound, full_removed, links_forgotten, names_alone, others_made, readers_alone, writers_alone};
+ghost use Rattle.ft_laws.specs.Without.{ComesUponNamed, DeleteAny, DeleteForgets, ExchangeAny, ExchangeReaders, FrameByWrites, GoFirstAny, HidesNamed, Inverts, LetsGoTouching, OwnStaysHidden, ReadyTwice, RunAlikeSeen, SortAny, SoundNamed, TidyNamed, UndoAny, UndoSeen, StaysSound, asks_for_before, full_removed, links_forgotten, names_alone, others_made, readers_alone, writers_alone};
 
 /// The calls of the tiny tree are lawful: the laws can be met.
 pub fn lawful()
@@ -30,7 +30,8 @@ pub fn deletion()
     ensures { Deletion tiny_calls }
 {}
 
-/// To apply the inverse of a call that conflicts with no later one is to leave the call out.
+/// The inverse of a call that conflicts with no later one may be applied, which is to leave the call
+/// out.
 pub fn undoing()
     ensures { Undoing tiny_calls }
 {}
@@ -55,7 +56,8 @@ pub fn stays_hidden()
     ensures { StaysHidden tiny_calls }
 {}
 
-/// To undo a call that touched nothing hidden is a deletion, and brings no hidden file back.
+/// The inverse of a call that touched nothing hidden may be applied too, which is a deletion and brings
+/// no hidden file back.
 pub fn undoing_hidden()
     ensures { UndoingHidden tiny_calls }
 {}
@@ -92,15 +94,16 @@ pub fn runs_need_premises()
 
 /// What the laws of calls are without a part is false: the frame law by the written cells alone;
 /// a sound tree after a directory went with what was in it; freshness of a stamp that was used; an
-/// inverse that forgets a file's links; a call that comes upon files by name alone; a rename that
-/// touches the file that it moves. And where the names of a directory don't overlap its entries,
-/// where what is written counts as read, or where what is read isn't accessed, calls can't be
-/// exchanged.
+/// inverse that forgets a file's links, or that may be put only where the cells are as they were before
+/// its call; a call that comes upon files by name alone; a rename that touches the file that it moves.
+/// And where the names of a directory don't overlap its entries, where what is written counts as read,
+/// or where what is read isn't accessed, calls can't be exchanged.
 pub fn laws_need_premises()
     ensures frame { FrameByWrites tiny_calls → ⊥ }
     ensures sound { StaysSound (calls_of full_removed) → ⊥ }
     ensures freshness { ReadyTwice tiny_calls → ⊥ }
     ensures inverse { Inverts links_forgotten → ⊥ }
+    ensures asked { Inverts asks_for_before → ⊥ }
     ensures own_file { ComesUponNamed tiny_calls → ⊥ }
     ensures moved_name { LetsGoTouching tiny_calls → ⊥ }
     ensures names { Exchange (calls_of names_alone) → ⊥ }

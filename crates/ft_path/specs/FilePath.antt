@@ -1,6 +1,7 @@
 -- The text of a path (POSIX.1-2017, Base Definitions, 3.271 Pathname): filenames separated by slashes, with slashes before and behind them as one likes. Several slashes in a row are as one.
 -- What is wrong with a text is decided before anything is looked up (4.13 Pathname Resolution): a null pathname does not resolve, and there are the limits {PATH_MAX} and {NAME_MAX}.
-use Rattle.std.specs.Prelude.{◌≡◌, ℕ, Bool, if◌then◌else◌, ◌==◌, ◌&&◌, nat_lt, nat_eq, List, [], ◌∷◌, length, filter, Result, Ok, Err, IsOk}
+use Rattle.std.specs.Prelude.{◌≡◌, ℕ, Bool, if◌then◌else◌, ◌==◌, ◌&&◌, ◌-◌, slice_get, nat_lt, nat_eq, List, [], ◌∷◌, length, filter, Result, Ok, Err, IsOk, Option, None, Some}
+use Rattle.std.specs.Borrow.{Bor}
 use Rattle.std.specs.List.{list_any, slice_split, ends_with}
 use Rattle.ft_path.specs.declared.TheConstants.{LONGEST_NAME, LONGEST_PATH}
 use Rattle.ft_path.specs.declared.errno.Errno.{Errno}
@@ -8,11 +9,18 @@ use Rattle.ft_path.specs.declared.errno.Errno.TheVariants.{ENOENT, ENAMETOOLONG}
 use Rattle.ft_path.specs.declared.path.Parts.{Parts}
 use Rattle.ft_path.specs.declared.path.PartsFault.{PartsFault}
 use Rattle.ft_path.specs.declared.path.PartsFault.TheVariants.{Memory, Errno as TextFault}
-use Rattle.ft_path.specs.Name.{slash}
+use Rattle.ft_path.specs.declared.path.LastName.{LastName}
+use Rattle.ft_path.specs.declared.path.LastName.TheVariants.{Absent, Dot, DotDot, Plain}
+use Rattle.ft_path.specs.Name.{slash, is_dot, is_dot_dot}
 
 -- a piece between slashes counts when it is not empty
 abbrev pub is_component : List ℕ → Bool
 is_component piece = nat_lt 0 (length piece)
+
+-- the pieces that are left, where there may be no text any more
+abbrev pub pieces_left : Option (Bor (List ℕ)) → List (List ℕ)
+pieces_left None = []
+pieces_left (Some text) = slice_split (λ byte. byte == slash) text.now
 
 -- the components of a path, in order
 abbrev pub components : List ℕ → List (List ℕ)
@@ -32,6 +40,15 @@ parts_of bytes =
     else if nat_lt LONGEST_PATH (length bytes) then Err ENAMETOOLONG
     else if list_any is_long (components bytes) then Err ENAMETOOLONG
     else Ok (record { names = components bytes; trailing = has_trailing_slash bytes })
+
+-- what a last component is, if there is one
+abbrev pub last_name : Option (List ℕ) → LastName
+last_name None = Absent
+last_name (Some name) = if is_dot name then Dot else if is_dot_dot name then DotDot else Plain
+
+-- what the last of some components is
+abbrev pub last_of : List (List ℕ) → LastName
+last_of names = last_name (slice_get names (length names - 1))
 
 -- an answer is the one that is wanted. Want of memory may stand in place of parts, and never of a fault of the text
 abbrev pub IsAnswer : Result Parts Errno → Result Parts PartsFault → Type 0

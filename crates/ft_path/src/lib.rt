@@ -8,13 +8,14 @@ mod errno;
 mod name;
 mod names;
 mod path;
+mod slashes;
 #[cfg(test)]
 mod tests;
 
 pub use errno::Errno;
 pub use name::Name;
 pub use names::Names;
-pub use path::{FilePath, Parts, PartsFault, PathFault};
+pub use path::{FilePath, LastName, Parts, PartsFault, PathFault};
 
 /// The most bytes that a name has: {NAME_MAX}.
 pub const LONGEST_NAME: usize = 255;
@@ -24,6 +25,3 @@ pub const LONGEST_PATH: usize = 4095;
 
 /// A name of at most so many bytes takes no memory.
 pub const SHORT_NAME: usize = 22;
-
-/// A list of at most so many names takes no memory of its own.
-pub const FEW_NAMES: usize = 8;

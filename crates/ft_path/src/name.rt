@@ -10,7 +10,6 @@ use ft_base::Memory;
 use smallvec::SmallVec;
 use std::alloc::{AllocError, Global};
 use std::cmp::Ordering;
-use std::default::MadeWith;
 use std::marker::Model;
 
 /// The name of a file in a directory: 1 to 255 bytes, none of them null or a slash.
@@ -77,15 +76,6 @@ impl Clone for Name {
     fn clone(&self) -> Result<Name, AllocError> {
         let bytes = SmallVec::from_slice(*self.bytes.allocator(), self.as_bytes())?;
         Ok(Name { bytes })
-    }
-}
-
-// The name that a small vector keeps where it has none of its own.
-impl MadeWith<Global> for Name {
-    fn made_with(alloc: Global) -> Name {
-        let mut bytes = SmallVec::new(alloc);
-        bytes.push_reserved(b'.');
-        Name { bytes }
     }
 }
 

@@ -1,30 +1,25 @@
 // Lists of names.
-ghost use Rattle.std.specs.Prelude.{◌≡◌, ◌<◌, [], ◌∷◌, ◌++◌, length, IsOk, OnOk, OnErr, nat_eq};
+ghost use Rattle.std.specs.Prelude.{◌≡◌, [], ◌∷◌, ◌++◌, OnOk, OnErr, nat_eq};
 ghost use Rattle.std.specs.Cmp.{partial_equiv_from_equiv};
 ghost use Rattle.std.specs.Cmp.Lexicographic.{pointwise, lists_equiv, nat_list_eq_equiv};
 
-use crate::FEW_NAMES;
 use crate::name::Name;
 use ft_base::Memory;
-use smallvec::SmallVec;
 use std::alloc::Global;
 use std::marker::Model;
 
-/// A list of names. Up to 8 of them stay in place.
+/// A list of names. An empty one takes no memory.
 #[derive(Debug, Drop)]
 pub struct Names {
-    items: SmallVec<Name, FEW_NAMES>,
+    items: Vec<Name>,
 }
 
 impl Model for Names {
-    ghost use Rattle.std.specs.Prelude.{◌≤◌, ℕ, List};
-    ghost use Rattle.ft_path.specs.declared.TheConstants.{FEW_NAMES};
+    ghost use Rattle.std.specs.Prelude.{ℕ, List};
 
     ghost Value = { List (List ℕ) };
 
     ghost view = { λ a. a.items.items };
-
-    ghost invariant = { λ a. FEW_NAMES ≤ a.items.capacity };
 }
 
 impl Names {
@@ -33,7 +28,7 @@ impl Names {
         ensures { result ≡ [] }
     {
         Names {
-            items: SmallVec::new(alloc),
+            items: Vec::new(alloc),
         }
     }
 
@@ -44,12 +39,10 @@ impl Names {
         self.items.as_slice()
     }
 
-    /// Puts a name behind the others. Up to the eighth this takes no memory. Where there is none
-    /// the name is dropped.
+    /// Puts a name behind the others. Where there is no memory the name is dropped.
     pub fn push(&mut self, name: Name) -> Result<(), Memory>
         ensures ok { OnOk result (self.new ≡ self.old ++ name ∷ []) }
         ensures err { OnErr result (self.new ≡ self.old) }
-        ensures few { length self.old < FEW_NAMES → IsOk result }
     {
         self.items.push(name)?;
         Ok(())

@@ -4,13 +4,13 @@ ghost use Rattle.std.specs.List.{list_any};
 ghost use Rattle.std.specs.Cmp.{partial_equiv_from_equiv};
 ghost use Rattle.std.specs.Cmp.Lexicographic.{pointwise, nat_list_eq_equiv};
 ghost use Rattle.ft_path.specs.Name.{has_nul, IsNulFree};
-ghost use Rattle.ft_path.specs.FilePath.{components, is_long, parts_of, IsAnswer};
+ghost use Rattle.ft_path.specs.FilePath.{components, is_long, last_of, parts_of, IsAnswer};
 
 use crate::errno::Errno;
 use crate::name::Name;
 use crate::names::Names;
+use crate::slashes::Pieces;
 use crate::{LONGEST_NAME, LONGEST_PATH};
-use bstr::ByteSlice;
 use ft_base::Memory;
 use std::alloc::{AllocError, Global};
 use std::marker::Model;
@@ -81,6 +81,33 @@ impl Model for FilePath {
 pub struct Parts {
     pub names: Names,
     pub trailing: bool,
+}
+
+/// What the last component of a path is (POSIX.1-2017, Base Definitions, 4.13 Pathname Resolution).
+#[derive(Clone, Copy, Debug, PartialEq, Eq)]
+pub enum LastName {
+    /// There is no component: the path leads to the root.
+    Absent,
+    /// `.`, the directory in itself.
+    Dot,
+    /// `..`, the directory's parent.
+    DotDot,
+    /// Any other name.
+    Plain,
+}
+
+impl Parts {
+    /// What the last component is.
+    pub fn last(&self) -> LastName
+        ensures { result ≡ last_of self.now.names }
+    {
+        match self.names.as_slice().last() {
+            None => LastName::Absent,
+            Some(name) if name.is_dot() => LastName::Dot,
+            Some(name) if name.is_dot_dot() => LastName::DotDot,
+            Some(_) => LastName::Plain,
+        }
+    }
 }
 
 impl FilePath {
@@ -159,7 +186,10 @@ impl Eq for FilePath {
 fn has_long_component(bytes: &[u8]) -> bool
     ensures { result ≡ list_any is_long (components bytes.now) }
 {
-    for piece in bytes.split_str(b"/".as_slice()) {
+    if bytes.len() <= LONGEST_NAME {
+        return false;
+    }
+    for piece in Pieces::of(bytes) {
         if piece.len() > LONGEST_NAME {
             return true;
         }
@@ -174,7 +204,7 @@ fn component_names(alloc: Global, bytes: &[u8]) -> Result<Names, Memory>
     ensures { IfOk result (λ names. names ≡ components bytes.now) }
 {
     let mut names = Names::new(alloc);
-    for piece in bytes.split_str(b"/".as_slice()) {
+    for piece in Pieces::of(bytes) {
         if !piece.is_empty() {
             names.push(Name::from_bytes(alloc, piece)?)?;
         }

@@ -1,117 +1,147 @@
 // Each call on its happy path, the limits, and what no clause says: printed text.
-ghost use Rattle.std.specs.Prelude.{◌<◌};
-
-use crate::{Errno, FilePath, Name, Names, Parts, PartsFault, PathFault};
+// What has a destructor is held by the test alone; helpers take it by reference.
+use crate::{Errno, FilePath, LastName, Name, Names, Parts, PartsFault, PathFault};
 use ft_base::Memory;
-use std::alloc::Global;
+use std::alloc::{AllocError, Global};
+use std::fmt::Display;
 use std::test::Fail;
 
-/// The parts of a text without null bytes.
-fn parts_of(alloc: Global, bytes: &[u8]) -> Result<Result<Parts, PartsFault>, PathFault> {
-    let path = FilePath::new(alloc, bytes)?;
-    Ok(path.parts(alloc))
+/// The parts of a text that is a path.
+fn parts_of(alloc: Global, text: &[u8]) -> Result<Parts, Fail> {
+    Ok(FilePath::new(alloc, text)?.parts(alloc)?)
 }
 
-/// The errno with which a text is refused.
-fn errno_of(alloc: Global, bytes: &[u8]) -> Result<Option<Errno>, PathFault> {
-    Ok(match parts_of(alloc, bytes)? {
+/// The errno with which a text without null bytes is refused.
+fn errno_of(alloc: Global, text: &[u8]) -> Result<Option<Errno>, PathFault> {
+    Ok(match FilePath::new(alloc, text)?.parts(alloc) {
         Err(PartsFault::Errno(errno)) => Some(errno),
         _ => None,
     })
 }
 
-/// A slash and a component of so many bytes.
-fn one_component(alloc: Global, count: usize) -> Result<Vec<u8>, Fail>
-    requires { count < 1000 }
-{
-    let mut bytes = vec![in alloc; b'n'; count]?;
-    bytes.insert(0, b'/')?;
-    Ok(bytes)
+fn are_names(names: &[Name], wanted: &[&[u8]]) -> bool {
+    names.len() == wanted.len()
+        && names
+            .iter()
+            .zip(wanted)
+            .all(|(name, bytes)| name.as_bytes() == *bytes)
+}
+
+/// A slash and a component of 256 bytes, one more than a name may have.
+fn long_component() -> [u8; 257] {
+    let mut text = [b'n'; 257];
+    text[0] = b'/';
+    text
 }
 
 #[test]
-fn single_calls(rt: HostRuntime) -> Result<(), Fail> {
-    let alloc = rt.alloc();
-    let nul = FilePath::new(alloc, b"/a\0b".as_slice());
+fn paths_have_parts(rt: HostRuntime) -> Result<(), Fail> {
+    let component = long_component();
+    let slashes = [b'/'; 4095];
+    let letters = [b"a".as_slice(), b"b".as_slice()];
+    assert!(rt; has_parts(rt.alloc(), b"/a//b/", &letters, true)?);
+    assert!(rt; has_parts(rt.alloc(), &component[..256], &[&component[1..256]], false)?);
+    assert!(rt; has_parts(rt.alloc(), &slashes, &[], false)?);
+    Ok(())
+}
+
+fn has_parts(alloc: Global, text: &[u8], names: &[&[u8]], trailing: bool) -> Result<bool, Fail> {
+    let parts = parts_of(alloc, text)?;
+    Ok(parts.trailing == trailing && are_names(parts.names.as_slice(), names))
+}
+
+#[test]
+fn texts_are_refused(rt: HostRuntime) -> Result<(), Fail> {
+    let component = long_component();
+    let slashes = [b'/'; 4096];
+    let table = [
+        (b"".as_slice(), Errno::ENOENT),
+        (component.as_slice(), Errno::ENAMETOOLONG),
+        (slashes.as_slice(), Errno::ENAMETOOLONG),
+    ];
+    for (text, wanted) in table {
+        assert_eq!(rt; errno_of(rt.alloc(), text)?, Some(wanted));
+    }
+    let nul = FilePath::new(rt.alloc(), b"/a\0b".as_slice());
     assert_eq!(rt; nul.err(), Some(PathFault::NulByte));
-
-    let parts = parts_of(alloc, b"/a//b/".as_slice())??;
-    assert_eq!(rt; parts.names.as_slice().len(), 2);
-    assert_eq!(rt; parts.names.as_slice()[0].as_bytes(), b"a".as_slice());
-    assert_eq!(rt; parts.names.as_slice()[1].as_bytes(), b"b".as_slice());
-    assert!(rt; parts.trailing);
-
-    assert_eq!(rt; errno_of(alloc, b"".as_slice())?, Some(Errno::ENOENT));
-    Ok(())
-}
-
-#[test]
-fn long_components(rt: HostRuntime) -> Result<(), Fail> {
-    let alloc = rt.alloc();
-    let longest = one_component(alloc, 255)?;
-    let parts = parts_of(alloc, longest.as_slice())??;
-    assert_eq!(rt; parts.names.as_slice().len(), 1);
-    assert!(rt; !parts.trailing);
-    let longer = one_component(alloc, 256)?;
-    assert_eq!(rt;
-        errno_of(alloc, longer.as_slice())?,
-        Some(Errno::ENAMETOOLONG)
-    );
-    Ok(())
-}
-
-#[test]
-fn long_paths(rt: HostRuntime) -> Result<(), Fail> {
-    let alloc = rt.alloc();
-    let longest = vec![in alloc; b'/'; 4095]?;
-    let parts = parts_of(alloc, longest.as_slice())??;
-    assert!(rt; parts.names.as_slice().is_empty());
-    assert!(rt; !parts.trailing);
-    let longer = vec![in alloc; b'/'; 4096]?;
-    assert_eq!(rt;
-        errno_of(alloc, longer.as_slice())?,
-        Some(Errno::ENAMETOOLONG)
-    );
     Ok(())
 }
 
 #[test]
 fn names_are_ordered_by_bytes(rt: HostRuntime) -> Result<(), Fail> {
-    let rising = parts_of(rt.alloc(), b"./../B/a/ab/b/\xff".as_slice())??;
-    let names = rising.names.as_slice();
-    assert_eq!(rt; names.len(), 7);
-    for (low, high) in names.iter().zip(names.iter().skip(1)) {
-        assert!(rt; low < high);
-        assert!(rt; low.cmp(high).is_lt());
-        assert!(rt; low != high);
-    }
+    let rising = parts_of(rt.alloc(), b"./../B/a/ab/b/\xff".as_slice())?;
+    assert!(rt; are_rising(rising.names.as_slice()));
     Ok(())
+}
+
+fn are_rising(names: &[Name]) -> bool {
+    names.len() == 7
+        && names.iter().zip(names.iter().skip(1)).all(|(low, high)| low < high
+            && low.cmp(high).is_lt()
+            && low != high)
 }
 
 #[test]
 fn names_know_the_dots(rt: HostRuntime) -> Result<(), Fail> {
-    let alloc = rt.alloc();
-    let parent = Name::from_bytes(alloc, b"..".as_slice())?;
-    assert!(rt; parent.is_dot_dot());
-    assert!(rt; !parent.is_dot());
-    assert_eq!(rt; parent.try_clone()?, parent);
-
-    let mut names = Names::new(alloc);
-    assert!(rt; names.as_slice().is_empty());
-    names.push(parent)?;
-    assert_eq!(rt; names.as_slice().len(), 1);
-    assert!(rt; names != Names::new(alloc));
+    let parent = Name::from_bytes(rt.alloc(), b"..".as_slice())?;
+    assert!(rt; parent.is_dot_dot() && !parent.is_dot());
     Ok(())
 }
 
 #[test]
-fn paths_keep_their_bytes(rt: HostRuntime) -> Result<(), Fail> {
+fn parts_know_their_last_name(rt: HostRuntime) -> Result<(), Fail> {
     let alloc = rt.alloc();
-    let path = FilePath::new(alloc, b"//a".as_slice())?;
-    assert_eq!(rt; path.as_bytes(), b"//a".as_slice());
-    assert_eq!(rt; path.try_clone()?, path);
-    assert!(rt; path != FilePath::new(alloc, b"/a".as_slice())?);
+    assert_eq!(rt; last_of(alloc, b"//".as_slice())?, LastName::Absent);
+    assert_eq!(rt; last_of(alloc, b"a/.".as_slice())?, LastName::Dot);
+    assert_eq!(rt; last_of(alloc, b"a/../".as_slice())?, LastName::DotDot);
+    assert_eq!(rt; last_of(alloc, b"../a".as_slice())?, LastName::Plain);
     Ok(())
+}
+
+/// What the last component of a text that is a path is.
+fn last_of(alloc: Global, text: &[u8]) -> Result<LastName, Fail> {
+    let parts = parts_of(alloc, text)?;
+    Ok(parts.last())
+}
+
+#[test]
+fn names_are_cloned(rt: HostRuntime) -> Result<(), Fail> {
+    let name = Name::from_bytes(rt.alloc(), b"a".as_slice())?;
+    assert!(rt; is_cloned(&name)?);
+    Ok(())
+}
+
+fn is_cloned(name: &Name) -> Result<bool, Fail> {
+    Ok(name.try_clone()? == *name && name.clone()? == *name)
+}
+
+#[test]
+fn lists_of_names_grow(rt: HostRuntime) -> Result<(), Fail> {
+    let mut names = Names::new(rt.alloc());
+    assert!(rt; takes_name(rt.alloc(), &mut names)?);
+    Ok(())
+}
+
+fn takes_name(alloc: Global, names: &mut Names) -> Result<bool, Memory> {
+    let is_empty = names.as_slice().is_empty();
+    names.push(Name::from_bytes(alloc, b"a".as_slice())?)?;
+    Ok(is_empty && are_names(names.as_slice(), &[b"a".as_slice()]) && *names != Names::new(alloc))
+}
+
+#[test]
+fn paths_keep_their_bytes(rt: HostRuntime) -> Result<(), Fail> {
+    let path = FilePath::new(rt.alloc(), b"//a".as_slice())?;
+    assert!(rt; keeps_its_bytes(rt.alloc(), &path)?);
+    Ok(())
+}
+
+fn keeps_its_bytes(alloc: Global, path: &FilePath) -> Result<bool, Fail> {
+    Ok(
+        path.as_bytes() == b"//a".as_slice()
+            && path.try_clone()? == *path
+            && path.clone()? == *path
+            && FilePath::new(alloc, b"/a".as_slice())? != *path,
+    )
 }
 
 #[test]
@@ -124,23 +154,12 @@ fn faults_have_numbers(rt: HostRuntime) {
 
 #[test]
 fn faults_have_names(rt: HostRuntime) -> Result<(), Fail> {
-    let alloc = rt.alloc();
-    let nul = format!(in alloc; "{}", PathFault::NulByte)?;
-    assert_eq!(rt; nul.as_str(), "NulByte");
-    let memory = format!(in alloc; "{}", PartsFault::Memory)?;
-    assert_eq!(rt; memory.as_str(), "Memory");
-    let text = format!(in alloc; "{}", PartsFault::Errno(Errno::ENOTDIR))?;
-    assert_eq!(rt; text.as_str(), "ENOTDIR");
+    assert!(rt; is_printed(rt.alloc(), PathFault::NulByte, "NulByte")?);
+    assert!(rt; is_printed(rt.alloc(), PartsFault::Memory, "Memory")?);
+    assert!(rt; is_printed(rt.alloc(), PartsFault::Errno(Errno::ENOTDIR), "ENOTDIR")?);
     Ok(())
 }
 
-#[test]
-fn names_and_paths_are_cloned(rt: HostRuntime) -> Result<(), Fail> {
-    let path = FilePath::new(rt.alloc(), b"/a//b".as_slice())?;
-    assert!(rt; path.clone()? == path);
-    let parts = path.parts(rt.alloc())?;
-    if let Some(name) = parts.names.as_slice().first() {
-        assert!(rt; name.clone()? == *name);
-    }
-    Ok(())
+fn is_printed<T: Display + Drop>(alloc: Global, value: T, text: &str) -> Result<bool, AllocError> {
+    Ok(format!(in alloc; "{value}")?.as_str() == text)
 }

@@ -1,4 +1,5 @@
-// What no clause says: worked scripts, each fault, and the time that the most reads take.
+// What no clause says: readers and writers that fail, halt or take little, the time that the most reads
+// take, and the words of the command line. Scripts alone are case files, which the built program plays.
 use crate::choose::{Choice, choose};
 use crate::play::{LONGEST_LINE, MOST_READS, PlayFault, play};
 use crate::status::play_status;
@@ -110,6 +111,16 @@ struct Narrow {
     at_end: AtEnd,
 }
 
+impl Narrow {
+    fn new(alloc: Global, room: usize, at_end: AtEnd) -> Narrow {
+        Narrow {
+            held: Vec::new(alloc),
+            room,
+            at_end,
+        }
+    }
+}
+
 impl Write for Narrow {
     fn write(&mut self, buffer: &[u8]) -> io::Result<usize> {
         if self.held.len() >= self.room {
@@ -131,196 +142,45 @@ impl Write for Narrow {
     }
 }
 
-// How a script ends that a new core plays, and the number that the next transaction gets.
-fn played<R: Read, W: Write>(
+// How a script ended, and the number that the next transaction got.
+type End = (Result<(), PlayFault>, u64);
+
+// Plays a script on a new core.
+fn played<R: Read, W: Write>(alloc: Global, reader: &mut R, writer: &mut W) -> Result<End, Fail> {
+    let mut core = Core::new(alloc)?;
+    played_on(alloc, reader, writer, &mut core)
+}
+
+fn played_on<R: Read, W: Write>(
     alloc: Global,
     reader: &mut R,
     writer: &mut W,
-) -> Result<(Result<(), PlayFault>, u64), Fail> {
-    let mut core = Core::new(alloc)?;
-    let result = play(alloc, reader, writer, &mut core);
-    let next = core.begin()?;
-    Ok((result, next.0))
+    core: &mut Core,
+) -> Result<End, Fail> {
+    let end = play(alloc, reader, writer, core);
+    Ok((end, core.begin()?.0))
 }
 
-// What a script writes, and how it ends.
-fn outcome(alloc: Global, script: &[u8]) -> Result<(String, Result<(), PlayFault>), Fail> {
+// Whether a reader's script ends so, with these replies.
+fn gives<R: Read>(alloc: Global, reader: &mut R, end: End, replies: &str) -> Result<bool, Fail> {
     let mut text = Vec::new(alloc);
-    let mut reader = script;
-    let (result, _) = played(alloc, &mut reader, &mut text)?;
-    Ok((String::from_utf8(text)?, result))
+    let found = played(alloc, reader, &mut text)?;
+    Ok(found == end && text.as_slice() == replies.as_bytes())
 }
 
-// What a whole script writes.
-fn written(alloc: Global, script: &[u8]) -> Result<String, Fail> {
-    let (text, result) = outcome(alloc, script)?;
-    result?;
-    Ok(text)
+// Whether a script ends so, and this is what a writer holds that takes one byte a call.
+fn gives_narrow(
+    alloc: Global,
+    script: &str,
+    writer: &mut Narrow,
+    end: End,
+    held: &str,
+) -> Result<bool, Fail> {
+    let found = played(alloc, &mut script.as_bytes(), writer)?;
+    Ok(found == end && writer.held.as_slice() == held.as_bytes())
 }
 
-// What the requests of a conversation get as replies, and what they are to get.
-fn replies(alloc: Global, conversation: &[(&str, &str)]) -> Result<(String, String), Fail> {
-    let mut script = String::new(alloc);
-    let mut wanted = String::new(alloc);
-    for (request, reply) in conversation {
-        writeln!(script, "{request}")?;
-        writeln!(wanted, "{reply}")?;
-    }
-    Ok((written(alloc, script.as_bytes())?, wanted))
-}
-
-// ---- scripts
-
-#[test]
-fn empty_script(rt: HostRuntime) -> Result<(), Fail> {
-    for script in ["", "\n# note\n", "\n", "# note", "\r\n", "#\r\n\r"] {
-        let text = written(rt.alloc(), script.as_bytes())?;
-        assert!(rt; text.is_empty(), "at {script:?}");
-    }
-    Ok(())
-}
-
-#[test]
-fn abort_hides_directory(rt: HostRuntime) -> Result<(), Fail> {
-    let (text, wanted) = replies(
-        rt.alloc(),
-        &[
-            ("begin", "txn 1"),
-            ("1 mkdir /a", "2 ok"),
-            ("1 list /", "3 ok 1 a/"),
-            ("abort 1", "ok"),
-            ("begin", "txn 2"),
-            ("2 list /", "4 ok 0"),
-        ],
-    )?;
-    assert_eq!(rt; text.as_str(), wanted.as_str());
-    Ok(())
-}
-
-#[test]
-fn interim_lock_waits(rt: HostRuntime) -> Result<(), Fail> {
-    let (text, wanted) = replies(
-        rt.alloc(),
-        &[
-            ("begin", "txn 1"),
-            ("begin", "txn 2"),
-            ("1 mkdir /a", "2 ok"),
-            ("2 list /", "waits 1"),
-            ("commit 1", "ok"),
-            ("2 list /", "3 ok 1 a/"),
-        ],
-    )?;
-    assert_eq!(rt; text.as_str(), wanted.as_str());
-    Ok(())
-}
-
-#[test]
-fn path_limits(rt: HostRuntime) -> Result<(), Fail> {
-    let mut script = String::from_str(rt.alloc(), "begin\n")?;
-    for (front, byte, count) in [
-        ("/", "n", 255),
-        ("/", "n", 256),
-        ("", "/", 4095),
-        ("", "/", 4096),
-    ] {
-        script.push_str("1 mkdir ")?;
-        script.push_str(front)?;
-        for _ in 0..count {
-            script.push_str(byte)?;
-        }
-        script.push_str("\n")?;
-    }
-    script.push_str("1 mkdir\n")?;
-    let text = written(rt.alloc(), script.as_bytes())?;
-    let wanted = "txn 1\n2 ok\n3 ENAMETOOLONG\n4 EEXIST\n5 ENAMETOOLONG\n6 ENOENT\n";
-    assert_eq!(rt; text.as_str(), wanted);
-    Ok(())
-}
-
-#[test]
-fn bad_lines(rt: HostRuntime) -> Result<(), Fail> {
-    for line in [
-        "frob",
-        "begin now",
-        "begin ",
-        " begin",
-        "Begin",
-        " ",
-        "\r\r",
-        " # note",
-        "commit",
-        "commit ",
-        "commit x",
-        "commit +1",
-        "commit -1",
-        "commit 1x",
-        "commit 1 2",
-        "commit  1",
-        "commit 18446744073709551616",
-        "commit 000000000000000000001",
-        "abort",
-        "abort x",
-        "abort 1 ",
-        "1",
-        "1 ",
-        "1 frob",
-        "1 frob /",
-        "1 Mkdir /",
-        "x list /",
-        "-1 list /",
-        " 1 list /",
-        "1  list /",
-        "1 list  /",
-        "1 list / ",
-        "1 list / /",
-        "1\tlist /",
-        "1 mkdir /%00",
-        "1 mkdir /a%00b",
-        "000000000000000000001 list /",
-        "18446744073709551616 list /",
-        "sub 1",
-        "1 stat /",
-        "mkdir 1 /",
-    ] {
-        let text = written(rt.alloc(), line.as_bytes())?;
-        assert_eq!(rt; text.as_str(), "bad line\n", "at {line:?}");
-    }
-    let text = written(rt.alloc(), b"1 mkdir /\0")?;
-    assert_eq!(rt; text.as_str(), "bad line\n");
-    Ok(())
-}
-
-#[test]
-fn numbers_and_coding(rt: HostRuntime) -> Result<(), Fail> {
-    let (text, wanted) = replies(
-        rt.alloc(),
-        &[
-            ("begin", "txn 1"),
-            ("18446744073709551615 list /", "refused NoTxn"),
-            ("commit 0", "refused NoTxn"),
-            ("00000000000000000001 mkdir /%4", "2 ok"),
-            ("1 mkdir /a%20b", "3 ok"),
-            ("1 mkdir /%7f%Ff%25", "4 ok"),
-            ("1 list /", "5 ok 3 %254/ a%20b/ %7F%FF%25/"),
-            ("1 rmdir /a%20b", "6 ok"),
-            ("1 list", "7 ENOENT"),
-            ("1 list ", "8 ENOENT"),
-            ("commit 1\r", "ok"),
-            ("1 list /", "refused Ended"),
-        ],
-    )?;
-    assert_eq!(rt; text.as_str(), wanted.as_str());
-    Ok(())
-}
-
-#[test]
-fn last_line_lacks_line_feed(rt: HostRuntime) -> Result<(), Fail> {
-    for script in ["begin\nbegin\n", "begin\nbegin", "begin\r\n\r\nbegin\r"] {
-        let text = written(rt.alloc(), script.as_bytes())?;
-        assert_eq!(rt; text.as_str(), "txn 1\ntxn 2\n", "at {script:?}");
-    }
-    Ok(())
-}
+// ---- readers
 
 #[test]
 fn replies_come_before_the_next_read(rt: HostRuntime) -> Result<(), Fail> {
@@ -330,165 +190,158 @@ fn replies_come_before_the_next_read(rt: HostRuntime) -> Result<(), Fail> {
         lines: 0,
     };
     let mut writer = Counting { seen: &seen };
-    let (result, next) = played(rt.alloc(), &mut reader, &mut writer)?;
-    assert_eq!(rt; result, Ok(()));
-    assert_eq!(rt; seen.get(), 18);
-    assert_eq!(rt; next, 4);
+    let found = played(rt.alloc(), &mut reader, &mut writer)?;
+    assert!(rt; matches!(found, (Ok(()), 4)) && seen.get() == 18);
     Ok(())
 }
-
-// ---- faults
 
 #[test]
 fn read_that_fails(rt: HostRuntime) -> Result<(), Fail> {
     for script in ["begin\n", "begin\nbegin", "begin\n# note\nfrob"] {
-        let mut text = Vec::new(rt.alloc());
         let mut reader = Failing {
             text: script.as_bytes(),
         };
-        let (result, next) = played(rt.alloc(), &mut reader, &mut text)?;
-        assert_eq!(rt; result, Err(PlayFault::Read), "at {script:?}");
-        assert_eq!(rt; text.as_slice(), b"txn 1\n".as_slice(), "at {script:?}");
-        assert_eq!(rt; next, 2, "at {script:?}");
+        let end = (Err(PlayFault::Read), 2);
+        assert!(rt;
+            gives(rt.alloc(), &mut reader, end, "txn 1\n")?,
+            "at {script:?}"
+        );
     }
     Ok(())
 }
 
 #[test]
 fn interrupted_reads_change_nothing(rt: HostRuntime) -> Result<(), Fail> {
-    let mut text = Vec::new(rt.alloc());
     let mut reader = Halting {
         text: b"begin\nfrob\n# note\nbegin",
         is_next_interrupted: true,
     };
-    let (result, next) = played(rt.alloc(), &mut reader, &mut text)?;
-    assert_eq!(rt; result, Ok(()));
-    assert_eq!(rt; next, 3);
-    assert_eq!(rt; text.as_slice(), b"txn 1\nbad line\ntxn 2\n".as_slice());
+    let replies = "txn 1\nbad line\ntxn 2\n";
+    assert!(rt; gives(rt.alloc(), &mut reader, (Ok(()), 3), replies)?);
     Ok(())
 }
 
 #[test]
 fn most_reads(rt: HostRuntime) -> Result<(), Fail> {
-    let mut text = Vec::new(rt.alloc());
     let mut reader = Interrupted { reads: 0 };
-    let (result, next) = played(rt.alloc(), &mut reader, &mut text)?;
-    assert_eq!(rt; result, Err(PlayFault::Turns));
-    assert_eq!(rt; next, 1);
+    assert!(rt; gives(rt.alloc(), &mut reader, (Err(PlayFault::Turns), 1), "")?);
     assert_eq!(rt; reader.reads, 100_000_000);
     assert_eq!(rt; MOST_READS, 100_000_000);
-    Ok(())
-}
-
-#[test]
-fn writes_that_fail(rt: HostRuntime) -> Result<(), Fail> {
-    for at_end in [AtEnd::Nothing, AtEnd::Fails, AtEnd::Interrupts] {
-        let mut writer = Narrow {
-            held: Vec::new(rt.alloc()),
-            room: 8,
-            at_end,
-        };
-        let mut reader = b"begin\nbegin\nbegin\n".as_slice();
-        let (result, next) = played(rt.alloc(), &mut reader, &mut writer)?;
-        assert_eq!(rt; result, Err(PlayFault::Write));
-        assert_eq!(rt; writer.held.as_slice(), b"txn 1\ntx".as_slice());
-        assert_eq!(rt; next, 3);
-    }
-    Ok(())
-}
-
-#[test]
-fn one_byte_a_write_changes_nothing(rt: HostRuntime) -> Result<(), Fail> {
-    let mut writer = Narrow {
-        held: Vec::new(rt.alloc()),
-        room: 100,
-        at_end: AtEnd::Fails,
-    };
-    let mut reader = b"begin\nfrob\nbegin\n".as_slice();
-    let (result, next) = played(rt.alloc(), &mut reader, &mut writer)?;
-    assert_eq!(rt; result, Ok(()));
-    assert_eq!(rt; next, 3);
-    assert_eq!(rt;
-        writer.held.as_slice(),
-        b"txn 1\nbad line\ntxn 2\n".as_slice()
-    );
     Ok(())
 }
 
 // A script of `begin`, a comment of so many bytes, what ends it, and another `begin`.
 fn with_comment(alloc: Global, length: usize, end: &str) -> Result<Vec<u8>, Fail> {
     let mut script = b"begin\n".to_vec(alloc)?;
-    let comment = vec![in alloc; b'#'; length]?;
-    script.extend_from_slice(comment.as_slice())?;
+    script.resize(length.saturating_add(6), b'#')?;
     script.extend_from_slice(end.as_bytes())?;
     script.extend_from_slice(b"begin\n".as_slice())?;
     Ok(script)
 }
 
+fn gives_with_comment(
+    alloc: Global,
+    (length, behind): (usize, &str),
+    end: End,
+    replies: &str,
+) -> Result<bool, Fail> {
+    let script = with_comment(alloc, length, behind)?;
+    gives(alloc, &mut script.as_slice(), end, replies)
+}
+
 #[test]
 fn line_that_is_too_long(rt: HostRuntime) -> Result<(), Fail> {
     assert_eq!(rt; LONGEST_LINE, 8_388_608);
-    for (length, end) in [(8_388_608, "\n"), (8_388_607, "\r\n")] {
-        let script = with_comment(rt.alloc(), length, end)?;
-        let (text, result) = outcome(rt.alloc(), script.as_slice())?;
-        assert_eq!(rt; result, Ok(()), "at {length}");
-        assert_eq!(rt; text.as_str(), "txn 1\ntxn 2\n", "at {length}");
+    for comment in [(8_388_608, "\n"), (8_388_607, "\r\n")] {
+        let replies = "txn 1\ntxn 2\n";
+        assert!(rt;
+            gives_with_comment(rt.alloc(), comment, (Ok(()), 3), replies)?,
+            "at {comment:?}"
+        );
     }
-    for (length, end) in [(8_388_609, "\n"), (8_388_608, "\r\n"), (8_388_609, "")] {
-        let script = with_comment(rt.alloc(), length, end)?;
-        let (text, result) = outcome(rt.alloc(), script.as_slice())?;
-        assert_eq!(rt; result, Err(PlayFault::TooLong), "at {length}");
-        assert_eq!(rt; text.as_str(), "txn 1\n", "at {length}");
+    for comment in [(8_388_609, "\n"), (8_388_608, "\r\n"), (8_388_609, "")] {
+        let end = (Err(PlayFault::TooLong), 2);
+        assert!(rt;
+            gives_with_comment(rt.alloc(), comment, end, "txn 1\n")?,
+            "at {comment:?}"
+        );
     }
+    Ok(())
+}
+
+// ---- writers
+
+#[test]
+fn writes_that_fail(rt: HostRuntime) -> Result<(), Fail> {
+    for at_end in [AtEnd::Nothing, AtEnd::Fails, AtEnd::Interrupts] {
+        let mut writer = Narrow::new(rt.alloc(), 8, at_end);
+        let end = (Err(PlayFault::Write), 3);
+        let script = "begin\nbegin\nbegin\n";
+        assert!(rt; gives_narrow(rt.alloc(), script, &mut writer, end, "txn 1\ntx")?);
+    }
+    Ok(())
+}
+
+#[test]
+fn one_byte_a_write_changes_nothing(rt: HostRuntime) -> Result<(), Fail> {
+    let mut writer = Narrow::new(rt.alloc(), 100, AtEnd::Fails);
+    let script = "begin\nfrob\nbegin\n";
+    let replies = "txn 1\nbad line\ntxn 2\n";
+    assert!(rt; gives_narrow(rt.alloc(), script, &mut writer, (Ok(()), 3), replies)?);
     Ok(())
 }
 
 // ---- the program
 
+// Whether the script of a reader ends with this status and so many bytes of replies, and this is what
+// the writer of errors then holds.
+fn ends_with<R: Read>(
+    alloc: Global,
+    reader: &mut R,
+    errors: &mut Narrow,
+    end: (u8, usize),
+    held: &str,
+) -> bool {
+    let seen = Cell::new(0);
+    let status = play_status(alloc, reader, &mut Counting { seen: &seen }, errors);
+    (status, seen.get()) == end && errors.held.as_slice() == held.as_bytes()
+}
+
 #[test]
 fn status_and_fault_line(rt: HostRuntime) -> Result<(), Fail> {
-    let mut text = Vec::new(rt.alloc());
-    let mut errors = Vec::new(rt.alloc());
-    let mut reader = b"begin\n".as_slice();
-    let status = play_status(rt.alloc(), &mut reader, &mut text, &mut errors);
-    assert_eq!(rt; status, 0);
-    assert!(rt; errors.is_empty());
-    let mut reader = Failing { text: b"" };
-    let status = play_status(rt.alloc(), &mut reader, &mut text, &mut errors);
-    assert_eq!(rt; status, 1);
-    assert_eq!(rt; errors.as_slice(), b"fault: Read\n".as_slice());
-    let mut errors = Narrow {
-        held: Vec::new(rt.alloc()),
-        room: 4,
-        at_end: AtEnd::Fails,
-    };
-    let status = play_status(rt.alloc(), &mut reader, &mut text, &mut errors);
-    assert_eq!(rt; status, 1);
-    assert_eq!(rt; errors.held.as_slice(), b"faul".as_slice());
-    assert_eq!(rt; text.as_slice(), b"txn 1\n".as_slice());
+    let alloc = rt.alloc();
+    let mut errors = Narrow::new(alloc, 16, AtEnd::Fails);
+    assert!(rt; ends_with(alloc, &mut b"begin\n".as_slice(), &mut errors, (0, 6), ""));
+    let mut reader = Failing { text: b"begin\n" };
+    assert!(rt; ends_with(alloc, &mut reader, &mut errors, (1, 6), "fault: Read\n"));
+    assert!(rt; ends_with(alloc, &mut reader, &mut errors, (1, 0), "fault: Read\nfaul"));
     Ok(())
+}
+
+// Whether these words ask for nothing that there is, and the text that says so has this part.
+fn is_usage(alloc: Global, words: &[&str], part: &str) -> bool {
+    let choice = choose(alloc, words);
+    matches!(&choice, Choice::Usage(text) if text.as_str().contains(part))
+}
+
+// Whether they ask for help, and its text has this part.
+fn is_help(alloc: Global, words: &[&str], part: &str) -> bool {
+    let choice = choose(alloc, words);
+    matches!(&choice, Choice::Help(text) if text.as_str().contains(part))
+}
+
+fn is_play(alloc: Global, words: &[&str]) -> bool {
+    matches!(choose(alloc, words), Choice::Play)
 }
 
 #[test]
 fn choices(rt: HostRuntime) -> Result<(), Fail> {
     let alloc = rt.alloc();
-    assert!(rt; matches!(choose(alloc, &["play"]), Choice::Play));
-    let Choice::Usage(text) = choose::<&str>(alloc, &[]) else {
-        return Err(Fail::from("no words ask for nothing"));
-    };
-    assert!(rt; text.as_str().contains("Usage: ft_run <COMMAND>"), "{text}");
-    let Choice::Help(text) = choose(alloc, &["--help"]) else {
-        return Err(Fail::from("--help asks for help"));
-    };
-    assert!(rt; text.as_str().contains("play"), "{text}");
-    let Choice::Usage(text) = choose(alloc, &["dance"]) else {
-        return Err(Fail::from("no such subcommand"));
-    };
-    assert!(rt;
-        text.as_str().contains("unrecognized subcommand 'dance'"),
-        "{text}"
-    );
-    assert!(rt; matches!(choose(alloc, &["play", "now"]), Choice::Usage(_)));
-    assert!(rt; matches!(choose(alloc, &["play", "--help"]), Choice::Help(_)));
+    assert!(rt; is_play(alloc, &["play"]));
+    assert!(rt; is_usage(alloc, &[], "Usage: ft_run <COMMAND>"));
+    assert!(rt; is_usage(alloc, &["dance"], "unrecognized subcommand 'dance'"));
+    assert!(rt; is_usage(alloc, &["play", "now"], "'now'"));
+    assert!(rt; is_help(alloc, &["--help"], "play"));
+    assert!(rt; is_help(alloc, &["play", "--help"], "play"));
     Ok(())
 }

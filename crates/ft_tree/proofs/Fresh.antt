@@ -9,12 +9,14 @@ use Rattle.std.specs.FinMap.{get, empty, entries, from_entries, contains_key, ge
 use Rattle.std.specs.FinMap.Entries.{put}
 use Rattle.ft_tree.specs.declared.node.Node.{Node}
 use Rattle.ft_tree.specs.declared.open_file.OpenFile.{OpenFile}
-use Rattle.ft_tree.specs.declared.cell.Cell.TheVariants.{Links}
+use Rattle.ft_tree.specs.declared.cell.Cell.{Cell}
+use Rattle.ft_tree.specs.declared.cell.Cell.TheVariants.{Entry, Names, Parent, Links, Bytes, Fd}
 use Rattle.ft_tree.specs.Nodes.{number_of}
 use Rattle.ft_tree.specs.Cells.{DirCells, FileCells, no_dir, no_file, dir_of, file_of, dir_entry, entry_of, parent_of, links_of, open_of, filled, fresh_cells}
+use Rattle.ft_tree.specs.Held.{held}
 use Rattle.ft_tree.specs.Plain.{EdgeKey, edge_cmp, view_in}
 use Rattle.ft_tree.specs.Tidy.{tidy, edges_from}
-use Rattle.ft_tree.specs.Sound.{AreSoundCells, IsFree}
+use Rattle.ft_tree.specs.Sound.{AreSoundCells, SaysNothingOf, IsFree}
 use Rattle.ft_tree.proofs.CellViews.{entries-empty}
 
 fresh-get : (d : ℕ) → get fresh_cells.directories d ≡ cond (d == 1) (Some no_dir) None
@@ -78,13 +80,13 @@ fresh-sound = record {
   opens = λ f o h. absurd (no_value _ _ (fresh-open f) h);
 }
 
+fresh-unused : (k : ℕ) (c : Cell) → SaysNothingOf k c (held fresh_cells c)
+fresh-unused k (Entry d name) = λ x is. absurd (no_value _ _ (fresh-entry d name) is)
+fresh-unused k (Names d) = tt
+fresh-unused k (Parent d) = λ at. fresh-parent d
+fresh-unused k (Links i) = λ at. ap (λ (x : FileCells). x.links) (fresh-file i)
+fresh-unused k (Bytes i) = λ at. ap (λ (x : FileCells). x.bytes) (fresh-file i)
+fresh-unused k (Fd f) = (λ at. fresh-open f, λ o is. absurd (no_value _ _ (fresh-open f) is))
+
 pub fresh-free : (k : ℕ) → 2 ≤ k → IsFree fresh_cells k
-fresh-free k h = record {
-  above_root = h;
-  no_parent = fresh-parent k;
-  no_links = ap (λ (x : FileCells). x.links) (fresh-file k);
-  no_bytes = ap (λ (x : FileCells). x.bytes) (fresh-file k);
-  no_open = fresh-open k;
-  no_entry = λ d name x is. absurd (no_value _ _ (fresh-entry d name) is);
-  no_file = λ f o is. absurd (no_value _ _ (fresh-open f) is);
-}
+fresh-free k h = record { above_root = h; unused = fresh-unused k }

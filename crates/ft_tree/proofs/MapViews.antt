@@ -6,7 +6,7 @@ use Rattle.std.specs.declared.cmp.Ordering.TheVariants.{Less, Equal, Greater}
 use Rattle.std.specs.Cmp.{IsTotalOrder, eq_by_cmp_equiv}
 use Rattle.std.specs.BTreeMap.{is_at}
 use Rattle.std.specs.Map.{lookup}
-use Rattle.std.specs.FinMap.{FinMap, find, get, insert, from_entries, get-insert, get_tied, get-from_entries, same_map}
+use Rattle.std.specs.FinMap.{FinMap, find, get, insert, remove, from_entries, get-insert, get-remove, get_tied, get-from_entries, same_map}
 use Rattle.std.proofs.lemmas.Map.Lookups.{CmpEqualImpliesEq}
 
 eq_from_is_eq : (r : Ordering) → is_eq r ≡ true → r ≡ Equal
@@ -29,6 +29,13 @@ module _ {K X : Type 0} {R : K → K → Ordering} (o : IsTotalOrder R) where
   view-put exact es fs k v h = same_map o exact _ _ (λ q.
       get-view fs q ∙ h q ∙ ap (λ b. cond b (Some v) (lookup (is_at (R q)) es)) ((eq_by_cmp_equiv o).symm k q)
       ∙ sym (get-insert o (from_entries es) k v q ∙ ap (cond (is_at (R q) k) (Some v)) (get-view es q)))
+
+  -- entries that have nothing at one key make a map without it
+  pub view-remove : CmpEqualImpliesEq R → (es fs : List (K × X)) (k : K)
+      → ((q : K) → lookup (is_at (R q)) fs ≡ cond (is_at (R k) q) None (lookup (is_at (R q)) es)) → from_entries {R = R} fs ≡ remove (from_entries es) k
+  view-remove exact es fs k h = same_map o exact _ _ (λ q.
+      get-view fs q ∙ h q ∙ ap (λ b. cond b None (lookup (is_at (R q)) es)) ((eq_by_cmp_equiv o).symm k q)
+      ∙ sym (get-remove o (from_entries es) k q ∙ ap (cond (is_at (R q) k) None) (get-view es q)))
 
   -- where the entries have nothing at a key, the map has no place there
   pub no_place : (es : List (K × X)) (q : K) (m : FinMap R X) → from_entries es ≡ m → lookup (is_at (R q)) es ≡ None → IsSome (get m q) → ⊥

@@ -148,6 +148,10 @@ put_bytes cells i bytes = put_file cells i (record { links = links_of cells i; b
 abbrev pub put_open : Cells → ℕ → Option OpenFile → Cells
 put_open cells f to = record cells { opens = map.insert cells.opens f to }
 
+-- a directory without the place of an entry
+abbrev pub without_dir_place : DirCells → List ℕ → DirCells
+without_dir_place d name = record { parent = d.parent; entries = map.remove d.entries name }
+
 -- the root alone
 abbrev pub fresh_cells : Cells
 fresh_cells = record { directories = map.insert map.empty 1 no_dir; files = map.empty; opens = map.empty }

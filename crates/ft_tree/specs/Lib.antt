@@ -2,6 +2,7 @@ pub mod Nodes
 pub mod Modes
 pub mod CellOrder
 pub mod Cells
+pub mod Held
 pub mod Looks
 pub mod Views
 pub mod Walk

@@ -3,10 +3,12 @@ use Rattle.std.specs.Prelude.{◌≡◌, ◌≢◌, ◌≤◌, ℕ, true, false,
 use Rattle.std.specs.FinMap as finite
 use Rattle.ft_tree.specs.declared.node.Node.{Node}
 use Rattle.ft_tree.specs.declared.node.Node.TheVariants.{Dir as DirNode, File as FileNode}
-use Rattle.ft_tree.specs.declared.cell.Cell.TheVariants.{Links}
+use Rattle.ft_tree.specs.declared.cell.Cell.{Cell}
+use Rattle.ft_tree.specs.declared.cell.Cell.TheVariants.{Entry, Names, Parent, Links, Bytes, Fd}
 use Rattle.ft_tree.specs.declared.open_file.OpenFile.{OpenFile}
 use Rattle.ft_tree.specs.Nodes.{number_of}
-use Rattle.ft_tree.specs.Cells.{Cells, entry_of, parent_of, links_of, bytes_of, open_of, HasDirPlace, HasEntryPlace, HasFilePlace, HasOpenPlace}
+use Rattle.ft_tree.specs.Cells.{Cells, entry_of, parent_of, links_of, open_of, HasDirPlace, HasFilePlace}
+use Rattle.ft_tree.specs.Held.{Holds, held, IsStored}
 use Rattle.ft_tree.specs.Plain.{PlainTree, EdgeKey, parent_in, view_in}
 use Rattle.ft_tree.specs.Tidy.{tidy}
 
@@ -59,24 +61,25 @@ pub record AreSoundCells (cells : Cells) : Type 0 where
   pub links : (i : ℕ) → links_of cells i ≡ view_in (tidy cells) (Links i)
   pub opens : (f : ℕ) (o : OpenFile) → open_of cells f ≡ Some o → HasFilePlace cells o.file × IsNoDir (parent_of cells) o.file
 
--- k may number something new: the root is 1, no cell of number k has a value, and no value names k
+-- what a cell holds says nothing of number k: no entry and no description names it, and nothing is stored of it
+abbrev pub SaysNothingOf : ℕ → (c : Cell) → Holds c → Type 0
+SaysNothingOf k (Entry d name) to = (x : Node) → to ≡ Some x → number_of x ≢ k
+SaysNothingOf k (Names d) to = Unit {0}
+SaysNothingOf k (Parent d) to = d ≡ k → to ≡ None
+SaysNothingOf k (Links i) to = i ≡ k → to ≡ 0
+SaysNothingOf k (Bytes i) to = i ≡ k → to ≡ []
+SaysNothingOf k (Fd f) to = (f ≡ k → to ≡ None) × ((o : OpenFile) → to ≡ Some o → o.file ≢ k)
+
+-- k may number something new: the root is 1, and no cell says anything of k
 pub record IsFree (cells : Cells) (k : ℕ) : Type 0 where
   pub above_root : 2 ≤ k
-  pub no_parent : parent_of cells k ≡ None
-  pub no_links : links_of cells k ≡ 0
-  pub no_bytes : bytes_of cells k ≡ []
-  pub no_open : open_of cells k ≡ None
-  pub no_entry : (d : ℕ) (name : List ℕ) (x : Node) → entry_of cells d name ≡ Some x → number_of x ≢ k
-  pub no_file : (f : ℕ) (o : OpenFile) → open_of cells f ≡ Some o → o.file ≢ k
+  pub unused : (c : Cell) → SaysNothingOf k c (held cells c)
 
--- The cells have the values that they had, and each place that was there is; new empty ones may have come.
+-- Each cell holds what it held, whatever places there are.
+pub record SameValues (old new : Cells) : Type 0 where
+  pub values : (c : Cell) → held new c ≡ held old c
+
+-- And each place that was there is; new empty ones may have come.
 pub record KeepsValues (old new : Cells) : Type 0 where
-  pub entries : (d : ℕ) (name : List ℕ) → entry_of new d name ≡ entry_of old d name
-  pub parents : (d : ℕ) → parent_of new d ≡ parent_of old d
-  pub links : (i : ℕ) → links_of new i ≡ links_of old i
-  pub bytes : (i : ℕ) → bytes_of new i ≡ bytes_of old i
-  pub opens : (f : ℕ) → open_of new f ≡ open_of old f
-  pub dir_places : (d : ℕ) → HasDirPlace old d → HasDirPlace new d
-  pub entry_places : (d : ℕ) (name : List ℕ) → HasEntryPlace old d name → HasEntryPlace new d name
-  pub file_places : (i : ℕ) → HasFilePlace old i → HasFilePlace new i
-  pub open_places : (f : ℕ) → HasOpenPlace old f → HasOpenPlace new f
+  pub values : (c : Cell) → held new c ≡ held old c
+  pub places : (c : Cell) → IsStored old c → IsStored new c

@@ -1,10 +1,14 @@
-ghost use Rattle.std.specs.Prelude.{Some, refl};
+ghost use Rattle.std.specs.Prelude.{◌≡◌, ◌++◌, ◌∷◌, [], Some, refl};
+ghost use Rattle.std.proofs.Common.{ap};
+ghost use Rattle.std.specs.Hash as fed;
 ghost use Rattle.std.specs.Ordering.{eq_by_cmp};
 ghost use Rattle.std.specs.Cmp.{eq_by_cmp_equiv, partial_equiv_from_equiv, partial_order_from_total};
-ghost use Rattle.ft_tree.specs.CellOrder.{cell_cmp, cell_cmp_total};
+ghost use Rattle.ft_tree.specs.CellOrder.{cell_cmp, cell_cmp_total, cell_rank, cell_number, cell_name, same_cell-is};
 
 use ft_path::Name;
+use std::alloc::AllocError;
 use std::cmp::Ordering;
+use std::hash::{Hash, Hasher};
 
 /// A part of a tree that calls read and write as one; locks are taken on cells.
 ///
@@ -28,8 +32,20 @@ pub enum Cell {
 }
 
 impl Cell {
-    ghost use Rattle.std.specs.Prelude.{◌≡◌};
-    ghost use Rattle.ft_tree.specs.CellOrder.{cell_rank, cell_number, cell_name};
+    ghost use Rattle.ft_tree.specs.declared.cell.Cell.TheVariants.{Entry};
+
+    /// How the entry of a name in a directory stands to this cell, in the order of cells.
+    pub fn cmp_entry(&self, dir: u64, name: &Name) -> Ordering
+        ensures { result ≡ cell_cmp (Entry dir name.now) self.now }
+    {
+        match self {
+            Cell::Entry(number, own) => match dir.cmp(number) {
+                Ordering::Equal => name.cmp(own),
+                order => order,
+            },
+            _ => Ordering::Less,
+        }
+    }
 
     /// The place of its kind among the kinds.
     fn rank(&self) -> u8
@@ -104,9 +120,39 @@ impl Ord for Cell {
     ghost matches_eq = { λ x y. refl };
 
     fn cmp(&self, other: &Cell) -> Ordering {
-        self.rank()
-            .cmp(&other.rank())
-            .then(self.number().cmp(&other.number()))
-            .then(self.name().cmp(other.name()))
+        match self.rank().cmp(&other.rank()) {
+            Ordering::Equal => match self.number().cmp(&other.number()) {
+                Ordering::Equal => self.name().cmp(other.name()),
+                order => order,
+            },
+            order => order,
+        }
+    }
+}
+
+impl Clone for Cell {
+    ghost is_clone = { λ cell copy. copy ≡ cell };
+
+    fn clone(&self) -> Result<Cell, AllocError> {
+        Ok(match self {
+            Cell::Entry(dir, name) => Cell::Entry(*dir, name.clone()?),
+            Cell::Names(dir) => Cell::Names(*dir),
+            Cell::Parent(dir) => Cell::Parent(*dir),
+            Cell::Links(file) => Cell::Links(*file),
+            Cell::Bytes(file) => Cell::Bytes(*file),
+            Cell::Fd(fd) => Cell::Fd(*fd),
+        })
+    }
+}
+
+impl Hash for Cell {
+    ghost hash_input = { λ cell. fed.u64 (cell_number cell) ++ fed.u8 (cell_rank cell) ++ cell_name cell ∷ [] };
+
+    ghost respects_eq = { λ x y same. ap (λ cell. fed.u64 (cell_number cell) ++ fed.u8 (cell_rank cell) ++ cell_name cell ∷ []) (same_cell-is x y same) };
+
+    fn hash<H: Hasher>(&self, state: &mut H) {
+        state.write_u64(self.number());
+        state.write_u8(self.rank());
+        state.write(self.name());
     }
 }

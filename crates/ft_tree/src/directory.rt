@@ -7,7 +7,7 @@ ghost use Rattle.std.specs.BTreeMap.{IsOrdered, values};
 ghost use Rattle.std.specs.FinMap as map;
 ghost use Rattle.ft_tree.specs.Nodes.{with_kinds};
 ghost use Rattle.ft_tree.specs.Rows.{named_rows};
-ghost use Rattle.ft_tree.specs.Cells.{DirCells, coded_dir_cells, dir_entry, put_dir_entry, put_dir_parent, HasPlace, filled, dir_names};
+ghost use Rattle.ft_tree.specs.Cells.{DirCells, coded_dir_cells, dir_entry, put_dir_entry, put_dir_parent, without_dir_place, HasPlace, filled, dir_names};
 
 use crate::node::{Kind, Node};
 use crate::row::TreeRow;
@@ -16,6 +16,7 @@ use ft_path::Name;
 use std::alloc::{AllocError, Global};
 use std::collections::BTreeMap;
 use std::marker::Model;
+use std::mem;
 
 /// A directory, stored: where it stands, and its entries, of whose places some may be empty.
 #[derive(Drop)]
@@ -57,25 +58,34 @@ impl Directory {
         self.entries.get(name).copied().flatten()
     }
 
-    /// Sets the directory that has its entry.
-    pub(crate) fn set_parent(&mut self, parent: Option<u64>)
-        ensures { self.new ≡ put_dir_parent self.old parent }
+    /// Sets the directory that has its entry, and answers which one it was.
+    pub(crate) fn set_parent(&mut self, parent: Option<u64>) -> Option<u64>
+        ensures was { result ≡ self.old.parent }
+        ensures set { self.new ≡ put_dir_parent self.old parent }
     {
-        self.parent = parent;
+        mem::replace(&mut self.parent, parent)
     }
 
-    /// Sets an entry. Only a place that is new can want memory.
-    pub(crate) fn set_entry(&mut self, name: &Name, to: Option<Node>) -> Result<(), Memory>
-        ensures ok { OnOk result (self.new ≡ put_dir_entry self.old name.now to) }
+    /// Sets an entry, and answers what stood in its place, if that was there. Only a place that is
+    /// new can want memory.
+    pub(crate) fn set_entry(
+        &mut self,
+        name: Name,
+        to: Option<Node>,
+    ) -> Result<Option<Option<Node>>, Memory>
+        ensures was { IfOk result (λ was. was ≡ map.get self.old.entries name) }
+        ensures ok { OnOk result (self.new ≡ put_dir_entry self.old name to) }
         ensures err { OnErr result (self.new ≡ self.old) }
-        ensures place { HasPlace self.old name.now → IsOk result }
+        ensures place { HasPlace self.old name → IsOk result }
     {
-        if let Some(place) = self.entries.get_mut(name) {
-            *place = to;
-            return Ok(());
-        }
-        self.entries.insert(name.clone()?, to)?;
-        Ok(())
+        Ok(self.entries.insert(name, to)?)
+    }
+
+    /// Takes the place of an entry away.
+    pub(crate) fn drop_place(&mut self, name: &Name)
+        ensures { self.new ≡ without_dir_place self.old name.now }
+    {
+        self.entries.remove(name);
     }
 
     /// Its names in order, with the kinds of what they lead to.

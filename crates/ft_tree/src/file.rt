@@ -8,6 +8,7 @@ use ft_base::Memory;
 use ft_body::{Body, BodyUndo};
 use std::alloc::{AllocError, Global};
 use std::marker::Model;
+use std::mem;
 
 /// A file, stored.
 #[derive(Drop)]
@@ -42,11 +43,12 @@ impl File {
         self.links
     }
 
-    /// Sets how many entries name it.
-    pub(crate) fn set_links(&mut self, links: u64)
-        ensures { self.new ≡ record { links = links; bytes = self.old.bytes } }
+    /// Sets how many entries name it, and answers how many there were.
+    pub(crate) fn set_links(&mut self, links: u64) -> u64
+        ensures was { result ≡ self.old.links }
+        ensures set { self.new ≡ record { links = links; bytes = self.old.bytes } }
     {
-        self.links = links;
+        mem::replace(&mut self.links, links)
     }
 
     /// Its bytes.

@@ -10,6 +10,7 @@
 mod cell;
 mod directory;
 mod file;
+mod keeps;
 mod node;
 mod open_file;
 mod row;
@@ -18,6 +19,7 @@ mod tests;
 mod tree;
 
 pub use cell::Cell;
+pub use keeps::Keeps;
 pub use node::{Found, Kind, Node, Spot};
 pub use open_file::{AccessMode, OpenFile};
 pub use row::TreeRow;

@@ -9,10 +9,13 @@ ghost use Rattle.ft_tree.specs.Walk.{up, inner, last, walk, found, seen};
 ghost use Rattle.ft_body.specs.declared.TheConstants.{SIZE_LIMIT};
 ghost use Rattle.ft_body.specs.Bytes.{fitting, written, resized};
 ghost use Rattle.ft_tree.specs.Cells.{DirCells, entry_of, names_of, parent_of, links_of, bytes_of, body_in, open_of, kind_of, has_dir, has_file, put_entry, put_parent, put_links, put_bytes, put_open, stored_dirs, HasEntryPlace, HasDirPlace, HasFilePlace, HasOpenPlace, fresh_cells};
+ghost use Rattle.ft_tree.specs.declared.cell.Cell.TheVariants.{Entry, Parent, Links, Fd};
+ghost use Rattle.ft_tree.specs.Held.{place_at, without_place};
 ghost use Rattle.ft_tree.specs.Rows.{rows_of};
 ghost use Rattle.ft_tree.specs.Tidy.{tidy};
 ghost use Rattle.ft_tree.specs.Sound.{AreSoundCells, IsFree};
 
+use crate::cell::Cell;
 use crate::directory::Directory;
 use crate::file::File;
 use crate::node::{Found, Kind, Node, Spot};
@@ -169,15 +172,22 @@ impl Tree {
     }
 
     /// Sets what a name leads to in a directory, or that it is no entry. The directory has to be
-    /// stored, and no other cell changes: that the tree stays one is the caller's part.
+    /// stored, and no other cell changes: that the tree stays one is the caller's part. Answers what
+    /// stood in the entry's place, or nothing where that is new.
     ///
     /// Only a place that is new can want memory, and then nothing has changed. An entry that is
     /// emptied leaves its place, so that it can be set again without memory.
-    pub fn set_entry(&mut self, dir: u64, name: &Name, to: Option<Node>) -> Result<(), Memory>
+    pub fn set_entry(
+        &mut self,
+        dir: u64,
+        name: Name,
+        to: Option<Node>,
+    ) -> Result<Option<Option<Node>>, Memory>
         requires { HasDirPlace self.old dir }
-        ensures ok { OnOk result (self.new ≡ put_entry self.old dir name.now to) }
+        ensures was { IfOk result (λ was. was ≡ place_at self.old (Entry dir name)) }
+        ensures ok { OnOk result (self.new ≡ put_entry self.old dir name to) }
         ensures err { OnErr result (self.new ≡ self.old) }
-        ensures place { HasEntryPlace self.old dir name.now → IsOk result }
+        ensures place { HasEntryPlace self.old dir name → IsOk result }
     {
         match self.directories.get_mut(dir) {
             Some(directory) => directory.set_entry(name, to),
@@ -187,37 +197,44 @@ impl Tree {
 
     /// Sets the directory that has a directory's entry, or that there is none. A directory that was
     /// not stored comes without entries, and no other cell changes: that the tree stays one is the
-    /// caller's part.
+    /// caller's part. Answers which parent was stored, or nothing where the directory's place is new.
     ///
     /// Only a place that is new can want memory, and then nothing has changed. A directory whose
     /// parent is taken away leaves its place, so that it can be set again without memory.
-    pub fn set_parent(&mut self, dir: u64, parent: Option<u64>) -> Result<(), Memory>
+    pub fn set_parent(
+        &mut self,
+        dir: u64,
+        parent: Option<u64>,
+    ) -> Result<Option<Option<u64>>, Memory>
+        ensures was { IfOk result (λ was. was ≡ place_at self.old (Parent dir)) }
         ensures ok { OnOk result (self.new ≡ put_parent self.old dir parent) }
         ensures err { OnErr result (self.new ≡ self.old) }
         ensures place { HasDirPlace self.old dir → IsOk result }
     {
         if let Some(directory) = self.directories.get_mut(dir) {
-            directory.set_parent(parent);
-            return Ok(());
+            return Ok(Some(directory.set_parent(parent)));
         }
         self.directories
-            .insert(dir, Directory::new(self.alloc, parent))
+            .insert(dir, Directory::new(self.alloc, parent))?;
+        Ok(None)
     }
 
     /// Sets how many entries name a file. A file that was not stored comes without bytes, and no
-    /// other cell changes: that the count is right is the caller's part.
+    /// other cell changes: that the count is right is the caller's part. Answers which count was
+    /// stored, or nothing where the file's place is new.
     ///
     /// Only a place that is new can want memory, and then nothing has changed.
-    pub fn set_links(&mut self, file: u64, links: u64) -> Result<(), Memory>
+    pub fn set_links(&mut self, file: u64, links: u64) -> Result<Option<u64>, Memory>
+        ensures was { IfOk result (λ was. was ≡ place_at self.old (Links file)) }
         ensures ok { OnOk result (self.new ≡ put_links self.old file links) }
         ensures err { OnErr result (self.new ≡ self.old) }
         ensures place { HasFilePlace self.old file → IsOk result }
     {
         if let Some(stored) = self.files.get_mut(file) {
-            stored.set_links(links);
-            return Ok(());
+            return Ok(Some(stored.set_links(links)));
         }
-        self.files.insert(file, File::new(self.alloc, links))
+        self.files.insert(file, File::new(self.alloc, links))?;
+        Ok(None)
     }
 
     /// Writes bytes to a file at an offset, as many as have room below the size limit, with zeros in
@@ -275,16 +292,47 @@ impl Tree {
     }
 
     /// Sets the open file description of a descriptor, or that it is not open. No other cell
-    /// changes: that the file is there is the caller's part.
+    /// changes: that the file is there is the caller's part. Answers what stood in the descriptor's
+    /// place, or nothing where that is new.
     ///
     /// Only a place that is new can want memory, and then nothing has changed. A descriptor that is
     /// closed leaves its place, so that it can be set again without memory.
-    pub fn set_open_file(&mut self, fd: u64, to: Option<OpenFile>) -> Result<(), Memory>
+    pub fn set_open_file(
+        &mut self,
+        fd: u64,
+        to: Option<OpenFile>,
+    ) -> Result<Option<Option<OpenFile>>, Memory>
+        ensures was { IfOk result (λ was. was ≡ place_at self.old (Fd fd)) }
         ensures ok { OnOk result (self.new ≡ put_open self.old fd to) }
         ensures err { OnErr result (self.new ≡ self.old) }
         ensures place { HasOpenPlace self.old fd → IsOk result }
     {
         self.opens.insert(fd, to)
+    }
+
+    /// Takes the place of a cell away, with all that stands in it: a directory's with its entries,
+    /// and a file's with its links and bytes. The names of a directory have no place of their own.
+    /// That the tree stays one is the caller's part.
+    pub fn drop_place(&mut self, cell: &Cell)
+        ensures { self.new ≡ without_place self.old cell.now }
+    {
+        match cell {
+            Cell::Entry(dir, name) => {
+                if let Some(directory) = self.directories.get_mut(*dir) {
+                    directory.drop_place(name);
+                }
+            }
+            Cell::Names(_) => {}
+            Cell::Parent(dir) => {
+                self.directories.remove(*dir);
+            }
+            Cell::Links(file) | Cell::Bytes(file) => {
+                self.files.remove(*file);
+            }
+            Cell::Fd(fd) => {
+                self.opens.remove(*fd);
+            }
+        }
     }
 
     /// Where a path's components lead, from the root: pathname resolution (POSIX.1-2017, Base

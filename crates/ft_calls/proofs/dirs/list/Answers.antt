@@ -1,16 +1,14 @@
-use Rattle.std.proofs.Common.{sym, ◌∙◌}
+use Rattle.std.proofs.lemmas.Result.{err_from_is_err_and}
 use Rattle.ft_path.specs.FilePath.{parts_of}
-use Rattle.ft_tree.specs.Walk.{seen_at}
-use Rattle.ft_calls.specs.DirSteps.{list_dir}
-use Rattle.ft_calls.proofs.Reaching.{performed-at_spot, performed-at_fault}
+use Rattle.ft_calls.specs.Dirs.{list_dir}
+use Rattle.ft_calls.proofs.Looking.{comes_lost, comes_on}
 use Rattle.ft_calls.proofs.dirs.list.Goals as goal
 
-pub returns-in-Err-walk : goal.returns-in-Err-walk
-returns-in-Err-walk c _ =
-    performed-at_fault c.args.tree.now list_dir (parts_of c.args.path.now) c.in-Ok.parts (sym c.in_ok-errno.ensures ∙ c.in-Ok.is) c.as_slice.result.now c.as_slice.ensures
-    c.in-Err-walk.errno c.in-Err-walk.ensures
+pub returns-in_err-spot : goal.returns-in_err-spot
+returns-in_err-spot c =
+    let p = err_from_is_err_and c.from_residual-in_err-spot.result c.from_residual-in_err-spot.ensures.1 in
+    rw (p.1, p.2) (comes_lost c.args.look.now (parts_of c.args.path.now) list_dir c.in_ok-parts.parts c.in_ok-parts.ensures c.walk.new.self c.in_err-spot.field-0.0 c.in_err-spot.ensures)
 
 pub returns : goal.returns
-returns c _ =
-    performed-at_spot c.args.tree.now list_dir (parts_of c.args.path.now) c.in-Ok.parts (sym c.in_ok-errno.ensures ∙ c.in-Ok.is) c.as_slice.result.now c.as_slice.ensures
-    (seen_at c.in-Ok-walk.spot) c.in-Ok-walk.ensures c.args.tree.now c.list_spot.result c.list_spot.ensures
+returns c =
+    (comes_on c.args.look.now (parts_of c.args.path.now) list_dir c.in_ok-parts.parts c.in_ok-parts.ensures c.walk.new.self c.in_ok-spot.spot c.in_ok-spot.ensures c.list_dir.new.look c.list_dir.result c.list_dir.ensures)

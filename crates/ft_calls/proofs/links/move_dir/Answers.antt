@@ -1,14 +1,23 @@
-use Rattle.std.proofs.Common.{[], sym, subst}
+use Rattle.std.proofs.Common.{[], Ok, refl}
 use Rattle.ft_tree.specs.declared.node.Node.TheVariants.{Dir as DirNode}
-use Rattle.ft_tree.specs.Cells.{Cells, HasDirPlace}
-use Rattle.ft_calls.specs.LinkSteps.{renamed}
-use Rattle.ft_calls.proofs.Places.{dir_place-put_all}
+use Rattle.ft_tree.specs.Cells.{stored_dirs}
+use Rattle.ft_tree.specs.Looks.{Answer}
+use Rattle.ft_calls.specs.Links.{renamed, with_parent}
+use Rattle.ft_calls.proofs.Looking.{comes_met, comes_unmet}
+use Rattle.ft_calls.proofs.Moving.{comes-more}
 use Rattle.ft_calls.proofs.links.move_dir.Goals as goal
 
--- the directory is stored when its entry is another
-pub change_parent-requires : goal.change_parent-requires
-change_parent-requires c = record {
-  place =
-      let writes = (renamed c.args.from.dir c.args.from.name.now (DirNode c.args.moved) c.args.to.dir c.args.to.name.now []).writes in
-      subst (λ (m : Cells). HasDirPlace m c.args.moved) (sym c.in_ok-move_entry.ensures.ok) (dir_place-put_all writes c.args.tree.now c.args.moved c.requires.moved);
-}
+pub returns-then-branch : goal.returns-then-branch
+returns-then-branch c =
+    let r = c.args.renaming in
+    let go = Answer (renamed r.dir r.name.now (DirNode c.args.number) r.into r.other.now (with_parent c.args.number r.dir r.into)) in
+    comes_met c.args.look.now (stored_dirs c.args.look.now.cells) c.args.number r.into go c.climb.new.self c.in_ok-climb.field-0 c.in_ok-climb.ensures c.if-branch.true
+
+pub returns : goal.returns
+returns c =
+    let r = c.args.renaming in
+    let parents = with_parent c.args.number r.dir r.into in
+    let go = Answer (renamed r.dir r.name.now (DirNode c.args.number) r.into r.other.now parents) in
+    let cells = c.climb.new.self.cells in
+    comes_unmet c.args.look.now (stored_dirs c.args.look.now.cells) c.args.number r.into go c.climb.new.self c.in_ok-climb.field-0 c.in_ok-climb.ensures c.if-branch.false c.climb.new.self (Ok c.in_ok-with_parent.field-0)
+    (comes-more cells c.in_ok-intent.intent c.in_ok-with_parent.field-0 (renamed r.dir r.name.now (DirNode c.args.number) r.into r.other.now []) parents c.in_ok-with_parent.ensures.told (c.in_ok-with_parent.ensures.edits cells) (c.in_ok-intent.ensures cells), refl)

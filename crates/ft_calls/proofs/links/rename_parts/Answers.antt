@@ -1,38 +1,30 @@
-use Rattle.std.proofs.Common.{◌≡◌, ℕ, List, subst, refl, Ok, Option, None, Result, ◌∙◌}
-use Rattle.ft_base.specs.declared.memory.Memory.{Memory}
-use Rattle.ft_path.specs.declared.errno.Errno.{Errno}
-use Rattle.ft_path.specs.declared.path.Parts.{Parts}
-use Rattle.ft_tree.specs.Cells.{Cells, stored_dirs}
-use Rattle.ft_tree.specs.Views.{view_of}
-use Rattle.ft_tree.specs.Looks.{answer}
+use Rattle.std.proofs.Common.{◌≡◌, None, Ok, Err, refl, ap, subst, rules}
+use Rattle.std.proofs.lemmas.Result.{err_from_is_err_and}
+use Rattle.ft_tree.specs.Cells.{stored_dirs}
 use Rattle.ft_tree.specs.Walk.{seen_at}
-use Rattle.ft_calls.specs.declared.call.Reply.{Reply}
-use Rattle.ft_calls.specs.declared.call.Reply.TheVariants.{Failed}
-use Rattle.ft_calls.specs.Outcomes.{from_parts, unless}
-use Rattle.ft_calls.specs.DirSteps.{last_of}
-use Rattle.ft_calls.specs.LinkSteps.{rename_fault, rename_old, rename_parts}
-use Rattle.ft_calls.specs.Perform.{IsPerformed}
-use Rattle.ft_calls.proofs.Reaching.{performed-at_spot, performed-at_fault}
-use Rattle.ft_calls.proofs.Walked.{spot-in}
+use Rattle.ft_calls.specs.Outcomes.{from_parts}
+use Rattle.ft_path.specs.FilePath.{last_of}
+use Rattle.ft_calls.specs.Links.{rename_fault, rename_old}
+use Rattle.ft_calls.specs.Looking.{Looking}
+use Rattle.ft_calls.specs.Comes.{Comes}
+use Rattle.ft_calls.proofs.Looking.{comes_lost, comes_on, comes_past}
 use Rattle.ft_calls.proofs.links.rename_parts.Goals as goal
 
--- where the last components are not at fault, the walk of the old path decides
-past : (cells : Cells) (old new : Parts) (olds news : List (List ℕ)) → olds ≡ old.names → news ≡ new.names → None ≡ rename_fault (last_of olds) (last_of news) → (after : Cells) (r : Result Reply Memory)
-    → IsPerformed cells (answer (from_parts (Ok old) (rename_old (stored_dirs cells) new)) (view_of cells)) after r → IsPerformed cells (answer (rename_parts (stored_dirs cells) (Ok old) (Ok new)) (view_of cells)) after r
-past cells old new olds news from to clear after r h =
-    subst (λ (f : Option Errno). IsPerformed cells (answer (unless f (from_parts (Ok old) (rename_old (stored_dirs cells) new))) (view_of cells)) after r)
-    (clear ∙ (λ x. rename_fault (last_of (from x)) (last_of (to x)))) h
+pub returns-in_err-spot : goal.returns-in_err-spot
+returns-in_err-spot c =
+    let p = err_from_is_err_and c.from_residual.result c.from_residual.ensures.1 in
+    let go = rename_old (stored_dirs c.args.look.now.cells) c.args.new.now in
+    let fault = rename_fault (last_of c.args.old.now.names) (last_of c.args.new.now.names) in
+    let clear : fault ≡ None = search rules in
+    rw (p.1, p.2) (comes_past c.args.look.now fault (from_parts (Ok c.args.old.now) go) clear c.walk.new.self (Err c.in_err-spot.field-0.0) (comes_lost c.args.look.now (Ok c.args.old.now) go c.args.old.now refl c.walk.new.self _ c.in_err-spot.ensures))
 
-pub rename_old-requires-clause-spot : goal.rename_old-requires-clause-spot
-rename_old-requires-clause-spot c = spot-in c.args.tree.now c.requires c.as_slice-names.result.now c.args.old.now.trailing (seen_at c.in-Ok.spot) c.in-Ok.ensures
-
-pub returns-in-Err : goal.returns-in-Err
-returns-in-Err c =
-    past c.args.tree.now c.args.old.now c.args.new.now c.as_slice-names.result.now c.as_slice.result.now c.as_slice-names.ensures c.as_slice.ensures c.in_default.ensures c.args.tree.now (Ok (Failed c.in-Err.errno))
-    (performed-at_fault c.args.tree.now (rename_old (stored_dirs c.args.tree.now) c.args.new.now) (Ok c.args.old.now) c.args.old.now refl c.as_slice-names.result.now c.as_slice-names.ensures c.in-Err.errno c.in-Err.ensures)
-
-pub returns-in-Ok : goal.returns-in-Ok
-returns-in-Ok c =
-    past c.args.tree.now c.args.old.now c.args.new.now c.as_slice-names.result.now c.as_slice.result.now c.as_slice-names.ensures c.as_slice.ensures c.in_default.ensures c.rename_old.new.tree c.rename_old.result
-    (performed-at_spot c.args.tree.now (rename_old (stored_dirs c.args.tree.now) c.args.new.now) (Ok c.args.old.now) c.args.old.now refl c.as_slice-names.result.now c.as_slice-names.ensures
-    (seen_at c.in-Ok.spot) c.in-Ok.ensures c.rename_old.new.tree c.rename_old.result c.rename_old.ensures)
+pub returns : goal.returns
+returns c =
+    let on = c.rename_old in
+    let n = stored_dirs c.args.look.now.cells in
+    let go = rename_old n c.args.new.now in
+    let fault = rename_fault (last_of c.args.old.now.names) (last_of c.args.new.now.names) in
+    let clear : fault ≡ None = search rules in
+    comes_past c.args.look.now fault (from_parts (Ok c.args.old.now) go) clear on.new.look on.result
+    (comes_on c.args.look.now (Ok c.args.old.now) go c.args.old.now refl c.walk.new.self c.in_ok-spot.spot c.in_ok-spot.ensures on.new.look on.result
+    (subst (λ k. Comes c.walk.new.self (rename_old k c.args.new.now (seen_at c.in_ok-spot.spot)) on.new.look on.result) (ap (λ (l : Looking). stored_dirs l.cells) c.in_ok-spot.ensures.1) on.ensures))

@@ -1,4 +1,4 @@
-use Rattle.std.proofs.Common.{subst, sym, Option}
+use Rattle.std.proofs.Common.{subst, sym}
 use Rattle.std.specs.Ordering.{nat_cmp}
 use Rattle.std.specs.Cmp.{nat_cmp_total}
 use Rattle.std.specs.BTreeMap.{is_at}

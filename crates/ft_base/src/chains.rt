@@ -1,0 +1,184 @@
+// Lists of values by their owners, linked in one slab.
+ghost use Rattle.std.specs.Prelude.{◌≡◌, ◌≢◌, ◌↔◌, ◌∷◌, [], drop, slice_get, option_copied, IsSome, IsTrue, IsOk, OnOk, OnErr, IfErr, OnSome, IfNone};
+ghost use Rattle.std.specs.FinMap as finite;
+ghost use Rattle.ft_base.specs.Chains.{list_in, IsOpen, moved, spliced};
+
+use crate::memory::Memory;
+use crate::node::{Ends, Node, first_key, from_node, last_key_or, set_next};
+use crate::table::Table;
+use slab::Slab;
+use std::alloc::{AllocFailed, Global};
+use std::marker::Model;
+
+/// For each open owner a list of values, the newest first.
+///
+/// A value moves from the front of one list to that of another, and a whole list in front of another,
+/// without memory. Each call takes the time to find its owners, logarithmic in how many are open,
+/// however long their lists are. All values stand in one slab, whose places are used again.
+#[derive(Drop)]
+pub struct Chains<T> {
+    nodes: Slab<Node<T>>,
+    ends: Table<Option<Ends>>,
+}
+
+impl<T> Model for Chains<T> {
+    ghost use Rattle.slab.specs.Slab.{get};
+    ghost use Rattle.ft_base.specs.Chains.{Lists, coded_lists};
+    ghost use Rattle.ft_base.specs.Linked.{lists_of, AreChained};
+
+    ghost Value = { Lists T };
+
+    ghost coded = { coded_lists T.code };
+
+    ghost view = { λ a. lists_of a.nodes a.ends };
+
+    ghost invariant = { λ a. AreChained (get a.nodes) a.ends };
+}
+
+impl<T> Chains<T> {
+    /// No owner is open. Takes no memory.
+    pub fn new(alloc: Global) -> Chains<T>
+        ensures { result ≡ finite.empty }
+    {
+        Chains {
+            nodes: Slab::new(alloc),
+            ends: Table::new(alloc),
+        }
+    }
+
+    /// Whether an owner is open.
+    pub fn is_open(&self, owner: u64) -> bool
+        ensures { result ≡ finite.contains_key self.now owner }
+    {
+        self.ends.contains(owner)
+    }
+
+    /// Opens an owner, with an empty list; one that is open keeps its list. Only a new owner can want memory.
+    pub fn open(&mut self, owner: u64) -> Result<(), Memory>
+        ensures ok { OnOk result (self.new ≡ finite.insert self.old owner (list_in self.old owner)) }
+        ensures err { OnErr result (self.new ≡ self.old) }
+        ensures place { IsOpen self.old owner → IsOk result }
+    {
+        if self.is_open(owner) {
+            return Ok(());
+        }
+        self.ends.insert(owner, None)?;
+        Ok(())
+    }
+
+    /// Closes an owner whose list is empty. Takes no memory.
+    pub fn close(&mut self, owner: u64)
+        requires { list_in self.old owner ≡ [] }
+        ensures { self.new ≡ finite.remove self.old owner }
+    {
+        self.ends.remove(owner);
+    }
+
+    /// The newest value of a list, where there is one.
+    pub fn first(&self, owner: u64) -> Option<&T>
+        ensures { option_copied result ≡ slice_get (list_in self.now owner) 0 }
+    {
+        let ends = (*self.ends.get(owner)?)?;
+        let node = self.nodes.get(ends.first)?;
+        Some(&node.value)
+    }
+
+    /// Whether a list is empty, as that of an owner that is not open.
+    pub fn is_empty(&self, owner: u64) -> bool
+        ensures { IsTrue result ↔ (list_in self.now owner ≡ []) }
+    {
+        match self.ends.get(owner) {
+            Some(ends) => ends.is_none(),
+            None => true,
+        }
+    }
+
+    /// Puts a value in front of a list, as its newest; want of memory hands it back.
+    pub fn push_front(&mut self, owner: u64, value: T) -> Result<(), AllocFailed<T>>
+        requires { IsOpen self.old owner }
+        ensures ok { OnOk result (self.new ≡ finite.insert self.old owner (value ∷ list_in self.old owner)) }
+        ensures err { OnErr result (self.new ≡ self.old) }
+        ensures value_returned { IfErr result (λ failed. failed.value ≡ value) }
+    {
+        let place = self.ends.get_mut(owner).unwrap();
+        let ends = *place;
+        let next = first_key(ends);
+        let first = match self.nodes.insert(Node { value, next }) {
+            Ok(key) => key,
+            Err(failed) => {
+                let AllocFailed {
+                    value: Node { value, next: _ },
+                } = failed;
+                return Err(AllocFailed { value });
+            }
+        };
+        let last = last_key_or(first, ends);
+        *place = Some(Ends { first, last });
+        Ok(())
+    }
+
+    /// Takes out the newest value of a list, where there is one. Takes no memory.
+    pub fn pop_front(&mut self, owner: u64) -> Option<T>
+        ensures value { result ≡ slice_get (list_in self.old owner) 0 }
+        ensures some { OnSome result (self.new ≡ finite.insert self.old owner (drop 1 (list_in self.old owner))) }
+        ensures none { IfNone result (self.new ≡ self.old) }
+    {
+        let Some(place) = self.ends.get_mut(owner) else {
+            return None;
+        };
+        let Some(front) = *place else {
+            return None;
+        };
+        let Node { value, next } = self.nodes.try_remove(front.first).unwrap();
+        *place = from_node(next, front.last);
+        Some(value)
+    }
+
+    /// Puts a whole list, in its order, in front of another, and leaves it empty. Takes no memory.
+    pub fn splice(&mut self, source: u64, target: u64)
+        requires source_open { IsOpen self.old source }
+        requires target_open { IsOpen self.old target }
+        requires apart { source ≢ target }
+        ensures { self.new ≡ spliced self.old source target }
+    {
+        let place = self.ends.get_mut(source).unwrap();
+        let Some(front) = *place else {
+            return;
+        };
+        *place = None;
+        let place = self.ends.get_mut(target).unwrap();
+        let ends = *place;
+        let next = first_key(ends);
+        let last = last_key_or(front.last, ends);
+        *place = Some(Ends {
+            first: front.first,
+            last,
+        });
+        set_next(&mut self.nodes, front.last, next);
+    }
+
+    /// Puts the newest value of a list, where there is one, in front of another list. Takes no memory.
+    pub fn move_front(&mut self, source: u64, target: u64)
+        requires target_open { IsOpen self.old target }
+        requires apart { source ≢ target }
+        ensures { self.new ≡ moved self.old source target }
+    {
+        let Some(place) = self.ends.get_mut(source) else {
+            return;
+        };
+        let Some(front) = *place else {
+            return;
+        };
+        let after = self.nodes.get(front.first).unwrap().next;
+        *place = from_node(after, front.last);
+        let place = self.ends.get_mut(target).unwrap();
+        let ends = *place;
+        let next = first_key(ends);
+        let last = last_key_or(front.first, ends);
+        *place = Some(Ends {
+            first: front.first,
+            last,
+        });
+        set_next(&mut self.nodes, front.first, next);
+    }
+}

@@ -1,0 +1,94 @@
+// A tree that grows by calls.
+use anyhow::{Context, Result, ensure};
+use ft_calls::{Call, Prepared, Reply, prepare};
+use ft_path::FilePath;
+use ft_tree::Tree;
+use ft_undo::{perform, revert};
+use std::alloc::Global;
+use std::marker::Model;
+
+/// A tree, and the stamp of the next call on it.
+#[derive(Drop)]
+pub struct Growth {
+    alloc: Global,
+    tree: Tree,
+    next: u64,
+}
+
+impl Model for Growth {
+    ghost use Rattle.std.specs.Prelude.{◌≤◌, ℕ};
+    ghost use Rattle.ft_tree.specs.Cells.{Cells, coded_cells};
+    ghost use Rattle.ft_tree.specs.Sound.{AreSoundCells, IsFree};
+
+    ghost Value = { Cells };
+
+    ghost coded = { coded_cells };
+
+    ghost view = { λ a. a.tree };
+
+    ghost invariant = { λ a. AreSoundCells a.tree × ((k : ℕ) → a.next ≤ k → IsFree a.tree k) };
+}
+
+impl Growth {
+    /// A tree of directories with three components, as many as `size`, and those above them: ten in
+    /// each of the second level, and a hundred of these in each of the first.
+    pub fn new(alloc: Global, size: u64) -> Result<Growth> {
+        let mut growth = Growth {
+            alloc,
+            tree: Tree::new(alloc)?,
+            next: 2,
+        };
+        for index in 0..size {
+            growth.add(index)?;
+        }
+        Ok(growth)
+    }
+
+    /// Makes the directory of this number, and those above it where it is the first in them.
+    fn add(&mut self, index: u64) -> Result<()> {
+        let alloc = self.alloc;
+        let (first, second, third) = (index / 1000, index / 10 % 100, index % 10);
+        if index % 1000 == 0 {
+            self.make_directory(format!(in alloc; "/a{first}")?.as_str())?;
+        }
+        if third == 0 {
+            self.make_directory(format!(in alloc; "/a{first}/b{second}")?.as_str())?;
+        }
+        self.make_directory(format!(in alloc; "/a{first}/b{second}/c{third}")?.as_str())
+    }
+
+    fn make_directory(&mut self, text: &str) -> Result<()> {
+        let alloc = self.alloc;
+        let path = FilePath::new(alloc, text.as_bytes())?;
+        ensure!(
+            self.perform(&Call::Mkdir { path })? == Reply::Done,
+            "mkdir {text}"
+        );
+        Ok(())
+    }
+
+    /// Makes a call, and answers its reply.
+    pub fn perform(&mut self, call: &Call) -> Result<Reply> {
+        let stamp = self.next;
+        let next = stamp.checked_add(1).context("no more stamps")?;
+        let (reply, _undo) = perform(self.alloc, &mut self.tree, stamp, call)?;
+        self.next = next;
+        Ok(reply)
+    }
+
+    /// How many accesses a call has, which is looked at and not made.
+    pub fn accesses(&self, call: &Call) -> Result<usize> {
+        let Prepared { accesses, .. } = prepare(self.alloc, &self.tree, self.next, call)?;
+        Ok(accesses.len())
+    }
+
+    /// Makes a call on a copy, and takes it back there where that is asked for.
+    pub fn perform_on_copy(&self, call: &Call, is_taken_back: bool) -> Result<Reply> {
+        let mut copy = self.tree.copy()?;
+        let (reply, undo) = perform(self.alloc, &mut copy, self.next, call)?;
+        if is_taken_back {
+            revert(&mut copy, undo);
+        }
+        Ok(reply)
+    }
+}

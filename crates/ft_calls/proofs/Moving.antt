@@ -1,0 +1,28 @@
+-- What a renaming that changes a parent comes to.
+use Rattle.std.proofs.Common.{◌≡◌, ℕ, true, List, [], ◌∷◌, ◌++◌, refl, ap, ◌∙◌}
+use Rattle.std.proofs.lemmas.Bool.{false≢true}
+use Rattle.ft_tree.specs.declared.node.Node.{Node}
+use Rattle.ft_tree.specs.Cells.{Cells}
+use Rattle.ft_calls.specs.declared.intent.Edit.{Edit}
+use Rattle.ft_calls.specs.declared.intent.Intent.{Intent}
+use Rattle.ft_calls.specs.Outcomes.{Write, Outcome}
+use Rattle.ft_calls.specs.Links.{if_bare}
+use Rattle.ft_calls.specs.Looking.{is_none_of}
+use Rattle.ft_calls.specs.Comes.{reply_of, write_of, writes_of, outcome_of}
+
+-- more is written
+abbrev pub and_more : Outcome → List Write → Outcome
+and_more o more = record { reply = o.reply; writes = o.writes ++ more }
+
+pub comes-more : (cells : Cells) (x y : Intent) (o : Outcome) (more : List Write) → y.told ≡ x.told → writes_of cells y.edits ≡ writes_of cells x.edits ++ more → outcome_of cells x ≡ o → outcome_of cells y ≡ and_more o more
+comes-more cells x y o more told edits is i = record { reply = (ap (reply_of cells) told ∙ ap (λ (q : Outcome). q.reply) is) i; writes = (edits ∙ ap (λ (q : Outcome). q.writes ++ more) is) i }
+
+-- edits behind others
+pub writes_of-append : (cells : Cells) (es fs : List Edit) → writes_of cells (es ++ fs) ≡ writes_of cells es ++ writes_of cells fs
+writes_of-append cells [] fs = refl
+writes_of-append cells (e ∷ es) fs = ap (λ ws. write_of cells e ∷ ws) (writes_of-append cells es fs)
+
+-- an empty directory is replaced
+pub bare-replaced : (d : ℕ) (name : List ℕ) (i e : ℕ) (other : List ℕ) (j : ℕ) (names : List (List ℕ × Node)) → is_none_of names ≡ true → if_bare d name i e other j names ≡ if_bare d name i e other j []
+bare-replaced d name i e other j [] is = refl
+bare-replaced d name i e other j (x ∷ xs) is = absurd (false≢true is)

@@ -1,0 +1,40 @@
+-- What is noted of a call is what it accesses.
+use Rattle.std.proofs.Common.{◌≡◌, ℕ, List, [], ◌∷◌, refl, sym, ap, ◌∙◌}
+use Rattle.std.specs.FinMap as finite
+use Rattle.ft_tree.specs.Cells.{Cells, stored_dirs}
+use Rattle.ft_tree.specs.Looks.{Looks, Answer, Look, View, answer, looked_at}
+use Rattle.ft_tree.specs.Views.{view_of}
+use Rattle.ft_calls.specs.declared.call.Call.{Call}
+use Rattle.ft_calls.specs.declared.call.Mode.TheVariants.{Read as ReadMode}
+use Rattle.ft_calls.specs.declared.intent.Edit.{Edit}
+use Rattle.ft_calls.specs.declared.intent.Edit.TheVariants.{Entry, Parent, Links, Overwrite, Resize, Open}
+use Rattle.ft_calls.specs.declared.intent.Intent.{Intent}
+use Rattle.ft_calls.specs.Outcomes.{Outcome}
+use Rattle.ft_calls.specs.Steps.{steps}
+use Rattle.ft_calls.specs.Stored.{outcome}
+use Rattle.ft_calls.specs.Accesses.{Modes, with_looks, with_writes, with_accesses, listed, accesses_of}
+use Rattle.ft_calls.specs.Looking.{Looking, noted}
+use Rattle.ft_calls.specs.Comes.{writes_of, outcome_of}
+use Rattle.ft_calls.specs.Edits.{with_edits}
+
+with_accesses-split : (s : Looks Outcome) (m : Modes) (v : View) → with_accesses m s v ≡ with_writes (with_looks m (looked_at s v)) (answer s v).writes
+with_accesses-split (Answer o) m v = refl
+with_accesses-split (Look c next) m v = with_accesses-split (next (v c)) (finite.insert m c ReadMode) v
+
+with_edits-writes : (cells : Cells) (es : List Edit) (m : Modes) → with_edits m es ≡ with_writes m (writes_of cells es)
+with_edits-writes cells [] m = refl
+with_edits-writes cells (Entry d name to ∷ es) m = with_edits-writes cells es _
+with_edits-writes cells (Parent d to ∷ es) m = with_edits-writes cells es _
+with_edits-writes cells (Links i to ∷ es) m = with_edits-writes cells es _
+with_edits-writes cells (Overwrite i at bytes ∷ es) m = with_edits-writes cells es _
+with_edits-writes cells (Resize i size ∷ es) m = with_edits-writes cells es _
+with_edits-writes cells (Open f to ∷ es) m = with_edits-writes cells es _
+
+pub accesses-noted : (cells : Cells) (old mid : Looking) (k : ℕ) (call : Call) (x : Intent) → old ≡ record { cells = cells; modes = finite.empty } → outcome_of old.cells x ≡ outcome old.cells k call → mid ≡ noted old (steps (stored_dirs old.cells) k call)
+    → listed (with_edits mid.modes x.edits) ≡ accesses_of cells k call
+accesses-noted cells old mid k call x start comes looks =
+    let s = steps (stored_dirs old.cells) k call in
+    let v = view_of old.cells in
+    ap listed (ap (λ (l : Looking). with_edits l.modes x.edits) looks ∙ with_edits-writes old.cells x.edits (with_looks old.modes (looked_at s v))
+    ∙ ap (λ (o : Outcome). with_writes (with_looks old.modes (looked_at s v)) o.writes) comes ∙ sym (with_accesses-split s old.modes v) ∙ ap (λ (l : Looking). with_accesses l.modes s v) start)
+    ∙ ap (λ (l : Looking). accesses_of l.cells k call) start

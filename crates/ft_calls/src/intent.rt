@@ -1,0 +1,223 @@
+// What a call comes to, before it is made.
+ghost use Rattle.std.specs.Prelude.{◌≡◌, [], ◌∷◌, ◌++◌, IfOk};
+ghost use Rattle.ft_calls.specs.Within.{IsWithin, AreWithin};
+
+use crate::bytes::read_bytes;
+use crate::call::Reply;
+use ft_base::Memory;
+use ft_path::{Errno, Name};
+use ft_tree::{Kind, Node, OpenFile, Tree};
+use std::alloc::Global;
+use std::marker::Model;
+
+/// Why a call comes to no intent.
+#[derive(Clone, Copy, Debug, PartialEq, Eq)]
+pub(crate) enum Stop {
+    /// There was no memory.
+    Memory,
+    /// The call fails, with this error.
+    Errno(Errno),
+}
+
+impl From<Memory> for Stop {
+    ghost use Rattle.std.specs.Prelude.{◌≡◌};
+    ghost use Rattle.ft_calls.specs.declared.intent.Stop.TheVariants.{Memory};
+
+    ghost from_gives = { λ _ stop. stop ≡ Memory };
+
+    fn from(_memory: Memory) -> Stop {
+        Stop::Memory
+    }
+}
+
+impl From<Errno> for Stop {
+    ghost use Rattle.std.specs.Prelude.{◌≡◌};
+    ghost use Rattle.ft_calls.specs.declared.intent.Stop.TheVariants.{Errno as Fails};
+
+    ghost from_gives = { λ errno stop. stop ≡ Fails errno };
+
+    fn from(errno: Errno) -> Stop {
+        Stop::Errno(errno)
+    }
+}
+
+/// One cell that is to get a new value. Bytes to be written are borrowed from the call.
+#[derive(Drop)]
+pub enum Edit<'c> {
+    /// What a name leads to in a directory.
+    Entry {
+        dir: u64,
+        name: Name,
+        to: Option<Node>,
+    },
+    /// The directory that has a directory's entry.
+    Parent {
+        dir: u64,
+        to: Option<u64>,
+    },
+    /// How many entries name a file.
+    Links {
+        file: u64,
+        to: u64,
+    },
+    /// Bytes of a file, those that have room from an offset on.
+    Overwrite {
+        file: u64,
+        at: u64,
+        bytes: &'c [u8],
+    },
+    /// The size of a file.
+    Resize {
+        file: u64,
+        size: u64,
+    },
+    /// The open file description of a descriptor.
+    Open {
+        fd: u64,
+        to: Option<OpenFile>,
+    },
+}
+
+/// The edits of a call.
+#[derive(Drop)]
+pub struct Edits<'c> {
+    items: Vec<Edit<'c>>,
+}
+
+impl<'c> Model for Edits<'c> {
+    ghost use Rattle.std.specs.Prelude.{List};
+    ghost use Rattle.ft_calls.specs.declared.intent.Edit.{Edit};
+
+    ghost Value = { List Edit };
+
+    ghost use Rattle.ft_calls.specs.Within.{AreWithin};
+
+    ghost view = { λ a. a.items.items };
+
+    ghost invariant = { λ a. AreWithin a.items.items };
+}
+
+impl<'c> Edits<'c> {
+    /// No edits. Takes no memory.
+    pub(crate) fn new(alloc: Global) -> Edits<'c>
+        ensures { result ≡ [] }
+    {
+        Edits {
+            items: Vec::new(alloc),
+        }
+    }
+
+    /// The edits, in order.
+    pub(crate) fn as_slice(&self) -> &[Edit<'c>]
+        ensures items { result.now ≡ self.now }
+        ensures within { AreWithin self.now }
+    {
+        self.items.as_slice()
+    }
+
+    /// The edits themselves, in order.
+    pub fn into_items(self) -> Vec<Edit<'c>>
+        ensures { result.items ≡ self.entry }
+    {
+        let Edits { items } = self;
+        items
+    }
+
+    /// With one more behind the others.
+    pub(crate) fn and(mut self, edit: Edit<'c>) -> Result<Edits<'c>, Memory>
+        requires { IsWithin edit }
+        ensures { IfOk result (λ edits. edits ≡ self.entry ++ edit.entry ∷ []) }
+    {
+        self.items.push(edit)?;
+        Ok(self)
+    }
+}
+
+/// What a call answers when it is made. A list is told only by where it is.
+#[derive(Clone, Copy, Debug, PartialEq, Eq)]
+pub enum Told {
+    /// What was asked is done.
+    Done,
+    /// A descriptor, an offset, or how many bytes are written.
+    Number(u64),
+    /// What a path leads to or a descriptor has open.
+    Info {
+        kind: Kind,
+        number: u64,
+        links: u64,
+        size: u64,
+    },
+    /// The call fails, with this error.
+    Failed(Errno),
+    /// The names of a directory.
+    NamesOf(u64),
+    /// The bytes of a file from an offset on, at most `len`.
+    BytesOf {
+        file: u64,
+        at: u64,
+        len: u64,
+    },
+}
+
+/// What a call comes to, before it is made: its answer, and the cells that it is to set.
+#[derive(Drop)]
+pub struct Intent<'c> {
+    pub told: Told,
+    pub edits: Edits<'c>,
+}
+
+impl<'c> Intent<'c> {
+    ghost use Rattle.std.specs.Prelude.{◌≡◌, [], ◌∷◌, ◌++◌, IfOk};
+    ghost use Rattle.ft_calls.specs.Within.{IsWithin};
+    ghost use Rattle.ft_calls.specs.Comes.{reply_of};
+
+    /// An answer, with nothing to be set.
+    pub(crate) fn tell(alloc: Global, told: Told) -> Intent<'c>
+        ensures { result ≡ record { told = told; edits = [] } }
+    {
+        Intent {
+            told,
+            edits: Edits::new(alloc),
+        }
+    }
+
+    /// With one more cell to be set.
+    pub(crate) fn and(self, edit: Edit<'c>) -> Result<Intent<'c>, Memory>
+        requires { IsWithin edit }
+        ensures { IfOk result (λ intent. intent ≡ record { told = self.entry.told; edits = self.entry.edits ++ edit.entry ∷ [] }) }
+    {
+        let Intent { told, edits } = self;
+        Ok(Intent {
+            told,
+            edits: edits.and(edit)?,
+        })
+    }
+
+    /// The reply of the call. A list is read off the tree, which is as it was looked at. Only a list
+    /// takes memory, and want of it is the one refusal.
+    pub fn reply(&self, alloc: Global, tree: &Tree) -> Result<Reply, Memory>
+        ensures { IfOk result (λ reply. reply ≡ reply_of tree.now self.now.told) }
+    {
+        match self.told {
+            Told::Done => Ok(Reply::Done),
+            Told::Number(number) => Ok(Reply::Number(number)),
+            Told::Info {
+                kind,
+                number,
+                links,
+                size,
+            } => Ok(Reply::Info {
+                kind,
+                number,
+                links,
+                size,
+            }),
+            Told::Failed(errno) => Ok(Reply::Failed(errno)),
+            Told::NamesOf(dir) => Ok(Reply::Names(tree.names(dir)?.into())),
+            Told::BytesOf { file, at, len } => {
+                let bytes = read_bytes(alloc, tree, file, at, len)?;
+                Ok(Reply::Bytes(bytes.into()))
+            }
+        }
+    }
+}

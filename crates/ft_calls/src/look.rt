@@ -1,0 +1,230 @@
+// A tree that is looked at, cell by cell, and which cells were.
+ghost use Rattle.std.specs.Prelude.{◌≡◌, ◌≤◌, IfOk, OnOk};
+ghost use Rattle.std.specs.FinMap as finite;
+ghost use Rattle.ft_body.specs.declared.TheConstants.{SIZE_LIMIT};
+ghost use Rattle.ft_path.specs.FilePath.{parts_of};
+ghost use Rattle.ft_tree.specs.declared.cell.Cell.TheVariants.{Entry, Parent, Links, Names, Fd};
+ghost use Rattle.ft_tree.specs.Cells.{stored_dirs};
+ghost use Rattle.ft_tree.specs.Looks.{answer};
+ghost use Rattle.ft_tree.specs.Views.{view_of};
+ghost use Rattle.ft_tree.specs.Walk.{up, inner, last, walk};
+ghost use Rattle.ft_calls.specs.Links.{climb};
+ghost use Rattle.ft_calls.specs.declared.call.Mode.TheVariants.{Write as WriteMode};
+ghost use Rattle.ft_calls.specs.Looking.{Looking, Finds, look_at, size_at, is_bare, names_noted};
+ghost use Rattle.ft_calls.specs.Comes.{Leads, Tries, Says};
+ghost use Rattle.ft_calls.specs.Accesses.{listed};
+ghost use Rattle.ft_calls.specs.Within.{AreWithin};
+ghost use Rattle.ft_calls.specs.Edits.{edit_cell, with_edits};
+
+use crate::bytes::size_of;
+use crate::call::Access;
+use crate::intent::{Edit, Edits, Stop};
+use crate::touched::Touched;
+use ft_base::Memory;
+use ft_path::{Errno, FilePath, Name, Parts, PartsFault};
+use ft_tree::{Cell, Node, OpenFile, ROOT, Spot, Tree};
+use std::alloc::Global;
+use std::marker::Model;
+
+/// A tree that is looked at, and which of its cells were.
+#[derive(Drop)]
+pub(crate) struct Look<'t> {
+    tree: &'t Tree,
+    touched: Touched,
+}
+
+impl<'t> Model for Look<'t> {
+    ghost use Rattle.ft_calls.specs.Looking.{Looking, coded_looking};
+
+    ghost Value = { Looking };
+
+    ghost coded = { coded_looking };
+
+    ghost view = { λ a. record { cells = a.tree.now; modes = a.touched } };
+}
+
+impl<'t> Look<'t> {
+    /// Nothing was looked at yet.
+    pub(crate) fn new(alloc: Global, tree: &'t Tree) -> Look<'t>
+        ensures { result ≡ record { cells = tree.entry.now; modes = finite.empty } }
+    {
+        Look {
+            tree,
+            touched: Touched::new(alloc),
+        }
+    }
+
+    /// What a name leads to in a directory.
+    pub(crate) fn entry(&mut self, dir: u64, name: &Name) -> Result<Option<Node>, Memory>
+        ensures { Finds self.old (look_at (Entry dir name.now)) self.new result }
+    {
+        self.touched.read_entry(dir, name)?;
+        Ok(self.tree.entry(dir, name))
+    }
+
+    /// The directory that has a directory's entry.
+    pub(crate) fn parent(&mut self, dir: u64) -> Result<Option<u64>, Memory>
+        ensures { Finds self.old (look_at (Parent dir)) self.new result }
+    {
+        self.touched.read(Cell::Parent(dir))?;
+        Ok(self.tree.parent(dir))
+    }
+
+    /// How many entries name a file.
+    pub(crate) fn links(&mut self, file: u64) -> Result<u64, Memory>
+        ensures { Finds self.old (look_at (Links file)) self.new result }
+    {
+        self.touched.read(Cell::Links(file))?;
+        Ok(self.tree.links(file))
+    }
+
+    /// The open file description of a descriptor.
+    pub(crate) fn open_file(&mut self, fd: u64) -> Result<Option<OpenFile>, Memory>
+        ensures { Finds self.old (look_at (Fd fd)) self.new result }
+    {
+        self.touched.read(Cell::Fd(fd))?;
+        Ok(self.tree.open_file(fd))
+    }
+
+    /// Whether a directory has no entry.
+    pub(crate) fn is_empty_dir(&mut self, dir: u64) -> Result<bool, Memory>
+        ensures { Finds self.old (is_bare dir) self.new result }
+    {
+        self.touched.read(Cell::Names(dir))?;
+        Ok(self.tree.is_empty_dir(dir))
+    }
+
+    /// Notes that the names of a directory are looked at.
+    pub(crate) fn note_names(&mut self, dir: u64) -> Result<(), Memory>
+        ensures { Finds self.old (names_noted dir) self.new result }
+    {
+        self.touched.read(Cell::Names(dir))?;
+        Ok(())
+    }
+
+    /// The size of a file.
+    pub(crate) fn size(&mut self, file: u64) -> Result<u64, Memory>
+        ensures found { Finds self.old (size_at file) self.new result }
+        ensures limit { IfOk result (λ size. size ≤ SIZE_LIMIT) }
+    {
+        self.touched.read(Cell::Bytes(file))?;
+        Ok(size_of(self.tree, file))
+    }
+
+    /// Where a path's components lead.
+    pub(crate) fn walk<'a>(&mut self, parts: &'a Parts) -> Result<Spot<'a>, Stop>
+        ensures { Leads self.old (walk parts.now.names parts.now.trailing) self.new result }
+    {
+        let Some((first, rest)) = parts.names.as_slice().split_first() else {
+            return Ok(Spot::Itself(ROOT));
+        };
+        let mut dir = ROOT;
+        let mut name = first;
+        for next in rest {
+            dir = self.inner(dir, name)?;
+            name = next;
+        }
+        self.last(dir, name, parts.trailing)
+    }
+
+    /// Whether directory `moved` is met on the way up from directory `dir` to the root.
+    pub(crate) fn climb(&mut self, moved: u64, dir: u64) -> Result<bool, Memory>
+        ensures { Finds self.old (climb (stored_dirs self.old.cells) moved dir) self.new result }
+    {
+        let mut at = dir;
+        for _ in 0..self.tree.stored_dirs() {
+            if at == moved {
+                return Ok(true);
+            }
+            if at == ROOT {
+                return Ok(false);
+            }
+            at = self.parent(at)?.unwrap_or(ROOT);
+        }
+        Ok(at == moved)
+    }
+
+    /// The accesses of a call that looked so, and that makes these edits.
+    pub(crate) fn into_accesses(self, edits: &Edits<'_>) -> Result<Vec<Access>, Memory>
+        ensures list { IfOk result (λ list. list.items ≡ listed (with_edits self.entry.modes edits.now)) }
+        ensures within { AreWithin edits.now }
+    {
+        let Look {
+            tree: _,
+            mut touched,
+        } = self;
+        for edit in edits.as_slice() {
+            note_edit(&mut touched, edit)?;
+        }
+        Ok(touched.into_accesses())
+    }
+
+    /// The parent of a directory, the root's being the root.
+    fn up(&mut self, dir: u64) -> Result<u64, Memory>
+        ensures { Finds self.old (up dir) self.new result }
+    {
+        if dir == ROOT {
+            return Ok(ROOT);
+        }
+        Ok(self.parent(dir)?.unwrap_or(ROOT))
+    }
+
+    /// Where a component that is not the last leads from a directory.
+    fn inner(&mut self, dir: u64, name: &Name) -> Result<u64, Stop>
+        ensures { Tries self.old (inner dir name.now) self.new result }
+    {
+        if name.is_dot() {
+            return Ok(dir);
+        }
+        if name.is_dot_dot() {
+            return Ok(self.up(dir)?);
+        }
+        match self.entry(dir, name)? {
+            None => Err(Stop::Errno(Errno::ENOENT)),
+            Some(Node::Dir(number)) => Ok(number),
+            Some(Node::File(_)) => Err(Stop::Errno(Errno::ENOTDIR)),
+        }
+    }
+
+    /// Where the last component leads from a directory.
+    fn last<'a>(&mut self, dir: u64, name: &'a Name, trailing: bool) -> Result<Spot<'a>, Stop>
+        ensures { Leads self.old (last dir name.now trailing) self.new result }
+    {
+        if name.is_dot() {
+            return Ok(Spot::Itself(dir));
+        }
+        if name.is_dot_dot() {
+            return Ok(Spot::Itself(self.up(dir)?));
+        }
+        match self.entry(dir, name)? {
+            Some(Node::File(_)) if trailing => Err(Stop::Errno(Errno::ENOTDIR)),
+            node => Ok(Spot::Named { dir, name, node }),
+        }
+    }
+}
+
+/// The parts of a path, or the fault of its text.
+pub(crate) fn text_parts(alloc: Global, path: &FilePath) -> Result<Parts, Stop>
+    ensures { Says (parts_of path.now) result }
+{
+    match path.parts(alloc) {
+        Ok(parts) => Ok(parts),
+        Err(PartsFault::Errno(errno)) => Err(Stop::Errno(errno)),
+        Err(PartsFault::Memory) => Err(Stop::Memory),
+    }
+}
+
+/// Notes the cell that is edited.
+fn note_edit(touched: &mut Touched, edit: &Edit<'_>) -> Result<(), Memory>
+    ensures { OnOk result (touched.new ≡ finite.insert touched.old (edit_cell edit.now) WriteMode) }
+{
+    match edit {
+        Edit::Entry { dir, name, .. } => touched.write_entry(*dir, name),
+        Edit::Parent { dir, .. } => touched.write(Cell::Parent(*dir)),
+        Edit::Links { file, .. } => touched.write(Cell::Links(*file)),
+        Edit::Overwrite { file, .. } | Edit::Resize { file, .. } => {
+            touched.write(Cell::Bytes(*file))
+        }
+        Edit::Open { fd, .. } => touched.write(Cell::Fd(*fd)),
+    }
+}

@@ -1,0 +1,9 @@
+pub mod Setting
+pub mod Counting
+pub mod Ending
+pub mod Beginning
+pub mod Seeing
+pub mod Refusing
+pub mod Changing
+pub mod Aborting
+pub mod Listing

@@ -1,0 +1,4 @@
+pub mod Transactions
+pub mod Refusals
+pub mod Records
+pub mod Places

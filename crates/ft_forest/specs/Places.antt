@@ -1,0 +1,14 @@
+-- How deep a transaction at a place would stand, and what a walk down comes to.
+use Rattle.std.specs.Prelude.{◌≡◌, ◌≢◌, ◌+◌, ℕ, true, Option, Some, None}
+use Rattle.ft_forest.specs.Transactions.{Transactions, depth_in, over_in}
+use Rattle.ft_forest.specs.Records.{number_at}
+
+-- one deeper than its parent, or at the top level
+abbrev pub IsDepthBelow : Transactions → Option ℕ → ℕ → Type 0
+IsDepthBelow m None depth = depth ≡ 1
+IsDepthBelow m (Some p) depth = depth ≡ depth_in m (number_at m.base p) + 1
+
+-- x is below a transaction, and not it itself; below none is every transaction
+abbrev pub IsStrictlyBelow : Transactions → Option ℕ → ℕ → Type 0
+IsStrictlyBelow m None x = Unit {0}
+IsStrictlyBelow m (Some t) x = (over_in m t x ≡ true) × (x ≢ t)

@@ -1,0 +1,172 @@
+-- How the records of the transactions are linked.
+use Rattle.std.specs.Prelude.{◌≡◌, ◌<◌, ◌≤◌, ◌+◌, ◌-◌, ◌==◌, ◌&&◌, ◌⊎◌, ℕ, zero, suc, Bool, cond, Option, Some, None, List, map, length, slice_get, IsSome}
+use Rattle.std.specs.Option.{option_map}
+use Rattle.ft_history.specs.Forest.{is_some_and}
+use Rattle.ft_history.specs.Logs.{put}
+use Rattle.ft_forest.specs.declared.TheConstants.{MOST_TRANSACTIONS, MOST_DEPTH, LAST_NUMBER}
+use Rattle.ft_forest.specs.declared.state.State.{State}
+use Rattle.ft_forest.specs.declared.state.State.TheVariants.{Live}
+use Rattle.ft_forest.specs.declared.records.Record.{Record}
+use Rattle.ft_forest.specs.declared.records.Records.{Records}
+use Rattle.ft_forest.specs.Transactions.{Transaction, Transactions, is_live}
+
+-- The transaction at each place: its parent's place, what has become of it, its depth, how many live children it has, the youngest of them, and its next older and its next younger live sibling. The youngest of no transaction is the youngest live top-level one.
+pub record Links : Type 0 where
+  pub count : ℕ
+  pub parent : ℕ → Option ℕ
+  pub state : ℕ → Option State
+  pub depth : ℕ → ℕ
+  pub children : ℕ → ℕ
+  pub youngest : Option ℕ → Option ℕ
+  pub older : ℕ → Option ℕ
+  pub younger : ℕ → Option ℕ
+
+abbrev pub parent_from : Option Record → Option ℕ
+parent_from None = None
+parent_from (Some r) = r.parent
+
+abbrev pub state_from : Option Record → Option State
+state_from None = None
+state_from (Some r) = Some r.state
+
+abbrev pub depth_from : Option Record → ℕ
+depth_from None = 0
+depth_from (Some r) = r.depth
+
+abbrev pub children_from : Option Record → ℕ
+children_from None = 0
+children_from (Some r) = r.children
+
+abbrev pub youngest_from : Option Record → Option ℕ
+youngest_from None = None
+youngest_from (Some r) = r.youngest
+
+abbrev pub older_from : Option Record → Option ℕ
+older_from None = None
+older_from (Some r) = r.older
+
+abbrev pub younger_from : Option Record → Option ℕ
+younger_from None = None
+younger_from (Some r) = r.younger
+
+abbrev pub youngest_by : Option ℕ → List Record → Option ℕ → Option ℕ
+youngest_by top rs None = top
+youngest_by top rs (Some p) = youngest_from (slice_get rs p)
+
+abbrev pub links_by : Option ℕ → List Record → Links
+links_by top rs = record {
+  count = length rs;
+  parent = λ i. parent_from (slice_get rs i);
+  state = λ i. state_from (slice_get rs i);
+  depth = λ i. depth_from (slice_get rs i);
+  children = λ i. children_from (slice_get rs i);
+  youngest = youngest_by top rs;
+  older = λ i. older_from (slice_get rs i);
+  younger = λ i. younger_from (slice_get rs i);
+}
+
+abbrev pub links_of : Records → Links
+links_of r = links_by r.youngest r.list.items
+
+-- f with a new value for the children of a transaction, or for the top level
+abbrev pub put_youngest : (Option ℕ → Option ℕ) → Option ℕ → Option ℕ → Option ℕ → Option ℕ
+put_youngest f None new None = new
+put_youngest f None new (Some q) = f (Some q)
+put_youngest f (Some p) new None = f None
+put_youngest f (Some p) new (Some q) = put (λ x. f (Some x)) p new q
+
+-- f changed at a transaction, if there is one
+abbrev pub put_at : {A : Type 0} → (ℕ → A) → Option ℕ → (A → A) → ℕ → A
+put_at f None g = f
+put_at f (Some p) g = put f p (g (f p))
+
+-- the first where there is one, else the second
+abbrev pub where_some : {A B : Type 0} → Option A → B → B → B
+where_some None some none = none
+where_some (Some x) some none = some
+
+-- the siblings next to a gap, or the one above it, are linked over it
+abbrev pub closed_links : Links → Option ℕ → Option ℕ → Option ℕ → Links
+closed_links s parent older younger = record s {
+  youngest = where_some younger s.youngest (put_youngest s.youngest parent older);
+  older = put_at s.older younger (λ _. older);
+  younger = put_at s.younger older (λ _. younger);
+}
+
+-- the transaction at x ends
+abbrev pub ended_links : Links → ℕ → State → Links
+ended_links s x state = closed_links (record s {
+  state = put s.state x (Some state);
+  children = put_at s.children (s.parent x) (λ n. n - 1);
+}) (s.parent x) (s.older x) (s.younger x)
+
+-- a live transaction comes behind all others
+abbrev pub begun_links : Links → Option ℕ → ℕ → Links
+begun_links s parent depth = record {
+  count = s.count + 1;
+  parent = put s.parent s.count parent;
+  state = put s.state s.count (Some Live);
+  depth = put s.depth s.count depth;
+  children = put_at (put s.children s.count 0) parent (λ n. n + 1);
+  youngest = put_youngest s.youngest parent (Some s.count);
+  older = put s.older s.count (s.youngest parent);
+  younger = put_at (put s.younger s.count None) (s.youngest parent) (λ _. Some s.count);
+}
+
+-- i is live, and a child of p; of no p, it is live at the top level
+pub record IsSibling (s : Links) (p : Option ℕ) (i : ℕ) : Type 0 where
+  pub parent : s.parent i ≡ p
+  pub live : s.state i ≡ Some Live
+
+abbrev pub IsYoungest : Links → Option ℕ → Option ℕ → Type 0
+IsYoungest s p None = (x : ℕ) → IsSibling s p x → ⊥
+IsYoungest s p (Some y) = IsSibling s p y × ((x : ℕ) → IsSibling s p x → x ≤ y)
+
+abbrev pub IsOlder : Links → Option ℕ → ℕ → Option ℕ → Type 0
+IsOlder s p i None = (x : ℕ) → IsSibling s p x → i ≤ x
+IsOlder s p i (Some y) = IsSibling s p y × (y < i) × ((x : ℕ) → IsSibling s p x → (x ≤ y) ⊎ (i ≤ x))
+
+abbrev pub IsYounger : Links → Option ℕ → ℕ → Option ℕ → Type 0
+IsYounger s p i None = (x : ℕ) → IsSibling s p x → x ≤ i
+IsYounger s p i (Some y) = IsSibling s p y × (i < y) × ((x : ℕ) → IsSibling s p x → (x ≤ i) ⊎ (y ≤ x))
+
+-- how many numbers below n pass the test
+abbrev pub count_below : (ℕ → Bool) → ℕ → ℕ
+count_below test zero = 0
+count_below test (suc n) = count_below test n + cond (test n) 1 0
+
+abbrev pub is_child_at : Links → ℕ → ℕ → Bool
+is_child_at s p i = is_some_and (s.parent i) (λ q. q == p) && is_live (s.state i)
+
+abbrev pub DepthIs : Links → Option ℕ → ℕ → Type 0
+DepthIs s None d = d ≡ 1
+DepthIs s (Some p) d = d ≡ s.depth p + 1
+
+-- the links tell the live siblings in order, and how deep each transaction stands
+pub record AreLinked (s : Links) : Type 0 where
+  pub begun : (i : ℕ) → i < s.count → IsSome (s.state i)
+  pub unbegun : (i : ℕ) → s.count ≤ i → s.state i ≡ None
+  pub lower : (i p : ℕ) → s.parent i ≡ Some p → p < i
+  pub live_parent : (i p : ℕ) → s.state i ≡ Some Live → s.parent i ≡ Some p → s.state p ≡ Some Live
+  pub youngest : (p : Option ℕ) → IsYoungest s p (s.youngest p)
+  pub older : (i : ℕ) → s.state i ≡ Some Live → IsOlder s (s.parent i) i (s.older i)
+  pub younger : (i : ℕ) → s.state i ≡ Some Live → IsYounger s (s.parent i) i (s.younger i)
+  pub children : (p : ℕ) → s.children p ≡ count_below (is_child_at s p) s.count
+  pub depth : (i : ℕ) → i < s.count → DepthIs s (s.parent i) (s.depth i)
+  pub shallow : (i : ℕ) → i < s.count → s.depth i ≤ MOST_DEPTH
+
+-- the number of the transaction at a place
+abbrev pub number_at : ℕ → ℕ → ℕ
+number_at base i = base + 1 + i
+
+abbrev pub transaction_from : ℕ → Record → Transaction
+transaction_from base r = record { parent = option_map (number_at base) r.parent; state = r.state }
+
+-- the transactions that the records tell
+abbrev pub transactions_of : ℕ → Records → Transactions
+transactions_of base r = record { base = base; list = map (transaction_from base) r.list.items }
+
+pub record AreRecords (base : ℕ) (r : Records) : Type 0 where
+  pub linked : AreLinked (links_of r)
+  pub few : length r.list.items ≤ MOST_TRANSACTIONS
+  pub numbers : (i : ℕ) → i < length r.list.items → number_at base i ≤ LAST_NUMBER

@@ -1,0 +1,39 @@
+-- When each call of a forest is refused.
+use Rattle.std.specs.Prelude.{◌≡◌, ◌||◌, ℕ, Bool, cond, nat_le, nat_lt, Option, Some, None, length}
+use Rattle.ft_forest.specs.declared.TheConstants.{MOST_TRANSACTIONS, MOST_DEPTH, LAST_NUMBER}
+use Rattle.ft_forest.specs.declared.fault.ForestFault.{ForestFault}
+use Rattle.ft_forest.specs.declared.fault.ForestFault.TheVariants.{Memory, NoTxn, Ended, ChildLive, Full, Deep}
+use Rattle.ft_forest.specs.declared.state.State.{State}
+use Rattle.ft_forest.specs.declared.state.State.TheVariants.{Live, Committed, Aborted}
+use Rattle.ft_forest.specs.Transactions.{Transactions, state_in, last_in, depth_in, live_children_in}
+
+-- NoTxn where there is no such transaction, Ended where it has ended, and else what comes later
+abbrev pub refusal_of : Option State → Option ForestFault → Option ForestFault
+refusal_of None later = Some NoTxn
+refusal_of (Some Live) later = later
+refusal_of (Some Committed) later = Some Ended
+refusal_of (Some Aborted) later = Some Ended
+
+abbrev pub fault_if : Bool → ForestFault → Option ForestFault → Option ForestFault
+fault_if b fault later = cond b (Some fault) later
+
+-- as many transactions since the base as there may be, or the last number given
+abbrev pub is_full : Transactions → Bool
+is_full m = nat_le MOST_TRANSACTIONS (length m.list) || nat_le LAST_NUMBER (last_in m)
+
+abbrev pub begin_refusal : Transactions → Option ForestFault
+begin_refusal m = fault_if (is_full m) Full None
+
+abbrev pub sub_refusal : Transactions → ℕ → Option ForestFault
+sub_refusal m t = refusal_of (state_in m t) (fault_if (nat_le MOST_DEPTH (depth_in m t)) Deep (begin_refusal m))
+
+abbrev pub commit_refusal : Transactions → ℕ → Option ForestFault
+commit_refusal m t = refusal_of (state_in m t) (fault_if (nat_lt 0 (live_children_in m t)) ChildLive None)
+
+abbrev pub abort_refusal : Transactions → ℕ → Option ForestFault
+abort_refusal m t = refusal_of (state_in m t) None
+
+-- this refusal, or Memory where there is none
+abbrev pub IsRefusal : Option ForestFault → ForestFault → Type 0
+IsRefusal (Some due) fault = fault ≡ due
+IsRefusal None fault = fault ≡ Memory

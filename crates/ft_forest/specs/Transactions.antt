@@ -1,0 +1,116 @@
+-- The transactions of a forest: how they stand above one another, and what has become of each.
+use Rattle.std.specs.Prelude.{◌≡◌, ◌<◌, ◌≤◌, ◌⊎◌, ◌+◌, ◌-◌, ◌==◌, ◌&&◌, ℕ, zero, suc, Bool, true, false, cond, nat_lt, Option, Some, None, List, [], length, slice_get, count_by}
+use Rattle.ft_history.specs.Forest.{above, is_some_and, map_or}
+use Rattle.ft_history.specs.Logs.{put}
+use Rattle.ft_forest.specs.declared.state.State.{State}
+use Rattle.ft_forest.specs.declared.state.State.TheVariants.{Live, Committed, Aborted}
+
+pub record Transaction : Type 0 where
+  pub parent : Option ℕ
+  pub state : State
+
+-- The transactions begun since a base, in the order of their numbers, which go on from the base's last one.
+pub record Transactions : Type 0 where
+  pub base : ℕ
+  pub list : List Transaction
+
+abbrev pub none_since : ℕ → Transactions
+none_since base = record { base = base; list = [] }
+
+abbrev pub transaction_in : Transactions → ℕ → Option Transaction
+transaction_in m t = cond (nat_lt m.base t) (slice_get m.list (t - (m.base + 1))) None
+
+abbrev pub parent_of : Option Transaction → Option ℕ
+parent_of None = None
+parent_of (Some x) = x.parent
+
+abbrev pub state_of : Option Transaction → Option State
+state_of None = None
+state_of (Some x) = Some x.state
+
+abbrev pub parent_in : Transactions → ℕ → Option ℕ
+parent_in m t = parent_of (transaction_in m t)
+
+-- what has become of the transaction, where there is one of this number
+abbrev pub state_in : Transactions → ℕ → Option State
+state_in m t = state_of (transaction_in m t)
+
+-- the last transaction's number, or the base's last one
+abbrev pub last_in : Transactions → ℕ
+last_in m = m.base + length m.list
+
+-- y is x or an ancestor of x
+abbrev pub over_in : Transactions → ℕ → ℕ → Bool
+over_in m = above (parent_in m)
+
+abbrev pub is_live_state : State → Bool
+is_live_state Live = true
+is_live_state Committed = false
+is_live_state Aborted = false
+
+abbrev pub is_live : Option State → Bool
+is_live None = false
+is_live (Some state) = is_live_state state
+
+-- within so many steps, how many stand on the way up from x, x itself among them
+abbrev pub depth_within : (ℕ → Option ℕ) → ℕ → ℕ → ℕ
+depth_within parent zero x = 1
+depth_within parent (suc n) x = map_or 1 (parent x) (λ p. suc (depth_within parent n p))
+
+-- A top-level transaction has depth 1, and a subtransaction one more than its parent.
+abbrev pub depth_in : Transactions → ℕ → ℕ
+depth_in m t = depth_within (parent_in m) t t
+
+-- x is live, and a child of the parent; without one, it is live at the top level
+pub record IsLiveUnder (m : Transactions) (parent : Option ℕ) (x : ℕ) : Type 0 where
+  pub child : parent_in m x ≡ parent
+  pub live : state_in m x ≡ Some Live
+
+-- x is a live child of t
+abbrev pub IsLiveChild : Transactions → ℕ → ℕ → Type 0
+IsLiveChild m t x = IsLiveUnder m (Some t) x
+
+-- the youngest of these, which has the greatest number, if there is one
+abbrev pub IsYoungestChild : Transactions → Option ℕ → Option ℕ → Type 0
+IsYoungestChild m parent None = (x : ℕ) → IsLiveUnder m parent x → ⊥
+IsYoungestChild m parent (Some y) = IsLiveUnder m parent y × ((x : ℕ) → IsLiveUnder m parent x → x ≤ y)
+
+-- the youngest of t's siblings that are older, if there is one
+abbrev pub IsOlderSibling : Transactions → ℕ → Option ℕ → Type 0
+IsOlderSibling m t None = (x : ℕ) → IsLiveUnder m (parent_in m t) x → t ≤ x
+IsOlderSibling m t (Some y) = IsLiveUnder m (parent_in m t) y × (y < t) × ((x : ℕ) → IsLiveUnder m (parent_in m t) x → (x ≤ y) ⊎ (t ≤ x))
+
+abbrev pub is_live_child : ℕ → Transaction → Bool
+is_live_child t x = is_some_and x.parent (λ p. p == t) && is_live_state x.state
+
+-- how many live children t has
+abbrev pub live_children_in : Transactions → ℕ → ℕ
+live_children_in m t = count_by (is_live_child t) m.list
+
+-- a transaction has begun, live, with the next number
+pub record HasBegun (old new : Transactions) (up : Option ℕ) : Type 0 where
+  pub base : new.base ≡ old.base
+  pub last : last_in new ≡ last_in old + 1
+  pub parents : (x : ℕ) → parent_in new x ≡ put (parent_in old) (last_in old + 1) up x
+  pub states : (x : ℕ) → state_in new x ≡ put (state_in old) (last_in old + 1) (Some Live) x
+
+-- this has become of the transactions now, and nothing else has changed
+pub record HaveStates (old new : Transactions) (now : ℕ → Option State) : Type 0 where
+  pub base : new.base ≡ old.base
+  pub last : last_in new ≡ last_in old
+  pub parents : (x : ℕ) → parent_in new x ≡ parent_in old x
+  pub states : (x : ℕ) → state_in new x ≡ now x
+
+-- t has ended, with this state
+abbrev pub HasEnded : Transactions → Transactions → ℕ → State → Type 0
+HasEnded old new t state = HaveStates old new (put (state_in old) t (Some state))
+
+-- t is aborted, with all that is live at or below it (Moss: the abort of a superior aborts its live inferiors; what had committed stays committed)
+abbrev pub HasAborted : Transactions → Transactions → ℕ → Type 0
+HasAborted old new t = HaveStates old new (λ x. cond (over_in old t x && is_live (state_in old x)) (Some Aborted) (state_in old x))
+
+-- x is live, at or below t, and has no live child
+pub record IsNextToEnd (m : Transactions) (t x : ℕ) : Type 0 where
+  pub below : over_in m t x ≡ true
+  pub live : state_in m x ≡ Some Live
+  pub no_child : (y : ℕ) → IsLiveChild m x y → ⊥

@@ -1,0 +1,24 @@
+use std::fmt;
+use std::marker::Model;
+
+/// The number of a transaction. Numbers are given one after another, and never again.
+///
+/// Any number may be asked for; one that no transaction has is refused where it is used.
+#[derive(Clone, Copy, Debug, PartialEq, Eq, PartialOrd, Ord)]
+pub struct TxnId(pub u64);
+
+impl Model for TxnId {
+    ghost use Rattle.std.specs.Prelude.{ℕ};
+
+    ghost Value = { ℕ };
+
+    ghost view = { λ a. a.0 };
+
+    ghost inverse = { λ n. record { 0 = n } };
+}
+
+impl fmt::Display for TxnId {
+    fn fmt<W: fmt::Write>(&self, f: &mut fmt::Formatter<W>) -> fmt::Result {
+        self.0.fmt(f)
+    }
+}

@@ -1,0 +1,193 @@
+-- Places that are made for a grant, taken back, or given its locks.
+use Rattle.std.proofs.Common.{◌≡◌, ◌<◌, ◌+◌, ◌-◌, ◌⊎◌, ℕ, zero, suc, Bool, true, false, cond, not, ◌&&◌, ◌||◌, ◌==◌, List, [], ◌∷◌, ◌++◌, take, drop, length, get_or, Option, Some, None, IsSome, is_some, unwrap_or, refl, sym, ap, subst, ◌∙◌, arith, add-one}
+use Rattle.std.proofs.lemmas.Bool.{false≢true, eqb-true}
+use Rattle.std.specs.List.{list_any}
+use Rattle.std.proofs.lemmas.List.{take_more}
+use Rattle.std.proofs.lemmas.List.Folds.{list_any-append}
+use Rattle.std.specs.Option.{option_map, IfSome, IfNone, OnSome}
+use Rattle.std.specs.FinMap as finite
+use Rattle.ft_base.specs.Chains.{Lists, list_in}
+use Rattle.ft_tree.specs.declared.cell.Cell.{Cell}
+use Rattle.ft_tree.specs.CellOrder.{same_cell, same_cell-is}
+use Rattle.ft_calls.specs.declared.call.Mode.{Mode}
+use Rattle.ft_calls.specs.declared.call.Mode.TheVariants.{Read as ReadMode, Write as WriteMode}
+use Rattle.ft_calls.specs.declared.call.Access.{Access}
+use Rattle.ft_locks.specs.declared.line.LockKind.{LockKind}
+use Rattle.ft_locks.specs.declared.line.LockKind.TheVariants.{Held, Retained}
+use Rattle.ft_locks.specs.declared.line.LockLine.{LockLine}
+use Rattle.ft_locks.specs.declared.marks.Marks.{Marks}
+use Rattle.ft_locks.specs.declared.holdings.Dropped.{Dropped}
+use Rattle.ft_locks.specs.Marks.{no_marks, held_in, with_marks, has_mark}
+use Rattle.ft_locks.specs.Cells.{Cells, marks_at, is_at}
+use Rattle.ft_locks.specs.Holdings.{Held as Places, has_place, AreOpenStill, after_back, marks_or_none}
+use Rattle.ft_locks.specs.Locks.{is_held, same_mode, is_accessed, has_access}
+use Rattle.ft_locks.specs.Seen.{has_mark_of, has_line}
+use Rattle.ft_locks.proofs.CellViews.{turned_cell}
+use Rattle.ft_locks.proofs.Joining.{list_there, open_if_listed, still-insert, placed-put, placed-marked}
+
+-- what is not placed has no marks
+pub not_placed : (o : Option Marks) → is_some o ≡ false → o ≡ None
+not_placed None e = refl
+not_placed (Some x) e = absurd (false≢true (sym e))
+
+back_bools : (a s t : Bool) (x : Option Marks) → cond (a && t) None (cond (s && a) None x) ≡ cond (a && (s || t)) None x
+back_bools true true true x = refl
+back_bools true true false x = refl
+back_bools true false t x = refl
+back_bools false true t x = refl
+back_bools false false t x = refl
+
+-- one place less to take back
+pub back_step : (old new : Places) (owner count : ℕ) (r : Option Dropped) → 0 < count
+    → IfNone r (((c : Cell) → marks_at old.cells c owner ≡ None) × (new ≡ old))
+    → IfSome r (λ d. list_in old.lists owner ≡ d.cell ∷ list_in new.lists owner)
+    → IfSome r (λ d. (c : Cell) (u : ℕ) → marks_at new.cells c u ≡ cond (is_at d.cell owner c u) None (marks_at old.cells c u))
+    → (c : Cell) (u : ℕ) → after_back (count - 1) owner new.cells new.lists c u ≡ after_back count owner old.cells old.lists c u
+back_step old new owner count (Some d) some none list marks c u =
+    let next : count ≡ suc (count - 1) = omega (arith, some) in
+    let rest = take (count - 1) (list_in new.lists owner) in
+    ap (cond ((u == owner) && list_any (same_cell c) rest) None) (marks c u)
+    ∙ back_bools (u == owner) (same_cell c d.cell) (list_any (same_cell c) rest) (marks_at old.cells c u)
+    ∙ sym (ap (λ n. cond ((u == owner) && list_any (same_cell c) (take n (list_in old.lists owner))) None (marks_at old.cells c u)) next
+    ∙ ap (λ l. cond ((u == owner) && list_any (same_cell c) (take (suc (count - 1)) l)) None (marks_at old.cells c u)) list)
+back_step old new owner count None some none list marks c u =
+    ap (λ (h : Places). after_back (count - 1) owner h.cells h.lists c u) none.1
+    ∙ nothing (list_any (same_cell c) (take (count - 1) (list_in old.lists owner)))
+    ∙ sym (nothing (list_any (same_cell c) (take count (list_in old.lists owner))))
+  where
+    by_owner : (a b : Bool) → (u == owner) ≡ a → cond (a && b) None (marks_at old.cells c u) ≡ marks_at old.cells c u
+    by_owner true true e = sym (ap (marks_at old.cells c) (eqb-true u owner e) ∙ none.0 c)
+    by_owner true false e = refl
+    by_owner false b e = refl
+
+    nothing : (b : Bool) → cond ((u == owner) && b) None (marks_at old.cells c u) ≡ marks_at old.cells c u
+    nothing b = by_owner (u == owner) b refl
+
+pub back_still : (old new : Places) (owner : ℕ) (r : Option Dropped)
+    → IfNone r (((c : Cell) → marks_at old.cells c owner ≡ None) × (new ≡ old))
+    → IfSome r (λ d. list_in old.lists owner ≡ d.cell ∷ list_in new.lists owner)
+    → OnSome r (new.lists ≡ finite.insert old.lists owner (drop 1 (list_in old.lists owner))) → AreOpenStill old.lists new.lists
+back_still old new owner (Some d) none list lists u =
+    ap (λ m. is_some (finite.get m u)) lists ∙ still-insert old.lists owner (drop 1 (list_in old.lists owner)) (open_if_listed old.lists owner d.cell (list_in new.lists owner) list) u
+back_still old new owner None none list lists u = ap (λ (h : Places). is_some (finite.get h.lists u)) none.1
+
+add_bools : (a s t : Bool) (x y : Option Marks) → (a ≡ true → s ≡ true → x ≡ None) → cond (a && (s || t)) None (cond (s && a) y x) ≡ cond (a && t) None x
+add_bools true true true x y absent = refl
+add_bools true true false x y absent = sym (absent refl refl)
+add_bools true false t x y absent = refl
+add_bools false true t x y absent = refl
+add_bools false false t x y absent = refl
+
+-- A place has been added in front.
+module _ (old new : Places) (owner : ℕ) (k : Cell) (absent : marks_at old.cells k owner ≡ None)
+    (marks : (c : Cell) (u : ℕ) → marks_at new.cells c u ≡ cond (is_at k owner c u) (Some no_marks) (marks_at old.cells c u))
+    (lists : new.lists ≡ finite.insert old.lists owner (k ∷ list_in old.lists owner)) where
+  absent_at : (c : Cell) (u : ℕ) → (u == owner) ≡ true → same_cell c k ≡ true → marks_at old.cells c u ≡ None
+  absent_at c u e d = (λ i. marks_at old.cells (same_cell-is c k d i) (eqb-true u owner e i)) ∙ absent
+
+  pub added_back : (made : ℕ) (c : Cell) (u : ℕ) → after_back (made + 1) owner new.cells new.lists c u ≡ after_back made owner old.cells old.lists c u
+  added_back made c u =
+      ap (λ n. after_back n owner new.cells new.lists c u) (add-one made)
+      ∙ ap (λ l. cond ((u == owner) && list_any (same_cell c) (take (suc made) l)) None (marks_at new.cells c u)) (ap (λ m. list_in m owner) lists ∙ list_there old.lists owner (k ∷ list_in old.lists owner))
+      ∙ ap (cond ((u == owner) && (same_cell c k || list_any (same_cell c) (take made (list_in old.lists owner)))) None) (marks c u)
+      ∙ add_bools (u == owner) (same_cell c k) (list_any (same_cell c) (take made (list_in old.lists owner))) (marks_at old.cells c u) (Some no_marks) (absent_at c u)
+
+  pub added_same : (c : Cell) (u : ℕ) → marks_or_none new.cells c u ≡ marks_or_none old.cells c u
+  added_same c u = ap (λ o. unwrap_or o no_marks) (marks c u) ∙ by_place (same_cell c k) (u == owner) refl refl
+    where
+      by_place : (s a : Bool) → same_cell c k ≡ s → (u == owner) ≡ a → unwrap_or (cond (s && a) (Some no_marks) (marks_at old.cells c u)) no_marks ≡ unwrap_or (marks_at old.cells c u) no_marks
+      by_place true true d e = sym (ap (λ o. unwrap_or o no_marks) (absent_at c u e d))
+      by_place true false d e = refl
+      by_place false a d e = refl
+
+  pub added_place : (c : Cell) (u : ℕ) → has_place new.cells c u ≡ (is_at k owner c u || has_place old.cells c u)
+  added_place c u = ap is_some (marks c u) ∙ placed-put (is_at k owner c u) no_marks (marks_at old.cells c u)
+
+  pub added_still : is_some (finite.get old.lists owner) ≡ true → AreOpenStill old.lists new.lists
+  added_still is_open u = ap (λ m. is_some (finite.get m u)) lists ∙ still-insert old.lists owner (k ∷ list_in old.lists owner) is_open u
+
+-- One more access.
+pub accessed_more : (xs : List Access) (i : ℕ) (a : Access) → i < length xs → a ≡ get_or xs i a → (c : Cell) → is_accessed (take (i + 1) xs) c ≡ (is_accessed (take i xs) c || (same_cell a.cell c || false))
+accessed_more xs i a within is c =
+    ap (λ l. is_accessed l c) (take_more xs i a within) ∙ list_any-append (λ (x : Access). same_cell x.cell c) (take i xs) (get_or xs i a ∷ [])
+    ∙ ap (λ (x : Access). is_accessed (take i xs) c || (same_cell x.cell c || false)) (sym is)
+
+pub access_more : (xs : List Access) (i : ℕ) (a : Access) → i < length xs → a ≡ get_or xs i a → (c : Cell) (mode : Mode)
+    → has_access (take (i + 1) xs) c mode ≡ (has_access (take i xs) c mode || (same_cell a.cell c && same_mode a.mode mode || false))
+access_more xs i a within is c mode =
+    ap (λ l. has_access l c mode) (take_more xs i a within) ∙ list_any-append (λ (x : Access). same_cell x.cell c && same_mode x.mode mode) (take i xs) (get_or xs i a ∷ [])
+    ∙ ap (λ (x : Access). has_access (take i xs) c mode || (same_cell x.cell c && same_mode x.mode mode || false)) (sym is)
+
+-- the place was there
+pub place_kept : (l i a t s : Bool) → l ≡ (i || (a && t)) → (a ≡ true → s ≡ true → l ≡ true) → l ≡ (i || (a && (t || (s || false))))
+place_kept l true a t s is there = is
+place_kept l false false t s is there = is
+place_kept l false true true s is there = is
+place_kept l false true false true is there = there refl refl
+place_kept l false true false false is there = is
+
+-- the place is new
+pub place_made : (l i a t s : Bool) → l ≡ (i || (a && t)) → (s && a || l) ≡ (i || (a && (t || (s || false))))
+place_made l i a t s is = ap (λ b. s && a || b) is ∙ by_cases s a i t
+  where
+    by_cases : (s a i t : Bool) → (s && a || (i || (a && t))) ≡ (i || (a && (t || (s || false))))
+    by_cases true true true t = refl
+    by_cases true true false true = refl
+    by_cases true true false false = refl
+    by_cases true false true t = refl
+    by_cases true false false t = refl
+    by_cases false a true t = refl
+    by_cases false true false true = refl
+    by_cases false true false false = refl
+    by_cases false false false t = refl
+
+-- A place gets the mark of an access.
+or_none : (b : Bool) → b ≡ (b || false)
+or_none true = refl
+or_none false = refl
+
+and_none : (b : Bool) → (b && false) ≡ false
+and_none true = refl
+and_none false = refl
+
+pub marked_line : (o : Option Marks) (l : LockLine) (s a : Bool) (mode : Mode)
+    → has_mark_of (cond (s && a) (option_map (λ own. with_marks own (held_in mode)) o) o) l ≡ (has_mark_of o l || (is_some o && is_held l.kind && a && (s && same_mode mode l.mode)))
+marked_line None l true true mode = refl
+marked_line None l true false mode = refl
+marked_line None l false a mode = refl
+marked_line (Some y) l true true mode = by_mode mode l.mode l.kind
+  where
+    by_mode : (mode m : Mode) (kind : LockKind) → has_mark (with_marks y (held_in mode)) m kind ≡ (has_mark y m kind || (is_held kind && true && same_mode mode m))
+    by_mode ReadMode ReadMode Held = refl
+    by_mode ReadMode ReadMode Retained = refl
+    by_mode ReadMode WriteMode Held = refl
+    by_mode ReadMode WriteMode Retained = refl
+    by_mode WriteMode ReadMode Held = refl
+    by_mode WriteMode ReadMode Retained = refl
+    by_mode WriteMode WriteMode Held = refl
+    by_mode WriteMode WriteMode Retained = refl
+marked_line (Some y) l true false mode = or_none (has_mark y l.mode l.kind) ∙ ap (λ b. has_mark y l.mode l.kind || (b && same_mode mode l.mode)) (sym (and_none (is_held l.kind)))
+marked_line (Some y) l false a mode = or_none (has_mark y l.mode l.kind) ∙ ap (λ b. has_mark y l.mode l.kind || b) (sym (and_none (is_held l.kind && a)))
+
+line_bools : (i q t n : Bool) → (i || (q && t) || (q && n)) ≡ (i || (q && (t || (n || false))))
+line_bools true q t n = refl
+line_bools false true true n = refl
+line_bools false true false true = refl
+line_bools false true false false = refl
+line_bools false false t n = refl
+
+module _ (start old new : Cells) (owner : ℕ) (xs : List Access) (i : ℕ) (a : Access) (within : i < length xs) (is : a ≡ get_or xs i a) (given : Marks) (given_is : given ≡ held_in a.mode)
+    (marks : (c : Cell) (u : ℕ) → marks_at new c u ≡ cond (is_at a.cell owner c u) (option_map (λ own. with_marks own given) (marks_at old c u)) (marks_at old c u))
+    (places : (c : Cell) (u : ℕ) → has_place old c u ≡ has_place start c u) where
+  pub marked_place : (c : Cell) (u : ℕ) → has_place new c u ≡ has_place start c u
+  marked_place c u = ap is_some (marks c u) ∙ placed-marked (is_at a.cell owner c u) (λ own. with_marks own given) (marks_at old c u) ∙ places c u
+
+  pub marked_lines : (l : LockLine) → has_line old l ≡ (has_line start l || (has_place start l.cell l.owner && is_held l.kind && (l.owner == owner) && has_access (take i xs) l.cell l.mode))
+      → has_line new l ≡ (has_line start l || (has_place start l.cell l.owner && is_held l.kind && (l.owner == owner) && has_access (take (i + 1) xs) l.cell l.mode))
+  marked_lines l was =
+      ap (λ o. has_mark_of o l) (marks l.cell l.owner)
+      ∙ ap (λ (x : Marks). has_mark_of (cond (is_at a.cell owner l.cell l.owner) (option_map (λ own. with_marks own x) (marks_at old l.cell l.owner)) (marks_at old l.cell l.owner)) l) given_is
+      ∙ marked_line (marks_at old l.cell l.owner) l (same_cell l.cell a.cell) (l.owner == owner) a.mode
+      ∙ (λ j. was j || (places l.cell l.owner j && is_held l.kind && (l.owner == owner) && (turned_cell l.cell a.cell j && same_mode a.mode l.mode)))
+      ∙ line_bools (has_line start l) (has_place start l.cell l.owner && is_held l.kind && (l.owner == owner)) (has_access (take i xs) l.cell l.mode) (same_cell a.cell l.cell && same_mode a.mode l.mode)
+      ∙ ap (λ b. has_line start l || (has_place start l.cell l.owner && is_held l.kind && (l.owner == owner) && b)) (sym (access_more xs i a within is l.cell l.mode))

@@ -1,0 +1,12 @@
+pub mod HolderLists
+pub mod Names
+pub mod CellViews
+pub mod Loans
+pub mod Places
+pub mod Joining
+pub mod Tables
+pub mod Handing
+pub mod Sweeping
+pub mod Granting
+pub mod Granted
+pub mod InTheWay

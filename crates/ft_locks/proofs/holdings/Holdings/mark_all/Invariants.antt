@@ -1,0 +1,14 @@
+use Rattle.std.proofs.Common.{◌≡◌, ◌==◌, ◌&&◌, ◌||◌, ℕ, take}
+use Rattle.ft_tree.specs.declared.cell.Cell.{Cell}
+use Rattle.ft_locks.specs.declared.line.LockLine.{LockLine}
+use Rattle.ft_locks.specs.Locks.{is_held, has_access}
+use Rattle.ft_locks.specs.Seen.{has_line}
+use Rattle.ft_locks.specs.Holdings.{has_place}
+use Rattle.ft_locks.proofs.holdings.Holdings.mark_all.Given as goal
+
+abbrev pub invariant-loop-access : goal.invariant-loop-access
+invariant-loop-access l = record {
+  lines : (x : LockLine) → has_line l.self.cells x ≡ (has_line l.initial.self.cells x || (has_place l.initial.self.cells x.cell x.owner && is_held x.kind && (x.owner == l.owner) && has_access (take l.access-index l.accesses) x.cell x.mode));
+  places : (c : Cell) (u : ℕ) → has_place l.self.cells c u ≡ has_place l.initial.self.cells c u;
+  lists : l.self.lists ≡ l.initial.self.lists;
+}

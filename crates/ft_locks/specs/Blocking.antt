@@ -1,0 +1,51 @@
+-- Who is in the way of an access, cell by cell.
+use Rattle.std.specs.Prelude.{◌≡◌, ◌==◌, ◌&&◌, ◌||◌, not, ℕ, Bool, false, List, Option, Some, None}
+use Rattle.std.specs.List.{list_any}
+use Rattle.std.specs.Ordering.{nat_cmp}
+use Rattle.std.specs.FinMap as finite
+use Rattle.ft_tree.specs.declared.cell.Cell.{Cell}
+use Rattle.ft_tree.specs.declared.cell.Cell.TheVariants.{Entry, Names, Parent, Links, Bytes, Fd}
+use Rattle.ft_calls.specs.declared.call.Mode.{Mode}
+use Rattle.ft_calls.specs.declared.call.Access.{Access}
+use Rattle.ft_locks.specs.declared.marks.Marks.{Marks}
+use Rattle.ft_locks.specs.declared.holders.Holding.{Holding}
+use Rattle.ft_locks.specs.Marks.{are_in_the_way}
+use Rattle.ft_locks.specs.Cells.{Cells, marks_at}
+
+abbrev pub Found : Type 0
+Found = finite.FinMap nat_cmp (Unit {0})
+
+-- those who pass the test are noted besides
+abbrev pub AreNoted : Found → Found → (ℕ → Bool) → Type 0
+AreNoted old new p = (u : ℕ) → finite.contains_key new u ≡ (finite.contains_key old u || p u)
+
+abbrev pub is_in_way : Option Marks → Mode → Bool
+is_in_way None mode = false
+is_in_way (Some marks) mode = are_in_the_way marks mode
+
+-- whether an owner's locks on a cell conflict with such an access to a cell that overlaps it
+abbrev pub way : Cells → Cell → Mode → ℕ → Bool
+way m c mode u = is_in_way (marks_at m c u) mode
+
+abbrev pub is_listed_in_way : List Holding → Mode → ℕ → Bool
+is_listed_in_way list mode u = list_any (λ h. (h.owner == u) && are_in_the_way h.marks mode) list
+
+abbrev pub is_entry_of : ℕ → Cell → Bool
+is_entry_of d (Entry e name) = d == e
+is_entry_of d (Names e) = false
+is_entry_of d (Parent e) = false
+is_entry_of d (Links i) = false
+is_entry_of d (Bytes i) = false
+is_entry_of d (Fd f) = false
+
+-- the same on the cells that overlap this one besides itself
+abbrev pub beside : Cells → Cell → Mode → ℕ → Bool
+beside m (Entry d name) mode u = way m (Names d) mode u
+beside m (Names d) mode u = list_any (λ c. is_entry_of d c && way m c mode u) (finite.keys m)
+beside m (Parent d) mode u = false
+beside m (Links i) mode u = false
+beside m (Bytes i) mode u = false
+beside m (Fd f) mode u = false
+
+abbrev pub blocks : Cells → Access → ℕ → Bool
+blocks m a u = way m a.cell a.mode u || beside m a.cell a.mode u

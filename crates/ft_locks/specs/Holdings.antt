@@ -1,0 +1,54 @@
+-- Places on cells, found both by cell and by owner.
+use Rattle.std.specs.Prelude.{◌≡◌, ◌==◌, ◌&&◌, ℕ, Bool, false, cond, is_some, unwrap_or, take, Option, None, List, [], ◌∷◌, refl}
+use Rattle.std.specs.List.{list_any}
+use Rattle.std.specs.FinMap as finite
+use Rattle.std.specs.Coded.{Coded, code_by, coded×}
+use Rattle.ft_base.specs.Chains.{Lists, coded_lists, list_in}
+use Rattle.ft_tree.specs.declared.cell.Cell.{Cell}
+use Rattle.ft_tree.specs.contracts.cell.Cell as cell
+use Rattle.ft_tree.specs.CellOrder.{same_cell}
+use Rattle.ft_locks.specs.declared.marks.Marks.{Marks}
+use Rattle.ft_locks.specs.Marks.{no_marks}
+use Rattle.ft_locks.specs.Cells.{Cells, coded_cells, marks_at}
+
+-- for each cell its owners, and for each owner its cells
+pub record Held : Type 0 where
+  pub cells : Cells
+  pub lists : Lists Cell
+
+abbrev pub coded_held : Coded Held
+coded_held = code_by (Cells × Lists Cell) (coded× coded_cells (coded_lists cell.the_row.coded)) (λ h. (h.cells, h.lists)) (λ p. record { cells = p.0; lists = p.1 }) (λ _. refl)
+
+-- no cell stands twice in the list
+abbrev pub AreSingle : List Cell → Type 0
+AreSingle [] = Unit {0}
+AreSingle (c ∷ more) = (list_any (same_cell c) more ≡ false) × AreSingle more
+
+-- whether an owner has a place on a cell
+abbrev pub has_place : Cells → Cell → ℕ → Bool
+has_place m c owner = is_some (marks_at m c owner)
+
+-- an owner's list has each cell on which it has a place, once
+pub record IsJoined (has : Cell → ℕ → Bool) (lists : Lists Cell) : Type 0 where
+  pub listed : (u : ℕ) (c : Cell) → list_any (same_cell c) (list_in lists u) ≡ has c u
+  pub single : (u : ℕ) → AreSingle (list_in lists u)
+
+-- the owners that are open are the same
+abbrev pub AreOpenStill : Lists Cell → Lists Cell → Type 0
+AreOpenStill old new = (u : ℕ) → finite.contains_key new u ≡ finite.contains_key old u
+
+-- an owner's newest cell is taken from its list
+abbrev pub popped_of : Lists Cell → ℕ → List Cell → Lists Cell
+popped_of m owner [] = m
+popped_of m owner (c ∷ more) = finite.insert m owner more
+
+abbrev pub popped : Lists Cell → ℕ → Lists Cell
+popped m owner = popped_of m owner (list_in m owner)
+
+-- what would be left of an owner's places without so many of its newest
+abbrev pub after_back : ℕ → ℕ → Cells → Lists Cell → Cell → ℕ → Option Marks
+after_back count owner m lists c u = cond ((u == owner) && list_any (same_cell c) (take count (list_in lists owner))) None (marks_at m c u)
+
+-- an owner's marks; where it has no place, none
+abbrev pub marks_or_none : Cells → Cell → ℕ → Marks
+marks_or_none m c u = unwrap_or (marks_at m c u) no_marks

@@ -1,0 +1,9 @@
+pub mod Ranks
+pub mod Marks
+pub mod Holders
+pub mod Cells
+pub mod Lending
+pub mod Holdings
+pub mod Locks
+pub mod Seen
+pub mod Blocking

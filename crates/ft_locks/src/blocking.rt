@@ -1,0 +1,102 @@
+// Who is in the way of an access.
+ghost use Rattle.std.specs.Prelude.{◌≡◌, ◌&&◌, ◌||◌, not, ℕ, OnOk, IfOk};
+ghost use Rattle.std.specs.FinMap as finite;
+ghost use Rattle.ft_tree.specs.declared.cell.Cell.TheVariants.{Names};
+ghost use Rattle.ft_forest.specs.Transactions.{over_in};
+ghost use Rattle.ft_locks.specs.Blocking.{AreNoted, way, is_listed_in_way, beside, blocks};
+
+use crate::holders::Holding;
+use crate::holdings::Holdings;
+use ft_base::{Memory, Table};
+use ft_calls::{Access, Mode};
+use ft_forest::{Forest, TxnId};
+use ft_tree::Cell;
+use std::alloc::Global;
+
+/// Notes each owner in a list whose locks conflict with such an access, and that is neither the
+/// asker nor an ancestor of it.
+fn note_list(
+    found: &mut Table<()>,
+    forest: &Forest,
+    txn: TxnId,
+    list: &[Holding],
+    mode: Mode,
+) -> Result<(), Memory>
+    ensures { OnOk result (AreNoted found.old found.new (λ u. not (over_in forest.now u txn) && is_listed_in_way list.now mode u)) }
+{
+    for holding in list {
+        if !holding.marks.are_in_the_way(mode) {
+            continue;
+        }
+        if forest.is_below(txn, TxnId(holding.owner)) {
+            continue;
+        }
+        found.insert(holding.owner, ())?;
+    }
+    Ok(())
+}
+
+/// The same of the owners that have a place on a cell.
+fn note_cell(
+    holdings: &Holdings,
+    found: &mut Table<()>,
+    forest: &Forest,
+    txn: TxnId,
+    cell: &Cell,
+    mode: Mode,
+) -> Result<(), Memory>
+    ensures { OnOk result (AreNoted found.old found.new (λ u. not (over_in forest.now u txn) && way holdings.now.cells cell.now mode u)) }
+{
+    match holdings.holders(cell) {
+        Some(holders) => note_list(found, forest, txn, holders.as_slice(), mode),
+        None => Ok(()),
+    }
+}
+
+/// The same of the entries of a directory.
+fn note_entries(
+    holdings: &Holdings,
+    found: &mut Table<()>,
+    forest: &Forest,
+    txn: TxnId,
+    dir: u64,
+    mode: Mode,
+) -> Result<(), Memory>
+    ensures { OnOk result (AreNoted found.old found.new (λ u. not (over_in forest.now u txn) && beside holdings.now.cells (Names dir) mode u)) }
+{
+    let Some(names) = holdings.names_of(dir) else {
+        return Ok(());
+    };
+    for name in names {
+        let cell = Cell::Entry(dir, name.clone()?);
+        note_cell(holdings, found, forest, txn, &cell, mode)?;
+    }
+    Ok(())
+}
+
+/// The same of the cells that overlap the access's.
+pub(crate) fn note_access(
+    holdings: &Holdings,
+    found: &mut Table<()>,
+    forest: &Forest,
+    txn: TxnId,
+    access: &Access,
+) -> Result<(), Memory>
+    ensures { OnOk result (AreNoted found.old found.new (λ u. not (over_in forest.now u txn) && blocks holdings.now.cells access.now u)) }
+{
+    let mode = access.mode;
+    note_cell(holdings, found, forest, txn, &access.cell, mode)?;
+    match &access.cell {
+        Cell::Entry(dir, _) => note_cell(holdings, found, forest, txn, &Cell::Names(*dir), mode),
+        Cell::Names(dir) => note_entries(holdings, found, forest, txn, *dir, mode),
+        Cell::Parent(_) | Cell::Links(_) | Cell::Bytes(_) | Cell::Fd(_) => Ok(()),
+    }
+}
+
+/// The owners noted, in rising order.
+pub(crate) fn noted(alloc: Global, found: &Table<()>) -> Result<Vec<TxnId>, Memory>
+    ensures { IfOk result (λ owners. owners.items ≡ finite.keys found.now) }
+{
+    let owners = found.iter().map(|(owner, _)| TxnId(*owner)).collect(alloc)?;
+    Ok(owners)
+}

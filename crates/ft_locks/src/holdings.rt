@@ -1,0 +1,246 @@
+// The places of owners on cells, found both by cell and by owner.
+ghost use Rattle.std.specs.Prelude.{◌≡◌, ◌≢◌, ◌+◌, ℕ, cond, true, false, not, List, [], ◌∷◌, drop, length, None, Some, IsSome, IsTrue, is_some, IfSome, IfNone, OnSome, OnOk, OnErr};
+ghost use Rattle.std.specs.Option.{option_map, option_copied};
+ghost use Rattle.std.specs.FinMap as finite;
+ghost use Rattle.ft_base.specs.Chains.{list_in, IsOpen};
+ghost use Rattle.ft_tree.specs.declared.cell.Cell.{Cell};
+ghost use Rattle.ft_tree.specs.declared.cell.Cell.TheVariants.{Entry};
+ghost use Rattle.ft_locks.specs.Marks.{no_marks, with_marks};
+ghost use Rattle.ft_locks.specs.Cells.{is_among, is_at, marks_at, after_hand};
+ghost use Rattle.ft_locks.specs.Holdings.{AreOpenStill, popped};
+
+use crate::cells::LockedCells;
+use crate::holders::Holders;
+use crate::marks::Marks;
+use ft_base::{Chains, Memory};
+use ft_calls::Access;
+use ft_path::Name;
+use ft_tree::Cell;
+use std::alloc::Global;
+use std::collections::BTreeSet;
+use std::marker::Model;
+
+/// Which owner has a place on which cell, and with which locks.
+///
+/// A cell's owners are found by its hash, and an owner's cells by its list, so that what is done to
+/// one owner costs its own places and no others.
+#[derive(Drop)]
+pub(crate) struct Holdings {
+    cells: LockedCells,
+    chains: Chains<Cell>,
+}
+
+impl Model for Holdings {
+    ghost use Rattle.ft_locks.specs.Holdings.{Held, coded_held, IsJoined, has_place};
+
+    ghost Value = { Held };
+
+    ghost coded = { coded_held };
+
+    ghost view = { λ a. record { cells = a.cells; lists = a.chains } };
+
+    ghost invariant = { λ a. IsJoined (has_place a.cells) a.chains };
+}
+
+/// What became of an owner's place that was taken out.
+#[derive(Drop)]
+pub(crate) struct Dropped {
+    /// The cell on which it was.
+    pub(crate) cell: Cell,
+    /// Whether nobody has a place there now.
+    pub(crate) is_free: bool,
+}
+
+/// Takes the newest cell of an owner from its list, where there is one.
+fn discard_front(chains: &mut Chains<Cell>, owner: u64)
+    ensures { chains.new ≡ popped chains.old owner }
+{
+    let _ = chains.pop_front(owner);
+}
+
+impl Holdings {
+    ghost use Rattle.std.specs.Prelude.{◌==◌, ◌&&◌, ◌||◌};
+    ghost use Rattle.ft_locks.specs.declared.line.LockLine.{LockLine};
+    ghost use Rattle.ft_locks.specs.Locks.{is_held, is_accessed, has_access};
+    ghost use Rattle.ft_locks.specs.Seen.{has_line};
+    ghost use Rattle.ft_locks.specs.Holdings.{has_place, after_back, marks_or_none};
+
+    /// No owner and no place. Takes no memory.
+    pub(crate) fn new(alloc: Global) -> Holdings
+        ensures cells { result.cells ≡ finite.empty }
+        ensures lists { result.lists ≡ finite.empty }
+    {
+        Holdings {
+            cells: LockedCells::new(alloc),
+            chains: Chains::new(alloc),
+        }
+    }
+
+    /// Whether an owner is open.
+    pub(crate) fn is_open(&self, owner: u64) -> bool
+        ensures { result ≡ finite.contains_key self.now.lists owner }
+    {
+        self.chains.is_open(owner)
+    }
+
+    /// Opens an owner; one that is open stays so. Want of memory changes nothing.
+    pub(crate) fn open(&mut self, owner: u64) -> Result<(), Memory>
+        ensures cells { self.new.cells ≡ self.old.cells }
+        ensures ok { OnOk result (self.new.lists ≡ finite.insert self.old.lists owner (list_in self.old.lists owner)) }
+        ensures err { OnErr result (self.new ≡ self.old) }
+    {
+        self.chains.open(owner)
+    }
+
+    /// Closes an owner that has no place. Takes no memory.
+    pub(crate) fn close(&mut self, owner: u64)
+        requires { list_in self.old.lists owner ≡ [] }
+        ensures cells { self.new.cells ≡ self.old.cells }
+        ensures lists { self.new.lists ≡ finite.remove self.old.lists owner }
+    {
+        self.chains.close(owner);
+    }
+
+    /// The holders of a cell, if there are any.
+    pub(crate) fn holders(&self, cell: &Cell) -> Option<&Holders>
+        ensures { option_copied result ≡ finite.get self.now.cells cell.now }
+    {
+        self.cells.get(cell)
+    }
+
+    /// The names of a directory's entries on which anybody has a place.
+    pub(crate) fn names_of(&self, dir: u64) -> Option<&BTreeSet<Name>>
+        ensures { (name : List ℕ) → is_among (option_copied result) name ≡ finite.contains_key self.now.cells (Entry dir name) }
+    {
+        self.cells.names_of(dir)
+    }
+
+    /// Gives an owner a place on a cell, with no lock yet, in front of its others. Want of memory
+    /// changes nothing.
+    pub(crate) fn add(&mut self, owner: u64, cell: &Cell) -> Result<(), Memory>
+        requires open { IsOpen self.old.lists owner }
+        requires absent { marks_at self.old.cells cell.now owner ≡ None }
+        ensures ok { OnOk result ((c : Cell) (u : ℕ) → marks_at self.new.cells c u ≡ cond (is_at cell.now owner c u) (Some no_marks) (marks_at self.old.cells c u)) }
+        ensures list { OnOk result (self.new.lists ≡ finite.insert self.old.lists owner (cell.now ∷ list_in self.old.lists owner)) }
+        ensures err { OnErr result (self.new ≡ self.old) }
+    {
+        self.chains.push_front(owner, cell.clone()?)?;
+        let added = self.cells.add(cell, owner);
+        if added.is_err() {
+            discard_front(&mut self.chains, owner);
+        }
+        added
+    }
+
+    /// Gives an owner that has a place on a cell these locks beside its own. Takes no memory.
+    pub(crate) fn mark(&mut self, owner: u64, cell: &Cell, marks: Marks)
+        ensures marks { (c : Cell) (u : ℕ) → marks_at self.new.cells c u ≡ cond (is_at cell.now owner c u) (option_map (λ own. with_marks own marks) (marks_at self.old.cells c u)) (marks_at self.old.cells c u) }
+        ensures lists { self.new.lists ≡ self.old.lists }
+    {
+        self.cells.mark(cell, owner, marks);
+    }
+
+    /// Takes out the newest place of an owner, where it has one. Takes no memory.
+    pub(crate) fn drop_front(&mut self, owner: u64) -> Option<Dropped>
+        ensures none { IfNone result (((c : Cell) → marks_at self.old.cells c owner ≡ None) × (self.new ≡ self.old)) }
+        ensures there { IfSome result (λ dropped. IsSome (marks_at self.old.cells dropped.cell owner)) }
+        ensures list { IfSome result (λ dropped. list_in self.old.lists owner ≡ dropped.cell ∷ list_in self.new.lists owner) }
+        ensures lists { OnSome result (self.new.lists ≡ finite.insert self.old.lists owner (drop 1 (list_in self.old.lists owner))) }
+        ensures marks { IfSome result (λ dropped. (c : Cell) (u : ℕ) → marks_at self.new.cells c u ≡ cond (is_at dropped.cell owner c u) None (marks_at self.old.cells c u)) }
+        ensures gone { IfSome result (λ dropped. IsTrue dropped.is_free → (u : ℕ) → marks_at self.new.cells dropped.cell u ≡ None) }
+        ensures more { IfSome result (λ dropped. dropped.is_free ≡ false → (u : ℕ) × IsSome (marks_at self.new.cells dropped.cell u)) }
+    {
+        let cell = self.chains.pop_front(owner)?;
+        let is_free = self.cells.take_out(&cell, owner);
+        Some(Dropped { cell, is_free })
+    }
+
+    /// Gives the newest place of an owner to another, and answers whether there was one. Takes no
+    /// memory.
+    pub(crate) fn hand_front(&mut self, from: u64, to: u64) -> bool
+        requires open { IsOpen self.old.lists to }
+        requires apart { from ≢ to }
+        ensures done { result ≡ false → list_in self.old.lists from ≡ [] }
+        ensures gone { result ≡ false → (c : Cell) → marks_at self.old.cells c from ≡ None }
+        ensures fewer { result ≡ true → length (list_in self.old.lists from) ≡ length (list_in self.new.lists from) + 1 }
+        ensures marks { (c : Cell) (u : ℕ) → after_hand from to (marks_at self.new.cells c) u ≡ after_hand from to (marks_at self.old.cells c) u }
+        ensures still { AreOpenStill self.old.lists self.new.lists }
+        ensures same { result ≡ false → self.new ≡ self.old }
+    {
+        let Some(cell) = self.chains.first(from) else {
+            return false;
+        };
+        if self.cells.hand_over(cell, from, to) {
+            discard_front(&mut self.chains, from);
+        } else {
+            self.chains.move_front(from, to);
+        }
+        true
+    }
+
+    /// Gives each place of an owner to another. Takes no memory.
+    pub(crate) fn hand_over(&mut self, from: u64, to: u64)
+        requires open { IsOpen self.old.lists to }
+        requires apart { from ≢ to }
+        ensures marks { (c : Cell) (u : ℕ) → marks_at self.new.cells c u ≡ after_hand from to (marks_at self.old.cells c) u }
+        ensures list { list_in self.new.lists from ≡ [] }
+        ensures still { AreOpenStill self.old.lists self.new.lists }
+    {
+        while self.hand_front(from, to) {}
+    }
+
+    /// Whether an owner has a place on a cell.
+    pub(crate) fn has_place(&self, owner: u64, cell: &Cell) -> bool
+        ensures { result ≡ has_place self.now.cells cell.now owner }
+    {
+        match self.holders(cell) {
+            Some(holders) => holders.get(owner).is_some(),
+            None => false,
+        }
+    }
+
+    /// Takes out so many of an owner's newest places, as far as it has them. Takes no memory.
+    fn take_back(&mut self, owner: u64, mut count: usize)
+        ensures marks { (c : Cell) (u : ℕ) → marks_at self.new.cells c u ≡ after_back count owner self.old.cells self.old.lists c u }
+        ensures still { AreOpenStill self.old.lists self.new.lists }
+    {
+        while count > 0 {
+            self.drop_front(owner);
+            count -= 1;
+        }
+    }
+
+    /// Gives an owner a place on each cell that is accessed, with no lock yet where it had none.
+    /// Want of memory changes nothing.
+    pub(crate) fn reserve(&mut self, owner: u64, accesses: &[Access]) -> Result<(), Memory>
+        requires { IsOpen self.old.lists owner }
+        ensures same { OnOk result ((c : Cell) (u : ℕ) → marks_or_none self.new.cells c u ≡ marks_or_none self.old.cells c u) }
+        ensures places { OnOk result ((c : Cell) (u : ℕ) → has_place self.new.cells c u ≡ (has_place self.old.cells c u || ((u == owner) && is_accessed accesses.now c))) }
+        ensures err { OnErr result ((c : Cell) (u : ℕ) → marks_at self.new.cells c u ≡ marks_at self.old.cells c u) }
+        ensures still { AreOpenStill self.old.lists self.new.lists }
+    {
+        let mut made = 0;
+        for access in accesses {
+            if self.has_place(owner, &access.cell) {
+                continue;
+            }
+            if let Err(refused) = self.add(owner, &access.cell) {
+                self.take_back(owner, made);
+                return Err(refused);
+            }
+            made += 1;
+        }
+        Ok(())
+    }
+
+    /// Gives an owner the locks of these accesses, wherever it has a place. Takes no memory.
+    pub(crate) fn mark_all(&mut self, owner: u64, accesses: &[Access])
+        ensures lines { (l : LockLine) → has_line self.new.cells l ≡ (has_line self.old.cells l || (has_place self.old.cells l.cell l.owner && is_held l.kind && (l.owner == owner) && has_access accesses.now l.cell l.mode)) }
+        ensures places { (c : Cell) (u : ℕ) → has_place self.new.cells c u ≡ has_place self.old.cells c u }
+        ensures lists { self.new.lists ≡ self.old.lists }
+    {
+        for access in accesses {
+            self.mark(owner, &access.cell, Marks::held(access.mode));
+        }
+    }
+}

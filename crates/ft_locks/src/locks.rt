@@ -1,0 +1,149 @@
+// The lock table.
+ghost use Rattle.std.specs.Prelude.{◌≡◌, ◌≢◌, ◌<◌, ℕ, true, OnOk, OnErr, IfOk, IfSome, IfNone};
+ghost use Rattle.std.specs.FinSet as set;
+ghost use Rattle.ft_locks.specs.Locks.{no_locks, has_lock, is_locked, is_let_go, is_opened, AreBlockers, AreGranted, AreInherited, AreReleased};
+
+use crate::blocking::{note_access, noted};
+use crate::cells::LET_GO;
+use crate::holdings::{Dropped, Holdings};
+use crate::marks::Marks;
+use ft_base::{Memory, Table};
+use ft_calls::Access;
+use ft_forest::{Forest, TxnId};
+use ft_tree::{Cell, Keeps};
+use std::alloc::Global;
+use std::marker::Model;
+
+/// The locks of transactions on cells.
+///
+/// It is seen as the set of its locks in their order (`LockLine`), with the cells that were let go
+/// and the transactions that are open. To look at a cell takes the time to hash it; what is done to
+/// one transaction takes the time of its own locks, however many others there are.
+#[derive(Drop)]
+pub struct Locks {
+    alloc: Global,
+    holdings: Holdings,
+}
+
+impl Model for Locks {
+    ghost use Rattle.ft_locks.specs.Locks.{LockTable, coded_table};
+    ghost use Rattle.ft_locks.specs.Seen.{table_of, IsKept};
+
+    ghost Value = { LockTable };
+
+    ghost coded = { coded_table };
+
+    ghost view = { λ a. table_of a.holdings.cells a.holdings.lists };
+
+    ghost invariant = { λ a. IsKept a.holdings.cells a.holdings.lists };
+}
+
+impl Locks {
+    /// No lock.
+    pub fn new(alloc: Global) -> Result<Locks, Memory>
+        ensures { IfOk result (λ locks. locks ≡ no_locks) }
+    {
+        let mut holdings = Holdings::new(alloc);
+        holdings.open(LET_GO)?;
+        Ok(Locks { alloc, holdings })
+    }
+
+    /// Whether a transaction is open: it was opened, and neither released nor its locks inherited
+    /// since.
+    pub fn is_open(&self, txn: TxnId) -> bool
+        ensures { result ≡ is_opened self.now txn }
+    {
+        txn.0 != LET_GO && self.holdings.is_open(txn.0)
+    }
+
+    /// Opens a transaction, so that it may be given locks: from its begin until it is released, or
+    /// its locks are inherited. One that is open stays so. Want of memory changes nothing.
+    pub fn open(&mut self, txn: TxnId) -> Result<(), Memory>
+        requires { 0 < txn }
+        ensures ok { OnOk result (self.new ≡ record self.old { opened = set.insert self.old.opened txn }) }
+        ensures err { OnErr result (self.new ≡ self.old) }
+    {
+        self.holdings.open(txn.0)
+    }
+
+    /// Who is in the way of a call with these accesses: the owners of conflicting locks that are
+    /// neither the asker nor an ancestor of it, in rising order and each once.
+    pub fn blockers(
+        &self,
+        forest: &Forest,
+        txn: TxnId,
+        accesses: &[Access],
+    ) -> Result<Vec<TxnId>, Memory>
+        ensures { IfOk result (λ blockers. AreBlockers self.now forest.now txn accesses.now blockers.items) }
+    {
+        let mut found = Table::new(self.alloc);
+        for access in accesses {
+            note_access(&self.holdings, &mut found, forest, txn, access)?;
+        }
+        noted(self.alloc, &found)
+    }
+
+    /// Gives a transaction the locks of these accesses, which it holds from then on. Want of memory
+    /// changes nothing.
+    ///
+    /// An access whose lock it has already costs a look at its cell, and no memory.
+    pub fn grant(&mut self, txn: TxnId, accesses: &[Access]) -> Result<(), Memory>
+        requires { is_opened self.old txn ≡ true }
+        ensures ok { OnOk result (AreGranted self.old self.new txn accesses.now) }
+        ensures err { OnErr result (self.new ≡ self.old) }
+    {
+        self.holdings.reserve(txn.0, accesses)?;
+        self.holdings.mark_all(txn.0, accesses);
+        Ok(())
+    }
+
+    /// Gives what a child held or retained to its parent, which retains it in the same mode, and
+    /// closes the child (Moss 1981, commit of a subtransaction). Takes no memory.
+    pub fn inherit(&mut self, child: TxnId, parent: TxnId)
+        requires child { is_opened self.old child ≡ true }
+        requires parent { is_opened self.old parent ≡ true }
+        requires apart { child ≢ parent }
+        ensures { AreInherited self.old self.new child parent }
+    {
+        self.holdings.hand_over(child.0, parent.0);
+        self.holdings.close(child.0);
+    }
+
+    /// Drops a transaction's locks and closes it (Moss 1981, commit of a top-level transaction, and
+    /// abort). A cell that nobody has locked then is let go. Takes no memory.
+    pub fn release(&mut self, txn: TxnId)
+        requires { is_opened self.old txn ≡ true }
+        ensures { AreReleased self.old self.new txn }
+    {
+        self.holdings.hand_over(txn.0, LET_GO);
+        self.holdings.close(txn.0);
+    }
+
+    /// Takes out a cell that was let go and that nobody has locked since, where there is one, so
+    /// that it is told once. Takes no memory.
+    pub fn take_let_go(&mut self) -> Option<Cell>
+        ensures cell { IfSome result (λ cell. is_let_go self.old cell ≡ true) }
+        ensures taken { IfSome result (λ cell. self.new ≡ record self.old { let_go = set.remove self.old.let_go cell }) }
+        ensures none { IfNone result ((self.old.let_go ≡ set.empty) × (self.new ≡ self.old)) }
+    {
+        while let Some(dropped) = self.holdings.drop_front(LET_GO) {
+            if dropped.is_free {
+                return Some(dropped.cell);
+            }
+        }
+        None
+    }
+}
+
+impl Keeps for Locks {
+    ghost use Rattle.ft_locks.specs.Locks.{is_locked};
+
+    ghost kept = { is_locked };
+
+    fn keeps(&self, cell: &Cell) -> bool {
+        match self.holdings.holders(cell) {
+            Some(holders) => holders.is_locked(),
+            None => false,
+        }
+    }
+}

@@ -1,0 +1,80 @@
+-- What each cell holds, and how one of them is set.
+use Rattle.std.specs.Prelude.{ℕ, List, [], Option, None}
+use Rattle.std.specs.Option.{option_map, option_map_or}
+use Rattle.std.specs.FinMap as map
+use Rattle.ft_tree.specs.declared.node.Node.{Node}
+use Rattle.ft_tree.specs.declared.open_file.OpenFile.{OpenFile}
+use Rattle.ft_tree.specs.declared.cell.Cell.{Cell}
+use Rattle.ft_tree.specs.declared.cell.Cell.TheVariants.{Entry, Names, Parent, Links, Bytes, Fd}
+use Rattle.ft_tree.specs.Cells.{Cells, DirCells, FileCells, dir_of, put_dir, without_dir_place, entry_of, parent_of, links_of, bytes_of, open_of, HasDirPlace, HasEntryPlace, HasFilePlace, HasOpenPlace, put_entry, put_parent, put_links, put_bytes, put_open}
+
+-- what a cell holds by itself; the names of a directory are read off its entries
+abbrev pub Holds : Cell → Type 0
+Holds (Entry d name) = Option Node
+Holds (Names d) = Unit {0}
+Holds (Parent d) = Option ℕ
+Holds (Links i) = ℕ
+Holds (Bytes i) = List ℕ
+Holds (Fd f) = Option OpenFile
+
+abbrev pub held : Cells → (c : Cell) → Holds c
+held cells (Entry d name) = entry_of cells d name
+held cells (Names d) = tt
+held cells (Parent d) = parent_of cells d
+held cells (Links i) = links_of cells i
+held cells (Bytes i) = bytes_of cells i
+held cells (Fd f) = open_of cells f
+
+-- what a cell holds where nothing is stored
+abbrev pub blank : (c : Cell) → Holds c
+blank (Entry d name) = None
+blank (Names d) = tt
+blank (Parent d) = None
+blank (Links i) = 0
+blank (Bytes i) = []
+blank (Fd f) = None
+
+-- the cells with one of them set; the names of a directory are never set
+abbrev pub set_cell : Cells → (c : Cell) → Holds c → Cells
+set_cell cells (Entry d name) to = put_entry cells d name to
+set_cell cells (Names d) to = cells
+set_cell cells (Parent d) to = put_parent cells d to
+set_cell cells (Links i) to = put_links cells i to
+set_cell cells (Bytes i) to = put_bytes cells i to
+set_cell cells (Fd f) to = put_open cells f to
+
+-- what stands in the place of a cell, where that is there
+abbrev pub place_at : Cells → (c : Cell) → Option (Holds c)
+place_at cells (Entry d name) = map.get (dir_of cells d).entries name
+place_at cells (Names d) = option_map (λ x. tt) (map.get cells.directories d)
+place_at cells (Parent d) = option_map (λ (x : DirCells). x.parent) (map.get cells.directories d)
+place_at cells (Links i) = option_map (λ (x : FileCells). x.links) (map.get cells.files i)
+place_at cells (Bytes i) = option_map (λ (x : FileCells). x.bytes) (map.get cells.files i)
+place_at cells (Fd f) = map.get cells.opens f
+
+-- the cells without the place of one of them, and without all that stands in it; the names of a directory have none
+abbrev pub without_place : Cells → Cell → Cells
+without_place cells (Entry d name) = option_map_or (λ x. put_dir cells d (without_dir_place x name)) (map.get cells.directories d) cells
+without_place cells (Names d) = cells
+without_place cells (Parent d) = record cells { directories = map.remove cells.directories d }
+without_place cells (Links i) = record cells { files = map.remove cells.files i }
+without_place cells (Bytes i) = record cells { files = map.remove cells.files i }
+without_place cells (Fd f) = record cells { opens = map.remove cells.opens f }
+
+-- the place of a cell is there, so that it can be set without memory
+abbrev pub IsStored : Cells → Cell → Type 0
+IsStored cells (Entry d name) = HasEntryPlace cells d name
+IsStored cells (Names d) = HasDirPlace cells d
+IsStored cells (Parent d) = HasDirPlace cells d
+IsStored cells (Links i) = HasFilePlace cells i
+IsStored cells (Bytes i) = HasFilePlace cells i
+IsStored cells (Fd f) = HasOpenPlace cells f
+
+-- a cell can be set where there is memory: an entry where its directory is stored, and bytes where their file is
+abbrev pub CanSet : Cells → Cell → Type 0
+CanSet cells (Entry d name) = HasDirPlace cells d
+CanSet cells (Names d) = HasDirPlace cells d
+CanSet cells (Parent d) = Unit {0}
+CanSet cells (Links i) = Unit {0}
+CanSet cells (Bytes i) = HasFilePlace cells i
+CanSet cells (Fd f) = Unit {0}

@@ -1,0 +1,44 @@
+-- What follows from edits of different cells being made.
+use Rattle.std.proofs.Common.{◌≡◌, List, map, Result, Ok, Err, OnOk, OnErr, IfOk, sym, ap, subst, ◌∙◌}
+use Rattle.ft_base.specs.declared.memory.Memory.{Memory}
+use Rattle.ft_laws.specs.Effects.{before}
+use Rattle.ft_tree.specs.Cells.{Cells}
+use Rattle.ft_calls.specs.declared.intent.Edit.{Edit}
+use Rattle.ft_undo.specs.declared.undo.Back.{Back}
+use Rattle.ft_calls.specs.Accesses.{written_cell}
+use Rattle.ft_calls.specs.Comes.{writes_of}
+use Rattle.ft_calls.specs.Posix.{as_change, posix}
+use Rattle.ft_calls.specs.Stored.{put_all}
+use Rattle.ft_calls.specs.Edits.{edit_cell, Apart, EditingLaw, edited, CanEditAll}
+use Rattle.ft_undo.specs.Undone.{given_back, CanGiveAllBack, AreAsLeft, IsApplied}
+use Rattle.ft_calls.specs.CellLaws.{SettingLaw}
+use Rattle.ft_undo.proofs.Undoing.{left-edited, undo-before, give-all, as-left, written-edits}
+
+module _ (editing : EditingLaw) (setting : SettingLaw) (old : Cells) (edits : List Edit) (apart : Apart edits) (new : Cells) where
+  pub made : (r : Result (List Back) Memory) → IsApplied old edits new r → OnOk r (new ≡ put_all old (writes_of old edits))
+  made (Ok undo) h = h.0 ∙ editing.made old edits apart
+  made (Err memory) h = tt
+
+  pub refused : (r : Result (List Back) Memory) → IsApplied old edits new r → OnErr r (new ≡ old)
+  refused (Ok undo) h = tt
+  refused (Err memory) h = h
+
+  -- what takes them back is the inverse
+  pub inverse : (r : Result (List Back) Memory) → IsApplied old edits new r → IfOk r (λ undo. map as_change (map given_back undo) ≡ before posix old (map as_change (writes_of old edits)))
+  inverse (Ok undo) h = ap (λ bs. map as_change (map given_back bs)) h.1 ∙ undo-before editing old edits apart
+  inverse (Err memory) h = tt
+
+  -- wherever the cells that were written are as they were left
+  pub may_revert : (r : Result (List Back) Memory) → IsApplied old edits new r
+      → IfOk r (λ undo. (cells : Cells) → AreAsLeft cells new (map written_cell (writes_of old edits)) → CanGiveAllBack cells undo)
+  may_revert (Ok undo) h = λ cells left.
+      subst (CanGiveAllBack cells) (sym h.1)
+      (give-all setting cells old edits apart (as-left setting cells old edits apart (subst (λ (t : Cells). AreAsLeft cells t (map edit_cell edits)) h.0 (subst (AreAsLeft cells new) (written-edits old edits) left))))
+  may_revert (Err memory) h = tt
+
+  -- and in the cells that were left they are so
+  pub left : CanEditAll old edits → (r : Result (List Back) Memory) → IsApplied old edits new r → OnOk r (AreAsLeft new new (map written_cell (writes_of old edits)))
+  left can (Ok undo) h =
+      subst (λ (t : Cells). AreAsLeft t t (map written_cell (writes_of old edits))) (sym h.0)
+      (subst (AreAsLeft (edited old edits) (edited old edits)) (sym (written-edits old edits)) (left-edited setting old edits can))
+  left can (Err memory) h = tt

@@ -1,0 +1,25 @@
+use Rattle.std.proofs.Common.{◌≡◌, ℕ, List, ap, sym, ◌∙◌}
+use Rattle.ft_body.specs.Bytes.{BodyChange}
+use Rattle.ft_tree.specs.declared.cell.Cell.TheVariants.{Bytes}
+use Rattle.ft_tree.specs.Cells.{Cells, bytes_of, put_bytes}
+use Rattle.ft_calls.specs.CellLaws.{SettingLaw}
+use Rattle.ft_undo.specs.declared.undo.Back.TheVariants as back
+use Rattle.ft_undo.specs.Undone.{back_of}
+use Rattle.ft_undo.proofs.undo.set.Goals as goal
+
+-- the bytes that are set are the ones after the change
+abbrev change : List ℕ → List ℕ → BodyChange
+change before after = record { before = before; after = after }
+
+after_set : SettingLaw → (old new : Cells) (i : ℕ) (bytes : List ℕ) → new ≡ put_bytes old i bytes → change (bytes_of old i) (bytes_of new i) ≡ change (bytes_of old i) bytes
+after_set setting old new i bytes is = ap (change (bytes_of old i)) (ap (λ (s : Cells). bytes_of s i) is ∙ setting.written old (Bytes i) bytes)
+
+pub returns-in_ok-undo-in-Overwrite-clause-back : goal.returns-in_ok-undo-in-Overwrite-clause-back
+returns-in_ok-undo-in-Overwrite-clause-back c =
+    let done = c.in_ok-undo-in-Overwrite in
+    ap (back.Bytes c.in-Overwrite.file) (done.ensures.undo ∙ after_set c.setting.ensures c.args.tree.now c.write_bytes.new.self c.in-Overwrite.file _ done.ensures.ok) ∙ sym (ap (back_of c.args.tree.now) c.in-Overwrite.is)
+
+pub returns-in_ok-undo-in-Resize-clause-back : goal.returns-in_ok-undo-in-Resize-clause-back
+returns-in_ok-undo-in-Resize-clause-back c =
+    let done = c.in_ok-undo-in-Resize in
+    ap (back.Bytes c.in-Resize.file) (done.ensures.undo ∙ after_set c.setting.ensures c.args.tree.now c.set_size.new.self c.in-Resize.file _ done.ensures.ok) ∙ sym (ap (back_of c.args.tree.now) c.in-Resize.is)

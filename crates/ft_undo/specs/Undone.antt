@@ -1,0 +1,86 @@
+-- How the edits of a call are taken back.
+use Rattle.std.specs.Prelude.{◌≡◌, List, [], ◌∷◌, None, Some, unwrap_or, Result, Ok, Err}
+use Rattle.std.specs.Option.{option_flatten}
+use Rattle.ft_base.specs.declared.memory.Memory.{Memory}
+use Rattle.ft_body.specs.Bytes.{fitting, written, resized}
+use Rattle.ft_tree.specs.declared.cell.Cell.{Cell}
+use Rattle.ft_tree.specs.declared.cell.Cell.TheVariants as cell
+use Rattle.ft_tree.specs.Cells.{Cells, bytes_of, put_entry, put_parent, put_links, put_bytes, put_open, HasDirPlace, HasEntryPlace, HasFilePlace, HasOpenPlace}
+use Rattle.ft_tree.specs.Held.{held, place_at, without_place, IsStored}
+use Rattle.ft_calls.specs.declared.intent.Edit.{Edit}
+use Rattle.ft_calls.specs.declared.intent.Edit.TheVariants.{Entry, Parent, Links, Overwrite, Resize, Open}
+use Rattle.ft_calls.specs.Outcomes.{Write, SetEntry, SetParent, SetLinks, SetBytes, SetOpen}
+use Rattle.ft_calls.specs.Stored.{put}
+use Rattle.ft_calls.specs.Comes.{write_of}
+use Rattle.ft_calls.specs.Edits.{edited}
+use Rattle.ft_undo.specs.declared.undo.Back.{Back}
+use Rattle.ft_undo.specs.declared.undo.Back.TheVariants as back
+
+-- what takes an edit back: the cell, and what stood in its place
+abbrev pub back_of : Cells → Edit → Back
+back_of cells (Entry d name to) = back.Entry d name (place_at cells (cell.Entry d name))
+back_of cells (Parent d to) = back.Parent d (place_at cells (cell.Parent d))
+back_of cells (Links i to) = back.Links i (place_at cells (cell.Links i))
+back_of cells (Overwrite i at bytes) = back.Bytes i (record { before = bytes_of cells i; after = written (bytes_of cells i) at (fitting bytes.now at) })
+back_of cells (Resize i size) = back.Bytes i (record { before = bytes_of cells i; after = resized (bytes_of cells i) size })
+back_of cells (Open f to) = back.Open f (place_at cells (cell.Fd f))
+
+abbrev pub backs_of : Cells → List Edit → List Back
+backs_of cells [] = []
+backs_of cells (e ∷ es) = back_of cells e ∷ backs_of (put cells (write_of cells e)) es
+
+-- the write that takes an edit back; a place that was new is left empty
+abbrev pub given_back : Back → Write
+given_back (back.Entry d name was) = SetEntry d name (option_flatten was)
+given_back (back.Parent d was) = SetParent d (option_flatten was)
+given_back (back.Links i was) = SetLinks i (unwrap_or was 0)
+given_back (back.Bytes i change) = SetBytes i change.before
+given_back (back.Open f was) = SetOpen f (option_flatten was)
+
+-- the cell has its place, and a file's bytes are as the change left them
+abbrev pub CanGiveBack : Cells → Back → Type 0
+CanGiveBack cells (back.Entry d name was) = HasEntryPlace cells d name × HasDirPlace cells d
+CanGiveBack cells (back.Parent d was) = HasDirPlace cells d
+CanGiveBack cells (back.Links i was) = HasFilePlace cells i
+CanGiveBack cells (back.Bytes i change) = HasFilePlace cells i × (bytes_of cells i ≡ change.after)
+CanGiveBack cells (back.Open f was) = HasOpenPlace cells f
+
+abbrev pub CanGiveAllBack : Cells → List Back → Type 0
+CanGiveAllBack cells [] = Unit {0}
+CanGiveAllBack cells (b ∷ bs) = CanGiveBack cells b × CanGiveAllBack (put cells (given_back b)) bs
+
+-- An edit that was the last one is taken back as if it had never been: a place that was new goes too.
+abbrev pub restore : Cells → Back → Cells
+restore cells (back.Entry d name None) = without_place cells (cell.Entry d name)
+restore cells (back.Entry d name (Some was)) = put_entry cells d name was
+restore cells (back.Parent d None) = without_place cells (cell.Parent d)
+restore cells (back.Parent d (Some was)) = put_parent cells d was
+restore cells (back.Links i None) = without_place cells (cell.Links i)
+restore cells (back.Links i (Some was)) = put_links cells i was
+restore cells (back.Bytes i change) = put_bytes cells i change.before
+restore cells (back.Open f None) = without_place cells (cell.Fd f)
+restore cells (back.Open f (Some was)) = put_open cells f was
+
+-- the last one first
+abbrev pub restored : Cells → List Back → Cells
+restored cells [] = cells
+restored cells (b ∷ bs) = restore (restored cells bs) b
+
+abbrev pub CanRestoreAll : Cells → List Back → Type 0
+CanRestoreAll cells [] = Unit {0}
+CanRestoreAll cells (b ∷ bs) = CanRestoreAll cells bs × CanGiveBack (restored cells bs) b
+
+-- the edits are made, and this takes them back; or memory was wanting, and nothing has changed
+abbrev pub IsApplied : Cells → List Edit → Cells → Result (List Back) Memory → Type 0
+IsApplied old edits new (Ok undo) = (new ≡ edited old edits) × (undo ≡ backs_of old edits)
+IsApplied old edits new (Err memory) = new ≡ old
+
+-- each edit, made on s, can be taken back by itself in t
+abbrev pub IsLeft : Cells → Cells → List Edit → Type 0
+IsLeft t s [] = Unit {0}
+IsLeft t s (e ∷ es) = CanGiveBack t (back_of s e) × IsLeft t (put s (write_of s e)) es
+
+-- each of the cells has its place, and holds what it does in those that were left
+abbrev pub AreAsLeft : Cells → Cells → List Cell → Type 0
+AreAsLeft cells left [] = Unit {0}
+AreAsLeft cells left (c ∷ cs) = IsStored cells c × (held cells c ≡ held left c) × AreAsLeft cells left cs

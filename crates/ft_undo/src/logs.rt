@@ -1,0 +1,128 @@
+// What takes the calls of each transaction back.
+ghost use Rattle.std.specs.Prelude.{◌≡◌, ◌≢◌, [], true, false, Some, None, OnOk, OnErr, IfErr};
+ghost use Rattle.std.specs.Option.{option_map};
+ghost use Rattle.ft_base.specs.Chains.{list_in};
+ghost use Rattle.ft_history.specs.Logs.{put, pushed, popped, handed};
+ghost use Rattle.ft_undo.specs.Logs.{is_open, newest_of, AreLists, AreOpen};
+
+use crate::undo::Undo;
+use ft_base::{Chains, Memory};
+use std::alloc::{AllocFailed, Global};
+use std::marker::Model;
+
+/// What takes a granted call back, and the call's stamp.
+#[derive(Drop)]
+pub struct Logged {
+    pub stamp: u64,
+    pub undo: Undo,
+}
+
+/// The undo logs: for each open transaction a list of what takes its calls back, the newest first.
+///
+/// A transaction is open from its begin to its end. Each call takes the time to find its
+/// transactions, logarithmic in how many are open, however long their lists are; only `close` takes
+/// the time of what it drops besides.
+#[derive(Drop)]
+pub struct Logs {
+    chains: Chains<Logged>,
+}
+
+impl Model for Logs {
+    ghost use Rattle.ft_base.specs.Chains.{Lists, coded_lists};
+    ghost use Rattle.ft_undo.specs.declared.logs.Logged.{Logged};
+    ghost use Rattle.ft_undo.specs.contracts.logs.Logged as logged;
+
+    ghost Value = { Lists Logged };
+
+    ghost coded = { coded_lists logged.the_row.coded };
+
+    ghost view = { λ a. a.chains };
+}
+
+impl Logs {
+    /// No transaction is open. Takes no memory.
+    pub fn new(alloc: Global) -> Logs
+        ensures lists { AreLists result (λ _. []) }
+        ensures opened { AreOpen result (λ _. false) }
+    {
+        Logs {
+            chains: Chains::new(alloc),
+        }
+    }
+
+    /// Whether a transaction is open.
+    pub fn is_open(&self, txn: u64) -> bool
+        ensures { result ≡ is_open self.now txn }
+    {
+        self.chains.is_open(txn)
+    }
+
+    /// Opens a transaction, with an empty list; one that is open keeps its list. Want of memory
+    /// changes nothing.
+    pub fn open(&mut self, txn: u64) -> Result<(), Memory>
+        ensures lists { AreLists self.new (list_in self.old) }
+        ensures opened { OnOk result (AreOpen self.new (put (is_open self.old) txn true)) }
+        ensures err { OnErr result (self.new ≡ self.old) }
+    {
+        self.chains.open(txn)
+    }
+
+    /// Puts what takes a call back into a transaction's list, as its newest. Want of memory hands it
+    /// back, and changes nothing.
+    pub fn push(&mut self, txn: u64, stamp: u64, undo: Undo) -> Result<(), AllocFailed<Undo>>
+        requires { is_open self.old txn ≡ true }
+        ensures lists { OnOk result (AreLists self.new (pushed (list_in self.old) txn (record { stamp = stamp; undo = undo }))) }
+        ensures opened { AreOpen self.new (is_open self.old) }
+        ensures err { OnErr result (self.new ≡ self.old) }
+        ensures undo_returned { IfErr result (λ failed. failed.value ≡ undo) }
+    {
+        match self.chains.push_front(txn, Logged { stamp, undo }) {
+            Ok(()) => Ok(()),
+            Err(
+                AllocFailed {
+                    value: Logged { stamp: _, undo },
+                },
+            ) => Err(AllocFailed { value: undo }),
+        }
+    }
+
+    /// Gives a child's whole list to its parent, as newer than all that the parent had, and closes
+    /// the child (Moss 1981, commit of a subtransaction). Takes no memory.
+    pub fn splice(&mut self, child: u64, parent: u64)
+        requires child { is_open self.old child ≡ true }
+        requires parent { is_open self.old parent ≡ true }
+        requires apart { child ≢ parent }
+        ensures lists { AreLists self.new (handed (list_in self.old) child (Some parent)) }
+        ensures opened { AreOpen self.new (put (is_open self.old) child false) }
+    {
+        self.chains.splice(child, parent);
+        self.chains.close(child);
+    }
+
+    /// The stamp of the newest call in a transaction's list, where there is one.
+    pub fn newest(&self, txn: u64) -> Option<u64>
+        ensures { result ≡ option_map (λ logged. logged.stamp) (newest_of (list_in self.now txn)) }
+    {
+        Some(self.chains.first(txn)?.stamp)
+    }
+
+    /// Takes out what takes back the newest call in a transaction's list, where there is one. Takes
+    /// no memory.
+    pub fn take_last(&mut self, txn: u64) -> Option<Logged>
+        ensures newest { result ≡ newest_of (list_in self.old txn) }
+        ensures lists { AreLists self.new (popped (list_in self.old) (Some txn)) }
+        ensures opened { AreOpen self.new (is_open self.old) }
+    {
+        self.chains.pop_front(txn)
+    }
+
+    /// Drops what is in a transaction's list, and closes the transaction (Moss 1981, commit of a
+    /// top-level transaction, and abort). Takes no memory.
+    pub fn close(&mut self, txn: u64)
+        ensures lists { AreLists self.new (handed (list_in self.old) txn None) }
+        ensures opened { AreOpen self.new (put (is_open self.old) txn false) }
+    {
+        while self.take_last(txn).is_some() {}
+        self.chains.close(txn);
+    }
+}

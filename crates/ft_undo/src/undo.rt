@@ -1,0 +1,234 @@
+// How the edits of a call are made, and taken back.
+ghost use Rattle.std.specs.Prelude.{◌≡◌, [], ◌∷◌, ◌++◌, map, IfOk, OnOk, OnErr};
+ghost use Rattle.ft_calls.specs.Stored.{put, put_all};
+ghost use Rattle.ft_laws.specs.Effects.{before};
+ghost use Rattle.ft_tree.specs.Cells.{Cells};
+ghost use Rattle.ft_calls.specs.Accesses.{written_cell};
+ghost use Rattle.ft_calls.specs.Posix.{as_change, posix};
+ghost use Rattle.ft_calls.specs.Comes.{write_of, writes_of};
+ghost use Rattle.ft_calls.specs.Edits.{CanEdit, CanEditAll, Apart};
+ghost use Rattle.ft_undo.specs.Undone.{back_of, given_back, restore, restored, CanGiveBack, CanGiveAllBack, CanRestoreAll, AreAsLeft, IsApplied};
+
+use ft_base::Memory;
+use ft_body::BodyUndo;
+use ft_calls::laws::{editing, restoring, setting};
+use ft_calls::{Edit, Edits, Intent};
+use ft_path::Name;
+use ft_tree::{Cell, Node, OpenFile, Tree};
+use std::alloc::Global;
+use std::marker::Model;
+
+/// A cell that was set, with what stood in its place before, or nothing where the place was new.
+#[derive(Drop)]
+pub enum Back {
+    /// What a name led to in a directory.
+    Entry {
+        dir: u64,
+        name: Name,
+        was: Option<Option<Node>>,
+    },
+    /// The directory that had a directory's entry.
+    Parent {
+        dir: u64,
+        was: Option<Option<u64>>,
+    },
+    /// How many entries named a file.
+    Links {
+        file: u64,
+        was: Option<u64>,
+    },
+    /// What a change of a file's bytes destroyed.
+    Bytes {
+        file: u64,
+        undo: BodyUndo,
+    },
+    /// The open file description of a descriptor.
+    Open {
+        fd: u64,
+        was: Option<Option<OpenFile>>,
+    },
+}
+
+/// What takes a call back. It takes no memory to do so.
+#[derive(Drop)]
+pub struct Undo {
+    items: Vec<Back>,
+}
+
+impl Model for Undo {
+    ghost use Rattle.std.specs.Prelude.{List};
+    ghost use Rattle.ft_undo.specs.declared.undo.Back.{Back};
+
+    ghost Value = { List Back };
+
+    ghost view = { λ a. a.items.items };
+}
+
+impl Undo {
+    /// What takes nothing back. Takes no memory.
+    fn new(alloc: Global) -> Undo
+        ensures { result ≡ [] }
+    {
+        Undo {
+            items: Vec::new(alloc),
+        }
+    }
+
+    /// Makes one edit more. Where memory is wanting nothing has changed.
+    fn set(&mut self, tree: &mut Tree, edit: Edit<'_>) -> Result<(), Memory>
+        requires { CanEdit tree.old edit }
+        ensures after { OnOk result (tree.new ≡ put tree.old (write_of tree.old edit.entry)) }
+        ensures back { OnOk result (self.new ≡ self.old ++ back_of tree.old edit.entry ∷ []) }
+        ensures err { OnErr result (tree.new ≡ tree.old) }
+        ensures none { OnErr result (self.new ≡ self.old) }
+    {
+        self.items.reserve(1)?;
+        let back = set(tree, edit)?;
+        self.items.push_reserved(back);
+        Ok(())
+    }
+
+    /// Takes back what was done of a call that wants memory, the last edit first: nothing has changed
+    /// then, and no place is left that was new. Takes no memory.
+    fn take_back(self, tree: &mut Tree)
+        requires { CanRestoreAll tree.old self }
+        ensures { tree.new ≡ restored tree.old self }
+    {
+        let Undo { mut items } = self;
+        while let Some(back) = items.pop() {
+            restore(tree, back);
+        }
+    }
+}
+
+/// Makes the edits of a call that was looked at, and answers what takes them back. Each written cell
+/// has its place then. `revert` may take them back wherever each of these cells has its place and
+/// holds what the edits left in it.
+///
+/// The one refusal is want of memory: what was done is taken back, and nothing has changed.
+pub fn apply(alloc: Global, tree: &mut Tree, intent: Intent<'_>) -> Result<Undo, Memory>
+    requires places { CanEditAll tree.old intent.edits }
+    requires apart { Apart intent.edits }
+    ensures made { OnOk result (tree.new ≡ put_all tree.old (writes_of tree.old intent.entry.edits)) }
+    ensures refused { OnErr result (tree.new ≡ tree.old) }
+    ensures left { OnOk result (AreAsLeft tree.new tree.new (map written_cell (writes_of tree.old intent.entry.edits))) }
+    ensures inverse { IfOk result (λ undo. map as_change (map given_back undo) ≡ before posix tree.old (map as_change (writes_of tree.old intent.entry.edits))) }
+    ensures may_revert { IfOk result (λ undo. (cells : Cells) → AreAsLeft cells tree.new (map written_cell (writes_of tree.old intent.entry.edits)) → CanGiveAllBack cells undo) }
+{
+    editing();
+    setting();
+    let Intent { told: _, edits } = intent;
+    make(alloc, tree, edits)
+}
+
+/// Makes edits one after the other. Where memory is wanting, what was done is taken back.
+fn make(alloc: Global, tree: &mut Tree, edits: Edits<'_>) -> Result<Undo, Memory>
+    requires { CanEditAll tree.old edits }
+    ensures { IsApplied tree.old edits.entry tree.new result }
+{
+    setting();
+    restoring();
+    let mut undo = Undo::new(alloc);
+    for edit in edits.into_items() {
+        if let Err(memory) = undo.set(tree, edit) {
+            undo.take_back(tree);
+            return Err(memory);
+        }
+    }
+    Ok(undo)
+}
+
+/// Takes a call back: each cell that it wrote has its value from before the call, and no other cell
+/// changes. Takes no memory: what the call made leaves its place.
+pub fn revert(tree: &mut Tree, undo: Undo)
+    requires { CanGiveAllBack tree.old undo }
+    ensures { tree.new ≡ put_all tree.old (map given_back undo) }
+{
+    let Undo { items } = undo;
+    for back in items {
+        give_back(tree, back);
+    }
+}
+
+/// Makes one edit, and answers what takes it back. Where memory is wanting nothing has changed.
+fn set(tree: &mut Tree, edit: Edit<'_>) -> Result<Back, Memory>
+    requires { CanEdit tree.old edit }
+    ensures after { OnOk result (tree.new ≡ put tree.old (write_of tree.old edit.entry)) }
+    ensures back { IfOk result (λ back. back ≡ back_of tree.old edit.entry) }
+    ensures err { OnErr result (tree.new ≡ tree.old) }
+{
+    setting();
+    match edit {
+        Edit::Entry { dir, name, to } => {
+            let place = name.try_clone()?;
+            let was = tree.set_entry(dir, place, to)?;
+            Ok(Back::Entry { dir, name, was })
+        }
+        Edit::Parent { dir, to } => {
+            let was = tree.set_parent(dir, to)?;
+            Ok(Back::Parent { dir, was })
+        }
+        Edit::Links { file, to } => {
+            let was = tree.set_links(file, to)?;
+            Ok(Back::Links { file, was })
+        }
+        Edit::Overwrite { file, at, bytes } => {
+            let (_, undo) = tree.write_bytes(file, at, bytes)?;
+            Ok(Back::Bytes { file, undo })
+        }
+        Edit::Resize { file, size } => {
+            let undo = tree.set_size(file, size)?;
+            Ok(Back::Bytes { file, undo })
+        }
+        Edit::Open { fd, to } => {
+            let was = tree.set_open_file(fd, to)?;
+            Ok(Back::Open { fd, was })
+        }
+    }
+}
+
+/// Gives a cell the value that it had. It has its place, so that takes no memory.
+fn give_back(tree: &mut Tree, back: Back)
+    requires { CanGiveBack tree.old back }
+    ensures { tree.new ≡ put tree.old (given_back back) }
+{
+    let is_refused = match back {
+        Back::Entry { dir, name, was } => tree.set_entry(dir, name, was.flatten()).is_err(),
+        Back::Parent { dir, was } => tree.set_parent(dir, was.flatten()).is_err(),
+        Back::Links { file, was } => tree.set_links(file, was.unwrap_or(0)).is_err(),
+        Back::Bytes { file, undo } => {
+            tree.undo_bytes(file, undo);
+            false
+        }
+        Back::Open { fd, was } => tree.set_open_file(fd, was.flatten()).is_err(),
+    };
+    if is_refused {
+        unreachable!();
+    }
+}
+
+/// Gives a cell the value that it had, and takes its place away where that was new.
+fn restore(tree: &mut Tree, back: Back)
+    requires { CanGiveBack tree.old back }
+    ensures { tree.new ≡ restore tree.old back }
+{
+    match back {
+        Back::Entry { dir, name, was } => match was {
+            None => tree.drop_place(&Cell::Entry(dir, name)),
+            Some(_) => give_back(tree, Back::Entry { dir, name, was }),
+        },
+        Back::Parent { dir, was } => match was {
+            None => tree.drop_place(&Cell::Parent(dir)),
+            Some(_) => give_back(tree, Back::Parent { dir, was }),
+        },
+        Back::Links { file, was } => match was {
+            None => tree.drop_place(&Cell::Links(file)),
+            Some(_) => give_back(tree, Back::Links { file, was }),
+        },
+        Back::Bytes { file, undo } => give_back(tree, Back::Bytes { file, undo }),
+        Back::Open { fd, was } => match was {
+            None => tree.drop_place(&Cell::Fd(fd)),
+            Some(_) => give_back(tree, Back::Open { fd, was }),
+        },
+    }
+}

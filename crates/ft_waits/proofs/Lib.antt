@@ -1,0 +1,9 @@
+pub mod Maps
+pub mod Edges
+pub mod Steps
+pub mod Paths
+pub mod Walks
+pub mod Cycles
+pub mod Listed
+pub mod Verdicts
+pub mod Named

@@ -1,0 +1,4 @@
+pub mod Kinds
+pub mod Waits
+pub mod Walk
+pub mod Stands
