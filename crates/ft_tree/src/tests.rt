@@ -355,7 +355,8 @@ fn emptied(alloc: Global) -> Result<Tree, Memory> {
 fn empty(alloc: Global, tree: &mut Tree) -> Result<(), Memory> {
     put(alloc, tree, ROOT, b"c".as_slice(), None)?;
     tree.set_parent(4, None)?;
-    tree.set_open_file(7, None)
+    tree.set_open_file(7, None)?;
+    Ok(())
 }
 
 #[test]
@@ -393,7 +394,8 @@ fn store_all(tree: &mut Tree) -> Result<(), Memory> {
     store(tree, 2, 0, b"gone")?;
     store(tree, 3, 0, b"open")?;
     store(tree, 4, 2, b"")?;
-    tree.set_open_file(5, Some(open_as(3, AccessMode::ReadWrite, 9)))
+    tree.set_open_file(5, Some(open_as(3, AccessMode::ReadWrite, 9)))?;
+    Ok(())
 }
 
 #[test]
