@@ -1,5 +1,6 @@
 pub mod Loans
 pub mod Views
+pub mod Orders
 pub mod Clones
 pub mod ChainShape
 pub mod ChainMoves

@@ -13,7 +13,7 @@ use std::marker::Model;
 /// For each open owner a list of values, the newest first.
 ///
 /// A value moves from the front of one list to that of another, and a whole list in front of another,
-/// without memory. Each call takes the time to find its owners, logarithmic in how many are open,
+/// without memory. Each call takes the time to find its owners by a hash, however many are open and
 /// however long their lists are. All values stand in one slab, whose places are used again.
 #[derive(Drop)]
 pub struct Chains<T> {

@@ -1,24 +1,28 @@
 // A map from numbers, seen as a finite map.
-ghost use Rattle.std.specs.Prelude.{◌≡◌, ◌==◌, ℕ, IsSome, IsOk, IfOk, OnOk, OnErr};
+ghost use Rattle.std.specs.Prelude.{◌≡◌, ◌==◌, nat_eq, ℕ, IsSome, IsOk, IfOk, OnOk, OnErr};
 ghost use Rattle.std.specs.Ordering.{nat_cmp};
 ghost use Rattle.std.specs.Option.{option_copied, option_copied_mut};
+ghost use Rattle.std.specs.List.Sorted.{IsPermutation, IsNonDecreasingBy};
 ghost use Rattle.std.specs.Coded.{coded_ℕ};
 ghost use Rattle.std.specs.FinMap as finite;
 ghost use Rattle.std.specs.Map.Iter.{ShowsInOrder, deref_pair};
+ghost use Rattle.std.specs.HashMap.{IsUnique};
 ghost use Rattle.std.specs.Borrow.{sem};
+ghost use Rattle.ft_base.specs.Pairs.{shown};
 
 use crate::memory::Memory;
 use std::alloc::{AllocError, Global};
-use std::collections::BTreeMap;
-use std::collections::btree_map::Iter;
+use std::collections::HashMap;
+use std::collections::hash_map::Iter;
 use std::marker::Model;
 
 /// A map from numbers to values, which clauses see as a finite map.
 ///
-/// To find, set or take out a key takes time logarithmic in the number of keys.
+/// To find, set or take out a key takes the time to hash it, however many keys there are. A new key
+/// may want a larger table, into which all keys move: shared among the keys, that is constant too.
 #[derive(Drop)]
 pub struct Table<V> {
-    map: BTreeMap<u64, V>,
+    map: HashMap<u64, V>,
 }
 
 impl<V> Model for Table<V> {
@@ -37,7 +41,7 @@ impl<V: Drop> Table<V> {
         ensures { result ≡ finite.empty }
     {
         Table {
-            map: BTreeMap::new(alloc),
+            map: HashMap::new(alloc),
         }
     }
 
@@ -78,12 +82,21 @@ impl<V: Drop> Table<V> {
         self.len() == 0
     }
 
-    /// The keys with their values, in rising order of the keys.
+    /// The keys with their values, in no order that is told. Takes no memory.
     pub fn iter(&self) -> Iter<'_, u64, V>
-        ensures entries { result ≡ finite.entries self.now }
+        ensures entries { IsPermutation (finite.entries self.now) result }
         ensures runs { ShowsInOrder (deref_pair {K = ℕ} {X = V}) }
     {
         self.map.iter()
+    }
+
+    /// The keys with their values, in rising order of the keys.
+    pub fn sorted(&self, alloc: Global) -> Result<Vec<(u64, &V)>, Memory>
+        ensures { IfOk result (λ pairs. shown pairs.items ≡ finite.entries self.now) }
+    {
+        let mut pairs = listed(alloc, &self.map)?;
+        sort_by_number(&mut pairs);
+        Ok(pairs)
     }
 
     /// Sets the value at a key, and gives back the value that it had.
@@ -116,4 +129,24 @@ impl<V: Clone + Drop> Clone for Table<V> {
         let map = self.map.clone()?;
         Ok(Table { map })
     }
+}
+
+/// The entries of a map, in the order in which they stand.
+fn listed<V>(alloc: Global, entries: &HashMap<u64, V>) -> Result<Vec<(u64, &V)>, Memory>
+    ensures pairs { IfOk result (λ pairs. shown pairs.items ≡ entries.now.entries) }
+    ensures apart { OnOk result (IsUnique nat_eq entries.now) }
+{
+    let mut pairs = Vec::new(alloc);
+    for (number, value) in entries {
+        pairs.push((*number, value))?;
+    }
+    Ok(pairs)
+}
+
+/// Puts pairs in the order of their numbers. Takes no memory.
+fn sort_by_number<V>(pairs: &mut Vec<(u64, &V)>)
+    ensures same { IsPermutation pairs.old.items pairs.new.items }
+    ensures rising { IsNonDecreasingBy (λ pair. pair.0) pairs.new.items }
+{
+    pairs.sort_unstable_by_key(|pair| pair.0);
 }

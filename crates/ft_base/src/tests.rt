@@ -94,33 +94,38 @@ fn fill(table: &mut Table<char>) -> Result<(), Memory> {
 #[test]
 fn table_is_a_map_in_order(rt: HostRuntime) -> Result<(), Fail> {
     let table = letters(rt.alloc())?;
-    assert!(rt; has_letters(&table));
+    assert!(rt; has_letters(rt.alloc(), &table)?);
     Ok(())
 }
 
-fn has_letters(table: &Table<char>) -> bool {
-    has_entries(table, &[(1, 'a'), (2, 'b'), (3, 'c')])
-        && !table.is_empty()
-        && table.get(1).copied() == Some('a')
-        && table.get(4).is_none()
-        && table.contains(3)
-        && !table.contains(0)
+fn has_letters(alloc: Global, table: &Table<char>) -> Result<bool, Memory> {
+    Ok(
+        has_entries(alloc, table, &[(1, 'a'), (2, 'b'), (3, 'c')])?
+            && !table.is_empty()
+            && table
+                .iter()
+                .all(|(key, letter)| table.get(*key) == Some(letter))
+            && table.get(4).is_none()
+            && table.contains(3)
+            && !table.contains(0),
+    )
 }
 
 /// Whether these are the entries, in this order.
-fn has_entries(table: &Table<char>, wanted: &[(u64, char)]) -> bool {
-    table.len() == wanted.len()
-        && table
-            .iter()
-            .zip(wanted)
-            .all(|((key, letter), wanted)| (*key, *letter) == *wanted)
+fn has_entries(alloc: Global, table: &Table<char>, wanted: &[(u64, char)]) -> Result<bool, Memory> {
+    let sorted = table.sorted(alloc)?;
+    let is_same = sorted
+        .iter()
+        .map(|(key, letter)| (*key, **letter))
+        .eq(wanted.iter().copied());
+    Ok(is_same && table.len() == wanted.len())
 }
 
 #[test]
 fn values_are_changed_and_taken_out(rt: HostRuntime) -> Result<(), Fail> {
     let mut table = letters(rt.alloc())?;
     assert!(rt; takes_out_what_was_set(&mut table));
-    assert!(rt; has_entries(&table, &[(1, 'a'), (3, 'c')]));
+    assert!(rt; has_entries(rt.alloc(), &table, &[(1, 'a'), (3, 'c')])?);
     Ok(())
 }
 
@@ -134,7 +139,7 @@ fn takes_out_what_was_set(table: &mut Table<char>) -> bool {
 #[test]
 fn table_is_cloned(rt: HostRuntime) -> Result<(), Fail> {
     let copy = letters(rt.alloc())?.clone()?;
-    assert!(rt; has_letters(&copy));
+    assert!(rt; has_letters(rt.alloc(), &copy)?);
     Ok(())
 }
 

@@ -1,13 +1,15 @@
 //! The program `ft_bench`: `ft_bench WHAT COUNT SIZE` makes a tree of SIZE directories with three
-//! components, and then calls on it, COUNT times WHAT. It is run under a tool that counts
+//! components, or a table of SIZE locks, and then does COUNT times WHAT to it. It is run under a tool that counts
 //! instructions: what one call takes is the difference between two runs that differ in COUNT.
 #![tactic(auto)]
 
 mod growth;
+mod locking;
 mod measure;
 
 use anyhow::{Context, Result};
-use measure::{Measure, run};
+use locking::Asking;
+use measure::Measure;
 use std::env;
 
 fn main(rt: HostRuntime) -> Result<()> {
@@ -15,10 +17,15 @@ fn main(rt: HostRuntime) -> Result<()> {
     let [what, count, size] = words.as_slice() else {
         anyhow::bail!("usage: ft_bench WHAT COUNT SIZE");
     };
-    let measure = Measure::named(what.as_str()).context("no such measure")?;
     let count = count.parse::<u64>().context("reading COUNT")?;
     let size = size.parse::<u64>().context("reading SIZE")?;
-    let done = run(rt.alloc(), measure, count, size)?;
+    let done = match Asking::named(what.as_str()) {
+        Some(asking) => locking::run(rt.alloc(), asking, count, size)?,
+        None => {
+            let measure = Measure::named(what.as_str()).context("no such measure")?;
+            measure::run(rt.alloc(), measure, count, size)?
+        }
+    };
     println!(rt; "{what} {count} {size}: {done}")?;
     Ok(())
 }

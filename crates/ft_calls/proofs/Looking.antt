@@ -1,23 +1,23 @@
 -- How looks go together.
-use Rattle.std.proofs.Common.{◌≡◌, ℕ, Bool, true, false, cond, Option, Some, None, Result, Ok, Err, refl, sym, ap, subst, ◌∙◌}
+use Rattle.std.proofs.Common.{◌≡◌, ℕ, Bool, true, false, cond, List, Option, Some, None, Result, Ok, Err, refl, sym, ap, subst, ◌∙◌}
 use Rattle.ft_path.specs.declared.errno.Errno.{Errno}
 use Rattle.ft_path.specs.declared.path.Parts.{Parts}
 use Rattle.ft_tree.specs.declared.node.Spot.{Spot as Seen}
 use Rattle.ft_path.specs.declared.errno.Errno.TheVariants.{EBADF, EINVAL}
 use Rattle.ft_tree.specs.declared.cell.Cell.TheVariants.{Fd}
 use Rattle.ft_tree.specs.declared.open_file.OpenFile.{OpenFile}
-use Rattle.ft_tree.specs.Looks.{Looks, Answer, answer, answer-then, then, or_else}
+use Rattle.ft_tree.specs.Looks.{Looks, Answer, answer, looked_at, all_noted, answer-then, then, or_else}
 use Rattle.ft_tree.specs.Views.{view_of}
-use Rattle.ft_tree.specs.Walk.{Spot, walk, seen_at}
+use Rattle.ft_tree.specs.Walk.{Spot, walk, seen_at, seen}
 use Rattle.ft_calls.specs.declared.intent.Intent.{Intent}
 use Rattle.ft_calls.specs.declared.intent.Stop.{Stop}
 use Rattle.ft_calls.specs.declared.intent.Stop.TheVariants.{Memory as NoMemory, Errno as Fails}
 use Rattle.ft_calls.specs.Outcomes.{Outcome, failed, from_parts, unless}
 use Rattle.ft_calls.specs.Descriptors.{on_open, with_open}
 use Rattle.ft_calls.specs.Links.{climb, unless_below}
-use Rattle.ft_calls.specs.Looking.{Looking, noted, Finds, look_at}
+use Rattle.ft_calls.specs.Looking.{Looking, noted_at, noted, Finds, look_at}
 use Rattle.ft_calls.specs.Comes.{outcome_of, Comes, Leads, Says}
-use Rattle.ft_calls.proofs.Recorded.{with_looks-then}
+use Rattle.ft_calls.proofs.Recorded.{with_looks-then, all_noted-is}
 
 -- what a part looked at, and what is looked at behind it
 pub noted-then : {A B : Type 0} (old : Looking) (s : Looks A) (f : A → Looks B) (x : A) (mid : Looking) → x ≡ answer s (view_of old.cells) → mid ≡ noted old s → noted mid (f x) ≡ noted old (then s f)
@@ -31,6 +31,15 @@ pub answer-on : {A B : Type 0} (old : Looking) (s : Looks A) (f : A → Looks B)
     → answer (f x) (view_of mid.cells) ≡ answer (then s f) (view_of old.cells)
 answer-on old s f x mid is looks =
     ap (λ (l : Looking). answer (f x) (view_of l.cells)) looks ∙ ap (λ y. answer (f y) (view_of old.cells)) is ∙ sym (answer-then s f (view_of old.cells))
+
+-- where a walk leads that notes each cell which it reads
+pub leads : (old new : Looking) (read names : List (List ℕ)) (trailing : Bool) → read ≡ names → (end told : Result Seen Errno) → end ≡ told
+    → seen end ≡ answer (walk read trailing) (view_of old.cells) → new ≡ all_noted noted_at old (looked_at (walk read trailing) (view_of old.cells))
+    → (seen told ≡ answer (walk names trailing) (view_of old.cells)) × (new ≡ noted old (walk names trailing))
+leads old new read names trailing same end told is led looks = (
+  ap seen (sym is) ∙ led ∙ ap (λ ns. answer (walk ns trailing) (view_of old.cells)) same,
+  looks ∙ all_noted-is old (looked_at (walk read trailing) (view_of old.cells)) ∙ ap (λ ns. noted old (walk ns trailing)) same,
+)
 
 -- to go on with what was found out
 pub finds_then : {A : Type 0} (old : Looking) (s : Looks A) (f : A → Looks Outcome) (x : A) (mid new : Looking) (r : Result Intent Stop)

@@ -63,9 +63,9 @@ abbrev pub is_noted : Cell → List Access → Bool
 is_noted c [] = false
 is_noted c (a ∷ more) = by_order (cell_cmp c a.cell) false true (is_noted c more)
 
--- the accesses of the call with stamp k
+-- the accesses of the call with this stamp
 abbrev pub accesses_of : Cells → ℕ → Call → List Access
-accesses_of cells k call = listed (with_accesses finite.empty (steps (stored_dirs cells) k call) (view_of cells))
+accesses_of cells stamp call = listed (with_accesses finite.empty (steps (stored_dirs cells) stamp call) (view_of cells))
 
 abbrev pub is_write : Mode → Bool
 is_write ReadMode = false

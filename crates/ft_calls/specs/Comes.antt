@@ -56,12 +56,6 @@ Leads old s new (Ok spot) = (Ok (seen_at spot) ≡ answer s (view_of old.cells))
 Leads old s new (Err (Fails e)) = (Err e ≡ answer s (view_of old.cells)) × (new ≡ noted old s)
 Leads old s new (Err NoMemory) = Unit {0}
 
--- the same of a part that may fail
-abbrev pub Tries : {A : Type 0} → Looking → Looks (Result A Errno) → Looking → Result A Stop → Type 0
-Tries old s new (Ok x) = (Ok x ≡ answer s (view_of old.cells)) × (new ≡ noted old s)
-Tries old s new (Err (Fails e)) = (Err e ≡ answer s (view_of old.cells)) × (new ≡ noted old s)
-Tries old s new (Err NoMemory) = Unit {0}
-
 -- what an argument says, or its fault
 abbrev pub Says : {A : Type 0} → Result A Errno → Result A Stop → Type 0
 Says wanted (Ok x) = Ok x ≡ wanted

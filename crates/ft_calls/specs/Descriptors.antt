@@ -19,33 +19,33 @@ use Rattle.ft_calls.specs.Files.{to_size, cut_file, file_info}
 
 abbrev pub on_open : (OpenFile → Bool) → (OpenFile → Looks Outcome) → Option OpenFile → Looks Outcome
 on_open fits go None = Answer (failed EBADF)
-on_open fits go (Some o) = cond (fits o) (go o) (Answer (failed EBADF))
+on_open fits go (Some description) = cond (fits description) (go description) (Answer (failed EBADF))
 
 abbrev pub with_open : ℕ → (OpenFile → Bool) → (OpenFile → Looks Outcome) → Looks Outcome
 with_open fd fits go = Look (Fd fd) (λ place. on_open fits go place)
 
 abbrev pub any_open : OpenFile → Bool
-any_open o = true
+any_open description = true
 
 abbrev pub is_readable : OpenFile → Bool
-is_readable o = can_read o.access
+is_readable description = can_read description.access
 
 abbrev pub is_writable : OpenFile → Bool
-is_writable o = can_write o.access
+is_writable description = can_write description.access
 
 abbrev pub at_offset : OpenFile → ℕ → OpenFile
-at_offset o offset = record { file = o.file; access = o.access; append = o.append; offset = offset }
+at_offset description offset = record { file = description.file; access = description.access; append = description.append; offset = offset }
 
 -- close (POSIX.1-2017, System Interfaces, close); whether entries name the file is looked at
 abbrev pub close_open : ℕ → OpenFile → Looks Outcome
-close_open fd o = Look (Links o.file) (λ _. Answer (record { reply = Done; writes = SetOpen fd None ∷ [] }))
+close_open fd description = Look (Links description.file) (λ _. Answer (record { reply = Done; writes = SetOpen fd None ∷ [] }))
 
 -- read (POSIX.1-2017, System Interfaces, read): the offset moves by the count of bytes that are read
 abbrev pub has_read : ℕ → OpenFile → List ℕ → Outcome
-has_read fd o bytes = record { reply = BytesReply bytes; writes = SetOpen fd (Some (at_offset o (o.offset + length bytes))) ∷ [] }
+has_read fd description bytes = record { reply = BytesReply bytes; writes = SetOpen fd (Some (at_offset description (description.offset + length bytes))) ∷ [] }
 
 abbrev pub read_open : ℕ → ℕ → OpenFile → Looks Outcome
-read_open fd len o = Look (Bytes o.file) (λ bytes. Answer (has_read fd o (bytes_at bytes o.offset len)))
+read_open fd len description = Look (Bytes description.file) (λ bytes. Answer (has_read fd description (bytes_at bytes description.offset len)))
 
 -- an offset or a length below zero is invalid
 abbrev pub not_negative : ℤ → Result ℕ Errno
@@ -54,50 +54,50 @@ not_negative (negsuc n) = Err EINVAL
 
 -- pread (POSIX.1-2017, System Interfaces, read)
 abbrev pub pread_at : ℕ → OpenFile → ℕ → Looks Outcome
-pread_at len o at = Look (Bytes o.file) (λ bytes. Answer (told (BytesReply (bytes_at bytes at len))))
+pread_at len description at = Look (Bytes description.file) (λ bytes. Answer (told (BytesReply (bytes_at bytes at len))))
 
 abbrev pub pread_open : ℤ → ℕ → OpenFile → Looks Outcome
-pread_open off len o = or_else failed (pread_at len o) (not_negative off)
+pread_open off len description = or_else failed (pread_at len description) (not_negative off)
 
 -- write (POSIX.1-2017, System Interfaces, write): with append the offset is first the size
 
 abbrev pub write_place : OpenFile → Looks ℕ
-write_place o = cond o.append (Look (Bytes o.file) (λ bytes. Answer (length bytes))) (Answer o.offset)
+write_place description = cond description.append (Look (Bytes description.file) (λ bytes. Answer (length bytes))) (Answer description.offset)
 
 -- the offset becomes the end of what was written
 abbrev pub has_written : ℕ → OpenFile → ℕ → List ℕ → List ℕ → Outcome
-has_written fd o at taken bytes = record {
+has_written fd description at taken bytes = record {
   reply = Number (length taken);
-  writes = SetBytes o.file (written bytes at taken) ∷ SetOpen fd (Some (at_offset o (at + length taken))) ∷ [];
+  writes = SetBytes description.file (written bytes at taken) ∷ SetOpen fd (Some (at_offset description (at + length taken))) ∷ [];
 }
 
 abbrev pub write_at : ℕ → OpenFile → List ℕ → ℕ → Looks Outcome
-write_at fd o bytes at = cond (nat_le SIZE_LIMIT at) (Answer (failed EFBIG)) (Look (Bytes o.file) (λ old. Answer (has_written fd o at (fitting bytes at) old)))
+write_at fd description bytes at = cond (nat_le SIZE_LIMIT at) (Answer (failed EFBIG)) (Look (Bytes description.file) (λ old. Answer (has_written fd description at (fitting bytes at) old)))
 
 -- to write no bytes changes nothing
 abbrev pub write_open : ℕ → List ℕ → OpenFile → Looks Outcome
-write_open fd [] o = Answer (told (Number 0))
-write_open fd (first ∷ more) o = then (write_place o) (write_at fd o (first ∷ more))
+write_open fd [] description = Answer (told (Number 0))
+write_open fd (first ∷ more) description = then (write_place description) (write_at fd description (first ∷ more))
 
 -- pwrite (POSIX.1-2017, System Interfaces, write): the offset of the description stays, and append has no effect
 
 abbrev pub has_pwritten : OpenFile → ℕ → List ℕ → List ℕ → Outcome
-has_pwritten o at taken bytes = record { reply = Number (length taken); writes = SetBytes o.file (written bytes at taken) ∷ [] }
+has_pwritten description at taken bytes = record { reply = Number (length taken); writes = SetBytes description.file (written bytes at taken) ∷ [] }
 
 abbrev pub pwrite_at : OpenFile → List ℕ → ℕ → Looks Outcome
-pwrite_at o [] at = Answer (told (Number 0))
-pwrite_at o (first ∷ more) at =
-    cond (nat_le SIZE_LIMIT at) (Answer (failed EFBIG)) (Look (Bytes o.file) (λ old. Answer (has_pwritten o at (fitting (first ∷ more) at) old)))
+pwrite_at description [] at = Answer (told (Number 0))
+pwrite_at description (first ∷ more) at =
+    cond (nat_le SIZE_LIMIT at) (Answer (failed EFBIG)) (Look (Bytes description.file) (λ old. Answer (has_pwritten description at (fitting (first ∷ more) at) old)))
 
 abbrev pub pwrite_open : ℤ → List ℕ → OpenFile → Looks Outcome
-pwrite_open off bytes o = or_else failed (pwrite_at o bytes) (not_negative off)
+pwrite_open off bytes description = or_else failed (pwrite_at description bytes) (not_negative off)
 
 -- lseek (POSIX.1-2017, System Interfaces, lseek)
 
 abbrev pub seek_from : Whence → OpenFile → Looks ℕ
-seek_from Set o = Answer 0
-seek_from Cur o = Answer o.offset
-seek_from End o = Look (Bytes o.file) (λ bytes. Answer (length bytes))
+seek_from Set description = Answer 0
+seek_from Cur description = Answer description.offset
+seek_from End description = Look (Bytes description.file) (λ bytes. Answer (length bytes))
 
 -- where an offset leads from a place, unless below zero
 abbrev pub moved : ℕ → ℤ → Option ℕ
@@ -109,16 +109,16 @@ offset_within None = Err EINVAL
 offset_within (Some at) = cond (nat_le at LAST_OFFSET) (Ok at) (Err EOVERFLOW)
 
 abbrev pub sought : ℕ → OpenFile → Option ℕ → Outcome
-sought fd o None = failed EINVAL
-sought fd o (Some at) = cond (nat_le at LAST_OFFSET) (record { reply = Number at; writes = SetOpen fd (Some (at_offset o at)) ∷ [] }) (failed EOVERFLOW)
+sought fd description None = failed EINVAL
+sought fd description (Some at) = cond (nat_le at LAST_OFFSET) (record { reply = Number at; writes = SetOpen fd (Some (at_offset description at)) ∷ [] }) (failed EOVERFLOW)
 
 abbrev pub seek_open : ℕ → Whence → ℤ → OpenFile → Looks Outcome
-seek_open fd whence off o = then (seek_from whence o) (λ from. Answer (sought fd o (moved from off)))
+seek_open fd whence off description = then (seek_from whence description) (λ from. Answer (sought fd description (moved from off)))
 
 -- ftruncate and fstat (POSIX.1-2017, System Interfaces, ftruncate, fstat)
 
 abbrev pub ftruncate_open : ℤ → OpenFile → Looks Outcome
-ftruncate_open len o = or_else failed (cut_file o.file) (to_size len)
+ftruncate_open len description = or_else failed (cut_file description.file) (to_size len)
 
 abbrev pub fstat_open : OpenFile → Looks Outcome
-fstat_open o = file_info o.file
+fstat_open description = file_info description.file

@@ -82,7 +82,7 @@ pub record CanBeMade (cells : Cells) (ws : List Write) : Type 0 where
   pub apart : AreApart ws
 
 abbrev pub PlacesLaw : Type 0
-PlacesLaw = (cells : Cells) (k : ℕ) (call : Call) → AreSoundCells cells → CanBeMade cells (outcome cells k call).writes
+PlacesLaw = (cells : Cells) (stamp : ℕ) (call : Call) → AreSoundCells cells → CanBeMade cells (outcome cells stamp call).writes
 
 -- each of the edited cells holds the same in both
 abbrev pub SameOn : Cells → Cells → List Edit → Type 0

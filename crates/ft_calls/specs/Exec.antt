@@ -47,6 +47,6 @@ is_named_in p i = list_any (λ e. e.1 == i) (finite.entries p.edges) || list_any
 abbrev pub without_dead_files : PlainTree → PlainTree
 without_dead_files p = record p { files = finite.retain_keys p.files (is_named_in p) }
 
--- the call with stamp k: the tree after it, and its reply
+-- the call with this stamp: the tree after it, and its reply
 abbrev pub exec : PlainTree → ℕ → Call → PlainTree × Reply
-exec p k call = let outcome = answer (steps (finite.len p.dirs) k call) (view_in p) in (without_dead_files (put_all_plain p outcome.writes), outcome.reply)
+exec p stamp call = let outcome = answer (steps (finite.len p.dirs) stamp call) (view_in p) in (without_dead_files (put_all_plain p outcome.writes), outcome.reply)

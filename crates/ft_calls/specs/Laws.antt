@@ -16,21 +16,21 @@ use Rattle.ft_calls.specs.Accesses.{is_write, accesses_of, some_conflict}
 
 -- a call whose stamp numbers nothing leaves sound cells
 abbrev pub SoundnessLaw : Type 0
-SoundnessLaw = (cells : Cells) (k : ℕ) (call : Call) → AreSoundCells cells → IsFree cells k → AreSoundCells (after cells k call)
+SoundnessLaw = (cells : Cells) (stamp : ℕ) (call : Call) → AreSoundCells cells → IsFree cells stamp → AreSoundCells (after cells stamp call)
 
 -- and each other number that was free
 abbrev pub FreshnessLaw : Type 0
-FreshnessLaw = (cells : Cells) (k : ℕ) (call : Call) → AreSoundCells cells → IsFree cells k → (j : ℕ) → IsFree cells j → j ≢ k → IsFree (after cells k call) j
+FreshnessLaw = (cells : Cells) (stamp : ℕ) (call : Call) → AreSoundCells cells → IsFree cells stamp → (other : ℕ) → IsFree cells other → other ≢ stamp → IsFree (after cells stamp call) other
 
 -- a call on sound cells, whose stamp numbers nothing, does on the plain tree that they are what it does on them
 abbrev pub TidyingLaw : Type 0
-TidyingLaw = (cells : Cells) (k : ℕ) (call : Call) → AreSoundCells cells → IsFree cells k → exec (tidy cells) k call ≡ (tidy (after cells k call), (outcome cells k call).reply)
+TidyingLaw = (cells : Cells) (stamp : ℕ) (call : Call) → AreSoundCells cells → IsFree cells stamp → exec (tidy cells) stamp call ≡ (tidy (after cells stamp call), (outcome cells stamp call).reply)
 
 -- cells of equal values are one plain tree, sound alike, with the same numbers free
 pub record MakesNoDifference (old new : Cells) : Type 0 where
   pub plain : tidy new ≡ tidy old
   pub sound : AreSoundCells new
-  pub free : (k : ℕ) → IsFree old k → IsFree new k
+  pub free : (number : ℕ) → IsFree old number → IsFree new number
 
 abbrev pub ValuesLaw : Type 0
 ValuesLaw = (old new : Cells) → AreSoundCells old → KeepsValues old new → MakesNoDifference old new
@@ -49,18 +49,18 @@ abbrev pub is_written : List Access → Cell → Bool
 is_written accesses c = list_any (λ a. is_write a.mode && overlap a.cell c) accesses
 
 -- the call does the same in both
-pub record ActsAlike (s t : Cells) (k : ℕ) (call : Call) : Type 0 where
-  pub accesses : accesses_of t k call ≡ accesses_of s k call
-  pub reply : (outcome t k call).reply ≡ (outcome s k call).reply
-  pub writes : (outcome t k call).writes ≡ (outcome s k call).writes
+pub record ActsAlike (s t : Cells) (stamp : ℕ) (call : Call) : Type 0 where
+  pub accesses : accesses_of t stamp call ≡ accesses_of s stamp call
+  pub reply : (outcome t stamp call).reply ≡ (outcome s stamp call).reply
+  pub writes : (outcome t stamp call).writes ≡ (outcome s stamp call).writes
 
 -- the frame law: on sound cells that show the same where a call accesses them, it does the same
 abbrev pub FrameLaw : Type 0
-FrameLaw = (s t : Cells) (k : ℕ) (call : Call) → AreSoundCells s → AreSoundCells t → IsFree s k → IsFree t k → AgreeOn s t (accesses_of s k call) → ActsAlike s t k call
+FrameLaw = (s t : Cells) (stamp : ℕ) (call : Call) → AreSoundCells s → AreSoundCells t → IsFree s stamp → IsFree t stamp → AgreeOn s t (accesses_of s stamp call) → ActsAlike s t stamp call
 
 -- nothing but the written cells changes
 abbrev pub KeptLaw : Type 0
-KeptLaw = (cells : Cells) (k : ℕ) (call : Call) (c : Cell) → is_written (accesses_of cells k call) c ≡ false → view_of (after cells k call) c ≡ view_of cells c
+KeptLaw = (cells : Cells) (stamp : ℕ) (call : Call) (c : Cell) → is_written (accesses_of cells stamp call) c ≡ false → view_of (after cells stamp call) c ≡ view_of cells c
 
 -- two calls in the other order: the same replies, and cells of the same values
 pub record AreExchanged (cells : Cells) (j : ℕ) (a : Call) (k : ℕ) (b : Call) : Type 0 where
@@ -75,4 +75,4 @@ ExchangeLaw = (cells : Cells) (j : ℕ) (a : Call) (k : ℕ) (b : Call) → AreS
 
 -- a call whose reply only tells writes nothing
 abbrev pub TellingLaw : Type 0
-TellingLaw = (cells : Cells) (k : ℕ) (call : Call) → AreSoundCells cells → OnlyTells (outcome cells k call).reply → (outcome cells k call).writes ≡ []
+TellingLaw = (cells : Cells) (stamp : ℕ) (call : Call) → AreSoundCells cells → OnlyTells (outcome cells stamp call).reply → (outcome cells stamp call).writes ≡ []

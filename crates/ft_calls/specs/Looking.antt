@@ -10,6 +10,7 @@ use Rattle.ft_tree.specs.Cells.{Cells, coded_cells}
 use Rattle.ft_tree.specs.Looks.{Looks, Answer, Look, Shows, answer, looked_at}
 use Rattle.ft_tree.specs.Views.{view_of}
 use Rattle.ft_calls.specs.contracts.call.Mode as mode
+use Rattle.ft_calls.specs.declared.call.Mode.TheVariants.{Read as ReadMode}
 use Rattle.ft_calls.specs.Accesses.{Modes, with_looks}
 
 -- the cells that are looked at, and how they are accessed so far
@@ -19,6 +20,10 @@ pub record Looking : Type 0 where
 
 abbrev pub coded_looking : Coded Looking
 coded_looking = code_by (Cells × Modes) (coded× coded_cells (finite.code cell.the_row.coded mode.the_row.coded)) (λ l. (l.cells, l.modes)) (λ p. record { cells = p.0; modes = p.1 }) (λ _. refl)
+
+-- with a look at one cell noted
+abbrev pub noted_at : Looking → Cell → Looking
+noted_at old c = record { cells = old.cells; modes = finite.insert old.modes c ReadMode }
 
 -- with what is looked at noted
 abbrev pub noted : {A : Type 0} → Looking → Looks A → Looking

@@ -17,13 +17,13 @@ use Rattle.ft_calls.specs.Exec.{exec}
 use Rattle.ft_calls.specs.Posix.{posix_calls, HasSoundValues}
 use Rattle.ft_calls.specs.Steps.{steps}
 
--- the accesses of the call with stamp k on a plain tree
+-- the accesses of the call with this stamp on a plain tree
 abbrev pub accesses_in : PlainTree → ℕ → Call → List Access
-accesses_in p k call = listed (with_accesses finite.empty (steps (finite.len p.dirs) k call) (view_in p))
+accesses_in p stamp call = listed (with_accesses finite.empty (steps (finite.len p.dirs) stamp call) (view_in p))
 
 -- they are those on the sound cells that the tree is
 abbrev pub PlainAccessesLaw : Type 0
-PlainAccessesLaw = (cells : Cells) (k : ℕ) (call : Call) → AreSoundCells cells → accesses_in (tidy cells) k call ≡ accesses_of cells k call
+PlainAccessesLaw = (cells : Cells) (stamp : ℕ) (call : Call) → AreSoundCells cells → accesses_in (tidy cells) stamp call ≡ accesses_of cells stamp call
 
 -- what is hidden of files that nothing names, the plain tree has not
 abbrev pub HidingLaw : Type 0

@@ -18,10 +18,10 @@ abbrev pub put_all : Cells → List Write → Cells
 put_all cells [] = cells
 put_all cells (w ∷ ws) = put_all (put cells w) ws
 
--- what the call with stamp k comes to
+-- what the call with this stamp comes to
 abbrev pub outcome : Cells → ℕ → Call → Outcome
-outcome cells k call = answer (steps (stored_dirs cells) k call) (view_of cells)
+outcome cells stamp call = answer (steps (stored_dirs cells) stamp call) (view_of cells)
 
 -- the cells after it
 abbrev pub after : Cells → ℕ → Call → Cells
-after cells k call = put_all cells (outcome cells k call).writes
+after cells stamp call = put_all cells (outcome cells stamp call).writes

@@ -167,9 +167,10 @@ pub struct Intent<'c> {
 }
 
 impl<'c> Intent<'c> {
-    ghost use Rattle.std.specs.Prelude.{◌≡◌, [], ◌∷◌, ◌++◌, IfOk};
+    ghost use Rattle.std.specs.Prelude.{◌≡◌, [], ◌∷◌, ◌++◌, IfOk, OnErr};
     ghost use Rattle.ft_calls.specs.Within.{IsWithin};
     ghost use Rattle.ft_calls.specs.Comes.{reply_of};
+    ghost use Rattle.ft_calls.specs.Perform.{IsList};
 
     /// An answer, with nothing to be set.
     pub(crate) fn tell(alloc: Global, told: Told) -> Intent<'c>
@@ -196,7 +197,8 @@ impl<'c> Intent<'c> {
     /// The reply of the call. A list is read off the tree, which is as it was looked at. Only a list
     /// takes memory, and want of it is the one refusal.
     pub fn reply(&self, alloc: Global, tree: &Tree) -> Result<Reply, Memory>
-        ensures { IfOk result (λ reply. reply ≡ reply_of tree.now self.now.told) }
+        ensures reply { IfOk result (λ reply. reply ≡ reply_of tree.now self.now.told) }
+        ensures lists { OnErr result (IsList (reply_of tree.now self.now.told)) }
     {
         match self.told {
             Told::Done => Ok(Reply::Done),

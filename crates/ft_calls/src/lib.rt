@@ -6,8 +6,6 @@
 //! stands for opendir and readdir.
 #![tactic(auto)]
 
-#[cfg(test)]
-mod access_tests;
 mod bytes;
 mod call;
 mod descriptors;

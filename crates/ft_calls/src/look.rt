@@ -3,15 +3,15 @@ ghost use Rattle.std.specs.Prelude.{◌≡◌, ◌≤◌, IfOk, OnOk};
 ghost use Rattle.std.specs.FinMap as finite;
 ghost use Rattle.ft_body.specs.declared.TheConstants.{SIZE_LIMIT};
 ghost use Rattle.ft_path.specs.FilePath.{parts_of};
-ghost use Rattle.ft_tree.specs.declared.cell.Cell.TheVariants.{Entry, Parent, Links, Names, Fd};
+ghost use Rattle.ft_tree.specs.declared.cell.Cell.TheVariants.{Links, Names, Fd};
 ghost use Rattle.ft_tree.specs.Cells.{stored_dirs};
 ghost use Rattle.ft_tree.specs.Looks.{answer};
 ghost use Rattle.ft_tree.specs.Views.{view_of};
-ghost use Rattle.ft_tree.specs.Walk.{up, inner, last, walk};
+ghost use Rattle.ft_tree.specs.Walk.{walk};
 ghost use Rattle.ft_calls.specs.Links.{climb};
 ghost use Rattle.ft_calls.specs.declared.call.Mode.TheVariants.{Write as WriteMode};
 ghost use Rattle.ft_calls.specs.Looking.{Looking, Finds, look_at, size_at, is_bare, names_noted};
-ghost use Rattle.ft_calls.specs.Comes.{Leads, Tries, Says};
+ghost use Rattle.ft_calls.specs.Comes.{Leads, Says};
 ghost use Rattle.ft_calls.specs.Accesses.{listed};
 ghost use Rattle.ft_calls.specs.Within.{AreWithin};
 ghost use Rattle.ft_calls.specs.Edits.{edit_cell, with_edits};
@@ -21,8 +21,8 @@ use crate::call::Access;
 use crate::intent::{Edit, Edits, Stop};
 use crate::touched::Touched;
 use ft_base::Memory;
-use ft_path::{Errno, FilePath, Name, Parts, PartsFault};
-use ft_tree::{Cell, Node, OpenFile, ROOT, Spot, Tree};
+use ft_path::{FilePath, Name, Parts, PartsFault};
+use ft_tree::{Cell, Node, OpenFile, ROOT, Reader, Spot, Tree, walk};
 use std::alloc::Global;
 use std::marker::Model;
 
@@ -52,22 +52,6 @@ impl<'t> Look<'t> {
             tree,
             touched: Touched::new(alloc),
         }
-    }
-
-    /// What a name leads to in a directory.
-    pub(crate) fn entry(&mut self, dir: u64, name: &Name) -> Result<Option<Node>, Memory>
-        ensures { Finds self.old (look_at (Entry dir name.now)) self.new result }
-    {
-        self.touched.read_entry(dir, name)?;
-        Ok(self.tree.entry(dir, name))
-    }
-
-    /// The directory that has a directory's entry.
-    pub(crate) fn parent(&mut self, dir: u64) -> Result<Option<u64>, Memory>
-        ensures { Finds self.old (look_at (Parent dir)) self.new result }
-    {
-        self.touched.read(Cell::Parent(dir))?;
-        Ok(self.tree.parent(dir))
     }
 
     /// How many entries name a file.
@@ -115,16 +99,10 @@ impl<'t> Look<'t> {
     pub(crate) fn walk<'a>(&mut self, parts: &'a Parts) -> Result<Spot<'a>, Stop>
         ensures { Leads self.old (walk parts.now.names parts.now.trailing) self.new result }
     {
-        let Some((first, rest)) = parts.names.as_slice().split_first() else {
-            return Ok(Spot::Itself(ROOT));
-        };
-        let mut dir = ROOT;
-        let mut name = first;
-        for next in rest {
-            dir = self.inner(dir, name)?;
-            name = next;
+        match walk(self, parts.names.as_slice(), parts.trailing)? {
+            Ok(spot) => Ok(spot),
+            Err(errno) => Err(Stop::Errno(errno)),
         }
-        self.last(dir, name, parts.trailing)
     }
 
     /// Whether directory `moved` is met on the way up from directory `dir` to the root.
@@ -158,48 +136,29 @@ impl<'t> Look<'t> {
         }
         Ok(touched.into_accesses())
     }
+}
 
-    /// The parent of a directory, the root's being the root.
-    fn up(&mut self, dir: u64) -> Result<u64, Memory>
-        ensures { Finds self.old (up dir) self.new result }
-    {
-        if dir == ROOT {
-            return Ok(ROOT);
-        }
-        Ok(self.parent(dir)?.unwrap_or(ROOT))
+/// Each cell that a walk reads is noted.
+impl<'t> Reader for Look<'t> {
+    ghost use Rattle.std.specs.Prelude.{refl};
+    ghost use Rattle.ft_calls.specs.Looking.{noted_at};
+
+    type Want = Memory;
+
+    ghost cells = { λ look. look.cells };
+
+    ghost noted = { noted_at };
+
+    ghost stays = { λ _ _. refl };
+
+    fn entry(&mut self, dir: u64, name: &Name) -> Result<Option<Node>, Memory> {
+        self.touched.read_entry(dir, name)?;
+        Ok(self.tree.entry(dir, name))
     }
 
-    /// Where a component that is not the last leads from a directory.
-    fn inner(&mut self, dir: u64, name: &Name) -> Result<u64, Stop>
-        ensures { Tries self.old (inner dir name.now) self.new result }
-    {
-        if name.is_dot() {
-            return Ok(dir);
-        }
-        if name.is_dot_dot() {
-            return Ok(self.up(dir)?);
-        }
-        match self.entry(dir, name)? {
-            None => Err(Stop::Errno(Errno::ENOENT)),
-            Some(Node::Dir(number)) => Ok(number),
-            Some(Node::File(_)) => Err(Stop::Errno(Errno::ENOTDIR)),
-        }
-    }
-
-    /// Where the last component leads from a directory.
-    fn last<'a>(&mut self, dir: u64, name: &'a Name, trailing: bool) -> Result<Spot<'a>, Stop>
-        ensures { Leads self.old (last dir name.now trailing) self.new result }
-    {
-        if name.is_dot() {
-            return Ok(Spot::Itself(dir));
-        }
-        if name.is_dot_dot() {
-            return Ok(Spot::Itself(self.up(dir)?));
-        }
-        match self.entry(dir, name)? {
-            Some(Node::File(_)) if trailing => Err(Stop::Errno(Errno::ENOTDIR)),
-            node => Ok(Spot::Named { dir, name, node }),
-        }
+    fn parent(&mut self, dir: u64) -> Result<Option<u64>, Memory> {
+        self.touched.read(Cell::Parent(dir))?;
+        Ok(self.tree.parent(dir))
     }
 }
 

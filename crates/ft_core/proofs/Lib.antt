@@ -1,11 +1,22 @@
-pub mod Lists
-pub mod Events
-pub mod Lives
-pub mod Counting
-pub mod Holders
-pub mod Standing
-pub mod Results
-pub mod Journals
-pub mod Cores
-pub mod Steps
-pub mod Running
+mod Told
+mod Counts
+mod Joining
+mod Reporting
+mod Begins
+mod Opening
+mod Refusing
+mod Cores
+mod RunsOn
+mod Placing
+mod Grants
+mod Asks
+mod Reverting
+mod Lists
+mod Ends
+mod Noted
+mod Commits
+mod Undoes
+mod Aborts
+mod Children
+mod Alone
+mod Ended

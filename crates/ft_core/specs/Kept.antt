@@ -1,106 +1,138 @@
--- What a journal and a core keep true of themselves.
-use Rattle.std.specs.Prelude.{◌≡◌, ◌<◌, ◌≤◌, ◌+◌, ℕ, suc, zero, true, false, cond, not, ◌==◌, List, [], ◌∷◌, ◌++◌, Option, Some, None, length, filter, refl}
-use Rattle.std.specs.List.{list_all}
+-- What a core keeps true of itself.
+use Rattle.std.specs.Prelude.{◌≡◌, ◌≤◌, ◌+◌, ℕ, Bool, true, ◌&&◌, is_some, List, [], ◌∷◌, Option, Some, None, length, map}
 use Rattle.std.specs.FinMap as finite
-use Rattle.std.specs.Ordering.{nat_cmp}
-use Rattle.ft_tree.specs.Cells.{Cells}
-use Rattle.ft_tree.specs.Plain.{PlainTree}
-use Rattle.ft_tree.specs.Sound.{AreSoundCells, IsFree}
+use Rattle.ft_base.specs.Chains.{Lists, list_in}
+use Rattle.ft_laws.specs.Lists.{Each, In}
+use Rattle.ft_laws.specs.Effects.{Has, Write as CellWrite}
+use Rattle.ft_tree.specs.declared.cell.Cell.{Cell}
+use Rattle.ft_tree.specs.declared.cell.Cell.TheVariants.{Entry as EntryCell, Names as NamesCell, Parent as ParentCell, Links as LinksCell, Bytes as BytesCell, Fd as FdCell}
+use Rattle.ft_tree.specs.Cells.{Cells, HasFilePlace}
+use Rattle.ft_tree.specs.Held.{Holds, IsStored}
+use Rattle.ft_tree.specs.Sound.{AreSoundCells}
 use Rattle.ft_tree.specs.Tidy.{tidy}
-use Rattle.std.specs.Coded.{Coded, code_by, coded×, coded_ℕ}
-use Rattle.ft_core.specs.declared.journal.Life.{Life}
-use Rattle.ft_core.specs.declared.manager.Saved.{Saved}
-use Rattle.ft_core.specs.declared.request.Event.{Event}
-use Rattle.ft_core.specs.History.{begun, granted, standing, is_begun, is_committed, is_aborted, is_live, life_of, holds, is_of, tree_after, GiveReplies, Granted}
-use Rattle.ft_core.specs.State.{State, coded_state, first_base, count_standing}
+use Rattle.ft_calls.specs.Posix.{as_change, posix, posix_calls}
+use Rattle.ft_undo.specs.declared.logs.Logged.{Logged}
+use Rattle.ft_undo.specs.Logs.{is_open}
+use Rattle.ft_undo.specs.Undone.{given_back, CanGiveAllBack}
+use Rattle.ft_forest.specs.declared.state.State.{State as Life}
+use Rattle.ft_forest.specs.declared.state.State.TheVariants.{Live as LiveState, Committed as CommittedState, Aborted as AbortedState}
+use Rattle.ft_forest.specs.Transactions.{Transactions, parent_in, state_in, last_in}
+use Rattle.ft_locks.specs.Locks.{LockTable, is_opened}
+use Rattle.ft_locks.specs.Law.{AreLocksOf}
+use Rattle.ft_history.specs.History.{Base as HistoryBase, Fate, IsFresh, last_transaction, last_stamp, begun, parent, fate, owner_of, grants, is_live, IsLive, is_standing}
+use Rattle.ft_history.specs.History.Fate.{Live, Committed, Aborted}
+use Rattle.ft_history.specs.Core.{Entry, IsCore}
+use Rattle.ft_history.specs.Logs.{passing}
+use Rattle.ft_history.specs.Undoing.{last_sub}
+use Rattle.ft_core.specs.Histories.{History, Granted}
+use Rattle.ft_core.specs.States.{Base, State, Asks, history}
+use Rattle.ft_core.specs.Journals.{Journaled}
 
--- 1, 2, .. up to n
-abbrev pub up_to : ℕ → List ℕ
-up_to zero = []
-up_to (suc n) = up_to n ++ suc n ∷ []
+-- a call that can be taken back, with its inverse
+abbrev pub Item : Type 0
+Item = Entry posix_calls
 
--- the state since the first base: transactions and stamps are counted up, and who asked was begun
-pub record IsCounted (s : State) : Type 0 where
-  pub base : s.base ≡ first_base
-  pub asks : s.asks ≡ finite.empty
-  pub numbered : begun s.events ≡ up_to s.last_txn
-  pub stamped : length (granted s.events) + 1 ≡ s.last_stamp
-  pub askers : list_all (λ c. is_begun s.events c.txn) (granted s.events) ≡ true
+-- what the history starts from, where the base is stored in these cells
+abbrev pub start_of : Base → Cells → HistoryBase posix_calls
+start_of base store = record { store = store; transaction = base.last_txn; stamp = base.last_stamp }
 
--- what has ended was begun
-abbrev pub OnlyBegunEnd : List Event → Type 0
-OnlyBegunEnd events = (t : ℕ) → is_begun events t ≡ false → (is_committed events t ≡ false) × (is_aborted events t ≡ false)
+-- The base is a tree that is stored in some cells, and the history goes from its last numbers up to these.
+pub record IsStarted (base : Base) (h : History) (last_txn last_number : ℕ) : Type 0 where
+  pub store : Cells
+  pub sound : AreSoundCells store
+  pub tree : tidy store ≡ base.tree
+  pub fresh : IsFresh posix_calls (start_of base store)
+  pub last_txn_is : last_txn ≡ last_transaction posix_calls base.last_txn h
+  pub last_stamp_is : last_number ≡ last_stamp posix_calls base.last_stamp h
+  -- no number is left out
+  pub counted : base.last_txn + length (begun posix_calls h) ≡ last_txn
+  pub stamped : base.last_stamp + length (grants posix_calls h) ≡ last_number
 
--- how many transactions are live
-abbrev pub count_live : List Event → ℕ
-count_live events = length (filter (is_live events) (begun events))
-
--- these are the live transactions that have a granted call: one at most
-abbrev pub the_one : Option ℕ → List ℕ
-the_one None = []
-the_one (Some t) = t ∷ []
-
-abbrev pub AreHolders : List Event → Option ℕ → Type 0
-AreHolders events holder = filter (holds events) (begun events) ≡ the_one holder
-
--- the calls of others
-abbrev pub others : ℕ → List Granted → List Granted
-others t calls = filter (λ c. not (is_of t c)) calls
-
--- stored cells that are the plain tree after these calls, with room for later stamps
-pub record IsTreeAfter (cells : Cells) (base : PlainTree) (calls : List Granted) (last_stamp : ℕ) : Type 0 where
+-- The cells are those of the standing calls, but for files that a sweep took away, and the lists can take back each call that has an owner.
+pub record IsKept (base : Base) (h : History) (last_txn last_number : ℕ) (cells : Cells) (log : ℕ → List Item) : Type 0 where
+  pub started : IsStarted base h last_txn last_number
+  pub hidden : ℕ → Bool
+  pub core : IsCore posix_calls (start_of base started.store) h hidden cells log
   pub sound : AreSoundCells cells
-  pub free : (k : ℕ) → last_stamp < k → IsFree cells k
-  pub plain : tidy cells ≡ tree_after base calls
-  pub replies : GiveReplies base calls
 
--- A journal: the state, and for how many more events it has room beside the end of each live transaction.
-pub record Journaled : Type 0 where
-  pub state : State
-  pub room : ℕ
+-- The transactions of the history.
 
-abbrev pub coded_journaled : Coded Journaled
-coded_journaled = code_by (State × ℕ) (coded× coded_state coded_ℕ) (λ j. (j.state, j.room)) (λ p. record { state = p.0; room = p.1 }) (λ _. refl)
+abbrev pub fate_in : Option Life → Option Fate
+fate_in None = None
+fate_in (Some LiveState) = Some Live
+fate_in (Some CommittedState) = Some Committed
+fate_in (Some AbortedState) = Some Aborted
 
--- its index of transactions is that of its events, and the end of each live one has its place
-pub record IsJournal (s : State) (lives : finite.FinMap nat_cmp Life) (live used capacity : ℕ) : Type 0 where
-  pub counted : IsCounted s
-  pub ended : OnlyBegunEnd s.events
-  pub lives_are : (t : ℕ) → finite.get lives t ≡ life_of s.events t
-  pub live_are : live ≡ count_live s.events
-  pub room : used + live ≤ capacity
+pub record AreTransactions (base : Base) (h : History) (last_txn : ℕ) (forest : Transactions) : Type 0 where
+  pub base_is : forest.base ≡ base.last_txn
+  pub last : last_in forest ≡ last_txn
+  pub parents : (x : ℕ) → parent_in forest x ≡ parent posix_calls h x
+  pub fates : (x : ℕ) → fate_in (state_in forest x) ≡ fate posix_calls base.last_txn h x
 
--- What a core keeps: its tree is that of the standing calls, and the tree saved for a transaction that of the standing calls of others.
+-- What takes calls back.
 
-pub record IsSaved (s : State) (saved : Saved) : Type 0 where
-  pub tree : IsTreeAfter saved.tree s.base.tree (others saved.txn (standing s.events)) s.last_stamp
-  pub calls : saved.calls ≡ count_standing s saved.txn
+abbrev pub Change : Type 0
+Change = CellWrite Cell Holds
 
-abbrev pub IfSaved : State → Option Saved → Type 0
-IfSaved s None = Unit {0}
-IfSaved s (Some saved) = IsSaved s saved
+-- the file of a description that comes back is stored
+abbrev pub file_is_stored : (cells : Cells) (c : Cell) → Holds c → Type 0
+file_is_stored cells (EntryCell d name) to = Unit {0}
+file_is_stored cells (NamesCell d) to = Unit {0}
+file_is_stored cells (ParentCell d) to = Unit {0}
+file_is_stored cells (LinksCell i) to = Unit {0}
+file_is_stored cells (BytesCell i) to = Unit {0}
+file_is_stored cells (FdCell f) None = Unit {0}
+file_is_stored cells (FdCell f) (Some o) = HasFilePlace cells o.file
 
-abbrev pub holder_of : Option Saved → Option ℕ
-holder_of None = None
-holder_of (Some saved) = Some saved.txn
+-- The written cells have their places, and so has each file that comes back.
+pub record ArePlaced (cells : Cells) (e : Item) : Type 0 where
+  pub written : Each (λ (w : Change). IsStored cells w.cell) e.inverse.after
+  pub files : Each (λ (w : Change). file_is_stored cells w.cell w.value) e.inverse.before
 
--- what is saved after one more call of t
-abbrev pub saved_more : Option Saved → Option Cells → ℕ → Option Saved
-saved_more (Some saved) first t = Some (record saved { calls = saved.calls + 1 })
-saved_more None (Some cells) t = Some (record { txn = t; tree = cells; calls = 1 })
-saved_more None None t = None
+-- What takes a call back does what the call's inverse does, and may do so where the cells have their places and hold what the call left.
+pub record TakesBack (e : Item) (x : Logged) : Type 0 where
+  pub stamp : x.stamp ≡ e.done.call.stamp
+  pub same : map as_change (map given_back x.undo) ≡ e.inverse.before
+  pub may : (cells : Cells) → Each (λ (w : Change). IsStored cells w.cell) e.inverse.after → Has posix cells e.inverse.after → CanGiveAllBack cells x.undo
 
--- what is saved for t, and what is left of it without t's
-abbrev pub saved_own : Option Saved → ℕ → Option Saved
-saved_own None t = None
-saved_own (Some saved) t = cond (saved.txn == t) (Some saved) None
+-- the list of what takes calls back is that of the calls and their inverses
+abbrev pub AreLogged : List Item → List Logged → Type 0
+AreLogged [] [] = Unit {0}
+AreLogged [] (x ∷ xs) = ⊥
+AreLogged (e ∷ es) [] = ⊥
+AreLogged (e ∷ es) (x ∷ xs) = TakesBack e x × AreLogged es xs
 
-abbrev pub saved_without : Option Saved → ℕ → Option Saved
-saved_without None t = None
-saved_without (Some saved) t = cond (saved.txn == t) None (Some saved)
+pub record AreLogs (cells : Cells) (log : ℕ → List Item) (lists : Lists Logged) : Type 0 where
+  pub logged : (t : ℕ) → AreLogged (log t) (list_in lists t)
+  pub placed : (t : ℕ) (e : Item) → In e (log t) → ArePlaced cells e
 
-pub record IsCore (s : State) (cells : Cells) (saved : Option Saved) : Type 0 where
-  pub counted : IsCounted s
-  pub tree : IsTreeAfter cells s.base.tree (standing s.events) s.last_stamp
-  pub holders : AreHolders s.events (holder_of saved)
-  pub before : IfSaved s saved
+-- Places for events.
+
+-- a standing call that has an owner
+abbrev pub is_owned : History → Granted → Bool
+is_owned h c = is_standing posix_calls h c && is_some (owner_of posix_calls h c.asker)
+
+-- an event for the end of each live transaction, and one for the undo of each standing call that has an owner; the base's last transaction is first
+abbrev pub events_kept : ℕ → History → ℕ
+events_kept first h = length (passing (λ t. is_live (fate posix_calls first h t)) (begun posix_calls h)) + length (passing (is_owned h) (grants posix_calls h))
+
+-- A live transaction is open in the lock table and in the logs, and what is noted of its children's commits is there.
+pub record IsReady (base : Base) (h : History) (table : LockTable) (lists : Lists Logged) (j : Journaled) (t : ℕ) : Type 0 where
+  pub locks : is_opened table t ≡ true
+  pub log : is_open lists t ≡ true
+  pub sub : finite.get j.subs t ≡ Some (last_sub posix_calls base.last_stamp h t)
+
+-- What a core keeps: its tree, its transactions, its locks and its lists are those of its history, and whatever can be taken back has its places.
+pub record IsCoreAt (base : Base) (h : History) (asks : Asks) (last_txn last_number : ℕ) (cells : Cells) (forest : Transactions) (table : LockTable) (lists : Lists Logged) (j : Journaled) : Type 0 where
+  pub log : ℕ → List Item
+  pub kept : IsKept base h last_txn last_number cells log
+  pub transactions : AreTransactions base h last_txn forest
+  pub locks : AreLocksOf h table
+  pub logs : AreLogs cells log lists
+  pub ready : (t : ℕ) → IsLive posix_calls base.last_txn h t → IsReady base h table lists j t
+  -- only live transactions wait
+  pub waiting : (t : ℕ) → is_some (finite.get asks t) ≡ true → IsLive posix_calls base.last_txn h t
+  pub spare : events_kept base.last_txn h ≤ j.spare
+
+abbrev pub IsCoreOf : State → Cells → Transactions → LockTable → Lists Logged → Journaled → Type 0
+IsCoreOf s cells forest table lists j = IsCoreAt s.base (history s) s.asks s.last_txn s.last_stamp cells forest table lists j

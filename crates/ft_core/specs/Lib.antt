@@ -1,4 +1,13 @@
-pub mod History
-pub mod State
-pub mod Step
+pub mod Faults
+pub mod Histories
+pub mod States
+pub mod Steps
+pub mod Promises
+pub mod Journals
+pub mod Laws
+pub mod Opens
+pub mod Makes
 pub mod Kept
+pub mod Reports
+pub mod Taking
+pub mod Handing

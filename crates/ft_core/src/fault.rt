@@ -1,4 +1,5 @@
 use ft_base::Memory;
+use ft_forest::ForestFault;
 use thiserror::Error;
 
 /// Why a request is refused. A refusal changes nothing.
@@ -47,5 +48,23 @@ impl From<Memory> for Fault {
 
     fn from(_memory: Memory) -> Fault {
         Fault::Memory
+    }
+}
+
+impl From<ForestFault> for Fault {
+    ghost use Rattle.std.specs.Prelude.{◌≡◌};
+    ghost use Rattle.ft_core.specs.Faults.{fault_from};
+
+    ghost from_gives = { λ refused fault. fault ≡ fault_from refused };
+
+    fn from(refused: ForestFault) -> Fault {
+        match refused {
+            ForestFault::Memory => Fault::Memory,
+            ForestFault::NoTxn => Fault::NoTxn,
+            ForestFault::Ended => Fault::Ended,
+            ForestFault::ChildLive => Fault::ChildLive,
+            ForestFault::Full => Fault::Full,
+            ForestFault::Deep => Fault::Deep,
+        }
     }
 }

@@ -1,127 +1,168 @@
-// The journal: what has happened, with an index of the transactions.
-ghost use Rattle.std.specs.Prelude.{◌≡◌, ◌<◌, ◌≤◌, ◌+◌, ◌∷◌, ◌++◌, [], false, Some, IfOk, OnOk, OnErr, vec_len, vec_capacity};
-ghost use Rattle.ft_core.specs.declared.journal.Life.TheVariants.{Live};
-ghost use Rattle.ft_core.specs.History.{life_of};
-ghost use Rattle.ft_core.specs.State.{first_base, at_base, has_most_transactions, has_most_calls, next_txn, next_stamp, after_begin, after_grant, after_commit, after_abort};
-ghost use Rattle.ft_core.specs.Kept.{IsCounted};
+// The journal: what has happened, and what is noted of the live transactions.
+ghost use Rattle.std.specs.Prelude.{◌≡◌, ◌<◌, ◌≤◌, ◌+◌, IsSome, Some, None, OnOk, OnErr, false};
+ghost use Rattle.std.specs.FinMap as finite;
+ghost use Rattle.std.specs.Option.{option_copied};
+ghost use Rattle.ft_tree.specs.Tidy.{tidy};
+ghost use Rattle.ft_calls.specs.declared.call.Call.{Call as CallOf};
+ghost use Rattle.ft_forest.specs.declared.TheConstants.{LAST_NUMBER as last_number};
+ghost use Rattle.ft_core.specs.Journals.{no_events, sub_in, is_full, with_begin, with_call, with_event, without, with_sub, with_none_kept};
 
 use crate::request::Event;
-use crate::txn::TxnId;
-use crate::{LAST_NUMBER, MOST_CALLS, MOST_TRANSACTIONS};
+use crate::{LAST_NUMBER, MOST_CALLS};
 use ft_base::{Memory, Sequence, Table};
-use ft_calls::{Call, Reply};
+use ft_calls::{Access, Call, Reply};
+use ft_forest::TxnId;
+use ft_tree::Tree;
 use std::alloc::Global;
 use std::marker::Model;
-
-/// What has become of a transaction.
-#[derive(Clone, Copy, Debug, PartialEq, Eq)]
-pub enum Life {
-    Live,
-    Committed,
-    Aborted,
-}
+use std::snapshot::Snapshot;
 
 #[derive(Drop)]
 pub(crate) struct Journal {
-    alloc: Global,
     events: Vec<Event>,
-    lives: Table<Life>,
-    live: usize,
-    last_txn: u64,
+    // How many places are kept for the ends of transactions and for undos.
+    spare: usize,
+    asks: Table<Call>,
+    subs: Table<Option<u64>>,
+    // The tree of the base, of which nothing is kept: a snapshot has no bytes.
+    base: Snapshot<Tree>,
+    base_stamp: u64,
     last_stamp: u64,
 }
 
 impl Model for Journal {
-    ghost use Rattle.std.specs.Prelude.{◌-◌, ◌+◌, vec_len, vec_capacity};
-    ghost use Rattle.std.specs.FinMap as finite;
-    ghost use Rattle.ft_core.specs.State.{first_base};
-    ghost use Rattle.ft_core.specs.Kept.{Journaled, coded_journaled, IsJournal};
+    ghost use Rattle.std.specs.Prelude.{◌-◌, ◌+◌, ◌≤◌, vec_len, vec_capacity};
+    ghost use Rattle.ft_tree.specs.Tidy.{tidy};
+    ghost use Rattle.ft_forest.specs.declared.TheConstants.{LAST_NUMBER as last_number};
+    ghost use Rattle.ft_core.specs.Journals.{Journaled, coded_journaled};
 
     ghost Value = { Journaled };
 
     ghost coded = { coded_journaled };
 
-    ghost view = { λ a. record { state = record { base = first_base; events = a.events.items; asks = finite.empty; last_txn = a.last_txn; last_stamp = a.last_stamp }; room = vec_capacity a.events - (vec_len a.events + a.live) } };
+    ghost view = { λ a. record { events = a.events.items; asks = a.asks; subs = a.subs; base_tree = tidy a.base.value; base_stamp = a.base_stamp; last_stamp = a.last_stamp; spare = a.spare; room = vec_capacity a.events - (vec_len a.events + a.spare) } };
 
-    ghost invariant = { λ a. IsJournal (record { base = first_base; events = a.events.items; asks = finite.empty; last_txn = a.last_txn; last_stamp = a.last_stamp }) a.lives a.live (vec_len a.events) (vec_capacity a.events) };
+    ghost invariant = { λ a. (vec_len a.events + a.spare ≤ vec_capacity a.events) × (a.base_stamp ≤ a.last_stamp) × (a.last_stamp ≤ last_number) };
 }
 
 impl Journal {
-    pub(crate) fn new(alloc: Global) -> Journal
-        ensures { result.state ≡ at_base first_base }
+    /// Nothing has happened since this tree; `stamp` is the last one given before. Takes no memory.
+    pub(crate) fn new(alloc: Global, base: Snapshot<Tree>, stamp: u64) -> Journal
+        requires { stamp ≤ last_number }
+        ensures { result ≡ record (no_events (tidy base.value) stamp) { room = result.room } }
     {
         Journal {
-            alloc,
             events: Vec::new(alloc),
-            lives: Table::new(alloc),
-            live: 0,
-            last_txn: 0,
-            last_stamp: 1,
+            spare: 0,
+            asks: Table::new(alloc),
+            subs: Table::new(alloc),
+            base,
+            base_stamp: stamp,
+            last_stamp: stamp,
         }
     }
 
-    /// What has become of a transaction, if there is one of this number.
-    pub(crate) fn life(&self, txn: TxnId) -> Option<Life>
-        ensures { result ≡ life_of self.now.state.events txn }
-    {
-        self.lives.get(txn.0).copied()
-    }
-
     pub(crate) fn events(&self) -> &[Event]
-        ensures { result.now ≡ self.now.state.events }
+        ensures { result.now ≡ self.now.events }
     {
         self.events.as_slice()
     }
 
-    pub(crate) fn has_most_transactions(&self) -> bool
-        ensures { result ≡ has_most_transactions self.now.state }
+    /// The calls that transactions wait for.
+    pub(crate) fn asks(&self) -> &Table<Call>
+        ensures { result.now ≡ self.now.asks }
     {
-        self.last_txn >= MOST_TRANSACTIONS || self.last_txn >= LAST_NUMBER
+        &self.asks
     }
 
-    pub(crate) fn has_most_calls(&self) -> bool
-        ensures { result ≡ has_most_calls self.now.state }
+    /// The call that a transaction waits for.
+    pub(crate) fn pending(&self, txn: TxnId) -> Option<&Call>
+        ensures { option_copied result ≡ finite.get self.now.asks txn }
     {
-        self.last_stamp > MOST_CALLS || self.last_stamp >= LAST_NUMBER
+        self.asks.get(txn.0)
+    }
+
+    /// The last stamp when a child of a live transaction last committed.
+    pub(crate) fn last_sub(&self, txn: TxnId) -> Option<u64>
+        ensures { result ≡ sub_in self.now txn }
+    {
+        self.subs.get(txn.0).copied().flatten()
+    }
+
+    /// The last stamp given; where no call was granted yet, the base's last one.
+    pub(crate) fn last_stamp(&self) -> u64
+        ensures { result ≡ self.now.last_stamp }
+    {
+        self.last_stamp
+    }
+
+    pub(crate) fn is_full(&self) -> bool
+        ensures { result ≡ is_full self.now }
+    {
+        self.last_stamp - self.base_stamp >= MOST_CALLS || self.last_stamp >= LAST_NUMBER
     }
 
     pub(crate) fn next_stamp(&self) -> u64
-        requires { has_most_calls self.now.state ≡ false }
-        ensures { result ≡ next_stamp self.now.state }
+        ensures { result ≡ self.now.last_stamp + 1 }
     {
         self.last_stamp + 1
     }
 
-    /// Begins a transaction, and makes the places of its begin and its end.
-    pub(crate) fn begin(&mut self) -> Result<TxnId, Memory>
-        requires { has_most_transactions self.old.state ≡ false }
-        ensures txn { IfOk result (λ txn. txn ≡ next_txn self.old.state) }
-        ensures ok { OnOk result (self.new.state ≡ after_begin self.old.state) }
-        ensures err { OnErr result (self.new.state ≡ self.old.state) }
-    {
-        let txn = TxnId(self.last_txn + 1);
-        self.events.reserve(self.live + 2)?;
-        self.lives.insert(txn.0, Life::Live)?;
-        push_reserved(&mut self.events, Event::Begin { txn, parent: None });
-        self.live += 1;
-        self.last_txn += 1;
-        Ok(txn)
-    }
-
-    /// Makes the place of one more granted call.
+    /// Makes the places of one more event, and of the one that ends or undoes it.
     pub(crate) fn reserve(&mut self) -> Result<(), Memory>
-        ensures same { self.new.state ≡ self.old.state }
-        ensures room { OnOk result (0 < self.new.room) }
+        ensures same { self.new ≡ record self.old { room = self.new.room } }
+        ensures room { OnOk result (2 ≤ self.new.room) }
     {
-        self.events.reserve(self.live + 1)?;
+        self.events.reserve(self.spare + 2)?;
         Ok(())
     }
 
-    pub(crate) fn grant(&mut self, txn: TxnId, call: Call, reply: Reply)
-        requires room { 0 < self.old.room }
-        requires few { has_most_calls self.old.state ≡ false }
-        requires live { life_of self.old.state.events txn ≡ Some Live }
-        ensures { self.new.state ≡ after_grant self.old.state txn call reply }
+    /// Makes the place of what is noted of a transaction that is to begin.
+    pub(crate) fn open(&mut self, txn: u64) -> Result<(), Memory>
+        ensures ok { OnOk result (self.new ≡ record self.old { subs = finite.insert self.old.subs txn None }) }
+        ensures err { OnErr result (self.new ≡ self.old) }
+    {
+        self.subs.insert(txn, None)?;
+        Ok(())
+    }
+
+    /// Tells that a transaction has begun.
+    pub(crate) fn begin(&mut self, txn: TxnId, parent: Option<TxnId>)
+        requires { 2 ≤ self.old.room }
+        ensures { self.new ≡ with_begin self.old txn parent }
+    {
+        self.events.push_reserved(Event::Begin { txn, parent });
+        self.spare += 1;
+    }
+
+    /// Tells that a call was granted. The transaction waits for nothing then.
+    pub(crate) fn grant(&mut self, txn: TxnId, call: Call, reply: Reply, accesses: Vec<Access>)
+        requires room { 2 ≤ self.old.room }
+        requires few { is_full self.old ≡ false }
+        ensures { self.new ≡ with_call self.old txn call reply accesses.items }
+    {
+        let _ = self.asks.remove(txn.0);
+        self.tell_call(txn, call, reply, accesses);
+    }
+
+    /// Tells that the call was granted that a transaction waits for.
+    pub(crate) fn grant_pending(&mut self, txn: TxnId, reply: Reply, accesses: Vec<Access>)
+        requires room { 2 ≤ self.old.room }
+        requires few { is_full self.old ≡ false }
+        requires pending { IsSome (finite.get self.old.asks txn) }
+        ensures { (call : CallOf) → finite.get self.old.asks txn ≡ Some call → self.new ≡ with_call self.old txn call reply accesses.items }
+    {
+        let Some(call) = self.asks.remove(txn.0) else {
+            unreachable!();
+        };
+        self.tell_call(txn, call, reply, accesses);
+    }
+
+    /// Tells that a call was granted.
+    fn tell_call(&mut self, txn: TxnId, call: Call, reply: Reply, accesses: Vec<Access>)
+        requires room { 2 ≤ self.old.room }
+        requires few { is_full self.old ≡ false }
+        ensures { self.new ≡ record (with_call self.old txn call reply accesses.items) { asks = self.old.asks } }
     {
         let stamp = self.last_stamp + 1;
         let event = Event::Call {
@@ -129,37 +170,58 @@ impl Journal {
             txn,
             call,
             reply,
-            accesses: Sequence::new(self.alloc),
+            accesses: Sequence::from(accesses),
         };
-        push_reserved(&mut self.events, event);
+        self.events.push_reserved(event);
         self.last_stamp = stamp;
+        self.spare += 1;
     }
 
-    pub(crate) fn commit(&mut self, txn: TxnId)
-        requires { life_of self.old.state.events txn ≡ Some Live }
-        ensures { self.new.state ≡ after_commit self.old.state txn }
+    /// Notes that a transaction waits for a call.
+    pub(crate) fn wait(&mut self, txn: TxnId, call: Call) -> Result<(), Memory>
+        ensures ok { OnOk result (self.new ≡ record self.old { asks = finite.insert self.old.asks txn call }) }
+        ensures err { OnErr result (self.new ≡ self.old) }
     {
-        let _ = self.lives.insert(txn.0, Life::Committed);
-        push_reserved(&mut self.events, Event::Commit { txn });
-        self.live -= 1;
+        self.asks.insert(txn.0, call)?;
+        Ok(())
     }
 
-    pub(crate) fn abort(&mut self, txn: TxnId)
-        requires { life_of self.old.state.events txn ≡ Some Live }
-        ensures { self.new.state ≡ after_abort self.old.state txn }
+    /// Forgets the call that a transaction waits for.
+    pub(crate) fn drop_ask(&mut self, txn: TxnId)
+        ensures { self.new ≡ record self.old { asks = finite.remove self.old.asks txn } }
     {
-        let _ = self.lives.insert(txn.0, Life::Aborted);
-        push_reserved(&mut self.events, Event::Abort { txn });
-        self.live -= 1;
+        let _ = self.asks.remove(txn.0);
     }
-}
 
-/// Puts an event into a place that is made.
-fn push_reserved(events: &mut Vec<Event>, event: Event)
-    requires { vec_len events.old < vec_capacity events.old }
-    ensures items { events.new.items ≡ events.old.items ++ event ∷ [] }
-    ensures len { vec_len events.new ≡ vec_len events.old + 1 }
-    ensures capacity { vec_capacity events.old ≤ vec_capacity events.new }
-{
-    let _ = events.push(event);
+    /// Tells of the end of a transaction or of an undo, in a place that was kept.
+    pub(crate) fn tell(&mut self, event: Event)
+        requires { 0 < self.old.spare }
+        ensures { self.new ≡ with_event self.old event }
+    {
+        self.events.push_reserved(event);
+        self.spare -= 1;
+    }
+
+    /// Forgets what is noted of a transaction.
+    pub(crate) fn forget(&mut self, txn: TxnId)
+        ensures { self.new ≡ without self.old txn }
+    {
+        let _ = self.asks.remove(txn.0);
+        let _ = self.subs.remove(txn.0);
+    }
+
+    /// Notes that a child of a live transaction commits.
+    pub(crate) fn note_sub(&mut self, txn: TxnId)
+        requires { IsSome (finite.get self.old.subs txn) }
+        ensures { self.new ≡ with_sub self.old txn }
+    {
+        let _ = self.subs.insert(txn.0, Some(self.last_stamp));
+    }
+
+    /// Gives the places back that were kept: nothing can end or be undone any more.
+    pub(crate) fn keep_none(&mut self)
+        ensures { self.new ≡ with_none_kept self.old }
+    {
+        self.spare = 0;
+    }
 }

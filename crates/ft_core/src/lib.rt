@@ -1,24 +1,25 @@
-//! The manager of transactions over a tree: it grants calls, keeps their history, and takes an aborted transaction's calls away.
+//! The manager of nested transactions over a tree: it grants calls, keeps their history, undoes calls, and takes an
+//! aborted subtree's calls away.
 #![tactic(auto)]
 
+mod asking;
+mod back;
+mod ending;
 mod fault;
 mod journal;
+mod laws;
 mod manager;
+mod reports;
 mod request;
+mod running;
 #[cfg(test)]
 mod tests;
-mod txn;
 
 pub use fault::Fault;
+pub use ft_forest::{LAST_NUMBER, MOST_DEPTH, MOST_TRANSACTIONS, TxnId};
 pub use manager::Core;
+pub use reports::Pending;
 pub use request::{Answer, Event, Outcome, Request};
-pub use txn::TxnId;
-
-/// The most transactions since the base.
-pub const MOST_TRANSACTIONS: u64 = 100_000;
 
 /// The most granted calls since the base.
 pub const MOST_CALLS: u64 = 1_000_000;
-
-/// The last stamp, and the last number of a transaction, that there may be.
-pub const LAST_NUMBER: u64 = 9_223_372_036_854_775_807;

@@ -1,185 +1,119 @@
-// The core: transactions over one tree.
-ghost use Rattle.std.specs.Prelude.{◌≡◌, ◌≢◌, ◌<◌, ◌+◌, ◌∷◌, ℕ, [], false, Some, None, Option, MatchResult, IfOk, IfErr, OnOk, OnErr, option_to_list, cond, is_some, ◌^◌};
-ghost use Rattle.std.specs.Option.{ForSome};
+// The core: nested transactions over one tree.
+ghost use Rattle.std.specs.Prelude.{◌≡◌, ◌<◌, ◌+◌, Some, None, Option, MatchResult, IfOk, IfErr, OnOk, OnErr};
 ghost use Rattle.ft_tree.specs.Tidy.{tidy};
-ghost use Rattle.ft_tree.specs.Sound.{AreSoundCells, IsFree, IsSoundTree};
-ghost use Rattle.ft_calls.specs.Exec.{exec};
+ghost use Rattle.ft_tree.specs.Sound.{IsSoundTree, AreSoundCells};
 ghost use Rattle.ft_core.specs.declared.fault.Fault.{Fault as FaultOf};
 ghost use Rattle.ft_core.specs.declared.fault.Fault.TheVariants.{Memory as MemoryFault};
-ghost use Rattle.ft_core.specs.declared.journal.Life.TheVariants.{Live};
-ghost use Rattle.ft_core.specs.declared.request.Request.TheVariants.{Begin, Ask, Commit, Abort};
-ghost use Rattle.ft_core.specs.declared.request.Outcome.TheVariants.{Granted as GrantedOutcome};
-ghost use Rattle.ft_core.specs.History.{life_of, sole_holders, standing, GiveReplies};
-ghost use Rattle.ft_core.specs.Kept.{saved_more, saved_own, saved_without};
-ghost use Rattle.ft_core.specs.State.{at_base, first_base, tree_of, reply_of, next_stamp, has_most_calls, after_grant};
-ghost use Rattle.ft_core.specs.Step.{IsStep, IsRun, interim_rule, refusal_at, begin_answer, ask_answer, commit_answer, abort_answer};
+ghost use Rattle.ft_history.specs.History.Fate.{Live};
+ghost use Rattle.ft_core.specs.declared.request.Request.TheVariants.{Begin, Sub, Drop as DropAsk};
+ghost use Rattle.ft_core.specs.declared.request.Answer.TheVariants.{Txn, Dropped};
+ghost use Rattle.ft_core.specs.States.{at_base, first_base, fate_of, next_txn, after_begin};
+ghost use Rattle.ft_core.specs.Promises.{IsHeadline};
+ghost use Rattle.ft_core.specs.Steps.{IsStep, exact_rule, fault_of_fate, answer_with, refusal_of, begin_request};
+ghost use Rattle.ft_core.specs.Opens.{AreAsBefore, IsOpenFor};
 
 use crate::fault::Fault;
-use crate::journal::{Journal, Life};
-use crate::request::{Answer, Event, Outcome, Request};
-use crate::txn::TxnId;
+use crate::journal::Journal;
+use crate::laws::{call_laws, lock_laws};
+use crate::request::Event;
 use ft_base::Memory;
-use ft_calls::laws::{freshness, plain_soundness, soundness, tidying};
-use ft_calls::{Call, Prepared, Reply, prepare};
+use ft_calls::laws::plain_soundness;
+use ft_forest::{Forest, State, TxnId};
+use ft_locks::Locks;
 use ft_tree::Tree;
-use ft_undo::apply;
+use ft_undo::Logs;
 use std::alloc::Global;
 use std::marker::Model;
-
-/// The tree from before the first granted call of a live transaction, with how many it has had since.
-#[derive(Drop)]
-pub struct Saved {
-    txn: TxnId,
-    tree: Tree,
-    calls: u64,
-}
+use std::snapshot::Snapshot;
 
 /// A tree with its transactions.
 ///
-/// Clauses see its state: the base, what has happened since, and the last numbers. Its tree is that of its state: what
-/// a plain tree holds after the standing calls alone, in the order of their stamps.
+/// Clauses see its state: the base, what has happened since, the pending asks and the last numbers. Its tree is that of
+/// its state: what a plain tree holds after the standing calls alone, in the order of their stamps.
 #[derive(Drop)]
 pub struct Core {
-    alloc: Global,
-    journal: Journal,
-    tree: Tree,
-    saved: Option<Saved>,
+    pub(crate) alloc: Global,
+    pub(crate) journal: Journal,
+    pub(crate) tree: Tree,
+    pub(crate) forest: Forest,
+    pub(crate) locks: Locks,
+    pub(crate) logs: Logs,
 }
 
 impl Model for Core {
-    ghost use Rattle.ft_core.specs.State.{State, coded_state};
-    ghost use Rattle.ft_core.specs.Kept.{IsCore};
+    ghost use Rattle.ft_core.specs.States.{State, coded_state};
+    ghost use Rattle.ft_core.specs.Journals.{state_of};
+    ghost use Rattle.ft_core.specs.Kept.{IsCoreOf};
 
     ghost Value = { State };
 
     ghost coded = { coded_state };
 
-    ghost view = { λ a. a.journal.state };
+    ghost view = { λ a. state_of a.forest a.journal };
 
-    ghost invariant = { λ a. IsCore a.journal.state a.tree a.saved };
+    ghost invariant = { λ a. IsCoreOf (state_of a.forest a.journal) a.tree a.forest a.locks a.logs a.journal };
 }
 
 impl Core {
     /// A core over the empty tree: the root alone.
     pub fn new(alloc: Global) -> Result<Core, Fault>
-        ensures { MatchResult result (λ core. core ≡ at_base first_base) (λ fault. fault ≡ Fault.Memory) }
+        ensures { MatchResult result (λ core. core ≡ at_base first_base) (λ fault. fault ≡ MemoryFault) }
     {
+        call_laws();
+        lock_laws();
         let tree = Tree::new(alloc)?;
+        let locks = Locks::new(alloc)?;
         Ok(Core {
             alloc,
-            journal: Journal::new(alloc),
+            journal: Journal::new(alloc, Snapshot::of(&tree), 1),
             tree,
-            saved: None,
+            forest: Forest::new(alloc, 0),
+            locks,
+            logs: Logs::new(alloc),
         })
     }
 
-    /// Begins a transaction.
+    /// Begins a top-level transaction.
     ///
     /// Refuses Full where there are as many transactions as there may be.
     pub fn begin(&mut self) -> Result<TxnId, Fault>
-        ensures { IsStep interim_rule self.old Begin (begin_answer result) self.new }
+        ensures { IsStep exact_rule self.old Begin (answer_with Txn result) self.new }
     {
-        if self.journal.has_most_transactions() {
-            return Err(Fault::Full);
-        }
-        let txn = self.journal.begin()?;
-        Ok(txn)
+        self.forest.check_begin()?;
+        self.start(None)
     }
 
-    /// Makes a call in a transaction, or answers which transaction it waits for.
+    /// Begins a subtransaction.
     ///
-    /// Refuses NoTxn, Ended, and Full where as many calls are granted as may be, in this order.
-    pub fn ask(&mut self, txn: TxnId, call: Call) -> Result<Outcome, Fault>
-        ensures { IsStep interim_rule self.old (Ask txn call) (ask_answer result) self.new }
+    /// Refuses NoTxn, Ended, Deep where the parent stands as deep as one may, and Full, in this order.
+    pub fn sub(&mut self, txn: TxnId) -> Result<TxnId, Fault>
+        ensures { IsStep exact_rule self.old (Sub txn) (answer_with Txn result) self.new }
     {
-        self.check_live(txn)?;
-        if self.journal.has_most_calls() {
-            return Err(Fault::Full);
-        }
-        match self.blocker(txn) {
-            Some(blocker) => self.wait_for(blocker),
-            None => self.grant(txn, call),
-        }
+        self.forest.check_sub(txn)?;
+        self.start(Some(txn))
     }
 
-    /// Commits a transaction.
+    /// Forgets the call that a transaction waits for. Takes no memory.
     ///
-    /// Refuses NoTxn and Ended, in this order. Takes no memory.
-    pub fn commit(&mut self, txn: TxnId) -> Result<(), Fault>
-        ensures { IsStep interim_rule self.old (Commit txn) (commit_answer result) self.new }
+    /// Refuses NoTxn, Ended and NoAsk, in this order.
+    pub fn drop_ask(&mut self, txn: TxnId) -> Result<(), Fault>
+        ensures { IsStep exact_rule self.old (DropAsk txn) (answer_with (λ done. Dropped) result) self.new }
     {
         self.check_live(txn)?;
-        self.journal.commit(txn);
-        let _ = take_own(&mut self.saved, txn);
+        if self.journal.pending(txn).is_none() {
+            return Err(Fault::NoAsk);
+        }
+        self.journal.drop_ask(txn);
         Ok(())
-    }
-
-    /// Aborts a transaction, and answers how many standing calls it takes away.
-    ///
-    /// Refuses NoTxn and Ended, in this order. Takes no memory.
-    pub fn abort(&mut self, txn: TxnId) -> Result<u64, Fault>
-        ensures { IsStep interim_rule self.old (Abort txn) (abort_answer result) self.new }
-    {
-        self.check_live(txn)?;
-        self.journal.abort(txn);
-        match take_own(&mut self.saved, txn) {
-            Some(saved) => {
-                self.tree = saved.tree;
-                Ok(saved.calls)
-            }
-            None => Ok(0),
-        }
-    }
-
-    /// Carries requests out, in order, and answers each.
-    ///
-    /// Want of memory for the answers is refused before the first request, with nothing changed.
-    pub fn run(&mut self, requests: Vec<Request>) -> Result<Vec<Answer>, Memory>
-        ensures ok { IfOk result (λ answers. IsRun interim_rule self.old requests.items answers.items self.new) }
-        ensures err { OnErr result (self.new ≡ self.old) }
-        ensures headline { OnOk result (GiveReplies self.new.base.tree (standing self.new.events)) }
-    {
-        let mut answers = Vec::with_capacity(self.alloc, requests.len())?;
-        for request in requests {
-            let answer = self.answer(request);
-            let _ = answers.push(answer);
-        }
-        let _tree = self.tree();
-        Ok(answers)
-    }
-
-    /// Carries a request out.
-    fn answer(&mut self, request: Request) -> Answer
-        ensures { IsStep interim_rule self.old request result self.new }
-    {
-        match request {
-            Request::Begin => match self.begin() {
-                Ok(txn) => Answer::Txn(txn),
-                Err(fault) => Answer::Refused(fault),
-            },
-            Request::Ask(txn, call) => match self.ask(txn, call) {
-                Ok(Outcome::Granted { stamp, reply }) => Answer::Granted { stamp, reply },
-                Ok(Outcome::Waits { blockers }) => Answer::Waits { blockers },
-                Err(fault) => Answer::Refused(fault),
-            },
-            Request::Commit(txn) => match self.commit(txn) {
-                Ok(()) => Answer::Committed,
-                Err(fault) => Answer::Refused(fault),
-            },
-            Request::Abort(txn) => match self.abort(txn) {
-                Ok(count) => Answer::Aborted(count),
-                Err(fault) => Answer::Refused(fault),
-            },
-        }
     }
 
     /// The tree. Tidied it is what a plain tree holds after the standing calls alone, each with the reply that it got.
     pub fn tree(&self) -> &Tree
-        ensures headline { tidy result.now ≡ tree_of self.now }
-        ensures replies { GiveReplies self.now.base.tree (standing self.now.events) }
+        ensures headline { IsHeadline self.now result.now }
         ensures sound { AreSoundCells result.now }
         ensures plain_sound { IsSoundTree (tidy result.now) }
     {
+        call_laws();
         plain_soundness();
         &self.tree
     }
@@ -192,128 +126,48 @@ impl Core {
     }
 
     /// Refuses a transaction that is not live.
-    fn check_live(&self, txn: TxnId) -> Result<(), Fault>
-        ensures live { OnOk result (life_of self.now.events txn ≡ Some Live) }
-        ensures refused { IfErr result (λ fault. (later : Option FaultOf) → refusal_at (life_of self.now.events txn) later ≡ Some fault) }
+    pub(crate) fn check_live(&self, txn: TxnId) -> Result<(), Fault>
+        ensures live { OnOk result (fate_of self.now txn ≡ Some Live) }
+        ensures refused { IfErr result (λ fault. (later : Option FaultOf) → fault_of_fate (fate_of self.now txn) later ≡ Some fault) }
     {
-        match self.journal.life(txn) {
+        match self.forest.state(txn) {
             None => Err(Fault::NoTxn),
-            Some(Life::Live) => Ok(()),
-            Some(_) => Err(Fault::Ended),
+            Some(State::Live) => Ok(()),
+            Some(State::Committed | State::Aborted) => Err(Fault::Ended),
         }
     }
 
-    /// The other live transaction that has a granted call.
-    fn blocker(&self, txn: TxnId) -> Option<TxnId>
-        ensures { sole_holders self.now.events txn ≡ option_to_list result }
-    {
-        match &self.saved {
-            None => None,
-            Some(saved) => {
-                if saved.txn == txn {
-                    None
-                } else {
-                    Some(saved.txn)
-                }
-            }
-        }
-    }
-
-    fn wait_for(&self, blocker: TxnId) -> Result<Outcome, Fault>
-        ensures waits { IfOk result (λ outcome. outcome ≡ Outcome.Waits (blocker ∷ [])) }
-        ensures memory { IfErr result (λ fault. fault ≡ Fault.Memory) }
-    {
-        let mut blockers = Vec::new(self.alloc);
-        blockers.push(blocker).map_err(Memory::from)?;
-        Ok(Outcome::Waits {
-            blockers: blockers.into(),
-        })
-    }
-
-    /// Grants a call that nobody blocks, and makes it.
-    fn grant(&mut self, txn: TxnId, call: Call) -> Result<Outcome, Fault>
-        requires few { has_most_calls self.old ≡ false }
-        requires live { life_of self.old.events txn ≡ Some Live }
-        requires free { sole_holders self.old.events txn ≡ [] }
-        ensures granted { IfOk result (λ outcome. outcome ≡ GrantedOutcome (next_stamp self.old) (reply_of self.old call)) }
-        ensures after { OnOk result (self.new ≡ after_grant self.old txn call (reply_of self.old call)) }
-        ensures memory { IfErr result (λ fault. fault ≡ Fault.Memory) }
+    /// Begins a transaction where there may be one more.
+    fn start(&mut self, parent: Option<TxnId>) -> Result<TxnId, Fault>
+        requires { refusal_of self.old (begin_request parent) ≡ None }
+        ensures txn { IfOk result (λ txn. txn ≡ next_txn self.old) }
+        ensures begun { OnOk result (self.new ≡ after_begin self.old parent) }
+        ensures memory { IfErr result (λ fault. fault ≡ MemoryFault) }
         ensures same { OnErr result (self.new ≡ self.old) }
     {
-        let first = copy_first(&self.saved, &self.tree)?;
-        self.journal.reserve()?;
-        let stamp = self.journal.next_stamp();
-        let (reply, kept) = perform_twice(self.alloc, &mut self.tree, stamp, &call)?;
-        self.journal.grant(txn, call, kept);
-        one_more(&mut self.saved, first, txn);
-        Ok(Outcome::Granted { stamp, reply })
+        lock_laws();
+        call_laws();
+        let next = self.forest.last() + 1;
+        open(&mut self.journal, &mut self.locks, &mut self.logs, next)?;
+        let txn = match parent {
+            Some(up) => self.forest.sub(up)?,
+            None => self.forest.begin()?,
+        };
+        self.journal.begin(txn, parent);
+        Ok(txn)
     }
 }
 
-/// Makes a call, and answers its reply twice: one to be told and one to be kept. Both are there before
-/// anything is changed.
-fn perform_twice(
-    alloc: Global,
-    tree: &mut Tree,
-    stamp: u64,
-    call: &Call,
-) -> Result<(Reply, Reply), Memory>
-    requires sound { AreSoundCells tree.old }
-    requires free { IsFree tree.old stamp }
-    ensures twice { IfOk result (λ replies. replies.0 ≡ replies.1) }
-    ensures plain { IfOk result (λ replies. exec (tidy tree.old) stamp call.now ≡ (tidy tree.new, replies.1)) }
-    ensures refused { OnErr result (tree.new ≡ tree.old) }
-    ensures stays_sound { AreSoundCells tree.new }
-    ensures stays_free { OnOk result ((k : ℕ) → IsFree tree.old k → k ≢ stamp → IsFree tree.new k) }
+/// Makes the places of a transaction that is to begin: in the locks, in the logs, and of its begin and its end. Those that
+/// are made stay where memory is wanting; nothing is seen of them.
+fn open(journal: &mut Journal, locks: &mut Locks, logs: &mut Logs, next: u64) -> Result<(), Memory>
+    requires { 0 < next }
+    ensures same { AreAsBefore journal.old journal.new locks.old locks.new logs.old logs.new next }
+    ensures ready { OnOk result (IsOpenFor journal.new locks.new logs.new next) }
 {
-    soundness();
-    freshness();
-    tidying();
-    let Prepared {
-        accesses: _,
-        intent,
-    } = prepare(alloc, tree, stamp, call)?;
-    let reply = intent.reply(alloc, tree)?;
-    let kept = reply.copy(alloc)?;
-    apply(alloc, tree, intent)?;
-    Ok((reply, kept))
-}
-
-/// A copy of the tree, where none is saved yet.
-fn copy_first(saved: &Option<Saved>, tree: &Tree) -> Result<Option<Tree>, Memory>
-    ensures { IfOk result (λ first. first ≡ cond (is_some saved.now) None (Some tree.now)) }
-{
-    if saved.is_some() {
-        return Ok(None);
-    }
-    Ok(Some(tree.copy()?))
-}
-
-/// Takes out what is saved for a transaction.
-fn take_own(saved: &mut Option<Saved>, txn: TxnId) -> Option<Saved>
-    ensures own { result ≡ saved_own saved.old txn }
-    ensures left { saved.new ≡ saved_without saved.old txn }
-{
-    match saved {
-        Some(before) if before.txn == txn => saved.take(),
-        _ => None,
-    }
-}
-
-/// Notes one more call: the tree from before the first one stays.
-fn one_more(saved: &mut Option<Saved>, first: Option<Tree>, txn: TxnId)
-    requires { ForSome saved.old (λ before. before.calls < 2 ^ 63) }
-    ensures { saved.new ≡ saved_more saved.old first txn }
-{
-    if let Some(before) = saved {
-        before.calls += 1;
-        return;
-    }
-    if let Some(tree) = first {
-        *saved = Some(Saved {
-            txn,
-            tree,
-            calls: 1,
-        });
-    }
+    journal.reserve()?;
+    journal.open(next)?;
+    locks.open(TxnId(next))?;
+    logs.open(next)?;
+    Ok(())
 }

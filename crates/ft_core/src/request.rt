@@ -1,19 +1,27 @@
 use crate::fault::Fault;
-use crate::txn::TxnId;
 use ft_base::Sequence;
 use ft_calls::{Access, Call, Reply};
+use ft_forest::TxnId;
 
 /// What a core is asked to do.
 #[derive(Debug, PartialEq, Eq, Drop)]
 pub enum Request {
-    /// Begins a transaction.
+    /// Begins a top-level transaction.
     Begin,
+    /// Begins a subtransaction.
+    Sub(TxnId),
     /// Makes a call in a transaction.
     Ask(TxnId, Call),
+    /// Makes the call that the transaction waits for.
+    Retry(TxnId),
+    /// Forgets the call that the transaction waits for.
+    Drop(TxnId),
     /// Commits a transaction.
     Commit(TxnId),
-    /// Aborts a transaction.
+    /// Aborts a transaction with all that is live below it.
     Abort(TxnId),
+    /// Undoes the last of a transaction's own standing calls.
+    Undo(TxnId),
 }
 
 /// What a core answers.
@@ -23,12 +31,16 @@ pub enum Answer {
     Txn(TxnId),
     /// The call was granted, with its stamp, and made.
     Granted { stamp: u64, reply: Reply },
-    /// The call waits for these transactions.
+    /// The call waits for these transactions, in rising order.
     Waits { blockers: Sequence<TxnId> },
+    /// The pending ask is forgotten.
+    Dropped,
     /// The transaction has committed.
     Committed,
     /// The transaction is aborted, and so many standing calls were taken away.
     Aborted(u64),
+    /// The call with this stamp is undone.
+    Undone(u64),
     /// The request is refused.
     Refused(Fault),
 }
@@ -58,11 +70,15 @@ pub enum Event {
         reply: Reply,
         accesses: Sequence<Access>,
     },
+    /// The call with this stamp was undone.
+    Undo {
+        stamp: u64,
+    },
     /// A transaction committed.
     Commit {
         txn: TxnId,
     },
-    /// A transaction was aborted.
+    /// A transaction was aborted, with all that was live below it.
     Abort {
         txn: TxnId,
     },

@@ -1,33 +1,20 @@
 -- On the way through an abort.
-use Rattle.std.proofs.Common.{◌≡◌, ◌≢◌, ◌<◌, ◌≤◌, ◌+◌, ◌-◌, ◌&&◌, ◌||◌, ℕ, zero, suc, true, cond, Option, Some, None, ◌⊎◌, inl, inr, refl, sym, ap, subst, ◌∙◌, arith, eq-eqb}
+use Rattle.std.proofs.Common.{◌≡◌, ◌≢◌, ◌<◌, ◌≤◌, ◌+◌, ◌-◌, ◌&&◌, ◌||◌, ℕ, zero, suc, true, cond, Option, Some, None, inl, inr, refl, sym, ap, subst, ◌∙◌, arith, eq-eqb}
 use Rattle.std.specs.Prelude.{slice_get, nat_lt}
-use Rattle.std.specs.Option.{unwrap_or}
 use Rattle.std.proofs.lemmas.Bool.{and_parts, ltb-true}
 use Rattle.std.proofs.lemmas.Option.{slice_get_within}
 use Rattle.ft_laws.proofs.Tests.{by_test, by_option}
 use Rattle.ft_history.specs.Forest.{above, meets, is_some_and, IsForest}
-use Rattle.ft_history.proofs.Forest.{forest_laws}
+use Rattle.ft_history.proofs.Forest.{ForestLaws, forest_laws, climb}
 use Rattle.ft_history.proofs.Words.{put_same, put_other, by_number}
 use Rattle.ft_forest.specs.declared.state.State.{State}
 use Rattle.ft_forest.specs.declared.state.State.TheVariants.{Live, Aborted}
-use Rattle.ft_forest.specs.Transactions.{Transactions, state_of, parent_in, state_in, last_in, over_in, is_live, HasEnded, HasAborted}
-use Rattle.ft_forest.specs.Records.{count_below}
+use Rattle.ft_forest.specs.Transactions.{Transactions, state_of, parent_in, state_in, last_in, over_in, is_live, HasEnded, HasAborted, count_below, live_count, IsAborting, IsLastOf, IsLiveChild}
 use Rattle.ft_forest.proofs.Counting.{count-less}
 use Rattle.ft_forest.proofs.Seeing.{live-of}
 
--- nothing has changed but that some of the live transactions at or below t are aborted
-pub record IsAborting (old now : Transactions) (t : ℕ) : Type 0 where
-  pub base : now.base ≡ old.base
-  pub last : last_in now ≡ last_in old
-  pub parents : (x : ℕ) → parent_in now x ≡ parent_in old x
-  pub states : (x : ℕ) → (state_in now x ≡ state_in old x) ⊎ ((over_in old t x ≡ true) × (state_in old x ≡ Some Live) × (state_in now x ≡ Some Aborted))
-
 pub not_started : (m : Transactions) (t : ℕ) → IsAborting m m t
 not_started m t = record { base = refl; last = refl; parents = λ x. refl; states = λ x. inl refl }
-
--- how many are live
-abbrev pub live_count : Transactions → ℕ
-live_count m = count_below (λ x. is_live (state_in m x)) (suc (last_in m))
 
 -- who has a state was begun
 pub begun-last : (m : Transactions) (x : ℕ) (state : State) → state_in m x ≡ Some state → x ≤ last_in m
@@ -88,21 +75,32 @@ module _ (now new : Transactions) (next : ℕ) (live : state_in now next ≡ Som
   same-over : (x y : ℕ) → over_in now x y ≡ over_in new x y
   same-over x y = ap (λ (f : ℕ → Option ℕ). above f x y) (λ i z. sym (ended.parents z) i)
 
-  pub still-over : (t : ℕ) → over_in new t t ≡ true
-  still-over t = over-self (parent_in new) t
+  -- it is the last one, and its parent is live
+  pub is-last : (forest : IsForest (parent_in now)) (up : (x p : ℕ) → parent_in now x ≡ Some p → state_in now x ≡ Some Live → state_in now p ≡ Some Live) (t : ℕ) → over_in now t next ≡ true → IsLastOf new t next
+  is-last forest up t below ne = (
+    sym (same-over t next) ∙ below,
+    λ p e.
+        let was : parent_in now next ≡ Some p = sym (ended.parents next) ∙ e in
+        let lower = forest next p was in
+        let other : p ≢ next = omega arith in
+        state-other p other ∙ up next p was live,
+  )
 
-  -- the parent of what was ended below t is live, and at or below t
-  pub goes-up : (forest : IsForest (parent_in now)) (up : (x p : ℕ) → parent_in now x ≡ Some p → state_in now x ≡ Some Live → state_in now p ≡ Some Live) (t from : ℕ) → over_in now t from ≡ true → over_in now from next ≡ true → next ≢ t
-      → (o : Option ℕ) → o ≡ parent_in now next → (over_in new t (unwrap_or o t) ≡ true) × (unwrap_or o t ≢ t → state_in new (unwrap_or o t) ≡ Some Live)
-  goes-up forest up t from over below ne None is = (still-over t, λ other. absurd (other refl))
-  goes-up forest up t from over below ne (Some p) is =
-      let laws = forest_laws (parent_in now) forest in
-      let through = laws.along t from next over below in
-      let lower = forest next p (sym is) in
-      let other : p ≢ next = omega arith in (
-        sym (same-over t p) ∙ elim (laws.to_parent next p t (sym is) through) [ inl same ↦ absurd (ne (sym same)) | inr more ↦ more ],
-        λ _. state-other p other ∙ up next p (sym is) live,
-      )
+-- the search goes on at the parent of the last one
+pub from-last : (m : Transactions) (forest : IsForest (parent_in m)) (t last p : ℕ) → IsLastOf m t last → last ≢ t → parent_in m last ≡ Some p → over_in m t p ≡ true
+from-last m forest t last p h ne is = elim ((forest_laws (parent_in m) forest).to_parent last p t is (h ne).0) [ inl same ↦ absurd (ne (sym same)) | inr more ↦ more ]
+
+-- where one has no live child, nothing below it is live
+pub no_deeper : (m : Transactions) (forest : IsForest (parent_in m)) (up : (x p : ℕ) → parent_in m x ≡ Some p → state_in m x ≡ Some Live → state_in m p ≡ Some Live) (next : ℕ) → ((y : ℕ) → IsLiveChild m next y → ⊥) → (x : ℕ) → over_in m next x ≡ true → state_in m x ≡ Some Live → x ≡ next
+no_deeper m forest up next none = climb (parent_in m) forest (λ x. over_in m next x ≡ true → state_in m x ≡ Some Live → x ≡ next)
+    (λ x top over live. sym (laws.at_top x next top over))
+    (λ x p some ih over live. elim (laws.to_parent x p next some over) [
+      | inl same ↦ sym same
+      | inr more ↦ absurd (none x (record { child = some ∙ ap Some (ih more (up x p some live)); live = live }))
+    ])
+  where
+    laws : ForestLaws (parent_in m) (over_in m)
+    laws = forest_laws (parent_in m) forest
 
 -- once nothing at or below t is live, all that was is aborted
 pub all-aborted : (old now : Transactions) (t : ℕ) → IsAborting old now t → ((x : ℕ) → over_in now t x ≡ true → state_in now x ≢ Some Live) → HasAborted old now t

@@ -7,8 +7,8 @@ use Rattle.ft_history.specs.Logs.{put}
 use Rattle.ft_history.proofs.Words.{put_same, put_other, by_number}
 use Rattle.ft_forest.specs.declared.TheConstants.{MOST_DEPTH}
 use Rattle.ft_forest.specs.declared.state.State.TheVariants.{Live}
-use Rattle.ft_forest.specs.Transactions.{is_live}
-use Rattle.ft_forest.specs.Records.{Links, AreLinked, IsSibling, IsYoungest, IsOlder, IsYounger, begun_links, count_below, is_child_at, DepthIs}
+use Rattle.ft_forest.specs.Transactions.{is_live, count_below}
+use Rattle.ft_forest.specs.Records.{Links, AreLinked, IsSibling, IsYoungest, IsOlder, IsYounger, begun_links, is_child_at, DepthIs}
 use Rattle.ft_forest.proofs.Counting.{by_parent, put_youngest_same, put_youngest_other, put_at_same, put_at_other, child-is, child-not, count-same, count-none}
 
 none_live : None ≡ Some Live → ⊥

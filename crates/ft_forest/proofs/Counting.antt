@@ -6,8 +6,8 @@ use Rattle.ft_history.specs.Forest.{is_some_and}
 use Rattle.ft_history.proofs.Words.{put_same, put_other, by_number, same_some, none_some}
 use Rattle.ft_forest.specs.declared.state.State.{State}
 use Rattle.ft_forest.specs.declared.state.State.TheVariants.{Live}
-use Rattle.ft_forest.specs.Transactions.{is_live_state, is_live}
-use Rattle.ft_forest.specs.Records.{Links, put_youngest, put_at, count_below, is_child_at}
+use Rattle.ft_forest.specs.Transactions.{is_live_state, is_live, count_below}
+use Rattle.ft_forest.specs.Records.{Links, put_youngest, put_at, is_child_at}
 
 -- the same parent or another
 pub by_parent : {P : Type 0} (q p : Option ℕ) → (q ≡ p → P) → ((q ≡ p → ⊥) → P) → P

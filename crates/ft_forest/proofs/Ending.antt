@@ -6,8 +6,8 @@ use Rattle.ft_history.specs.Forest.{is_some_and}
 use Rattle.ft_history.proofs.Words.{put_same, put_other, by_number, none_some}
 use Rattle.ft_forest.specs.declared.state.State.{State}
 use Rattle.ft_forest.specs.declared.state.State.TheVariants.{Live}
-use Rattle.ft_forest.specs.Transactions.{is_live_state, is_live}
-use Rattle.ft_forest.specs.Records.{Links, AreLinked, IsSibling, IsYoungest, IsOlder, IsYounger, ended_links, put_youngest, where_some, count_below, is_child_at}
+use Rattle.ft_forest.specs.Transactions.{is_live_state, is_live, count_below}
+use Rattle.ft_forest.specs.Records.{Links, AreLinked, IsSibling, IsYoungest, IsOlder, IsYounger, ended_links, put_youngest, where_some, is_child_at}
 use Rattle.ft_forest.proofs.Counting.{by_parent, put_youngest_same, put_youngest_other, put_at_same, put_at_other, live-is, child-is, child-not, dead-not, count-same, count-less}
 
 none_live : None ≡ Some Live → ⊥

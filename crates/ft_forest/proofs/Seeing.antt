@@ -14,8 +14,8 @@ use Rattle.ft_forest.specs.declared.state.State.{State}
 use Rattle.ft_forest.specs.declared.state.State.TheVariants.{Live, Committed, Aborted}
 use Rattle.ft_forest.specs.declared.records.Record.{Record}
 use Rattle.ft_forest.specs.declared.records.Records.{Records}
-use Rattle.ft_forest.specs.Transactions.{Transactions, transaction_in, parent_of, state_of, parent_in, state_in, last_in, over_in, is_live, depth_within, depth_in, is_live_child, live_children_in, IsLiveChild, IsLiveUnder, IsYoungestChild, IsOlderSibling}
-use Rattle.ft_forest.specs.Records.{Links, IsSibling, IsYoungest, IsOlder, links_of, number_at, transaction_from, transactions_of, AreRecords, count_below, is_child_at, DepthIs, parent_from, state_from}
+use Rattle.ft_forest.specs.Transactions.{Transactions, transaction_in, parent_of, state_of, parent_in, state_in, last_in, over_in, is_live, depth_within, depth_in, is_live_child, live_children_in, IsLiveChild, IsLiveUnder, IsYoungestChild, IsOlderSibling, count_below}
+use Rattle.ft_forest.specs.Records.{Links, IsSibling, IsYoungest, IsOlder, links_of, number_at, transaction_from, transactions_of, AreRecords, is_child_at, DepthIs, parent_from, state_from}
 use Rattle.ft_forest.proofs.Counting.{child-of, count-same, count-none, count-found, count-zero}
 
 -- a number of the base or before, or that of a place

@@ -1,5 +1,5 @@
 -- How the records of the transactions are linked.
-use Rattle.std.specs.Prelude.{◌≡◌, ◌<◌, ◌≤◌, ◌+◌, ◌-◌, ◌==◌, ◌&&◌, ◌⊎◌, ℕ, zero, suc, Bool, cond, Option, Some, None, List, map, length, slice_get, IsSome}
+use Rattle.std.specs.Prelude.{◌≡◌, ◌<◌, ◌≤◌, ◌+◌, ◌-◌, ◌==◌, ◌&&◌, ◌⊎◌, ℕ, Bool, Option, Some, None, List, map, length, slice_get, IsSome}
 use Rattle.std.specs.Option.{option_map}
 use Rattle.ft_history.specs.Forest.{is_some_and}
 use Rattle.ft_history.specs.Logs.{put}
@@ -8,7 +8,7 @@ use Rattle.ft_forest.specs.declared.state.State.{State}
 use Rattle.ft_forest.specs.declared.state.State.TheVariants.{Live}
 use Rattle.ft_forest.specs.declared.records.Record.{Record}
 use Rattle.ft_forest.specs.declared.records.Records.{Records}
-use Rattle.ft_forest.specs.Transactions.{Transaction, Transactions, is_live}
+use Rattle.ft_forest.specs.Transactions.{Transaction, Transactions, is_live, count_below}
 
 -- The transaction at each place: its parent's place, what has become of it, its depth, how many live children it has, the youngest of them, and its next older and its next younger live sibling. The youngest of no transaction is the youngest live top-level one.
 pub record Links : Type 0 where
@@ -129,11 +129,6 @@ IsOlder s p i (Some y) = IsSibling s p y × (y < i) × ((x : ℕ) → IsSibling 
 abbrev pub IsYounger : Links → Option ℕ → ℕ → Option ℕ → Type 0
 IsYounger s p i None = (x : ℕ) → IsSibling s p x → x ≤ i
 IsYounger s p i (Some y) = IsSibling s p y × (i < y) × ((x : ℕ) → IsSibling s p x → (x ≤ i) ⊎ (y ≤ x))
-
--- how many numbers below n pass the test
-abbrev pub count_below : (ℕ → Bool) → ℕ → ℕ
-count_below test zero = 0
-count_below test (suc n) = count_below test n + cond (test n) 1 0
 
 abbrev pub is_child_at : Links → ℕ → ℕ → Bool
 is_child_at s p i = is_some_and (s.parent i) (λ q. q == p) && is_live (s.state i)

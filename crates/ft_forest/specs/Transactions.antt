@@ -1,5 +1,5 @@
 -- The transactions of a forest: how they stand above one another, and what has become of each.
-use Rattle.std.specs.Prelude.{◌≡◌, ◌<◌, ◌≤◌, ◌⊎◌, ◌+◌, ◌-◌, ◌==◌, ◌&&◌, ℕ, zero, suc, Bool, true, false, cond, nat_lt, Option, Some, None, List, [], length, slice_get, count_by}
+use Rattle.std.specs.Prelude.{◌≡◌, ◌≢◌, ◌<◌, ◌≤◌, ◌⊎◌, ◌+◌, ◌-◌, ◌==◌, ◌&&◌, ℕ, zero, suc, Bool, true, false, cond, nat_lt, Option, Some, None, List, [], length, slice_get, count_by}
 use Rattle.ft_history.specs.Forest.{above, is_some_and, map_or}
 use Rattle.ft_history.specs.Logs.{put}
 use Rattle.ft_forest.specs.declared.state.State.{State}
@@ -87,6 +87,15 @@ is_live_child t x = is_some_and x.parent (λ p. p == t) && is_live_state x.state
 abbrev pub live_children_in : Transactions → ℕ → ℕ
 live_children_in m t = count_by (is_live_child t) m.list
 
+-- how many numbers below n pass the test
+abbrev pub count_below : (ℕ → Bool) → ℕ → ℕ
+count_below test zero = 0
+count_below test (suc n) = count_below test n + cond (test n) 1 0
+
+-- how many are live
+abbrev pub live_count : Transactions → ℕ
+live_count m = count_below (λ x. is_live (state_in m x)) (suc (last_in m))
+
 -- a transaction has begun, live, with the next number
 pub record HasBegun (old new : Transactions) (up : Option ℕ) : Type 0 where
   pub base : new.base ≡ old.base
@@ -114,3 +123,14 @@ pub record IsNextToEnd (m : Transactions) (t x : ℕ) : Type 0 where
   pub below : over_in m t x ≡ true
   pub live : state_in m x ≡ Some Live
   pub no_child : (y : ℕ) → IsLiveChild m x y → ⊥
+
+-- An abort of t is on its way: since the old transactions nothing has changed but that some of the live ones at or below t are aborted.
+pub record IsAborting (old now : Transactions) (t : ℕ) : Type 0 where
+  pub base : now.base ≡ old.base
+  pub last : last_in now ≡ last_in old
+  pub parents : (x : ℕ) → parent_in now x ≡ parent_in old x
+  pub states : (x : ℕ) → (state_in now x ≡ state_in old x) ⊎ ((over_in old t x ≡ true) × (state_in old x ≡ Some Live) × (state_in now x ≡ Some Aborted))
+
+-- On the way of an abort of t, which one was aborted last: where that is not t, it stands below t, and its parent is live.
+abbrev pub IsLastOf : Transactions → ℕ → ℕ → Type 0
+IsLastOf m t last = last ≢ t → (over_in m t last ≡ true) × ((p : ℕ) → parent_in m last ≡ Some p → state_in m p ≡ Some Live)

@@ -7,7 +7,7 @@ ghost use Rattle.ft_forest.specs.declared.TheConstants.{MOST_DEPTH as most_depth
 ghost use Rattle.ft_forest.specs.declared.fault.ForestFault.{ForestFault as FaultOf};
 ghost use Rattle.ft_forest.specs.declared.fault.ForestFault.TheVariants.{Memory as MemoryFault};
 ghost use Rattle.ft_forest.specs.declared.state.State.TheVariants.{Live, Committed, Aborted};
-ghost use Rattle.ft_forest.specs.Transactions.{none_since, parent_in, state_in, last_in, over_in, depth_in, is_live_state, live_children_in, IsLiveChild, HasBegun, HasEnded, HasAborted, IsNextToEnd, IsYoungestChild, IsOlderSibling};
+ghost use Rattle.ft_forest.specs.Transactions.{none_since, parent_in, state_in, last_in, over_in, depth_in, is_live_state, live_children_in, IsLiveChild, HasBegun, HasEnded, HasAborted, IsNextToEnd, IsYoungestChild, IsOlderSibling, Transactions, live_count, IsAborting, IsLastOf};
 ghost use Rattle.ft_forest.specs.Refusals.{refusal_of, begin_refusal, sub_refusal, commit_refusal, abort_refusal, IsRefusal};
 ghost use Rattle.ft_forest.specs.Records.{number_at};
 ghost use Rattle.ft_forest.specs.Places.{IsDepthBelow, IsStrictlyBelow};
@@ -256,17 +256,52 @@ impl Forest {
         ensures same { OnErr result (self.new ≡ self.old) }
     {
         self.live_place(txn)?;
-        let mut from = txn;
-        while let Some(next) = self.next_to_end(from) {
-            let parent = self.parent(next);
-            self.end(next, State::Aborted);
-            from = if next == txn {
-                txn
-            } else {
-                parent.unwrap_or(txn)
-            };
+        let mut last = txn;
+        while let Some(next) = self.abort_next(txn, last) {
+            last = next;
         }
         Ok(())
+    }
+
+    /// Aborts the next transaction that an abort of `txn` ends, and answers it: a live one at or below `txn` that has no
+    /// live child. There is none where nothing at or below `txn` is live.
+    ///
+    /// `last` is the one that was ended before, and at first `txn` itself. Takes no memory; all together take the time of
+    /// what is ended.
+    pub fn abort_next(&mut self, txn: TxnId, last: TxnId) -> Option<TxnId>
+        requires { IsLastOf self.old txn last }
+        ensures next { IfSome result (λ next. IsNextToEnd self.old txn next) }
+        ensures lowest { IfSome result (λ next. (x : ℕ) → over_in self.old next x ≡ true → state_in self.old x ≡ Some Live → x ≡ next) }
+        ensures aborted { IfSome result (λ next. HasEnded self.old self.new next Aborted) }
+        ensures last { IfSome result (λ next. IsLastOf self.new txn next) }
+        ensures fewer { IfSome result (λ _. live_count self.new < live_count self.old) }
+        ensures none { IfNone result ((x : ℕ) → over_in self.new txn x ≡ true → state_in self.new x ≢ Some Live) }
+        ensures same { IfNone result (self.new ≡ self.old) }
+
+        // An abort that is on its way goes on, and in the end it has happened.
+        ensures way { IfSome result (λ _. (start : Transactions) → IsAborting start self.old txn → IsAborting start self.new txn) }
+        ensures done { IfNone result ((start : Transactions) → IsAborting start self.old txn → HasAborted start self.new txn) }
+    {
+        let from = self.search_from(txn, last);
+        let Some(next) = self.next_to_end(from) else {
+            return None;
+        };
+        self.end(next, State::Aborted);
+        Some(next)
+    }
+
+    /// Where an abort of `txn` that ended `last` before looks for the next: at its parent, and at first at `txn`.
+    fn search_from(&self, txn: TxnId, last: TxnId) -> TxnId
+        requires { IsLastOf self.now txn last }
+        ensures below { over_in self.now txn result ≡ true }
+        ensures live { result ≢ txn → state_in self.now result ≡ Some Live }
+        ensures forest { IsForest (parent_in self.now) }
+        ensures live_parent { (x p : ℕ) → parent_in self.now x ≡ Some p → state_in self.now x ≡ Some Live → state_in self.now p ≡ Some Live }
+    {
+        match self.parent(last) {
+            Some(parent) if last != txn => parent,
+            _ => txn,
+        }
     }
 
     /// The place of a live transaction.

@@ -1,7 +1,6 @@
 -- What callers see of a grant.
-use Rattle.std.proofs.Common.{◌≡◌, ◌⊎◌, inl, inr, ℕ, Bool, true, false, cond, not, ◌&&◌, ◌||◌, ◌==◌, List, [], ◌∷◌, Option, Some, None, is_some, unwrap_or, refl, sym, ap, subst, ◌∙◌}
+use Rattle.std.proofs.Common.{◌≡◌, ◌⊎◌, inl, inr, ℕ, Bool, true, false, not, ◌&&◌, ◌||◌, ◌==◌, List, [], ◌∷◌, Option, Some, None, is_some, unwrap_or, refl, sym, ap, ◌∙◌}
 use Rattle.std.proofs.lemmas.Bool.{false≢true, eqb-true}
-use Rattle.std.specs.List.{list_any}
 use Rattle.std.specs.FinMap as finite
 use Rattle.ft_base.specs.Chains.{Lists}
 use Rattle.ft_tree.specs.declared.cell.Cell.{Cell}
@@ -16,7 +15,7 @@ use Rattle.ft_locks.specs.declared.marks.Marks.{Marks}
 use Rattle.ft_locks.specs.Marks.{no_marks, has_mark, is_marked_of}
 use Rattle.ft_locks.specs.Cells.{Cells, marks_at, let_go_owner}
 use Rattle.ft_locks.specs.Holdings.{has_place, marks_or_none, AreOpenStill}
-use Rattle.ft_locks.specs.Locks.{LockTable, is_held, same_mode, is_accessed, has_access, AreGranted}
+use Rattle.ft_locks.specs.Locks.{is_held, same_mode, is_accessed, has_access, AreGranted}
 use Rattle.ft_locks.specs.Seen.{has_mark_of, has_line, is_marked_at, table_of, IsKept}
 use Rattle.ft_locks.proofs.Joining.{apart_test, itself}
 use Rattle.ft_locks.proofs.Tables.{lines-seen, let_go-seen, opened-seen, marked_by, marked_one, same_truth, same_lines, same_cells_set, same_numbers, line, line_of_mark, mark_of_line}

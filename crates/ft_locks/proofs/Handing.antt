@@ -1,5 +1,5 @@
 -- What callers see after an owner has given its places to another.
-use Rattle.std.proofs.Common.{◌≡◌, ℕ, ◌⊎◌, inl, inr, Bool, true, false, cond, not, ◌&&◌, ◌||◌, ◌==◌, ◌<◌, List, Option, Some, None, IsSome, is_some, Result, Ok, Err, unwrap_or, refl, sym, ap, subst, ◌∙◌, arith}
+use Rattle.std.proofs.Common.{◌≡◌, ℕ, ◌⊎◌, inl, inr, Bool, true, false, cond, not, ◌&&◌, ◌||◌, ◌==◌, List, Option, Some, None, is_some, Result, Ok, Err, refl, sym, ap, subst, ◌∙◌}
 use Rattle.std.proofs.lemmas.Bool.{false≢true, eqb-true, eq-eqb}
 use Rattle.std.specs.Option.{option_map}
 use Rattle.std.specs.Result.{OnOk, OnErr}
@@ -7,7 +7,7 @@ use Rattle.std.specs.Ordering.{nat_cmp, eq_by_cmp}
 use Rattle.std.specs.Cmp.{nat_cmp_total, unsigned_tied}
 use Rattle.std.specs.FinMap as finite
 use Rattle.std.specs.FinSet as set
-use Rattle.ft_base.specs.Chains.{Lists, list_in, IsOpen}
+use Rattle.ft_base.specs.Chains.{Lists, list_in}
 use Rattle.ft_tree.specs.declared.cell.Cell.{Cell}
 use Rattle.ft_tree.specs.CellOrder.{cell_cmp}
 use Rattle.ft_calls.specs.declared.call.Mode.{Mode}
@@ -16,10 +16,10 @@ use Rattle.ft_locks.specs.declared.line.LockKind.{LockKind}
 use Rattle.ft_locks.specs.declared.line.LockKind.TheVariants.{Held, Retained}
 use Rattle.ft_locks.specs.declared.line.LockLine.{LockLine}
 use Rattle.ft_locks.specs.declared.marks.Marks.{Marks}
-use Rattle.ft_locks.specs.Marks.{no_marks, with_marks, passed_on, has_mark, is_marked, is_marked_of}
+use Rattle.ft_locks.specs.Marks.{no_marks, with_marks, passed_on, has_mark, is_marked_of}
 use Rattle.ft_locks.specs.Cells.{Cells, marks_at, let_go_owner, joined_marks, passed_to, after_hand}
 use Rattle.ft_locks.specs.Holdings.{has_place, AreOpenStill}
-use Rattle.ft_locks.specs.Locks.{LockTable, line_cmp, no_locks, has_lock, is_let_go, is_opened, is_locked, owns_lock, is_held, AreInherited, AreReleased}
+use Rattle.ft_locks.specs.Locks.{LockTable, line_cmp, no_locks, is_opened, is_held, AreInherited, AreReleased}
 use Rattle.ft_locks.specs.Seen.{has_mark_of, has_line, is_marked_at, table_of, IsKept}
 use Rattle.ft_locks.proofs.Places.{marks-missing}
 use Rattle.ft_locks.proofs.Joining.{itself, apart_test}

@@ -1,5 +1,5 @@
 -- A list of holdings in which no owner stands twice: what stands in its middle decides what it has for one owner.
-use Rattle.std.proofs.Common.{◌≡◌, ℕ, suc, ◌<◌, Bool, true, false, cond, ◌||◌, List, [], ◌∷◌, ◌++◌, Option, Some, None, refl, sym, ap, subst, ◌∙◌, set, take, drop, length, get_or, is_some, IsSome, unwrap_or, ◌==◌, rules, arith}
+use Rattle.std.proofs.Common.{◌≡◌, ℕ, suc, ◌<◌, Bool, true, false, cond, ◌&&◌, ◌||◌, List, [], ◌∷◌, ◌++◌, Option, Some, None, refl, sym, ap, subst, ◌∙◌, set, take, drop, length, get_or, is_some, IsSome, unwrap_or, ◌==◌, arith}
 use Rattle.std.proofs.lemmas.Bool.{false≢true}
 use Rattle.std.specs.Ordering.{nat_cmp, eq_by_cmp}
 use Rattle.std.specs.Cmp.{nat_cmp_total, nat_eq_equiv, eq_by_cmp_equiv, unsigned_tied, Equal-is}
@@ -11,7 +11,6 @@ use Rattle.std.proofs.lemmas.List.Quantifiers.{position-Some}
 use Rattle.std.proofs.lemmas.Option.{slice_get_past}
 use Rattle.std.proofs.lemmas.Bool.{ltb-false, eqb-true}
 use Rattle.std.proofs.Math.Dec.{ltb}
-use Rattle.std.specs.Option.{IfNone}
 use Rattle.std.specs.FinMap as finite
 use Rattle.ft_locks.specs.declared.marks.Marks.{Marks}
 use Rattle.ft_locks.specs.declared.holders.Holding.{Holding}
@@ -328,5 +327,28 @@ unmarked_in_list (h ∷ more) e owner =
     neither false b d = (refl, d)
 
     by_owner : (b : Bool) → is_marked h.marks ≡ false → is_marked_of (marks_in more owner) ≡ false → is_marked_of (cond b (Some h.marks) (marks_in more owner)) ≡ false
-    by_owner true here later = here
-    by_owner false here later = later
+    by_owner true marked later = marked
+    by_owner false marked later = later
+
+-- a list in which no owner stands twice, read one owner at a time
+pub owner_passes : (p : Option Marks → Bool) → p None ≡ false → (list : List Holding) → AreApart list → (u : ℕ) → list_any (λ h. (h.owner == u) && p (Some h.marks)) list ≡ p (marks_in list u)
+owner_passes p none [] apart u = sym none
+owner_passes p none (h ∷ more) apart u = by_owner (h.owner == u) refl (owner_passes p none more apart.1)
+  where
+    ties_are : eq_by_cmp nat_cmp u h.owner ≡ (h.owner == u)
+    ties_are = unsigned_tied u h.owner ∙ nat_eq_equiv.symm u h.owner
+
+    or_none : (b : Bool) → (b || false) ≡ b
+    or_none true = refl
+    or_none false = refl
+
+    by_owner : (b : Bool) → (h.owner == u) ≡ b → ((v : ℕ) → list_any (λ x. (x.owner == v) && p (Some x.marks)) more ≡ p (marks_in more v))
+        → ((h.owner == u) && p (Some h.marks) || list_any (λ x. (x.owner == u) && p (Some x.marks)) more) ≡ p (cond (eq_by_cmp nat_cmp u h.owner) (Some h.marks) (marks_in more u))
+    by_owner true e later =
+        (λ j. e j && p (Some h.marks) || later u j)
+        ∙ ap (λ o. p (Some h.marks) || p o) (ap (marks_in more) (sym (eqb-true h.owner u e)) ∙ apart.0)
+        ∙ ap (λ b. p (Some h.marks) || b) none ∙ or_none (p (Some h.marks))
+        ∙ sym (ap (λ b. p (cond b (Some h.marks) (marks_in more u))) (ties_are ∙ e))
+    by_owner false e later =
+        (λ j. e j && p (Some h.marks) || later u j)
+        ∙ sym (ap (λ b. p (cond b (Some h.marks) (marks_in more u))) (ties_are ∙ e))

@@ -1,5 +1,5 @@
 -- Who is noted as in the way.
-use Rattle.std.proofs.Common.{◌≡◌, ◌⊎◌, inl, inr, ◌<◌, ◌+◌, ℕ, Bool, true, false, cond, not, ◌&&◌, ◌||◌, ◌==◌, List, [], ◌∷◌, ◌++◌, take, map, length, get_or, Option, Some, None, is_some, refl, sym, ap, subst, ◌∙◌}
+use Rattle.std.proofs.Common.{◌≡◌, ◌⊎◌, inl, inr, ◌<◌, ◌+◌, ℕ, Bool, true, false, cond, not, ◌&&◌, ◌||◌, ◌==◌, List, [], ◌∷◌, take, map, length, get_or, Option, Some, None, is_some, refl, sym, ap, ◌∙◌}
 use Rattle.std.proofs.lemmas.Bool.{false≢true, eqb-true}
 use Rattle.std.specs.List.{list_any}
 use Rattle.std.proofs.lemmas.List.{take_more}
@@ -36,10 +36,10 @@ use Rattle.ft_base.specs.Chains.{Lists}
 use Rattle.ft_locks.specs.declared.line.LockLine.{LockLine}
 use Rattle.ft_locks.specs.Locks.{LockTable, has_lock, line_access, OwnsConflict, AreBlockers}
 use Rattle.ft_locks.specs.Seen.{has_mark_of, has_line, table_of}
-use Rattle.ft_locks.specs.Holders.{Owners, as_entries, marks_in, AreApart}
+use Rattle.ft_locks.specs.Holders.{marks_in, AreApart}
 use Rattle.ft_locks.specs.Cells.{Cells, marks_at}
-use Rattle.ft_locks.specs.Blocking.{Found, AreNoted, is_in_way, way, is_listed_in_way, is_entry_of, beside, blocks}
-use Rattle.ft_locks.proofs.HolderLists.{blank}
+use Rattle.ft_locks.specs.Blocking.{Found, is_in_way, way, is_listed_in_way, is_entry_of, beside, blocks}
+use Rattle.ft_locks.proofs.HolderLists.{blank, owner_passes}
 
 listed_more : (list : List Holding) (i : ℕ) → i < length list → (mode : Mode) (u : ℕ)
     → is_listed_in_way (take (i + 1) list) mode u ≡ (is_listed_in_way (take i list) mode u || (((get_or list i blank).owner == u) && are_in_the_way (get_or list i blank).marks mode || false))
@@ -104,26 +104,7 @@ module _ (old now : Found) (forest : Transactions) (txn : ℕ) (list : List Hold
 
 -- a list in which no owner stands twice, read one owner at a time
 pub listed_is : (list : List Holding) → AreApart list → (mode : Mode) (u : ℕ) → is_listed_in_way list mode u ≡ is_in_way (marks_in list u) mode
-listed_is [] apart mode u = refl
-listed_is (h ∷ more) apart mode u = by_owner (h.owner == u) refl (listed_is more apart.1 mode)
-  where
-    ties_are : eq_by_cmp nat_cmp u h.owner ≡ (h.owner == u)
-    ties_are = unsigned_tied u h.owner ∙ nat_eq_equiv.symm u h.owner
-
-    or_none : (b : Bool) → (b || false) ≡ b
-    or_none true = refl
-    or_none false = refl
-
-    by_owner : (b : Bool) → (h.owner == u) ≡ b → ((v : ℕ) → is_listed_in_way more mode v ≡ is_in_way (marks_in more v) mode)
-        → ((h.owner == u) && are_in_the_way h.marks mode || is_listed_in_way more mode u) ≡ is_in_way (cond (eq_by_cmp nat_cmp u h.owner) (Some h.marks) (marks_in more u)) mode
-    by_owner true e later =
-        (λ j. e j && are_in_the_way h.marks mode || later u j)
-        ∙ ap (λ o. are_in_the_way h.marks mode || is_in_way o mode) (ap (marks_in more) (sym (eqb-true h.owner u e)) ∙ apart.0)
-        ∙ or_none (are_in_the_way h.marks mode)
-        ∙ sym (ap (λ b. is_in_way (cond b (Some h.marks) (marks_in more u)) mode) (ties_are ∙ e))
-    by_owner false e later =
-        (λ j. e j && are_in_the_way h.marks mode || later u j)
-        ∙ sym (ap (λ b. is_in_way (cond b (Some h.marks) (marks_in more u)) mode) (ties_are ∙ e))
+listed_is list apart mode u = owner_passes (λ o. is_in_way o mode) refl list apart u
 
 -- The names of a directory's entries are those of its cells in the table.
 place_in_way : (o : Option Marks) (mode : Mode) → is_in_way o mode ≡ true → is_some o ≡ true

@@ -1,5 +1,5 @@
 -- The lists of the owners' cells, as places come and go.
-use Rattle.std.proofs.Common.{◌≡◌, ℕ, ◌+◌, Bool, true, false, cond, not, ◌&&◌, ◌||◌, ◌==◌, List, [], ◌∷◌, length, drop, Option, Some, None, IsSome, is_some, Result, Ok, Err, unwrap_or, refl, sym, ap, subst, ◌∙◌, add-one}
+use Rattle.std.proofs.Common.{◌≡◌, ℕ, Bool, true, false, cond, not, ◌&&◌, ◌||◌, ◌==◌, List, [], ◌∷◌, drop, Option, Some, None, IsSome, is_some, Result, Ok, Err, unwrap_or, refl, sym, ap, subst, ◌∙◌}
 use Rattle.std.proofs.lemmas.Bool.{false≢true, eqb-true, eq-eqb}
 use Rattle.std.specs.List.{list_any, slice_get}
 use Rattle.std.specs.Option.{option_map, OnSome, IfNone}
@@ -7,7 +7,7 @@ use Rattle.std.specs.Result.{OnOk, OnErr, is_err}
 use Rattle.std.specs.Ordering.{nat_cmp, eq_by_cmp}
 use Rattle.std.specs.Cmp.{nat_cmp_total, eq_by_cmp_equiv, unsigned_tied}
 use Rattle.std.specs.FinMap as finite
-use Rattle.ft_base.specs.Chains.{Lists, list_in, IsOpen, moved, first_moved}
+use Rattle.ft_base.specs.Chains.{Lists, list_in, moved, first_moved}
 use Rattle.ft_tree.specs.declared.cell.Cell.{Cell}
 use Rattle.ft_tree.specs.CellOrder.{cell_cmp, cell_cmp_total, same_cell, same_cell-is}
 use Rattle.ft_locks.proofs.Places.{hand_same, marks-missing}

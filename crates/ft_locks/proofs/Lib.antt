@@ -10,3 +10,5 @@ pub mod Sweeping
 pub mod Granting
 pub mod Granted
 pub mod InTheWay
+pub mod Following
+pub mod Listed

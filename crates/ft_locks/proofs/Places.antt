@@ -1,17 +1,17 @@
 -- What each owner has on each cell, after the owners of one cell have changed.
-use Rattle.std.proofs.Common.{◌≡◌, ℕ, Bool, true, false, cond, not, ◌&&◌, ◌||◌, ◌==◌, Option, Some, None, IsSome, is_some, unwrap_or, refl, sym, ap, subst, ◌∙◌}
+use Rattle.std.proofs.Common.{◌≡◌, ℕ, Bool, true, false, cond, ◌&&◌, ◌==◌, Option, Some, None, IsSome, is_some, unwrap_or, refl, sym, ap, ◌∙◌}
 use Rattle.std.proofs.lemmas.Bool.{false≢true, eqb-true}
 use Rattle.std.specs.Option.{option_map}
-use Rattle.std.specs.Ordering.{nat_cmp, eq_by_cmp}
+use Rattle.std.specs.Ordering.{nat_cmp}
 use Rattle.std.specs.Cmp.{nat_cmp_total, eq_by_cmp_equiv, unsigned_tied}
 use Rattle.std.specs.FinMap as finite
 use Rattle.ft_tree.specs.declared.cell.Cell.{Cell}
-use Rattle.ft_tree.specs.CellOrder.{cell_cmp, cell_cmp_total, same_cell, same_cell-is}
+use Rattle.ft_tree.specs.CellOrder.{cell_cmp_total, same_cell, same_cell-is}
 use Rattle.ft_locks.specs.declared.marks.Marks.{Marks}
-use Rattle.ft_locks.specs.Marks.{no_marks, with_marks, passed_on}
+use Rattle.ft_locks.specs.Marks.{no_marks, with_marks}
 use Rattle.ft_locks.specs.Holders.{Owners, marked, marked_at, handed}
 use Rattle.ft_locks.proofs.CellViews.{same_cells}
-use Rattle.ft_locks.specs.Cells.{Cells, marks_at, is_at, joined_marks, passed_to, let_go_owner, after_hand}
+use Rattle.ft_locks.specs.Cells.{Cells, marks_at, is_at, joined_marks, passed_to, after_hand}
 
 -- the owners of a cell; of one that is not in the table, none
 abbrev pub owners_at : Cells → Cell → Owners

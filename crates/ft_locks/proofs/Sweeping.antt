@@ -1,7 +1,6 @@
 -- What callers see after a place of what was let go is taken out.
-use Rattle.std.proofs.Common.{◌≡◌, ℕ, Bool, true, false, cond, not, ◌&&◌, ◌||◌, ◌==◌, List, Option, Some, None, IsSome, is_some, refl, sym, ap, subst, ◌∙◌}
+use Rattle.std.proofs.Common.{◌≡◌, ℕ, Bool, true, false, cond, not, ◌&&◌, ◌==◌, List, Option, Some, None, IsSome, is_some, refl, sym, ap, ◌∙◌}
 use Rattle.std.proofs.lemmas.Bool.{false≢true, eqb-true}
-use Rattle.std.specs.Ordering.{nat_cmp, eq_by_cmp}
 use Rattle.std.specs.Cmp.{nat_cmp_total, eq_by_cmp_equiv, unsigned_tied}
 use Rattle.std.specs.FinMap as finite
 use Rattle.std.specs.FinSet as set
@@ -12,7 +11,7 @@ use Rattle.ft_locks.specs.declared.line.LockLine.{LockLine}
 use Rattle.ft_locks.specs.declared.marks.Marks.{Marks}
 use Rattle.ft_locks.specs.Cells.{Cells, marks_at, is_at, let_go_owner}
 use Rattle.ft_locks.specs.Holdings.{has_place}
-use Rattle.ft_locks.specs.Locks.{LockTable, is_let_go}
+use Rattle.ft_locks.specs.Locks.{is_let_go}
 use Rattle.ft_locks.specs.Marks.{is_marked_of}
 use Rattle.ft_locks.specs.Seen.{has_mark_of, has_line, is_marked_at, table_of, IsKept}
 use Rattle.ft_locks.proofs.Joining.{placed-out, itself}

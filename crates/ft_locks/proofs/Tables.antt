@@ -1,14 +1,13 @@
 -- What callers see of the places on cells, read one lock and one cell at a time.
-use Rattle.std.proofs.Common.{◌≡◌, ℕ, zero, suc, ◌⊎◌, inl, inr, Bool, true, false, cond, not, ◌&&◌, ◌||◌, ◌==◌, List, [], ◌∷◌, ◌++◌, filter, Option, Some, None, IsSome, is_some, unwrap_or, refl, sym, ap, subst, ◌∙◌}
-use Rattle.std.proofs.lemmas.Bool.{false≢true, eqb-true}
+use Rattle.std.proofs.Common.{◌≡◌, ℕ, zero, suc, ◌⊎◌, inl, inr, Bool, true, false, not, ◌&&◌, ◌||◌, ◌==◌, List, [], ◌∷◌, filter, Option, Some, None, is_some, unwrap_or, refl, sym, ap, ◌∙◌}
+use Rattle.std.proofs.lemmas.Bool.{false≢true}
 use Rattle.std.specs.List.{list_any, flat_map}
 use Rattle.std.proofs.lemmas.List.Folds.{list_any-append}
 use Rattle.std.proofs.lemmas.Map.Views.{any-filter_same}
 use Rattle.std.proofs.lemmas.Map.Lookups.{CmpEqualImpliesEq, exact_unsigned, exact_pairs}
 use Rattle.std.specs.declared.cmp.Ordering.{Ordering}
-use Rattle.std.specs.declared.cmp.Ordering.TheVariants.{Equal}
 use Rattle.std.specs.Ordering.{nat_cmp, eq_by_cmp, ordering_then}
-use Rattle.std.specs.Cmp.{IsTotalOrder, nat_cmp_total, eq_by_cmp_equiv, unsigned_tied, Equal-is}
+use Rattle.std.specs.Cmp.{IsTotalOrder, nat_cmp_total, eq_by_cmp_equiv, Equal-is}
 use Rattle.std.specs.FinMap as finite
 use Rattle.std.specs.FinSet as set
 use Rattle.ft_base.specs.Chains.{Lists}
@@ -25,11 +24,9 @@ use Rattle.ft_locks.specs.Ranks.{mode_rank, kind_rank}
 use Rattle.ft_locks.specs.Cells.{Cells, marks_at, let_go_owner}
 use Rattle.ft_locks.specs.Holdings.{has_place}
 use Rattle.ft_locks.specs.Locks.{LockTable, line_cmp, line_cmp_total, has_lock, is_let_go, is_opened, is_locked}
+use Rattle.ft_locks.specs.Listing.{same_line}
 use Rattle.ft_locks.specs.Seen.{has_mark_of, has_line, is_marked_at, owners_on, lines_by, lines_on, table_of}
 use Rattle.ft_locks.proofs.CellViews.{cell_exact}
-
-abbrev pub same_line : LockLine → LockLine → Bool
-same_line = eq_by_cmp line_cmp
 
 mode_at : ℕ → Mode
 mode_at zero = ReadMode
@@ -250,6 +247,10 @@ found_passes p l h (x ∷ xs) e = by_head (same_line l x) refl e (found_passes p
     by_head true t e more = ap (λ b. b || list_any p xs) (ap p (sym (same_line-is l x t)) ∙ h)
     by_head false t e more = ap (λ b. p x || b) (more e) ∙ or-true (p x)
 
+-- the cell of a lock is locked
+pub cell_locked : (t : LockTable) (l : LockLine) → has_lock t l ≡ true → is_locked t l.cell ≡ true
+cell_locked t l there = found_passes (λ x. same_cell x.cell l.cell) l ((eq_by_cmp_equiv cell_cmp_total).refl l.cell) (set.items t.lines) (sym (set.contains-items t.lines l) ∙ there)
+
 -- a cell is locked where one of its owners has a mark there
 pub locked-seen : (m : Cells) (lists : Lists Cell) (c : Cell) → is_locked (table_of m lists) c ≡ is_marked_at m c
 locked-seen m lists c = same_truth _ _
@@ -260,8 +261,7 @@ locked-seen m lists c = same_truth _ _
     (λ marked.
     let one = marked_one m c marked in
     let mark = line_of_mark c one.0 (marks_at m c one.0) one.1 in
-    found_passes (λ l. same_cell l.cell c) (line c one.0 mark.0 mark.1) ((eq_by_cmp_equiv cell_cmp_total).refl c) (set.items (table_of m lists).lines)
-    (sym (set.contains-items (table_of m lists).lines (line c one.0 mark.0 mark.1)) ∙ lines-seen m lists (line c one.0 mark.0 mark.1) ∙ mark.2))
+    cell_locked (table_of m lists) (line c one.0 mark.0 mark.1) (lines-seen m lists (line c one.0 mark.0 mark.1) ∙ mark.2))
 
 -- Tables that agree are one.
 pub same_lines : (s t : set.FinSet line_cmp) → ((l : LockLine) → set.contains s l ≡ set.contains t l) → s ≡ t

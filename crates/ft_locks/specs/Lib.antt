@@ -7,3 +7,5 @@ pub mod Holdings
 pub mod Locks
 pub mod Seen
 pub mod Blocking
+pub mod Listing
+pub mod Law

@@ -1,12 +1,13 @@
 -- The locks of transactions, as callers see them, and what each call does to them. (Moss, Nested Transactions, MIT 1981, the locking rules.)
-use Rattle.std.specs.Prelude.{◌≡◌, ◌<◌, ℕ, Bool, true, false, cond, not, ◌==◌, ◌&&◌, ◌||◌, List, [], ◌∷◌, refl}
+use Rattle.std.specs.Prelude.{◌≡◌, ◌↔◌, ◌<◌, ℕ, Bool, true, false, not, ◌==◌, ◌&&◌, ◌||◌, List, refl}
 use Rattle.std.specs.List.{list_any}
 use Rattle.std.specs.declared.cmp.Ordering.{Ordering}
+use Rattle.std.specs.declared.cmp.Ordering.TheVariants.{Less}
 use Rattle.std.specs.Ordering.{nat_cmp, ordering_then}
 use Rattle.std.specs.Cmp.{IsTotalOrder, nat_cmp_total, on_total, then_total}
 use Rattle.std.specs.FinSet as set
 use Rattle.ft_tree.specs.declared.cell.Cell.{Cell}
-use Rattle.ft_tree.specs.CellOrder.{cell_cmp, cell_cmp_total, same_cell, overlap}
+use Rattle.ft_tree.specs.CellOrder.{cell_cmp, cell_cmp_total, same_cell}
 use Rattle.ft_calls.specs.declared.call.Mode.{Mode}
 use Rattle.ft_calls.specs.declared.call.Mode.TheVariants.{Read as ReadMode, Write as WriteMode}
 use Rattle.ft_calls.specs.declared.call.Access.{Access}
@@ -109,3 +110,8 @@ pub record AreBlockers (t : LockTable) (forest : Transactions) (txn : ℕ) (acce
   pub rising : Pairs (λ x y. x < y) ys
   pub sound : (y : ℕ) → In y ys → OwnsConflict t accesses y × (over_in forest y txn ≡ false)
   pub all : (y : ℕ) → OwnsConflict t accesses y → over_in forest y txn ≡ false → In y ys
+
+-- The list has each lock once, in their order.
+pub record AreListed (t : LockTable) (lines : List LockLine) : Type 0 where
+  pub order : Pairs (λ x y. line_cmp x y ≡ Less) lines
+  pub exact : (l : LockLine) → In l lines ↔ (has_lock t l ≡ true)

@@ -11,7 +11,7 @@ use Rattle.ft_locks.specs.declared.line.LockLine.{LockLine}
 use Rattle.ft_locks.specs.declared.marks.Marks.{Marks}
 use Rattle.ft_locks.specs.Marks.{has_mark, is_marked_of}
 use Rattle.ft_locks.specs.Cells.{Cells, marks_at, let_go_owner}
-use Rattle.ft_locks.specs.Holdings.{Held as Places, has_place}
+use Rattle.ft_locks.specs.Holdings.{has_place}
 use Rattle.ft_locks.specs.Locks.{LockTable}
 
 abbrev pub has_mark_of : Option Marks → LockLine → Bool

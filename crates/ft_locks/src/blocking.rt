@@ -97,6 +97,9 @@ pub(crate) fn note_access(
 pub(crate) fn noted(alloc: Global, found: &Table<()>) -> Result<Vec<TxnId>, Memory>
     ensures { IfOk result (λ owners. owners.items ≡ finite.keys found.now) }
 {
-    let owners = found.iter().map(|(owner, _)| TxnId(*owner)).collect(alloc)?;
+    let mut owners = Vec::new(alloc);
+    for (owner, _) in found.sorted(alloc)? {
+        owners.push(TxnId(owner))?;
+    }
     Ok(owners)
 }

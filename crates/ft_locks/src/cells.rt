@@ -8,9 +8,13 @@ ghost use Rattle.ft_tree.specs.declared.cell.Cell.{Cell};
 ghost use Rattle.ft_tree.specs.CellOrder.{same_cell};
 ghost use Rattle.ft_locks.specs.Marks.{no_marks, with_marks};
 ghost use Rattle.ft_locks.specs.Cells.{is_among, is_at, marks_at, passed_to, after_hand};
+ghost use Rattle.ft_locks.specs.Listing.{AreAdded};
+ghost use Rattle.ft_locks.specs.Seen.{has_line};
 
 use crate::entry_names::EntryNames;
 use crate::holders::Holders;
+use crate::line::LockLine;
+use crate::listing::list_cells;
 use crate::marks::Marks;
 use ft_base::Memory;
 use ft_path::Name;
@@ -84,6 +88,13 @@ impl LockedCells {
     {
         let _cells = &self.cells;
         self.names.of(dir)
+    }
+
+    /// Lists the locks on all cells.
+    pub(crate) fn list(&self, lines: &mut Vec<LockLine>) -> Result<(), Memory>
+        ensures { OnOk result (AreAdded lines.old.items lines.new.items (has_line self.now)) }
+    {
+        list_cells(lines, &self.cells)
     }
 
     /// Gives an owner a place on a cell, with no lock yet. Want of memory changes nothing.

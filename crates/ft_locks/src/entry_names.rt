@@ -16,8 +16,8 @@ use std::collections::BTreeSet;
 
 /// For each directory that has entries in the table, their names.
 ///
-/// To add or take out a name takes time logarithmic in the number of directories and of names in
-/// the directory.
+/// To add or take out a name takes time logarithmic in the number of names in the directory, which
+/// is found by a hash.
 #[derive(Drop)]
 pub(crate) struct EntryNames {
     alloc: Global,

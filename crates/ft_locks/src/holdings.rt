@@ -11,6 +11,7 @@ ghost use Rattle.ft_locks.specs.Holdings.{AreOpenStill, popped};
 
 use crate::cells::LockedCells;
 use crate::holders::Holders;
+use crate::line::LockLine;
 use crate::marks::Marks;
 use ft_base::{Chains, Memory};
 use ft_calls::Access;
@@ -60,8 +61,8 @@ fn discard_front(chains: &mut Chains<Cell>, owner: u64)
 
 impl Holdings {
     ghost use Rattle.std.specs.Prelude.{◌==◌, ◌&&◌, ◌||◌};
-    ghost use Rattle.ft_locks.specs.declared.line.LockLine.{LockLine};
     ghost use Rattle.ft_locks.specs.Locks.{is_held, is_accessed, has_access};
+    ghost use Rattle.ft_locks.specs.Listing.{AreAdded};
     ghost use Rattle.ft_locks.specs.Seen.{has_line};
     ghost use Rattle.ft_locks.specs.Holdings.{has_place, after_back, marks_or_none};
 
@@ -113,6 +114,13 @@ impl Holdings {
         ensures { (name : List ℕ) → is_among (option_copied result) name ≡ finite.contains_key self.now.cells (Entry dir name) }
     {
         self.cells.names_of(dir)
+    }
+
+    /// Lists all locks.
+    pub(crate) fn list(&self, lines: &mut Vec<LockLine>) -> Result<(), Memory>
+        ensures { OnOk result (AreAdded lines.old.items lines.new.items (has_line self.now.cells)) }
+    {
+        self.cells.list(lines)
     }
 
     /// Gives an owner a place on a cell, with no lock yet, in front of its others. Want of memory

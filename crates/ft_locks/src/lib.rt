@@ -9,7 +9,9 @@ mod cells;
 mod entry_names;
 mod holders;
 mod holdings;
+pub mod laws;
 mod line;
+mod listing;
 mod locks;
 mod marks;
 #[cfg(test)]

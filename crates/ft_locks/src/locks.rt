@@ -1,11 +1,12 @@
 // The lock table.
 ghost use Rattle.std.specs.Prelude.{◌≡◌, ◌≢◌, ◌<◌, ℕ, true, OnOk, OnErr, IfOk, IfSome, IfNone};
 ghost use Rattle.std.specs.FinSet as set;
-ghost use Rattle.ft_locks.specs.Locks.{no_locks, has_lock, is_locked, is_let_go, is_opened, AreBlockers, AreGranted, AreInherited, AreReleased};
+ghost use Rattle.ft_locks.specs.Locks.{no_locks, has_lock, is_locked, is_let_go, is_opened, AreBlockers, AreGranted, AreInherited, AreListed, AreReleased};
 
 use crate::blocking::{note_access, noted};
 use crate::cells::LET_GO;
 use crate::holdings::{Dropped, Holdings};
+use crate::line::LockLine;
 use crate::marks::Marks;
 use ft_base::{Memory, Table};
 use ft_calls::Access;
@@ -117,6 +118,18 @@ impl Locks {
     {
         self.holdings.hand_over(txn.0, LET_GO);
         self.holdings.close(txn.0);
+    }
+
+    /// The locks in their order. Takes the time to sort them.
+    pub fn lines(&self) -> Result<Vec<LockLine>, Memory>
+        ensures { IfOk result (λ lines. AreListed self.now lines.items) }
+    {
+        let mut lines = Vec::new(self.alloc);
+        self.holdings.list(&mut lines)?;
+        lines.sort()?;
+        // Each was listed once; from here on the list says so itself.
+        lines.dedup();
+        Ok(lines)
     }
 
     /// Takes out a cell that was let go and that nobody has locked since, where there is one, so

@@ -1,3 +1,4 @@
 pub mod Errno
 pub mod FilePath
+pub mod Front
 pub mod Name

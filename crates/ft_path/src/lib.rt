@@ -5,6 +5,7 @@
 #![tactic(auto)]
 
 mod errno;
+mod front;
 mod name;
 mod names;
 mod path;

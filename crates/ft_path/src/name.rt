@@ -1,11 +1,12 @@
 // Names of files in a directory.
-ghost use Rattle.std.specs.Prelude.{◌≡◌, ◌≤◌, ℕ, List, length, IfOk, IsOk, Some, refl, nat_eq};
+ghost use Rattle.std.specs.Prelude.{◌≡◌, ◌≤◌, ◌↔◌, IsTrue, ℕ, List, length, IfOk, IsOk, Some, refl, nat_eq};
 ghost use Rattle.std.specs.Ordering.{nat_cmp};
 ghost use Rattle.std.specs.Cmp.{partial_equiv_from_equiv};
 ghost use Rattle.std.specs.Cmp.Lexicographic.{slice_cmp, pointwise, nat_list_cmp_total, nat_list_eq_equiv, texts_ties, texts_po};
 ghost use Rattle.ft_path.specs.Name.{IsName, is_dot, is_dot_dot};
 
 use crate::SHORT_NAME;
+use crate::front::{FRONT, front_of};
 use ft_base::Memory;
 use smallvec::SmallVec;
 use std::alloc::{AllocError, Global};
@@ -14,18 +15,24 @@ use std::marker::Model;
 
 /// The name of a file in a directory: 1 to 255 bytes, none of them null or a slash.
 ///
-/// `.` and `..` are names. Names are ordered by their bytes.
+/// `.` and `..` are names. Names are ordered by their bytes. It keeps how these begin as a number, by
+/// which most names are told apart at once.
 #[derive(Debug, Drop)]
 pub struct Name {
     bytes: SmallVec<u8, SHORT_NAME>,
+    front: u64,
 }
 
 impl Model for Name {
+    ghost use Rattle.std.specs.Prelude.{◌≡◌, ℕ, List};
+    ghost use Rattle.ft_path.specs.Name.{IsName};
+    ghost use Rattle.ft_path.specs.Front.{front_of, AreBytes};
+
     ghost Value = { List ℕ };
 
     ghost view = { λ a. a.bytes.items };
 
-    ghost invariant = { λ a. IsName a.bytes.items };
+    ghost invariant = { λ a. IsName a.bytes.items × AreBytes a.bytes.items × (a.front ≡ front_of a.bytes.items) };
 }
 
 impl Name {
@@ -35,8 +42,9 @@ impl Name {
         ensures name { IfOk result (λ name. name ≡ bytes.now) }
         ensures short { length bytes.now ≤ SHORT_NAME → IsOk result }
     {
+        let front = front_of(bytes);
         let bytes = SmallVec::from_slice(alloc, bytes)?;
-        Ok(Name { bytes })
+        Ok(Name { bytes, front })
     }
 
     /// Its bytes.
@@ -66,7 +74,25 @@ impl Name {
         ensures name { IfOk result (λ name. name ≡ self.now) }
         ensures short { length self.now ≤ SHORT_NAME → IsOk result }
     {
-        Name::from_bytes(*self.bytes.allocator(), self.as_bytes())
+        Ok(self.copied()?)
+    }
+
+    /// Whether its front has all its bytes.
+    fn is_front(&self) -> bool
+        ensures { IsTrue result ↔ (length self.now ≤ 8) }
+    {
+        self.bytes.len() <= FRONT
+    }
+
+    fn copied(&self) -> Result<Name, AllocError>
+        ensures name { IfOk result (λ name. name ≡ self.now) }
+        ensures short { length self.now ≤ SHORT_NAME → IsOk result }
+    {
+        let bytes = SmallVec::from_slice(*self.bytes.allocator(), self.as_bytes())?;
+        Ok(Name {
+            bytes,
+            front: self.front,
+        })
     }
 }
 
@@ -74,8 +100,7 @@ impl Clone for Name {
     ghost is_clone = { λ name copy. copy ≡ name };
 
     fn clone(&self) -> Result<Name, AllocError> {
-        let bytes = SmallVec::from_slice(*self.bytes.allocator(), self.as_bytes())?;
-        Ok(Name { bytes })
+        self.copied()
     }
 }
 
@@ -113,6 +138,10 @@ impl Ord for Name {
     ghost matches_eq = { texts_ties };
 
     fn cmp(&self, other: &Name) -> Ordering {
-        self.as_bytes().cmp(other.as_bytes())
+        match self.front.cmp(&other.front) {
+            Ordering::Equal if self.is_front() && other.is_front() => Ordering::Equal,
+            Ordering::Equal => self.as_bytes().cmp(other.as_bytes()),
+            order => order,
+        }
     }
 }

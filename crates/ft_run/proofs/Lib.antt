@@ -1,7 +1,2 @@
-pub mod Bytes
 pub mod Choosing
-pub mod Coding
-pub mod Cutting
-pub mod Numbers
-pub mod Running
-pub mod Stopping
+pub mod Fronts

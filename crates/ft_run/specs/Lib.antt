@@ -1,4 +1,2 @@
 pub mod CommandLine
-pub mod Runs
-pub mod Script
-pub mod Texts
+pub mod FaultLines

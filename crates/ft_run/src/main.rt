@@ -7,18 +7,12 @@
 #![tactic(auto)]
 
 mod choose;
-mod line;
-mod meaning;
-mod play;
-mod split;
 mod status;
 #[cfg(test)]
 mod tests;
-mod text;
-mod words;
 
 use choose::{Choice, choose};
-use play::PlayFault;
+use ft_script::PlayFault;
 use status::{fault_line, play_status};
 use std::process::ExitCode;
 use std::{env, io};

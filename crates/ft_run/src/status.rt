@@ -1,11 +1,11 @@
 // The status that the program ends with.
 ghost use Rattle.std.specs.Prelude.{◌≡◌, ◌⊎◌, IfErr, OnOk};
 ghost use Rattle.std.specs.Io.KnownBytes.{Keeps};
-ghost use Rattle.ft_run.specs.Runs.{PlaysAnew, StopsAnew, WritesFront};
-ghost use Rattle.ft_run.specs.Texts.{fault_line};
+ghost use Rattle.ft_run.specs.FaultLines.{fault_line};
+ghost use Rattle.ft_script.specs.Runs.{PlaysAnew, StopsAnew, WritesFront};
 
-use crate::play::{PlayFault, play, write_out};
 use ft_core::Core;
+use ft_script::{PlayFault, play, write_out};
 use std::alloc::Global;
 use std::io::{Read, Write};
 

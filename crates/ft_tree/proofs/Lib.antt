@@ -2,6 +2,7 @@ pub mod Conjunction
 pub mod MapViews
 pub mod InOrder
 pub mod Places
+pub mod Reading
 pub mod CellViews
 pub mod TidyRows
 pub mod Clones

@@ -44,6 +44,11 @@ module _ {A : Type 0} where
   looked_at (Answer x) v = []
   looked_at (Look c next) v = c ∷ looked_at (next (v c)) v
 
+-- how who reads a tree stands when it has read each of the cells
+abbrev pub all_noted : {R : Type 0} → (R → Cell → R) → R → List Cell → R
+all_noted noted r [] = r
+all_noted noted r (c ∷ cs) = all_noted noted (noted r c) cs
+
 -- each of the cells shows the same in both
 abbrev pub Agree : View → View → List Cell → Type 0
 Agree v w [] = Unit {0}
@@ -63,3 +68,9 @@ module _ {A : Type 0} where
 pub answer-then : {A B : Type 0} (s : Looks A) (f : A → Looks B) (v : View) → answer (then s f) v ≡ answer (f (answer s v)) v
 answer-then (Answer x) f v = refl
 answer-then (Look c next) f v = answer-then (next (v c)) f v
+
+-- what is noted of two parts, one after the other
+pub all_noted-then : {R A B : Type 0} (noted : R → Cell → R) (r : R) (s : Looks A) (f : A → Looks B) (v : View)
+    → all_noted noted r (looked_at (then s f) v) ≡ all_noted noted (all_noted noted r (looked_at s v)) (looked_at (f (answer s v)) v)
+all_noted-then noted r (Answer x) f v = refl
+all_noted-then noted r (Look c next) f v = all_noted-then noted (noted r c) (next (v c)) f v

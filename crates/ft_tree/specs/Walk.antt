@@ -21,7 +21,7 @@ pub data Spot : Type 0 where
 
 -- the parent of a directory; the root's is the root
 abbrev pub up : ℕ → Looks ℕ
-up d = cond (d == 1) (Answer 1) (Look (Parent d) (λ p. Answer (unwrap_or p 1)))
+up dir = cond (dir == 1) (Answer 1) (Look (Parent dir) (λ p. Answer (unwrap_or p 1)))
 
 -- an entry that is passed through has to be a directory
 abbrev pub passed : Option Node → Result ℕ Errno
@@ -31,21 +31,21 @@ passed (Some (FileNode i)) = Err ENOTDIR
 
 -- a component that is not the last
 abbrev pub inner : ℕ → List ℕ → Looks (Result ℕ Errno)
-inner d name = cond (is_dot name) (Answer (Ok d)) (cond (is_dot_dot name) (then (up d) (λ p. Answer (Ok p))) (Look (Entry d name) (λ x. Answer (passed x))))
+inner dir name = cond (is_dot name) (Answer (Ok dir)) (cond (is_dot_dot name) (then (up dir) (λ p. Answer (Ok p))) (Look (Entry dir name) (λ x. Answer (passed x))))
 
 -- what a last name leads to: a file with a slash behind it is a fault
 abbrev pub reached : ℕ → List ℕ → Bool → Option Node → Result Spot Errno
-reached d name true (Some (FileNode i)) = Err ENOTDIR
-reached d name trailing x = Ok (Named d name x)
+reached dir name true (Some (FileNode i)) = Err ENOTDIR
+reached dir name trailing x = Ok (Named dir name x)
 
 -- the last component
 abbrev pub last : ℕ → List ℕ → Bool → Looks (Result Spot Errno)
-last d name trailing = cond (is_dot name) (Answer (Ok (Itself d))) (cond (is_dot_dot name) (then (up d) (λ p. Answer (Ok (Itself p)))) (Look (Entry d name) (λ x. Answer (reached d name trailing x))))
+last dir name trailing = cond (is_dot name) (Answer (Ok (Itself dir))) (cond (is_dot_dot name) (then (up dir) (λ p. Answer (Ok (Itself p)))) (Look (Entry dir name) (λ x. Answer (reached dir name trailing x))))
 
--- from directory d on: a component, and those behind it
+-- from a directory on: a component, and those behind it
 abbrev pub walk_from : ℕ → List ℕ → List (List ℕ) → Bool → Looks (Result Spot Errno)
-walk_from d name [] trailing = last d name trailing
-walk_from d name (m ∷ ms) trailing = then (inner d name) (or_else Err (λ i. walk_from i m ms trailing))
+walk_from dir name [] trailing = last dir name trailing
+walk_from dir name (next ∷ more) trailing = then (inner dir name) (or_else Err (λ i. walk_from i next more trailing))
 
 -- the walk of a path's components, from the root
 abbrev pub walk : List (List ℕ) → Bool → Looks (Result Spot Errno)
@@ -53,8 +53,8 @@ walk [] trailing = Answer (Ok (Itself 1))
 walk (name ∷ names) trailing = walk_from 1 name names trailing
 
 abbrev pub found_at : Spot → Found
-found_at (Named d name x) = Place d (option_map number_of x)
-found_at (Itself d) = Whole d
+found_at (Named dir name x) = Place dir (option_map number_of x)
+found_at (Itself dir) = Whole dir
 
 -- what `lookup` tells of the end of a walk
 abbrev pub found : Result Spot Errno → Result Found Errno
@@ -62,8 +62,8 @@ found (Ok spot) = Ok (found_at spot)
 found (Err e) = Err e
 
 abbrev pub seen_at : Seen → Spot
-seen_at (SeenNamed d name x) = Named d name.now x
-seen_at (SeenItself d) = Itself d
+seen_at (SeenNamed dir name x) = Named dir name.now x
+seen_at (SeenItself dir) = Itself dir
 
 -- what `walk` answers, with the name that it borrows
 abbrev pub seen : Result Seen Errno → Result Spot Errno

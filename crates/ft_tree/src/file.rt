@@ -1,5 +1,5 @@
 // One file: how many entries name it, and its bytes.
-ghost use Rattle.std.specs.Prelude.{◌≡◌, ◌≤◌, [], length, IfOk, OnOk, OnErr};
+ghost use Rattle.std.specs.Prelude.{◌≡◌, ◌≤◌, [], length, IsOk, IfOk, OnOk, OnErr};
 ghost use Rattle.ft_body.specs.declared.TheConstants.{SIZE_LIMIT};
 ghost use Rattle.ft_body.specs.Bytes.{fitting, written, resized};
 ghost use Rattle.ft_tree.specs.Cells.{FileCells, coded_file_cells};
@@ -65,18 +65,20 @@ impl File {
         ensures file { OnOk result (self.new ≡ record { links = self.old.links; bytes = written self.old.bytes offset (fitting bytes.now offset) }) }
         ensures undo { IfOk result (λ done. done.1 ≡ record { before = self.old.bytes; after = self.new.bytes }) }
         ensures err { OnErr result (self.new ≡ self.old) }
+        ensures nothing { fitting bytes.now offset ≡ [] → IsOk result }
     {
         self.body.write_at(offset, bytes)
     }
 
-    /// Cuts it to a length, or adds zeros up to it.
-    pub(crate) fn set_len(&mut self, length: u64) -> Result<BodyUndo, Memory>
-        requires { length ≤ SIZE_LIMIT }
-        ensures file { OnOk result (self.new ≡ record { links = self.old.links; bytes = resized self.old.bytes length }) }
+    /// Cuts it to a size, or adds zeros up to it.
+    pub(crate) fn set_len(&mut self, size: u64) -> Result<BodyUndo, Memory>
+        requires { size ≤ SIZE_LIMIT }
+        ensures file { OnOk result (self.new ≡ record { links = self.old.links; bytes = resized self.old.bytes size }) }
         ensures undo { IfOk result (λ undo. undo ≡ record { before = self.old.bytes; after = self.new.bytes }) }
         ensures err { OnErr result (self.new ≡ self.old) }
+        ensures nothing { length self.old.bytes ≡ size → IsOk result }
     {
-        self.body.set_len(length)
+        self.body.set_len(size)
     }
 
     /// Takes a change of its bytes back.

@@ -13,6 +13,7 @@ mod file;
 mod keeps;
 mod node;
 mod open_file;
+mod reader;
 mod row;
 #[cfg(test)]
 mod tests;
@@ -22,5 +23,6 @@ pub use cell::Cell;
 pub use keeps::Keeps;
 pub use node::{Found, Kind, Node, Spot};
 pub use open_file::{AccessMode, OpenFile};
+pub use reader::{Reader, walk};
 pub use row::TreeRow;
 pub use tree::{ROOT, Tree};

@@ -57,7 +57,12 @@ pub struct OpenFile {
 pub(crate) fn is_open(opens: &Table<Option<OpenFile>>, file: u64) -> bool
     ensures { result ≡ is_open opens.now file }
 {
-    opens
-        .iter()
-        .any(|(_, place)| place.is_some_and(|open| open.file == file))
+    for (_, place) in opens.iter() {
+        if let Some(open) = place {
+            if open.file == file {
+                return true;
+            }
+        }
+    }
+    false
 }

@@ -12,6 +12,7 @@ use crate::open_file::{AccessMode, OpenFile, is_open};
 use crate::tree::ROOT;
 use ft_base::{Memory, Sequence, Table};
 use ft_path::Name;
+use std::alloc::Global;
 
 /// One line of what a tree holds. The form is this project's own.
 #[derive(Debug, PartialEq, Eq, Drop)]
@@ -44,14 +45,15 @@ pub enum TreeRow {
 
 /// Puts the directories that are there behind the rows.
 pub(crate) fn push_dirs(
+    alloc: Global,
     rows: &mut Vec<TreeRow>,
     directories: &Table<Directory>,
 ) -> Result<(), Memory>
     ensures { OnOk result (rows.new.items ≡ rows.old.items ++ dir_rows (dirs_from (finite.entries directories.now))) }
 {
-    for (number, directory) in directories.iter() {
-        if *number == ROOT || directory.parent().is_some() {
-            rows.push(TreeRow::Dir { number: *number })?;
+    for (number, directory) in directories.sorted(alloc)? {
+        if number == ROOT || directory.parent().is_some() {
+            rows.push(TreeRow::Dir { number })?;
         }
     }
     Ok(())
@@ -59,31 +61,33 @@ pub(crate) fn push_dirs(
 
 /// Puts the entries of all directories behind the rows.
 pub(crate) fn push_edges(
+    alloc: Global,
     rows: &mut Vec<TreeRow>,
     directories: &Table<Directory>,
 ) -> Result<(), Memory>
     ensures { OnOk result (rows.new.items ≡ rows.old.items ++ edge_rows (edges_from (finite.entries directories.now))) }
 {
-    for (number, directory) in directories.iter() {
-        directory.push_edges(*number, rows)?;
+    for (number, directory) in directories.sorted(alloc)? {
+        directory.push_edges(number, rows)?;
     }
     Ok(())
 }
 
 /// Puts the files that are there behind the rows.
 pub(crate) fn push_files(
+    alloc: Global,
     rows: &mut Vec<TreeRow>,
     files: &Table<File>,
     opens: &Table<Option<OpenFile>>,
 ) -> Result<(), Memory>
     ensures { OnOk result (rows.new.items ≡ rows.old.items ++ file_rows (files_from opens.now (finite.entries files.now))) }
 {
-    for (number, file) in files.iter() {
-        if file.links() > 0 || is_open(opens, *number) {
+    for (number, file) in files.sorted(alloc)? {
+        if file.links() > 0 || is_open(opens, number) {
             let size = file.body().len();
             let bytes = file.body().read_at(0, size)?;
             rows.push(TreeRow::File {
-                number: *number,
+                number,
                 size,
                 bytes: bytes.into(),
             })?;
@@ -94,15 +98,16 @@ pub(crate) fn push_files(
 
 /// Puts the descriptors that are open behind the rows.
 pub(crate) fn push_opens(
+    alloc: Global,
     rows: &mut Vec<TreeRow>,
     opens: &Table<Option<OpenFile>>,
 ) -> Result<(), Memory>
     ensures { OnOk result (rows.new.items ≡ rows.old.items ++ open_rows (opens_from (finite.entries opens.now))) }
 {
-    for (fd, place) in opens.iter() {
+    for (fd, place) in opens.sorted(alloc)? {
         if let Some(open) = place {
             rows.push(TreeRow::Fd {
-                fd: *fd,
+                fd,
                 file: open.file,
                 access: open.access,
                 append: open.append,

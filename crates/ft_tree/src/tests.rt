@@ -4,7 +4,7 @@ ghost use Rattle.std.specs.Prelude.{IfOk, OnOk};
 ghost use Rattle.ft_path.specs.Name.{IsName};
 ghost use Rattle.ft_tree.specs.Cells.{HasFilePlace};
 
-use crate::{AccessMode, Cell, Found, Kind, Node, OpenFile, ROOT, Spot, Tree, TreeRow};
+use crate::{AccessMode, Cell, Found, Kind, Node, OpenFile, ROOT, Spot, Tree, TreeRow, walk};
 use ft_base::Memory;
 use ft_path::{Errno, FilePath, Name};
 use std::alloc::Global;
@@ -308,7 +308,9 @@ fn walks_to_b(alloc: Global, tree: &Tree) -> Result<bool, Fail> {
 }
 
 fn ends_at_b(tree: &Tree, names: &[Name]) -> bool {
-    match tree.walk(names, false) {
+    let mut reader = tree;
+    let Ok(end) = walk(&mut reader, names, false);
+    match end {
         Ok(
             Spot::Named {
                 dir: 2,

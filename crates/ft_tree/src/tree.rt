@@ -5,7 +5,7 @@ ghost use Rattle.std.specs.FinMap as map;
 ghost use Rattle.ft_tree.specs.Nodes.{with_kinds};
 ghost use Rattle.ft_tree.specs.Looks.{answer};
 ghost use Rattle.ft_tree.specs.Views.{view_of};
-ghost use Rattle.ft_tree.specs.Walk.{up, inner, last, walk, found, seen};
+ghost use Rattle.ft_tree.specs.Walk.{walk, found};
 ghost use Rattle.ft_body.specs.declared.TheConstants.{SIZE_LIMIT};
 ghost use Rattle.ft_body.specs.Bytes.{fitting, written, resized};
 ghost use Rattle.ft_tree.specs.Cells.{DirCells, entry_of, names_of, parent_of, links_of, bytes_of, body_in, open_of, kind_of, has_dir, has_file, put_entry, put_parent, put_links, put_bytes, put_open, stored_dirs, HasEntryPlace, HasDirPlace, HasFilePlace, HasOpenPlace, fresh_cells};
@@ -20,11 +20,13 @@ use crate::directory::Directory;
 use crate::file::File;
 use crate::node::{Found, Kind, Node, Spot};
 use crate::open_file::{OpenFile, is_open};
+use crate::reader::{Reader, walk};
 use crate::row::{TreeRow, push_dirs, push_edges, push_files, push_opens};
 use ft_base::{Memory, Table};
 use ft_body::{Body, BodyUndo};
 use ft_path::{Errno, Name, Parts};
 use std::alloc::Global;
+use std::convert::Infallible;
 use std::marker::Model;
 
 /// The number of the root directory. Every walk begins there.
@@ -241,7 +243,7 @@ impl Tree {
     /// a gap before them; where none has room, nothing changes. The file has to be stored, and no
     /// other cell changes. Answers how many were taken, and what takes the write back.
     ///
-    /// Refuses want of memory, and then nothing has changed.
+    /// Refuses want of memory, and then nothing has changed. A write that changes nothing takes none.
     pub fn write_bytes(
         &mut self,
         file: u64,
@@ -254,6 +256,7 @@ impl Tree {
         ensures ok { OnOk result (self.new ≡ put_bytes self.old file (written (bytes_of self.old file) offset (fitting bytes.now offset))) }
         ensures undo { IfOk result (λ done. done.1 ≡ record { before = bytes_of self.old file; after = bytes_of self.new file }) }
         ensures err { OnErr result (self.new ≡ self.old) }
+        ensures nothing { fitting bytes.now offset ≡ [] → IsOk result }
     {
         match self.files.get_mut(file) {
             Some(stored) => stored.write_at(offset, bytes),
@@ -264,13 +267,15 @@ impl Tree {
     /// Cuts a file to a size, or adds zeros up to it. The file has to be stored, and no other cell
     /// changes. Answers what takes the change back.
     ///
-    /// Refuses want of memory, and then nothing has changed.
+    /// Refuses want of memory, and then nothing has changed. A file that has the size already takes
+    /// none.
     pub fn set_size(&mut self, file: u64, size: u64) -> Result<BodyUndo, Memory>
         requires place { HasFilePlace self.old file }
         requires limit { size ≤ SIZE_LIMIT }
         ensures ok { OnOk result (self.new ≡ put_bytes self.old file (resized (bytes_of self.old file) size)) }
         ensures undo { IfOk result (λ undo. undo ≡ record { before = bytes_of self.old file; after = bytes_of self.new file }) }
         ensures err { OnErr result (self.new ≡ self.old) }
+        ensures same { length (bytes_of self.old file) ≡ size → IsOk result }
     {
         match self.files.get_mut(file) {
             Some(stored) => stored.set_len(size),
@@ -335,39 +340,20 @@ impl Tree {
         }
     }
 
-    /// Where a path's components lead, from the root: pathname resolution (POSIX.1-2017, Base
-    /// Definitions, 4.13). Relative and absolute paths are alike, a rule of this project.
-    ///
-    /// `.` stays where it is, and `..` goes to the parent, the root's being the root. A name that is
-    /// not the last has to lead to a directory: refuses a missing one as ENOENT, and a file as
-    /// ENOTDIR. A last name may be missing. Where it is a file and a slash follows (`trailing`), it
-    /// is refused as ENOTDIR too.
-    pub fn walk<'a>(&self, names: &'a [Name], trailing: bool) -> Result<Spot<'a>, Errno>
-        ensures { seen result ≡ answer (walk names.now trailing) (view_of self.now) }
-    {
-        let Some((first, rest)) = names.split_first() else {
-            return Ok(Spot::Itself(ROOT));
-        };
-        let mut dir = ROOT;
-        let mut name = first;
-        for next in rest {
-            dir = self.inner(dir, name)?;
-            name = next;
-        }
-        self.last(dir, name, trailing)
-    }
-
     /// What a path leads to, with the refusals of `walk`. A missing last name is a place without
     /// number; what a slash behind it means is for the call to judge.
     pub fn lookup(&self, parts: &Parts) -> Result<Found, Errno>
         ensures { result ≡ found (answer (walk parts.now.names parts.now.trailing) (view_of self.now)) }
     {
-        match self.walk(parts.names.as_slice(), parts.trailing)? {
-            Spot::Named { dir, node, .. } => Ok(Found::Place {
+        let mut tree = self;
+        let Ok(end) = walk(&mut tree, parts.names.as_slice(), parts.trailing);
+        match end {
+            Ok(Spot::Named { dir, node, .. }) => Ok(Found::Place {
                 dir,
                 number: node.map(Node::number),
             }),
-            Spot::Itself(number) => Ok(Found::Whole { number }),
+            Ok(Spot::Itself(number)) => Ok(Found::Whole { number }),
+            Err(errno) => Err(errno),
         }
     }
 
@@ -380,10 +366,10 @@ impl Tree {
         ensures { IfOk result (λ rows. rows.items ≡ rows_of (tidy self.now)) }
     {
         let mut rows = Vec::new(self.alloc);
-        push_dirs(&mut rows, &self.directories)?;
-        push_edges(&mut rows, &self.directories)?;
-        push_files(&mut rows, &self.files, &self.opens)?;
-        push_opens(&mut rows, &self.opens)?;
+        push_dirs(self.alloc, &mut rows, &self.directories)?;
+        push_edges(self.alloc, &mut rows, &self.directories)?;
+        push_files(self.alloc, &mut rows, &self.files, &self.opens)?;
+        push_opens(self.alloc, &mut rows, &self.opens)?;
         Ok(rows)
     }
 
@@ -419,47 +405,25 @@ impl Tree {
     {
         self.links(number) > 0 || is_open(&self.opens, number)
     }
+}
 
-    /// The parent of a directory, the root's being the root.
-    fn up(&self, dir: u64) -> u64
-        ensures { result ≡ answer (up dir) (view_of self.now) }
-    {
-        if dir == ROOT {
-            return ROOT;
-        }
-        self.parent(dir).unwrap_or(ROOT)
+/// A tree that is read, and no account kept of what is read.
+impl<'t> Reader for &'t Tree {
+    ghost use Rattle.std.specs.Prelude.{refl};
+
+    type Want = Infallible;
+
+    ghost cells = { λ tree. tree.now };
+
+    ghost noted = { λ tree _. tree };
+
+    ghost stays = { λ _ _. refl };
+
+    fn entry(&mut self, dir: u64, name: &Name) -> Result<Option<Node>, Infallible> {
+        Ok(Tree::entry(self, dir, name))
     }
 
-    /// Where a component that is not the last leads from a directory.
-    fn inner(&self, dir: u64, name: &Name) -> Result<u64, Errno>
-        ensures { result ≡ answer (inner dir name.now) (view_of self.now) }
-    {
-        if name.is_dot() {
-            return Ok(dir);
-        }
-        if name.is_dot_dot() {
-            return Ok(self.up(dir));
-        }
-        match self.entry(dir, name) {
-            None => Err(Errno::ENOENT),
-            Some(Node::Dir(number)) => Ok(number),
-            Some(Node::File(_)) => Err(Errno::ENOTDIR),
-        }
-    }
-
-    /// Where the last component leads from a directory.
-    fn last<'a>(&self, dir: u64, name: &'a Name, trailing: bool) -> Result<Spot<'a>, Errno>
-        ensures { seen result ≡ answer (last dir name.now trailing) (view_of self.now) }
-    {
-        if name.is_dot() {
-            return Ok(Spot::Itself(dir));
-        }
-        if name.is_dot_dot() {
-            return Ok(Spot::Itself(self.up(dir)));
-        }
-        match self.entry(dir, name) {
-            Some(Node::File(_)) if trailing => Err(Errno::ENOTDIR),
-            node => Ok(Spot::Named { dir, name, node }),
-        }
+    fn parent(&mut self, dir: u64) -> Result<Option<u64>, Infallible> {
+        Ok(Tree::parent(self, dir))
     }
 }

@@ -1,5 +1,5 @@
 -- What follows from edits of different cells being made.
-use Rattle.std.proofs.Common.{◌≡◌, List, map, Result, Ok, Err, OnOk, OnErr, IfOk, sym, ap, subst, ◌∙◌}
+use Rattle.std.proofs.Common.{◌≡◌, List, [], map, Result, Ok, Err, OnOk, OnErr, IfOk, sym, ap, subst, ◌∙◌}
 use Rattle.ft_base.specs.declared.memory.Memory.{Memory}
 use Rattle.ft_laws.specs.Effects.{before}
 use Rattle.ft_tree.specs.Cells.{Cells}
@@ -10,9 +10,9 @@ use Rattle.ft_calls.specs.Comes.{writes_of}
 use Rattle.ft_calls.specs.Posix.{as_change, posix}
 use Rattle.ft_calls.specs.Stored.{put_all}
 use Rattle.ft_calls.specs.Edits.{edit_cell, Apart, EditingLaw, edited, CanEditAll}
-use Rattle.ft_undo.specs.Undone.{given_back, CanGiveAllBack, AreAsLeft, IsApplied}
-use Rattle.ft_calls.specs.CellLaws.{SettingLaw}
-use Rattle.ft_undo.proofs.Undoing.{left-edited, undo-before, give-all, as-left, written-edits}
+use Rattle.ft_undo.specs.Undone.{given_back, CanGiveAllBack, AreAsLeft, IsApplied, restored, CanRestoreAll}
+use Rattle.ft_calls.specs.CellLaws.{SettingLaw, RestoringLaw}
+use Rattle.ft_undo.proofs.Undoing.{left-edited, undo-before, give-all, as-left, written-edits, append-nil, IsUnderWay, under-way-back, under-way-same}
 
 module _ (editing : EditingLaw) (setting : SettingLaw) (old : Cells) (edits : List Edit) (apart : Apart edits) (new : Cells) where
   pub made : (r : Result (List Back) Memory) → IsApplied old edits new r → OnOk r (new ≡ put_all old (writes_of old edits))
@@ -42,3 +42,16 @@ module _ (editing : EditingLaw) (setting : SettingLaw) (old : Cells) (edits : Li
       subst (λ (t : Cells). AreAsLeft t t (map written_cell (writes_of old edits))) (sym h.0)
       (subst (AreAsLeft (edited old edits) (edited old edits)) (sym (written-edits old edits)) (left-edited setting old edits can))
   left can (Err memory) h = tt
+
+  module _ (restoring : RestoringLaw) (can : CanEditAll old edits) where
+    whole : (undo : List Back) → IsApplied old edits new (Ok undo) → IsUnderWay old edits new undo []
+    whole undo h = record { made = edits; split = append-nil edits; cells = h.0; backs = h.1 }
+
+    -- they can be taken back as if they had never been
+    pub can_take_back : (r : Result (List Back) Memory) → IsApplied old edits new r → IfOk r (λ undo. CanRestoreAll new undo)
+    can_take_back (Ok undo) h = under-way-back old edits new undo setting restoring [] can (whole undo h)
+    can_take_back (Err memory) h = tt
+
+    pub taken_back : (r : Result (List Back) Memory) → IsApplied old edits new r → IfOk r (λ undo. restored new undo ≡ old)
+    taken_back (Ok undo) h = under-way-same old edits new undo setting restoring [] can (whole undo h)
+    taken_back (Err memory) h = tt

@@ -305,7 +305,7 @@ module _ (old : Cells) (all : List Edit) (now : Cells) (undo : List Back) where
     pub under-way-same : restored now undo ≡ old
     under-way-same = (λ i. restored (on.cells i) (on.backs i)) ∙ restored-edited setting restoring old on.made made-can
 
-append-nil : (es : List Edit) → es ++ [] ≡ es
+pub append-nil : (es : List Edit) → es ++ [] ≡ es
 append-nil [] = refl
 append-nil (e ∷ es) = ap (λ fs. e ∷ fs) (append-nil es)
 

@@ -6,7 +6,11 @@ mod action;
 mod log_tests;
 mod logs;
 #[cfg(test)]
+mod table_tests;
+#[cfg(test)]
 mod tests;
+#[cfg(test)]
+mod texts;
 mod undo;
 
 pub use action::perform;

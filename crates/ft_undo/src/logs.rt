@@ -20,8 +20,8 @@ pub struct Logged {
 /// The undo logs: for each open transaction a list of what takes its calls back, the newest first.
 ///
 /// A transaction is open from its begin to its end. Each call takes the time to find its
-/// transactions, logarithmic in how many are open, however long their lists are; only `close` takes
-/// the time of what it drops besides.
+/// transactions by a hash, however many are open and however long their lists are; only `close`
+/// takes the time of what it drops besides.
 #[derive(Drop)]
 pub struct Logs {
     chains: Chains<Logged>,

@@ -90,7 +90,7 @@ impl Undo {
 
     /// Takes back what was done of a call that wants memory, the last edit first: nothing has changed
     /// then, and no place is left that was new. Takes no memory.
-    fn take_back(self, tree: &mut Tree)
+    pub fn take_back(self, tree: &mut Tree)
         requires { CanRestoreAll tree.old self }
         ensures { tree.new ≡ restored tree.old self }
     {
@@ -103,7 +103,8 @@ impl Undo {
 
 /// Makes the edits of a call that was looked at, and answers what takes them back. Each written cell
 /// has its place then. `revert` may take them back wherever each of these cells has its place and
-/// holds what the edits left in it.
+/// holds what the edits left in it. At once they can be taken back as if they had never been, by
+/// `Undo::take_back`.
 ///
 /// The one refusal is want of memory: what was done is taken back, and nothing has changed.
 pub fn apply(alloc: Global, tree: &mut Tree, intent: Intent<'_>) -> Result<Undo, Memory>
@@ -114,9 +115,12 @@ pub fn apply(alloc: Global, tree: &mut Tree, intent: Intent<'_>) -> Result<Undo,
     ensures left { OnOk result (AreAsLeft tree.new tree.new (map written_cell (writes_of tree.old intent.entry.edits))) }
     ensures inverse { IfOk result (λ undo. map as_change (map given_back undo) ≡ before posix tree.old (map as_change (writes_of tree.old intent.entry.edits))) }
     ensures may_revert { IfOk result (λ undo. (cells : Cells) → AreAsLeft cells tree.new (map written_cell (writes_of tree.old intent.entry.edits)) → CanGiveAllBack cells undo) }
+    ensures can_take_back { IfOk result (λ undo. CanRestoreAll tree.new undo) }
+    ensures taken_back { IfOk result (λ undo. restored tree.new undo ≡ tree.old) }
 {
     editing();
     setting();
+    restoring();
     let Intent { told: _, edits } = intent;
     make(alloc, tree, edits)
 }

@@ -7,3 +7,4 @@ pub mod Cycles
 pub mod Listed
 pub mod Verdicts
 pub mod Named
+pub mod Ranked

@@ -81,8 +81,8 @@ impl<'a> Walk<'a> {
         ensures { IfOk result (λ list. list.items ≡ finite.entries self.now.ranks) }
     {
         let mut list = Vec::with_capacity(self.alloc, self.ranks.len())?;
-        for (txn, rank) in self.ranks.iter() {
-            list.push((TxnId(*txn), *rank))?;
+        for (txn, rank) in self.ranks.sorted(self.alloc)? {
+            list.push((TxnId(txn), *rank))?;
         }
         Ok(list)
     }

@@ -1,4 +1,4 @@
-use Rattle.std.proofs.Common.{ℕ, false, true, not, ◌&&◌, ◌||◌, Bool, ◌≡◌, refl, ap, sym, ◌∙◌}
+use Rattle.std.proofs.Common.{false, true, not, ◌&&◌, ◌||◌, Bool, ◌≡◌, refl, ap, sym, ◌∙◌}
 use Rattle.std.specs.FinMap as finite
 use Rattle.ft_forest.specs.Transactions.{over_in}
 use Rattle.ft_locks.specs.Blocking.{is_in_way}

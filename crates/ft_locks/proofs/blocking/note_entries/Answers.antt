@@ -1,4 +1,4 @@
-use Rattle.std.proofs.Common.{ℕ, false, not, ◌&&◌, ◌||◌, Bool, true, ◌≡◌, refl, ap, sym, ◌∙◌}
+use Rattle.std.proofs.Common.{false, not, ◌&&◌, ◌||◌, Bool, true, ◌≡◌, refl, ap, sym, ◌∙◌}
 use Rattle.std.specs.List.{list_any}
 use Rattle.std.specs.Map.Iter.{deref}
 use Rattle.std.proofs.lemmas.Map.Iter.{rest_all}

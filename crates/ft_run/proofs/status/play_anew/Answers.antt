@@ -1,7 +1,7 @@
 use Rattle.std.proofs.Common.{inr, subst}
 use Rattle.std.proofs.lemmas.Result.{on_ok_weaker, MatchResult-weaker}
-use Rattle.ft_core.specs.State.{State}
-use Rattle.ft_run.specs.Runs.{PlaysAll, StopsAt}
+use Rattle.ft_core.specs.States.{State}
+use Rattle.ft_script.specs.Runs.{PlaysAll, StopsAt}
 use Rattle.ft_run.proofs.status.play_anew.Goals as goal
 
 pub returns-in-Ok-clause-ok : goal.returns-in-Ok-clause-ok

@@ -1,6 +1,6 @@
 use Rattle.std.proofs.Common.{subst, ◌∙◌}
-use Rattle.ft_run.specs.Runs.{WritesFront}
-use Rattle.ft_run.proofs.Stopping.{front_of_write}
+use Rattle.ft_script.specs.Runs.{WritesFront}
+use Rattle.ft_run.proofs.Fronts.{front_of_write}
 use Rattle.ft_run.proofs.status.play_status.Goals as goal
 
 pub returns-in-Err-clause-fault : goal.returns-in-Err-clause-fault

@@ -23,7 +23,7 @@ returns c =
     let free = c.requires.free in
     let comes = c.in_ok-intent.ensures.outcome in
     let made = c.in_ok-undo.ensures in
-    let reply = c.in_ok-reply.ensures ∙ ap (λ (o : Outcome). o.reply) comes in
+    let reply = c.in_ok-reply.ensures.reply ∙ ap (λ (o : Outcome). o.reply) comes in
     let stored = made.made ∙ ap (λ (o : Outcome). put_all old o.writes) comes in
     record {
       reply = reply;

@@ -1,10 +1,12 @@
-use Rattle.std.proofs.Common.{◌≡◌, ◌++◌, ℕ, List, Option, IfSome, length, take, drop, nat_eq, arith, sym, ap, subst, ◌∙◌}
+use Rattle.std.proofs.Common.{◌≡◌, ◌++◌, ℕ, List, Option, IfSome, IfNone, true, length, take, drop, nat_eq, arith, rules, sym, ap, subst, ◌∙◌}
 use Rattle.std.specs.List.{IsDistinct}
+use Rattle.std.specs.FinMap as finite
 use Rattle.std.proofs.Math.Seq.{take-append_seam}
 use Rattle.ft_waits.specs.declared.edge.Edge.{Edge}
 use Rattle.ft_waits.specs.Waits.{IsCycle}
-use Rattle.ft_waits.specs.Walk.{IsWalk}
+use Rattle.ft_waits.specs.Walk.{IsWalk, AreInOrder}
 use Rattle.ft_waits.specs.Stands.{IsToldCycle, AreToldRanks}
+use Rattle.ft_waits.proofs.Ranked.{ranked-on, same-there}
 use Rattle.ft_waits.proofs.Verdicts.{told-cycle, told-ranks}
 use Rattle.ft_waits.proofs.verdict.judge_sorted.Goals as goal
 
@@ -32,3 +34,18 @@ returns c =
     let items = c.into-2.ensures ∙ c.in_ok-ranks_list.ensures in
     let stands : IsWalk edges walk.unseen walk.ranks _ = subst (λ (es : List Edge). IsWalk es walk.unseen walk.ranks _) c.loop-edge.invariant.edges c.loop-edge.invariant.stands in
     subst (λ (list : List (ℕ × ℕ)). AreToldRanks edges list) (sym items) (told-ranks edges walk.unseen walk.ranks stands (λ k e lt. c.loop-edge.invariant.ranked k e (let past = c.loop-edge-test.false in omega arith)))
+
+pub visit-requires-clause-in_order : goal.visit-requires-clause-in_order
+visit-requires-clause-in_order c = subst (λ (edges : List Edge). AreInOrder edges) (sym c.loop-edge.invariant.edges) c.requires
+
+pub loop-edge-preserved : goal.loop-edge-preserved
+loop-edge-preserved c =
+    let ranks = c.visit.new.self.ranks in
+    let root : finite.contains_key ranks c.edge-item.result.from ≡ true = subst (λ (found : Option _). IfNone found (finite.contains_key ranks c.edge-item.result.from ≡ true)) c.in_default.is c.in_ok-members.ensures.ranked in
+    record {
+      edges = search rules;
+      stands = search rules;
+      at_rest = search rules;
+      ranked = ranked-on c.args.edges.now c.loop-edge.walk.ranks ranks c.loop-edge.edge-index c.visit.ensures.keeps c.loop-edge.invariant.ranked
+          (λ e. subst (λ (edge : Edge). finite.contains_key ranks edge.from ≡ true) (c.edge-item.is ∙ same-there c.args.edges.now c.loop-edge.edge-index c.edge-item.result e c.loop-edge-test.true) root);
+    }

@@ -18,7 +18,7 @@ pub loop-preserved : goal.loop-preserved
 loop-preserved c =
     let n = c.stored_dirs-end.result - (c.loop.counter + 1) in
     let on = climb-up n (c.stored_dirs-end.result - c.loop.counter) c.args.moved c.loop.at (omega (arith, c.loop-test.true)) (search rules) (search rules) in
-    let found : Finds c.loop.self (look_at (Parent c.loop.at)) c.parent.new.self (Ok c.in_ok-parent.field-0) = c.in_ok-parent.ensures in
+    let found : Finds c.loop.self (look_at (Parent c.loop.at)) c.parent.new.self (Ok c.in_ok-parent.field-0) = (c.in_ok-parent.ensures.parent, c.in_ok-parent.ensures.noted) in
     let go : Option ℕ → Looks Bool = λ p. climb n c.args.moved (unwrap_or p 1) in
     record {
       noted =

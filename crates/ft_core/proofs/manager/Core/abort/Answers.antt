@@ -1,37 +1,17 @@
-use Rattle.std.proofs.Common.{◌≡◌, Option, Some, ap, sym, subst, ◌∙◌}
-use Rattle.ft_core.specs.declared.journal.Life.TheVariants.{Live}
-use Rattle.ft_core.specs.declared.manager.Saved.{Saved}
-use Rattle.ft_core.specs.History.{life_of}
-use Rattle.ft_core.specs.State.{State, count_standing, after_abort}
-use Rattle.ft_core.specs.Kept.{IsCore, saved_without}
-use Rattle.ft_core.specs.Step.{interim_rule}
-use Rattle.ft_core.proofs.Cores.{core-abort}
-use Rattle.ft_core.proofs.Steps.{step-abort}
+use Rattle.std.proofs.Common.{sym, subst}
+use Rattle.ft_core.specs.declared.request.Answer.TheVariants.{Aborted}
+use Rattle.ft_core.specs.declared.request.Request.TheVariants.{Abort}
+use Rattle.ft_core.specs.States.{State, history}
+use Rattle.ft_core.specs.Steps.{IsStep, exact_rule, answer_with}
+use Rattle.ft_core.specs.Kept.{IsKept}
+use Rattle.ft_core.proofs.Alone.{step-alone}
 use Rattle.ft_core.proofs.manager.Core.abort.Goals as goal
 
--- the tree from before its first call is put back
-pub invariant_of-self : goal.invariant_of-self
-invariant_of-self c =
-    let s : State = c.self.inside.journal.state in
-    let live : life_of s.events c.args.txn ≡ Some Live = ap (λ (q : State). life_of q.events c.args.txn) c.self.view_is ∙ c.in_ok-check_live.ensures.live in
-    let aborts = core-abort s c.self.inside.tree c.args.txn live c.self.inside.saved c.self.invariant in
-    subst (λ (saved : Option Saved). IsCore c.abort.new.self.state c.in-Some.saved.tree saved) (sym c.in-Some.ensures.left)
-    (subst (λ (q : State). IsCore q c.in-Some.saved.tree (saved_without c.self.inside.saved c.args.txn)) (sym c.abort.ensures) (aborts.some c.in-Some.saved (sym c.in-Some.ensures.own)).0)
+pub returns-clause-step : goal.returns-clause-step
+returns-clause-step c = subst (λ (q : State). IsStep exact_rule c.args.self.now (Abort c.args.txn) (answer_with Aborted c.abort_below-count.result) q) (sym c.give_places_back.ensures) c.abort_below-count.ensures
 
--- it had no call
-pub invariant_of-self-in-None : goal.invariant_of-self-in-None
-invariant_of-self-in-None c =
-    let s : State = c.self.inside.journal.state in
-    let live : life_of s.events c.args.txn ≡ Some Live = ap (λ (q : State). life_of q.events c.args.txn) c.self.view_is ∙ c.in_ok-check_live.ensures.live in
-    let aborts = core-abort s c.self.inside.tree c.args.txn live c.self.inside.saved c.self.invariant in
-    subst (λ (saved : Option Saved). IsCore c.abort.new.self.state c.self.inside.tree saved) (sym c.in-None.ensures.left)
-    (subst (λ (q : State). IsCore q c.self.inside.tree (saved_without c.self.inside.saved c.args.txn)) (sym c.abort.ensures) (aborts.none (sym c.in-None.ensures.own)).0)
-
-pub returns-in-None : goal.returns-in-None
-returns-in-None c =
-    let s : State = c.self.inside.journal.state in
-    let live : life_of s.events c.args.txn ≡ Some Live = ap (λ (q : State). life_of q.events c.args.txn) c.self.view_is ∙ c.in_ok-check_live.ensures.live in
-    let aborts = core-abort s c.self.inside.tree c.args.txn live c.self.inside.saved c.self.invariant in
-    step-abort interim_rule c.args.self.now c.abort.new.self.state c.args.txn 0 c.in_ok-check_live.ensures.live
-    ((aborts.none (sym c.in-None.ensures.own)).1 ∙ ap (λ (q : State). count_standing q c.args.txn) c.self.view_is)
-    (c.abort.ensures ∙ ap (λ (q : State). after_abort q c.args.txn) c.self.view_is)
+pub returns-clause-alone : goal.returns-clause-alone
+returns-clause-alone c = λ before alone.
+    step-alone c.call_laws.ensures exact_rule before c.args.self.now c.give_places_back.new.self c.args.txn (answer_with Aborted c.abort_below-count.result) c.self.inside.tree c.self.invariant.log
+    (subst (λ (s : State). IsKept s.base (history s) s.last_txn s.last_stamp c.self.inside.tree c.self.invariant.log) c.self.view_is c.self.invariant.kept) alone
+    (subst (λ (q : State). IsStep exact_rule c.args.self.now (Abort c.args.txn) (answer_with Aborted c.abort_below-count.result) q) (sym c.give_places_back.ensures) c.abort_below-count.ensures)

@@ -1,10 +1,7 @@
-use Rattle.std.proofs.Common.{None, sym, subst}
-use Rattle.ft_core.specs.State.{State}
-use Rattle.ft_core.specs.Kept.{IsCore}
-use Rattle.ft_core.proofs.Cores.{core-first}
+use Rattle.ft_core.proofs.Cores.{core-new}
 use Rattle.ft_core.proofs.manager.Core.new.Goals as goal
 
--- a core over the root alone
 pub invariant_of-result : goal.invariant_of-result
 invariant_of-result c =
-    subst (λ (s : State). IsCore s c.in_ok-tree.tree None) (sym c.new-2.ensures) (core-first c.in_ok-tree.tree c.in_ok-tree.ensures.cells c.in_ok-tree.ensures.sound c.in_ok-tree.ensures.free)
+    core-new c.call_laws.ensures c.lock_laws.ensures c.in_ok-tree.tree c.in_ok-tree.ensures.sound c.in_ok-tree.ensures.free c.new-5.result c.new-5.ensures.lists
+    c.new-4.result c.new-4.ensures c.in_ok-locks.locks c.in_ok-locks.ensures c.of.result.value c.of.ensures c.new-3.result c.new-3.ensures

@@ -2,8 +2,8 @@ use Rattle.std.proofs.Common.{◌≡◌, ◌≤◌, ◌+◌, List, [], ◌∷◌
 use Rattle.std.specs.Vec.Iter.{into_iter_items}
 use Rattle.ft_core.specs.declared.request.Request.{Request}
 use Rattle.ft_core.specs.declared.request.Answer.{Answer}
-use Rattle.ft_core.specs.Step.{IsRun, interim_rule}
-use Rattle.ft_core.proofs.Running.{run-push}
+use Rattle.ft_core.specs.Steps.{IsRun, exact_rule}
+use Rattle.ft_core.proofs.RunsOn.{run-push}
 use Rattle.ft_core.proofs.manager.Core.run.Goals as goal
 
 pub loop-request-preserved : goal.loop-request-preserved
@@ -15,8 +15,8 @@ loop-request-preserved c =
     let items : c.push.new.self.items ≡ c.loop-request.answers.items ++ c.answer-answer.result ∷ [] =
     c.push.ensures.items ∙ ap (λ b. if b then (c.loop-request.answers.items ++ c.answer-answer.result ∷ []) else c.loop-request.answers.items) fits in
     record {
-      ran = subst (λ (answers : List Answer). IsRun interim_rule c.args.self.now (c.loop-request.yielded ++ c.in-Some.request ∷ []) answers c.answer-answer.new.self) (sym items)
-          (run-push interim_rule c.args.self.now c.loop-request.yielded c.loop-request.answers.items c.loop-request.self c.in-Some.request c.answer-answer.result c.answer-answer.new.self c.loop-request.invariant.ran c.answer-answer.ensures);
+      ran = subst (λ (answers : List Answer). IsRun exact_rule c.args.self.now (c.loop-request.yielded ++ c.in-Some.request ∷ []) answers c.answer-answer.new.self) (sym items)
+          (run-push exact_rule c.args.self.now c.loop-request.yielded c.loop-request.answers.items c.loop-request.self c.in-Some.request c.answer-answer.result c.answer-answer.new.self c.loop-request.invariant.ran c.answer-answer.ensures);
       rest = append_assoc c.loop-request.yielded (c.in-Some.request ∷ []) (into_iter_items c.next.new.self) ∙ ap (λ (rs : List Request). c.loop-request.yielded ++ rs) (sym rest) ∙ c.loop-request.invariant.rest;
       room = let upper = c.push.ensures.upper_bound in let capacity = c.push.ensures.capacity in omega arith;
     }

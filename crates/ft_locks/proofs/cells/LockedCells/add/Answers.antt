@@ -1,7 +1,6 @@
-use Rattle.std.proofs.Common.{ℕ, Some, refl, cond, ◌==◌, ap, sym, ◌∙◌, Option}
+use Rattle.std.proofs.Common.{Some, cond, ◌==◌, ap, sym, ◌∙◌}
 use Rattle.std.specs.Ordering.{nat_cmp}
 use Rattle.std.specs.FinMap as finite
-use Rattle.ft_locks.specs.declared.marks.Marks.{Marks}
 use Rattle.ft_locks.specs.Marks.{no_marks}
 use Rattle.ft_locks.specs.Cells.{marks_at}
 use Rattle.ft_locks.proofs.Names.{ok_then, err_then}

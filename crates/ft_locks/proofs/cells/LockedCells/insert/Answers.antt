@@ -1,4 +1,4 @@
-use Rattle.std.proofs.Common.{ℕ, List, not, ◌&&◌, ◌≡◌, subst, sym, ap, ◌∙◌}
+use Rattle.std.proofs.Common.{ℕ, List, not, ◌&&◌, ◌≡◌, subst, ap}
 use Rattle.ft_tree.specs.declared.cell.Cell.TheVariants.{Entry}
 use Rattle.ft_tree.specs.CellOrder.{same_cell}
 use Rattle.ft_locks.specs.Cells.{has_name}

@@ -1,4 +1,4 @@
-use Rattle.std.proofs.Common.{ℕ, Some, refl, cond, ◌==◌, ap, ◌∙◌, Option}
+use Rattle.std.proofs.Common.{refl, cond, ◌==◌, ap, ◌∙◌, Option}
 use Rattle.std.specs.Option.{option_map}
 use Rattle.std.specs.FinMap as finite
 use Rattle.ft_locks.specs.declared.marks.Marks.{Marks}

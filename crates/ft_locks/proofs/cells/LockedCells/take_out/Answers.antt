@@ -1,7 +1,6 @@
-use Rattle.std.proofs.Common.{ℕ, None, refl, cond, ◌==◌, ap, sym, is_some, ◌∙◌, Option}
+use Rattle.std.proofs.Common.{None, refl, cond, ◌==◌, ap, is_some, ◌∙◌}
 use Rattle.std.specs.Ordering.{nat_cmp}
 use Rattle.std.specs.FinMap as finite
-use Rattle.ft_locks.specs.declared.marks.Marks.{Marks}
 use Rattle.ft_locks.specs.Cells.{marks_at}
 use Rattle.ft_locks.proofs.Places.{marks-found, marks-missing, changed_at, unchanged_at, got-removed, taken_out, at_itself}
 use Rattle.ft_locks.proofs.cells.LockedCells.take_out.Goals as goal

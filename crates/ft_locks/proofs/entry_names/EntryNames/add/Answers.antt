@@ -1,4 +1,4 @@
-use Rattle.std.proofs.Common.{Some, None, true, false, cond, ap, sym, ◌∙◌}
+use Rattle.std.proofs.Common.{Some, None, true, cond, ap, ◌∙◌}
 use Rattle.std.specs.Ordering.{nat_cmp}
 use Rattle.std.specs.Cmp.Lexicographic.{slice_cmp}
 use Rattle.std.specs.List.{list_any}

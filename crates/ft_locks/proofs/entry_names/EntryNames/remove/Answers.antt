@@ -1,6 +1,6 @@
 use Rattle.std.proofs.Common.{Some, refl, ap, ◌∙◌}
 use Rattle.ft_locks.specs.Cells.{has_name}
-use Rattle.ft_locks.proofs.Names.{name_removed, names_dropped, no_keys, names_missing}
+use Rattle.ft_locks.proofs.Names.{name_removed, names_dropped, no_keys}
 use Rattle.ft_locks.proofs.entry_names.EntryNames.remove.Goals as goal
 
 pub returns-then-is_last : goal.returns-then-is_last

@@ -1,4 +1,4 @@
-use Rattle.std.proofs.Common.{ℕ, false, is_some, ◌∷◌, ap, sym, refl, subst, ◌∙◌}
+use Rattle.std.proofs.Common.{is_some, ◌∷◌, ap, sym, ◌∙◌}
 use Rattle.std.specs.FinMap as finite
 use Rattle.ft_base.specs.Chains.{list_in}
 use Rattle.ft_locks.specs.Marks.{no_marks}

@@ -1,8 +1,8 @@
-use Rattle.std.proofs.Common.{ℕ, ◌+◌, List, ◌∷◌, length, drop, is_some, true, ap, sym, subst, refl, ◌≡◌, ◌∙◌, add-one}
+use Rattle.std.proofs.Common.{◌+◌, length, drop, is_some, ap, sym, subst, ◌∙◌, add-one}
 use Rattle.std.specs.FinMap as finite
-use Rattle.ft_base.specs.Chains.{list_in, moved}
+use Rattle.ft_base.specs.Chains.{list_in}
 use Rattle.ft_locks.specs.Cells.{marks_at}
-use Rattle.ft_locks.specs.Holdings.{IsJoined, has_place, popped}
+use Rattle.ft_locks.specs.Holdings.{IsJoined, has_place}
 use Rattle.ft_locks.proofs.Joining.{first_is, none_first, front_there, popped_is, moved_is, list_there, list_elsewhere, open_if_listed, still-insert, still-twice, joined-merged, joined-moved, none_placed}
 use Rattle.ft_locks.proofs.holdings.Holdings.hand_front.Goals as goal
 

@@ -1,4 +1,4 @@
-use Rattle.std.proofs.Common.{ap, sym, is_some, ◌∙◌}
+use Rattle.std.proofs.Common.{ap, sym, is_some}
 use Rattle.ft_locks.proofs.Places.{marks-missing}
 use Rattle.ft_locks.proofs.holdings.Holdings.has_place.Goals as goal
 

@@ -1,8 +1,6 @@
-use Rattle.std.proofs.Common.{◌==◌, ◌&&◌, ◌||◌, true, false, take, arith, is_some, ap, sym, ◌∙◌}
+use Rattle.std.proofs.Common.{◌==◌, ◌&&◌, ◌||◌, take, arith, ap, sym, ◌∙◌}
 use Rattle.std.proofs.lemmas.Bool.{eqb-true}
-use Rattle.std.specs.FinMap as finite
 use Rattle.ft_tree.specs.CellOrder.{same_cell, same_cell-is}
-use Rattle.ft_locks.specs.Cells.{is_at}
 use Rattle.ft_locks.specs.Locks.{is_accessed}
 use Rattle.ft_locks.specs.Holdings.{has_place}
 use Rattle.ft_locks.proofs.CellViews.{turned_cell}

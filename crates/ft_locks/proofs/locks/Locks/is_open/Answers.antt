@@ -1,4 +1,4 @@
-use Rattle.std.proofs.Common.{false, true, not, ◌&&◌, ◌==◌, ap, sym, ◌∙◌}
+use Rattle.std.proofs.Common.{not, ◌&&◌, ap, sym, ◌∙◌}
 use Rattle.std.proofs.lemmas.Bool.{eq-eqb}
 use Rattle.std.specs.FinMap as finite
 use Rattle.ft_locks.proofs.Joining.{apart_test}

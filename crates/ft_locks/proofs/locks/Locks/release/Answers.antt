@@ -1,4 +1,4 @@
-use Rattle.std.proofs.Common.{false, sym, ap, ◌∙◌, ◌==◌}
+use Rattle.std.proofs.Common.{sym, ◌∙◌}
 use Rattle.std.proofs.lemmas.Bool.{false≢true, eq-eqb}
 use Rattle.ft_locks.proofs.Handing.{opened_open, release_kept, release_view}
 use Rattle.ft_locks.proofs.locks.Locks.release.Goals as goal

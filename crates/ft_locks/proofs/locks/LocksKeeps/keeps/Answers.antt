@@ -1,4 +1,4 @@
-use Rattle.std.proofs.Common.{false, true, ap, sym, ◌∙◌}
+use Rattle.std.proofs.Common.{false, ap, sym, ◌∙◌}
 use Rattle.std.proofs.lemmas.Bool.{false≢true}
 use Rattle.ft_locks.specs.Marks.{is_marked_of}
 use Rattle.ft_locks.proofs.Places.{marks-found, marks-missing}

@@ -1,0 +1,123 @@
+// The asks of one transaction, in a table with the locks of others.
+use anyhow::{Context, Result, ensure};
+use ft_calls::{Access, Mode};
+use ft_forest::{Forest, TxnId};
+use ft_locks::Locks;
+use ft_path::{FilePath, Name};
+use ft_tree::Cell;
+use std::alloc::Global;
+use std::mem;
+
+/// What is done again and again in a table of locks.
+#[derive(Clone, Copy, Debug, PartialEq, Eq)]
+pub enum Asking {
+    /// Three accesses are made, and nothing is asked: what the others take beside their asks.
+    Accesses,
+    /// Who is in the way of three accesses that nobody has locked, and their grant.
+    Alone,
+    /// The same, while as many other transactions are open as there are locks.
+    Among,
+}
+
+impl Asking {
+    /// The one of this name.
+    pub fn named(name: &str) -> Option<Asking> {
+        match name {
+            "accesses" => Some(Asking::Accesses),
+            "alone" => Some(Asking::Alone),
+            "among" => Some(Asking::Among),
+            _ => None,
+        }
+    }
+}
+
+/// The transactions, and their locks.
+#[derive(Drop)]
+struct Table {
+    forest: Forest,
+    locks: Locks,
+}
+
+impl Table {
+    fn begin(&mut self) -> Result<TxnId> {
+        let txn = self.forest.begin()?;
+        self.locks.open(txn)?;
+        Ok(txn)
+    }
+
+    fn grant(&mut self, txn: TxnId, accesses: &[Access]) -> Result<()> {
+        ensure!(self.locks.is_open(txn), "a transaction that is not open");
+        self.locks.grant(txn, accesses)?;
+        Ok(())
+    }
+
+    /// Asks who is in the way, and grants what is asked for where nobody is.
+    fn ask(&mut self, txn: TxnId, accesses: &[Access]) -> Result<bool> {
+        let blockers = self.locks.blockers(&self.forest, txn, accesses)?;
+        let is_granted = blockers.is_empty();
+        if is_granted {
+            self.grant(txn, accesses)?;
+        }
+        Ok(is_granted)
+    }
+}
+
+/// The entry of a directory that has the first name of a path.
+fn entry(alloc: Global, dir: u64, path: &str) -> Result<Cell> {
+    let path = FilePath::new(alloc, path.as_bytes())?;
+    let parts = path.parts(alloc)?;
+    let name: &Name = parts.names.as_slice().first().context("a name")?;
+    Ok(Cell::Entry(dir, name.clone()?))
+}
+
+/// Three accesses, as of a call that makes a file with this number.
+fn accesses_of(alloc: Global, file: u64) -> Result<[Access; 3]> {
+    let mode = Mode::Write;
+    Ok([
+        Access {
+            cell: entry(alloc, 1, format!(in alloc; "/n{file}")?.as_str())?,
+            mode,
+        },
+        Access {
+            cell: Cell::Links(file),
+            mode,
+        },
+        Access {
+            cell: Cell::Bytes(file),
+            mode,
+        },
+    ])
+}
+
+/// Gives locks, as many as `size`: all to one transaction, or each to one of its own.
+fn fill(alloc: Global, table: &mut Table, asking: Asking, size: u64) -> Result<()> {
+    let mut owner = table.begin()?;
+    for number in 0..size {
+        if asking == Asking::Among {
+            owner = table.begin()?;
+        }
+        let cell = entry(alloc, 2, format!(in alloc; "/d{number}")?.as_str())?;
+        let mode = Mode::Write;
+        table.grant(owner, [Access { cell, mode }].as_slice())?;
+    }
+    Ok(())
+}
+
+/// Asks as often as `count` says, in a table of so many locks: how often nobody was in the way.
+pub fn run(alloc: Global, asking: Asking, count: u64, size: u64) -> Result<u64> {
+    let forest = Forest::new(alloc, 0);
+    let locks = Locks::new(alloc)?;
+    let mut table = Table { forest, locks };
+    fill(alloc, &mut table, asking, size)?;
+    let asker = table.begin()?;
+    let mut done: u64 = 0;
+    for index in 0..count {
+        let accesses = accesses_of(alloc, index)?;
+        if asking == Asking::Accesses || table.ask(asker, accesses.as_slice())? {
+            done = done.wrapping_add(1);
+        }
+    }
+    // To drop the table is no part of an ask.
+    mem::forget(table);
+    Ok(done)
+}

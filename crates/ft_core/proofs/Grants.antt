@@ -1,0 +1,156 @@
+-- What a granted call does to what a core keeps.
+use Rattle.std.proofs.Common.{◌≡◌, ◌<◌, ◌+◌, ℕ, true, List, [], ◌∷◌, ◌++◌, inl, inr, is_some, length, map, arith, refl, sym, ap, subst, ◌∙◌}
+use Rattle.std.specs.FinMap as finite
+use Rattle.std.specs.FinSet as set
+use Rattle.ft_base.specs.Chains.{Lists, list_in}
+use Rattle.ft_laws.specs.Lists.{Each, In}
+use Rattle.ft_laws.specs.Calls.{Reverts}
+use Rattle.ft_laws.specs.Effects.{Has, before, write_all, reversal_of}
+use Rattle.ft_tree.specs.declared.cell.Cell.{Cell}
+use Rattle.ft_tree.specs.declared.cell.Cell.TheVariants.{Links}
+use Rattle.ft_tree.specs.Cells.{Cells}
+use Rattle.ft_tree.specs.Held.{IsStored}
+use Rattle.ft_tree.specs.Sound.{AreSoundCells, IsFree}
+use Rattle.ft_calls.specs.declared.call.Call.{Call}
+use Rattle.ft_calls.specs.declared.call.Reply.{Reply}
+use Rattle.ft_calls.specs.declared.call.Access.{Access}
+use Rattle.ft_calls.specs.Accesses.{accesses_of}
+use Rattle.ft_calls.specs.Outcomes.{Write}
+use Rattle.ft_calls.specs.Stored.{outcome}
+use Rattle.ft_calls.specs.Posix.{HasSoundValues, Stamped, as_place, as_change, posix, posix_calls}
+use Rattle.ft_undo.specs.declared.logs.Logged.{Logged}
+use Rattle.ft_forest.specs.Transactions.{Transactions}
+use Rattle.ft_locks.specs.Locks.{LockTable}
+use Rattle.ft_history.specs.History.{Base as HistoryBase, last_stamp, IsLive, grants}
+use Rattle.ft_history.specs.History.Event.{Call as WasGranted}
+use Rattle.ft_history.specs.Locks.{blockers_of}
+use Rattle.ft_history.specs.Logs.{pushed}
+use Rattle.ft_history.specs.Core.{IsMade, IsCore}
+use Rattle.ft_history.proofs.Words.{by_number, put_same, put_other}
+use Rattle.ft_history.proofs.Methods.{core_asked}
+use Rattle.ft_core.specs.Histories.{History, Granted, granted}
+use Rattle.ft_core.specs.States.{Base, Asks}
+use Rattle.ft_core.specs.Journals.{Journaled}
+use Rattle.ft_core.specs.Kept.{Item, Change, is_owned, TakesBack, AreLogged, ArePlaced, IsCoreAt}
+use Rattle.ft_core.specs.Laws.{CallLaws, LockLaws}
+use Rattle.ft_core.specs.Makes.{IsMadeOn}
+use Rattle.ft_core.proofs.Counts.{count-push}
+use Rattle.ft_core.proofs.Joining.{start, values, free, sound_values}
+use Rattle.ft_core.proofs.Placing.{put-write, put-stays, as-left, left-stored, files-stored, placed-stays}
+
+length-push : {A : Type 0} (xs : List A) (x : A) (first last : ℕ) → first + length xs ≡ last → first + length (xs ++ x ∷ []) ≡ last + 1
+length-push [] x first last e = omega arith
+length-push (y ∷ ys) x first last e = let ih = length-push ys x (first + 1) last (omega arith) in omega arith
+
+module _ (W : CallLaws) (K : LockLaws) (base : Base) (h : History) (asks : Asks) (last_txn last_number : ℕ) (cells : Cells) (forest : Transactions) (table : LockTable) (lists : Lists Logged) (j : Journaled) (core : IsCoreAt base h asks last_txn last_number cells forest table lists j) where
+  abbrev from : HistoryBase posix_calls
+  from = start W base h last_txn last_number cells core.log core.kept
+
+  with_values : HasSoundValues from.store
+  with_values = values W base h last_txn last_number cells core.log core.kept
+
+  module _ (t : ℕ) (call : Call) (reply : Reply) (accesses : List Access) (k : ℕ) (next : k ≡ last_number + 1) (live : IsLive posix_calls base.last_txn h t) (touched : accesses ≡ accesses_of cells k call) (answered : reply ≡ (outcome cells k call).reply)
+      (unblocked : blockers_of posix_calls h t (map as_place accesses) ≡ [])
+      (cells' : Cells) (table' : LockTable) (lists' : Lists Logged) (made : IsMadeOn cells cells' (outcome cells k call).writes table table' lists lists' t k accesses) where
+    abbrev c : Granted
+    c = granted k t call reply accesses
+
+    abbrev after : History
+    after = WasGranted c ∷ h
+
+    abbrev writes : List Write
+    writes = (outcome cells k call).writes
+
+    abbrev entry : Item
+    entry = record { done = c; inverse = reversal_of posix cells (map as_change writes) }
+
+    abbrev a : Stamped
+    a = record { stamp = k; call = call }
+
+    later : last_stamp posix_calls base.last_stamp h < k
+    later = let last = core.kept.started.last_stamp_is in omega arith
+
+    is_free : IsFree cells k
+    is_free = free W base h last_txn last_number cells core.log core.kept k (omega arith)
+
+    acted : posix_calls.act cells a ≡ cells'
+    acted = sym (made.cells ∙ put-write cells writes)
+
+    is_made : IsMade posix_calls from h cells c entry.inverse
+    is_made = record {
+      live = live;
+      next = later;
+      ready = let all = core.kept.started.stamped in core.kept.started.fresh a (omega arith);
+      fits = record { accesses = ap (map as_place) (sym touched); reply = sym answered };
+      unblocked = unblocked;
+      inverse = subst (λ f. Reverts posix_calls cells a (map as_place f) entry.inverse) (sym touched) (W.lawful.inverts cells a (sound_values cells core.kept.sound) is_free);
+    }
+
+    core' : IsCore posix_calls from after core.kept.hidden cells' (pushed core.log t entry)
+    core' = subst (λ s. IsCore posix_calls from after core.kept.hidden s (pushed core.log t entry)) acted (core_asked posix_calls W.lawful from with_values h core.kept.hidden cells core.log core.kept.core c entry.inverse is_made)
+
+    sound' : AreSoundCells cells'
+    sound' = subst AreSoundCells (sym made.cells) (W.soundness cells k call core.kept.sound is_free)
+
+    stay : (x : Cell) → IsStored cells x → IsStored cells' x
+    stay x stored = subst (λ s. IsStored s x) (sym made.cells) (put-stays W.setting cells writes x stored)
+
+    abbrev new : Logged
+    new = record { stamp = k; undo = made.undo }
+
+    takes : TakesBack entry new
+    takes = record {
+      stamp = refl;
+      same = made.inverse;
+      may = λ now stored has. made.may now (as-left now cells' writes (subst (λ (s : Cells). Each (λ (w : Change). IsStored now w.cell) (before posix s (map as_change writes))) acted stored)
+          (subst (λ (s : Cells). Has posix now (before posix s (map as_change writes))) acted has));
+    }
+
+    logged : (u : ℕ) → AreLogged (pushed core.log t entry u) (list_in lists' u)
+    logged u = subst (AreLogged (pushed core.log t entry u)) (sym (made.listed u)) (by_number u t
+        (λ is. subst (λ es. AreLogged es (pushed (list_in lists) t new u)) (sym (put_same core.log t (entry ∷ core.log t) u is))
+        (subst (AreLogged (entry ∷ core.log t)) (sym (put_same (list_in lists) t (new ∷ list_in lists t) u is)) (takes, core.logs.logged t)))
+        (λ ne. subst (λ es. AreLogged es (pushed (list_in lists) t new u)) (sym (put_other core.log t (entry ∷ core.log t) u ne))
+        (subst (AreLogged (core.log u)) (sym (put_other (list_in lists) t (new ∷ list_in lists t) u ne)) (core.logs.logged u))))
+
+    mine : ArePlaced cells' entry
+    mine = record {
+      written = left-stored cells' (write_all posix cells (map as_change writes)) writes made.left;
+      files = files-stored cells cells' (λ f o is. stay (Links o.file) (core.kept.sound.opens f o is).0) writes;
+    }
+
+    placed : (u : ℕ) (e : Item) → In e (pushed core.log t entry u) → ArePlaced cells' e
+    placed u e i = by_number u t
+        (λ is. elim (subst (In e) (put_same core.log t (entry ∷ core.log t) u is) i) [
+          | inl same ↦ subst (ArePlaced cells') (sym same) mine
+          | inr old ↦ placed-stays cells cells' stay e (core.logs.placed t e old)
+        ])
+        (λ ne. placed-stays cells cells' stay e (core.logs.placed u e (subst (In e) (put_other core.log t (entry ∷ core.log t) u ne) i)))
+
+    pub core-granted : (asks' : Asks) → ((u : ℕ) → is_some (finite.get asks' u) ≡ true → IsLive posix_calls base.last_txn h u) → (j' : Journaled) → j'.subs ≡ j.subs → j'.spare ≡ j.spare + 1 → IsCoreAt base after asks' last_txn k cells' forest table' lists' j'
+    core-granted asks' waiting j' subs spare = record {
+      log = pushed core.log t entry;
+      kept = record {
+        started = record {
+          store = core.kept.started.store;
+          sound = core.kept.started.sound;
+          tree = core.kept.started.tree;
+          fresh = core.kept.started.fresh;
+          last_txn_is = core.kept.started.last_txn_is;
+          last_stamp_is = refl;
+          counted = core.kept.started.counted;
+          stamped = length-push (grants posix_calls h) c base.last_stamp last_number core.kept.started.stamped ∙ sym next;
+        };
+        hidden = core.kept.hidden;
+        core = core';
+        sound = sound';
+      };
+      transactions = record { base_is = core.transactions.base_is; last = core.transactions.last; parents = core.transactions.parents; fates = core.transactions.fates };
+      locks = K.grant from with_values h table core.locks c accesses table' core'.legal refl made.granted;
+      logs = record { logged = logged; placed = placed };
+      ready = λ u alive.
+          let was = core.ready u alive in
+          record { locks = ap (λ s. set.contains s u) made.granted.opened ∙ was.locks; log = made.open_still u ∙ was.log; sub = ap (λ m. finite.get m u) subs ∙ was.sub };
+      waiting = waiting;
+      spare = let le = core.spare in let more = count-push (is_owned h) (grants posix_calls h) c in omega arith;
+    }

@@ -1,0 +1,71 @@
+-- The refusals of the transactions are those of the state.
+use Rattle.std.proofs.Common.{◌≡◌, ◌||◌, ℕ, Bool, true, false, nat_le, Option, Some, None, Result, Ok, Err, IfErr, IsErrAnd, MatchOption, length, arith, refl, sym, ap, subst, ◌∙◌}
+use Rattle.std.specs.Option.{option_map}
+use Rattle.ft_calls.specs.Posix.{posix_calls}
+use Rattle.ft_forest.specs.declared.TheConstants.{MOST_TRANSACTIONS, MOST_DEPTH, LAST_NUMBER}
+use Rattle.ft_forest.specs.declared.fault.ForestFault.{ForestFault}
+use Rattle.ft_forest.specs.declared.fault.ForestFault.TheVariants as forest_fault
+use Rattle.ft_forest.specs.declared.state.State.{State as Life}
+use Rattle.ft_forest.specs.declared.state.State.TheVariants.{Live as LiveState, Committed as CommittedState, Aborted as AbortedState}
+use Rattle.ft_forest.specs.Transactions.{Transactions, state_in, depth_in, depth_within}
+use Rattle.ft_forest.specs.Refusals.{refusal_of as refusal_after, fault_if as forest_fault_if, is_full, begin_refusal, sub_refusal, IsRefusal}
+use Rattle.ft_history.specs.History.{begun}
+use Rattle.ft_core.specs.declared.fault.Fault.{Fault}
+use Rattle.ft_core.specs.declared.fault.Fault.TheVariants.{Memory, Full, Deep}
+use Rattle.ft_core.specs.declared.request.Request.{Request}
+use Rattle.ft_core.specs.declared.request.Request.TheVariants.{Begin, Sub}
+use Rattle.ft_core.specs.declared.request.Answer.{Answer}
+use Rattle.ft_core.specs.declared.request.Answer.TheVariants.{Refused}
+use Rattle.ft_core.specs.Faults.{fault_from}
+use Rattle.ft_core.specs.States.{State, history, has_most_transactions, is_deepest}
+use Rattle.ft_core.specs.Steps.{fault_if, fault_of_fate, refusal_of, IsAnswered, IsStep, exact_rule, answer_with}
+use Rattle.ft_core.specs.Kept.{fate_in, IsStarted, AreTransactions}
+
+from-if : (b : Bool) (f : ForestFault) (later : Option ForestFault) → option_map fault_from (forest_fault_if b f later) ≡ fault_if b (fault_from f) (option_map fault_from later)
+from-if true f later = refl
+from-if false f later = refl
+
+from-state : (o : Option Life) (later : Option ForestFault) → option_map fault_from (refusal_after o later) ≡ fault_of_fate (fate_in o) (option_map fault_from later)
+from-state None later = refl
+from-state (Some LiveState) later = refl
+from-state (Some CommittedState) later = refl
+from-state (Some AbortedState) later = refl
+
+module _ (s : State) (forest : Transactions) (are : AreTransactions s.base (history s) s.last_txn forest) (started : IsStarted s.base (history s) s.last_txn s.last_stamp) where
+  full-same : is_full forest ≡ has_most_transactions s
+  full-same =
+      let base_is = are.base_is in
+      let last = are.last in
+      let counted = started.counted in
+      let count : length forest.list ≡ length (begun posix_calls (history s)) = omega arith in
+      (λ i. nat_le MOST_TRANSACTIONS (count i) || nat_le LAST_NUMBER (last i))
+
+  deep-same : (t : ℕ) → nat_le MOST_DEPTH (depth_in forest t) ≡ is_deepest s t
+  deep-same t = λ i. nat_le MOST_DEPTH (depth_within (λ x. are.parents x i) t t)
+
+  pub begin-same : option_map fault_from (begin_refusal forest) ≡ refusal_of s Begin
+  begin-same = from-if (is_full forest) forest_fault.Full None ∙ ap (λ b. fault_if b Full None) full-same
+
+  pub sub-same : (t : ℕ) → option_map fault_from (sub_refusal forest t) ≡ refusal_of s (Sub t)
+  sub-same t =
+      from-state (state_in forest t) (forest_fault_if (nat_le MOST_DEPTH (depth_in forest t)) forest_fault.Deep (begin_refusal forest))
+      ∙ ap (fault_of_fate (fate_in (state_in forest t))) (from-if (nat_le MOST_DEPTH (depth_in forest t)) forest_fault.Deep (begin_refusal forest) ∙ (λ i. fault_if (deep-same t i) Deep (begin-same i)))
+      ∙ ap (λ o. fault_of_fate o (fault_if (is_deepest s t) Deep (refusal_of s Begin))) (are.fates t)
+
+-- where nothing refuses it but memory, it is memory
+pub only-memory : (o : Option ForestFault) (due : Option Fault) (fault : ForestFault) → option_map fault_from o ≡ due → due ≡ None → IsRefusal o fault → fault_from fault ≡ Memory
+only-memory None due fault same none is = ap fault_from is
+only-memory (Some f) due fault same none is = absurd (some (same ∙ none))
+  where
+    some : {A : Type 0} {x : A} → Some x ≡ None → ⊥
+    some e = cc
+
+-- what `?` hands on is this fault
+pub err-is : {A : Type 0} (r : Result A Fault) (f g : Fault) → IsErrAnd r (λ e. e ≡ f) → f ≡ g → IfErr r (λ e. e ≡ g)
+err-is (Ok x) f g h e = tt
+err-is (Err y) f g h e = h ∙ e
+
+-- a refusal that is due is a legal step
+pub step-refused : {A : Type 0} (s : State) (r : Request) (told : A → Answer) (result : Result A Fault) (f : Fault) → IsErrAnd result (λ e. e ≡ f) → refusal_of s r ≡ Some f → IsStep exact_rule s r (answer_with told result) s
+step-refused s r told (Ok x) f is due = absurd is
+step-refused s r told (Err y) f is due = subst (λ o. MatchOption o (IsAnswered exact_rule s r (Refused y) s) (λ fault. (Refused y ≡ Refused fault) × (s ≡ s))) (sym due) (ap Refused is, refl)

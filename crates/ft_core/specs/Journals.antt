@@ -1,0 +1,88 @@
+-- What a journal is seen as: what has happened, and what is noted of the live transactions.
+use Rattle.std.specs.Prelude.{ℕ, ◌+◌, ◌-◌, Bool, ◌||◌, nat_le, List, [], ◌∷◌, ◌++◌, Option, Some, refl}
+use Rattle.std.specs.Option.{option_flatten}
+use Rattle.std.specs.Ordering.{nat_cmp}
+use Rattle.std.specs.FinMap as finite
+use Rattle.std.specs.Coded.{Coded, code_by, coded×, coded_ℕ, coded_list, coded_option}
+use Rattle.ft_tree.specs.Plain.{PlainTree}
+use Rattle.ft_calls.specs.declared.call.Call.{Call}
+use Rattle.ft_calls.specs.declared.call.Reply.{Reply}
+use Rattle.ft_calls.specs.declared.call.Access.{Access}
+use Rattle.ft_forest.specs.declared.TheConstants.{LAST_NUMBER}
+use Rattle.ft_forest.specs.Transactions.{Transactions, last_in}
+use Rattle.ft_core.specs.declared.TheConstants.{MOST_CALLS}
+use Rattle.ft_core.specs.declared.request.Event.{Event}
+use Rattle.ft_core.specs.declared.request.Event.TheVariants.{Begin, Call as CallEvent}
+use Rattle.ft_core.specs.contracts.request.Event as event
+use Rattle.ft_core.specs.States.{State, Asks, coded_asks, coded_tree}
+
+pub record Journaled : Type 0 where
+  pub events : List Event
+  pub asks : Asks
+  -- for each live transaction the last stamp when a child of it last committed
+  pub subs : finite.FinMap nat_cmp (Option ℕ)
+  pub base_tree : PlainTree
+  pub base_stamp : ℕ
+  pub last_stamp : ℕ
+  -- how many places are kept for ends and undos, and how many there are besides
+  pub spare : ℕ
+  pub room : ℕ
+
+abbrev pub coded_journaled : Coded Journaled
+coded_journaled =
+    code_by (List Event × (Asks × (finite.FinMap nat_cmp (Option ℕ) × ((PlainTree × (ℕ × ℕ)) × (ℕ × ℕ)))))
+    (coded× (coded_list event.the_row.coded) (coded× coded_asks (coded× (finite.code coded_ℕ (coded_option coded_ℕ)) (coded× (coded× coded_tree (coded× coded_ℕ coded_ℕ)) (coded× coded_ℕ coded_ℕ)))))
+    (λ j. (j.events, (j.asks, (j.subs, ((j.base_tree, (j.base_stamp, j.last_stamp)), (j.spare, j.room))))))
+    (λ p. record { events = p.0; asks = p.1.0; subs = p.1.1.0; base_tree = p.1.1.1.0.0; base_stamp = p.1.1.1.0.1.0; last_stamp = p.1.1.1.0.1.1; spare = p.1.1.1.1.0; room = p.1.1.1.1.1 }) (λ _. refl)
+
+-- no event, and no place for one, from this tree and this stamp on
+abbrev pub no_events : PlainTree → ℕ → Journaled
+no_events tree stamp = record { events = []; asks = finite.empty; subs = finite.empty; base_tree = tree; base_stamp = stamp; last_stamp = stamp; spare = 0; room = 0 }
+
+-- the last stamp when a child of t last committed
+abbrev pub sub_in : Journaled → ℕ → Option ℕ
+sub_in j t = option_flatten (finite.get j.subs t)
+
+-- a million calls since the base, or the last stamp
+abbrev pub is_full : Journaled → Bool
+is_full j = nat_le MOST_CALLS (j.last_stamp - j.base_stamp) || nat_le LAST_NUMBER j.last_stamp
+
+-- the begin takes one of the new places, and the other is kept for the end
+abbrev pub with_begin : Journaled → ℕ → Option ℕ → Journaled
+with_begin j t parent = record j { events = j.events ++ Begin t parent ∷ []; spare = j.spare + 1; room = j.room - 2 }
+
+-- the call takes one of the new places, and the other is kept for its undo
+abbrev pub with_call : Journaled → ℕ → Call → Reply → List Access → Journaled
+with_call j t call reply accesses = record j {
+  events = j.events ++ CallEvent (j.last_stamp + 1) t call reply accesses ∷ [];
+  asks = finite.remove j.asks t;
+  last_stamp = j.last_stamp + 1;
+  spare = j.spare + 1;
+  room = j.room - 2;
+}
+
+-- the event takes a place that was kept
+abbrev pub with_event : Journaled → Event → Journaled
+with_event j e = record j { events = j.events ++ e ∷ []; spare = j.spare - 1 }
+
+-- nothing is noted of t any more
+abbrev pub without : Journaled → ℕ → Journaled
+without j t = record j { asks = finite.remove j.asks t; subs = finite.remove j.subs t }
+
+-- a child of t commits
+abbrev pub with_sub : Journaled → ℕ → Journaled
+with_sub j t = record j { subs = finite.insert j.subs t (Some j.last_stamp) }
+
+-- the state of transactions with their journal
+abbrev pub state_of : Transactions → Journaled → State
+state_of forest j = record {
+  base = record { tree = j.base_tree; last_txn = forest.base; last_stamp = j.base_stamp };
+  events = j.events;
+  asks = j.asks;
+  last_txn = last_in forest;
+  last_stamp = j.last_stamp;
+}
+
+-- no place is kept any more
+abbrev pub with_none_kept : Journaled → Journaled
+with_none_kept j = record j { spare = 0; room = j.room + j.spare }

@@ -1,0 +1,27 @@
+-- What is known of the calls and of their locks.
+use Rattle.ft_laws.specs.Laws.{Lawful}
+use Rattle.ft_calls.specs.CellLaws.{SettingLaw}
+use Rattle.ft_calls.specs.Laws.{TidyingLaw, SoundnessLaw}
+use Rattle.ft_calls.specs.RunLaws.{PlainAccessesLaw, HidingLaw, RunLaw, PlacedLaw}
+use Rattle.ft_calls.specs.Posix.{posix_calls}
+use Rattle.ft_locks.specs.Law.{FirstLaw, BeginLaw, GrantLaw, UndoLaw, CommitLaw, AbortLaw, ReleaseLaw, BlockLaw}
+
+pub record CallLaws : Type 0 where
+  pub lawful : Lawful posix_calls
+  pub soundness : SoundnessLaw
+  pub tidying : TidyingLaw
+  pub plain_accesses : PlainAccessesLaw
+  pub hiding : HidingLaw
+  pub runs : RunLaw
+  pub placed : PlacedLaw
+  pub setting : SettingLaw
+
+pub record LockLaws : Type 0 where
+  pub first : FirstLaw
+  pub begin : BeginLaw
+  pub grant : GrantLaw
+  pub undo : UndoLaw
+  pub commit : CommitLaw
+  pub abort : AbortLaw
+  pub release : ReleaseLaw
+  pub block : BlockLaw

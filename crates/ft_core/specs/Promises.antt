@@ -1,0 +1,33 @@
+-- What is promised of every state that a core can come to.
+use Rattle.std.specs.Prelude.{◌≡◌, ℕ, false, List, ◌∷◌, ◌++◌, Option, Some}
+use Rattle.ft_laws.specs.Lists.{Each}
+use Rattle.ft_tree.specs.Cells.{Cells}
+use Rattle.ft_tree.specs.Tidy.{tidy}
+use Rattle.ft_calls.specs.Posix.{posix_calls}
+use Rattle.ft_calls.specs.RunLaws.{GiveReplies}
+use Rattle.ft_calls.specs.declared.call.Call.{Call}
+use Rattle.ft_history.specs.History.Fate.{Live}
+use Rattle.ft_history.specs.Undoing.{IsWithin}
+use Rattle.ft_core.specs.declared.request.Event.{Event}
+use Rattle.ft_core.specs.declared.request.Event.TheVariants.{Begin}
+use Rattle.ft_core.specs.Histories.{told}
+use Rattle.ft_core.specs.States.{State, history, fate_of, has_live_child, standing_calls, tree_of, after_grant}
+
+-- The headline: the tree is what the plain tree holds after the standing calls alone, from the base, each with the reply that it got.
+pub record IsHeadline (s : State) (cells : Cells) : Type 0 where
+  pub tree : tidy cells ≡ tree_of s
+  pub replies : GiveReplies s.base.tree (standing_calls s)
+
+-- A call of t was the last event, and t has no live child.
+pub record IsJustMade (before s : State) (t : ℕ) (call : Call) : Type 0 where
+  pub made : s ≡ after_grant before t call
+  pub alone : has_live_child s t ≡ false
+
+-- t is live, and since its begin, before which the state was the one given, the calls, undos and aborts are of t's subtree alone. (A rule of this project.)
+pub record RanAlone (before s : State) (t : ℕ) : Type 0 where
+  pub live : fate_of s t ≡ Some Live
+  pub base : s.base ≡ before.base
+  pub up : Option ℕ
+  pub later : List Event
+  pub split : s.events ≡ before.events ++ Begin t up ∷ later
+  pub within : Each (IsWithin posix_calls (history s) t) (told later)

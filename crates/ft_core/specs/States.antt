@@ -1,0 +1,161 @@
+-- The state of a core.
+use Rattle.std.specs.Prelude.{ℕ, ◌+◌, Bool, not, ◌||◌, nat_le, nat_lt, List, [], ◌∷◌, ◌++◌, Option, length, refl}
+use Rattle.std.specs.Ordering.{nat_cmp}
+use Rattle.std.specs.FinMap as finite
+use Rattle.std.specs.Coded.{Coded, code_by, coded×, coded_ℕ, coded_list}
+use base.Stored.{coded_unit}
+use Rattle.ft_tree.specs.Cells.{fresh_cells}
+use Rattle.ft_tree.specs.Plain.{PlainTree, NumberSet, edge_cmp}
+use Rattle.ft_tree.specs.declared.open_file.OpenFile.{OpenFile}
+use Rattle.ft_tree.specs.contracts.open_file.OpenFile as open_file
+use Rattle.ft_tree.specs.Tidy.{tidy}
+use Rattle.ft_calls.specs.declared.call.Call.{Call}
+use Rattle.ft_calls.specs.declared.call.Reply.{Reply}
+use Rattle.ft_calls.specs.declared.call.Access.{Access}
+use Rattle.ft_calls.specs.contracts.call.Call as call
+use Rattle.ft_calls.specs.Exec.{exec}
+use Rattle.ft_calls.specs.RunLaws.{accesses_in, tree_after}
+use Rattle.ft_calls.specs.Posix.{posix_calls}
+use Rattle.ft_history.specs.History.{Fate, fate, over, begun, live_children as live_children_of, grants, standing}
+use Rattle.ft_history.specs.Promises.{calls_below}
+use Rattle.ft_forest.specs.declared.TheConstants.{MOST_TRANSACTIONS, MOST_DEPTH, LAST_NUMBER}
+use Rattle.ft_core.specs.declared.TheConstants.{MOST_CALLS}
+use Rattle.ft_core.specs.declared.request.Event.{Event}
+use Rattle.ft_core.specs.declared.request.Event.TheVariants.{Begin, Call as CallEvent, Undo, Commit, Abort}
+use Rattle.ft_core.specs.contracts.request.Event as event
+use Rattle.ft_core.specs.Histories.{History, Granted, told, depth_of}
+
+abbrev pub coded_tree : Coded PlainTree
+coded_tree =
+    code_by (finite.FinMap edge_cmp ℕ × (NumberSet × (finite.FinMap nat_cmp (List ℕ) × finite.FinMap nat_cmp OpenFile)))
+    (coded× (finite.code (coded× coded_ℕ (coded_list coded_ℕ)) coded_ℕ) (coded× (finite.code coded_ℕ coded_unit) (coded× (finite.code coded_ℕ (coded_list coded_ℕ)) (finite.code coded_ℕ open_file.the_row.coded))))
+    (λ p. (p.edges, (p.dirs, (p.files, p.opens)))) (λ p. record { edges = p.0; dirs = p.1.0; files = p.1.1.0; opens = p.1.1.1 }) (λ _. refl)
+
+-- what stood at the start: a plain tree, the last transaction's number and the last stamp
+pub record Base : Type 0 where
+  pub tree : PlainTree
+  pub last_txn : ℕ
+  pub last_stamp : ℕ
+
+abbrev pub Asks : Type 0
+Asks = finite.FinMap nat_cmp Call
+
+pub record State : Type 0 where
+  pub base : Base
+  -- what has happened since, oldest first
+  pub events : List Event
+  -- the call that a transaction waits for
+  pub asks : Asks
+  pub last_txn : ℕ
+  pub last_stamp : ℕ
+
+abbrev pub coded_base : Coded Base
+coded_base =
+    code_by (PlainTree × (ℕ × ℕ)) (coded× coded_tree (coded× coded_ℕ coded_ℕ)) (λ b. (b.tree, (b.last_txn, b.last_stamp)))
+    (λ p. record { tree = p.0; last_txn = p.1.0; last_stamp = p.1.1 }) (λ _. refl)
+
+abbrev pub coded_asks : Coded Asks
+coded_asks = finite.code coded_ℕ call.the_row.coded
+
+abbrev pub coded_state : Coded State
+coded_state =
+    code_by (Base × (List Event × (Asks × (ℕ × ℕ))))
+    (coded× coded_base (coded× (coded_list event.the_row.coded) (coded× coded_asks (coded× coded_ℕ coded_ℕ))))
+    (λ s. (s.base, (s.events, (s.asks, (s.last_txn, s.last_stamp)))))
+    (λ p. record { base = p.0; events = p.1.0; asks = p.1.1.0; last_txn = p.1.1.1.0; last_stamp = p.1.1.1.1 }) (λ _. refl)
+
+-- the root alone, of number 1; no transaction
+abbrev pub first_base : Base
+first_base = record { tree = tidy fresh_cells; last_txn = 0; last_stamp = 1 }
+
+abbrev pub at_base : Base → State
+at_base base = record { base = base; events = []; asks = finite.empty; last_txn = base.last_txn; last_stamp = base.last_stamp }
+
+abbrev pub history : State → History
+history s = told s.events
+
+-- Transactions.
+
+-- what has become of a transaction begun since the base
+abbrev pub fate_of : State → ℕ → Option Fate
+fate_of s t = fate posix_calls s.base.last_txn (history s) t
+
+-- the live children of a transaction, in rising order
+abbrev pub live_children : State → ℕ → List ℕ
+live_children s t = live_children_of posix_calls s.base.last_txn (history s) t
+
+abbrev pub has_live_child : State → ℕ → Bool
+has_live_child s t = nat_lt 0 (length (live_children s t))
+
+-- Calls.
+
+-- the standing calls, oldest first: granted calls that are not undone, with no aborted transaction at or above their askers
+abbrev pub standing_calls : State → List Granted
+standing_calls s = standing posix_calls (history s)
+
+-- The tree of a state: what the plain tree holds after the standing calls alone, from the base: no locks, no logs, no transactions.
+abbrev pub tree_of : State → PlainTree
+tree_of s = tree_after s.base.tree (standing_calls s)
+
+-- Limits.
+
+abbrev pub has_most_transactions : State → Bool
+has_most_transactions s = nat_le MOST_TRANSACTIONS (length (begun posix_calls (history s))) || nat_le LAST_NUMBER s.last_txn
+
+abbrev pub has_most_calls : State → Bool
+has_most_calls s = nat_le MOST_CALLS (length (grants posix_calls (history s))) || nat_le LAST_NUMBER s.last_stamp
+
+abbrev pub is_deepest : State → ℕ → Bool
+is_deepest s t = nat_le MOST_DEPTH (depth_of (history s) t)
+
+-- The state after an event.
+
+abbrev pub next_txn : State → ℕ
+next_txn s = s.last_txn + 1
+
+abbrev pub next_stamp : State → ℕ
+next_stamp s = s.last_stamp + 1
+
+-- a transaction is begun, under a parent or at the top
+abbrev pub after_begin : State → Option ℕ → State
+after_begin s parent = record s { events = s.events ++ Begin (next_txn s) parent ∷ []; last_txn = next_txn s }
+
+-- a call is granted with this reply and these accesses, and the transaction waits for nothing
+abbrev pub after_call : State → ℕ → Call → Reply → List Access → State
+after_call s t call reply accesses = record s {
+  events = s.events ++ CallEvent (next_stamp s) t call reply accesses ∷ [];
+  asks = finite.remove s.asks t;
+  last_stamp = next_stamp s;
+}
+
+-- what the plain tree would reply, and which cells the call would access there
+abbrev pub reply_of : State → Call → Reply
+reply_of s call = (exec (tree_of s) (next_stamp s) call).1
+
+abbrev pub accesses_now : State → Call → List Access
+accesses_now s call = accesses_in (tree_of s) (next_stamp s) call
+
+-- a call is granted with the reply and the accesses that it has on the tree of the state
+abbrev pub after_grant : State → ℕ → Call → State
+after_grant s t call = after_call s t call (reply_of s call) (accesses_now s call)
+
+-- a transaction waits for a call
+abbrev pub after_wait : State → ℕ → Call → State
+after_wait s t call = record s { asks = finite.insert s.asks t call }
+
+abbrev pub after_drop : State → ℕ → State
+after_drop s t = record s { asks = finite.remove s.asks t }
+
+abbrev pub after_undo : State → ℕ → State
+after_undo s k = record s { events = s.events ++ Undo k ∷ [] }
+
+abbrev pub after_commit : State → ℕ → State
+after_commit s t = record s { events = s.events ++ Commit t ∷ []; asks = finite.remove s.asks t }
+
+-- the pending asks of the aborted transaction go, and those of all below it
+abbrev pub after_abort : State → ℕ → State
+after_abort s t = record s { events = s.events ++ Abort t ∷ []; asks = finite.retain_keys s.asks (λ u. not (over posix_calls (history s) t u)) }
+
+-- how many standing calls were asked by t or below it
+abbrev pub count_standing : State → ℕ → ℕ
+count_standing s t = calls_below posix_calls (history s) t

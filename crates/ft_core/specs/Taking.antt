@@ -1,0 +1,16 @@
+-- A list of what takes calls back, put to the cells.
+use Rattle.std.specs.Prelude.{List, [], ◌∷◌, map}
+use Rattle.ft_tree.specs.Cells.{Cells}
+use Rattle.ft_calls.specs.Stored.{put_all}
+use Rattle.ft_undo.specs.declared.logs.Logged.{Logged}
+use Rattle.ft_undo.specs.Undone.{given_back, CanGiveAllBack}
+
+-- each call is taken back, from the newest on
+abbrev pub taken_back : List Logged → Cells → Cells
+taken_back [] cells = cells
+taken_back (x ∷ xs) cells = taken_back xs (put_all cells (map given_back x.undo))
+
+-- each may be when its turn comes
+abbrev pub CanTakeBack : List Logged → Cells → Type 0
+CanTakeBack [] cells = Unit {0}
+CanTakeBack (x ∷ xs) cells = CanGiveAllBack cells x.undo × CanTakeBack xs (put_all cells (map given_back x.undo))

@@ -1,0 +1,202 @@
+// Asking for calls, and making them.
+ghost use Rattle.std.specs.Prelude.{◌≡◌, [], true, false, Some, None, IfOk, IfErr, OnOk, OnErr, IsSome};
+ghost use Rattle.std.specs.FinMap as finite;
+ghost use Rattle.ft_tree.specs.Sound.{AreSoundCells};
+ghost use Rattle.ft_calls.specs.declared.call.Call.{Call as CallOf};
+ghost use Rattle.ft_calls.specs.Comes.{outcome_of};
+ghost use Rattle.ft_calls.specs.Edits.{CanEditAll, Apart};
+ghost use Rattle.ft_undo.specs.Logs.{is_open};
+ghost use Rattle.ft_locks.specs.Locks.{is_opened};
+ghost use Rattle.ft_history.specs.History.Fate.{Live};
+ghost use Rattle.ft_core.specs.declared.fault.Fault.TheVariants.{Memory as MemoryFault};
+ghost use Rattle.ft_core.specs.declared.request.Request.TheVariants.{Ask, Retry};
+ghost use Rattle.ft_core.specs.States.{fate_of, has_most_calls};
+ghost use Rattle.ft_core.specs.Makes.{IsMadeOn, IsUnmade};
+ghost use Rattle.ft_core.specs.Steps.{IsStep, IsAsked, exact_rule, answer_with, outcome_answer};
+
+use crate::fault::Fault;
+use crate::laws::{call_laws, lock_laws};
+use crate::manager::Core;
+use crate::request::Outcome;
+use ft_base::{Memory, Sequence};
+use ft_calls::{Access, Call, Prepared, Reply, prepare};
+use ft_forest::TxnId;
+use ft_locks::Locks;
+use ft_tree::Tree;
+use ft_undo::{Logged, Logs, apply};
+use std::alloc::{AllocFailed, Global};
+
+impl Core {
+    /// Makes a call in a transaction, or answers which transactions it waits for: those who own a conflicting lock and are
+    /// neither the asker nor an ancestor of it, in rising order.
+    ///
+    /// Refuses NoTxn, Ended, and Full where as many calls are granted as may be, in this order.
+    pub fn ask(&mut self, txn: TxnId, call: Call) -> Result<Outcome, Fault>
+        ensures { IsStep exact_rule self.old (Ask txn call) (answer_with outcome_answer result) self.new }
+    {
+        self.check_live(txn)?;
+        self.check_calls()?;
+        self.request(txn, call)
+    }
+
+    /// Makes the call that a transaction waits for, or answers again which transactions it waits for.
+    ///
+    /// Refuses NoTxn, Ended, NoAsk, and Full where as many calls are granted as may be, in this order.
+    pub fn retry(&mut self, txn: TxnId) -> Result<Outcome, Fault>
+        ensures { IsStep exact_rule self.old (Retry txn) (answer_with outcome_answer result) self.new }
+    {
+        self.check_live(txn)?;
+        if self.journal.pending(txn).is_none() {
+            return Err(Fault::NoAsk);
+        }
+        self.check_calls()?;
+        self.request_again(txn)
+    }
+
+    /// Refuses a call more where as many are granted as may be.
+    fn check_calls(&self) -> Result<(), Fault>
+        ensures few { OnOk result (has_most_calls self.now ≡ false) }
+        ensures full { OnErr result (has_most_calls self.now ≡ true) }
+        ensures fault { IfErr result (λ fault. fault ≡ Fault.Full) }
+    {
+        if self.journal.is_full() {
+            return Err(Fault::Full);
+        }
+        Ok(())
+    }
+
+    /// Makes a call where there may be one more, or notes that the transaction waits for it.
+    fn request(&mut self, txn: TxnId, call: Call) -> Result<Outcome, Fault>
+        requires few { has_most_calls self.old ≡ false }
+        requires live { fate_of self.old txn ≡ Some Live }
+        ensures asked { IfOk result (λ outcome. IsAsked exact_rule self.old txn call (outcome_answer outcome) self.new) }
+        ensures memory { IfErr result (λ fault. fault ≡ MemoryFault) }
+        ensures same { OnErr result (self.new ≡ self.old) }
+    {
+        call_laws();
+        lock_laws();
+        let stamp = self.journal.next_stamp();
+        let prepared = prepare(self.alloc, &self.tree, stamp, &call)?;
+        let found = self
+            .locks
+            .blockers(&self.forest, txn, prepared.accesses.as_slice())?;
+        let blockers = Sequence::from(found);
+        if !blockers.is_empty() {
+            drop(prepared);
+            self.journal.wait(txn, call)?;
+            return Ok(Outcome::Waits { blockers });
+        }
+        self.journal.reserve()?;
+        let Made {
+            reply,
+            kept,
+            accesses,
+        } = make(
+            self.alloc,
+            &mut self.tree,
+            &mut self.locks,
+            &mut self.logs,
+            Asker { txn, stamp },
+            prepared,
+        )?;
+        self.journal.grant(txn, call, kept, accesses);
+        Ok(Outcome::Granted { stamp, reply })
+    }
+
+    /// Makes the call that a transaction waits for, or answers whom it waits for.
+    fn request_again(&mut self, txn: TxnId) -> Result<Outcome, Fault>
+        requires few { has_most_calls self.old ≡ false }
+        requires live { fate_of self.old txn ≡ Some Live }
+        requires pending { IsSome (finite.get self.old.asks txn) }
+        ensures asked { IfOk result (λ outcome. (call : CallOf) × (finite.get self.old.asks txn ≡ Some call) × IsAsked exact_rule self.old txn call (outcome_answer outcome) self.new) }
+        ensures memory { IfErr result (λ fault. fault ≡ MemoryFault) }
+        ensures same { OnErr result (self.new ≡ self.old) }
+    {
+        call_laws();
+        lock_laws();
+        self.journal.reserve()?;
+        let stamp = self.journal.next_stamp();
+        let Some(call) = self.journal.pending(txn) else {
+            unreachable!();
+        };
+        let prepared = prepare(self.alloc, &self.tree, stamp, call)?;
+        let found = self
+            .locks
+            .blockers(&self.forest, txn, prepared.accesses.as_slice())?;
+        let blockers = Sequence::from(found);
+        if !blockers.is_empty() {
+            return Ok(Outcome::Waits { blockers });
+        }
+        let Made {
+            reply,
+            kept,
+            accesses,
+        } = make(
+            self.alloc,
+            &mut self.tree,
+            &mut self.locks,
+            &mut self.logs,
+            Asker { txn, stamp },
+            prepared,
+        )?;
+        self.journal.grant_pending(txn, kept, accesses);
+        Ok(Outcome::Granted { stamp, reply })
+    }
+}
+
+/// Who asks, and the stamp of the call.
+#[derive(Clone, Copy)]
+struct Asker {
+    txn: TxnId,
+    stamp: u64,
+}
+
+/// The reply of a call that was made, twice, and its accesses.
+#[derive(Drop)]
+struct Made {
+    reply: Reply,
+    kept: Reply,
+    accesses: Vec<Access>,
+}
+
+/// Makes a call on the tree, gives its asker its locks and keeps what takes it back. Where memory is wanting nothing has
+/// changed.
+fn make(
+    alloc: Global,
+    tree: &mut Tree,
+    locks: &mut Locks,
+    logs: &mut Logs,
+    asker: Asker,
+    prepared: Prepared<'_>,
+) -> Result<Made, Memory>
+    requires places { CanEditAll tree.old prepared.intent.edits }
+    requires apart { Apart prepared.intent.edits }
+    requires locks { is_opened locks.old asker.txn ≡ true }
+    requires log { is_open logs.old asker.txn ≡ true }
+    ensures twice { IfOk result (λ made. made.reply ≡ made.kept) }
+    ensures reply { IfOk result (λ made. made.kept ≡ (outcome_of tree.old prepared.entry.intent).reply) }
+    ensures accesses { IfOk result (λ made. made.accesses.items ≡ prepared.entry.accesses.items) }
+    ensures made { OnOk result (IsMadeOn tree.old tree.new (outcome_of tree.old prepared.entry.intent).writes locks.old locks.new logs.old logs.new asker.txn asker.stamp prepared.entry.accesses.items) }
+    ensures unmade { OnErr result (IsUnmade tree.old tree.new locks.old locks.new logs.old logs.new) }
+{
+    let Prepared { accesses, intent } = prepared;
+    let reply = intent.reply(alloc, tree)?;
+    let kept = reply.copy(alloc)?;
+    let undo = apply(alloc, tree, intent)?;
+    if let Err(failed) = logs.push(asker.txn.0, asker.stamp, undo) {
+        let AllocFailed { value } = failed;
+        value.take_back(tree);
+        return Err(Memory);
+    }
+    if locks.grant(asker.txn, accesses.as_slice()).is_err() {
+        if let Some(Logged { stamp: _, undo }) = logs.take_last(asker.txn.0) {
+            undo.take_back(tree);
+        }
+        return Err(Memory);
+    }
+    Ok(Made {
+        reply,
+        kept,
+        accesses,
+    })
+}

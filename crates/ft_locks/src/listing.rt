@@ -1,0 +1,72 @@
+// The locks, a line for each.
+ghost use Rattle.std.specs.Prelude.{◌≡◌, ◌&&◌, OnOk};
+ghost use Rattle.std.specs.List.{list_any};
+ghost use Rattle.std.specs.HashMap.{IsUnique};
+ghost use Rattle.ft_tree.specs.CellOrder.{same_cell};
+ghost use Rattle.ft_locks.specs.Marks.{has_mark};
+ghost use Rattle.ft_locks.specs.Listing.{same_line, AreAdded, is_by, is_on};
+
+use crate::holders::{Holders, Holding};
+use crate::line::{LockKind, LockLine};
+use ft_base::Memory;
+use ft_calls::Mode;
+use ft_forest::TxnId;
+use ft_tree::Cell;
+use std::collections::HashMap;
+
+/// Lists one lock of an owner on a cell, where it has it.
+fn list_lock(
+    lines: &mut Vec<LockLine>,
+    cell: &Cell,
+    holding: &Holding,
+    mode: Mode,
+    kind: LockKind,
+) -> Result<(), Memory>
+    ensures { OnOk result (AreAdded lines.old.items lines.new.items (λ l. same_line l (record { cell = cell.now; owner = holding.now.owner; mode = mode; kind = kind }) && has_mark holding.now.marks mode kind)) }
+{
+    if holding.marks.has(mode, kind) {
+        let cell = cell.clone()?;
+        let owner = TxnId(holding.owner);
+        lines.push(LockLine {
+            cell,
+            owner,
+            mode,
+            kind,
+        })?;
+    }
+    Ok(())
+}
+
+/// Lists the locks of an owner on a cell.
+fn list_holding(lines: &mut Vec<LockLine>, cell: &Cell, holding: &Holding) -> Result<(), Memory>
+    ensures { OnOk result (AreAdded lines.old.items lines.new.items (λ l. is_by cell.now l holding.now)) }
+{
+    list_lock(lines, cell, holding, Mode::Read, LockKind::Held)?;
+    list_lock(lines, cell, holding, Mode::Read, LockKind::Retained)?;
+    list_lock(lines, cell, holding, Mode::Write, LockKind::Held)?;
+    list_lock(lines, cell, holding, Mode::Write, LockKind::Retained)
+}
+
+/// Lists the locks on a cell.
+fn list_cell(lines: &mut Vec<LockLine>, cell: &Cell, list: &[Holding]) -> Result<(), Memory>
+    ensures { OnOk result (AreAdded lines.old.items lines.new.items (λ l. list_any (is_by cell.now l) list.now)) }
+{
+    for holding in list {
+        list_holding(lines, cell, holding)?;
+    }
+    Ok(())
+}
+
+/// Lists the locks on all cells.
+pub(crate) fn list_cells(
+    lines: &mut Vec<LockLine>,
+    cells: &HashMap<Cell, Holders>,
+) -> Result<(), Memory>
+    ensures added { OnOk result (AreAdded lines.old.items lines.new.items (λ l. list_any (is_on l) cells.now.entries)) }
+    ensures apart { IsUnique same_cell cells.now }
+{
+    for (cell, holders) in cells.iter() {
+        list_cell(lines, cell, holders.as_slice())?;
+    }
+    Ok(())
+}

@@ -1,0 +1,76 @@
+-- How the bytes of a script are cut into lines.
+use Rattle.std.proofs.Common.{◌≡◌, ℕ, ◌<◌, cond, ◌||◌, List, [], ◌∷◌, ◌++◌, length, refl, sym, ap, ◌∙◌, append_assoc, append-nil, arith}
+use Rattle.std.specs.Prelude.{◌==◌}
+use Rattle.std.specs.List.{list_any, flat_map, onto_first, AllByRecursion}
+use Rattle.std.proofs.lemmas.Grind.{flat_map-append}
+use Rattle.ft_script.specs.Script.{IsFreeOf, lines_of}
+use Rattle.ft_script.specs.Runs.{Fits, ended, Cuts}
+use Rattle.ft_script.proofs.Bytes.{neither}
+
+pub free-append : (byte : ℕ) (xs ys : List ℕ) → IsFreeOf byte xs → IsFreeOf byte ys → IsFreeOf byte (xs ++ ys)
+free-append byte [] ys h k = k
+free-append byte (x ∷ xs) ys h k =
+    let both = neither (x == byte) _ h in
+    ap (λ b. b || list_any (λ c. c == byte) (xs ++ ys)) both.0 ∙ free-append byte xs ys both.1 k
+
+each-append : {A : Type 0} (P : A → Type 0) (xs ys : List A) → AllByRecursion P xs → AllByRecursion P ys → AllByRecursion P (xs ++ ys)
+each-append P [] ys h k = k
+each-append P (x ∷ xs) ys h k = (h.0, each-append P xs ys h.1 k)
+
+-- the first line ends at the first line feed
+lines_of_cut : (bytes rest : List ℕ) → IsFreeOf 10 bytes → lines_of (bytes ++ 10 ∷ rest) ≡ bytes ∷ lines_of rest
+lines_of_cut [] rest h = refl
+lines_of_cut (x ∷ xs) rest h =
+    let both = neither (x == 10) _ h in
+    ap (λ b. cond b ([] ∷ lines_of (xs ++ 10 ∷ rest)) (onto_first x (lines_of (xs ++ 10 ∷ rest)))) both.0 ∙ ap (onto_first x) (lines_of_cut xs rest both.1)
+
+-- the last line may lack its line feed
+pub lines_of_last : (x : ℕ) (xs : List ℕ) → IsFreeOf 10 (x ∷ xs) → lines_of (x ∷ xs) ≡ (x ∷ xs) ∷ []
+lines_of_last x [] h = ap (λ b. cond b ([] ∷ []) ((x ∷ []) ∷ [])) (neither (x == 10) _ h).0
+lines_of_last x (y ∷ ys) h =
+    let both = neither (x == 10) _ h in
+    ap (λ b. cond b ([] ∷ lines_of (y ∷ ys)) (onto_first x (lines_of (y ∷ ys)))) both.0 ∙ ap (onto_first x) (lines_of_last y ys both.1)
+
+lines_of_ended : (lines : List (List ℕ)) (rest : List ℕ) → AllByRecursion (IsFreeOf 10) lines → lines_of (flat_map ended lines ++ rest) ≡ lines ++ lines_of rest
+lines_of_ended [] rest h = refl
+lines_of_ended (l ∷ lines) rest h =
+    ap lines_of (append_assoc (ended l) (flat_map ended lines) rest ∙ append_assoc l (10 ∷ []) (flat_map ended lines ++ rest))
+    ∙ lines_of_cut l (flat_map ended lines ++ rest) h.0 ∙ ap (λ ls. l ∷ ls) (lines_of_ended lines rest h.1)
+
+-- the lines of bytes that were cut
+pub lines_of_cuts : (bytes : List ℕ) (lines : List (List ℕ)) (begun : List ℕ) → Cuts bytes lines begun → lines_of bytes ≡ lines ++ lines_of begun
+lines_of_cuts bytes lines begun h = ap lines_of h.whole ∙ lines_of_ended lines begun h.each
+
+pub cuts_none : (bytes : List ℕ) → Cuts bytes [] bytes
+cuts_none bytes = record { whole = refl; each = tt; fits = tt }
+
+-- more bytes come, and are cut together with the line that had begun
+pub cuts_later : (bytes : List ℕ) (lines : List (List ℕ)) (begun more : List ℕ) (others : List (List ℕ)) (rest : List ℕ) → Cuts bytes lines begun → Cuts (begun ++ more) others rest → Cuts (bytes ++ more) (lines ++ others) rest
+cuts_later bytes lines begun more others rest h k = record {
+  whole = ap (λ bs. bs ++ more) h.whole ∙ append_assoc (flat_map ended lines) begun more ∙ ap (λ bs. flat_map ended lines ++ bs) k.whole
+      ∙ sym (append_assoc (flat_map ended lines) (flat_map ended others) rest) ∙ ap (λ bs. bs ++ rest) (sym (flat_map-append ended lines others));
+  each = each-append (IsFreeOf 10) lines others h.each k.each;
+  fits = each-append Fits lines others h.fits k.fits;
+}
+
+-- one more line ends
+pub cuts_more : (bytes : List ℕ) (lines : List (List ℕ)) (begun piece behind : List ℕ) → Cuts bytes lines (begun ++ (piece ++ 10 ∷ behind)) → IsFreeOf 10 (begun ++ piece) → Fits (begun ++ piece) → Cuts bytes (lines ++ (begun ++ piece) ∷ []) behind
+cuts_more bytes lines begun piece behind h free fits = record {
+  whole = h.whole ∙ ap (λ bs. flat_map ended lines ++ bs) (sym (append_assoc begun piece (10 ∷ behind)) ∙ sym (append_assoc (begun ++ piece) (10 ∷ []) behind))
+      ∙ sym (append_assoc (flat_map ended lines) (ended (begun ++ piece)) behind)
+      ∙ ap (λ bs. (flat_map ended lines ++ bs) ++ behind) (sym (append-nil (ended (begun ++ piece))))
+      ∙ ap (λ bs. bs ++ behind) (sym (flat_map-append ended lines ((begun ++ piece) ∷ [])));
+  each = each-append (IsFreeOf 10) lines ((begun ++ piece) ∷ []) h.each (free, tt);
+  fits = each-append Fits lines ((begun ++ piece) ∷ []) h.fits (fits, tt);
+}
+
+-- all lines, where the last one may lack its line feed
+pub all_ended : (bytes : List ℕ) (lines : List (List ℕ)) → Cuts bytes lines [] → lines_of bytes ≡ lines
+all_ended bytes lines h = lines_of_cuts bytes lines [] h ∙ append-nil lines
+
+pub all_but_last_ended : (bytes : List ℕ) (lines : List (List ℕ)) (begun : List ℕ) → Cuts bytes lines begun → IsFreeOf 10 begun → 0 < length begun → lines_of bytes ≡ lines ++ begun ∷ []
+all_but_last_ended bytes lines [] h free some = absurd (omega arith)
+all_but_last_ended bytes lines (x ∷ xs) h free some = lines_of_cuts bytes lines (x ∷ xs) h ∙ ap (λ ls. lines ++ ls) (lines_of_last x xs free)
+
+pub fits_more : (lines : List (List ℕ)) (begun : List ℕ) → AllByRecursion Fits lines → Fits begun → AllByRecursion Fits (lines ++ begun ∷ [])
+fits_more lines begun h k = each-append Fits lines (begun ∷ []) h (k, tt)

@@ -1,0 +1,76 @@
+-- How runs are put together, and what was written for them.
+use Rattle.std.proofs.Common.{◌≡◌, ℕ, List, [], ◌∷◌, ◌++◌, length, false, Option, None, Some, refl, sym, ap, ◌∙◌, subst, append_assoc, append-nil}
+use Rattle.std.proofs.lemmas.Bool.{false≢true}
+use Rattle.std.specs.Prelude.{◌==◌}
+use Rattle.std.specs.Io.KnownBytes.{Appends, Consumes, Keeps}
+use Rattle.ft_core.specs.States.{State}
+use Rattle.ft_script.specs.Requests.{meaning_of}
+use Rattle.ft_script.specs.Runs.{GivesText, IsTextOfRun, Plays, WritesPart}
+
+-- ---- what a writer holds
+
+pub appends_none : (a b : Option (List ℕ)) → Keeps a b → Appends a b []
+appends_none None b h = tt
+appends_none (Some x) None h = absurd h
+appends_none (Some x) (Some y) h = h ∙ sym (append-nil x)
+
+pub appends_more : (a b c : Option (List ℕ)) (xs ys : List ℕ) → Appends a b xs → Appends b c ys → Appends a c (xs ++ ys)
+appends_more None b c xs ys h k = tt
+appends_more (Some x) None c xs ys h k = absurd h
+appends_more (Some x) (Some y) None xs ys h k = absurd k
+appends_more (Some x) (Some y) (Some z) xs ys h k = k ∙ ap (λ l. l ++ ys) h ∙ append_assoc x xs ys
+
+pub consumes_none : (a : Option (List ℕ)) → Consumes a a []
+consumes_none None = tt
+consumes_none (Some x) = refl
+
+pub consumes_kept : (a b c : Option (List ℕ)) (xs : List ℕ) → Consumes a b xs → Keeps b c → Consumes a c xs
+consumes_kept None b c xs h k = tt
+consumes_kept (Some x) None c xs h k = absurd h
+consumes_kept (Some x) (Some y) None xs h k = absurd k
+consumes_kept (Some x) (Some y) (Some z) xs h k = h ∙ ap (λ l. xs ++ l) (sym k)
+
+pub consumes_more : (a b c : Option (List ℕ)) (xs ys : List ℕ) → Consumes a b xs → Consumes b c ys → Consumes a c (xs ++ ys)
+consumes_more None b c xs ys h k = tt
+consumes_more (Some x) None c xs ys h k = absurd h
+consumes_more (Some x) (Some y) None xs ys h k = absurd k
+consumes_more (Some x) (Some y) (Some z) xs ys h k = h ∙ ap (λ l. xs ++ l) k ∙ sym (append_assoc xs ys z)
+
+pub keeps_refl : (a : Option (List ℕ)) → Keeps a a
+keeps_refl None = tt
+keeps_refl (Some x) = refl
+
+pub keeps_trans : (a b c : Option (List ℕ)) → Keeps a b → Keeps b c → Keeps a c
+keeps_trans None b c h k = tt
+keeps_trans (Some x) None c h k = absurd h
+keeps_trans (Some x) (Some y) None h k = absurd k
+keeps_trans (Some x) (Some y) (Some z) h k = k ∙ h
+
+-- ---- the text of a run
+
+run_one : (old new : State) (bytes text : List ℕ) → GivesText old (meaning_of bytes) text new → IsTextOfRun old (bytes ∷ []) text new
+run_one old new bytes text h = (new, text, [], h, (refl, refl), sym (append-nil text))
+
+run_more : (old mid new : State) (lines others : List (List ℕ)) (text more : List ℕ) → IsTextOfRun old lines text mid → IsTextOfRun mid others more new → IsTextOfRun old (lines ++ others) (text ++ more) new
+run_more old mid new [] others text more h k =
+    subst (λ t. IsTextOfRun old others (t ++ more) new) (sym h.0) (subst (λ s. IsTextOfRun s others more new) h.1 k)
+run_more old mid new (l ∷ lines) others text more h k =
+    (h.0, h.1, h.2 ++ more, h.3, run_more h.0 mid new lines others h.2 more h.4 k, ap (λ t. t ++ more) h.5 ∙ append_assoc h.1 h.2 more)
+
+pub plays_none : (a b : Option (List ℕ)) (old : State) → Keeps a b → Plays [] a b old old
+plays_none a b old h = record { text = []; run = (refl, refl); wrote = appends_none a b h }
+
+pub plays_one : (bytes text : List ℕ) (a b : Option (List ℕ)) (old new : State) → GivesText old (meaning_of bytes) text new → Appends a b text → Plays (bytes ∷ []) a b old new
+plays_one bytes text a b old new h wrote = record { text = text; run = run_one old new bytes text h; wrote = wrote }
+
+pub plays_more : (lines others : List (List ℕ)) (a b c : Option (List ℕ)) (old mid new : State) → Plays lines a b old mid → Plays others b c mid new → Plays (lines ++ others) a c old new
+plays_more lines others a b c old mid new h k = record {
+  text = h.text ++ k.text;
+  run = run_more old mid new lines others h.text k.text h.run k.run;
+  wrote = appends_more a b c h.text k.text h.wrote k.wrote;
+}
+
+-- some bytes are left, and the writer takes none of them
+pub part_left : (bytes front rest : List ℕ) (a b c : Option (List ℕ)) → bytes ≡ front ++ rest → Appends a b front → Appends b c [] → false ≡ (length rest == 0) → WritesPart a c bytes
+part_left bytes front [] a b c h k none some = absurd (false≢true some)
+part_left bytes front (x ∷ xs) a b c h k none some = (front, x, xs, h, subst (Appends a c) (append-nil front) (appends_more a b c front [] k none))

@@ -1,0 +1,5 @@
+pub mod Script
+pub mod Requests
+pub mod Texts
+pub mod Reports
+pub mod Runs

@@ -1,0 +1,142 @@
+-- What a run of a script writes.
+use Rattle.std.specs.Prelude.{◌≡◌, ◌⊎◌, ◌<◌, ◌≤◌, ℕ, List, [], ◌∷◌, ◌++◌, length, codes, Option}
+use Rattle.std.specs.List.{flat_map, AllByRecursion}
+use Rattle.std.specs.Io.KnownBytes.{Appends, Consumes, IsAtEnd, Keeps}
+use Rattle.ft_tree.specs.Rows.{rows_of}
+use Rattle.ft_core.specs.declared.request.Answer.{Answer}
+use Rattle.ft_core.specs.declared.request.Request.{Request}
+use Rattle.ft_core.specs.States.{State, at_base, first_base, tree_of}
+use Rattle.ft_core.specs.Steps.{IsStep, exact_rule}
+use Rattle.ft_script.specs.declared.line.Line.{Line}
+use Rattle.ft_script.specs.declared.line.Line.TheVariants as line
+use Rattle.ft_script.specs.declared.line.Report.{Report}
+use Rattle.ft_script.specs.declared.line.Report.TheVariants.{Tree}
+use Rattle.ft_script.specs.declared.playing.PlayFault.{PlayFault}
+use Rattle.ft_script.specs.declared.playing.PlayFault.TheVariants.{Memory, Read, Write, TooLong, Turns}
+use Rattle.ft_script.specs.declared.playing.TheConstants.{LONGEST_LINE}
+use Rattle.ft_script.specs.Script.{IsFreeOf, lines_of}
+use Rattle.ft_script.specs.Requests.{meaning_of}
+use Rattle.ft_script.specs.Texts.{text_of}
+use Rattle.ft_script.specs.Reports.{tree_text}
+
+-- ---- what is written for a line
+
+-- a legal step of the core
+abbrev pub IsLegal : State → Request → Answer → State → Type 0
+IsLegal = IsStep exact_rule
+
+-- the text, or that there was no memory for what it tells of
+abbrev pub IsTold : List ℕ → List ℕ → Type 0
+IsTold whole text = (text ≡ whole ++ 10 ∷ []) ⊎ (text ≡ codes "refused Memory" ++ 10 ∷ [])
+
+abbrev pub IsReport : State → Report → List ℕ → Type 0
+IsReport s Tree text = IsTold (tree_text (rows_of (tree_of s))) text
+
+-- What is written for a line that was carried out, and the state after it.
+abbrev pub GivesText : State → Line → List ℕ → State → Type 0
+GivesText old line.Silent text new = (text ≡ []) × (new ≡ old)
+GivesText old line.Bad text new = (text ≡ codes "bad line" ++ 10 ∷ []) × (new ≡ old)
+GivesText old (line.Request request) text new = (answer : Answer) × IsLegal old request answer new × (text ≡ text_of answer ++ 10 ∷ [])
+GivesText old (line.Report report) text new = IsReport old report text × (new ≡ old)
+
+-- The text of a run: what is written for lines, one after another, and the state in the end.
+abbrev pub IsTextOfRun : State → List (List ℕ) → List ℕ → State → Type 0
+IsTextOfRun old [] text new = (text ≡ []) × (new ≡ old)
+IsTextOfRun old (bytes ∷ lines) text new =
+    (middle : State) × (first : List ℕ) × (rest : List ℕ) × GivesText old (meaning_of bytes) first middle × IsTextOfRun middle lines rest new × (text ≡ first ++ rest)
+
+-- These lines were carried out, and the text of their run was written, from what the writer held before to what it holds after.
+pub record Plays (lines : List (List ℕ)) (before after : Option (List ℕ)) (old new : State) : Type 0 where
+  pub text : List ℕ
+  pub run : IsTextOfRun old lines text new
+  pub wrote : Appends before after text
+
+-- A front of the text was written, and not all of it.
+abbrev pub WritesPart : Option (List ℕ) → Option (List ℕ) → List ℕ → Type 0
+WritesPart before after text = (front : List ℕ) × (next : ℕ) × (back : List ℕ) × (text ≡ front ++ next ∷ back) × Appends before after front
+
+-- A front of the text was written, or all of it.
+abbrev pub WritesFront : Option (List ℕ) → Option (List ℕ) → List ℕ → Type 0
+WritesFront before after text = Appends before after text ⊎ WritesPart before after text
+
+-- ---- lines in bytes
+
+-- a line with the line feed behind it
+abbrev pub ended : List ℕ → List ℕ
+ended bytes = bytes ++ 10 ∷ []
+
+-- the line is not too long
+abbrev pub Fits : List ℕ → Type 0
+Fits bytes = length bytes ≤ LONGEST_LINE
+
+-- The bytes are these lines, each with a line feed behind it, and then others.
+pub record Cuts (bytes : List ℕ) (lines : List (List ℕ)) (rest : List ℕ) : Type 0 where
+  pub whole : bytes ≡ flat_map ended lines ++ rest
+  pub each : AllByRecursion (IsFreeOf 10) lines
+  pub fits : AllByRecursion Fits lines
+
+-- The bytes begin with a line that is too long.
+abbrev pub BeginsTooLong : List ℕ → Type 0
+BeginsTooLong bytes = (front : List ℕ) × (back : List ℕ) × (bytes ≡ front ++ back) × IsFreeOf 10 front × (LONGEST_LINE < length front)
+
+-- The bytes begin with this line, which has its line feed, or with which the script ends.
+pub record IsNext (ends : Type 0) (bytes line : List ℕ) : Type 0 where
+  pub free : IsFreeOf 10 line
+  pub fits : Fits line
+  pub ended : ((behind : List ℕ) × (bytes ≡ line ++ 10 ∷ behind)) ⊎ (ends × (bytes ≡ line))
+
+-- ---- faults
+
+-- What became of the line at which a fault came. Where there was no memory for the line or for its reply's text, nothing of it was written, and the line was carried out or not. Where the writer failed, it was carried out, and a part of its reply was written.
+abbrev pub StopsLine : PlayFault → List ℕ → Option (List ℕ) → Option (List ℕ) → State → State → Type 0
+StopsLine Memory bytes before after old new = Keeps before after × ((new ≡ old) ⊎ ((text : List ℕ) × GivesText old (meaning_of bytes) text new))
+StopsLine Write bytes before after old new = (text : List ℕ) × GivesText old (meaning_of bytes) text new × WritesPart before after text
+StopsLine Read bytes before after old new = ⊥
+StopsLine TooLong bytes before after old new = ⊥
+StopsLine Turns bytes before after old new = ⊥
+
+-- nothing was written, and nothing carried out
+abbrev pub Stays : Option (List ℕ) → Option (List ℕ) → State → State → Type 0
+Stays before after old new = Keeps before after × (new ≡ old)
+
+-- What a fault left of the bytes behind the lines that were taken before it.
+abbrev pub StopsIn : PlayFault → Type 0 → List ℕ → Option (List ℕ) → Option (List ℕ) → State → State → Type 0
+StopsIn Memory ends rest before after old new = Stays before after old new ⊎ ((bytes : List ℕ) × IsNext ends rest bytes × StopsLine Memory bytes before after old new)
+StopsIn Write ends rest before after old new = (bytes : List ℕ) × IsNext ends rest bytes × StopsLine Write bytes before after old new
+StopsIn Read ends rest before after old new = IsFreeOf 10 rest × Stays before after old new
+StopsIn Turns ends rest before after old new = IsFreeOf 10 rest × Stays before after old new
+StopsIn TooLong ends rest before after old new = BeginsTooLong rest × Stays before after old new
+
+-- How far a run came that ended with a fault, of the bytes that were read: the lines before the fault were taken, and all their replies written.
+pub record Stopped (fault : PlayFault) (ends : Type 0) (bytes : List ℕ) (before after : Option (List ℕ)) (old new : State) : Type 0 where
+  pub lines : List (List ℕ)
+  pub rest : List ℕ
+  pub cuts : Cuts bytes lines rest
+  pub held : Option (List ℕ)
+  pub state : State
+  pub taken : Plays lines before held old state
+  pub stopped : StopsIn fault ends rest held after state new
+
+-- ---- whole runs. `left` is what the reader has left, before and after, and `held` what the writer holds
+
+-- A script was read to its end, and all its lines were taken.
+abbrev pub PlaysAll : Option (List ℕ) → Option (List ℕ) → Option (List ℕ) → Option (List ℕ) → State → State → Type 0
+PlaysAll left left_after held held_after old new =
+    (bytes : List ℕ) × Consumes left left_after bytes × IsAtEnd left_after × AllByRecursion Fits (lines_of bytes) × Plays (lines_of bytes) held held_after old new
+
+-- A script was read and run up to a fault.
+abbrev pub StopsAt : PlayFault → Option (List ℕ) → Option (List ℕ) → Option (List ℕ) → Option (List ℕ) → State → State → Type 0
+StopsAt fault left left_after held held_after old new = (bytes : List ℕ) × Consumes left left_after bytes × Stopped fault (IsAtEnd left_after) bytes held held_after old new
+
+-- Each line that ends in the bytes was taken, and the rest of them is a line that has begun.
+abbrev pub TakesAll : List ℕ → List ℕ → Option (List ℕ) → Option (List ℕ) → State → State → Type 0
+TakesAll bytes begun before after old new = (lines : List (List ℕ)) × Cuts bytes lines begun × IsFreeOf 10 begun × Fits begun × Plays lines before after old new
+
+-- The same on a new core.
+abbrev pub PlaysAnew : Option (List ℕ) → Option (List ℕ) → Option (List ℕ) → Option (List ℕ) → Type 0
+PlaysAnew left left_after held held_after = (new : State) × PlaysAll left left_after held held_after (at_base first_base) new
+
+-- There may have been no memory for the core.
+abbrev pub StopsAnew : PlayFault → Option (List ℕ) → Option (List ℕ) → Option (List ℕ) → Option (List ℕ) → Type 0
+StopsAnew fault left left_after held held_after =
+    ((fault ≡ Memory) × Keeps left left_after × Keeps held held_after) ⊎ ((new : State) × StopsAt fault left left_after held held_after (at_base first_base) new)

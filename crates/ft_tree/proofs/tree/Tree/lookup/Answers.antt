@@ -1,0 +1,11 @@
+use Rattle.std.proofs.Common.{sym, ap, ◌∙◌}
+use Rattle.ft_tree.specs.Looks.{answer}
+use Rattle.ft_tree.specs.Views.{view_of}
+use Rattle.ft_tree.specs.Walk.{walk, found, seen}
+use Rattle.ft_tree.proofs.tree.Tree.lookup.Goals as goal
+
+-- a fault of the walk is one of the look-up
+pub returns-in-Err : goal.returns-in-Err
+returns-in-Err c =
+    ap (λ end. found (seen end)) (sym c.in-Err.is) ∙ ap found c.in-Ok.ensures.end
+    ∙ ap (λ names. found (answer (walk names c.args.parts.now.trailing) (view_of c.args.self.now))) c.as_slice.ensures
