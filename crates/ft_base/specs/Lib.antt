@@ -1,4 +1,5 @@
 pub mod Table
+pub mod Few
 pub mod Pairs
 pub mod Copies
 pub mod Chains

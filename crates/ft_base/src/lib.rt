@@ -1,8 +1,9 @@
-//! What every crate above uses: the error for want of memory, a list that clauses see as a list,
+//! What every crate above uses: the error for want of memory, a list that clauses see as a list, a short list,
 //! a table that clauses see as a finite map, and lists by owner, linked in one slab.
 #![tactic(auto)]
 
 mod chains;
+mod few;
 mod memory;
 mod node;
 mod sequence;
@@ -11,6 +12,7 @@ mod table;
 mod tests;
 
 pub use chains::Chains;
+pub use few::Few;
 pub use memory::Memory;
 pub use sequence::Sequence;
 pub use table::Table;

@@ -2,7 +2,7 @@
 // What has a destructor is held by the test alone; helpers take it by reference.
 ghost use Rattle.std.specs.Prelude.{◌≡◌};
 
-use crate::{Chains, Memory, Sequence, Table};
+use crate::{Chains, Few, Memory, Sequence, Table};
 use std::alloc::{AllocError, AllocFailed, Global};
 use std::fmt::Debug;
 use std::test::Fail;
@@ -68,6 +68,30 @@ fn list_gives_its_values_back(rt: HostRuntime) -> Result<(), Fail> {
 
 fn has_seven_and_eight(list: &Sequence<u64>) -> bool {
     !list.is_empty() && list.len() == 2 && list.as_slice() == [7, 8].as_slice()
+}
+
+#[test]
+fn short_list_gives_values_at_both_ends(rt: HostRuntime) -> Result<(), Fail> {
+    let mut few = Few::new(rt.alloc());
+    assert!(rt; four_come_and_go(&mut few)?);
+    Ok(())
+}
+
+fn four_come_and_go(few: &mut Few<u64>) -> Result<bool, Memory> {
+    for value in [5, 6, 7, 8] {
+        few.push(value)?;
+    }
+    Ok(
+        few.first() == Some(&5)
+            && few.second() == Some(&6)
+            && few.others() == [7, 8].as_slice()
+            && few.pop() == Some(8)
+            && few.pop_front() == Some(5)
+            && few.pop_front() == Some(6)
+            && few.pop() == Some(7)
+            && few.pop().is_none()
+            && few.pop_front().is_none(),
+    )
 }
 
 #[test]

@@ -14,7 +14,7 @@ use Rattle.ft_tree.specs.Sound.{Hangs, AreSoundCells}
 use Rattle.ft_calls.specs.declared.call.Call.{Call}
 use Rattle.ft_calls.specs.declared.intent.Edit.{Edit}
 use Rattle.ft_calls.specs.declared.intent.Edit.TheVariants.{Entry, Parent, Links, Overwrite, Resize, Open}
-use Rattle.ft_calls.specs.Outcomes.{Write, SetEntry, SetParent, SetBytes, Outcome}
+use Rattle.ft_calls.specs.Outcomes.{Write, sets, Outcome}
 use Rattle.ft_calls.specs.Stored.{put, put_all, outcome}
 use Rattle.ft_calls.specs.Perform.{is_read}
 use Rattle.ft_calls.specs.declared.intent.Intent.{Intent}
@@ -58,11 +58,11 @@ module _ (cells : Cells) (s : AreSoundCells cells) where
   change-made : (k : ℕ) (reads : Bool) (o : Outcome) → Change cells k reads o → CanBeMade cells o.writes
   change-made k reads _ (no_change reply) = record { places = tt; apart = tt }
   change-made k reads _ (makes d name hangs empty) = record {
-    places = (tt, (dir_place-put_all (SetParent k (Some d) ∷ []) cells d (at_hangs d hangs), tt));
+    places = (tt, (dir_place-put_all (sets (cell.Parent k) (Some d) ∷ []) cells d (at_hangs d hangs), tt));
     apart = ((refl, tt), (tt, tt));
   }
   change-made k reads _ (removes d name i is bare) = record {
-    places = (tt, (dir_place-put_all (SetParent i None ∷ []) cells d (at_entry d name (DirNode i) is), tt));
+    places = (tt, (dir_place-put_all (sets (cell.Parent i) None ∷ []) cells d (at_entry d name (DirNode i) is), tt));
     apart = ((refl, tt), (tt, tt));
   }
   change-made k reads _ (creates_file flags d name hangs empty) = record {
@@ -72,22 +72,22 @@ module _ (cells : Cells) (s : AreSoundCells cells) where
   change-made k reads _ (links_file i d name named hangs empty) = record { places = (at_hangs d hangs, (tt, tt)); apart = ((refl, tt), (tt, tt)) }
   change-made k reads _ (unlinks d name i is) = record { places = (tt, (at_entry d name (FileNode i) is, tt)); apart = ((refl, tt), (tt, tt)) }
   change-made k reads _ (moves_file d name i e other is hangs empty) = record {
-    places = (at_hangs e hangs, (dir_place-put_all (SetEntry e other (Some (FileNode i)) ∷ []) cells d (at_entry d name (FileNode i) is), tt));
+    places = (at_hangs e hangs, (dir_place-put_all (sets (cell.Entry e other) (Some (FileNode i)) ∷ []) cells d (at_entry d name (FileNode i) is), tt));
     apart = ((other_entry d name e other (λ same. none-some (FileNode i) (sym (sym is ∙ same ∙ empty))), tt), (tt, tt));
   }
   change-made k reads _ (replaces_file d name i e other j is was apart) = record {
-    places = (at_entry e other (FileNode j) was, (dir_place-put_all (SetEntry e other (Some (FileNode i)) ∷ []) cells d (at_entry d name (FileNode i) is), (tt, tt)));
+    places = (at_entry e other (FileNode j) was, (dir_place-put_all (sets (cell.Entry e other) (Some (FileNode i)) ∷ []) cells d (at_entry d name (FileNode i) is), (tt, tt)));
     apart = ((other_entry d name e other (λ same. apart (ap number_of (same_Some (FileNode i) (FileNode j) (sym is ∙ same ∙ was)))), (refl, tt)), ((refl, tt), (tt, tt)));
   }
   change-made k reads _ (moves_dir d name i e other is hangs clear empty) = by_parent (d == e)
     where
-      by_parent : (b : Bool) → CanBeMade cells (SetEntry e other (Some (DirNode i)) ∷ SetEntry d name None ∷ cond b [] (SetParent i (Some e) ∷ []))
+      by_parent : (b : Bool) → CanBeMade cells (sets (cell.Entry e other) (Some (DirNode i)) ∷ sets (cell.Entry d name) None ∷ cond b [] (sets (cell.Parent i) (Some e) ∷ []))
       by_parent true = record {
-        places = (at_hangs e hangs, (dir_place-put_all (SetEntry e other (Some (DirNode i)) ∷ []) cells d (at_entry d name (DirNode i) is), tt));
+        places = (at_hangs e hangs, (dir_place-put_all (sets (cell.Entry e other) (Some (DirNode i)) ∷ []) cells d (at_entry d name (DirNode i) is), tt));
         apart = ((other_entry d name e other (λ same. none-some (DirNode i) (sym (sym is ∙ same ∙ empty))), tt), (tt, tt));
       }
       by_parent false = record {
-        places = (at_hangs e hangs, (dir_place-put_all (SetEntry e other (Some (DirNode i)) ∷ []) cells d (at_entry d name (DirNode i) is), (tt, tt)));
+        places = (at_hangs e hangs, (dir_place-put_all (sets (cell.Entry e other) (Some (DirNode i)) ∷ []) cells d (at_entry d name (DirNode i) is), (tt, tt)));
         apart = ((other_entry d name e other (λ same. none-some (DirNode i) (sym (sym is ∙ same ∙ empty))), (refl, tt)), ((refl, tt), (tt, tt)));
       }
   change-made k reads _ (replaces_dir d name i e other j is was apart clear bare) = by_parent (d == e)
@@ -95,13 +95,13 @@ module _ (cells : Cells) (s : AreSoundCells cells) where
       differ : same_cell (cell.Entry e other) (cell.Entry d name) ≡ false
       differ = other_entry d name e other (λ same. apart (ap number_of (same_Some (DirNode i) (DirNode j) (sym is ∙ same ∙ was))))
 
-      by_parent : (b : Bool) → CanBeMade cells (SetEntry e other (Some (DirNode i)) ∷ SetEntry d name None ∷ SetParent j None ∷ cond b [] (SetParent i (Some e) ∷ []))
+      by_parent : (b : Bool) → CanBeMade cells (sets (cell.Entry e other) (Some (DirNode i)) ∷ sets (cell.Entry d name) None ∷ sets (cell.Parent j) None ∷ cond b [] (sets (cell.Parent i) (Some e) ∷ []))
       by_parent true = record {
-        places = (at_entry e other (DirNode j) was, (dir_place-put_all (SetEntry e other (Some (DirNode i)) ∷ []) cells d (at_entry d name (DirNode i) is), (tt, tt)));
+        places = (at_entry e other (DirNode j) was, (dir_place-put_all (sets (cell.Entry e other) (Some (DirNode i)) ∷ []) cells d (at_entry d name (DirNode i) is), (tt, tt)));
         apart = ((differ, (refl, tt)), ((refl, tt), (tt, tt)));
       }
       by_parent false = record {
-        places = (at_entry e other (DirNode j) was, (dir_place-put_all (SetEntry e other (Some (DirNode i)) ∷ []) cells d (at_entry d name (DirNode i) is), (tt, (tt, tt))));
+        places = (at_entry e other (DirNode j) was, (dir_place-put_all (sets (cell.Entry e other) (Some (DirNode i)) ∷ []) cells d (at_entry d name (DirNode i) is), (tt, (tt, tt))));
         apart = ((differ, (refl, (refl, tt))), ((refl, (refl, tt)), ((other_parents i j apart, tt), (tt, tt))));
       }
   change-made k reads _ (on_files reply ws each apart acts lists) = record { places = files-put k cells ws (λ i named. (named-file cells s i named).0) each; apart = apart }
@@ -115,8 +115,8 @@ write-same : (s t : Cells) (e : Edit) → held s (edit_cell e) ≡ held t (edit_
 write-same s t (Entry d name to) h = refl
 write-same s t (Parent d to) h = refl
 write-same s t (Links i to) h = refl
-write-same s t (Overwrite i at bytes) h = ap (λ (was : List ℕ). SetBytes i (written was at (fitting bytes.now at))) h
-write-same s t (Resize i size) h = ap (λ (was : List ℕ). SetBytes i (resized was size)) h
+write-same s t (Overwrite i at bytes) h = ap (λ (was : List ℕ). sets (cell.Bytes i) (written was at (fitting bytes.now at))) h
+write-same s t (Resize i size) h = ap (λ (was : List ℕ). sets (cell.Bytes i) (resized was size)) h
 write-same s t (Open f to) h = refl
 
 other-edits : (cells : Cells) (c : Cell) (es : List Edit) → IsOtherThan c (writes_of cells es) → IsOther c es

@@ -24,7 +24,8 @@ use Rattle.ft_calls.specs.declared.call.OpenFlags.{OpenFlags}
 use Rattle.ft_calls.specs.declared.call.Whence.{Whence}
 use Rattle.ft_calls.specs.declared.call.Reply.{Reply}
 use Rattle.ft_calls.specs.declared.call.Reply.TheVariants.{Done, Number}
-use Rattle.ft_calls.specs.Outcomes.{Write, SetEntry, SetParent, SetLinks, SetBytes, SetOpen, Outcome, told, failed, from_parts, unless}
+use Rattle.ft_tree.specs.declared.cell.Cell.TheVariants as cell
+use Rattle.ft_calls.specs.Outcomes.{Write, sets, Outcome, told, failed, from_parts, unless}
 use Rattle.ft_calls.specs.Dirs.{make_dir, remove_dir, if_empty, last_fault, remove_parts, list_dir}
 use Rattle.ft_calls.specs.Links.{linked, link_new, link_old, link_parts, unlinked, unlink_spot, climb, unless_below, rename_fault, renamed, with_parent, replace_file, if_bare, replace_dir, rename_file, rename_dir, rename_old, rename_parts}
 use Rattle.ft_calls.specs.Files.{description, creates, opens, open_node, is_exclusive, open_spot, open_parts, to_size, cut_file, truncate_spot, truncate_parts, stat_spot}
@@ -39,18 +40,18 @@ use Rattle.ft_calls.proofs.Walked.{IsSpot, EndsWell, walk-ends}
 
 -- a directory k was made
 abbrev pub made : ℕ → ℕ → List ℕ → Outcome
-made k d name = record { reply = Done; writes = SetParent k (Some d) ∷ SetEntry d name (Some (DirNode k)) ∷ [] }
+made k d name = record { reply = Done; writes = sets (cell.Parent k) (Some d) ∷ sets (cell.Entry d name) (Some (DirNode k)) ∷ [] }
 
 -- a directory i was removed
 abbrev pub removed : ℕ → List ℕ → ℕ → Outcome
-removed d name i = record { reply = Done; writes = SetParent i None ∷ SetEntry d name None ∷ [] }
+removed d name i = record { reply = Done; writes = sets (cell.Parent i) None ∷ sets (cell.Entry d name) None ∷ [] }
 
 module _ (cells : Cells) where
   -- the bytes of a file that is named, or a description: an open one, or a new one of number k
   pub data FileWrite (k : ℕ) : Write → Type 0 where
-    sets_bytes : (i : ℕ) (bytes : List ℕ) → Named cells i → FileWrite k (SetBytes i bytes)
-    closes : (f : ℕ) (o : OpenFile) → open_of cells f ≡ Some o → FileWrite k (SetOpen f None)
-    sets_open : (f : ℕ) (o : OpenFile) → Named cells o.file → (f ≡ k) ⊎ IsSome (open_of cells f) → FileWrite k (SetOpen f (Some o))
+    sets_bytes : (i : ℕ) (bytes : List ℕ) → Named cells i → FileWrite k (sets (cell.Bytes i) bytes)
+    closes : (f : ℕ) (o : OpenFile) → open_of cells f ≡ Some o → FileWrite k (sets (cell.Fd f) None)
+    sets_open : (f : ℕ) (o : OpenFile) → Named cells o.file → (f ≡ k) ⊎ IsSome (open_of cells f) → FileWrite k (sets (cell.Fd f) (Some o))
 
   -- each of the writes is such a one
   abbrev pub AreFileWrites : ℕ → List Write → Type 0
@@ -69,11 +70,11 @@ module _ (cells : Cells) where
     -- an entry is moved to another place: that of nothing, of a file, or of an empty directory
     moves_file : (d : ℕ) (name : List ℕ) (i e : ℕ) (other : List ℕ) → entry_of cells d name ≡ Some (FileNode i) → Hangs (parent_of cells) e → entry_of cells e other ≡ None → Change k reads (renamed d name (FileNode i) e other [])
     replaces_file : (d : ℕ) (name : List ℕ) (i e : ℕ) (other : List ℕ) (j : ℕ) → entry_of cells d name ≡ Some (FileNode i) → entry_of cells e other ≡ Some (FileNode j) → i ≢ j
-        → Change k reads (renamed d name (FileNode i) e other (SetLinks j (links_of cells j - 1) ∷ []))
+        → Change k reads (renamed d name (FileNode i) e other (sets (cell.Links j) (links_of cells j - 1) ∷ []))
     moves_dir : (d : ℕ) (name : List ℕ) (i e : ℕ) (other : List ℕ) → entry_of cells d name ≡ Some (DirNode i) → Hangs (parent_of cells) e → Avoids (parent_of cells) i e → entry_of cells e other ≡ None
         → Change k reads (renamed d name (DirNode i) e other (with_parent i d e))
     replaces_dir : (d : ℕ) (name : List ℕ) (i e : ℕ) (other : List ℕ) (j : ℕ) → entry_of cells d name ≡ Some (DirNode i) → entry_of cells e other ≡ Some (DirNode j) → i ≢ j → Avoids (parent_of cells) i e
-        → names_of cells j ≡ [] → Change k reads (renamed d name (DirNode i) e other (SetParent j None ∷ with_parent i d e))
+        → names_of cells j ≡ [] → Change k reads (renamed d name (DirNode i) e other (sets (cell.Parent j) None ∷ with_parent i d e))
     on_files : (reply : Reply) (ws : List Write) → AreFileWrites k ws → AreApart ws → (OnlyTells reply → ⊥) → (IsList reply → reads ≡ true) → Change k reads (record { reply = reply; writes = ws })
 
   module _ (k : ℕ) (reads : Bool) where
@@ -130,11 +131,11 @@ module _ (cells : Cells) where
     opens-changes : (flags : OpenFlags) (i : ℕ) → Named cells i → Change k reads (opens k flags i)
     opens-changes flags i named = on_files (Number k) _ (sets_open k (description flags i) named (inl refl), cut flags.trunc) (apart flags.trunc) (λ x. x) (λ x. absurd x)
       where
-        cut : (trunc : Bool) → AreFileWrites k (cond trunc (SetBytes i [] ∷ []) [])
+        cut : (trunc : Bool) → AreFileWrites k (cond trunc (sets (cell.Bytes i) [] ∷ []) [])
         cut true = (sets_bytes i [] named, tt)
         cut false = tt
 
-        apart : (trunc : Bool) → AreApart (SetOpen k (Some (description flags i)) ∷ cond trunc (SetBytes i [] ∷ []) [])
+        apart : (trunc : Bool) → AreApart (sets (cell.Fd k) (Some (description flags i)) ∷ cond trunc (sets (cell.Bytes i) [] ∷ []) [])
         apart true = ((refl, tt), (tt, tt))
         apart false = (tt, tt)
 
@@ -165,7 +166,7 @@ module _ (cells : Cells) where
         by_place (Some o) is = either-changes (fits o) (go o) (Answer (failed EBADF)) (each o is) (no_change _)
 
     -- a description of the same file, in place of one that is open
-    moves : (fd : ℕ) (o : OpenFile) → open_of cells fd ≡ Some o → (offset : ℕ) → FileWrite k (SetOpen fd (Some (at_offset o offset)))
+    moves : (fd : ℕ) (o : OpenFile) → open_of cells fd ≡ Some o → (offset : ℕ) → FileWrite k (sets (cell.Fd fd) (Some (at_offset o offset)))
     moves fd o is offset = sets_open fd (at_offset o offset) (by_open fd o is) (inr (subst IsSome (sym is) refl))
 
     -- write sets the bytes of the file, and moves the offset
@@ -189,7 +190,7 @@ module _ (cells : Cells) where
     sought-changes : (fd : ℕ) (o : OpenFile) → open_of cells fd ≡ Some o → (place : Option ℕ) → Change k reads (sought fd o place)
     sought-changes fd o is None = no_change _
     sought-changes fd o is (Some at) =
-        elim (nat_le at LAST_OFFSET) as (λ b. Change k reads (cond b (record { reply = Number at; writes = SetOpen fd (Some (at_offset o at)) ∷ [] }) (failed EOVERFLOW))) [
+        elim (nat_le at LAST_OFFSET) as (λ b. Change k reads (cond b (record { reply = Number at; writes = sets (cell.Fd fd) (Some (at_offset o at)) ∷ [] }) (failed EOVERFLOW))) [
           | true ↦ on_files _ _ (moves fd o is at, tt) (tt, tt) (λ x. x) (λ x. absurd x)
           | false ↦ no_change _
         ]

@@ -16,7 +16,7 @@ use Rattle.ft_calls.specs.Files.{stat_spot}
 use Rattle.ft_calls.specs.Descriptors.{any_open, is_readable, is_writable, close_open, read_open, pread_open, write_open, pwrite_open, seek_open, ftruncate_open, fstat_open}
 use Rattle.ft_calls.specs.Steps.{steps}
 use Rattle.ft_calls.specs.Accesses.{written_cell}
-use Rattle.ft_calls.specs.Posix.{as_change, file_of, names_file}
+use Rattle.ft_calls.specs.Posix.{file_of, names_file}
 use Rattle.ft_calls.proofs.Upon.{Upon, EachCallUpon}
 use Rattle.ft_calls.proofs.WritesUpon.{IsUpon, upon-cell, upon-name, upon-lost}
 use Rattle.ft_calls.proofs.FilesUpon.{GoesUpon, from_parts-goes, make_dir-goes, remove_parts-goes, list_dir-goes, open_parts-goes, with_open-goes, close_open-goes, read_open-goes, pread_open-goes, write_open-goes, pwrite_open-goes, seek_open-goes, truncate_parts-goes, ftruncate_open-goes, stat_spot-goes, fstat_open-goes}
@@ -53,6 +53,6 @@ call-upon cells k free n call =
     record {
       looks = goes.0;
       writes = Each-map (IsUpon cells k seen ws) (λ w. (i : ℕ) → file_of (written_cell w) ≡ Some i → Upon cells k seen i) (upon-cell cells k seen ws) ws goes.1;
-      names = Each-map (IsUpon cells k seen ws) (λ w. (i : ℕ) → names_file (as_change w).cell (as_change w).value i ≡ true → Upon cells k seen i) (upon-name cells k seen ws) ws goes.1;
+      names = Each-map (IsUpon cells k seen ws) (λ w. (i : ℕ) → names_file w.cell w.value i ≡ true → Upon cells k seen i) (upon-name cells k seen ws) ws goes.1;
       lets_go = upon-lost cells k seen ws goes.1;
     }

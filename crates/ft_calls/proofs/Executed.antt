@@ -21,7 +21,8 @@ use Rattle.ft_calls.specs.Exec.{put_plain, put_all_plain, is_named_in, without_d
 use Rattle.ft_calls.specs.Files.{creates, description}
 use Rattle.ft_calls.specs.Laws.{TidyingLaw}
 use Rattle.ft_calls.specs.Links.{linked, unlinked, renamed, with_parent}
-use Rattle.ft_calls.specs.Outcomes.{Write, SetParent, SetLinks, Outcome}
+use Rattle.ft_tree.specs.declared.cell.Cell.TheVariants as cell
+use Rattle.ft_calls.specs.Outcomes.{Write, sets, Outcome}
 use Rattle.ft_calls.specs.Stored.{put, put_all, after, outcome}
 use Rattle.ft_calls.proofs.Changes.{FileWrite, AreFileWrites, sets_bytes, closes, sets_open, Change, no_change, makes, removes, creates_file, links_file, unlinks, moves_file, replaces_file, moves_dir, replaces_dir, on_files, made, removed, call-changes}
 use Rattle.ft_calls.proofs.Conjunction.{first, second, both}
@@ -271,7 +272,7 @@ change-files cells sound k free reads _ new (unlinks d name i is) =
 change-files cells sound k free reads _ new (moves_file d name i e other is hangs empty) =
     let ws = (renamed d name (FileNode i) e other []).writes in kept-files cells sound ws new refl refl refl (same-no_dirs cells sound ws refl) (λ n. links-there cells sound n _ refl)
 change-files cells sound k free reads _ new (replaces_file d name i e other j is was apart) =
-    let ws = (renamed d name (FileNode i) e other (SetLinks j (links_of cells j - 1) ∷ [])).writes in
+    let ws = (renamed d name (FileNode i) e other (sets (cell.Links j) (links_of cells j - 1) ∷ [])).writes in
     kept-files cells sound ws new refl refl refl (same-no_dirs cells sound ws refl) (named-linked cells sound j (links_of cells j - 1) (by_entry e other j was))
 change-files cells sound k free reads _ new (moves_dir d name i e other is hangs clear empty) =
     let writes : List Write → List Write = λ more. (renamed d name (DirNode i) e other more).writes in
@@ -279,7 +280,7 @@ change-files cells sound k free reads _ new (moves_dir d name i e other is hangs
     (kept-hung i d e (λ more. open_after (open_of cells) (writes more)) refl) (no_dir-dir_moved cells sound d name i e other is clear empty)
     (λ n. links-there cells sound n _ (ap (λ f. f n) (kept-hung i d e (λ more. links_after (links_of cells) (writes more)) refl)))
 change-files cells sound k free reads _ new (replaces_dir d name i e other j is was apart clear bare) =
-    let writes : List Write → List Write = λ more. (renamed d name (DirNode i) e other (SetParent j None ∷ more)).writes in
+    let writes : List Write → List Write = λ more. (renamed d name (DirNode i) e other (sets (cell.Parent j) None ∷ more)).writes in
     kept-files cells sound (writes (with_parent i d e)) new (kept-hung i d e (λ more. (put_all_plain (tidy cells) (writes more)).files) refl) (kept-hung i d e (λ more. bytes_after (bytes_of cells) (writes more)) refl)
     (kept-hung i d e (λ more. open_after (open_of cells) (writes more)) refl) (no_dir-dir_replaced cells sound d name i e other j is was apart clear bare)
     (λ n. links-there cells sound n _ (ap (λ f. f n) (kept-hung i d e (λ more. links_after (links_of cells) (writes more)) refl)))

@@ -24,7 +24,7 @@ use Rattle.ft_calls.specs.declared.call.OpenFlags.{OpenFlags}
 use Rattle.ft_calls.specs.declared.call.Whence.{Whence}
 use Rattle.ft_calls.specs.declared.call.Whence.TheVariants.{Set, Cur, End}
 use Rattle.ft_calls.specs.declared.call.Reply.TheVariants.{Done, Number}
-use Rattle.ft_calls.specs.Outcomes.{Write, SetBytes, SetOpen, Outcome, failed, told, from_parts, unless}
+use Rattle.ft_calls.specs.Outcomes.{Write, sets, Outcome, failed, told, from_parts, unless}
 use Rattle.ft_calls.specs.Dirs.{make_dir, if_empty, remove_dir, last_fault, remove_parts, list_dir}
 use Rattle.ft_calls.specs.Files.{description, creates, opens, open_node, is_exclusive, open_spot, open_parts, to_size, cut_file, truncate_spot, truncate_parts, file_info, stat_spot}
 use Rattle.ft_calls.specs.Descriptors.{on_open, with_open, at_offset, close_open, read_open, not_negative, pread_at, pread_open, write_place, write_at, write_open, pwrite_at, pwrite_open, seek_from, moved, sought, seek_open, ftruncate_open, fstat_open}
@@ -179,7 +179,7 @@ module _ (cells : Cells) (k : ℕ) (seen : List Cell) where
     opens-upon : (flags : OpenFlags) (i : ℕ) → Upon cells k seen i → AreUpon cells k seen (opens k flags i).writes
     opens-upon flags i upon = (opens_new cells k seen _ k (description flags i) none upon, cut flags.trunc)
       where
-        cut : (trunc : Bool) → Each (IsUpon cells k seen (opens k flags i).writes) (cond trunc (SetBytes i [] ∷ []) [])
+        cut : (trunc : Bool) → Each (IsUpon cells k seen (opens k flags i).writes) (cond trunc (sets (Bytes i) [] ∷ []) [])
         cut true = (upon_bytes i [] upon, tt)
         cut false = tt
 
@@ -232,7 +232,7 @@ module _ (cells : Cells) (k : ℕ) (seen : List Cell) where
   close_open-goes fd o h all = ((of_file o.file (by_open fd o h), tt), (shuts cells k seen _ fd o h.1 (inl all.0), tt))
 
   -- a description of the same file
-  moves : (all : List Write) (fd : ℕ) (o : OpenFile) → IsOpen fd o → (offset : ℕ) → IsUpon cells k seen all (SetOpen fd (Some (at_offset o offset)))
+  moves : (all : List Write) (fd : ℕ) (o : OpenFile) → IsOpen fd o → (offset : ℕ) → IsUpon cells k seen all (sets (Fd fd) (Some (at_offset o offset)))
   moves all fd o h offset = keeps_open cells k seen all fd o offset h.1 (by_open fd o h)
 
   -- read looks at the bytes, and moves the offset
@@ -282,7 +282,7 @@ module _ (cells : Cells) (k : ℕ) (seen : List Cell) where
   sought-upon fd o h None = tt
   sought-upon fd o h (Some at) = by_limit (nat_le at LAST_OFFSET)
     where
-      by_limit : (b : Bool) → AreUpon cells k seen (cond b (record { reply = Number at; writes = SetOpen fd (Some (at_offset o at)) ∷ [] }) (failed EOVERFLOW)).writes
+      by_limit : (b : Bool) → AreUpon cells k seen (cond b (record { reply = Number at; writes = sets (Fd fd) (Some (at_offset o at)) ∷ [] }) (failed EOVERFLOW)).writes
       by_limit true = (moves _ fd o h at, tt)
       by_limit false = tt
 

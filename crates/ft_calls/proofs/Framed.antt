@@ -18,7 +18,7 @@ use Rattle.ft_calls.specs.Stored.{outcome, after}
 use Rattle.ft_calls.specs.Accesses.{is_write, accesses_of, some_conflict}
 use Rattle.ft_calls.specs.Laws.{SoundnessLaw, FreshnessLaw, AgreeOn, FrameLaw, KeptLaw, ExchangeLaw}
 use Rattle.ft_tree.specs.Held.{held}
-use Rattle.ft_calls.specs.Posix.{as_place, as_change, covers, Stamped, HasSoundValues, posix, posix_calls}
+use Rattle.ft_calls.specs.Posix.{as_place, covers, Stamped, HasSoundValues, posix, posix_calls}
 use Rattle.ft_calls.proofs.Accessed.{access, looked-accessed, written-accessed}
 use Rattle.ft_calls.proofs.Alike.{view-covered, agree-each, looked, accesses-alike, does-alike}
 use Rattle.ft_calls.proofs.Lawful.{sets, covers-refl, overlaps, write-put, written-in, exchange}
@@ -54,12 +54,12 @@ module _ (steps-alike : StepsAlike) (stored-enough : StoredEnough) where
 pub kept : KeptLaw
 kept cells k call c not_written =
     let ws = (outcome cells k call).writes in
-    let apart : (x : Cell) → covers c x ≡ true → effects.is_written posix (map as_change ws) x ≡ false = λ x covered.
-    false_from_ne_true (effects.is_written posix (map as_change ws) x)
+    let apart : (x : Cell) → covers c x ≡ true → effects.is_written posix ws x ≡ false = λ x covered.
+    false_from_ne_true (effects.is_written posix ws x)
     (λ is. false≢true (sym not_written
     ∙ listed-any (λ a. is_write a.mode && overlap a.cell c) (access x WriteMode) (accesses_of cells k call)
     (written-accessed (steps (stored_dirs cells) k call) (view_of cells) x (written-in ws x is)) (overlaps x c x (covers-refl x) covered))) in
-    view-covered (after cells k call) cells c (λ x covered. ap (λ s. held s x) (sym (write-put ws cells)) ∙ write_kept posix sets (map as_change ws) cells x (apart x covered))
+    view-covered (after cells k call) cells c (λ x covered. ap (λ s. held s x) (sym (write-put ws cells)) ∙ write_kept posix sets ws cells x (apart x covered))
 
 -- what is tested of a list under a function
 any-map : {A B : Type 0} (p : B → Bool) (f : A → B) (xs : List A) → any p (map f xs) ≡ list_any (λ x. p (f x)) xs

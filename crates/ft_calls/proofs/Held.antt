@@ -9,7 +9,7 @@ use Rattle.ft_tree.specs.declared.cell.Cell.TheVariants.{Entry, Names, Parent, L
 use Rattle.ft_tree.specs.CellOrder.{cell_cmp_total, same_cell}
 use Rattle.ft_tree.specs.Cells.{Cells, entry_of, parent_of, links_of, bytes_of, open_of}
 use Rattle.ft_tree.specs.Held.{Holds, held, set_cell}
-use Rattle.ft_calls.specs.Outcomes.{Write, SetEntry, SetParent, SetLinks, SetBytes, SetOpen}
+use Rattle.ft_calls.specs.Outcomes.{Write}
 use Rattle.ft_calls.specs.Accesses.{written_cell}
 use Rattle.ft_calls.specs.Stored.{put}
 use Rattle.ft_calls.proofs.Puts.{is_place, with_value, entry-put_entry, parent-put_entry, entry-put_parent, parent-put_parent, links-put_links, bytes-put_links, links-put_bytes, bytes-put_bytes, open-put_open}
@@ -61,8 +61,4 @@ cell_kept s x v y h = refl
 
 -- the same of a write
 pub put-kept : (s : Cells) (w : Write) (c : Cell) → same_cell (written_cell w) c ≡ false → held (put s w) c ≡ held s c
-put-kept s (SetEntry d name to) c h = cell_kept s (Entry d name) to c h
-put-kept s (SetParent d to) c h = cell_kept s (Parent d) to c h
-put-kept s (SetLinks i to) c h = cell_kept s (Links i) to c h
-put-kept s (SetBytes i to) c h = cell_kept s (Bytes i) to c h
-put-kept s (SetOpen f to) c h = cell_kept s (Fd f) to c h
+put-kept s w c h = cell_kept s w.cell w.value c h

@@ -12,7 +12,8 @@ use Rattle.ft_tree.specs.Tidy.{tidy}
 use Rattle.ft_tree.specs.Sound.{Hangs, IsNoDir, IsTree, AreSoundCells, IsFree}
 use Rattle.ft_calls.specs.declared.call.OpenFlags.{OpenFlags}
 use Rattle.ft_calls.specs.Laws.{SoundnessLaw, FreshnessLaw}
-use Rattle.ft_calls.specs.Outcomes.{Write, SetEntry, SetBytes, SetOpen, Outcome}
+use Rattle.ft_tree.specs.declared.cell.Cell.TheVariants as cell
+use Rattle.ft_calls.specs.Outcomes.{Write, sets, Outcome}
 use Rattle.ft_calls.specs.Files.{creates, description}
 use Rattle.ft_calls.specs.Stored.{put_all}
 use Rattle.ft_calls.proofs.Places.{file_place-put_all, file_place-set}
@@ -82,7 +83,7 @@ module _ (cells : Cells) (sound : AreSoundCells cells) (k : ℕ) (free : IsFree 
 
   place-created : HasFilePlace (put_all cells created_writes) k
   place-created =
-      file_place-put_all (SetBytes k [] ∷ SetOpen k (Some (description flags k)) ∷ SetEntry d name (Some (FileNode k)) ∷ []) (put_links cells k 1) k (file_place-set cells k (record { links = 1; bytes = bytes_of cells k }))
+      file_place-put_all (sets (cell.Bytes k) [] ∷ sets (cell.Fd k) (Some (description flags k)) ∷ sets (cell.Entry d name) (Some (FileNode k)) ∷ []) (put_links cells k 1) k (file_place-set cells k (record { links = 1; bytes = bytes_of cells k }))
 
   -- each description is the new one, or an old one
   opens-created : (P : ℕ → Type 0) → P k → ((f : ℕ) (o : OpenFile) → open_of cells f ≡ Some o → P o.file) → (f : ℕ) (o : OpenFile) → with_value (open_of cells) k (Some (description flags k)) f ≡ Some o → P o.file

@@ -8,12 +8,12 @@ use Rattle.std.specs.FinMap.{get, contains_key, retain_keys, get-retain_keys}
 use Rattle.std.proofs.lemmas.Map.Lookups.{exact_unsigned}
 use Rattle.ft_laws.specs.Lists.{Each, In}
 use Rattle.ft_laws.specs.Laws.{Lawful, Knows, TouchesFile, LeavesName, Hides, is_hidden}
-use Rattle.ft_laws.specs.Effects.{Access as PlaceAccess, SetsCells, EffectLaws, is_written, write_all, touch, change}
+use Rattle.ft_laws.specs.Effects.{Access as PlaceAccess, Write as CellWrite, SetsCells, EffectLaws, is_written, write_all, touch, change}
 use Rattle.ft_laws.specs.Runs.{Exchange, Deletion, MayGoFirst, MayBeSorted}
 use Rattle.ft_laws.specs.Hiding.{RunAlike, StaysHidden, HidesMore, NotOwn}
 use Rattle.ft_laws.specs.Tidying.{TidyingLaw}
 use Rattle.ft_laws.proofs.Tests.{by_test}
-use Rattle.ft_laws.proofs.Lists.{Each-at}
+use Rattle.ft_laws.proofs.Lists.{Each-at, Each-from}
 use Rattle.ft_laws.proofs.Writing.{written_all}
 use Rattle.ft_laws.proofs.Effects.{effects_lawful}
 use Rattle.ft_laws.proofs.Exchanging as exchanging
@@ -33,17 +33,19 @@ use Rattle.ft_tree.specs.Tidy.{tidy}
 use Rattle.ft_tree.specs.Views.{view_of}
 use Rattle.ft_tree.specs.Sound.{AreSoundCells, IsFree, SameValues}
 use Rattle.ft_calls.specs.declared.call.Access.{Access}
-use Rattle.ft_calls.specs.Outcomes.{Write, SetEntry, SetParent, SetLinks, SetBytes, SetOpen}
+use Rattle.ft_calls.specs.Outcomes.{Write}
 use Rattle.ft_calls.specs.Stored.{put_all, outcome, after}
 use Rattle.ft_calls.specs.Steps.{steps}
 use Rattle.ft_calls.specs.Accesses.{written_cell, is_write, accesses_of}
 use Rattle.ft_calls.specs.Laws.{SoundnessLaw, FreshnessLaw}
-use Rattle.ft_tree.specs.Held.{Holds, held, blank}
-use Rattle.ft_calls.specs.Posix.{covers, Stamped, as_place, as_change, HasSoundValues, file_of, node_names, description_names, names_file, does, posix, posix_calls}
+use Rattle.ft_calls.specs.RunLaws.{WritesLaw, writes_cell}
+use Rattle.ft_tree.specs.Held.{Holds, held, blank, set_cell}
+use Rattle.ft_calls.specs.Posix.{covers, Stamped, as_place, HasSoundValues, file_of, node_names, description_names, names_file, does, posix, posix_calls}
 use Rattle.ft_calls.proofs.Accessed.{in-any, any-in, in-map, map-in, same_cell-refl, looked-accessed, written-accessed, accessed-cases, accessed-written, access}
 use Rattle.ft_calls.proofs.Alike.{view-covered, agree-each, same_back, same_free, same_after, tree-values, looked, accesses-alike, does-alike, does-same}
 use Rattle.ft_calls.proofs.Below.{StoredEnough, StepsAlike}
 use Rattle.ft_calls.proofs.Upon.{Sees, sees_entry, sees_open, Upon, CallUpon, EachCallUpon}
+use Rattle.ft_calls.proofs.Settable.{names-not_written}
 use Rattle.ft_calls.proofs.Held.{cell_written, cell_kept}
 use Rattle.ft_calls.proofs.Parents.{contains-under}
 use Rattle.ft_calls.proofs.Counting.{count-none}
@@ -104,54 +106,23 @@ overlap_sym p q = both_ways (overlap p q) (overlap q p) (turned p q) (turned q p
 -- What is written.
 
 -- to write the cells is to put them
-pub write-put : (ws : List Write) (s : Cells) → write_all posix s (map as_change ws) ≡ put_all s ws
+pub write-put : (ws : List Write) (s : Cells) → write_all posix s ws ≡ put_all s ws
 write-put [] s = refl
-write-put (SetEntry d name to ∷ ws) s = write-put ws _
-write-put (SetParent d parent ∷ ws) s = write-put ws _
-write-put (SetLinks i links ∷ ws) s = write-put ws _
-write-put (SetBytes i bytes ∷ ws) s = write-put ws _
-write-put (SetOpen f to ∷ ws) s = write-put ws _
-
--- the cell of a write
-change-cell : (w : Write) → (as_change w).cell ≡ written_cell w
-change-cell (SetEntry d name to) = refl
-change-cell (SetParent d parent) = refl
-change-cell (SetLinks i links) = refl
-change-cell (SetBytes i bytes) = refl
-change-cell (SetOpen f to) = refl
+write-put (w ∷ ws) s = write-put ws (set_cell s w.cell w.value)
 
 -- the cells that are written are those of the writes
-pub written-in : (ws : List Write) (x : Cell) → is_written posix (map as_change ws) x ≡ true → In x (map written_cell ws)
+pub written-in : (ws : List Write) (x : Cell) → is_written posix ws x ≡ true → In x (map written_cell ws)
 written-in [] x h = absurd (false≢true h)
-written-in (w ∷ ws) x h = elim (or_cases (same_cell (as_change w).cell x) (is_written posix (map as_change ws) x) h) [
-  | inl is ↦ inl (sym (same_cell-is (as_change w).cell x is) ∙ change-cell w)
+written-in (w ∷ ws) x h = elim (or_cases (same_cell w.cell x) (is_written posix ws x) h) [
+  | inl is ↦ inl (sym (same_cell-is w.cell x is))
   | inr more ↦ inr (written-in ws x more)
 ]
 
 -- and each cell of a write is written
-in-written : (ws : List Write) (x : Cell) → In x (map written_cell ws) → is_written posix (map as_change ws) x ≡ true
+in-written : (ws : List Write) (x : Cell) → In x (map written_cell ws) → is_written posix ws x ≡ true
 in-written [] x i = absurd i
-in-written (w ∷ ws) x (inl is) =
-    or_left (same_cell (as_change w).cell x) (is_written posix (map as_change ws) x) (subst (λ c. same_cell c x ≡ true) (is ∙ sym (change-cell w)) (same_cell-refl x))
-in-written (w ∷ ws) x (inr i) = or_right (same_cell (as_change w).cell x) (is_written posix (map as_change ws) x) (in-written ws x i)
-
--- the names of a directory are never written
-names-not_written : (ws : List Write) (d : ℕ) → In (Names d) (map written_cell ws) → ⊥
-names-not_written [] d i = absurd i
-names-not_written (w ∷ ws) d (inl is) = by_write w is
-  where
-    by_write : (w : Write) → Names d ≡ written_cell w → ⊥
-    by_write (SetEntry e name to) is = cc
-    by_write (SetParent e parent) is = cc
-    by_write (SetLinks n links) is = cc
-    by_write (SetBytes n bytes) is = cc
-    by_write (SetOpen f to) is = cc
-names-not_written (w ∷ ws) d (inr i) = names-not_written ws d i
-
--- each of a list is each of it under a function
-each-of_map : {A B : Type 0} (P : B → Type 0) (f : A → B) (xs : List A) → Each (λ x. P (f x)) xs → Each P (map f xs)
-each-of_map P f [] h = tt
-each-of_map P f (x ∷ xs) h = (h.0, each-of_map P f xs h.1)
+in-written (w ∷ ws) x (inl is) = or_left (same_cell w.cell x) (is_written posix ws x) (subst (λ c. same_cell c x ≡ true) is (same_cell-refl x))
+in-written (w ∷ ws) x (inr i) = or_right (same_cell w.cell x) (is_written posix ws x) (in-written ws x i)
 
 -- What is touched.
 
@@ -177,6 +148,16 @@ changed-in accesses x h =
 in-changed : (accesses : List Access) (a : Access) (x : Cell) → In a accesses → (is_write a.mode && covers a.cell x) ≡ true → change posix (map as_place accesses) x ≡ true
 in-changed accesses a x i h = in-any (λ (p : PlaceAccess Cell). p.writes && covers p.place x) (as_place a) (map as_place accesses) (in-map as_place a accesses i) h
 
+-- what a call writes is among its accesses
+pub writes-noted : WritesLaw
+writes-noted s a =
+    Each-from (λ w. writes_cell (does s a).accesses w.cell ≡ true) (outcome s a.stamp a.call).writes (λ w i. noted (written_cell w) (in-map written_cell w (outcome s a.stamp a.call).writes i))
+  where
+    noted : (x : Cell) → In x (map written_cell (outcome s a.stamp a.call).writes) → writes_cell (map as_place (accesses_of s a.stamp a.call)) x ≡ true
+    noted x i =
+        in-any (λ (p : PlaceAccess Cell). same_cell p.place x && p.writes) _ (map as_place (accesses_of s a.stamp a.call))
+        (in-map as_place _ (accesses_of s a.stamp a.call) (written-accessed (steps (stored_dirs s) a.stamp a.call) (view_of s) x i)) (ap (λ b. b && true) (same_cell-refl x))
+
 module _ (s : Cells) (a : Stamped) where
   abbrev writes : List Write
   writes = (outcome s a.stamp a.call).writes
@@ -189,24 +170,24 @@ module _ (s : Cells) (a : Stamped) where
   looked-touched c x i h = let at = looked-accessed (steps (stored_dirs s) a.stamp a.call) (view_of s) c i in in-touched accesses (access c at.0) x at.1 h
 
   -- what is written is changed
-  told-back : (x : Cell) → is_written posix (map as_change writes) x ≡ true → change posix (does s a).accesses x ≡ true
+  told-back : (x : Cell) → is_written posix writes x ≡ true → change posix (does s a).accesses x ≡ true
   told-back x h =
       let i = written-in writes x h in
       in-changed accesses _ x (written-accessed (steps (stored_dirs s) a.stamp a.call) (view_of s) x i) (covers-refl x)
 
   -- and nothing else is
-  told-on : (x : Cell) → change posix (does s a).accesses x ≡ true → is_written posix (map as_change writes) x ≡ true
+  told-on : (x : Cell) → change posix (does s a).accesses x ≡ true → is_written posix writes x ≡ true
   told-on x h =
       let found = changed-in accesses x h in
       let parts = and_parts (is_write found.0.mode) (covers found.0.cell x) found.2 in
       let i : In found.0.cell (map written_cell writes) = accessed-written (steps (stored_dirs s) a.stamp a.call) (view_of s) found.0 found.1 parts.0 in
       in-written writes x (elim (covers-cases found.0.cell x parts.1) [
         | inl is ↦ subst (λ c. In c (map written_cell writes)) is i
-        | inr of ↦ absurd (names-not_written writes of.0 (subst (λ c. In c (map written_cell writes)) of.2 i))
+        | inr of ↦ absurd (names-not_written (stored_dirs s) a.stamp a.call (view_of s) of.0 (subst (λ c. In c (map written_cell writes)) of.2 i))
       ])
 
   -- the accesses that write tell what is written
-  told : (x : Cell) → change posix (does s a).accesses x ≡ is_written posix (map as_change writes) x
+  told : (x : Cell) → change posix (does s a).accesses x ≡ is_written posix writes x
   told x = both_ways _ _ (told-on x) (told-back x)
 
   -- a file that the call comes upon is known to it
@@ -233,13 +214,13 @@ module _ (s : Cells) (a : Stamped) where
         ]
 
     -- and the names that are written are of such files
-    names_known : (x : Cell) (i : ℕ) → change posix (does s a).accesses x ≡ true → names_file x (held (write_all posix s (map as_change writes)) x) i ≡ true → Knows posix_calls s a i
+    names_known : (x : Cell) (i : ℕ) → change posix (does s a).accesses x ≡ true → names_file x (held (write_all posix s writes) x) i ≡ true → Knows posix_calls s a i
     names_known x i changed named =
-        known i (written_all posix sets (λ y v. (j : ℕ) → names_file y v j ≡ true → Upon s a.stamp (looked s a.stamp a.call) j) (map as_change writes) s x
-        (each-of_map (λ w. (j : ℕ) → names_file w.cell w.value j ≡ true → Upon s a.stamp (looked s a.stamp a.call) j) as_change writes upon.names) (told-on x changed) i named)
+        known i (written_all posix sets (λ y v. (j : ℕ) → names_file y v j ≡ true → Upon s a.stamp (looked s a.stamp a.call) j) writes s x
+        upon.names (told-on x changed) i named)
 
     -- a file whose name is taken away is touched, unless the name is left elsewhere
-    lets_go : (x : Cell) (i : ℕ) → names_file x (held s x) i ≡ true → names_file x (held (write_all posix s (map as_change writes)) x) i ≡ false
+    lets_go : (x : Cell) (i : ℕ) → names_file x (held s x) i ≡ true → names_file x (held (write_all posix s writes) x) i ≡ false
         → TouchesFile posix_calls (does s a).accesses i ⊎ LeavesName posix_calls s a i
     lets_go x i had lost = elim (upon.lets_go x i had (ap (λ c. names_file x (held c x) i) (sym (write-put writes s)) ∙ lost)) [
       | inl links ↦ inl (Links i, refl, looked-touched (Links i) (Links i) links (covers-refl (Links i)))
@@ -363,7 +344,7 @@ module _ (steps-alike : StepsAlike) (stored-enough : StoredEnough) where
       let alike = does-alike steps-alike stored-enough s t (tree-values s sound_s) (tree-values t sound_t) a.stamp a.call
       (agree-each (view_of s) (view_of t) (looked s a.stamp a.call) (λ c i. view-covered s t c (λ x h. same x (looked-touched s a c x i h)))) in
       let accesses = accesses-alike s t a.stamp a.call alike in
-      sym (λ i. record { accesses = map as_place (accesses i); writes = map as_change (alike.outcomes i).writes; reply = (alike.outcomes i).reply })
+      sym (λ i. record { accesses = map as_place (accesses i); writes = (alike.outcomes i).writes; reply = (alike.outcomes i).reply })
 
   -- after a call the values are those of the cells with places after it
   after-places : (s : Cells) (a : Stamped) → (has : HasSoundValues s) → SameValues (after has.with_places a.stamp a.call) (write_all posix s (does s a).writes)

@@ -33,6 +33,7 @@ pub mod Rehung
 pub mod FileWrites
 pub mod Drawn
 pub mod Kept
+mod Settable
 pub mod Accessed
 pub mod Alike
 pub mod Lawful
@@ -54,3 +55,4 @@ pub mod PlainLooks
 pub mod HiddenFiles
 pub mod Edited
 pub mod Setting
+mod Nameless

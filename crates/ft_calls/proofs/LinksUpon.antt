@@ -8,6 +8,7 @@ use Rattle.ft_path.specs.declared.errno.Errno.TheVariants.{ENOENT, ENOTDIR, EINV
 use Rattle.ft_path.specs.declared.path.Parts.{Parts}
 use Rattle.ft_tree.specs.declared.cell.Cell.{Cell}
 use Rattle.ft_tree.specs.declared.cell.Cell.TheVariants.{Names}
+use Rattle.ft_tree.specs.declared.cell.Cell.TheVariants as cell
 use Rattle.ft_tree.specs.declared.node.Node.{Node}
 use Rattle.ft_tree.specs.declared.node.Node.TheVariants.{Dir as DirNode, File as FileNode}
 use Rattle.ft_tree.specs.Cells.{Cells, entry_of, names_of, links_of}
@@ -16,7 +17,7 @@ use Rattle.ft_tree.specs.Looks.{Looks, Answer, answer}
 use Rattle.ft_tree.specs.Walk.{Spot, Named as AtName, Itself}
 use Rattle.ft_calls.specs.declared.TheConstants.{MOST_LINKS}
 use Rattle.ft_calls.specs.declared.call.Reply.TheVariants.{Done}
-use Rattle.ft_calls.specs.Outcomes.{Write, SetEntry, SetParent, Outcome, failed, told, from_parts}
+use Rattle.ft_calls.specs.Outcomes.{Write, sets, Outcome, failed, told, from_parts}
 use Rattle.ft_path.specs.FilePath.{last_of}
 use Rattle.ft_calls.specs.Links.{linked, link_new, link_old, link_parts, unlink_spot, rename_fault, climb, unless_below, renamed, with_parent, replace_file, if_bare, replace_dir, rename_file, rename_dir, rename_old, rename_parts}
 use Rattle.ft_calls.specs.Posix.{node_names}
@@ -67,7 +68,7 @@ module _ (cells : Cells) (k : ℕ) (seen : List Cell) where
   -- the entries of a file that is moved, over what may go
   renamed_file-upon : (d : ℕ) (name : List ℕ) (i e : ℕ) (other : List ℕ) (more : List Write) → IsFound cells seen (AtName d name (Some (FileNode i))) → is_place d name e other ≡ false
       → ((entry : ℕ → List ℕ → Option Node) → entry_after entry more ≡ entry) → let all = (renamed d name (FileNode i) e other more).writes in
-      (((j : ℕ) → (i == j) ≡ true → Upon cells k seen j) → IsUpon cells k seen all (SetEntry e other (Some (FileNode i)))) → Each (IsUpon cells k seen all) more → AreUpon cells k seen all
+      (((j : ℕ) → (i == j) ≡ true → Upon cells k seen j) → IsUpon cells k seen all (sets (cell.Entry e other) (Some (FileNode i)))) → Each (IsUpon cells k seen all) more → AreUpon cells k seen all
   renamed_file-upon d name i e other more h apart keeps first rest =
       let goes = inr (moved-left cells d name i e other more apart keeps) in
       (first (of_same (Upon cells k seen) i (by_entry cells k seen d name i h)), (frees cells k seen _ d name i None h.1 goes (no_name cells k seen), rest))
@@ -114,7 +115,7 @@ module _ (cells : Cells) (k : ℕ) (seen : List Cell) where
 
   -- its new parent is of no file
   with_parent-upon : (all : List Write) (i d e : ℕ) → Each (IsUpon cells k seen all) (with_parent i d e)
-  with_parent-upon all i d e = elim (d == e) as (λ b. Each (IsUpon cells k seen all) (cond b [] (SetParent i (Some e) ∷ []))) [ true ↦ tt | false ↦ (upon_parent i (Some e), tt) ]
+  with_parent-upon all i d e = elim (d == e) as (λ b. Each (IsUpon cells k seen all) (cond b [] (sets (cell.Parent i) (Some e) ∷ []))) [ true ↦ tt | false ↦ (upon_parent i (Some e), tt) ]
 
   -- a directory comes to the place of nothing, or of a directory
   rename_dir-goes : (n d : ℕ) (name : List ℕ) (i : ℕ) → entry_of cells d name ≡ Some (DirNode i) → (spot : Spot) → IsFound cells seen spot → GoesUpon cells k seen (rename_dir n d name i spot)
@@ -128,7 +129,7 @@ module _ (cells : Cells) (k : ℕ) (seen : List Cell) where
     where
       by_names : (names : List (List ℕ × Node)) → AreUpon cells k seen (if_bare d name i e other j names).writes
       by_names [] =
-          let more = SetParent j None ∷ with_parent i d e in
+          let more = sets (cell.Parent j) None ∷ with_parent i d e in
           renamed_dir-upon d name i e other more (Some (DirNode j)) is g.1 (λ m. refl) (upon_parent j None, with_parent-upon (renamed d name (DirNode i) e other more).writes i d e)
       by_names (x ∷ xs) = tt
   rename_dir-goes n d name i is (Itself e) g = no_change cells k seen

@@ -1,5 +1,7 @@
 -- What is noted of a call is what it accesses.
-use Rattle.std.proofs.Common.{◌≡◌, ℕ, List, [], ◌∷◌, refl, sym, ap, ◌∙◌}
+use Rattle.std.proofs.Common.{◌≡◌, ℕ, List, [], ◌∷◌, Option, drop, refl, sym, ap, ◌∙◌}
+use Rattle.std.specs.List.{slice_get}
+use Rattle.std.specs.Option.{option_to_list}
 use Rattle.std.specs.FinMap as finite
 use Rattle.ft_tree.specs.Cells.{Cells, stored_dirs}
 use Rattle.ft_tree.specs.Looks.{Looks, Answer, Look, View, answer, looked_at}
@@ -38,3 +40,15 @@ accesses-noted cells old mid k call x start comes looks =
     ap listed (ap (λ (l : Looking). with_edits l.modes x.edits) looks ∙ with_edits-writes old.cells x.edits (with_looks old.modes (looked_at s v))
     ∙ ap (λ (o : Outcome). with_writes (with_looks old.modes (looked_at s v)) o.writes) comes ∙ sym (with_accesses-split s old.modes v) ∙ ap (λ (l : Looking). with_accesses l.modes s v) start)
     ∙ ap (λ (l : Looking). accesses_of l.cells k call) start
+
+-- edits are noted in three parts: the first, the second, and the others
+in-parts : (m : Modes) (es : List Edit) → with_edits (with_edits (with_edits m (option_to_list (slice_get es 0))) (option_to_list (slice_get es 1))) (drop 2 es) ≡ with_edits m es
+in-parts m [] = refl
+in-parts m (e ∷ []) = refl
+in-parts m (e ∷ f ∷ es) = refl
+
+pub parts_noted : (m one two : Modes) (es : List Edit) (first second : Option Edit) → first ≡ slice_get es 0 → second ≡ slice_get es 1 → one ≡ with_edits m (option_to_list first) → two ≡ with_edits one (option_to_list second)
+    → with_edits two (drop 2 es) ≡ with_edits m es
+parts_noted m one two es first second is_first is_second noted_one noted_two =
+    ap (λ n. with_edits n (drop 2 es)) (noted_two ∙ (λ i. with_edits (noted_one i) (option_to_list (is_second i))) ∙ ap (λ o. with_edits (with_edits m (option_to_list o)) (option_to_list (slice_get es 1))) is_first)
+    ∙ in-parts m es

@@ -8,10 +8,13 @@ use Rattle.std.specs.Cmp.Lexicographic.{slice_cmp, nat_list_cmp_total}
 use Rattle.std.specs.Option.{option_flatten, option_map}
 use Rattle.std.specs.FinMap.{get, get-insert, get-empty}
 use Rattle.ft_tree.specs.declared.node.Node.{Node}
+use Rattle.ft_tree.specs.declared.cell.Cell.{Cell}
+use Rattle.ft_tree.specs.declared.cell.Cell.TheVariants.{Entry, Names, Parent, Links, Bytes, Fd}
 use Rattle.ft_tree.specs.declared.open_file.OpenFile.{OpenFile}
 use Rattle.ft_tree.specs.Cells.{Cells, DirCells, FileCells, no_dir, no_file, dir_of, parent_of, links_of, bytes_of, body_in, open_of, HasDirPlace, HasPlace, HasEntryPlace, HasFilePlace, HasOpenPlace, put_dir, put_dir_entry, put_dir_parent, put_file, put_entry, put_parent, put_links, put_bytes, put_open}
 use Rattle.ft_tree.specs.Sound.{Hangs, the_root, under, AreSoundCells}
-use Rattle.ft_calls.specs.Outcomes.{Write, SetEntry, SetParent, SetLinks, SetBytes, SetOpen}
+use Rattle.ft_tree.specs.Held.{Holds, set_cell}
+use Rattle.ft_calls.specs.Outcomes.{Write}
 use Rattle.ft_calls.specs.Stored.{put_all}
 use Rattle.ft_calls.proofs.Puts.{dir_of-put_dir}
 
@@ -118,34 +121,50 @@ entry_place-set cells d name to =
 
 -- A place that was there is there after a list of writes.
 
+pub dir_place-set_cell : (cells : Cells) (c : Cell) (to : Holds c) (e : ℕ) → HasDirPlace cells e → HasDirPlace (set_cell cells c to) e
+dir_place-set_cell cells (Entry d name) to e h = dir_place-put_dir cells d (put_dir_entry (dir_of cells d) name to) e h
+dir_place-set_cell cells (Names d) to e h = h
+dir_place-set_cell cells (Parent d) to e h = dir_place-put_dir cells d (put_dir_parent (dir_of cells d) to) e h
+dir_place-set_cell cells (Links i) to e h = h
+dir_place-set_cell cells (Bytes i) to e h = h
+dir_place-set_cell cells (Fd f) to e h = h
+
 pub dir_place-put_all : (ws : List Write) (cells : Cells) (d : ℕ) → HasDirPlace cells d → HasDirPlace (put_all cells ws) d
 dir_place-put_all [] cells e h = h
-dir_place-put_all (SetEntry d name to ∷ ws) cells e h = dir_place-put_all ws (put_entry cells d name to) e (dir_place-put_dir cells d (put_dir_entry (dir_of cells d) name to) e h)
-dir_place-put_all (SetParent d p ∷ ws) cells e h = dir_place-put_all ws (put_parent cells d p) e (dir_place-put_dir cells d (put_dir_parent (dir_of cells d) p) e h)
-dir_place-put_all (SetLinks i links ∷ ws) cells e h = dir_place-put_all ws (put_links cells i links) e h
-dir_place-put_all (SetBytes i bytes ∷ ws) cells e h = dir_place-put_all ws (put_bytes cells i bytes) e h
-dir_place-put_all (SetOpen f to ∷ ws) cells e h = dir_place-put_all ws (put_open cells f to) e h
+dir_place-put_all (w ∷ ws) cells e h = dir_place-put_all ws (set_cell cells w.cell w.value) e (dir_place-set_cell cells w.cell w.value e h)
+
+entry_place-set_cell : (cells : Cells) (c : Cell) (to : Holds c) (e : ℕ) (other : List ℕ) → HasEntryPlace cells e other → HasEntryPlace (set_cell cells c to) e other
+entry_place-set_cell cells (Entry d name) to e other h = entry_place-put_entry cells d name to e other h
+entry_place-set_cell cells (Names d) to e other h = h
+entry_place-set_cell cells (Parent d) to e other h = entry_place-put_parent cells d to e other h
+entry_place-set_cell cells (Links i) to e other h = h
+entry_place-set_cell cells (Bytes i) to e other h = h
+entry_place-set_cell cells (Fd f) to e other h = h
 
 pub entry_place-put_all : (ws : List Write) (cells : Cells) (d : ℕ) (name : List ℕ) → HasEntryPlace cells d name → HasEntryPlace (put_all cells ws) d name
 entry_place-put_all [] cells e other h = h
-entry_place-put_all (SetEntry d name to ∷ ws) cells e other h = entry_place-put_all ws (put_entry cells d name to) e other (entry_place-put_entry cells d name to e other h)
-entry_place-put_all (SetParent d p ∷ ws) cells e other h = entry_place-put_all ws (put_parent cells d p) e other (entry_place-put_parent cells d p e other h)
-entry_place-put_all (SetLinks i links ∷ ws) cells e other h = entry_place-put_all ws (put_links cells i links) e other h
-entry_place-put_all (SetBytes i bytes ∷ ws) cells e other h = entry_place-put_all ws (put_bytes cells i bytes) e other h
-entry_place-put_all (SetOpen f to ∷ ws) cells e other h = entry_place-put_all ws (put_open cells f to) e other h
+entry_place-put_all (w ∷ ws) cells e other h = entry_place-put_all ws (set_cell cells w.cell w.value) e other (entry_place-set_cell cells w.cell w.value e other h)
+
+file_place-set_cell : (cells : Cells) (c : Cell) (to : Holds c) (j : ℕ) → HasFilePlace cells j → HasFilePlace (set_cell cells c to) j
+file_place-set_cell cells (Entry d name) to j h = h
+file_place-set_cell cells (Names d) to j h = h
+file_place-set_cell cells (Parent d) to j h = h
+file_place-set_cell cells (Links i) to j h = file_place-put_file cells i (record { links = to; bytes = bytes_of cells i }) j h
+file_place-set_cell cells (Bytes i) to j h = file_place-put_file cells i (record { links = links_of cells i; bytes = to }) j h
+file_place-set_cell cells (Fd f) to j h = h
 
 pub file_place-put_all : (ws : List Write) (cells : Cells) (i : ℕ) → HasFilePlace cells i → HasFilePlace (put_all cells ws) i
 file_place-put_all [] cells j h = h
-file_place-put_all (SetEntry d name to ∷ ws) cells j h = file_place-put_all ws (put_entry cells d name to) j h
-file_place-put_all (SetParent d p ∷ ws) cells j h = file_place-put_all ws (put_parent cells d p) j h
-file_place-put_all (SetLinks i links ∷ ws) cells j h = file_place-put_all ws (put_links cells i links) j (file_place-put_file cells i (record { links = links; bytes = bytes_of cells i }) j h)
-file_place-put_all (SetBytes i bytes ∷ ws) cells j h = file_place-put_all ws (put_bytes cells i bytes) j (file_place-put_file cells i (record { links = links_of cells i; bytes = bytes }) j h)
-file_place-put_all (SetOpen f to ∷ ws) cells j h = file_place-put_all ws (put_open cells f to) j h
+file_place-put_all (w ∷ ws) cells j h = file_place-put_all ws (set_cell cells w.cell w.value) j (file_place-set_cell cells w.cell w.value j h)
+
+open_place-set_cell : (cells : Cells) (c : Cell) (to : Holds c) (g : ℕ) → HasOpenPlace cells g → HasOpenPlace (set_cell cells c to) g
+open_place-set_cell cells (Entry d name) to g h = h
+open_place-set_cell cells (Names d) to g h = h
+open_place-set_cell cells (Parent d) to g h = h
+open_place-set_cell cells (Links i) to g h = h
+open_place-set_cell cells (Bytes i) to g h = h
+open_place-set_cell cells (Fd f) to g h = open_place-put_open cells f to g h
 
 pub open_place-put_all : (ws : List Write) (cells : Cells) (f : ℕ) → HasOpenPlace cells f → HasOpenPlace (put_all cells ws) f
 open_place-put_all [] cells g h = h
-open_place-put_all (SetEntry d name to ∷ ws) cells g h = open_place-put_all ws (put_entry cells d name to) g h
-open_place-put_all (SetParent d p ∷ ws) cells g h = open_place-put_all ws (put_parent cells d p) g h
-open_place-put_all (SetLinks i links ∷ ws) cells g h = open_place-put_all ws (put_links cells i links) g h
-open_place-put_all (SetBytes i bytes ∷ ws) cells g h = open_place-put_all ws (put_bytes cells i bytes) g h
-open_place-put_all (SetOpen f to ∷ ws) cells g h = open_place-put_all ws (put_open cells f to) g (open_place-put_open cells f to g h)
+open_place-put_all (w ∷ ws) cells g h = open_place-put_all ws (set_cell cells w.cell w.value) g (open_place-set_cell cells w.cell w.value g h)

@@ -16,10 +16,13 @@ use Rattle.ft_tree.specs.Nodes.{number_of}
 use Rattle.ft_tree.specs.Cells.{Cells, entry_of, parent_of, put_entry, put_parent, put_open, HasDirPlace}
 use Rattle.ft_tree.specs.Plain.{PlainTree, edge_cmp, NumberSet}
 use Rattle.ft_tree.specs.Tidy.{tidy}
-use Rattle.ft_calls.specs.Outcomes.{Write, SetEntry, SetParent, SetLinks, SetBytes, SetOpen}
+use Rattle.ft_tree.specs.declared.cell.Cell.{Cell}
+use Rattle.ft_tree.specs.declared.cell.Cell.TheVariants as cell
+use Rattle.ft_tree.specs.Held.{Holds, set_cell}
+use Rattle.ft_calls.specs.Outcomes.{Write}
 use Rattle.ft_calls.specs.Stored.{put, put_all}
-use Rattle.ft_calls.specs.Exec.{set_edge, set_dir, set_open, put_plain, put_all_plain}
-use Rattle.ft_calls.proofs.Places.{dir_place-put_dir}
+use Rattle.ft_calls.specs.Exec.{set_edge, set_dir, set_open, set_plain, put_plain, put_all_plain}
+use Rattle.ft_calls.proofs.Places.{dir_place-set_cell}
 use Rattle.ft_calls.proofs.Puts.{is_place, with_value, entry-put_entry, parent-put_entry, entry-put_parent, parent-put_parent, open-put_open}
 use Rattle.ft_calls.proofs.Tidied.{edge_total, edge_exact, number-cond, get-tidy, get-opens, contains-parent}
 
@@ -106,12 +109,8 @@ get-set_open m f (Some o) g = get-insert nat_cmp_total m f o g ∙ ap (λ b. con
 -- The cells, where the root is stored.
 
 -- the root stays stored
-root-put : (cells : Cells) (w : Write) → HasDirPlace cells 1 → HasDirPlace (put cells w) 1
-root-put cells (SetEntry d name to) root = dir_place-put_dir cells d _ 1 root
-root-put cells (SetParent d p) root = dir_place-put_dir cells d _ 1 root
-root-put cells (SetLinks i links) root = root
-root-put cells (SetBytes i bytes) root = root
-root-put cells (SetOpen f to) root = root
+root-set : (cells : Cells) (c : Cell) (to : Holds c) → HasDirPlace cells 1 → HasDirPlace (set_cell cells c to) 1
+root-set cells c to root = dir_place-set_cell cells c to 1 root
 
 -- an entry that is set is an edge
 edges-put_entry : (cells : Cells) (d : ℕ) (name : List ℕ) (to : Option Node) → (tidy (put_entry cells d name to)).edges ≡ set_edge (tidy cells).edges (d, name) to
@@ -125,12 +124,12 @@ edges-put_entry cells d name to = same_map edge_total edge_exact _ _ (λ q. at q
 -- and changes no directory
 dirs-put_entry : (cells : Cells) (d : ℕ) (name : List ℕ) (to : Option Node) → HasDirPlace cells 1 → (tidy (put_entry cells d name to)).dirs ≡ (tidy cells).dirs
 dirs-put_entry cells d name to root =
-    same_set _ _ (λ e. contains-parent (put_entry cells d name to) (root-put cells (SetEntry d name to) root) e ∙ ap (λ o. (e == 1) || is_some o) (parent-put_entry cells d name to e) ∙ sym (contains-parent cells root e))
+    same_set _ _ (λ e. contains-parent (put_entry cells d name to) (root-set cells (cell.Entry d name) to root) e ∙ ap (λ o. (e == 1) || is_some o) (parent-put_entry cells d name to e) ∙ sym (contains-parent cells root e))
 
 -- a parent that is set is a directory
 dirs-put_parent : (cells : Cells) (d : ℕ) (p : Option ℕ) → HasDirPlace cells 1 → (tidy (put_parent cells d p)).dirs ≡ set_dir (tidy cells).dirs d p
 dirs-put_parent cells d p root =
-    same_set _ _ (λ e. contains-parent (put_parent cells d p) (root-put cells (SetParent d p) root) e ∙ ap (λ o. (e == 1) || is_some o) (parent-put_parent cells d p e)
+    same_set _ _ (λ e. contains-parent (put_parent cells d p) (root-set cells (cell.Parent d) p root) e ∙ ap (λ o. (e == 1) || is_some o) (parent-put_parent cells d p e)
     ∙ contains-set_dir (tidy cells).dirs d p e (parent_of cells e) (contains-parent cells root e))
 
 -- and changes no edge
@@ -145,25 +144,26 @@ opens-put_open cells f to =
     ∙ sym (get-set_open (tidy cells).opens f to g ∙ ap (cond (g == f) to) (get-opens cells g)))
 
 -- one cell
-alike-put : (cells : Cells) (p : PlainTree) (w : Write) → HasDirPlace cells 1 → AreAlike (tidy cells) p → AreAlike (tidy (put cells w)) (put_plain p w)
-alike-put cells p (SetEntry d name to) root h = record {
+alike-set : (cells : Cells) (p : PlainTree) (c : Cell) (to : Holds c) → HasDirPlace cells 1 → AreAlike (tidy cells) p → AreAlike (tidy (set_cell cells c to)) (set_plain p c to)
+alike-set cells p (cell.Entry d name) to root h = record {
   edges = edges-put_entry cells d name to ∙ ap (λ m. set_edge m (d, name) to) h.edges;
   dirs = dirs-put_entry cells d name to root ∙ h.dirs;
   opens = h.opens;
 }
-alike-put cells p (SetParent d parent) root h = record {
+alike-set cells p (cell.Names d) to root h = h
+alike-set cells p (cell.Parent d) parent root h = record {
   edges = edges-put_parent cells d parent ∙ h.edges;
   dirs = dirs-put_parent cells d parent root ∙ ap (λ s. set_dir s d parent) h.dirs;
   opens = h.opens;
 }
-alike-put cells p (SetLinks i links) root h = record { edges = h.edges; dirs = h.dirs; opens = h.opens }
-alike-put cells p (SetBytes i bytes) root h = record { edges = h.edges; dirs = h.dirs; opens = h.opens }
-alike-put cells p (SetOpen f to) root h = record { edges = h.edges; dirs = h.dirs; opens = opens-put_open cells f to ∙ ap (λ m. set_open m f to) h.opens }
+alike-set cells p (cell.Links i) links root h = record { edges = h.edges; dirs = h.dirs; opens = h.opens }
+alike-set cells p (cell.Bytes i) bytes root h = record { edges = h.edges; dirs = h.dirs; opens = h.opens }
+alike-set cells p (cell.Fd f) to root h = record { edges = h.edges; dirs = h.dirs; opens = opens-put_open cells f to ∙ ap (λ m. set_open m f to) h.opens }
 
 -- and one after another
 alike-put_all : (ws : List Write) (cells : Cells) (p : PlainTree) → HasDirPlace cells 1 → AreAlike (tidy cells) p → AreAlike (tidy (put_all cells ws)) (put_all_plain p ws)
 alike-put_all [] cells p root h = h
-alike-put_all (w ∷ ws) cells p root h = alike-put_all ws (put cells w) (put_plain p w) (root-put cells w root) (alike-put cells p w root h)
+alike-put_all (w ∷ ws) cells p root h = alike-put_all ws (put cells w) (put_plain p w) (root-set cells w.cell w.value root) (alike-set cells p w.cell w.value root h)
 
 pub tidy-put_all : (ws : List Write) (cells : Cells) → HasDirPlace cells 1 → AreAlike (tidy (put_all cells ws)) (put_all_plain (tidy cells) ws)
 tidy-put_all ws cells root = alike-put_all ws cells (tidy cells) root (record { edges = refl; dirs = refl; opens = refl })

@@ -7,9 +7,12 @@ use Rattle.std.specs.Cmp.Lexicographic.{slice_cmp, pointwise, nat_list_cmp_total
 use Rattle.std.specs.Option.{option_flatten}
 use Rattle.std.specs.FinMap.{get, get-insert}
 use Rattle.ft_tree.specs.declared.node.Node.{Node}
+use Rattle.ft_tree.specs.declared.cell.Cell.{Cell}
+use Rattle.ft_tree.specs.declared.cell.Cell.TheVariants.{Entry, Names, Parent, Links, Bytes, Fd}
 use Rattle.ft_tree.specs.declared.open_file.OpenFile.{OpenFile}
 use Rattle.ft_tree.specs.Cells.{Cells, DirCells, FileCells, no_dir, no_file, dir_of, file_of, dir_entry, put_dir, put_dir_entry, put_dir_parent, put_file, entry_of, parent_of, links_of, bytes_of, open_of, put_entry, put_parent, put_links, put_bytes, put_open}
-use Rattle.ft_calls.specs.Outcomes.{Write, SetEntry, SetParent, SetLinks, SetBytes, SetOpen}
+use Rattle.ft_tree.specs.Held.{Holds, set_cell}
+use Rattle.ft_calls.specs.Outcomes.{Write}
 use Rattle.ft_calls.specs.Stored.{put_all}
 
 -- whether the second place is the first
@@ -125,82 +128,122 @@ open-put_open cells f to g =
 
 -- The values after a list of writes.
 
+abbrev pub entry_set : (ℕ → List ℕ → Option Node) → (c : Cell) → Holds c → ℕ → List ℕ → Option Node
+entry_set entry (Entry d name) to = with_entry entry d name to
+entry_set entry (Names d) to = entry
+entry_set entry (Parent d) to = entry
+entry_set entry (Links i) to = entry
+entry_set entry (Bytes i) to = entry
+entry_set entry (Fd f) to = entry
+
 abbrev pub entry_after : (ℕ → List ℕ → Option Node) → List Write → ℕ → List ℕ → Option Node
 entry_after entry [] = entry
-entry_after entry (SetEntry d name to ∷ ws) = entry_after (with_entry entry d name to) ws
-entry_after entry (SetParent d parent ∷ ws) = entry_after entry ws
-entry_after entry (SetLinks i links ∷ ws) = entry_after entry ws
-entry_after entry (SetBytes i bytes ∷ ws) = entry_after entry ws
-entry_after entry (SetOpen f to ∷ ws) = entry_after entry ws
+entry_after entry (w ∷ ws) = entry_after (entry_set entry w.cell w.value) ws
+
+abbrev pub parent_set : (ℕ → Option ℕ) → (c : Cell) → Holds c → ℕ → Option ℕ
+parent_set parent (Entry d name) to = parent
+parent_set parent (Names d) to = parent
+parent_set parent (Parent d) to = with_parent parent d to
+parent_set parent (Links i) to = parent
+parent_set parent (Bytes i) to = parent
+parent_set parent (Fd f) to = parent
 
 abbrev pub parent_after : (ℕ → Option ℕ) → List Write → ℕ → Option ℕ
 parent_after parent [] = parent
-parent_after parent (SetEntry d name to ∷ ws) = parent_after parent ws
-parent_after parent (SetParent d p ∷ ws) = parent_after (with_parent parent d p) ws
-parent_after parent (SetLinks i links ∷ ws) = parent_after parent ws
-parent_after parent (SetBytes i bytes ∷ ws) = parent_after parent ws
-parent_after parent (SetOpen f to ∷ ws) = parent_after parent ws
+parent_after parent (w ∷ ws) = parent_after (parent_set parent w.cell w.value) ws
+
+abbrev pub links_set : (ℕ → ℕ) → (c : Cell) → Holds c → ℕ → ℕ
+links_set links (Entry d name) to = links
+links_set links (Names d) to = links
+links_set links (Parent d) to = links
+links_set links (Links i) to = with_value links i to
+links_set links (Bytes i) to = links
+links_set links (Fd f) to = links
 
 abbrev pub links_after : (ℕ → ℕ) → List Write → ℕ → ℕ
 links_after links [] = links
-links_after links (SetEntry d name to ∷ ws) = links_after links ws
-links_after links (SetParent d parent ∷ ws) = links_after links ws
-links_after links (SetLinks i n ∷ ws) = links_after (with_value links i n) ws
-links_after links (SetBytes i bytes ∷ ws) = links_after links ws
-links_after links (SetOpen f to ∷ ws) = links_after links ws
+links_after links (w ∷ ws) = links_after (links_set links w.cell w.value) ws
+
+abbrev pub bytes_set : (ℕ → List ℕ) → (c : Cell) → Holds c → ℕ → List ℕ
+bytes_set bytes (Entry d name) to = bytes
+bytes_set bytes (Names d) to = bytes
+bytes_set bytes (Parent d) to = bytes
+bytes_set bytes (Links i) to = bytes
+bytes_set bytes (Bytes i) to = with_value bytes i to
+bytes_set bytes (Fd f) to = bytes
 
 abbrev pub bytes_after : (ℕ → List ℕ) → List Write → ℕ → List ℕ
 bytes_after bytes [] = bytes
-bytes_after bytes (SetEntry d name to ∷ ws) = bytes_after bytes ws
-bytes_after bytes (SetParent d parent ∷ ws) = bytes_after bytes ws
-bytes_after bytes (SetLinks i links ∷ ws) = bytes_after bytes ws
-bytes_after bytes (SetBytes i xs ∷ ws) = bytes_after (with_value bytes i xs) ws
-bytes_after bytes (SetOpen f to ∷ ws) = bytes_after bytes ws
+bytes_after bytes (w ∷ ws) = bytes_after (bytes_set bytes w.cell w.value) ws
+
+abbrev pub open_set : (ℕ → Option OpenFile) → (c : Cell) → Holds c → ℕ → Option OpenFile
+open_set opens (Entry d name) to = opens
+open_set opens (Names d) to = opens
+open_set opens (Parent d) to = opens
+open_set opens (Links i) to = opens
+open_set opens (Bytes i) to = opens
+open_set opens (Fd f) to = with_value opens f to
 
 abbrev pub open_after : (ℕ → Option OpenFile) → List Write → ℕ → Option OpenFile
 open_after opens [] = opens
-open_after opens (SetEntry d name to ∷ ws) = open_after opens ws
-open_after opens (SetParent d parent ∷ ws) = open_after opens ws
-open_after opens (SetLinks i links ∷ ws) = open_after opens ws
-open_after opens (SetBytes i bytes ∷ ws) = open_after opens ws
-open_after opens (SetOpen f to ∷ ws) = open_after (with_value opens f to) ws
+open_after opens (w ∷ ws) = open_after (open_set opens w.cell w.value) ws
+
+entry-set_cell : (cells : Cells) (c : Cell) (to : Holds c) → entry_of (set_cell cells c to) ≡ entry_set (entry_of cells) c to
+entry-set_cell cells (Entry d name) to = λ i e other. entry-put_entry cells d name to e other i
+entry-set_cell cells (Names d) to = refl
+entry-set_cell cells (Parent d) to = λ i e other. entry-put_parent cells d to e other i
+entry-set_cell cells (Links i) to = refl
+entry-set_cell cells (Bytes i) to = refl
+entry-set_cell cells (Fd f) to = refl
 
 pub entry-put_all : (ws : List Write) (cells : Cells) → entry_of (put_all cells ws) ≡ entry_after (entry_of cells) ws
 entry-put_all [] cells = refl
-entry-put_all (SetEntry d name to ∷ ws) cells = entry-put_all ws (put_entry cells d name to) ∙ (λ i. entry_after (λ e other. entry-put_entry cells d name to e other i) ws)
-entry-put_all (SetParent d parent ∷ ws) cells = entry-put_all ws (put_parent cells d parent) ∙ (λ i. entry_after (λ e other. entry-put_parent cells d parent e other i) ws)
-entry-put_all (SetLinks i links ∷ ws) cells = entry-put_all ws (put_links cells i links)
-entry-put_all (SetBytes i bytes ∷ ws) cells = entry-put_all ws (put_bytes cells i bytes)
-entry-put_all (SetOpen f to ∷ ws) cells = entry-put_all ws (put_open cells f to)
+entry-put_all (w ∷ ws) cells = entry-put_all ws (set_cell cells w.cell w.value) ∙ ap (λ f. entry_after f ws) (entry-set_cell cells w.cell w.value)
+
+parent-set_cell : (cells : Cells) (c : Cell) (to : Holds c) → parent_of (set_cell cells c to) ≡ parent_set (parent_of cells) c to
+parent-set_cell cells (Entry d name) to = λ i e. parent-put_entry cells d name to e i
+parent-set_cell cells (Names d) to = refl
+parent-set_cell cells (Parent d) to = λ i e. parent-put_parent cells d to e i
+parent-set_cell cells (Links i) to = refl
+parent-set_cell cells (Bytes i) to = refl
+parent-set_cell cells (Fd f) to = refl
 
 pub parent-put_all : (ws : List Write) (cells : Cells) → parent_of (put_all cells ws) ≡ parent_after (parent_of cells) ws
 parent-put_all [] cells = refl
-parent-put_all (SetEntry d name to ∷ ws) cells = parent-put_all ws (put_entry cells d name to) ∙ (λ i. parent_after (λ e. parent-put_entry cells d name to e i) ws)
-parent-put_all (SetParent d parent ∷ ws) cells = parent-put_all ws (put_parent cells d parent) ∙ (λ i. parent_after (λ e. parent-put_parent cells d parent e i) ws)
-parent-put_all (SetLinks i links ∷ ws) cells = parent-put_all ws (put_links cells i links)
-parent-put_all (SetBytes i bytes ∷ ws) cells = parent-put_all ws (put_bytes cells i bytes)
-parent-put_all (SetOpen f to ∷ ws) cells = parent-put_all ws (put_open cells f to)
+parent-put_all (w ∷ ws) cells = parent-put_all ws (set_cell cells w.cell w.value) ∙ ap (λ f. parent_after f ws) (parent-set_cell cells w.cell w.value)
+
+links-set_cell : (cells : Cells) (c : Cell) (to : Holds c) → links_of (set_cell cells c to) ≡ links_set (links_of cells) c to
+links-set_cell cells (Entry d name) to = refl
+links-set_cell cells (Names d) to = refl
+links-set_cell cells (Parent d) to = refl
+links-set_cell cells (Links i) to = λ n j. links-put_links cells i to j n
+links-set_cell cells (Bytes i) to = λ n j. links-put_bytes cells i to j n
+links-set_cell cells (Fd f) to = refl
 
 pub links-put_all : (ws : List Write) (cells : Cells) → links_of (put_all cells ws) ≡ links_after (links_of cells) ws
 links-put_all [] cells = refl
-links-put_all (SetEntry d name to ∷ ws) cells = links-put_all ws (put_entry cells d name to)
-links-put_all (SetParent d parent ∷ ws) cells = links-put_all ws (put_parent cells d parent)
-links-put_all (SetLinks n links ∷ ws) cells = links-put_all ws (put_links cells n links) ∙ (λ i. links_after (λ j. links-put_links cells n links j i) ws)
-links-put_all (SetBytes n bytes ∷ ws) cells = links-put_all ws (put_bytes cells n bytes) ∙ (λ i. links_after (λ j. links-put_bytes cells n bytes j i) ws)
-links-put_all (SetOpen f to ∷ ws) cells = links-put_all ws (put_open cells f to)
+links-put_all (w ∷ ws) cells = links-put_all ws (set_cell cells w.cell w.value) ∙ ap (λ f. links_after f ws) (links-set_cell cells w.cell w.value)
+
+bytes-set_cell : (cells : Cells) (c : Cell) (to : Holds c) → bytes_of (set_cell cells c to) ≡ bytes_set (bytes_of cells) c to
+bytes-set_cell cells (Entry d name) to = refl
+bytes-set_cell cells (Names d) to = refl
+bytes-set_cell cells (Parent d) to = refl
+bytes-set_cell cells (Links i) to = λ n j. bytes-put_links cells i to j n
+bytes-set_cell cells (Bytes i) to = λ n j. bytes-put_bytes cells i to j n
+bytes-set_cell cells (Fd f) to = refl
 
 pub bytes-put_all : (ws : List Write) (cells : Cells) → bytes_of (put_all cells ws) ≡ bytes_after (bytes_of cells) ws
 bytes-put_all [] cells = refl
-bytes-put_all (SetEntry d name to ∷ ws) cells = bytes-put_all ws (put_entry cells d name to)
-bytes-put_all (SetParent d parent ∷ ws) cells = bytes-put_all ws (put_parent cells d parent)
-bytes-put_all (SetLinks n links ∷ ws) cells = bytes-put_all ws (put_links cells n links) ∙ (λ i. bytes_after (λ j. bytes-put_links cells n links j i) ws)
-bytes-put_all (SetBytes n bytes ∷ ws) cells = bytes-put_all ws (put_bytes cells n bytes) ∙ (λ i. bytes_after (λ j. bytes-put_bytes cells n bytes j i) ws)
-bytes-put_all (SetOpen f to ∷ ws) cells = bytes-put_all ws (put_open cells f to)
+bytes-put_all (w ∷ ws) cells = bytes-put_all ws (set_cell cells w.cell w.value) ∙ ap (λ f. bytes_after f ws) (bytes-set_cell cells w.cell w.value)
+
+open-set_cell : (cells : Cells) (c : Cell) (to : Holds c) → open_of (set_cell cells c to) ≡ open_set (open_of cells) c to
+open-set_cell cells (Entry d name) to = refl
+open-set_cell cells (Names d) to = refl
+open-set_cell cells (Parent d) to = refl
+open-set_cell cells (Links i) to = refl
+open-set_cell cells (Bytes i) to = refl
+open-set_cell cells (Fd f) to = λ i g. open-put_open cells f to g i
 
 pub open-put_all : (ws : List Write) (cells : Cells) → open_of (put_all cells ws) ≡ open_after (open_of cells) ws
 open-put_all [] cells = refl
-open-put_all (SetEntry d name to ∷ ws) cells = open-put_all ws (put_entry cells d name to)
-open-put_all (SetParent d parent ∷ ws) cells = open-put_all ws (put_parent cells d parent)
-open-put_all (SetLinks i links ∷ ws) cells = open-put_all ws (put_links cells i links)
-open-put_all (SetBytes i bytes ∷ ws) cells = open-put_all ws (put_bytes cells i bytes)
-open-put_all (SetOpen f to ∷ ws) cells = open-put_all ws (put_open cells f to) ∙ (λ i. open_after (λ g. open-put_open cells f to g i) ws)
+open-put_all (w ∷ ws) cells = open-put_all ws (set_cell cells w.cell w.value) ∙ ap (λ f. open_after f ws) (open-set_cell cells w.cell w.value)

@@ -11,7 +11,8 @@ use Rattle.ft_tree.specs.Cells.{Cells, dir_of, entry_of, parent_of, links_of, by
 use Rattle.ft_tree.specs.Plain.{EdgeKey, links_in}
 use Rattle.ft_tree.specs.Tidy.{tidy}
 use Rattle.ft_tree.specs.Sound.{IsNoDir, AreSoundCells, IsFree}
-use Rattle.ft_calls.specs.Outcomes.{Write, SetParent}
+use Rattle.ft_tree.specs.declared.cell.Cell.TheVariants as cell
+use Rattle.ft_calls.specs.Outcomes.{Write, sets}
 use Rattle.ft_calls.specs.Links as steps
 use Rattle.ft_calls.specs.Links.{renamed}
 use Rattle.ft_calls.specs.Stored.{put_all}
@@ -82,8 +83,8 @@ module _ (cells : Cells) (sound : AreSoundCells cells) (d : ℕ) (name : List �
 -- The parent of directory i is set to e, where another directory than d holds it then.
 module _ (i d e : ℕ) where
   -- nothing but the parent is set
-  pub kept-hung : {A : Type 0} (read : List Write → A) → read (SetParent i (Some e) ∷ []) ≡ read [] → read (steps.with_parent i d e) ≡ read []
-  kept-hung read same = elim (d == e) as (λ b. read (cond b [] (SetParent i (Some e) ∷ [])) ≡ read []) [ true ↦ refl | false ↦ same ]
+  pub kept-hung : {A : Type 0} (read : List Write → A) → read (sets (cell.Parent i) (Some e) ∷ []) ≡ read [] → read (steps.with_parent i d e) ≡ read []
+  kept-hung read same = elim (d == e) as (λ b. read (cond b [] (sets (cell.Parent i) (Some e) ∷ [])) ≡ read []) [ true ↦ refl | false ↦ same ]
 
   -- where its parent was d, it is e
   pub parent-hung : (parent : ℕ → Option ℕ) → parent i ≡ Some d → parent_after parent (steps.with_parent i d e) ≡ with_parent parent i (Some e)
@@ -93,7 +94,7 @@ module _ (i d e : ℕ) where
       by_number same f true at = ap parent (eqb-true f i at) ∙ was ∙ ap Some same
       by_number same f false at = refl
 
-      by_dir : (b : Bool) → (d == e) ≡ b → parent_after parent (cond b [] (SetParent i (Some e) ∷ [])) ≡ with_parent parent i (Some e)
+      by_dir : (b : Bool) → (d == e) ≡ b → parent_after parent (cond b [] (sets (cell.Parent i) (Some e) ∷ [])) ≡ with_parent parent i (Some e)
       by_dir true at = λ x f. by_number (eqb-true d e at) f (f == i) refl x
       by_dir false at = refl
 
@@ -145,7 +146,7 @@ module _ (cells : Cells) (sound : AreSoundCells cells) (d : ℕ) (name : List �
 module _ (cells : Cells) (sound : AreSoundCells cells) (d : ℕ) (name : List ℕ) (i e : ℕ) (other : List ℕ) (j : ℕ) (is : entry_of cells d name ≡ Some (DirNode i)) (filled : entry_of cells e other ≡ Some (DirNode j)) (differ : i ≢ j)
     (clear : Avoids (parent_of cells) i e) (bare : names_of cells j ≡ []) where
   abbrev replaced_writes : List Write
-  replaced_writes = (renamed d name (DirNode i) e other (SetParent j None ∷ steps.with_parent i d e)).writes
+  replaced_writes = (renamed d name (DirNode i) e other (sets (cell.Parent j) None ∷ steps.with_parent i d e)).writes
 
   abbrev gone_writes : List Write
   gone_writes = (removed e other j).writes

@@ -11,7 +11,8 @@ use Rattle.ft_tree.specs.Cells.{Cells, entry_of, parent_of, links_of, bytes_of, 
 use Rattle.ft_tree.specs.Plain.{links_in}
 use Rattle.ft_tree.specs.Tidy.{tidy}
 use Rattle.ft_tree.specs.Sound.{Hangs, IsNoDir, IsTree, AreSoundCells, IsFree}
-use Rattle.ft_calls.specs.Outcomes.{Write, SetLinks}
+use Rattle.ft_tree.specs.declared.cell.Cell.TheVariants as cell
+use Rattle.ft_calls.specs.Outcomes.{Write, sets}
 use Rattle.ft_calls.specs.Links.{linked, unlinked, renamed}
 use Rattle.ft_calls.specs.Stored.{put_all}
 use Rattle.ft_calls.proofs.Places.{dir_place-put_all, file_place-put_all}
@@ -207,7 +208,7 @@ module _ (cells gone : Cells) (d : ℕ) (name : List ℕ) (x : Node) (e : ℕ) (
 -- A file is moved to the place of another one.
 module _ (cells : Cells) (sound : AreSoundCells cells) (d : ℕ) (name : List ℕ) (i e : ℕ) (other : List ℕ) (j : ℕ) (is : entry_of cells d name ≡ Some (FileNode i)) (filled : entry_of cells e other ≡ Some (FileNode j)) (differ : i ≢ j) where
   abbrev replaced_writes : List Write
-  replaced_writes = (renamed d name (FileNode i) e other (SetLinks j (links_of cells j - 1) ∷ [])).writes
+  replaced_writes = (renamed d name (FileNode i) e other (sets (cell.Links j) (links_of cells j - 1) ∷ [])).writes
 
   abbrev gone_writes : List Write
   gone_writes = (unlinked e other j (links_of cells j)).writes

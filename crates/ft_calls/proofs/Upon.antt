@@ -15,7 +15,7 @@ use Rattle.ft_calls.specs.Steps.{steps}
 use Rattle.ft_calls.specs.Stored.{put_all}
 use Rattle.ft_calls.specs.Accesses.{written_cell}
 use Rattle.ft_tree.specs.Held.{held}
-use Rattle.ft_calls.specs.Posix.{as_change, file_of, names_file}
+use Rattle.ft_calls.specs.Posix.{file_of, names_file}
 
 -- an entry or a description among those that are seen names file i
 pub data Sees (cells : Cells) (seen : List Cell) : ℕ → Type 0 where
@@ -36,7 +36,7 @@ pub record CallUpon (cells : Cells) (k : ℕ) (seen : List Cell) (ws : List Writ
   -- and so are those that are written
   pub writes : Each (λ w. (i : ℕ) → file_of (written_cell w) ≡ Some i → Upon cells k seen i) ws
   -- the names that are written are of such files
-  pub names : Each (λ w. (i : ℕ) → names_file (as_change w).cell (as_change w).value i ≡ true → Upon cells k seen i) ws
+  pub names : Each (λ w. (i : ℕ) → names_file w.cell w.value i ≡ true → Upon cells k seen i) ws
   -- a file of which a name is taken away has its links looked at, or the name is left elsewhere
   pub lets_go : (x : Cell) (i : ℕ) → names_file x (held cells x) i ≡ true → names_file x (held (put_all cells ws) x) i ≡ false → In (Links i) seen ⊎ IsLeft cells ws i
 

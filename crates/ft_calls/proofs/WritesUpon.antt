@@ -11,56 +11,59 @@ use Rattle.ft_tree.specs.declared.node.Node.{Node}
 use Rattle.ft_tree.specs.declared.node.Node.TheVariants.{File as FileNode}
 use Rattle.ft_tree.specs.declared.open_file.OpenFile.{OpenFile}
 use Rattle.ft_tree.specs.Cells.{Cells, entry_of, open_of}
-use Rattle.ft_calls.specs.Outcomes.{Write, SetEntry, SetParent, SetLinks, SetBytes, SetOpen}
+use Rattle.ft_calls.specs.Outcomes.{Write, sets}
 use Rattle.ft_calls.specs.Descriptors.{at_offset}
 use Rattle.ft_calls.specs.Links.{renamed}
 use Rattle.ft_calls.specs.Stored.{put, put_all}
 use Rattle.ft_calls.specs.Accesses.{written_cell}
-use Rattle.ft_tree.specs.Held.{held}
-use Rattle.ft_calls.specs.Posix.{as_change, file_of, node_names, description_names, names_file}
+use Rattle.ft_tree.specs.Held.{Holds, held, set_cell}
+use Rattle.ft_calls.specs.Posix.{file_of, node_names, description_names, names_file}
 use Rattle.ft_calls.proofs.Puts.{is_place, with_entry, entry_after, entry-put_entry, entry-put_parent, entry-put_all, open-put_open}
 use Rattle.ft_calls.proofs.Made.{same_place, own_place}
 use Rattle.ft_calls.proofs.Upon.{Upon, IsLeft}
 
 -- the write sets cell x to what does not name file i
 abbrev pub Empties : Cell → ℕ → Write → Type 0
-Empties x i w = (written_cell w ≡ x) × (names_file (as_change w).cell (as_change w).value i ≡ false)
+Empties x i w = (written_cell w ≡ x) × (names_file w.cell w.value i ≡ false)
 
--- an entry that names file i before a write, and not after it, is set by it
-entry-lost : (cells : Cells) (w : Write) (e : ℕ) (other : List ℕ) (i : ℕ) → node_names (entry_of cells e other) i ≡ true → node_names (entry_of (put cells w) e other) i ≡ false → Empties (Entry e other) i w
-entry-lost cells (SetEntry d name to) e other i was gone = by_place (is_place d name e other) refl (sym (ap (λ x. node_names x i) (entry-put_entry cells d name to e other)) ∙ gone)
+-- an entry that names file i before a cell is set, and not after it, is that cell
+entry-lost : (cells : Cells) (c : Cell) (to : Holds c) (e : ℕ) (other : List ℕ) (i : ℕ) → node_names (entry_of cells e other) i ≡ true → node_names (entry_of (set_cell cells c to) e other) i ≡ false
+    → Empties (Entry e other) i (sets c to)
+entry-lost cells (Entry d name) to e other i was gone = by_place (is_place d name e other) refl (sym (ap (λ x. node_names x i) (entry-put_entry cells d name to e other)) ∙ gone)
   where
-    by_place : (b : Bool) → is_place d name e other ≡ b → node_names (cond b to (entry_of cells e other)) i ≡ false → Empties (Entry e other) i (SetEntry d name to)
+    by_place : (b : Bool) → is_place d name e other ≡ b → node_names (cond b to (entry_of cells e other)) i ≡ false → Empties (Entry e other) i (sets (Entry d name) to)
     by_place true is gone =
         let at = same_place d e name other is in
         let here : Entry e other ≡ Entry d name = λ x. Entry (at.0 x) (at.1 x) in
         (sym here, gone)
     by_place false is gone = absurd (false≢true (sym gone ∙ was))
-entry-lost cells (SetParent d p) e other i was gone = absurd (false≢true (sym gone ∙ ap (λ x. node_names x i) (entry-put_parent cells d p e other) ∙ was))
-entry-lost cells (SetLinks j links) e other i was gone = absurd (false≢true (sym gone ∙ was))
-entry-lost cells (SetBytes j bytes) e other i was gone = absurd (false≢true (sym gone ∙ was))
-entry-lost cells (SetOpen f to) e other i was gone = absurd (false≢true (sym gone ∙ was))
+entry-lost cells (Names d) to e other i was gone = absurd (false≢true (sym gone ∙ was))
+entry-lost cells (Parent d) p e other i was gone = absurd (false≢true (sym gone ∙ ap (λ x. node_names x i) (entry-put_parent cells d p e other) ∙ was))
+entry-lost cells (Links j) links e other i was gone = absurd (false≢true (sym gone ∙ was))
+entry-lost cells (Bytes j) bytes e other i was gone = absurd (false≢true (sym gone ∙ was))
+entry-lost cells (Fd f) to e other i was gone = absurd (false≢true (sym gone ∙ was))
 
 -- and so is a description
-open-lost : (cells : Cells) (w : Write) (g i : ℕ) → description_names (open_of cells g) i ≡ true → description_names (open_of (put cells w) g) i ≡ false → Empties (Fd g) i w
-open-lost cells (SetEntry d name to) g i was gone = absurd (false≢true (sym gone ∙ was))
-open-lost cells (SetParent d p) g i was gone = absurd (false≢true (sym gone ∙ was))
-open-lost cells (SetLinks j links) g i was gone = absurd (false≢true (sym gone ∙ was))
-open-lost cells (SetBytes j bytes) g i was gone = absurd (false≢true (sym gone ∙ was))
-open-lost cells (SetOpen f to) g i was gone = by_number (g == f) refl (sym (ap (λ x. description_names x i) (open-put_open cells f to g)) ∙ gone)
+open-lost : (cells : Cells) (c : Cell) (to : Holds c) (g i : ℕ) → description_names (open_of cells g) i ≡ true → description_names (open_of (set_cell cells c to) g) i ≡ false → Empties (Fd g) i (sets c to)
+open-lost cells (Entry d name) to g i was gone = absurd (false≢true (sym gone ∙ was))
+open-lost cells (Names d) to g i was gone = absurd (false≢true (sym gone ∙ was))
+open-lost cells (Parent d) p g i was gone = absurd (false≢true (sym gone ∙ was))
+open-lost cells (Links j) links g i was gone = absurd (false≢true (sym gone ∙ was))
+open-lost cells (Bytes j) bytes g i was gone = absurd (false≢true (sym gone ∙ was))
+open-lost cells (Fd f) to g i was gone = by_number (g == f) refl (sym (ap (λ x. description_names x i) (open-put_open cells f to g)) ∙ gone)
   where
-    by_number : (b : Bool) → (g == f) ≡ b → description_names (cond b to (open_of cells g)) i ≡ false → Empties (Fd g) i (SetOpen f to)
+    by_number : (b : Bool) → (g == f) ≡ b → description_names (cond b to (open_of cells g)) i ≡ false → Empties (Fd g) i (sets (Fd f) to)
     by_number true is gone = (ap Fd (sym (eqb-true g f is)), gone)
     by_number false is gone = absurd (false≢true (sym gone ∙ was))
 
 -- a cell that names a file before a write, and not after it, is set by it
 one-lost : (cells : Cells) (w : Write) (x : Cell) (i : ℕ) → names_file x (held cells x) i ≡ true → names_file x (held (put cells w) x) i ≡ false → Empties x i w
-one-lost cells w (Entry e other) i was gone = entry-lost cells w e other i was gone
+one-lost cells w (Entry e other) i was gone = entry-lost cells w.cell w.value e other i was gone
 one-lost cells w (Names d) i was gone = absurd (false≢true was)
 one-lost cells w (Parent d) i was gone = absurd (false≢true was)
 one-lost cells w (Links j) i was gone = absurd (false≢true was)
 one-lost cells w (Bytes j) i was gone = absurd (false≢true was)
-one-lost cells w (Fd g) i was gone = open-lost cells w g i was gone
+one-lost cells w (Fd g) i was gone = open-lost cells w.cell w.value g i was gone
 
 -- and one that names it before all writes, and not after them, is set by one of them
 all-lost : (ws : List Write) (cells : Cells) (x : Cell) (i : ℕ) → names_file x (held cells x) i ≡ true → names_file x (held (put_all cells ws) x) i ≡ false → (w : Write) × In w ws × Empties x i w
@@ -101,12 +104,12 @@ module _ (cells : Cells) (k : ℕ) (seen : List Cell) where
   -- one of all writes of a call: the file of its cell is come upon, and so is one that it names, and one that its cell named before may go
   pub data IsUpon (all : List Write) : Write → Type 0 where
     upon_entry : (d : ℕ) (name : List ℕ) (to : Option Node) → ((i : ℕ) → node_names to i ≡ true → Upon cells k seen i)
-        → ((i : ℕ) → node_names (entry_of cells d name) i ≡ true → node_names to i ≡ false → MayGo all i) → IsUpon all (SetEntry d name to)
-    upon_parent : (d : ℕ) (p : Option ℕ) → IsUpon all (SetParent d p)
-    upon_links : (i links : ℕ) → Upon cells k seen i → IsUpon all (SetLinks i links)
-    upon_bytes : (i : ℕ) (bytes : List ℕ) → Upon cells k seen i → IsUpon all (SetBytes i bytes)
+        → ((i : ℕ) → node_names (entry_of cells d name) i ≡ true → node_names to i ≡ false → MayGo all i) → IsUpon all (sets (Entry d name) to)
+    upon_parent : (d : ℕ) (p : Option ℕ) → IsUpon all (sets (Parent d) p)
+    upon_links : (i links : ℕ) → Upon cells k seen i → IsUpon all (sets (Links i) links)
+    upon_bytes : (i : ℕ) (bytes : List ℕ) → Upon cells k seen i → IsUpon all (sets (Bytes i) bytes)
     upon_open : (f : ℕ) (to : Option OpenFile) → ((i : ℕ) → description_names to i ≡ true → Upon cells k seen i)
-        → ((i : ℕ) → description_names (open_of cells f) i ≡ true → description_names to i ≡ false → MayGo all i) → IsUpon all (SetOpen f to)
+        → ((i : ℕ) → description_names (open_of cells f) i ≡ true → description_names to i ≡ false → MayGo all i) → IsUpon all (sets (Fd f) to)
 
   -- so are all of them
   abbrev pub AreUpon : List Write → Type 0
@@ -121,7 +124,7 @@ module _ (cells : Cells) (k : ℕ) (seen : List Cell) where
   upon-cell all _ (upon_open f to names goes) i is = absurd (none-some i is)
 
   -- the file that is named
-  pub upon-name : (all : List Write) (w : Write) → IsUpon all w → (i : ℕ) → names_file (as_change w).cell (as_change w).value i ≡ true → Upon cells k seen i
+  pub upon-name : (all : List Write) (w : Write) → IsUpon all w → (i : ℕ) → names_file w.cell w.value i ≡ true → Upon cells k seen i
   upon-name all _ (upon_entry d name to names goes) i is = names i is
   upon-name all _ (upon_parent d p) i is = absurd (false≢true is)
   upon-name all _ (upon_links j links upon) i is = absurd (false≢true is)
@@ -129,7 +132,7 @@ module _ (cells : Cells) (k : ℕ) (seen : List Cell) where
   upon-name all _ (upon_open f to names goes) i is = names i is
 
   -- a file that was named
-  may-go : (all : List Write) (w : Write) → IsUpon all w → (i : ℕ) → names_file (written_cell w) (held cells (written_cell w)) i ≡ true → names_file (as_change w).cell (as_change w).value i ≡ false → MayGo all i
+  may-go : (all : List Write) (w : Write) → IsUpon all w → (i : ℕ) → names_file (written_cell w) (held cells (written_cell w)) i ≡ true → names_file w.cell w.value i ≡ false → MayGo all i
   may-go all _ (upon_entry d name to names goes) i was gone = goes i was gone
   may-go all _ (upon_parent d p) i was gone = absurd (false≢true was)
   may-go all _ (upon_links j links upon) i was gone = absurd (false≢true was)
@@ -144,23 +147,23 @@ module _ (cells : Cells) (k : ℕ) (seen : List Cell) where
 
   -- an entry that named no file
   pub fills : (all : List Write) (d : ℕ) (name : List ℕ) (x to : Option Node) → entry_of cells d name ≡ x → ((i : ℕ) → node_names x i ≡ false) → ((i : ℕ) → node_names to i ≡ true → Upon cells k seen i)
-      → IsUpon all (SetEntry d name to)
+      → IsUpon all (sets (Entry d name) to)
   fills all d name x to is none names = upon_entry d name to names (λ i was gone. absurd (false≢true (sym (none i) ∙ sym (ap (λ o. node_names o i) is) ∙ was)))
 
   -- an entry of a file that may go
   pub frees : (all : List Write) (d : ℕ) (name : List ℕ) (j : ℕ) (to : Option Node) → entry_of cells d name ≡ Some (FileNode j) → MayGo all j → ((i : ℕ) → node_names to i ≡ true → Upon cells k seen i)
-      → IsUpon all (SetEntry d name to)
+      → IsUpon all (sets (Entry d name) to)
   frees all d name j to is may names = upon_entry d name to names (λ i was gone. of_same (MayGo all) j may i (sym (ap (λ o. node_names o i) is) ∙ was))
 
   -- a descriptor that was not open
-  pub opens_new : (all : List Write) (f : ℕ) (o : OpenFile) → open_of cells f ≡ None → Upon cells k seen o.file → IsUpon all (SetOpen f (Some o))
+  pub opens_new : (all : List Write) (f : ℕ) (o : OpenFile) → open_of cells f ≡ None → Upon cells k seen o.file → IsUpon all (sets (Fd f) (Some o))
   opens_new all f o is upon = upon_open f (Some o) (of_same (Upon cells k seen) o.file upon) (λ i was gone. absurd (false≢true (sym (ap (λ x. description_names x i) is) ∙ was)))
 
   -- one that has its file open still
-  pub keeps_open : (all : List Write) (f : ℕ) (o : OpenFile) (offset : ℕ) → open_of cells f ≡ Some o → Upon cells k seen o.file → IsUpon all (SetOpen f (Some (at_offset o offset)))
+  pub keeps_open : (all : List Write) (f : ℕ) (o : OpenFile) (offset : ℕ) → open_of cells f ≡ Some o → Upon cells k seen o.file → IsUpon all (sets (Fd f) (Some (at_offset o offset)))
   keeps_open all f o offset is upon =
       upon_open f (Some (at_offset o offset)) (of_same (Upon cells k seen) o.file upon) (λ i was gone. absurd (false≢true (sym gone ∙ sym (ap (λ x. description_names x i) is) ∙ was)))
 
   -- one of a file that may go
-  pub shuts : (all : List Write) (f : ℕ) (o : OpenFile) → open_of cells f ≡ Some o → MayGo all o.file → IsUpon all (SetOpen f None)
+  pub shuts : (all : List Write) (f : ℕ) (o : OpenFile) → open_of cells f ≡ Some o → MayGo all o.file → IsUpon all (sets (Fd f) None)
   shuts all f o is may = upon_open f None (λ i named. absurd (false≢true named)) (λ i was gone. of_same (MayGo all) o.file may i (sym (ap (λ x. description_names x i) is) ∙ was))

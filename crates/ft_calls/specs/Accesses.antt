@@ -4,7 +4,6 @@ use Rattle.std.specs.List.{list_any}
 use Rattle.std.specs.FinMap as finite
 use Rattle.std.specs.FinMap.Entries.{by_order}
 use Rattle.ft_tree.specs.declared.cell.Cell.{Cell}
-use Rattle.ft_tree.specs.declared.cell.Cell.TheVariants.{Entry, Parent, Links, Bytes, Fd}
 use Rattle.ft_tree.specs.CellOrder.{cell_cmp, overlap}
 use Rattle.ft_tree.specs.Cells.{Cells, stored_dirs}
 use Rattle.ft_tree.specs.Views.{view_of}
@@ -13,7 +12,7 @@ use Rattle.ft_calls.specs.declared.call.Call.{Call}
 use Rattle.ft_calls.specs.declared.call.Mode.{Mode}
 use Rattle.ft_calls.specs.declared.call.Mode.TheVariants.{Read as ReadMode, Write as WriteMode}
 use Rattle.ft_calls.specs.declared.call.Access.{Access}
-use Rattle.ft_calls.specs.Outcomes.{Write, SetEntry, SetParent, SetLinks, SetBytes, SetOpen, Outcome}
+use Rattle.ft_calls.specs.Outcomes.{Write, Outcome}
 use Rattle.ft_calls.specs.Steps.{steps}
 
 -- how each cell is accessed, in the order of cells
@@ -25,11 +24,7 @@ with_looks m [] = m
 with_looks m (c ∷ cs) = with_looks (finite.insert m c ReadMode) cs
 
 abbrev pub written_cell : Write → Cell
-written_cell (SetEntry d name to) = Entry d name
-written_cell (SetParent d parent) = Parent d
-written_cell (SetLinks i links) = Links i
-written_cell (SetBytes i bytes) = Bytes i
-written_cell (SetOpen f to) = Fd f
+written_cell w = w.cell
 
 -- a cell that is looked at and written is written
 abbrev pub with_writes : Modes → List Write → Modes

@@ -17,7 +17,8 @@ use Rattle.ft_calls.specs.declared.intent.Told.TheVariants.{Done, Number, Info, 
 use Rattle.ft_calls.specs.declared.intent.Intent.{Intent}
 use Rattle.ft_calls.specs.declared.intent.Stop.{Stop}
 use Rattle.ft_calls.specs.declared.intent.Stop.TheVariants.{Memory as NoMemory, Errno as Fails}
-use Rattle.ft_calls.specs.Outcomes.{Write, SetEntry, SetParent, SetLinks, SetBytes, SetOpen, Outcome, failed}
+use Rattle.ft_tree.specs.declared.cell.Cell.TheVariants as cell
+use Rattle.ft_calls.specs.Outcomes.{Write, sets, Outcome, failed}
 use Rattle.ft_calls.specs.Looking.{Looking, noted}
 
 -- the reply that is meant
@@ -31,12 +32,12 @@ reply_of cells (BytesOf file at len) = reply.Bytes (bytes_at (bytes_of cells fil
 
 -- the cell that is edited, with its new value
 abbrev pub write_of : Cells → Edit → Write
-write_of cells (Entry d name to) = SetEntry d name to
-write_of cells (Parent d to) = SetParent d to
-write_of cells (Links i to) = SetLinks i to
-write_of cells (Overwrite i at bytes) = SetBytes i (written (bytes_of cells i) at (fitting bytes.now at))
-write_of cells (Resize i size) = SetBytes i (resized (bytes_of cells i) size)
-write_of cells (Open f to) = SetOpen f to
+write_of cells (Entry d name to) = sets (cell.Entry d name) to
+write_of cells (Parent d to) = sets (cell.Parent d) to
+write_of cells (Links i to) = sets (cell.Links i) to
+write_of cells (Overwrite i at bytes) = sets (cell.Bytes i) (written (bytes_of cells i) at (fitting bytes.now at))
+write_of cells (Resize i size) = sets (cell.Bytes i) (resized (bytes_of cells i) size)
+write_of cells (Open f to) = sets (cell.Fd f) to
 
 abbrev pub writes_of : Cells → List Edit → List Write
 writes_of cells edits = map (write_of cells) edits
@@ -46,15 +47,15 @@ outcome_of cells x = record { reply = reply_of cells x.told; writes = writes_of 
 
 -- what a stage comes to: an intent, or a fault; or memory was wanting
 abbrev pub Comes : Looking → Looks Outcome → Looking → Result Intent Stop → Type 0
-Comes old s new (Ok x) = (outcome_of old.cells x ≡ answer s (view_of old.cells)) × (new ≡ noted old s)
-Comes old s new (Err (Fails e)) = (failed e ≡ answer s (view_of old.cells)) × (new ≡ noted old s)
-Comes old s new (Err NoMemory) = Unit {0}
+Comes old looks new (Ok x) = (outcome_of old.cells x ≡ answer looks (view_of old.cells)) × (new ≡ noted old looks)
+Comes old looks new (Err (Fails e)) = (failed e ≡ answer looks (view_of old.cells)) × (new ≡ noted old looks)
+Comes old looks new (Err NoMemory) = Unit {0}
 
 -- where a walk ends, or its fault
 abbrev pub Leads : Looking → Looks (Result Spot Errno) → Looking → Result Seen Stop → Type 0
-Leads old s new (Ok spot) = (Ok (seen_at spot) ≡ answer s (view_of old.cells)) × (new ≡ noted old s)
-Leads old s new (Err (Fails e)) = (Err e ≡ answer s (view_of old.cells)) × (new ≡ noted old s)
-Leads old s new (Err NoMemory) = Unit {0}
+Leads old looks new (Ok spot) = (Ok (seen_at spot) ≡ answer looks (view_of old.cells)) × (new ≡ noted old looks)
+Leads old looks new (Err (Fails e)) = (Err e ≡ answer looks (view_of old.cells)) × (new ≡ noted old looks)
+Leads old looks new (Err NoMemory) = Unit {0}
 
 -- what an argument says, or its fault
 abbrev pub Says : {A : Type 0} → Result A Errno → Result A Stop → Type 0

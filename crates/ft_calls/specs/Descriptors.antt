@@ -12,7 +12,7 @@ use Rattle.ft_calls.specs.declared.TheConstants.{LAST_OFFSET}
 use Rattle.ft_calls.specs.declared.call.Whence.{Whence}
 use Rattle.ft_calls.specs.declared.call.Whence.TheVariants.{Set, Cur, End}
 use Rattle.ft_calls.specs.declared.call.Reply.TheVariants.{Done, Number, Bytes as BytesReply}
-use Rattle.ft_calls.specs.Outcomes.{SetBytes, SetOpen, Outcome, failed, told}
+use Rattle.ft_calls.specs.Outcomes.{sets, Outcome, failed, told}
 use Rattle.ft_calls.specs.Files.{to_size, cut_file, file_info}
 
 -- Calls on a descriptor: one that is not open, or not for this, is bad.
@@ -38,11 +38,11 @@ at_offset description offset = record { file = description.file; access = descri
 
 -- close (POSIX.1-2017, System Interfaces, close); whether entries name the file is looked at
 abbrev pub close_open : ℕ → OpenFile → Looks Outcome
-close_open fd description = Look (Links description.file) (λ _. Answer (record { reply = Done; writes = SetOpen fd None ∷ [] }))
+close_open fd description = Look (Links description.file) (λ _. Answer (record { reply = Done; writes = sets (Fd fd) None ∷ [] }))
 
 -- read (POSIX.1-2017, System Interfaces, read): the offset moves by the count of bytes that are read
 abbrev pub has_read : ℕ → OpenFile → List ℕ → Outcome
-has_read fd description bytes = record { reply = BytesReply bytes; writes = SetOpen fd (Some (at_offset description (description.offset + length bytes))) ∷ [] }
+has_read fd description bytes = record { reply = BytesReply bytes; writes = sets (Fd fd) (Some (at_offset description (description.offset + length bytes))) ∷ [] }
 
 abbrev pub read_open : ℕ → ℕ → OpenFile → Looks Outcome
 read_open fd len description = Look (Bytes description.file) (λ bytes. Answer (has_read fd description (bytes_at bytes description.offset len)))
@@ -68,7 +68,7 @@ write_place description = cond description.append (Look (Bytes description.file)
 abbrev pub has_written : ℕ → OpenFile → ℕ → List ℕ → List ℕ → Outcome
 has_written fd description at taken bytes = record {
   reply = Number (length taken);
-  writes = SetBytes description.file (written bytes at taken) ∷ SetOpen fd (Some (at_offset description (at + length taken))) ∷ [];
+  writes = sets (Bytes description.file) (written bytes at taken) ∷ sets (Fd fd) (Some (at_offset description (at + length taken))) ∷ [];
 }
 
 abbrev pub write_at : ℕ → OpenFile → List ℕ → ℕ → Looks Outcome
@@ -82,7 +82,7 @@ write_open fd (first ∷ more) description = then (write_place description) (wri
 -- pwrite (POSIX.1-2017, System Interfaces, write): the offset of the description stays, and append has no effect
 
 abbrev pub has_pwritten : OpenFile → ℕ → List ℕ → List ℕ → Outcome
-has_pwritten description at taken bytes = record { reply = Number (length taken); writes = SetBytes description.file (written bytes at taken) ∷ [] }
+has_pwritten description at taken bytes = record { reply = Number (length taken); writes = sets (Bytes description.file) (written bytes at taken) ∷ [] }
 
 abbrev pub pwrite_at : OpenFile → List ℕ → ℕ → Looks Outcome
 pwrite_at description [] at = Answer (told (Number 0))
@@ -110,7 +110,7 @@ offset_within (Some at) = cond (nat_le at LAST_OFFSET) (Ok at) (Err EOVERFLOW)
 
 abbrev pub sought : ℕ → OpenFile → Option ℕ → Outcome
 sought fd description None = failed EINVAL
-sought fd description (Some at) = cond (nat_le at LAST_OFFSET) (record { reply = Number at; writes = SetOpen fd (Some (at_offset description at)) ∷ [] }) (failed EOVERFLOW)
+sought fd description (Some at) = cond (nat_le at LAST_OFFSET) (record { reply = Number at; writes = sets (Fd fd) (Some (at_offset description at)) ∷ [] }) (failed EOVERFLOW)
 
 abbrev pub seek_open : ℕ → Whence → ℤ → OpenFile → Looks Outcome
 seek_open fd whence off description = then (seek_from whence description) (λ from. Answer (sought fd description (moved from off)))

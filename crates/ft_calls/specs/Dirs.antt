@@ -6,24 +6,24 @@ use Rattle.ft_path.specs.declared.path.LastName.TheVariants.{Absent, Dot, DotDot
 use Rattle.ft_path.specs.declared.path.Parts.{Parts}
 use Rattle.ft_path.specs.declared.errno.Errno.{Errno}
 use Rattle.ft_path.specs.declared.errno.Errno.TheVariants.{ENOENT, ENOTDIR, EEXIST, EINVAL, EBUSY, ENOTEMPTY}
-use Rattle.ft_tree.specs.declared.cell.Cell.TheVariants.{Names}
+use Rattle.ft_tree.specs.declared.cell.Cell.TheVariants.{Entry, Names, Parent}
 use Rattle.ft_tree.specs.declared.node.Node.{Node}
 use Rattle.ft_tree.specs.declared.node.Node.TheVariants.{Dir as DirNode, File as FileNode}
 use Rattle.ft_tree.specs.Nodes.{with_kinds}
 use Rattle.ft_tree.specs.Looks.{Looks, Answer, Look}
 use Rattle.ft_tree.specs.Walk.{Spot, Named, Itself}
 use Rattle.ft_calls.specs.declared.call.Reply.TheVariants.{Done, Names as NamesReply}
-use Rattle.ft_calls.specs.Outcomes.{SetEntry, SetParent, Outcome, failed, told, from_parts, unless}
+use Rattle.ft_calls.specs.Outcomes.{sets, Outcome, failed, told, from_parts, unless}
 
 -- mkdir (POSIX.1-2017, System Interfaces, mkdir): the directory gets the call's stamp as its number
 abbrev pub make_dir : ℕ → Spot → Looks Outcome
-make_dir stamp (Named dir name None) = Answer (record { reply = Done; writes = SetParent stamp (Some dir) ∷ SetEntry dir name (Some (DirNode stamp)) ∷ [] })
+make_dir stamp (Named dir name None) = Answer (record { reply = Done; writes = sets (Parent stamp) (Some dir) ∷ sets (Entry dir name) (Some (DirNode stamp)) ∷ [] })
 make_dir stamp (Named dir name (Some x)) = Answer (failed EEXIST)
 make_dir stamp (Itself dir) = Answer (failed EEXIST)
 
 -- rmdir (POSIX.1-2017, System Interfaces, rmdir)
 abbrev pub if_empty : ℕ → List ℕ → ℕ → List (List ℕ × Node) → Outcome
-if_empty dir name number [] = record { reply = Done; writes = SetParent number None ∷ SetEntry dir name None ∷ [] }
+if_empty dir name number [] = record { reply = Done; writes = sets (Parent number) None ∷ sets (Entry dir name) None ∷ [] }
 if_empty dir name number (e ∷ es) = failed ENOTEMPTY
 
 abbrev pub remove_dir : Spot → Looks Outcome

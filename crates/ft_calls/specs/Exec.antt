@@ -6,11 +6,14 @@ use Rattle.std.specs.FinMap as finite
 use Rattle.ft_tree.specs.declared.node.Node.{Node}
 use Rattle.ft_tree.specs.declared.open_file.OpenFile.{OpenFile}
 use Rattle.ft_tree.specs.Nodes.{number_of}
+use Rattle.ft_tree.specs.declared.cell.Cell.{Cell}
+use Rattle.ft_tree.specs.declared.cell.Cell.TheVariants.{Entry, Names, Parent, Links, Bytes, Fd}
+use Rattle.ft_tree.specs.Held.{Holds}
 use Rattle.ft_tree.specs.Looks.{answer}
 use Rattle.ft_tree.specs.Plain.{PlainTree, EdgeKey, edge_cmp, NumberSet, view_in}
 use Rattle.ft_calls.specs.declared.call.Call.{Call}
 use Rattle.ft_calls.specs.declared.call.Reply.{Reply}
-use Rattle.ft_calls.specs.Outcomes.{Write, SetEntry, SetParent, SetLinks, SetBytes, SetOpen}
+use Rattle.ft_calls.specs.Outcomes.{Write}
 use Rattle.ft_calls.specs.Steps.{steps}
 
 -- an edge is drawn, or taken away
@@ -28,12 +31,16 @@ set_open opens f (Some o) = finite.insert opens f o
 set_open opens f None = finite.remove opens f
 
 -- links are not kept: they are the count of the edges
+abbrev pub set_plain : PlainTree → (c : Cell) → Holds c → PlainTree
+set_plain p (Entry d name) to = record p { edges = set_edge p.edges (d, name) to }
+set_plain p (Names d) to = p
+set_plain p (Parent d) parent = record p { dirs = set_dir p.dirs d parent }
+set_plain p (Links i) links = p
+set_plain p (Bytes i) bytes = record p { files = finite.insert p.files i bytes }
+set_plain p (Fd f) to = record p { opens = set_open p.opens f to }
+
 abbrev pub put_plain : PlainTree → Write → PlainTree
-put_plain p (SetEntry d name to) = record p { edges = set_edge p.edges (d, name) to }
-put_plain p (SetParent d parent) = record p { dirs = set_dir p.dirs d parent }
-put_plain p (SetLinks i links) = p
-put_plain p (SetBytes i bytes) = record p { files = finite.insert p.files i bytes }
-put_plain p (SetOpen f to) = record p { opens = set_open p.opens f to }
+put_plain p w = set_plain p w.cell w.value
 
 abbrev pub put_all_plain : PlainTree → List Write → PlainTree
 put_all_plain p [] = p

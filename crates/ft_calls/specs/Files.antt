@@ -5,7 +5,7 @@ use Rattle.ft_body.specs.Bytes.{resized}
 use Rattle.ft_path.specs.declared.path.Parts.{Parts}
 use Rattle.ft_path.specs.declared.errno.Errno.{Errno}
 use Rattle.ft_path.specs.declared.errno.Errno.TheVariants.{ENOENT, EEXIST, EINVAL, EISDIR, EFBIG}
-use Rattle.ft_tree.specs.declared.cell.Cell.TheVariants.{Links, Bytes}
+use Rattle.ft_tree.specs.declared.cell.Cell.TheVariants.{Entry, Links, Bytes, Fd}
 use Rattle.ft_tree.specs.declared.node.Kind.TheVariants.{Dir as DirKind, File as FileKind}
 use Rattle.ft_tree.specs.declared.node.Node.{Node}
 use Rattle.ft_tree.specs.declared.node.Node.TheVariants.{Dir as DirNode, File as FileNode}
@@ -15,7 +15,7 @@ use Rattle.ft_tree.specs.Looks.{Looks, Answer, Look, or_else}
 use Rattle.ft_tree.specs.Walk.{Spot, Named, Itself}
 use Rattle.ft_calls.specs.declared.call.OpenFlags.{OpenFlags}
 use Rattle.ft_calls.specs.declared.call.Reply.TheVariants.{Done, Number, Info}
-use Rattle.ft_calls.specs.Outcomes.{SetEntry, SetLinks, SetBytes, SetOpen, Outcome, failed, told, from_parts}
+use Rattle.ft_calls.specs.Outcomes.{sets, Outcome, failed, told, from_parts}
 
 -- open (POSIX.1-2017, System Interfaces, open)
 
@@ -27,14 +27,14 @@ description flags file = record { file = file; access = flags.access; append = f
 abbrev pub creates : ℕ → OpenFlags → ℕ → List ℕ → Outcome
 creates stamp flags dir name = record {
   reply = Number stamp;
-  writes = SetLinks stamp 1 ∷ SetBytes stamp [] ∷ SetOpen stamp (Some (description flags stamp)) ∷ SetEntry dir name (Some (FileNode stamp)) ∷ [];
+  writes = sets (Links stamp) 1 ∷ sets (Bytes stamp) [] ∷ sets (Fd stamp) (Some (description flags stamp)) ∷ sets (Entry dir name) (Some (FileNode stamp)) ∷ [];
 }
 
 -- an existing file is cut to nothing, where that is asked
 abbrev pub opens : ℕ → OpenFlags → ℕ → Outcome
 opens stamp flags file = record {
   reply = Number stamp;
-  writes = SetOpen stamp (Some (description flags file)) ∷ cond flags.trunc (SetBytes file [] ∷ []) [];
+  writes = sets (Fd stamp) (Some (description flags file)) ∷ cond flags.trunc (sets (Bytes file) [] ∷ []) [];
 }
 
 abbrev pub open_node : ℕ → OpenFlags → Node → Outcome
@@ -66,7 +66,7 @@ to_size (pos n) = size_within n
 to_size (negsuc n) = Err EINVAL
 
 abbrev pub cut_file : ℕ → ℕ → Looks Outcome
-cut_file file size = Look (Bytes file) (λ bytes. Answer (record { reply = Done; writes = SetBytes file (resized bytes size) ∷ [] }))
+cut_file file size = Look (Bytes file) (λ bytes. Answer (record { reply = Done; writes = sets (Bytes file) (resized bytes size) ∷ [] }))
 
 abbrev pub truncate_spot : ℕ → Spot → Looks Outcome
 truncate_spot size (Named dir name None) = Answer (failed ENOENT)

@@ -41,37 +41,37 @@ PlainSoundnessLaw = (cells : Cells) → AreSoundCells cells → IsSoundTree (tid
 
 -- each cell that is accessed shows the same in both
 abbrev pub AgreeOn : Cells → Cells → List Access → Type 0
-AgreeOn s t [] = Unit {0}
-AgreeOn s t (a ∷ more) = (view_of s a.cell ≡ view_of t a.cell) × AgreeOn s t more
+AgreeOn one other [] = Unit {0}
+AgreeOn one other (access ∷ more) = (view_of one access.cell ≡ view_of other access.cell) × AgreeOn one other more
 
 -- one of the accesses writes what the cell shows
 abbrev pub is_written : List Access → Cell → Bool
-is_written accesses c = list_any (λ a. is_write a.mode && overlap a.cell c) accesses
+is_written accesses cell = list_any (λ access. is_write access.mode && overlap access.cell cell) accesses
 
 -- the call does the same in both
-pub record ActsAlike (s t : Cells) (stamp : ℕ) (call : Call) : Type 0 where
-  pub accesses : accesses_of t stamp call ≡ accesses_of s stamp call
-  pub reply : (outcome t stamp call).reply ≡ (outcome s stamp call).reply
-  pub writes : (outcome t stamp call).writes ≡ (outcome s stamp call).writes
+pub record ActsAlike (one other : Cells) (stamp : ℕ) (call : Call) : Type 0 where
+  pub accesses : accesses_of other stamp call ≡ accesses_of one stamp call
+  pub reply : (outcome other stamp call).reply ≡ (outcome one stamp call).reply
+  pub writes : (outcome other stamp call).writes ≡ (outcome one stamp call).writes
 
 -- the frame law: on sound cells that show the same where a call accesses them, it does the same
 abbrev pub FrameLaw : Type 0
-FrameLaw = (s t : Cells) (stamp : ℕ) (call : Call) → AreSoundCells s → AreSoundCells t → IsFree s stamp → IsFree t stamp → AgreeOn s t (accesses_of s stamp call) → ActsAlike s t stamp call
+FrameLaw = (one other : Cells) (stamp : ℕ) (call : Call) → AreSoundCells one → AreSoundCells other → IsFree one stamp → IsFree other stamp → AgreeOn one other (accesses_of one stamp call) → ActsAlike one other stamp call
 
 -- nothing but the written cells changes
 abbrev pub KeptLaw : Type 0
-KeptLaw = (cells : Cells) (stamp : ℕ) (call : Call) (c : Cell) → is_written (accesses_of cells stamp call) c ≡ false → view_of (after cells stamp call) c ≡ view_of cells c
+KeptLaw = (cells : Cells) (stamp : ℕ) (call : Call) (cell : Cell) → is_written (accesses_of cells stamp call) cell ≡ false → view_of (after cells stamp call) cell ≡ view_of cells cell
 
 -- two calls in the other order: the same replies, and cells of the same values
-pub record AreExchanged (cells : Cells) (j : ℕ) (a : Call) (k : ℕ) (b : Call) : Type 0 where
-  pub first : (outcome (after cells k b) j a).reply ≡ (outcome cells j a).reply
-  pub second : (outcome cells k b).reply ≡ (outcome (after cells j a) k b).reply
-  pub values : SameValues (after (after cells j a) k b) (after (after cells k b) j a)
+pub record AreExchanged (cells : Cells) (stamp : ℕ) (call : Call) (next_stamp : ℕ) (next_call : Call) : Type 0 where
+  pub first : (outcome (after cells next_stamp next_call) stamp call).reply ≡ (outcome cells stamp call).reply
+  pub second : (outcome cells next_stamp next_call).reply ≡ (outcome (after cells stamp call) next_stamp next_call).reply
+  pub values : SameValues (after (after cells stamp call) next_stamp next_call) (after (after cells next_stamp next_call) stamp call)
 
 -- the exchange law: neighbours without conflicting accesses can be made in either order
 abbrev pub ExchangeLaw : Type 0
-ExchangeLaw = (cells : Cells) (j : ℕ) (a : Call) (k : ℕ) (b : Call) → AreSoundCells cells → IsFree cells j → IsFree cells k → j ≢ k
-    → some_conflict (accesses_of cells j a) (accesses_of (after cells j a) k b) ≡ false → AreExchanged cells j a k b
+ExchangeLaw = (cells : Cells) (stamp : ℕ) (call : Call) (next_stamp : ℕ) (next_call : Call) → AreSoundCells cells → IsFree cells stamp → IsFree cells next_stamp → stamp ≢ next_stamp
+    → some_conflict (accesses_of cells stamp call) (accesses_of (after cells stamp call) next_stamp next_call) ≡ false → AreExchanged cells stamp call next_stamp next_call
 
 -- a call whose reply only tells writes nothing
 abbrev pub TellingLaw : Type 0

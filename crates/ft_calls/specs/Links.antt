@@ -6,20 +6,20 @@ use Rattle.ft_path.specs.declared.path.LastName.TheVariants.{Absent, Dot, DotDot
 use Rattle.ft_path.specs.declared.path.Parts.{Parts}
 use Rattle.ft_path.specs.declared.errno.Errno.{Errno}
 use Rattle.ft_path.specs.declared.errno.Errno.TheVariants.{ENOENT, ENOTDIR, EEXIST, EISDIR, ENOTEMPTY, EINVAL, EPERM, EBUSY, EMLINK}
-use Rattle.ft_tree.specs.declared.cell.Cell.TheVariants.{Names, Parent, Links}
+use Rattle.ft_tree.specs.declared.cell.Cell.TheVariants.{Entry, Names, Parent, Links}
 use Rattle.ft_tree.specs.declared.node.Node.{Node}
 use Rattle.ft_tree.specs.declared.node.Node.TheVariants.{Dir as DirNode, File as FileNode}
 use Rattle.ft_tree.specs.Looks.{Looks, Answer, Look, then}
 use Rattle.ft_tree.specs.Walk.{Spot, Named, Itself}
 use Rattle.ft_calls.specs.declared.TheConstants.{MOST_LINKS}
 use Rattle.ft_calls.specs.declared.call.Reply.TheVariants.{Done}
-use Rattle.ft_calls.specs.Outcomes.{Write, SetEntry, SetParent, SetLinks, Outcome, failed, told, from_parts, unless}
+use Rattle.ft_calls.specs.Outcomes.{Write, sets, Outcome, failed, told, from_parts, unless}
 
 -- link (POSIX.1-2017, System Interfaces, link)
 
 -- a file has one more entry
 abbrev pub linked : ℕ → ℕ → List ℕ → ℕ → Outcome
-linked file dir name links = record { reply = Done; writes = SetEntry dir name (Some (FileNode file)) ∷ SetLinks file (suc links) ∷ [] }
+linked file dir name links = record { reply = Done; writes = sets (Entry dir name) (Some (FileNode file)) ∷ sets (Links file) (suc links) ∷ [] }
 
 abbrev pub link_at : ℕ → ℕ → List ℕ → ℕ → Outcome
 link_at file dir name links = cond (nat_lt links MOST_LINKS) (linked file dir name links) (failed EMLINK)
@@ -44,7 +44,7 @@ link_parts (Ok old) (Ok new) = from_parts (Ok old) (link_old new)
 
 -- a file has one entry less
 abbrev pub unlinked : ℕ → List ℕ → ℕ → ℕ → Outcome
-unlinked dir name file links = record { reply = Done; writes = SetLinks file (links - 1) ∷ SetEntry dir name None ∷ [] }
+unlinked dir name file links = record { reply = Done; writes = sets (Links file) (links - 1) ∷ sets (Entry dir name) None ∷ [] }
 
 abbrev pub unlink_spot : Spot → Looks Outcome
 unlink_spot (Named dir name None) = Answer (failed ENOENT)
@@ -81,18 +81,18 @@ unless_below most moved into go = then (climb most moved into) (λ met. cond met
 
 -- the old entry goes, and the new one, in the directory `into`, names what it named
 abbrev pub renamed : ℕ → List ℕ → Node → ℕ → List ℕ → List Write → Outcome
-renamed dir name node into other more = record { reply = Done; writes = SetEntry into other (Some node) ∷ SetEntry dir name None ∷ more }
+renamed dir name node into other more = record { reply = Done; writes = sets (Entry into other) (Some node) ∷ sets (Entry dir name) None ∷ more }
 
 -- a directory has another parent where another one holds it
 abbrev pub with_parent : ℕ → ℕ → ℕ → List Write
-with_parent moved dir into = cond (dir == into) [] (SetParent moved (Some into) ∷ [])
+with_parent moved dir into = cond (dir == into) [] (sets (Parent moved) (Some into) ∷ [])
 
 -- what the new entry named before has one entry less, or is gone
 abbrev pub replace_file : ℕ → List ℕ → ℕ → ℕ → List ℕ → ℕ → Looks Outcome
-replace_file dir name moved into other replaced = Look (Links replaced) (λ links. Answer (renamed dir name (FileNode moved) into other (SetLinks replaced (links - 1) ∷ [])))
+replace_file dir name moved into other replaced = Look (Links replaced) (λ links. Answer (renamed dir name (FileNode moved) into other (sets (Links replaced) (links - 1) ∷ [])))
 
 abbrev pub if_bare : ℕ → List ℕ → ℕ → ℕ → List ℕ → ℕ → List (List ℕ × Node) → Outcome
-if_bare dir name moved into other replaced [] = renamed dir name (DirNode moved) into other (SetParent replaced None ∷ with_parent moved dir into)
+if_bare dir name moved into other replaced [] = renamed dir name (DirNode moved) into other (sets (Parent replaced) None ∷ with_parent moved dir into)
 if_bare dir name moved into other replaced (entry ∷ entries) = failed ENOTEMPTY
 
 abbrev pub replace_dir : ℕ → List ℕ → ℕ → ℕ → List ℕ → ℕ → Looks Outcome

@@ -27,12 +27,12 @@ noted_at old c = record { cells = old.cells; modes = finite.insert old.modes c R
 
 -- with what is looked at noted
 abbrev pub noted : {A : Type 0} → Looking → Looks A → Looking
-noted old s = record { cells = old.cells; modes = with_looks old.modes (looked_at s (view_of old.cells)) }
+noted old looks = record { cells = old.cells; modes = with_looks old.modes (looked_at looks (view_of old.cells)) }
 
 -- the looks were made, and this was found out; or memory was wanting
 abbrev pub Finds : {A : Type 0} → Looking → Looks A → Looking → Result A Memory → Type 0
-Finds old s new (Ok x) = (x ≡ answer s (view_of old.cells)) × (new ≡ noted old s)
-Finds old s new (Err memory) = new.cells ≡ old.cells
+Finds old looks new (Ok x) = (x ≡ answer looks (view_of old.cells)) × (new ≡ noted old looks)
+Finds old looks new (Err memory) = new.cells ≡ old.cells
 
 -- one look at a cell
 abbrev pub look_at : (c : Cell) → Looks (Shows c)

@@ -2,20 +2,20 @@
 use Rattle.std.specs.Prelude.{ℕ, List, [], Option, None, Some, Result, Ok, Err}
 use Rattle.ft_path.specs.declared.path.Parts.{Parts}
 use Rattle.ft_path.specs.declared.errno.Errno.{Errno}
-use Rattle.ft_tree.specs.declared.node.Node.{Node}
-use Rattle.ft_tree.specs.declared.open_file.OpenFile.{OpenFile}
+use Rattle.ft_laws.specs.Effects.{Write as CellWrite}
+use Rattle.ft_tree.specs.declared.cell.Cell.{Cell}
+use Rattle.ft_tree.specs.Held.{Holds}
 use Rattle.ft_tree.specs.Looks.{Looks, Answer, then, or_else}
 use Rattle.ft_tree.specs.Walk.{Spot, walk}
 use Rattle.ft_calls.specs.declared.call.Reply.{Reply}
 use Rattle.ft_calls.specs.declared.call.Reply.TheVariants.{Failed}
 
 -- a cell with its new value; names are never written
-pub data Write : Type 0 where
-  SetEntry : ℕ → List ℕ → Option Node → Write
-  SetParent : ℕ → Option ℕ → Write
-  SetLinks : ℕ → ℕ → Write
-  SetBytes : ℕ → List ℕ → Write
-  SetOpen : ℕ → Option OpenFile → Write
+abbrev pub Write : Type 0
+Write = CellWrite Cell Holds
+
+abbrev pub sets : (c : Cell) → Holds c → Write
+sets c to = record { cell = c; value = to }
 
 pub record Outcome : Type 0 where
   pub reply : Reply

@@ -1,7 +1,7 @@
 -- The calls on a tree, seen as calls in the abstract: what ft_laws asks of calls is shown of these.
 use Rattle.std.specs.Prelude.{ℕ, Bool, false, ◌==◌, map, Option, Some, None}
 use Rattle.ft_laws.specs.Calls.{Calls}
-use Rattle.ft_laws.specs.Effects.{Access as PlaceAccess, Write as CellWrite, Effect, Effects, calls_of}
+use Rattle.ft_laws.specs.Effects.{Access as PlaceAccess, Effect, Effects, calls_of}
 use Rattle.ft_tree.specs.declared.cell.Cell.{Cell}
 use Rattle.ft_tree.specs.declared.cell.Cell.TheVariants.{Entry, Names, Parent, Links, Bytes, Fd}
 use Rattle.ft_tree.specs.declared.node.Node.{Node}
@@ -14,7 +14,6 @@ use Rattle.ft_tree.specs.Sound.{AreSoundCells, IsFree, SameValues}
 use Rattle.ft_calls.specs.declared.call.Call.{Call}
 use Rattle.ft_calls.specs.declared.call.Reply.{Reply}
 use Rattle.ft_calls.specs.declared.call.Access.{Access}
-use Rattle.ft_calls.specs.Outcomes.{Write, SetEntry, SetParent, SetLinks, SetBytes, SetOpen}
 use Rattle.ft_calls.specs.Stored.{outcome}
 use Rattle.ft_calls.specs.Accesses.{is_write, accesses_of}
 
@@ -30,13 +29,6 @@ pub record Stamped : Type 0 where
 
 abbrev pub as_place : Access → PlaceAccess Cell
 as_place a = record { place = a.cell; writes = is_write a.mode }
-
-abbrev pub as_change : Write → CellWrite Cell Holds
-as_change (SetEntry d name to) = record { cell = Entry d name; value = to }
-as_change (SetParent d to) = record { cell = Parent d; value = to }
-as_change (SetLinks i to) = record { cell = Links i; value = to }
-as_change (SetBytes i to) = record { cell = Bytes i; value = to }
-as_change (SetOpen f to) = record { cell = Fd f; value = to }
 
 -- the values are those of sound cells
 pub record HasSoundValues (cells : Cells) : Type 0 where
@@ -74,7 +66,7 @@ names_file (Fd f) to i = description_names to i
 abbrev pub does : Cells → Stamped → Effect Cell Cell Holds Reply
 does cells a = let o = outcome cells a.stamp a.call in record {
   accesses = map as_place (accesses_of cells a.stamp a.call);
-  writes = map as_change o.writes;
+  writes = o.writes;
   reply = o.reply;
 }
 

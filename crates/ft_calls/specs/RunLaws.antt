@@ -1,12 +1,16 @@
 -- Laws that join runs on stored cells to the plain tree.
-use Rattle.std.specs.Prelude.{◌≡◌, ◌≢◌, ℕ, Bool, List, [], ◌∷◌, Some}
+use Rattle.std.specs.Prelude.{◌≡◌, ◌≢◌, ℕ, Bool, true, false, ◌&&◌, List, [], ◌∷◌, Some}
 use Rattle.std.specs.FinMap as finite
-use Rattle.ft_laws.specs.Lists.{Each, Pairs}
+use Rattle.ft_laws.specs.Lists.{Each, Pairs, any}
 use Rattle.ft_laws.specs.Calls.{Done}
+use Rattle.ft_laws.specs.Effects.{Access as PlaceAccess}
 use Rattle.ft_laws.specs.Laws.{Hides}
 use Rattle.ft_laws.specs.Runs.{run, Faithful}
+use Rattle.ft_tree.specs.declared.cell.Cell.{Cell}
 use Rattle.ft_tree.specs.declared.open_file.OpenFile.{OpenFile}
-use Rattle.ft_tree.specs.Cells.{Cells, open_of, HasDirPlace, HasFilePlace}
+use Rattle.ft_tree.specs.CellOrder.{same_cell}
+use Rattle.ft_tree.specs.Cells.{Cells, open_of, has_file, HasDirPlace, HasFilePlace}
+use Rattle.ft_tree.specs.Held.{held}
 use Rattle.ft_tree.specs.Plain.{PlainTree, view_in}
 use Rattle.ft_tree.specs.Sound.{AreSoundCells, IsFree}
 use Rattle.ft_tree.specs.Tidy.{tidy}
@@ -14,7 +18,7 @@ use Rattle.ft_calls.specs.declared.call.Call.{Call}
 use Rattle.ft_calls.specs.declared.call.Access.{Access}
 use Rattle.ft_calls.specs.Accesses.{listed, with_accesses, accesses_of}
 use Rattle.ft_calls.specs.Exec.{exec}
-use Rattle.ft_calls.specs.Posix.{posix_calls, HasSoundValues}
+use Rattle.ft_calls.specs.Posix.{Stamped, names_file, does, posix_calls, HasSoundValues}
 use Rattle.ft_calls.specs.Steps.{steps}
 
 -- the accesses of the call with this stamp on a plain tree
@@ -61,3 +65,15 @@ pub record HasNamedPlaces (cells : Cells) : Type 0 where
 -- sound values with these places are sound cells
 abbrev pub PlacedLaw : Type 0
 PlacedLaw = (cells : Cells) → HasSoundValues cells → HasNamedPlaces cells → AreSoundCells cells
+
+-- an access writes this very cell
+abbrev pub writes_cell : List (PlaceAccess Cell) → Cell → Bool
+writes_cell accesses c = any (λ a. same_cell a.place c && a.writes) accesses
+
+-- each cell that a call writes is among its accesses
+abbrev pub WritesLaw : Type 0
+WritesLaw = (cells : Cells) (call : Stamped) → Each (λ w. writes_cell (does cells call).accesses w.cell ≡ true) (does cells call).writes
+
+-- nothing names a file that is not there
+abbrev pub NamelessLaw : Type 0
+NamelessLaw = (cells : Cells) → AreSoundCells cells → (i : ℕ) → has_file cells i ≡ false → (c : Cell) → names_file c (held cells c) i ≡ false

@@ -1,18 +1,15 @@
 -- The execution of a call on the stored cells.
 use Rattle.std.specs.Prelude.{ℕ, List, [], ◌∷◌}
-use Rattle.ft_tree.specs.Cells.{Cells, stored_dirs, put_entry, put_parent, put_links, put_bytes, put_open}
+use Rattle.ft_tree.specs.Cells.{Cells, stored_dirs}
+use Rattle.ft_tree.specs.Held.{set_cell}
 use Rattle.ft_tree.specs.Views.{view_of}
 use Rattle.ft_tree.specs.Looks.{answer}
 use Rattle.ft_calls.specs.declared.call.Call.{Call}
-use Rattle.ft_calls.specs.Outcomes.{Write, SetEntry, SetParent, SetLinks, SetBytes, SetOpen, Outcome}
+use Rattle.ft_calls.specs.Outcomes.{Write, Outcome}
 use Rattle.ft_calls.specs.Steps.{steps}
 
 abbrev pub put : Cells → Write → Cells
-put cells (SetEntry d name to) = put_entry cells d name to
-put cells (SetParent d parent) = put_parent cells d parent
-put cells (SetLinks i links) = put_links cells i links
-put cells (SetBytes i bytes) = put_bytes cells i bytes
-put cells (SetOpen f to) = put_open cells f to
+put cells w = set_cell cells w.cell w.value
 
 abbrev pub put_all : Cells → List Write → Cells
 put_all cells [] = cells

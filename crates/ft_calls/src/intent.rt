@@ -4,7 +4,7 @@ ghost use Rattle.ft_calls.specs.Within.{IsWithin, AreWithin};
 
 use crate::bytes::read_bytes;
 use crate::call::Reply;
-use ft_base::Memory;
+use ft_base::{Few, Memory};
 use ft_path::{Errno, Name};
 use ft_tree::{Kind, Node, OpenFile, Tree};
 use std::alloc::Global;
@@ -81,7 +81,7 @@ pub enum Edit<'c> {
 /// The edits of a call.
 #[derive(Drop)]
 pub struct Edits<'c> {
-    items: Vec<Edit<'c>>,
+    items: Few<Edit<'c>>,
 }
 
 impl<'c> Model for Edits<'c> {
@@ -92,9 +92,9 @@ impl<'c> Model for Edits<'c> {
 
     ghost use Rattle.ft_calls.specs.Within.{AreWithin};
 
-    ghost view = { λ a. a.items.items };
+    ghost view = { λ a. a.items };
 
-    ghost invariant = { λ a. AreWithin a.items.items };
+    ghost invariant = { λ a. AreWithin a.items };
 }
 
 impl<'c> Edits<'c> {
@@ -103,27 +103,27 @@ impl<'c> Edits<'c> {
         ensures { result ≡ [] }
     {
         Edits {
-            items: Vec::new(alloc),
+            items: Few::new(alloc),
         }
     }
 
     /// The edits, in order.
-    pub(crate) fn as_slice(&self) -> &[Edit<'c>]
+    pub(crate) fn as_items(&self) -> &Few<Edit<'c>>
         ensures items { result.now ≡ self.now }
         ensures within { AreWithin self.now }
     {
-        self.items.as_slice()
+        &self.items
     }
 
     /// The edits themselves, in order.
-    pub fn into_items(self) -> Vec<Edit<'c>>
-        ensures { result.items ≡ self.entry }
+    pub fn into_items(self) -> Few<Edit<'c>>
+        ensures { result ≡ self.entry }
     {
         let Edits { items } = self;
         items
     }
 
-    /// With one more behind the others.
+    /// With one more behind the others; the first two take no memory.
     pub(crate) fn and(mut self, edit: Edit<'c>) -> Result<Edits<'c>, Memory>
         requires { IsWithin edit }
         ensures { IfOk result (λ edits. edits ≡ self.entry ++ edit.entry ∷ []) }

@@ -2,7 +2,7 @@
 ghost use Rattle.ft_laws.specs.Laws.{Lawful};
 ghost use Rattle.ft_laws.specs.Runs.{Exchange, Deletion};
 ghost use Rattle.ft_calls.specs.Laws.{SoundnessLaw, FreshnessLaw, TidyingLaw, ValuesLaw, PlainSoundnessLaw, FrameLaw, KeptLaw, ExchangeLaw, TellingLaw};
-ghost use Rattle.ft_calls.specs.RunLaws.{PlainAccessesLaw, HidingLaw, RunLaw, PlacedLaw};
+ghost use Rattle.ft_calls.specs.RunLaws.{PlainAccessesLaw, HidingLaw, RunLaw, PlacedLaw, WritesLaw, NamelessLaw};
 ghost use Rattle.ft_calls.specs.Edits.{PlacesLaw, EditingLaw};
 ghost use Rattle.ft_calls.specs.CellLaws.{SettingLaw, RestoringLaw};
 ghost use Rattle.ft_calls.specs.Posix.{posix_calls};
@@ -118,4 +118,14 @@ pub fn runs()
 /// Cells of sound values are sound where the root is stored, and the file of each description.
 pub fn placed()
     ensures { PlacedLaw }
+{}
+
+/// Each cell that a call writes is among its accesses, for writing.
+pub fn writes()
+    ensures { WritesLaw }
+{}
+
+/// No entry and no description names a file that is not there.
+pub fn nameless()
+    ensures { NamelessLaw }
 {}

@@ -8,6 +8,7 @@
 
 mod bytes;
 mod call;
+mod copying;
 mod descriptors;
 mod dirs;
 mod files;

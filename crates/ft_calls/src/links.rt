@@ -277,16 +277,27 @@ fn rename_file<'c>(
         None if trailing => Err(Stop::Errno(Errno::ENOTDIR)),
         None => Ok(renamed(alloc, renaming, Node::File(file))?),
         Some(Node::File(replaced)) if replaced == file => Ok(Intent::tell(alloc, Told::Done)),
-        Some(Node::File(replaced)) => {
-            let links = look.links(replaced)?;
-            let intent = renamed(alloc, renaming, Node::File(file))?.and(Edit::Links {
-                file: replaced,
-                to: links.saturating_sub(1),
-            })?;
-            Ok(intent)
-        }
+        Some(Node::File(replaced)) => replace_file(alloc, look, renaming, file, replaced),
         Some(Node::Dir(_)) => Err(Stop::Errno(Errno::EISDIR)),
     }
+}
+
+/// Moves the entry of a file to where it replaces another.
+fn replace_file<'c>(
+    alloc: Global,
+    look: &mut Look<'_>,
+    renaming: Renaming<'_>,
+    file: u64,
+    replaced: u64,
+) -> Result<Intent<'c>, Stop>
+    ensures { Comes look.old (replace_file renaming.entry.dir renaming.entry.name.now file renaming.entry.into renaming.entry.other.now replaced) look.new result }
+{
+    let links = look.links(replaced)?;
+    let intent = renamed(alloc, renaming, Node::File(file))?.and(Edit::Links {
+        file: replaced,
+        to: links.saturating_sub(1),
+    })?;
+    Ok(intent)
 }
 
 /// Moves the entry of a directory to where a path's components lead.

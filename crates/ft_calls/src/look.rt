@@ -1,5 +1,6 @@
 // A tree that is looked at, cell by cell, and which cells were.
-ghost use Rattle.std.specs.Prelude.{◌≡◌, ◌≤◌, IfOk, OnOk};
+ghost use Rattle.std.specs.Prelude.{◌≡◌, ◌≤◌, option_copied, IfOk, OnOk};
+ghost use Rattle.std.specs.Option.{option_to_list};
 ghost use Rattle.std.specs.FinMap as finite;
 ghost use Rattle.ft_body.specs.declared.TheConstants.{SIZE_LIMIT};
 ghost use Rattle.ft_path.specs.FilePath.{parts_of};
@@ -123,6 +124,7 @@ impl<'t> Look<'t> {
     }
 
     /// The accesses of a call that looked so, and that makes these edits.
+    #[tactic(auto, using(crate::proofs::Noting::parts_noted))]
     pub(crate) fn into_accesses(self, edits: &Edits<'_>) -> Result<Vec<Access>, Memory>
         ensures list { IfOk result (λ list. list.items ≡ listed (with_edits self.entry.modes edits.now)) }
         ensures within { AreWithin edits.now }
@@ -131,7 +133,10 @@ impl<'t> Look<'t> {
             tree: _,
             mut touched,
         } = self;
-        for edit in edits.as_slice() {
+        let items = edits.as_items();
+        note_if(&mut touched, items.first())?;
+        note_if(&mut touched, items.second())?;
+        for edit in items.others() {
             note_edit(&mut touched, edit)?;
         }
         Ok(touched.into_accesses())
@@ -170,6 +175,16 @@ pub(crate) fn text_parts(alloc: Global, path: &FilePath) -> Result<Parts, Stop>
         Ok(parts) => Ok(parts),
         Err(PartsFault::Errno(errno)) => Err(Stop::Errno(errno)),
         Err(PartsFault::Memory) => Err(Stop::Memory),
+    }
+}
+
+/// Notes the cell that is edited, where there is an edit.
+fn note_if(touched: &mut Touched, edit: Option<&Edit<'_>>) -> Result<(), Memory>
+    ensures { OnOk result (touched.new ≡ with_edits touched.old (option_to_list (option_copied edit.entry))) }
+{
+    match edit {
+        Some(edit) => note_edit(touched, edit),
+        None => Ok(()),
     }
 }
 

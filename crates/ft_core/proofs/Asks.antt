@@ -64,6 +64,10 @@ module _ (W : CallLaws) (K : LockLaws) (cells : Cells) (forest : Transactions) (
       (subst (λ (c : Cells). IsCoreOf s c forest table' lists' (record j { room = j'.room })) (sym un.cells)
       (subst (λ (l : LockTable). IsCoreOf s cells forest l lists' (record j { room = j'.room })) (sym un.locks) same))
 
+  -- there is room for more
+  pub core-roomier : (j' : Journaled) → j' ≡ record j { room = j'.room } → IsCoreOf (state_of forest j') cells forest table lists j'
+  core-roomier j' is = core-unmade cells table lists j' (record { cells = refl; locks = refl; listed = λ t. refl; open_still = λ t. refl }) is
+
   pub record IsGranted (t : ℕ) (call : Call) (reply : Reply) (cells' : Cells) (table' : LockTable) (lists' : Lists Logged) (j' : Journaled) : Type 0 where
     pub asked : IsAsked exact_rule s t call (Granted (next_stamp s) reply) (state_of forest j')
     pub kept : IsCoreOf (state_of forest j') cells' forest table' lists' j'

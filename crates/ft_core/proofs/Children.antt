@@ -1,6 +1,6 @@
 -- The live children of a transaction, and that there is no live transaction at all.
 use Rattle.std.proofs.Common.{◌≡◌, ℕ, Bool, true, false, cond, List, [], ◌∷◌, Option, Some, None, is_some, inl, length, arith, refl, sym, ap, subst, ◌∙◌}
-use Rattle.std.specs.Prelude.{nat_lt}
+use Rattle.std.specs.Prelude.{nat_lt, MatchBool}
 use Rattle.std.proofs.lemmas.Bool.{false≢true, and_parts, lt-ltb}
 use Rattle.ft_base.specs.Chains.{Lists}
 use Rattle.ft_laws.specs.Lists.{Each, In}
@@ -58,12 +58,16 @@ module _ (W : CallLaws) (base : Base) (h : History) (asks : Asks) (last_txn last
       longer x [] i = absurd i
       longer x (y ∷ ys) i = lt-ltb 0 (length (y ∷ ys)) (omega arith)
 
+  -- a top-level transaction that is live in the forest is live
+  pub some-live : (x : ℕ) → IsLiveUnder forest None x → IsLive posix_calls base.last_txn h x
+  some-live x is = sym (core.transactions.fates x) ∙ ap fate_in is.live
+
   -- Where no top-level transaction is live, none is, and no event is to come but a begin.
   module _ (none : (x : ℕ) → IsLiveUnder forest None x → ⊥) where
     sound : Sound posix_calls W.lawful from h
     sound = past W base h last_txn last_number cells core.log core.kept
 
-    no-live : (x : ℕ) → IsLive posix_calls base.last_txn h x → ⊥
+    pub no-live : (x : ℕ) → IsLive posix_calls base.last_txn h x → ⊥
     no-live = climb (parent posix_calls h) sound.forest (λ x. IsLive posix_calls base.last_txn h x → ⊥)
         (λ x top now. none x (record { child = core.transactions.parents x ∙ top; live = state-live x now }))
         (λ x p up ih now. ih (sound.live_up x p now up))
@@ -95,3 +99,9 @@ module _ (W : CallLaws) (base : Base) (h : History) (asks : Asks) (last_txn last
 pub none_of : (forest : Transactions) (o : Option ℕ) → is_some o ≡ false → IsYoungestChild forest None o → (x : ℕ) → IsLiveUnder forest None x → ⊥
 none_of forest None e h = h
 none_of forest (Some y) e h = absurd (false≢true (sym e))
+
+-- whether some transaction is live, as the youngest at the top level tells
+pub live_by_top : (Some-is : Type 0) (forest : Transactions) (o : Option ℕ) → IsYoungestChild forest None o
+    → ((x : ℕ) → IsLiveUnder forest None x → Some-is) → (((x : ℕ) → IsLiveUnder forest None x → ⊥) → ¬ Some-is) → MatchBool (is_some o) Some-is (¬ Some-is)
+live_by_top Some-is forest None h some none = none h
+live_by_top Some-is forest (Some y) h some none = some y h.0

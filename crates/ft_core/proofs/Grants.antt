@@ -17,7 +17,8 @@ use Rattle.ft_calls.specs.declared.call.Access.{Access}
 use Rattle.ft_calls.specs.Accesses.{accesses_of}
 use Rattle.ft_calls.specs.Outcomes.{Write}
 use Rattle.ft_calls.specs.Stored.{outcome}
-use Rattle.ft_calls.specs.Posix.{HasSoundValues, Stamped, as_place, as_change, posix, posix_calls}
+use Rattle.ft_calls.specs.RunLaws.{writes_cell}
+use Rattle.ft_calls.specs.Posix.{HasSoundValues, Stamped, as_place, posix, posix_calls}
 use Rattle.ft_undo.specs.declared.logs.Logged.{Logged}
 use Rattle.ft_forest.specs.Transactions.{Transactions}
 use Rattle.ft_locks.specs.Locks.{LockTable}
@@ -36,6 +37,7 @@ use Rattle.ft_core.specs.Laws.{CallLaws, LockLaws}
 use Rattle.ft_core.specs.Makes.{IsMadeOn}
 use Rattle.ft_core.proofs.Counts.{count-push}
 use Rattle.ft_core.proofs.Joining.{start, values, free, sound_values}
+use Rattle.ft_core.proofs.Written.{of-written}
 use Rattle.ft_core.proofs.Placing.{put-write, put-stays, as-left, left-stored, files-stored, placed-stays}
 
 length-push : {A : Type 0} (xs : List A) (x : A) (first last : ℕ) → first + length xs ≡ last → first + length (xs ++ x ∷ []) ≡ last + 1
@@ -62,7 +64,7 @@ module _ (W : CallLaws) (K : LockLaws) (base : Base) (h : History) (asks : Asks)
     writes = (outcome cells k call).writes
 
     abbrev entry : Item
-    entry = record { done = c; inverse = reversal_of posix cells (map as_change writes) }
+    entry = record { done = c; inverse = reversal_of posix cells writes }
 
     abbrev a : Stamped
     a = record { stamp = k; call = call }
@@ -102,8 +104,8 @@ module _ (W : CallLaws) (K : LockLaws) (base : Base) (h : History) (asks : Asks)
     takes = record {
       stamp = refl;
       same = made.inverse;
-      may = λ now stored has. made.may now (as-left now cells' writes (subst (λ (s : Cells). Each (λ (w : Change). IsStored now w.cell) (before posix s (map as_change writes))) acted stored)
-          (subst (λ (s : Cells). Has posix now (before posix s (map as_change writes))) acted has));
+      may = λ now stored has. made.may now (as-left now cells' writes (subst (λ (s : Cells). Each (λ (w : Change). IsStored now w.cell) (before posix s writes)) acted stored)
+          (subst (λ (s : Cells). Has posix now (before posix s writes)) acted has));
     }
 
     logged : (u : ℕ) → AreLogged (pushed core.log t entry u) (list_in lists' u)
@@ -115,7 +117,8 @@ module _ (W : CallLaws) (K : LockLaws) (base : Base) (h : History) (asks : Asks)
 
     mine : ArePlaced cells' entry
     mine = record {
-      written = left-stored cells' (write_all posix cells (map as_change writes)) writes made.left;
+      own = of-written cells (map as_place accesses) writes (subst (λ xs. Each (λ (w : Change). writes_cell (map as_place xs) w.cell ≡ true) writes) (sym touched) (W.writes cells a)) (W.places cells k call core.kept.sound).apart entry refl refl refl;
+      written = left-stored cells' (write_all posix cells writes) writes made.left;
       files = files-stored cells cells' (λ f o is. stay (Links o.file) (core.kept.sound.opens f o is).0) writes;
     }
 

@@ -20,3 +20,6 @@ mod Aborts
 mod Children
 mod Alone
 mod Ended
+mod Families
+mod Written
+mod Swept

@@ -11,8 +11,8 @@ use Rattle.ft_tree.specs.CellOrder.{same_cell, same_cell-is}
 use Rattle.ft_tree.specs.Cells.{Cells, open_of, HasFilePlace}
 use Rattle.ft_tree.specs.Held.{Holds, IsStored, set_cell}
 use Rattle.ft_calls.specs.CellLaws.{SettingLaw}
-use Rattle.ft_calls.specs.Outcomes.{Write, SetEntry, SetParent, SetLinks, SetBytes, SetOpen}
-use Rattle.ft_calls.specs.Posix.{as_change, posix, posix_calls}
+use Rattle.ft_calls.specs.Outcomes.{Write}
+use Rattle.ft_calls.specs.Posix.{posix, posix_calls}
 use Rattle.ft_calls.specs.RunLaws.{HasNamedPlaces}
 use Rattle.ft_calls.specs.Stored.{put_all}
 use Rattle.ft_undo.specs.declared.logs.Logged.{Logged}
@@ -20,13 +20,9 @@ use Rattle.ft_undo.specs.Undone.{given_back, CanGiveAllBack}
 use Rattle.ft_core.specs.Kept.{Change, Item, ArePlaced, TakesBack, file_is_stored}
 
 -- writes are put as calls in the abstract write
-pub write-put : (ws : List Write) (cells : Cells) → write_all posix cells (map as_change ws) ≡ put_all cells ws
+pub write-put : (ws : List Write) (cells : Cells) → write_all posix cells ws ≡ put_all cells ws
 write-put [] cells = refl
-write-put (SetEntry d name to ∷ ws) cells = write-put ws _
-write-put (SetParent d to ∷ ws) cells = write-put ws _
-write-put (SetLinks i to ∷ ws) cells = write-put ws _
-write-put (SetBytes i to ∷ ws) cells = write-put ws _
-write-put (SetOpen f to ∷ ws) cells = write-put ws _
+write-put (w ∷ ws) cells = write-put ws (set_cell cells w.cell w.value)
 
 pub put-back : (cells : Cells) (e : Item) (x : Logged) → TakesBack e x → put_all cells (map given_back x.undo) ≡ posix_calls.revert cells e.inverse
 put-back cells e x takes = sym (write-put (map given_back x.undo) cells) ∙ ap (write_all posix cells) takes.same
@@ -46,6 +42,7 @@ file-stays old new stay (Fd f) (Some o) h = stay (Links o.file) h
 
 pub placed-stays : (old new : Cells) → StayPlaces old new → (e : Item) → ArePlaced old e → ArePlaced new e
 placed-stays old new stay e h = record {
+  own = h.own;
   written = Each-map (λ (w : Change). IsStored old w.cell) (λ (w : Change). IsStored new w.cell) (λ w. stay w.cell) e.inverse.after h.written;
   files = Each-map (λ (w : Change). file_is_stored old w.cell w.value) (λ (w : Change). file_is_stored new w.cell w.value) (λ w. file-stays old new stay w.cell w.value) e.inverse.before h.files;
 }

@@ -1,16 +1,18 @@
 -- What a core keeps true of itself.
-use Rattle.std.specs.Prelude.{◌≡◌, ◌≤◌, ◌+◌, ℕ, Bool, true, ◌&&◌, is_some, List, [], ◌∷◌, Option, Some, None, length, map}
+use Rattle.std.specs.Prelude.{◌≡◌, ◌≤◌, ◌+◌, ℕ, Bool, true, false, ◌&&◌, is_some, List, [], ◌∷◌, Option, Some, None, length, map}
 use Rattle.std.specs.FinMap as finite
 use Rattle.ft_base.specs.Chains.{Lists, list_in}
-use Rattle.ft_laws.specs.Lists.{Each, In}
+use Rattle.ft_laws.specs.Lists.{Each, Pairs, In}
 use Rattle.ft_laws.specs.Effects.{Has, Write as CellWrite}
 use Rattle.ft_tree.specs.declared.cell.Cell.{Cell}
 use Rattle.ft_tree.specs.declared.cell.Cell.TheVariants.{Entry as EntryCell, Names as NamesCell, Parent as ParentCell, Links as LinksCell, Bytes as BytesCell, Fd as FdCell}
+use Rattle.ft_tree.specs.CellOrder.{same_cell}
 use Rattle.ft_tree.specs.Cells.{Cells, HasFilePlace}
 use Rattle.ft_tree.specs.Held.{Holds, IsStored}
 use Rattle.ft_tree.specs.Sound.{AreSoundCells}
 use Rattle.ft_tree.specs.Tidy.{tidy}
-use Rattle.ft_calls.specs.Posix.{as_change, posix, posix_calls}
+use Rattle.ft_calls.specs.Posix.{posix, posix_calls}
+use Rattle.ft_calls.specs.RunLaws.{writes_cell}
 use Rattle.ft_undo.specs.declared.logs.Logged.{Logged}
 use Rattle.ft_undo.specs.Logs.{is_open}
 use Rattle.ft_undo.specs.Undone.{given_back, CanGiveAllBack}
@@ -84,15 +86,22 @@ file_is_stored cells (BytesCell i) to = Unit {0}
 file_is_stored cells (FdCell f) None = Unit {0}
 file_is_stored cells (FdCell f) (Some o) = HasFilePlace cells o.file
 
+-- What takes a call back is of cells that the call wrote, of each one once.
+pub record IsOfWritten (e : Item) : Type 0 where
+  pub before : Each (λ (w : Change). writes_cell e.done.accesses w.cell ≡ true) e.inverse.before
+  pub after : Each (λ (w : Change). writes_cell e.done.accesses w.cell ≡ true) e.inverse.after
+  pub apart : Pairs (λ (v w : Change). same_cell v.cell w.cell ≡ false) e.inverse.before
+
 -- The written cells have their places, and so has each file that comes back.
 pub record ArePlaced (cells : Cells) (e : Item) : Type 0 where
+  pub own : IsOfWritten e
   pub written : Each (λ (w : Change). IsStored cells w.cell) e.inverse.after
   pub files : Each (λ (w : Change). file_is_stored cells w.cell w.value) e.inverse.before
 
 -- What takes a call back does what the call's inverse does, and may do so where the cells have their places and hold what the call left.
 pub record TakesBack (e : Item) (x : Logged) : Type 0 where
   pub stamp : x.stamp ≡ e.done.call.stamp
-  pub same : map as_change (map given_back x.undo) ≡ e.inverse.before
+  pub same : map given_back x.undo ≡ e.inverse.before
   pub may : (cells : Cells) → Each (λ (w : Change). IsStored cells w.cell) e.inverse.after → Has posix cells e.inverse.after → CanGiveAllBack cells x.undo
 
 -- the list of what takes calls back is that of the calls and their inverses

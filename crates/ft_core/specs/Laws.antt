@@ -1,10 +1,11 @@
 -- What is known of the calls and of their locks.
 use Rattle.ft_laws.specs.Laws.{Lawful}
 use Rattle.ft_calls.specs.CellLaws.{SettingLaw}
+use Rattle.ft_calls.specs.Edits.{PlacesLaw}
 use Rattle.ft_calls.specs.Laws.{TidyingLaw, SoundnessLaw}
-use Rattle.ft_calls.specs.RunLaws.{PlainAccessesLaw, HidingLaw, RunLaw, PlacedLaw}
+use Rattle.ft_calls.specs.RunLaws.{PlainAccessesLaw, HidingLaw, RunLaw, PlacedLaw, WritesLaw}
 use Rattle.ft_calls.specs.Posix.{posix_calls}
-use Rattle.ft_locks.specs.Law.{FirstLaw, BeginLaw, GrantLaw, UndoLaw, CommitLaw, AbortLaw, ReleaseLaw, BlockLaw}
+use Rattle.ft_locks.specs.Law.{FirstLaw, BeginLaw, GrantLaw, UndoLaw, CommitLaw, AbortLaw, ReleaseLaw, BlockLaw, CoverLaw, LockedLaw}
 
 pub record CallLaws : Type 0 where
   pub lawful : Lawful posix_calls
@@ -15,6 +16,8 @@ pub record CallLaws : Type 0 where
   pub runs : RunLaw
   pub placed : PlacedLaw
   pub setting : SettingLaw
+  pub places : PlacesLaw
+  pub writes : WritesLaw
 
 pub record LockLaws : Type 0 where
   pub first : FirstLaw
@@ -25,3 +28,5 @@ pub record LockLaws : Type 0 where
   pub abort : AbortLaw
   pub release : ReleaseLaw
   pub block : BlockLaw
+  pub cover : CoverLaw
+  pub locked : LockedLaw

@@ -1,6 +1,7 @@
 pub mod Faults
 pub mod Histories
 pub mod States
+pub mod Living
 pub mod Steps
 pub mod Promises
 pub mod Journals

@@ -7,7 +7,7 @@ use Rattle.ft_calls.specs.declared.call.Access.{Access}
 use Rattle.ft_calls.specs.Outcomes.{Write}
 use Rattle.ft_calls.specs.Accesses.{written_cell}
 use Rattle.ft_calls.specs.Stored.{put_all}
-use Rattle.ft_calls.specs.Posix.{as_change, posix}
+use Rattle.ft_calls.specs.Posix.{posix}
 use Rattle.ft_undo.specs.declared.undo.Back.{Back}
 use Rattle.ft_undo.specs.declared.logs.Logged.{Logged}
 use Rattle.ft_undo.specs.Logs.{is_open, AreLists, AreOpen}
@@ -20,7 +20,7 @@ pub record IsMadeOn (old new : Cells) (writes : List Write) (table table' : Lock
   pub cells : new ≡ put_all old writes
   pub undo : List Back
   pub left : AreAsLeft new new (map written_cell writes)
-  pub inverse : map as_change (map given_back undo) ≡ before posix old (map as_change writes)
+  pub inverse : map given_back undo ≡ before posix old writes
   pub may : (cells : Cells) → AreAsLeft cells new (map written_cell writes) → CanGiveAllBack cells undo
   pub granted : AreGranted table table' t accesses
   pub listed : AreLists lists' (pushed (list_in lists) t (record { stamp = k; undo = undo }))

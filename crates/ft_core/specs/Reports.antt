@@ -1,14 +1,19 @@
--- What a core tells of its locks, and of who waits for whom.
-use Rattle.std.specs.Prelude.{◌≡◌, ◌↔◌, ℕ, true, List, map}
+-- What a core tells of its locks, of who waits for whom, and of live children.
+use Rattle.std.specs.Prelude.{◌≡◌, ◌↔◌, ℕ, true, Option, Some, None, List, [], ◌∷◌, map}
 use Rattle.std.specs.FinMap as finite
+use Rattle.std.specs.Ordering.{nat_cmp, ordering_then}
+use Rattle.std.specs.declared.cmp.Ordering.{Ordering}
 use Rattle.std.specs.declared.cmp.Ordering.TheVariants.{Less}
 use Rattle.ft_laws.specs.Lists.{Pairs, In}
 use Rattle.ft_calls.specs.declared.call.Call.{Call}
 use Rattle.ft_locks.specs.declared.line.LockLine.{LockLine}
 use Rattle.ft_locks.specs.Locks.{line_cmp}
 use Rattle.ft_locks.specs.Law.{is_lock}
+use Rattle.ft_forest.specs.Transactions.{Transactions, parent_in}
+use Rattle.ft_history.specs.History.Fate.{Live}
 use Rattle.ft_core.specs.declared.reports.Pending.{Pending}
-use Rattle.ft_core.specs.States.{State, history, accesses_now}
+use Rattle.ft_core.specs.declared.reports.LiveChild.{LiveChild}
+use Rattle.ft_core.specs.States.{State, history, fate_of, live_children, accesses_now}
 use Rattle.ft_core.specs.Steps.{exact_rule}
 
 -- The list has each lock of the history once: by cell, owner, mode and kind.
@@ -29,3 +34,21 @@ waits s = waits_from s (finite.entries s.asks)
 
 abbrev pub as_wait : Pending → ℕ × List ℕ
 as_wait p = (p.txn, p.blockers.items)
+
+-- by parent, and then by child
+abbrev pub child_cmp : LiveChild → LiveChild → Ordering
+child_cmp x y = ordering_then (nat_cmp x.parent y.parent) (nat_cmp x.child y.child)
+
+-- The list has each live transaction with each live child once: by parent, and then by child.
+pub record AreLiveChildren (s : State) (list : List LiveChild) : Type 0 where
+  pub order : Pairs (λ x y. child_cmp x y ≡ Less) list
+  pub exact : (x : LiveChild) → In x list ↔ ((fate_of s x.parent ≡ Some Live) × In x.child (live_children s x.parent))
+
+abbrev pub below : Option ℕ → ℕ → List LiveChild → List LiveChild
+below None child rest = rest
+below (Some parent) child rest = record { parent = parent; child = child } ∷ rest
+
+-- those of these transactions that have a parent, each with its parent
+abbrev pub with_parents : Transactions → List ℕ → List LiveChild
+with_parents forest [] = []
+with_parents forest (x ∷ xs) = below (parent_in forest x) x (with_parents forest xs)

@@ -3,10 +3,12 @@ ghost use Rattle.std.specs.Prelude.{◌≡◌, [], true, false, Some, None, IfOk
 ghost use Rattle.std.specs.FinMap as finite;
 ghost use Rattle.ft_tree.specs.Sound.{AreSoundCells};
 ghost use Rattle.ft_calls.specs.declared.call.Call.{Call as CallOf};
+ghost use Rattle.ft_calls.specs.Accesses.{accesses_of};
 ghost use Rattle.ft_calls.specs.Comes.{outcome_of};
 ghost use Rattle.ft_calls.specs.Edits.{CanEditAll, Apart};
+ghost use Rattle.ft_calls.specs.Stored.{outcome};
 ghost use Rattle.ft_undo.specs.Logs.{is_open};
-ghost use Rattle.ft_locks.specs.Locks.{is_opened};
+ghost use Rattle.ft_locks.specs.Locks.{is_opened, AreBlockers};
 ghost use Rattle.ft_history.specs.History.Fate.{Live};
 ghost use Rattle.ft_core.specs.declared.fault.Fault.TheVariants.{Memory as MemoryFault};
 ghost use Rattle.ft_core.specs.declared.request.Request.TheVariants.{Ask, Retry};
@@ -20,7 +22,7 @@ use crate::manager::Core;
 use crate::request::Outcome;
 use ft_base::{Memory, Sequence};
 use ft_calls::{Access, Call, Prepared, Reply, prepare};
-use ft_forest::TxnId;
+use ft_forest::{Forest, TxnId};
 use ft_locks::Locks;
 use ft_tree::Tree;
 use ft_undo::{Logged, Logs, apply};
@@ -37,6 +39,18 @@ impl Core {
         self.check_live(txn)?;
         self.check_calls()?;
         self.request(txn, call)
+    }
+
+    /// Makes a copy of a call, as `ask` makes the call.
+    ///
+    /// Refuses what `ask` refuses, in its order; the copy may want memory too.
+    pub fn ask_copy(&mut self, txn: TxnId, call: &Call) -> Result<Outcome, Fault>
+        ensures { IsStep exact_rule self.old (Ask txn call.now) (answer_with outcome_answer result) self.new }
+    {
+        self.check_live(txn)?;
+        self.check_calls()?;
+        let copy = call.copy(self.alloc)?;
+        self.ask(txn, copy)
     }
 
     /// Makes the call that a transaction waits for, or answers again which transactions it waits for.
@@ -76,14 +90,18 @@ impl Core {
         call_laws();
         lock_laws();
         let stamp = self.journal.next_stamp();
-        let prepared = prepare(self.alloc, &self.tree, stamp, &call)?;
-        let found = self
-            .locks
-            .blockers(&self.forest, txn, prepared.accesses.as_slice())?;
-        let blockers = Sequence::from(found);
+        let Looked { prepared, blockers } = look(
+            self.alloc,
+            &self.tree,
+            &self.locks,
+            &self.forest,
+            Asker { txn, stamp },
+            &call,
+        )?;
         if !blockers.is_empty() {
             drop(prepared);
             self.journal.wait(txn, call)?;
+            let blockers = Sequence::from(blockers);
             return Ok(Outcome::Waits { blockers });
         }
         self.journal.reserve()?;
@@ -119,12 +137,16 @@ impl Core {
         let Some(call) = self.journal.pending(txn) else {
             unreachable!();
         };
-        let prepared = prepare(self.alloc, &self.tree, stamp, call)?;
-        let found = self
-            .locks
-            .blockers(&self.forest, txn, prepared.accesses.as_slice())?;
-        let blockers = Sequence::from(found);
+        let Looked { prepared, blockers } = look(
+            self.alloc,
+            &self.tree,
+            &self.locks,
+            &self.forest,
+            Asker { txn, stamp },
+            call,
+        )?;
         if !blockers.is_empty() {
+            let blockers = Sequence::from(blockers);
             return Ok(Outcome::Waits { blockers });
         }
         let Made {
@@ -146,9 +168,36 @@ impl Core {
 
 /// Who asks, and the stamp of the call.
 #[derive(Clone, Copy)]
-struct Asker {
-    txn: TxnId,
-    stamp: u64,
+pub(crate) struct Asker {
+    pub txn: TxnId,
+    pub stamp: u64,
+}
+
+/// A call that was looked at, with those who are in the way of it, in rising order.
+#[derive(Drop)]
+pub(crate) struct Looked<'c> {
+    pub prepared: Prepared<'c>,
+    pub blockers: Vec<TxnId>,
+}
+
+/// Looks at a call once: what it comes to, and who is in the way of it.
+pub(crate) fn look<'c>(
+    alloc: Global,
+    tree: &Tree,
+    locks: &Locks,
+    forest: &Forest,
+    asker: Asker,
+    call: &'c Call,
+) -> Result<Looked<'c>, Memory>
+    ensures accesses { IfOk result (λ looked. looked.prepared.accesses.items ≡ accesses_of tree.now asker.stamp call.now) }
+    ensures outcome { IfOk result (λ looked. outcome_of tree.now looked.prepared.intent ≡ outcome tree.now asker.stamp call.now) }
+    ensures places { AreSoundCells tree.now → IfOk result (λ looked. CanEditAll tree.now looked.prepared.intent.edits) }
+    ensures apart { AreSoundCells tree.now → IfOk result (λ looked. Apart looked.prepared.intent.edits) }
+    ensures blockers { IfOk result (λ looked. AreBlockers locks.now forest.now asker.txn looked.prepared.accesses.items looked.blockers.items) }
+{
+    let prepared = prepare(alloc, tree, asker.stamp, call)?;
+    let blockers = locks.blockers(forest, asker.txn, prepared.accesses.as_slice())?;
+    Ok(Looked { prepared, blockers })
 }
 
 /// The reply of a call that was made, twice, and its accesses.

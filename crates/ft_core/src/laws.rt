@@ -1,10 +1,12 @@
 // What is known of the calls and of their locks, in one place: the contracts of functions that do nothing.
 ghost use Rattle.ft_core.specs.Laws.{CallLaws, LockLaws};
 
-use ft_calls::laws::{hiding, lawful, placed, plain_accesses, runs, setting, soundness, tidying};
+use ft_calls::laws::{
+    hiding, lawful, placed, places, plain_accesses, runs, setting, soundness, tidying, writes,
+};
 use ft_locks::laws::{
-    locks_aborted, locks_begun, locks_block, locks_committed, locks_granted, locks_released,
-    locks_undone, no_locks_at_first,
+    locks_aborted, locks_begun, locks_block, locks_committed, locks_cover, locks_granted,
+    locks_lock, locks_released, locks_undone, no_locks_at_first,
 };
 
 /// The laws of the calls.
@@ -19,6 +21,8 @@ pub(crate) fn call_laws()
     runs();
     placed();
     setting();
+    places();
+    writes();
 }
 
 /// The laws of their locks.
@@ -33,4 +37,6 @@ pub(crate) fn lock_laws()
     locks_aborted();
     locks_released();
     locks_block();
+    locks_cover();
+    locks_lock();
 }

@@ -12,13 +12,14 @@ mod manager;
 mod reports;
 mod request;
 mod running;
+mod sweeping;
 #[cfg(test)]
 mod tests;
 
 pub use fault::Fault;
 pub use ft_forest::{LAST_NUMBER, MOST_DEPTH, MOST_TRANSACTIONS, TxnId};
 pub use manager::Core;
-pub use reports::Pending;
+pub use reports::{LiveChild, Pending};
 pub use request::{Answer, Event, Outcome, Request};
 
 /// The most granted calls since the base.

@@ -1,5 +1,5 @@
 // The core: nested transactions over one tree.
-ghost use Rattle.std.specs.Prelude.{◌≡◌, ◌<◌, ◌+◌, Some, None, Option, MatchResult, IfOk, IfErr, OnOk, OnErr};
+ghost use Rattle.std.specs.Prelude.{◌≡◌, ◌<◌, ◌+◌, Some, None, Option, MatchBool, MatchResult, IfOk, IfErr, OnOk, OnErr};
 ghost use Rattle.ft_tree.specs.Tidy.{tidy};
 ghost use Rattle.ft_tree.specs.Sound.{IsSoundTree, AreSoundCells};
 ghost use Rattle.ft_core.specs.declared.fault.Fault.{Fault as FaultOf};
@@ -8,6 +8,7 @@ ghost use Rattle.ft_history.specs.History.Fate.{Live};
 ghost use Rattle.ft_core.specs.declared.request.Request.TheVariants.{Begin, Sub, Drop as DropAsk};
 ghost use Rattle.ft_core.specs.declared.request.Answer.TheVariants.{Txn, Dropped};
 ghost use Rattle.ft_core.specs.States.{at_base, first_base, fate_of, next_txn, after_begin};
+ghost use Rattle.ft_core.specs.Living.{SomeIsLive, NoneIsLive};
 ghost use Rattle.ft_core.specs.Promises.{IsHeadline};
 ghost use Rattle.ft_core.specs.Steps.{IsStep, exact_rule, fault_of_fate, answer_with, refusal_of, begin_request};
 ghost use Rattle.ft_core.specs.Opens.{AreAsBefore, IsOpenFor};
@@ -123,6 +124,14 @@ impl Core {
         ensures { result.now ≡ self.now.events }
     {
         self.journal.events()
+    }
+
+    /// Whether a transaction is live.
+    pub fn has_live(&self) -> bool
+        ensures { MatchBool result (SomeIsLive self.now) (NoneIsLive self.now) }
+    {
+        call_laws();
+        self.forest.youngest_child(None).is_some()
     }
 
     /// Refuses a transaction that is not live.

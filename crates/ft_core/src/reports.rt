@@ -1,15 +1,16 @@
-// What a core tells of its locks, and of who waits for whom.
+// What a core tells of its locks, of who waits for whom, and of live children.
 ghost use Rattle.std.specs.Prelude.{◌≡◌, ◌++◌, map, MatchResult, IfOk, OnOk};
 ghost use Rattle.std.specs.FinMap as finite;
 ghost use Rattle.ft_core.specs.declared.fault.Fault.TheVariants.{Memory as MemoryFault};
-ghost use Rattle.ft_core.specs.Reports.{AreLockLines, blockers_now, waits_from, waits, as_wait};
+ghost use Rattle.ft_core.specs.Reports.{AreLockLines, blockers_now, waits_from, waits, as_wait, AreLiveChildren, with_parents};
 
+use crate::asking::{Asker, Looked, look};
 use crate::fault::Fault;
 use crate::laws::{call_laws, lock_laws};
 use crate::manager::Core;
 use ft_base::{Memory, Table};
-use ft_calls::{Call, Prepared, prepare};
-use ft_forest::TxnId;
+use ft_calls::Call;
+use ft_forest::{Forest, TxnId};
 use ft_locks::LockLine;
 
 /// A transaction that waits for a call, with those that are in the way of it.
@@ -17,6 +18,13 @@ use ft_locks::LockLine;
 pub struct Pending {
     pub txn: TxnId,
     pub blockers: Vec<TxnId>,
+}
+
+/// A live transaction, and a live child of it. They stand in the order of parents, and then of children.
+#[derive(Clone, Copy, Debug, PartialEq, Eq, PartialOrd, Ord)]
+pub struct LiveChild {
+    pub parent: TxnId,
+    pub child: TxnId,
 }
 
 impl Core {
@@ -37,6 +45,26 @@ impl Core {
         Ok(list)
     }
 
+    /// Each live transaction with each live child, in their order. Takes the time to sort the live transactions.
+    pub fn children(&self) -> Result<Vec<LiveChild>, Fault>
+        ensures { MatchResult result (λ list. AreLiveChildren self.now list.items) (λ fault. fault ≡ MemoryFault) }
+    {
+        Ok(self.list_children()?)
+    }
+
+    fn list_children(&self) -> Result<Vec<LiveChild>, Memory>
+        ensures { IfOk result (λ list. AreLiveChildren self.now list.items) }
+    {
+        call_laws();
+        let live = self.forest.live(self.alloc)?;
+        let mut list = Vec::new(self.alloc);
+        list_with_parents(&self.forest, live.as_slice(), &mut list)?;
+        list.sort()?;
+        // Each was listed once; from here on the list says so itself.
+        list.dedup();
+        Ok(list)
+    }
+
     /// Who is in the way of a call now, in rising order.
     fn blockers_now(&self, txn: TxnId, call: &Call) -> Result<Vec<TxnId>, Memory>
         ensures { IfOk result (λ blockers. blockers.items ≡ blockers_now self.now txn call.now) }
@@ -44,8 +72,16 @@ impl Core {
         call_laws();
         lock_laws();
         let stamp = self.journal.next_stamp();
-        let Prepared { accesses, .. } = prepare(self.alloc, &self.tree, stamp, call)?;
-        self.locks.blockers(&self.forest, txn, accesses.as_slice())
+        let asker = Asker { txn, stamp };
+        let Looked { blockers, .. } = look(
+            self.alloc,
+            &self.tree,
+            &self.locks,
+            &self.forest,
+            asker,
+            call,
+        )?;
+        Ok(blockers)
     }
 }
 
@@ -57,6 +93,23 @@ fn list_pending(core: &Core, asks: &Table<Call>, list: &mut Vec<Pending>) -> Res
         let txn = TxnId(txn);
         let blockers = core.blockers_now(txn, call)?;
         list.push(Pending { txn, blockers })?;
+    }
+    Ok(())
+}
+
+/// Lists each of these transactions that has a parent, with its parent.
+fn list_with_parents(
+    forest: &Forest,
+    txns: &[TxnId],
+    list: &mut Vec<LiveChild>,
+) -> Result<(), Memory>
+    ensures { OnOk result (list.new.items ≡ list.old.items ++ with_parents forest.now txns.now) }
+{
+    for child in txns {
+        let child = *child;
+        if let Some(parent) = forest.parent(child) {
+            list.push(LiveChild { parent, child })?;
+        }
     }
     Ok(())
 }

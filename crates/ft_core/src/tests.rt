@@ -1,9 +1,10 @@
 // Scripts worked by hand, one call of the core a request; lists of requests; the numbers of the faults, and what is
 // printed.
-use crate::{Answer, Core, Fault, Request, TxnId};
-use ft_calls::{Call, Reply};
+use crate::{Answer, Core, Fault, LiveChild, Request, TxnId};
+use ft_calls::{Call, Mode, Reply};
+use ft_locks::{LockKind, LockLine};
 use ft_path::{Errno, FilePath};
-use ft_tree::{AccessMode, TreeRow};
+use ft_tree::{AccessMode, Cell, Kind, TreeRow};
 use std::alloc::Global;
 use std::test::Fail;
 
@@ -17,11 +18,15 @@ enum Line<'a> {
     List(u64, &'a [u8]),
     /// To read and write, and made where it is not there.
     Open(u64, &'a [u8]),
+    Unlink(u64, &'a [u8]),
     Rename(u64, &'a [u8], &'a [u8]),
+    Close(u64, u64),
     Write(u64, u64, &'a [u8]),
     /// At the beginning.
     Pwrite(u64, u64, &'a [u8]),
     Read(u64, u64),
+    /// At the beginning.
+    Pread(u64, u64),
     Fstat(u64, u64),
     Retry(u64),
     Drop(u64),
@@ -40,6 +45,8 @@ enum Wanted<'a> {
     Names(u64, &'a [u8]),
     Number(u64, u64),
     Bytes(u64, &'a [u8]),
+    /// Of a file: its number, its links and its size.
+    File(u64, [u64; 3]),
     Waits(u64),
     Dropped,
     Committed,
@@ -61,6 +68,10 @@ fn path_call(alloc: Global, line: Line) -> Result<(u64, Call), Fail> {
         Line::List(txn, path) => {
             let path = FilePath::new(alloc, path)?;
             Ok((txn, Call::List { path }))
+        }
+        Line::Unlink(txn, path) => {
+            let path = FilePath::new(alloc, path)?;
+            Ok((txn, Call::Unlink { path }))
         }
         Line::Rename(txn, old, new) => {
             let old = FilePath::new(alloc, old)?;
@@ -93,7 +104,9 @@ fn descriptor_call(alloc: Global, line: Line) -> Result<(u64, Call), Fail> {
             let bytes = bytes.to_vec(alloc)?.into();
             Ok((txn, Call::Pwrite { fd, off: 0, bytes }))
         }
+        Line::Close(txn, fd) => Ok((txn, Call::Close { fd })),
         Line::Read(txn, fd) => Ok((txn, Call::Read { fd, len: 9 })),
+        Line::Pread(txn, fd) => Ok((txn, Call::Pread { fd, off: 0, len: 9 })),
         Line::Fstat(txn, fd) => Ok((txn, Call::Fstat { fd })),
         _ => Err(Fail::from("no call")),
     }
@@ -132,6 +145,15 @@ fn is_reply(stamp: u64, reply: &Reply, wanted: Wanted) -> bool {
                 .flat_map(|(name, _)| name.as_bytes());
             stamp == number && all.copied().eq(wanted.iter().copied())
         }
+        (
+            Reply::Info {
+                kind: Kind::File,
+                number: file,
+                links,
+                size,
+            },
+            Wanted::File(number, wanted),
+        ) => stamp == number && [*file, *links, *size] == wanted,
         _ => false,
     }
 }
@@ -155,6 +177,18 @@ fn is_answer(answer: &Answer, wanted: Wanted) -> bool {
 /// Carries a script out, one call for each line, and says whether each is answered as it says.
 fn plays(alloc: Global, core: &mut Core, script: &[(Line, Wanted)]) -> Result<bool, Fail> {
     for (line, wanted) in script {
+        let answer = core.answer(request(alloc, *line)?);
+        if !is_answer(&answer, *wanted) {
+            return Ok(false);
+        }
+    }
+    Ok(true)
+}
+
+/// The same, with a sweep before each.
+fn plays_swept(alloc: Global, core: &mut Core, script: &[(Line, Wanted)]) -> Result<bool, Fail> {
+    for (line, wanted) in script {
+        let _ = core.sweep();
         let answer = core.answer(request(alloc, *line)?);
         if !is_answer(&answer, *wanted) {
             return Ok(false);
@@ -303,6 +337,109 @@ fn ended_and_unknown_transactions(rt: HostRuntime) -> Result<(), Fail> {
     ];
     let mut core = Core::new(rt.alloc())?;
     assert!(rt; plays(rt.alloc(), &mut core, &script)?);
+    Ok(())
+}
+
+#[test]
+fn sweep_before_each_request(rt: HostRuntime) -> Result<(), Fail> {
+    let script = [
+        (Line::Begin, Wanted::Txn(1)),
+        (Line::Open(1, b"/f".as_slice()), Wanted::Number(2, 2)),
+        (Line::Write(1, 2, b"hi".as_slice()), Wanted::Number(3, 2)),
+        (Line::Unlink(1, b"/f".as_slice()), Wanted::Done(4)),
+        (Line::Fstat(1, 2), Wanted::File(5, [2, 0, 2])),
+        (Line::Pread(1, 2), Wanted::Bytes(6, b"hi".as_slice())),
+        (Line::Close(1, 2), Wanted::Done(7)),
+        (Line::Undo(1), Wanted::Undone(7)),
+        (Line::Undo(1), Wanted::Undone(6)),
+        (Line::Pread(1, 2), Wanted::Bytes(8, b"hi".as_slice())),
+        (Line::Abort(1), Wanted::Aborted(5)),
+        (Line::Begin, Wanted::Txn(2)),
+        (
+            Line::List(2, b"/".as_slice()),
+            Wanted::Names(9, b"".as_slice()),
+        ),
+    ];
+    let mut core = Core::new(rt.alloc())?;
+    assert!(rt; plays_swept(rt.alloc(), &mut core, &script)?);
+    assert!(rt; is_bare(&core)?);
+    Ok(())
+}
+
+#[test]
+fn sweep_counts_places(rt: HostRuntime) -> Result<(), Fail> {
+    let script = [
+        (Line::Begin, Wanted::Txn(1)),
+        (Line::Mkdir(1, b"/a".as_slice()), Wanted::Done(2)),
+    ];
+    let mut core = Core::new(rt.alloc())?;
+    assert!(rt; plays(rt.alloc(), &mut core, &script)?);
+    assert_eq!(rt; core.sweep(), 0);
+    assert_eq!(rt; core.abort(TxnId(1)), Ok(1));
+    // The place of the entry, and that of the directory.
+    assert_eq!(rt; core.sweep(), 2);
+    assert_eq!(rt; core.sweep(), 0);
+    Ok(())
+}
+
+/// Whether one transaction waits for another alone, and is its parent, as the only ones.
+fn waits_for_its_child(core: &Core, parent: u64, child: u64) -> Result<bool, Fail> {
+    let (parent, child) = (TxnId(parent), TxnId(child));
+    let pending = core.pending()?;
+    let children = core.children()?;
+    let waits = match pending.as_slice() {
+        [one] => one.txn == parent && one.blockers.as_slice() == [child].as_slice(),
+        _ => false,
+    };
+    Ok(waits && children.as_slice() == [LiveChild { parent, child }].as_slice())
+}
+
+#[test]
+fn small_calls(rt: HostRuntime) -> Result<(), Fail> {
+    let script = [
+        (Line::Begin, Wanted::Txn(1)),
+        (Line::Sub(1), Wanted::Txn(2)),
+        (Line::Abort(1), Wanted::Aborted(0)),
+        (Line::Begin, Wanted::Txn(3)),
+        (Line::Sub(3), Wanted::Txn(4)),
+        (Line::Mkdir(4, b"/a".as_slice()), Wanted::Done(2)),
+        (Line::List(3, b"/a".as_slice()), Wanted::Waits(4)),
+    ];
+    let mut core = Core::new(rt.alloc())?;
+    assert!(rt; plays(rt.alloc(), &mut core, &script)?);
+    assert!(rt; waits_for_its_child(&core, 3, 4)?);
+    Ok(())
+}
+
+/// Whether these are the write locks of a transaction on the entry `a` of the root and on a directory's parent.
+fn are_locks(lines: &[LockLine], txn: u64, kind: LockKind) -> bool {
+    let all = lines.iter().all(|line| line.owner == TxnId(txn)
+        && line.mode == Mode::Write
+        && line.kind == kind);
+    match lines {
+        [entry, parent] => {
+            let is_entry = match &entry.cell {
+                Cell::Entry(1, name) => name.as_bytes() == b"a".as_slice(),
+                _ => false,
+            };
+            all && is_entry && parent.cell == Cell::Parent(2)
+        }
+        _ => false,
+    }
+}
+
+#[test]
+fn lock_lines(rt: HostRuntime) -> Result<(), Fail> {
+    let script = [
+        (Line::Begin, Wanted::Txn(1)),
+        (Line::Sub(1), Wanted::Txn(2)),
+        (Line::Mkdir(2, b"/a".as_slice()), Wanted::Done(2)),
+    ];
+    let mut core = Core::new(rt.alloc())?;
+    assert!(rt; plays(rt.alloc(), &mut core, &script)?);
+    assert!(rt; are_locks(core.lock_lines()?.as_slice(), 2, LockKind::Held));
+    assert_eq!(rt; core.commit(TxnId(2)), Ok(()));
+    assert!(rt; are_locks(core.lock_lines()?.as_slice(), 1, LockKind::Retained));
     Ok(())
 }
 

@@ -20,3 +20,4 @@ pub mod Example
 pub mod Without
 pub mod Growing
 pub mod Targets
+pub mod Sweeping

@@ -235,7 +235,9 @@ module _ (C : Calls) (L : Lawful C) (base : Base C) (base_sound : C.IsSound base
       listed = core.listed;
       inverses = core.inverses;
       spared = λ c y i e x k. by_test (C.touches c.accesses x)
-          (λ m. absurd (false≢true (sym (sweep.unlocked y x k) ∙ one_owns C h y (λ f. C.touches f x) (record { call = c; granted = (stands C L base h sound c i).0; owner = e; asker = refl; passes = m }))))
+          (λ m. by_test (is_hidden C hidden x)
+          (λ was. core.spared c y i e x was)
+          (λ was. absurd (false≢true (sym (sweep.unlocked y x k was) ∙ one_owns C h y (λ f. C.touches f x) (record { call = c; granted = (stands C L base h sound c i).0; owner = e; asker = refl; passes = m })))))
           (λ m. m);
       old = sweep.old;
     }

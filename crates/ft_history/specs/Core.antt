@@ -75,7 +75,7 @@ module _ (C : Calls) where
     pub kept : (i : C.File) → hidden i ≡ true → more i ≡ true
     pub old : (a : C.Call) → last_stamp C first h < C.stamp a → more (C.own a) ≡ false
     pub unnamed : (x : C.Cell) (i : C.File) → more i ≡ true → C.names x (C.cell s x) i ≡ false
-    pub unlocked : (y : ℕ) (x : C.Cell) → is_hidden C more x ≡ true → owns_lock C h y (λ f. C.touches f x) ≡ false
+    pub unlocked : (y : ℕ) (x : C.Cell) → is_hidden C more x ≡ true → is_hidden C hidden x ≡ false → owns_lock C h y (λ f. C.touches f x) ≡ false
     pub others : (x : C.Cell) → is_hidden C more x ≡ false → C.cell new x ≡ C.cell s x
     pub blanked : (x : C.Cell) → is_hidden C more x ≡ true → C.cell new x ≡ C.blank x
 

@@ -88,3 +88,7 @@ BlockLaw = OfLocks (λ base h t. Legal posix_calls base h → (forest : Transact
 -- A file's cell on which the table has no lock is touched by none of the history.
 abbrev pub CoverLaw : Type 0
 CoverLaw = OfLocks (λ base h t. (c : Cell) (file : ℕ) → file_of c ≡ Some file → is_locked t c ≡ false → (y : ℕ) → owns_lock posix_calls h y (λ accesses. posix_calls.touches accesses c) ≡ false)
+
+-- The cell of each lock is locked.
+abbrev pub LockedLaw : Type 0
+LockedLaw = (t : LockTable) (l : LockLine) → has_lock t l ≡ true → is_locked t l.cell ≡ true

@@ -1,5 +1,5 @@
 // How the lock table follows a history: each is the contract of a function that does nothing.
-ghost use Rattle.ft_locks.specs.Law.{FirstLaw, OwnerLaw, BeginLaw, GrantLaw, UndoLaw, CommitLaw, AbortLaw, ReleaseLaw, BlockLaw, CoverLaw};
+ghost use Rattle.ft_locks.specs.Law.{FirstLaw, OwnerLaw, BeginLaw, GrantLaw, UndoLaw, CommitLaw, AbortLaw, ReleaseLaw, BlockLaw, CoverLaw, LockedLaw};
 
 use ft_calls::laws::lawful;
 
@@ -66,4 +66,9 @@ pub fn locks_block()
 /// A file's cell on which nobody has a lock by the table is touched by no lock of the history.
 pub fn locks_cover()
     ensures { CoverLaw }
+{}
+
+/// The cell of each lock is locked.
+pub fn locks_lock()
+    ensures { LockedLaw }
 {}

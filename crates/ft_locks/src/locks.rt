@@ -149,14 +149,22 @@ impl Locks {
 }
 
 impl Keeps for Locks {
-    ghost use Rattle.ft_locks.specs.Locks.{is_locked};
+    ghost use Rattle.ft_locks.specs.Locks.{LockTable, is_locked};
 
     ghost kept = { is_locked };
+
+    ghost let_go = { λ (t : LockTable). t.let_go };
+
+    ghost all_told = { λ (t : LockTable). record t { let_go = set.empty } };
 
     fn keeps(&self, cell: &Cell) -> bool {
         match self.holdings.holders(cell) {
             Some(holders) => holders.is_locked(),
             None => false,
         }
+    }
+
+    fn take_let_go(&mut self) -> Option<Cell> {
+        Locks::take_let_go(self)
     }
 }

@@ -1,5 +1,6 @@
 //! The program `ft_run`: `ft_run play` runs a script of transactions on a tree of directories, from
-//! standard input to standard output.
+//! standard input to standard output, and `ft_run dot` draws the last report on who waits for whom
+//! among the replies that such a run wrote.
 //!
 //! It ends with status 0, also after a help text, with 1 after a fault, of which a line
 //! `fault: NAME` tells on standard error, and with 2 where the command line asks for nothing that
@@ -13,7 +14,7 @@ mod tests;
 
 use choose::{Choice, choose};
 use ft_script::PlayFault;
-use status::{fault_line, play_status};
+use status::{dot_status, fault_line, play_status};
 use std::process::ExitCode;
 use std::{env, io};
 
@@ -24,6 +25,12 @@ fn main(rt: HostRuntime) -> ExitCode {
     };
     let status = match choice {
         Choice::Play => play_status(
+            rt.alloc(),
+            &mut rt.stdin(),
+            &mut rt.stdout(),
+            &mut rt.stderr(),
+        ),
+        Choice::Dot => dot_status(
             rt.alloc(),
             &mut rt.stdin(),
             &mut rt.stdout(),

@@ -1,10 +1,12 @@
 // The status that the program ends with.
 ghost use Rattle.std.specs.Prelude.{◌≡◌, ◌⊎◌, IfErr, OnOk};
 ghost use Rattle.std.specs.Io.KnownBytes.{Keeps};
+ghost use Rattle.ft_dot.specs.Drawn.{Draws, StopsDrawing};
 ghost use Rattle.ft_run.specs.FaultLines.{fault_line};
 ghost use Rattle.ft_script.specs.Runs.{PlaysAnew, StopsAnew, WritesFront};
 
 use ft_core::Core;
+use ft_dot::draw;
 use ft_script::{PlayFault, play, write_out};
 use std::alloc::Global;
 use std::io::{Read, Write};
@@ -27,11 +29,39 @@ pub fn play_status<R: Read, W: Write, E: Write>(
 {
     match play_anew(alloc, reader, writer) {
         Ok(()) => 0,
-        Err(fault) => {
-            let _ = write_out(errors, fault_line(fault).as_bytes());
-            1
-        }
+        Err(fault) => failed(errors, fault),
     }
+}
+
+/// Draws the last report on who waits for whom, and answers the status to end with: 0, or 1 after a fault, of which a
+/// line tells on `errors`. Where that line can't be written, the status is the same.
+pub fn dot_status<R: Read, W: Write, E: Write>(
+    alloc: Global,
+    reader: &mut R,
+    writer: &mut W,
+    errors: &mut E,
+) -> u8
+    ensures status { (result ≡ 0) ⊎ (result ≡ 1) }
+    ensures quiet { result ≡ 0 → Keeps (E.contents errors.old) (E.contents errors.new) }
+    ensures ok { result ≡ 0 → Draws (R.remaining reader.old) (R.remaining reader.new)
+        (W.contents writer.old) (W.contents writer.new) }
+    ensures fault { result ≡ 1 → (fault : PlayFault) × StopsDrawing fault (R.remaining reader.old)
+        (R.remaining reader.new) (W.contents writer.old) (W.contents writer.new)
+        × WritesFront (E.contents errors.old) (E.contents errors.new) (fault_line fault) }
+{
+    match draw(alloc, reader, writer) {
+        Ok(()) => 0,
+        Err(fault) => failed(errors, fault),
+    }
+}
+
+// Tells of a fault, and answers the status that it ends with.
+fn failed<E: Write>(errors: &mut E, fault: PlayFault) -> u8
+    ensures status { result ≡ 1 }
+    ensures line { WritesFront (E.contents errors.old) (E.contents errors.new) (fault_line fault) }
+{
+    let _ = write_out(errors, fault_line(fault).as_bytes());
+    1
 }
 
 // Runs a script on a new core.

@@ -121,14 +121,25 @@ fn is_play(alloc: Global, words: &[&str]) -> bool {
     matches!(choose(alloc, words), Choice::Play)
 }
 
+fn is_dot(alloc: Global, words: &[&str]) -> bool {
+    matches!(choose(alloc, words), Choice::Dot)
+}
+
 #[test]
 fn choices(rt: HostRuntime) -> Result<(), Fail> {
     let alloc = rt.alloc();
     assert!(rt; is_play(alloc, &["play"]));
+    assert!(rt; is_dot(alloc, &["dot"]));
     assert!(rt; is_usage(alloc, &[], "Usage: ft_run <COMMAND>"));
     assert!(rt; is_usage(alloc, &["dance"], "unrecognized subcommand 'dance'"));
     assert!(rt; is_usage(alloc, &["play", "now"], "'now'"));
-    assert!(rt; is_help(alloc, &["--help"], "play"));
+    assert!(rt;
+        is_help(
+            alloc,
+            &["--help"],
+            "ft_run play < script.ft | ft_run dot | dot -Tsvg"
+        )
+    );
     assert!(rt; is_help(alloc, &["play", "--help"], "play"));
     Ok(())
 }

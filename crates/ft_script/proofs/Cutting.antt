@@ -1,11 +1,12 @@
 -- How the bytes of a script are cut into lines.
-use Rattle.std.proofs.Common.{◌≡◌, ℕ, ◌<◌, cond, ◌||◌, List, [], ◌∷◌, ◌++◌, length, refl, sym, ap, ◌∙◌, append_assoc, append-nil, arith}
+use Rattle.std.proofs.Common.{◌≡◌, ℕ, ◌<◌, ◌||◌, List, [], ◌∷◌, ◌++◌, length, refl, sym, ap, ◌∙◌, append_assoc, append-nil, arith}
 use Rattle.std.specs.Prelude.{◌==◌}
-use Rattle.std.specs.List.{list_any, flat_map, onto_first, AllByRecursion}
+use Rattle.std.specs.List.{list_any, flat_map, AllByRecursion}
 use Rattle.std.proofs.lemmas.Grind.{flat_map-append}
-use Rattle.ft_script.specs.Script.{IsFreeOf, lines_of}
+use Rattle.ft_words.specs.Spelling.{IsFreeOf, lines_of}
 use Rattle.ft_script.specs.Runs.{Fits, ended, Cuts}
-use Rattle.ft_script.proofs.Bytes.{neither}
+use Rattle.ft_words.proofs.Bytes.{neither}
+use Rattle.ft_words.proofs.LineCuts.{lines_of_cut, lines_of_last}
 
 pub free-append : (byte : ℕ) (xs ys : List ℕ) → IsFreeOf byte xs → IsFreeOf byte ys → IsFreeOf byte (xs ++ ys)
 free-append byte [] ys h k = k
@@ -16,20 +17,6 @@ free-append byte (x ∷ xs) ys h k =
 each-append : {A : Type 0} (P : A → Type 0) (xs ys : List A) → AllByRecursion P xs → AllByRecursion P ys → AllByRecursion P (xs ++ ys)
 each-append P [] ys h k = k
 each-append P (x ∷ xs) ys h k = (h.0, each-append P xs ys h.1 k)
-
--- the first line ends at the first line feed
-lines_of_cut : (bytes rest : List ℕ) → IsFreeOf 10 bytes → lines_of (bytes ++ 10 ∷ rest) ≡ bytes ∷ lines_of rest
-lines_of_cut [] rest h = refl
-lines_of_cut (x ∷ xs) rest h =
-    let both = neither (x == 10) _ h in
-    ap (λ b. cond b ([] ∷ lines_of (xs ++ 10 ∷ rest)) (onto_first x (lines_of (xs ++ 10 ∷ rest)))) both.0 ∙ ap (onto_first x) (lines_of_cut xs rest both.1)
-
--- the last line may lack its line feed
-pub lines_of_last : (x : ℕ) (xs : List ℕ) → IsFreeOf 10 (x ∷ xs) → lines_of (x ∷ xs) ≡ (x ∷ xs) ∷ []
-lines_of_last x [] h = ap (λ b. cond b ([] ∷ []) ((x ∷ []) ∷ [])) (neither (x == 10) _ h).0
-lines_of_last x (y ∷ ys) h =
-    let both = neither (x == 10) _ h in
-    ap (λ b. cond b ([] ∷ lines_of (y ∷ ys)) (onto_first x (lines_of (y ∷ ys)))) both.0 ∙ ap (onto_first x) (lines_of_last y ys both.1)
 
 lines_of_ended : (lines : List (List ℕ)) (rest : List ℕ) → AllByRecursion (IsFreeOf 10) lines → lines_of (flat_map ended lines ++ rest) ≡ lines ++ lines_of rest
 lines_of_ended [] rest h = refl

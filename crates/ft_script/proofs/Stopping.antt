@@ -1,15 +1,15 @@
 -- How a script ends, early or at its end.
-use Rattle.std.proofs.Common.{◌≡◌, ◌⊎◌, ℕ, ◌+◌, ◌<◌, List, [], ◌∷◌, ◌++◌, length, Option, Result, Ok, Err, IsErr, IfErr, OnErr, OnOk, inl, inr, refl, sym, ap, ◌∙◌, subst, append_assoc, append-nil, length-append, arith, true, false}
+use Rattle.std.proofs.Common.{◌≡◌, ◌⊎◌, ℕ, ◌+◌, ◌<◌, List, [], ◌∷◌, ◌++◌, length, Option, Result, Ok, Err, IsErr, IfErr, OnErr, inl, inr, refl, sym, ap, ◌∙◌, subst, append_assoc, append-nil, length-append, arith, true, false}
 use Rattle.std.proofs.lemmas.Bool.{false≢true, eqb-true, eq-eqb}
 use Rattle.std.specs.Prelude.{◌==◌}
 use Rattle.std.specs.List.{AllByRecursion}
 use Rattle.std.specs.Result.{IsErrAnd}
-use Rattle.std.specs.Io.KnownBytes.{Appends, Consumes, IsAtEnd, Keeps}
+use Rattle.std.specs.Io.KnownBytes.{Consumes, IsAtEnd, Keeps}
 use Rattle.ft_core.specs.States.{State}
 use Rattle.ft_script.specs.declared.playing.PlayFault.{PlayFault}
 use Rattle.ft_script.specs.declared.playing.PlayFault.TheVariants.{Memory, Read, Write, TooLong, Turns}
 use Rattle.ft_script.specs.declared.playing.TheConstants.{LONGEST_LINE}
-use Rattle.ft_script.specs.Script.{IsFreeOf}
+use Rattle.ft_words.specs.Spelling.{IsFreeOf}
 use Rattle.ft_script.specs.Requests.{meaning_of}
 use Rattle.ft_script.specs.Runs.{Fits, GivesText, Plays, PlaysAll, Cuts, BeginsTooLong, IsNext, StopsLine, StopsIn, Stopped, StopsAt, TakesAll, WritesPart}
 use Rattle.ft_script.proofs.Cutting.{cuts_none, cuts_later, all_ended, all_but_last_ended, fits_more, free-append}

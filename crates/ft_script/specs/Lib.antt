@@ -1,4 +1,3 @@
-pub mod Script
 pub mod Requests
 pub mod Texts
 pub mod Reports

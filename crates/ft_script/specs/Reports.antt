@@ -1,13 +1,9 @@
 -- The text of a report: how many lines it has, and the lines.
-use Rattle.std.specs.Prelude.{ℕ, Bool, true, false, List, [], ◌∷◌, ◌++◌, length, codes, if◌then◌else◌}
+use Rattle.std.specs.Prelude.{ℕ, List, ◌∷◌, ◌++◌, length, codes}
 use Rattle.std.specs.Fmt.{decimal}
 use Rattle.std.specs.List.{flat_map}
 use Rattle.ft_tree.specs.declared.cell.Cell.{Cell}
 use Rattle.ft_tree.specs.declared.cell.Cell.TheVariants.{Entry, Names, Parent, Links, Bytes, Fd}
-use Rattle.ft_tree.specs.declared.open_file.AccessMode.{AccessMode}
-use Rattle.ft_tree.specs.declared.open_file.AccessMode.TheVariants.{ReadOnly, WriteOnly, ReadWrite}
-use Rattle.ft_tree.specs.declared.row.TreeRow.{TreeRow}
-use Rattle.ft_tree.specs.declared.row.TreeRow.TheVariants as rows
 use Rattle.ft_calls.specs.declared.call.Mode.{Mode}
 use Rattle.ft_calls.specs.declared.call.Mode.TheVariants as modes
 use Rattle.ft_locks.specs.declared.line.LockKind.{LockKind}
@@ -17,31 +13,8 @@ use Rattle.ft_waits.specs.Kinds.{kind_name}
 use Rattle.ft_waits.specs.declared.edge.Edge.{Edge}
 use Rattle.ft_waits.specs.declared.verdict.Verdict.{Verdict}
 use Rattle.ft_waits.specs.declared.verdict.Verdict.TheVariants.{Cycle, Ranked}
-use Rattle.ft_script.specs.Texts.{coded, data_text, txn_list}
-
--- each of some lines after a line feed
-abbrev pub lines_text : {A : Type 0} → (A → List ℕ) → List A → List ℕ
-lines_text text_of lines = flat_map (λ line. 10 ∷ text_of line) lines
-
--- ---- what the tree holds
-
-abbrev pub access_text : AccessMode → List ℕ
-access_text ReadOnly = codes "r"
-access_text WriteOnly = codes "w"
-access_text ReadWrite = codes "rw"
-
-abbrev pub append_text : Bool → List ℕ
-append_text true = codes "a"
-append_text false = []
-
-abbrev pub row_text : TreeRow → List ℕ
-row_text (rows.Dir number) = codes "dir " ++ decimal number
-row_text (rows.Edge dir name number) = codes "edge " ++ decimal dir ++ codes " " ++ coded name ++ codes " " ++ decimal number
-row_text (rows.File number size bytes) = codes "file " ++ decimal number ++ codes " " ++ decimal size ++ data_text bytes
-row_text (rows.Fd fd file access append offset) = codes "fd " ++ decimal fd ++ codes " " ++ decimal file ++ codes " " ++ access_text access ++ append_text append ++ codes " " ++ decimal offset
-
-abbrev pub tree_text : List TreeRow → List ℕ
-tree_text rows = codes "tree " ++ decimal (length rows) ++ lines_text row_text rows
+use Rattle.ft_words.specs.Texts.{coded, lines_text}
+use Rattle.ft_script.specs.Texts.{txn_list}
 
 -- ---- the locks
 

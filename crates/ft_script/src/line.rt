@@ -19,4 +19,8 @@ pub enum Line {
 pub enum Report {
     /// What the tree holds.
     Tree,
+    /// Who has which lock.
+    Locks,
+    /// Who waits for whom.
+    Waits,
 }

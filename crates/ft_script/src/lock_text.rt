@@ -1,11 +1,12 @@
 // The text of locks.
 ghost use Rattle.std.specs.Prelude.{◌≡◌, ◌++◌, Some};
-ghost use Rattle.ft_script.specs.Reports.{locks_text, lock_text, lines_text, cell_text, mode_text, kind_text};
+ghost use Rattle.ft_words.specs.Texts.{lines_text};
+ghost use Rattle.ft_script.specs.Reports.{locks_text, lock_text, cell_text, mode_text, kind_text};
 
-use crate::text::Coded;
 use ft_calls::Mode;
 use ft_locks::{LockKind, LockLine};
 use ft_tree::Cell;
+use ft_words::Coded;
 use std::fmt;
 
 /// The locks.

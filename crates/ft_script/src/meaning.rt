@@ -1,15 +1,13 @@
 // From the bytes of a line to what it means.
 ghost use Rattle.std.specs.Prelude.{◌≡◌, IfOk, codes, if◌then◌else◌, Some, None};
 ghost use Rattle.std.specs.Str.{bytes_eq};
-ghost use Rattle.ft_script.specs.Requests.{meaning_of, asked_by, asked_by_txn, asked_by_word, lone_words, look_up, txn_request, Reads};
+ghost use Rattle.ft_script.specs.Requests.{meaning_of, asked_by, asked_by_txn, asked_by_word, lone_words, txn_request};
+ghost use Rattle.ft_words.specs.Calls.{look_up, Reads};
 
-use crate::calls::call_of;
 use crate::line::{Line, Report};
-use crate::numbers::number_of;
-use crate::unread::Unread;
-use crate::words::Words;
 use ft_base::Memory;
 use ft_core::{Request, TxnId};
+use ft_words::{Unread, Words, call_of, number_of};
 use std::alloc::Global;
 
 /// What a line means. Its line feed is no part of it.
@@ -18,11 +16,10 @@ use std::alloc::Global;
 pub fn meaning_of(alloc: Global, line: &[u8]) -> Result<Line, Memory>
     ensures { IfOk result (λ meaning. meaning ≡ meaning_of line.now) }
 {
-    let text = line.strip_suffix(b"\r".as_slice()).unwrap_or(line);
-    if matches!(text.first(), None | Some(b'#')) {
+    let Some(words) = Words::of_line(line) else {
         return Ok(Line::Silent);
-    }
-    match asked_by(alloc, Words::of(text)) {
+    };
+    match asked_by(alloc, words) {
         Ok(meaning) => Ok(meaning),
         Err(Unread::Misspelt) => Ok(Line::Bad),
         Err(Unread::NoMemory) => Err(Memory),
@@ -74,6 +71,10 @@ fn asked_alone(word: &[u8]) -> Option<Line>
         Some(Line::Request(Request::Begin))
     } else if word == b"tree".as_slice() {
         Some(Line::Report(Report::Tree))
+    } else if word == b"locks".as_slice() {
+        Some(Line::Report(Report::Locks))
+    } else if word == b"waits".as_slice() {
+        Some(Line::Report(Report::Waits))
     } else {
         None
     }

@@ -2,18 +2,18 @@
 ghost use Rattle.std.specs.Prelude.{◌≡◌, ◌≢◌, ◌⊎◌, ◌↔◌, ◌+◌, ◌<◌, ◌≤◌, ◌++◌, ◌∷◌, [], ℕ, List, length, take, vec_len, string_bytes, OnOk, OnErr, IfOk, IfErr, IsErrOf};
 ghost use Rattle.std.specs.Io.{ReadsAtMost};
 ghost use Rattle.std.specs.Io.KnownBytes.{Appends, Consumes, IsAtEnd, Keeps};
-ghost use Rattle.ft_script.specs.Script.{IsFreeOf};
+ghost use Rattle.ft_words.specs.Spelling.{IsFreeOf};
 ghost use Rattle.ft_script.specs.Requests.{meaning_of};
-ghost use Rattle.ft_script.specs.Runs.{Fits, GivesText, Plays, PlaysAll, Stopped, StopsAt, StopsLine, TakesAll};
+ghost use Rattle.ft_script.specs.Runs.{Fits, GivesText, IsLegal, Plays, PlaysAll, Stopped, StopsAt, StopsLine, TakesAll};
 
 use crate::line::Line;
 use crate::meaning::meaning_of;
 use crate::reporting::report_of;
-use crate::split::split_once;
 use crate::text::AnswerText;
 use crate::writing::write_out;
 use ft_base::Memory;
-use ft_core::Core;
+use ft_core::{Answer, Core, Request};
+use ft_words::split_once;
 use std::alloc::{AllocError, Global};
 use std::io::{ErrorKind, Read, Write};
 use thiserror::Error;
@@ -72,7 +72,8 @@ impl From<AllocError> for PlayFault {
 /// Runs the script that a reader gives, up to its end, and writes the replies.
 ///
 /// The script is read in pieces of up to 65,536 bytes. A line is carried out as soon as it has come
-/// whole, and its reply is written before the next line is carried out or more is read.
+/// whole, and its reply is written before the next line is carried out or more is read. After each commit and abort that is
+/// not refused, the core sweeps what it has let go.
 ///
 /// A fault ends the run early. All lines before the one at which it came were taken, and their replies written whole; no
 /// later line was taken.
@@ -227,8 +228,19 @@ fn reply_to(alloc: Global, line: &[u8], core: &mut Core) -> Result<String, Memor
         Line::Bad => Ok(String::from_str(alloc, "bad line\n")?),
         Line::Report(report) => report_of(alloc, report, core),
         Line::Request(request) => {
-            let answer = core.answer(request);
+            let answer = carry_out(core, request);
             Ok(format!(in alloc; "{}\n", AnswerText(&answer))?)
         }
     }
+}
+
+// Carries out a request. What a commit or an abort has let go is swept, where it is not refused.
+fn carry_out(core: &mut Core, request: Request) -> Answer
+    ensures { IsLegal core.old request result core.new }
+{
+    let answer = core.answer(request);
+    if matches!(answer, Answer::Committed | Answer::Aborted(_)) {
+        core.sweep();
+    }
+    answer
 }

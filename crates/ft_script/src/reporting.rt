@@ -1,11 +1,16 @@
 // Reports of how things stand.
-ghost use Rattle.std.specs.Prelude.{IfOk, string_bytes};
+ghost use Rattle.std.specs.Prelude.{◌≡◌, ◌++◌, ◌∷◌, [], IfOk, codes, string_bytes};
+ghost use Rattle.ft_waits.specs.Edges.{AreEdgesOf};
+ghost use Rattle.ft_waits.specs.Waits.{IsVerdict};
 ghost use Rattle.ft_script.specs.Runs.{IsReport};
 
 use crate::line::Report;
-use crate::tree_text::TreeText;
+use crate::lock_text::LocksText;
+use crate::wait_text::WaitsText;
 use ft_base::Memory;
 use ft_core::Core;
+use ft_waits::{Edge, Verdict, edges, judge};
+use ft_words::TreeText;
 use std::alloc::Global;
 
 /// A report, with its line feed. Want of memory for what it tells of is told in its place.
@@ -16,6 +21,8 @@ pub fn report_of(alloc: Global, report: Report, core: &Core) -> Result<String, M
 {
     match report {
         Report::Tree => tree_report(alloc, core),
+        Report::Locks => locks_report(alloc, core),
+        Report::Waits => waits_report(alloc, core),
     }
 }
 
@@ -25,6 +32,49 @@ fn tree_report(alloc: Global, core: &Core) -> Result<String, Memory>
 {
     match core.tree().rows() {
         Ok(rows) => Ok(format!(in alloc; "{}\n", TreeText(rows.as_slice()))?),
-        Err(Memory) => Ok(String::from_str(alloc, "refused Memory\n")?),
+        Err(Memory) => memory_report(alloc),
     }
+}
+
+// Who has which lock.
+fn locks_report(alloc: Global, core: &Core) -> Result<String, Memory>
+    ensures { IfOk result (λ text. IsReport core.now Report.Locks (string_bytes text)) }
+{
+    match core.lock_lines() {
+        Ok(locks) => Ok(format!(in alloc; "{}\n", LocksText(locks.as_slice()))?),
+        Err(_) => memory_report(alloc),
+    }
+}
+
+// Who waits for whom.
+fn waits_report(alloc: Global, core: &Core) -> Result<String, Memory>
+    ensures { IfOk result (λ text. IsReport core.now Report.Waits (string_bytes text)) }
+{
+    match judged_edges(alloc, core) {
+        Ok((edges, verdict)) => {
+            let text = WaitsText {
+                edges: edges.as_slice(),
+                verdict: &verdict,
+            };
+            Ok(format!(in alloc; "{text}\n")?)
+        }
+        Err(Memory) => memory_report(alloc),
+    }
+}
+
+// The waits-for edges, and the verdict on them.
+fn judged_edges(alloc: Global, core: &Core) -> Result<(Vec<Edge>, Verdict), Memory>
+    ensures edges { IfOk result (λ told. AreEdgesOf core.now told.0.items) }
+    ensures verdict { IfOk result (λ told. IsVerdict told.0.items told.1) }
+{
+    let edges = edges(alloc, core)?;
+    let verdict = judge(alloc, edges.as_slice())?;
+    Ok((edges, verdict))
+}
+
+// That there was no memory for what a report tells of.
+fn memory_report(alloc: Global) -> Result<String, Memory>
+    ensures { IfOk result (λ text. string_bytes text ≡ codes "refused Memory" ++ 10 ∷ []) }
+{
+    Ok(String::from_str(alloc, "refused Memory\n")?)
 }

@@ -1,17 +1,10 @@
 // The text of an answer.
 ghost use Rattle.std.specs.Prelude.{◌≡◌, Some};
-ghost use Rattle.ft_script.specs.Texts.{text_of, reply_text, coded, data_text, listing, listed, txn_list, fault_name};
+ghost use Rattle.ft_script.specs.Texts.{text_of, txn_list, fault_name};
 
-use ft_calls::Reply;
 use ft_core::{Answer, Fault, TxnId};
-use ft_path::Name;
-use ft_tree::Kind;
-use percent_encoding::{AsciiSet, CONTROLS, ascii_set, percent_encode};
+use ft_words::ReplyText;
 use std::fmt;
-
-/// The bytes that are percent-coded in printed names, beside those from 128 on: 0 to 32, `%` and
-/// 127.
-const CODED: AsciiSet = ascii_set!(CONTROLS.add(b' ').add(b'%'));
 
 /// The reply that tells of an answer, without its line feed.
 #[derive(Clone, Copy)]
@@ -28,96 +21,6 @@ impl fmt::Display for AnswerText<'_> {
             Answer::Dropped | Answer::Committed | Answer::Aborted(_) => f.write_str("ok"),
             Answer::Undone(stamp) => write!(f, "undone {stamp}"),
             Answer::Refused(fault) => write!(f, "refused {}", fault_name(*fault)),
-        }
-    }
-}
-
-/// What a call replied.
-#[derive(Clone, Copy)]
-pub struct ReplyText<'a>(pub &'a Reply);
-
-impl fmt::Display for ReplyText<'_> {
-    ghost output = { λ text. Some (reply_text text.0.now) };
-
-    fn fmt<W: fmt::Write>(&self, f: &mut fmt::Formatter<W>) -> fmt::Result {
-        match self.0 {
-            Reply::Done => f.write_str("ok"),
-            Reply::Names(names) => write!(f, "ok {}{}", names.len(), Listing(names.as_slice())),
-            Reply::Number(number) => write!(f, "ok {number}"),
-            Reply::Bytes(bytes) => write!(f, "ok {}{}", bytes.len(), Data(bytes.as_slice())),
-            Reply::Info {
-                kind: Kind::Dir,
-                number,
-                links,
-                size,
-            } => write!(f, "ok dir {number} {links} {size}"),
-            Reply::Info {
-                kind: Kind::File,
-                number,
-                links,
-                size,
-            } => write!(f, "ok file {number} {links} {size}"),
-            Reply::Failed(errno) => errno.fmt(f),
-        }
-    }
-}
-
-/// Bytes, percent-coded.
-#[derive(Clone, Copy)]
-pub struct Coded<'a>(pub &'a [u8]);
-
-impl fmt::Display for Coded<'_> {
-    ghost output = { λ bytes. Some (coded bytes.0.now) };
-
-    #[tactic(auto, using(crate::proofs::Coding::percent_encode_coded))]
-    fn fmt<W: fmt::Write>(&self, f: &mut fmt::Formatter<W>) -> fmt::Result {
-        let bytes = percent_encode(self.0, CODED);
-        write!(f, "{bytes}")
-    }
-}
-
-/// The bytes of a file, after a space where there are any.
-#[derive(Clone, Copy)]
-pub struct Data<'a>(pub &'a [u8]);
-
-impl fmt::Display for Data<'_> {
-    ghost output = { λ bytes. Some (data_text bytes.0.now) };
-
-    fn fmt<W: fmt::Write>(&self, f: &mut fmt::Formatter<W>) -> fmt::Result {
-        if self.0.is_empty() {
-            return Ok(());
-        }
-        write!(f, " {}", Coded(self.0))
-    }
-}
-
-// The names of a directory.
-#[derive(Clone, Copy)]
-struct Listing<'a>(&'a [(Name, Kind)]);
-
-impl fmt::Display for Listing<'_> {
-    ghost output = { λ list. Some (listing list.0.now) };
-
-    fn fmt<W: fmt::Write>(&self, f: &mut fmt::Formatter<W>) -> fmt::Result {
-        for (name, kind) in self.0 {
-            write!(f, "{}", Listed(name, *kind))?;
-        }
-        Ok(())
-    }
-}
-
-// One name of a directory, after a space.
-#[derive(Clone, Copy)]
-struct Listed<'a>(&'a Name, Kind);
-
-impl fmt::Display for Listed<'_> {
-    ghost output = { λ entry. Some (listed entry.0.now entry.1) };
-
-    fn fmt<W: fmt::Write>(&self, f: &mut fmt::Formatter<W>) -> fmt::Result {
-        let name = Coded(self.0.as_bytes());
-        match self.1 {
-            Kind::Dir => write!(f, " {name}/"),
-            Kind::File => write!(f, " {name}"),
         }
     }
 }

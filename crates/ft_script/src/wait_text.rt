@@ -1,6 +1,7 @@
 // The text of who waits for whom.
 ghost use Rattle.std.specs.Prelude.{◌≡◌, ◌++◌, Some};
-ghost use Rattle.ft_script.specs.Reports.{waits_text, edge_text, lines_text, rank_list, verdict_text};
+ghost use Rattle.ft_words.specs.Texts.{lines_text};
+ghost use Rattle.ft_script.specs.Reports.{waits_text, edge_text, rank_list, verdict_text};
 
 use crate::text::TxnList;
 use ft_core::TxnId;

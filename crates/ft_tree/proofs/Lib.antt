@@ -7,3 +7,9 @@ pub mod CellViews
 pub mod TidyRows
 pub mod Clones
 pub mod Fresh
+pub mod Splits
+pub mod Gathered
+pub mod Opened
+pub mod Swept
+pub mod SweptTidy
+pub mod Sweeps

@@ -10,3 +10,5 @@ pub mod Plain
 pub mod Tidy
 pub mod Sound
 pub mod Rows
+pub mod Sweep
+pub mod Openings

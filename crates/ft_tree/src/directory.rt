@@ -1,5 +1,5 @@
 // One directory: the directory that has its entry, and the places of its entries.
-ghost use Rattle.std.specs.Prelude.{◌≡◌, ◌↔◌, [], ◌++◌, IsTrue, IsOk, is_none, IsSome, IfOk, OnOk, OnErr, Option};
+ghost use Rattle.std.specs.Prelude.{◌≡◌, ◌↔◌, [], ◌++◌, ◌==◌, ◌&&◌, IsTrue, IsOk, is_some, is_none, IsSome, IfOk, OnOk, OnErr, Option};
 ghost use Rattle.std.specs.List.{list_all, filter_map};
 ghost use Rattle.std.specs.Ordering.{nat_cmp};
 ghost use Rattle.std.specs.Cmp.Lexicographic.{slice_cmp};
@@ -7,6 +7,7 @@ ghost use Rattle.std.specs.BTreeMap.{IsOrdered, values};
 ghost use Rattle.std.specs.FinMap as map;
 ghost use Rattle.ft_tree.specs.Nodes.{with_kinds};
 ghost use Rattle.ft_tree.specs.Rows.{named_rows};
+ghost use Rattle.std.specs.Option.{option_flatten};
 ghost use Rattle.ft_tree.specs.Cells.{DirCells, coded_dir_cells, dir_entry, put_dir_entry, put_dir_parent, without_dir_place, HasPlace, filled, dir_names};
 
 use crate::node::{Kind, Node};
@@ -88,6 +89,20 @@ impl Directory {
         self.entries.remove(name);
     }
 
+    /// Whether a name has a place, and is no entry.
+    pub(crate) fn has_empty(&self, name: &Name) -> bool
+        ensures { result ≡ (map.contains_key self.now.entries name.now && is_none (dir_entry self.now name.now)) }
+    {
+        is_empty_place(self.entries.get(name).copied())
+    }
+
+    /// Whether no entry has a place.
+    pub(crate) fn has_no_place(&self) -> bool
+        ensures { result ≡ (map.len self.now.entries == 0) }
+    {
+        self.entries.is_empty()
+    }
+
     /// Its names in order, with the kinds of what they lead to.
     pub(crate) fn names(&self, alloc: Global) -> Result<Vec<(Name, Kind)>, Memory>
         ensures { IfOk result (λ names. names.items ≡ with_kinds (dir_names self.now)) }
@@ -120,6 +135,13 @@ impl Clone for Directory {
             entries,
         })
     }
+}
+
+/// Whether there is a place, and nothing in it.
+fn is_empty_place(place: Option<Option<Node>>) -> bool
+    ensures { result ≡ (is_some place && is_none (option_flatten place)) }
+{
+    matches!(place, Some(None))
 }
 
 /// Whether each place is empty.

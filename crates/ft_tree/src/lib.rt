@@ -8,6 +8,7 @@
 #![tactic(auto)]
 
 mod cell;
+mod descriptions;
 mod directory;
 mod file;
 mod keeps;

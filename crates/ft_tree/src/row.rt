@@ -6,9 +6,10 @@ ghost use Rattle.ft_tree.specs.Cells.{dir_names, filled};
 ghost use Rattle.ft_tree.specs.Rows.{dir_rows, edge_rows, named_rows, file_rows, open_rows};
 ghost use Rattle.ft_tree.specs.Tidy.{dirs_from, edges_from, files_from, opens_from};
 
+use crate::descriptions::Descriptions;
 use crate::directory::Directory;
 use crate::file::File;
-use crate::open_file::{AccessMode, OpenFile, is_open};
+use crate::open_file::{AccessMode, OpenFile};
 use crate::tree::ROOT;
 use ft_base::{Memory, Sequence, Table};
 use ft_path::Name;
@@ -78,12 +79,12 @@ pub(crate) fn push_files(
     alloc: Global,
     rows: &mut Vec<TreeRow>,
     files: &Table<File>,
-    opens: &Table<Option<OpenFile>>,
+    opens: &Descriptions,
 ) -> Result<(), Memory>
     ensures { OnOk result (rows.new.items ≡ rows.old.items ++ file_rows (files_from opens.now (finite.entries files.now))) }
 {
     for (number, file) in files.sorted(alloc)? {
-        if file.links() > 0 || is_open(opens, number) {
+        if file.links() > 0 || opens.is_open(number) {
             let size = file.body().len();
             let bytes = file.body().read_at(0, size)?;
             rows.push(TreeRow::File {

@@ -1,5 +1,5 @@
 // A tree by its cells.
-ghost use Rattle.std.specs.Prelude.{◌≡◌, ◌↔◌, ◌≤◌, ℕ, [], length, IsTrue, IsOk, IfOk, OnOk, OnErr, Option};
+ghost use Rattle.std.specs.Prelude.{◌≡◌, ◌↔◌, ◌<◌, ◌≤◌, ◌+◌, ◌-◌, ◌^◌, ℕ, [], length, IsTrue, IsOk, IfOk, OnOk, OnErr, Option};
 ghost use Rattle.std.specs.Option.{option_copied};
 ghost use Rattle.std.specs.FinMap as map;
 ghost use Rattle.ft_tree.specs.Nodes.{with_kinds};
@@ -14,12 +14,16 @@ ghost use Rattle.ft_tree.specs.Held.{place_at, without_place};
 ghost use Rattle.ft_tree.specs.Rows.{rows_of};
 ghost use Rattle.ft_tree.specs.Tidy.{tidy};
 ghost use Rattle.ft_tree.specs.Sound.{AreSoundCells, IsFree};
+ghost use Rattle.std.specs.FinSet as set;
+ghost use Rattle.ft_tree.specs.Sweep.{is_useless, is_spare, one_if, at_place, drop_spare, swept_at, dropped_at, places_in, IsSwept, IsSweptClean, IsAccounted, HasNoneToDrop};
 
 use crate::cell::Cell;
+use crate::descriptions::Descriptions;
 use crate::directory::Directory;
 use crate::file::File;
+use crate::keeps::Keeps;
 use crate::node::{Found, Kind, Node, Spot};
-use crate::open_file::{OpenFile, is_open};
+use crate::open_file::OpenFile;
 use crate::reader::{Reader, walk};
 use crate::row::{TreeRow, push_dirs, push_edges, push_files, push_opens};
 use ft_base::{Memory, Table};
@@ -44,7 +48,7 @@ pub struct Tree {
     alloc: Global,
     directories: Table<Directory>,
     files: Table<File>,
-    opens: Table<Option<OpenFile>>,
+    opens: Descriptions,
 }
 
 impl Model for Tree {
@@ -71,7 +75,7 @@ impl Tree {
             alloc,
             directories,
             files: Table::new(alloc),
-            opens: Table::new(alloc),
+            opens: Descriptions::new(alloc),
         })
     }
 
@@ -138,7 +142,7 @@ impl Tree {
     pub fn open_file(&self, fd: u64) -> Option<OpenFile>
         ensures { result ≡ open_of self.now fd }
     {
-        self.opens.get(fd).copied().flatten()
+        self.opens.get(fd)
     }
 
     /// How many directories are stored: those that are there, and those whose place was emptied.
@@ -312,7 +316,7 @@ impl Tree {
         ensures err { OnErr result (self.new ≡ self.old) }
         ensures place { HasOpenPlace self.old fd → IsOk result }
     {
-        self.opens.insert(fd, to)
+        self.opens.set(fd, to)
     }
 
     /// Takes the place of a cell away, with all that stands in it: a directory's with its entries,
@@ -333,11 +337,117 @@ impl Tree {
             }
             Cell::Links(file) | Cell::Bytes(file) => {
                 self.files.remove(*file);
+                self.opens.forget(*file);
             }
             Cell::Fd(fd) => {
                 self.opens.remove(*fd);
             }
         }
+    }
+
+    /// Drops the places that are of no use any more and that nobody keeps, where they are those of
+    /// cells that were let go: of entries and descriptors the empty ones, of directories those that
+    /// are not there and have no place of an entry, and of files those that neither an entry nor a
+    /// description names. A directory's place is kept while one of its entries' places is, and a
+    /// file's while its links or its bytes are. The tree stays what it is. Answers how many places it
+    /// dropped, or the largest number where there were more. Takes no memory, and the time of what was
+    /// let go.
+    ///
+    /// POSIX.1-2017, System Interfaces, unlink and close: a file that no name and no description
+    /// leads to is gone.
+    pub fn sweep<K: Keeps>(&mut self, keeps: &mut K) -> u64
+        ensures swept { IsSwept (K.kept keeps.old) self.old self.new }
+        ensures clean { IsSweptClean (K.kept keeps.old) (set.contains (K.let_go keeps.old)) self.old self.new }
+        ensures none_left { IsAccounted (K.kept keeps.old) (set.contains (K.let_go keeps.old)) self.old → HasNoneToDrop (K.kept keeps.old) self.new }
+        ensures tidy { tidy self.new ≡ tidy self.old }
+        ensures sound { AreSoundCells self.old → AreSoundCells self.new }
+        ensures told { keeps.new ≡ K.all_told keeps.old }
+        ensures count { result < 2 ^ 64 - 1 → places_in self.old ≡ result + places_in self.new }
+    {
+        let mut dropped: u64 = 0;
+        while let Some(cell) = keeps.take_let_go() {
+            dropped = dropped.saturating_add(self.sweep_cell(keeps, &cell));
+        }
+        dropped
+    }
+
+    /// Drops what is of no use at a cell that was let go, and the place of a directory whose last
+    /// place went so.
+    fn sweep_cell<K: Keeps>(&mut self, keeps: &K, cell: &Cell) -> u64
+        ensures cells { self.new ≡ swept_at (K.kept keeps.now) self.old cell.now }
+        ensures count { result ≡ dropped_at (K.kept keeps.now) self.old cell.now }
+    {
+        match cell {
+            Cell::Entry(dir, _) => {
+                let dropped = self.drop_spare(keeps, cell);
+                dropped + self.drop_spare(keeps, &Cell::Parent(*dir))
+            }
+            Cell::Names(dir) => self.drop_spare(keeps, &Cell::Parent(*dir)),
+            _ => self.drop_spare(keeps, cell),
+        }
+    }
+
+    /// Drops the place of a cell where it is of no use and nobody keeps it.
+    fn drop_spare<K: Keeps>(&mut self, keeps: &K, cell: &Cell) -> u64
+        ensures cells { self.new ≡ drop_spare (K.kept keeps.now) self.old cell.now }
+        ensures count { result ≡ one_if (is_spare (K.kept keeps.now) self.old cell.now) }
+        ensures one { result ≤ 1 }
+    {
+        if !self.is_useless(cell) || keeps_place(keeps, cell) {
+            return 0;
+        }
+        self.drop_place(cell);
+        1
+    }
+
+    /// Whether a cell has its place, and that is of no use.
+    fn is_useless(&self, cell: &Cell) -> bool
+        ensures { result ≡ is_useless self.now cell.now }
+    {
+        match cell {
+            Cell::Entry(dir, name) => self.is_empty_entry(*dir, name),
+            Cell::Names(dir) => self.is_bare_dir(*dir),
+            Cell::Parent(dir) => self.is_bare_dir(*dir),
+            Cell::Links(file) => self.is_dead_file(*file),
+            Cell::Bytes(file) => self.is_dead_file(*file),
+            Cell::Fd(fd) => self.is_empty_descriptor(*fd),
+        }
+    }
+
+    /// Whether a name has a place in a directory, and is no entry of it.
+    fn is_empty_entry(&self, dir: u64, name: &Name) -> bool
+        ensures { result ≡ is_useless self.now (Entry dir name.now) }
+    {
+        match self.directories.get(dir) {
+            Some(directory) => directory.has_empty(name),
+            None => false,
+        }
+    }
+
+    /// Whether a directory is stored, but is not there and has no place of an entry.
+    fn is_bare_dir(&self, dir: u64) -> bool
+        ensures { result ≡ is_useless self.now (Parent dir) }
+    {
+        match self.directories.get(dir) {
+            Some(directory) => {
+                dir != ROOT && directory.parent().is_none() && directory.has_no_place()
+            }
+            None => false,
+        }
+    }
+
+    /// Whether a file is stored, and neither an entry nor a description names it.
+    fn is_dead_file(&self, file: u64) -> bool
+        ensures { result ≡ is_useless self.now (Links file) }
+    {
+        self.files.contains(file) && !self.has_file(file)
+    }
+
+    /// Whether a descriptor has a place, and is not open.
+    fn is_empty_descriptor(&self, fd: u64) -> bool
+        ensures { result ≡ is_useless self.now (Fd fd) }
+    {
+        matches!(self.opens.places().get(fd), Some(None))
     }
 
     /// What a path leads to, with the refusals of `walk`. A missing last name is a place without
@@ -369,7 +479,7 @@ impl Tree {
         push_dirs(self.alloc, &mut rows, &self.directories)?;
         push_edges(self.alloc, &mut rows, &self.directories)?;
         push_files(self.alloc, &mut rows, &self.files, &self.opens)?;
-        push_opens(self.alloc, &mut rows, &self.opens)?;
+        push_opens(self.alloc, &mut rows, self.opens.places())?;
         Ok(rows)
     }
 
@@ -403,7 +513,21 @@ impl Tree {
     fn has_file(&self, number: u64) -> bool
         ensures { result ≡ has_file self.now number }
     {
-        self.links(number) > 0 || is_open(&self.opens, number)
+        self.links(number) > 0 || self.opens.is_open(number)
+    }
+}
+
+/// Whether one of the cells that have their place with this one is kept.
+fn keeps_place<K: Keeps>(keeps: &K, cell: &Cell) -> bool
+    ensures { result ≡ at_place (K.kept keeps.now) cell.now }
+{
+    match cell {
+        Cell::Entry(_, _) => keeps.keeps(cell),
+        Cell::Names(dir) => keeps.keeps(cell) || keeps.keeps(&Cell::Parent(*dir)),
+        Cell::Parent(dir) => keeps.keeps(&Cell::Names(*dir)) || keeps.keeps(cell),
+        Cell::Links(file) => keeps.keeps(cell) || keeps.keeps(&Cell::Bytes(*file)),
+        Cell::Bytes(file) => keeps.keeps(&Cell::Links(*file)) || keeps.keeps(cell),
+        Cell::Fd(_) => keeps.keeps(cell),
     }
 }
 

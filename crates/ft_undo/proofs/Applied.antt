@@ -7,7 +7,7 @@ use Rattle.ft_calls.specs.declared.intent.Edit.{Edit}
 use Rattle.ft_undo.specs.declared.undo.Back.{Back}
 use Rattle.ft_calls.specs.Accesses.{written_cell}
 use Rattle.ft_calls.specs.Comes.{writes_of}
-use Rattle.ft_calls.specs.Posix.{as_change, posix}
+use Rattle.ft_calls.specs.Posix.{posix}
 use Rattle.ft_calls.specs.Stored.{put_all}
 use Rattle.ft_calls.specs.Edits.{edit_cell, Apart, EditingLaw, edited, CanEditAll}
 use Rattle.ft_undo.specs.Undone.{given_back, CanGiveAllBack, AreAsLeft, IsApplied, restored, CanRestoreAll}
@@ -24,8 +24,8 @@ module _ (editing : EditingLaw) (setting : SettingLaw) (old : Cells) (edits : Li
   refused (Err memory) h = h
 
   -- what takes them back is the inverse
-  pub inverse : (r : Result (List Back) Memory) → IsApplied old edits new r → IfOk r (λ undo. map as_change (map given_back undo) ≡ before posix old (map as_change (writes_of old edits)))
-  inverse (Ok undo) h = ap (λ bs. map as_change (map given_back bs)) h.1 ∙ undo-before editing old edits apart
+  pub inverse : (r : Result (List Back) Memory) → IsApplied old edits new r → IfOk r (λ undo. map given_back undo ≡ before posix old (writes_of old edits))
+  inverse (Ok undo) h = ap (map given_back) h.1 ∙ undo-before editing old edits apart
   inverse (Err memory) h = tt
 
   -- wherever the cells that were written are as they were left

@@ -11,13 +11,13 @@ use Rattle.ft_tree.specs.Cells.{Cells, DirCells, FileCells, no_dir, no_file, ent
 use Rattle.ft_tree.specs.Held.{Holds, held, place_at, IsStored}
 use Rattle.ft_calls.specs.declared.intent.Edit.{Edit}
 use Rattle.ft_calls.specs.declared.intent.Edit.TheVariants.{Entry, Parent, Links, Overwrite, Resize, Open}
-use Rattle.ft_calls.specs.Outcomes.{Write, SetEntry, SetParent, SetLinks, SetBytes, SetOpen}
+use Rattle.ft_calls.specs.Outcomes.{Write, sets}
 use Rattle.ft_calls.specs.Accesses.{written_cell}
 use Rattle.ft_calls.specs.Stored.{put}
 use Rattle.ft_calls.specs.Comes.{write_of, writes_of}
 use Rattle.ft_calls.specs.Edits.{edited, CanEdit, CanEditAll, edit_cell, IsOther, Apart, SameOn, EditingLaw}
 use Rattle.ft_laws.specs.Effects.{before}
-use Rattle.ft_calls.specs.Posix.{as_change, posix}
+use Rattle.ft_calls.specs.Posix.{posix}
 use Rattle.ft_calls.specs.CellLaws.{SettingLaw, RestoringLaw}
 use Rattle.ft_undo.specs.declared.undo.Back.{Back}
 use Rattle.ft_undo.specs.declared.undo.Back.TheVariants as back
@@ -25,12 +25,12 @@ use Rattle.ft_undo.specs.Undone.{back_of, backs_of, given_back, CanGiveBack, Can
 
 -- what takes an edit back gives its cell the value that it had
 abbrev pub was_in : Cells → Edit → Write
-was_in s (Entry d name to) = SetEntry d name (entry_of s d name)
-was_in s (Parent d to) = SetParent d (parent_of s d)
-was_in s (Links i to) = SetLinks i (links_of s i)
-was_in s (Overwrite i at bytes) = SetBytes i (bytes_of s i)
-was_in s (Resize i size) = SetBytes i (bytes_of s i)
-was_in s (Open f to) = SetOpen f (open_of s f)
+was_in s (Entry d name to) = sets (cell.Entry d name) (entry_of s d name)
+was_in s (Parent d to) = sets (cell.Parent d) (parent_of s d)
+was_in s (Links i to) = sets (cell.Links i) (links_of s i)
+was_in s (Overwrite i at bytes) = sets (cell.Bytes i) (bytes_of s i)
+was_in s (Resize i size) = sets (cell.Bytes i) (bytes_of s i)
+was_in s (Open f to) = sets (cell.Fd f) (open_of s f)
 
 parent-place : (o : Option DirCells) → option_flatten (option_map (λ (x : DirCells). x.parent) o) ≡ (unwrap_or o no_dir).parent
 parent-place None = refl
@@ -42,8 +42,8 @@ links-place (Some x) = refl
 
 pub back-was : (s : Cells) (e : Edit) → given_back (back_of s e) ≡ was_in s e
 back-was s (Entry d name to) = refl
-back-was s (Parent d to) = ap (SetParent d) (parent-place (get s.directories d))
-back-was s (Links i to) = ap (SetLinks i) (links-place (get s.files i))
+back-was s (Parent d to) = ap (sets (cell.Parent d)) (parent-place (get s.directories d))
+back-was s (Links i to) = ap (sets (cell.Links i)) (links-place (get s.files i))
 back-was s (Overwrite i at bytes) = refl
 back-was s (Resize i size) = refl
 back-was s (Open f to) = refl
@@ -58,12 +58,12 @@ back-cell s (Open f to) = refl
 
 -- the value that a cell had depends on it alone
 was-same : (s t : Cells) (e : Edit) → held s (edit_cell e) ≡ held t (edit_cell e) → was_in s e ≡ was_in t e
-was-same s t (Entry d name to) h = ap (SetEntry d name) h
-was-same s t (Parent d to) h = ap (SetParent d) h
-was-same s t (Links i to) h = ap (SetLinks i) h
-was-same s t (Overwrite i at bytes) h = ap (SetBytes i) h
-was-same s t (Resize i size) h = ap (SetBytes i) h
-was-same s t (Open f to) h = ap (SetOpen f) h
+was-same s t (Entry d name to) h = ap (sets (cell.Entry d name)) h
+was-same s t (Parent d to) h = ap (sets (cell.Parent d)) h
+was-same s t (Links i to) h = ap (sets (cell.Links i)) h
+was-same s t (Overwrite i at bytes) h = ap (sets (cell.Bytes i)) h
+was-same s t (Resize i size) h = ap (sets (cell.Bytes i)) h
+was-same s t (Open f to) h = ap (sets (cell.Fd f)) h
 
 -- each of them holds what it held
 pub same-on : (s : Cells) (es : List Edit) → SameOn s s es
@@ -92,7 +92,7 @@ module _ (editing : EditingLaw) where
       ∙ ap (λ ws. was_in old e ∷ ws) (backs-before old (put s (write_of s e)) es apart.1 (editing.undisturbed s old e es apart.0 h.1))
 
 -- the values from before, as calls in the abstract have them
-was-before : (cells : Cells) (e : Edit) → as_change (was_in cells e) ≡ record { cell = (as_change (write_of cells e)).cell; value = held cells (as_change (write_of cells e)).cell }
+was-before : (cells : Cells) (e : Edit) → was_in cells e ≡ sets (write_of cells e).cell (held cells (write_of cells e).cell)
 was-before cells (Entry d name to) = refl
 was-before cells (Parent d to) = refl
 was-before cells (Links i to) = refl
@@ -100,13 +100,13 @@ was-before cells (Overwrite i at bytes) = refl
 was-before cells (Resize i size) = refl
 was-before cells (Open f to) = refl
 
-was-all : (cells : Cells) (es : List Edit) → map as_change (map (was_in cells) es) ≡ before posix cells (map as_change (writes_of cells es))
+was-all : (cells : Cells) (es : List Edit) → map (was_in cells) es ≡ before posix cells (writes_of cells es)
 was-all cells [] = refl
 was-all cells (e ∷ es) = λ i. was-before cells e i ∷ was-all cells es i
 
 -- what takes edits back is the inverse
-pub undo-before : EditingLaw → (cells : Cells) (es : List Edit) → Apart es → map as_change (map given_back (backs_of cells es)) ≡ before posix cells (map as_change (writes_of cells es))
-undo-before editing cells es apart = ap (map as_change) (backs-before editing cells cells es apart (same-on cells es)) ∙ was-all cells es
+pub undo-before : EditingLaw → (cells : Cells) (es : List Edit) → Apart es → map given_back (backs_of cells es) ≡ before posix cells (writes_of cells es)
+undo-before editing cells es apart = backs-before editing cells cells es apart (same-on cells es) ∙ was-all cells es
 
 -- the test of cells is symmetric
 same_cell-sym : (x y : Cell) → same_cell x y ≡ same_cell y x
@@ -120,19 +120,11 @@ body-there (Some x) h = refl
 module _ (setting : SettingLaw) where
   -- a write keeps every place
   stays : (t : Cells) (w : Write) (c : Cell) → IsStored t c → IsStored (put t w) c
-  stays t (SetEntry d name to) c h = setting.stays t (cell.Entry d name) to c h
-  stays t (SetParent d to) c h = setting.stays t (cell.Parent d) to c h
-  stays t (SetLinks i to) c h = setting.stays t (cell.Links i) to c h
-  stays t (SetBytes i to) c h = setting.stays t (cell.Bytes i) to c h
-  stays t (SetOpen f to) c h = setting.stays t (cell.Fd f) to c h
+  stays t w c h = setting.stays t w.cell w.value c h
 
   -- and the other cells
   put-kept : (t : Cells) (w : Write) (c : Cell) → same_cell (written_cell w) c ≡ false → held (put t w) c ≡ held t c
-  put-kept t (SetEntry d name to) c h = setting.kept t (cell.Entry d name) to c h
-  put-kept t (SetParent d to) c h = setting.kept t (cell.Parent d) to c h
-  put-kept t (SetLinks i to) c h = setting.kept t (cell.Links i) to c h
-  put-kept t (SetBytes i to) c h = setting.kept t (cell.Bytes i) to c h
-  put-kept t (SetOpen f to) c h = setting.kept t (cell.Fd f) to c h
+  put-kept t w c h = setting.kept t w.cell w.value c h
 
   -- What can be taken back.
 
@@ -206,27 +198,27 @@ module _ (setting : SettingLaw) (restoring : RestoringLaw) where
   -- As if it had never been.
 
   -- an edit that was made and is taken back
-  restore-edit : (s : Cells) (e : Edit) → CanEdit s e → restore (put s (write_of s e)) (back_of s e) ≡ s
+  pub restore-edit : (s : Cells) (e : Edit) → CanEdit s e → restore (put s (write_of s e)) (back_of s e) ≡ s
   restore-edit s (Entry d name to) can = by_place (place_at s (cell.Entry d name)) refl
     where
-      by_place : (p : Option (Holds (cell.Entry d name))) → place_at s (cell.Entry d name) ≡ p → restore (put s (SetEntry d name to)) (back.Entry d name p) ≡ s
+      by_place : (p : Option (Holds (cell.Entry d name))) → place_at s (cell.Entry d name) ≡ p → restore (put s (sets (cell.Entry d name) to)) (back.Entry d name p) ≡ s
       by_place None is = restoring.new s (cell.Entry d name) to can is
       by_place (Some was) is = restoring.again s (cell.Entry d name) to was is
   restore-edit s (Parent d to) can = by_place (place_at s (cell.Parent d)) refl
     where
-      by_place : (p : Option (Option ℕ)) → place_at s (cell.Parent d) ≡ p → restore (put s (SetParent d to)) (back.Parent d p) ≡ s
+      by_place : (p : Option (Option ℕ)) → place_at s (cell.Parent d) ≡ p → restore (put s (sets (cell.Parent d) to)) (back.Parent d p) ≡ s
       by_place None is = restoring.new s (cell.Parent d) to tt is
       by_place (Some was) is = restoring.again s (cell.Parent d) to was is
   restore-edit s (Links i to) can = by_place (place_at s (cell.Links i)) refl
     where
-      by_place : (p : Option ℕ) → place_at s (cell.Links i) ≡ p → restore (put s (SetLinks i to)) (back.Links i p) ≡ s
+      by_place : (p : Option ℕ) → place_at s (cell.Links i) ≡ p → restore (put s (sets (cell.Links i) to)) (back.Links i p) ≡ s
       by_place None is = restoring.new s (cell.Links i) to tt is
       by_place (Some was) is = restoring.again s (cell.Links i) to was is
   restore-edit s (Overwrite i at bytes) can = restoring.again s (cell.Bytes i) _ (bytes_of s i) (body-there (get s.files i) can.0)
   restore-edit s (Resize i size) can = restoring.again s (cell.Bytes i) _ (bytes_of s i) (body-there (get s.files i) can.0)
   restore-edit s (Open f to) can = by_place (place_at s (cell.Fd f)) refl
     where
-      by_place : (p : Option (Holds (cell.Fd f))) → place_at s (cell.Fd f) ≡ p → restore (put s (SetOpen f to)) (back.Open f p) ≡ s
+      by_place : (p : Option (Holds (cell.Fd f))) → place_at s (cell.Fd f) ≡ p → restore (put s (sets (cell.Fd f) to)) (back.Open f p) ≡ s
       by_place None is = restoring.new s (cell.Fd f) to tt is
       by_place (Some was) is = restoring.again s (cell.Fd f) to was is
 

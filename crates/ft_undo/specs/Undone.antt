@@ -9,7 +9,7 @@ use Rattle.ft_tree.specs.Cells.{Cells, bytes_of, put_entry, put_parent, put_link
 use Rattle.ft_tree.specs.Held.{held, place_at, without_place, IsStored}
 use Rattle.ft_calls.specs.declared.intent.Edit.{Edit}
 use Rattle.ft_calls.specs.declared.intent.Edit.TheVariants.{Entry, Parent, Links, Overwrite, Resize, Open}
-use Rattle.ft_calls.specs.Outcomes.{Write, SetEntry, SetParent, SetLinks, SetBytes, SetOpen}
+use Rattle.ft_calls.specs.Outcomes.{Write, sets}
 use Rattle.ft_calls.specs.Stored.{put}
 use Rattle.ft_calls.specs.Comes.{write_of}
 use Rattle.ft_calls.specs.Edits.{edited}
@@ -31,11 +31,11 @@ backs_of cells (e ∷ es) = back_of cells e ∷ backs_of (put cells (write_of ce
 
 -- the write that takes an edit back; a place that was new is left empty
 abbrev pub given_back : Back → Write
-given_back (back.Entry d name was) = SetEntry d name (option_flatten was)
-given_back (back.Parent d was) = SetParent d (option_flatten was)
-given_back (back.Links i was) = SetLinks i (unwrap_or was 0)
-given_back (back.Bytes i change) = SetBytes i change.before
-given_back (back.Open f was) = SetOpen f (option_flatten was)
+given_back (back.Entry d name was) = sets (cell.Entry d name) (option_flatten was)
+given_back (back.Parent d was) = sets (cell.Parent d) (option_flatten was)
+given_back (back.Links i was) = sets (cell.Links i) (unwrap_or was 0)
+given_back (back.Bytes i change) = sets (cell.Bytes i) change.before
+given_back (back.Open f was) = sets (cell.Fd f) (option_flatten was)
 
 -- the cell has its place, and a file's bytes are as the change left them
 abbrev pub CanGiveBack : Cells → Back → Type 0

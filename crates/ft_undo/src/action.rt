@@ -7,7 +7,7 @@ ghost use Rattle.ft_calls.specs.Exec.{exec};
 ghost use Rattle.ft_calls.specs.Stored.{outcome, after};
 ghost use Rattle.ft_calls.specs.Accesses.{written_cell};
 ghost use Rattle.ft_calls.specs.Perform.{OnlyTells};
-ghost use Rattle.ft_calls.specs.Posix.{as_change, posix};
+ghost use Rattle.ft_calls.specs.Posix.{posix};
 ghost use Rattle.ft_undo.specs.Undone.{given_back, CanGiveAllBack, AreAsLeft};
 
 use crate::undo::{Undo, apply};
@@ -51,7 +51,7 @@ pub fn perform(
 
     // The inverse, as calls in the abstract have it, and where it may be put to a tree.
     ensures left { OnOk result (AreAsLeft tree.new tree.new (map written_cell (outcome tree.old stamp call.now).writes)) }
-    ensures inverse { IfOk result (λ done. map as_change (map given_back done.1) ≡ before posix tree.old (map as_change (outcome tree.old stamp call.now).writes)) }
+    ensures inverse { IfOk result (λ done. map given_back done.1 ≡ before posix tree.old (outcome tree.old stamp call.now).writes) }
     ensures may_revert { IfOk result (λ done. (cells : Cells) → AreAsLeft cells tree.new (map written_cell (outcome tree.old stamp call.now).writes) → CanGiveAllBack cells done.1) }
 {
     soundness();

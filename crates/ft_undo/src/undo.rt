@@ -4,12 +4,12 @@ ghost use Rattle.ft_calls.specs.Stored.{put, put_all};
 ghost use Rattle.ft_laws.specs.Effects.{before};
 ghost use Rattle.ft_tree.specs.Cells.{Cells};
 ghost use Rattle.ft_calls.specs.Accesses.{written_cell};
-ghost use Rattle.ft_calls.specs.Posix.{as_change, posix};
+ghost use Rattle.ft_calls.specs.Posix.{posix};
 ghost use Rattle.ft_calls.specs.Comes.{write_of, writes_of};
 ghost use Rattle.ft_calls.specs.Edits.{CanEdit, CanEditAll, Apart};
 ghost use Rattle.ft_undo.specs.Undone.{back_of, given_back, restore, restored, CanGiveBack, CanGiveAllBack, CanRestoreAll, AreAsLeft, IsApplied};
 
-use ft_base::Memory;
+use ft_base::{Few, Memory};
 use ft_body::BodyUndo;
 use ft_calls::laws::{editing, restoring, setting};
 use ft_calls::{Edit, Edits, Intent};
@@ -52,7 +52,7 @@ pub enum Back {
 /// What takes a call back. It takes no memory to do so.
 #[derive(Drop)]
 pub struct Undo {
-    items: Vec<Back>,
+    items: Few<Back>,
 }
 
 impl Model for Undo {
@@ -61,7 +61,7 @@ impl Model for Undo {
 
     ghost Value = { List Back };
 
-    ghost view = { λ a. a.items.items };
+    ghost view = { λ a. a.items };
 }
 
 impl Undo {
@@ -70,7 +70,7 @@ impl Undo {
         ensures { result ≡ [] }
     {
         Undo {
-            items: Vec::new(alloc),
+            items: Few::new(alloc),
         }
     }
 
@@ -82,9 +82,13 @@ impl Undo {
         ensures err { OnErr result (tree.new ≡ tree.old) }
         ensures none { OnErr result (self.new ≡ self.old) }
     {
-        self.items.reserve(1)?;
+        setting();
+        restoring();
         let back = set(tree, edit)?;
-        self.items.push_reserved(back);
+        if let Err(failed) = self.items.push(back) {
+            restore(tree, failed.value);
+            return Err(Memory);
+        }
         Ok(())
     }
 
@@ -113,7 +117,7 @@ pub fn apply(alloc: Global, tree: &mut Tree, intent: Intent<'_>) -> Result<Undo,
     ensures made { OnOk result (tree.new ≡ put_all tree.old (writes_of tree.old intent.entry.edits)) }
     ensures refused { OnErr result (tree.new ≡ tree.old) }
     ensures left { OnOk result (AreAsLeft tree.new tree.new (map written_cell (writes_of tree.old intent.entry.edits))) }
-    ensures inverse { IfOk result (λ undo. map as_change (map given_back undo) ≡ before posix tree.old (map as_change (writes_of tree.old intent.entry.edits))) }
+    ensures inverse { IfOk result (λ undo. map given_back undo ≡ before posix tree.old (writes_of tree.old intent.entry.edits)) }
     ensures may_revert { IfOk result (λ undo. (cells : Cells) → AreAsLeft cells tree.new (map written_cell (writes_of tree.old intent.entry.edits)) → CanGiveAllBack cells undo) }
     ensures can_take_back { IfOk result (λ undo. CanRestoreAll tree.new undo) }
     ensures taken_back { IfOk result (λ undo. restored tree.new undo ≡ tree.old) }
@@ -133,7 +137,8 @@ fn make(alloc: Global, tree: &mut Tree, edits: Edits<'_>) -> Result<Undo, Memory
     setting();
     restoring();
     let mut undo = Undo::new(alloc);
-    for edit in edits.into_items() {
+    let mut items = edits.into_items();
+    while let Some(edit) = items.pop_front() {
         if let Err(memory) = undo.set(tree, edit) {
             undo.take_back(tree);
             return Err(memory);
@@ -148,8 +153,8 @@ pub fn revert(tree: &mut Tree, undo: Undo)
     requires { CanGiveAllBack tree.old undo }
     ensures { tree.new ≡ put_all tree.old (map given_back undo) }
 {
-    let Undo { items } = undo;
-    for back in items {
+    let Undo { mut items } = undo;
+    while let Some(back) = items.pop_front() {
         give_back(tree, back);
     }
 }

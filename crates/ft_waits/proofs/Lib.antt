@@ -1,5 +1,5 @@
 pub mod Maps
-pub mod Edges
+pub mod Outgoing
 pub mod Steps
 pub mod Paths
 pub mod Walks
@@ -8,3 +8,5 @@ pub mod Listed
 pub mod Verdicts
 pub mod Named
 pub mod Ranked
+pub mod Ordered
+pub mod Waiting

@@ -1,5 +1,5 @@
--- The entries of a map from transactions to ranks, as a list.
-use Rattle.std.proofs.Common.{◌≡◌, ℕ, Bool, true, false, cond, List, [], ◌∷◌, Some, Contains, nat_cmp, Ordering, refl, sym, ap, ◌∙◌}
+-- The entries of a map by transactions, as a list.
+use Rattle.std.proofs.Common.{◌≡◌, ℕ, Bool, true, false, cond, List, [], ◌∷◌, Some, Contains, map, nat_cmp, Ordering, refl, sym, ap, ◌∙◌}
 use Rattle.std.specs.Prelude.{T, ◌&&◌}
 use Rattle.std.specs.declared.cmp.Ordering.TheVariants.{Less, Equal, Greater}
 use Rattle.std.specs.Ordering.{is_lt, eq_by_cmp}
@@ -31,34 +31,35 @@ lesser Greater h = absurd h
 tied_same : (x y : ℕ) → eq_by_cmp nat_cmp x y ≡ true → x ≡ y
 tied_same x y tied = exact_unsigned_eq x y (sym (unsigned_tied x y) ∙ tied)
 
-above : (x : ℕ) (es : List (ℕ × ℕ)) → T (below_all nat_cmp x es) → AllByRecursion (λ y. nat_cmp x y ≡ Less) (txns_of es)
+above : {V : Type 0} (x : ℕ) (es : List (ℕ × V)) → T (below_all nat_cmp x es) → AllByRecursion (λ y. nat_cmp x y ≡ Less) (map (λ e. e.0) es)
 above x [] h = tt
 above x (e ∷ es) h = (lesser (nat_cmp x e.0) (first_of (is_lt (nat_cmp x e.0)) (below_all nat_cmp x es) h), above x es (second_of (is_lt (nat_cmp x e.0)) (below_all nat_cmp x es) h))
 
-in_order : (es : List (ℕ × ℕ)) → T (finite.is_sorted nat_cmp es) → IsStrictlySortedBy nat_cmp (txns_of es)
+in_order : {V : Type 0} (es : List (ℕ × V)) → T (finite.is_sorted nat_cmp es) → IsStrictlySortedBy nat_cmp (map (λ e. e.0) es)
 unfolding IsStrictlySortedBy
 in_order [] h = tt
 in_order (e ∷ es) h = (above e.0 es (first_of (below_all nat_cmp e.0 es) (finite.is_sorted nat_cmp es) h), in_order es (second_of (below_all nat_cmp e.0 es) (finite.is_sorted nat_cmp es) h))
 
-find-lookup : (q : ℕ) (es : List (ℕ × ℕ)) → finite.find nat_cmp q es ≡ lookup (eq_by_cmp nat_cmp q) es
+find-lookup : {V : Type 0} (q : ℕ) (es : List (ℕ × V)) → finite.find nat_cmp q es ≡ lookup (eq_by_cmp nat_cmp q) es
 find-lookup q [] = refl
 find-lookup q (e ∷ es) = ap (λ o. cond (eq_by_cmp nat_cmp q e.0) (Some e.1) o) (find-lookup q es)
 
+module _ {V : Type 0} (m : finite.FinMap nat_cmp V) where
+  entries_in_order : IsStrictlySortedBy nat_cmp (map (λ e. e.0) (finite.entries m))
+  entries_in_order = in_order (finite.entries m) (finite.entries_sorted m)
+
+  get-lookup : (txn : ℕ) → finite.get m txn ≡ lookup (eq_by_cmp nat_cmp txn) (finite.entries m)
+  get-lookup txn = finite.get-entries m txn ∙ find-lookup txn (finite.entries m)
+
+  pub get-listed : (txn : ℕ) (value : V) → Contains (finite.entries m) (txn, value) → finite.get m txn ≡ Some value
+  get-listed txn value among = get-lookup txn ∙ lookup-from_Contains (eq_by_cmp_equiv nat_cmp_total) txn value (finite.entries m) (IsDistinct-from_sorted nat_cmp (map (λ e. e.0) (finite.entries m)) entries_in_order) among
+
+  pub listed-get : (txn : ℕ) (value : V) → finite.get m txn ≡ Some value → Contains (finite.entries m) (txn, value)
+  listed-get txn value some = Contains-from_lookup tied_same txn value (finite.entries m) (sym (get-lookup txn) ∙ some)
+
 module _ (ranks : Ranks) where
-  entries_in_order : IsStrictlySortedBy nat_cmp (txns_of (finite.entries ranks))
-  entries_in_order = in_order (finite.entries ranks) (finite.entries_sorted ranks)
-
   pub entries-rising : IsStrictlyIncreasing (txns_of (finite.entries ranks))
-  entries-rising = IsStrictlyIncreasing-from_sorted (txns_of (finite.entries ranks)) entries_in_order
-
-  get-lookup : (txn : ℕ) → finite.get ranks txn ≡ lookup (eq_by_cmp nat_cmp txn) (finite.entries ranks)
-  get-lookup txn = finite.get-entries ranks txn ∙ find-lookup txn (finite.entries ranks)
-
-  pub get-listed : (txn rank : ℕ) → Contains (finite.entries ranks) (txn, rank) → finite.get ranks txn ≡ Some rank
-  get-listed txn rank among = get-lookup txn ∙ lookup-from_Contains (eq_by_cmp_equiv nat_cmp_total) txn rank (finite.entries ranks) (IsDistinct-from_sorted nat_cmp (txns_of (finite.entries ranks)) entries_in_order) among
-
-  pub listed-get : (txn rank : ℕ) → finite.get ranks txn ≡ Some rank → Contains (finite.entries ranks) (txn, rank)
-  listed-get txn rank some = Contains-from_lookup tied_same txn rank (finite.entries ranks) (sym (get-lookup txn) ∙ some)
+  entries-rising = IsStrictlyIncreasing-from_sorted (txns_of (finite.entries ranks)) (entries_in_order ranks)
 
   pub txn-listed : (txn : ℕ) → finite.contains_key ranks txn ≡ true → Contains (txns_of (finite.entries ranks)) txn
   txn-listed txn there = Contains-from_any tied_same txn (txns_of (finite.entries ranks)) (sym (finite.contains_key-keys ranks txn) ∙ there)

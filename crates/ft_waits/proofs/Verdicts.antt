@@ -10,9 +10,8 @@ use Rattle.ft_base.specs.declared.memory.Memory.{Memory}
 use Rattle.ft_waits.specs.declared.edge.Edge.{Edge}
 use Rattle.ft_waits.specs.declared.verdict.Verdict.{Verdict}
 use Rattle.ft_waits.specs.declared.verdict.Verdict.TheVariants.{Cycle, Ranked}
-use Rattle.ft_waits.specs.Waits.{HasEdge, IsNamed, first_or, IsPath, IsCycle, BeginsWithLeast, HasNoCycle, IsRank, FallAlong, IfCycle, IfRanked, txns_of}
+use Rattle.ft_waits.specs.Waits.{HasEdge, IsNamed, first_or, IsPath, IsCycle, BeginsWithLeast, HasNoCycle, IsRank, FallAlong, IfCycle, IfRanked, txns_of, IsToldCycle, AreToldRanks, IsVerdict}
 use Rattle.ft_waits.specs.Walk.{Ranks, Txns, RanksBelow, IsReached, IsWalk}
-use Rattle.ft_waits.specs.Stands.{IsToldCycle, AreToldRanks, IsVerdict}
 use Rattle.ft_waits.proofs.Paths.{cycle-turned, distinct-turned}
 use Rattle.ft_waits.proofs.Listed.{entries-rising, get-listed, listed-get, txn-listed, listed-txn}
 

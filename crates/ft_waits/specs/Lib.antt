@@ -1,4 +1,6 @@
+pub mod Edges
 pub mod Kinds
+pub mod Listing
 pub mod Waits
 pub mod Walk
 pub mod Stands

@@ -1,5 +1,7 @@
 -- Waits-for edges between transactions: cycles of them, and the ranks where there is none.
-use Rattle.std.specs.Prelude.{◌≡◌, ◌<◌, ◌≤◌, ◌↔◌, ◌⊎◌, ℕ, zero, suc, List, [], ◌∷◌, map, All, Any, Contains}
+use Rattle.std.specs.Prelude.{◌≡◌, ◌<◌, ◌≤◌, ◌↔◌, ◌⊎◌, ℕ, zero, suc, List, [], ◌∷◌, map, All, Any, Contains, nat_eq}
+use Rattle.std.specs.List.{IsDistinct}
+use Rattle.std.specs.List.Sorted.{IsStrictlyIncreasing}
 use Rattle.ft_waits.specs.declared.edge.Edge.{Edge}
 use Rattle.ft_waits.specs.declared.verdict.Verdict.{Verdict}
 use Rattle.ft_waits.specs.declared.verdict.Verdict.TheVariants.{Cycle, Ranked}
@@ -71,3 +73,22 @@ IfCycle P (Ranked ranks) = Unit {0}
 abbrev pub IfRanked : (List (ℕ × ℕ) → Type 0) → Verdict → Type 0
 IfRanked P (Cycle members) = Unit {0}
 IfRanked P (Ranked ranks) = P ranks
+
+-- a cycle as it is told
+pub record IsToldCycle (edges : List Edge) (members : List ℕ) : Type 0 where
+  pub cycle : IsCycle edges members
+  pub distinct : IsDistinct nat_eq members
+  pub least : BeginsWithLeast members
+
+-- ranks as they are told
+pub record AreToldRanks (edges : List Edge) (ranks : List (ℕ × ℕ)) : Type 0 where
+  pub named : RankAllNamed edges ranks
+  pub rising : IsStrictlyIncreasing (txns_of ranks)
+  pub ranks_are : AreRanks edges ranks
+  pub falls : FallAlong edges ranks
+  pub no_cycle : HasNoCycle edges
+
+-- all that a verdict says
+abbrev pub IsVerdict : List Edge → Verdict → Type 0
+IsVerdict edges (Cycle members) = IsToldCycle edges members
+IsVerdict edges (Ranked ranks) = AreToldRanks edges ranks

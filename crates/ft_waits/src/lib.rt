@@ -2,10 +2,12 @@
 #![tactic(auto)]
 
 mod edge;
+mod listing;
 #[cfg(test)]
 mod tests;
 mod verdict;
 mod walk;
 
 pub use edge::{Edge, EdgeKind};
+pub use listing::edges;
 pub use verdict::{Verdict, judge};

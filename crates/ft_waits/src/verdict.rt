@@ -2,9 +2,8 @@
 ghost use Rattle.std.specs.Prelude.{◌≡◌, ◌<◌, ◌≤◌, ◌++◌, ℕ, IfOk, All, nat_eq, drop, take, length, slice_index};
 ghost use Rattle.std.specs.List.{IsDistinct};
 ghost use Rattle.std.specs.List.Sorted.{IsStrictlyIncreasing};
-ghost use Rattle.ft_waits.specs.Waits.{IsCycle, BeginsWithLeast, HasNoCycle, RankAllNamed, AreRanks, FallAlong, IfCycle, IfRanked, txns_of};
+ghost use Rattle.ft_waits.specs.Waits.{IsCycle, BeginsWithLeast, HasNoCycle, RankAllNamed, AreRanks, FallAlong, IfCycle, IfRanked, IsVerdict, txns_of};
 ghost use Rattle.ft_waits.specs.Walk.{AreInOrder};
-ghost use Rattle.ft_waits.specs.Stands.{IsVerdict};
 
 use crate::edge::Edge;
 use crate::walk::Walk;

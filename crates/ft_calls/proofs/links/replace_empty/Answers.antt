@@ -1,7 +1,8 @@
 use Rattle.std.proofs.Common.{◌≡◌, true, None, [], ◌∷◌, ◌++◌, sym, ap, ◌∙◌, rules}
 use Rattle.ft_tree.specs.declared.node.Node.TheVariants.{Dir as DirNode}
 use Rattle.ft_tree.specs.Cells.{names_of}
-use Rattle.ft_calls.specs.Outcomes.{SetParent}
+use Rattle.ft_tree.specs.declared.cell.Cell.TheVariants as cell
+use Rattle.ft_calls.specs.Outcomes.{sets}
 use Rattle.ft_calls.specs.Links.{renamed, with_parent}
 use Rattle.ft_calls.specs.declared.intent.Edit.TheVariants.{Parent}
 use Rattle.ft_calls.specs.declared.intent.Intent.{Intent}
@@ -14,7 +15,7 @@ pub returns : goal.returns
 returns c =
     let r = c.args.renaming in
     let cells = c.args.look.now.cells in
-    let gone = SetParent c.args.replaced None ∷ [] in
+    let gone = sets (cell.Parent c.args.replaced) None ∷ [] in
     let first = c.in_ok-renamed.field-0 in
     let second = c.in_ok-intent.intent in
     let bare : is_none_of (names_of cells c.args.replaced) ≡ true = search rules in

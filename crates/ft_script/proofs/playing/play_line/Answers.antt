@@ -1,7 +1,7 @@
 use Rattle.std.proofs.Common.{string_bytes, subst}
 use Rattle.std.proofs.lemmas.Result.{on_ok_weaker}
 use Rattle.std.specs.Io.KnownBytes.{Appends}
-use Rattle.ft_script.proofs.Running.{plays_one, keeps_refl}
+use Rattle.ft_script.proofs.Running.{plays_one}
 use Rattle.ft_script.proofs.Stopping.{no_memory, part_written}
 use Rattle.ft_script.proofs.playing.play_line.Goals as goal
 

@@ -1,5 +1,5 @@
 use Rattle.std.proofs.Common.{◌++◌, ◌∷◌, [], List, ℕ, inl, refl, sym, ap, ◌∙◌, subst, Err, append-nil, append_assoc}
-use Rattle.ft_script.specs.Script.{IsFreeOf}
+use Rattle.ft_words.specs.Spelling.{IsFreeOf}
 use Rattle.ft_script.specs.Runs.{BeginsTooLong, Cuts, Fits, IsNext, Plays, StopsLine, Stopped}
 use Rattle.ft_script.proofs.Cutting.{cuts_more, free-append}
 use Rattle.ft_script.proofs.Running.{plays_more}

@@ -1,5 +1,5 @@
 use Rattle.std.proofs.Common.{◌++◌, List, ℕ, length}
-use Rattle.ft_script.specs.Script.{IsFreeOf}
+use Rattle.ft_words.specs.Spelling.{IsFreeOf}
 use Rattle.ft_script.specs.Runs.{Cuts, Plays}
 use Rattle.ft_script.proofs.playing.take_bytes.Given as goal
 

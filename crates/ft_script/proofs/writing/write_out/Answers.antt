@@ -1,6 +1,6 @@
 use Rattle.std.proofs.Common.{◌++◌, take, rules}
-use Rattle.ft_script.proofs.Bytes.{front_gone}
-use Rattle.ft_script.proofs.Running.{appends_more, appends_none, part_left}
+use Rattle.ft_words.proofs.Bytes.{front_gone}
+use Rattle.ft_script.proofs.Running.{appends_more, part_left}
 use Rattle.ft_script.proofs.writing.write_out.Goals as goal
 
 pub loop-rest-preserved : goal.loop-rest-preserved

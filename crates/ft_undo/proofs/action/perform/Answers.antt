@@ -6,7 +6,7 @@ use Rattle.ft_tree.specs.Tidy.{tidy}
 use Rattle.ft_calls.specs.Accesses.{written_cell}
 use Rattle.ft_calls.specs.Outcomes.{Outcome}
 use Rattle.ft_calls.specs.Perform.{OnlyTells}
-use Rattle.ft_calls.specs.Posix.{as_change, posix}
+use Rattle.ft_calls.specs.Posix.{posix}
 use Rattle.ft_calls.specs.Stored.{put_all}
 use Rattle.ft_undo.specs.Undone.{AreAsLeft}
 use Rattle.ft_undo.proofs.action.perform.Goals as goal
@@ -34,6 +34,6 @@ returns c =
       stays_free = λ j too other. subst (λ (cells : Cells). IsFree cells j) (sym stored) (c.freshness.ensures old k call sound free j too other);
       told_alone = λ tells. stored ∙ ap (put_all old) (c.telling.ensures old k call sound (subst OnlyTells reply tells));
       left = subst (λ (o : Outcome). AreAsLeft c.apply.new.tree c.apply.new.tree (map written_cell o.writes)) comes made.left;
-      inverse = made.inverse ∙ ap (λ (o : Outcome). before posix old (map as_change o.writes)) comes;
+      inverse = made.inverse ∙ ap (λ (o : Outcome). before posix old o.writes) comes;
       may_revert = λ cells left. made.may_revert cells (subst (λ (o : Outcome). AreAsLeft cells c.apply.new.tree (map written_cell o.writes)) (sym comes) left);
     }

@@ -1,33 +1,27 @@
-use Rattle.std.specs.Vec.Iter.{into_iter_items}
 use Rattle.std.proofs.Common.{◌≡◌, ◌∷◌, sym, ap, subst, ◌∙◌, rules}
 use Rattle.ft_tree.specs.Cells.{Cells}
 use Rattle.ft_undo.specs.Undone.{restored, CanRestoreAll}
-use Rattle.ft_undo.proofs.Undoing.{IsUnderWay, under-way-can, under-way-back, under-way-same, under-way-on}
+use Rattle.ft_undo.proofs.Undoing.{IsUnderWay, under-way-start, under-way-can, under-way-back, under-way-same, under-way-on}
 use Rattle.ft_undo.proofs.undo.make.Goals as goal
 
 pub set-requires : goal.set-requires
 set-requires c =
-    let first : (into_iter_items c.loop-edit.edit-iterator) ≡ c.in-Some.edit ∷ (into_iter_items c.next.new.self) = search rules in
-    under-way-can c.args.tree.now c.args.edits c.loop-edit.tree c.loop-edit.undo c.in-Some.edit (into_iter_items c.next.new.self) c.requires
-    (subst (IsUnderWay c.args.tree.now c.args.edits c.loop-edit.tree c.loop-edit.undo) first c.loop-edit.invariant.2)
+    under-way-can c.args.tree.now c.args.edits c.loop-edit.tree c.loop-edit.undo c.in-Some.edit c.pop_front.new.self c.requires
+    (subst (IsUnderWay c.args.tree.now c.args.edits c.loop-edit.tree c.loop-edit.undo) c.in-Some.ensures.some c.loop-edit.invariant)
 
 pub take_back-requires : goal.take_back-requires
 take_back-requires c =
     subst (λ (s : Cells). CanRestoreAll s c.set.new.self) (sym c.in-Err.ensures.err)
     (subst (CanRestoreAll c.loop-edit.tree) (sym c.in-Err.ensures.none)
-    (under-way-back c.args.tree.now c.args.edits c.loop-edit.tree c.loop-edit.undo c.setting.ensures c.restoring.ensures (into_iter_items c.loop-edit.edit-iterator) c.requires c.loop-edit.invariant.2))
+    (under-way-back c.args.tree.now c.args.edits c.loop-edit.tree c.loop-edit.undo c.setting.ensures c.restoring.ensures c.loop-edit.items c.requires c.loop-edit.invariant))
 
 pub returns-in-Err : goal.returns-in-Err
 returns-in-Err c =
     c.take_back.ensures ∙ ap (λ (s : Cells). restored s c.set.new.self) c.in-Err.ensures.err ∙ ap (restored c.loop-edit.tree) c.in-Err.ensures.none
-    ∙ under-way-same c.args.tree.now c.args.edits c.loop-edit.tree c.loop-edit.undo c.setting.ensures c.restoring.ensures (into_iter_items c.loop-edit.edit-iterator) c.requires c.loop-edit.invariant.2
+    ∙ under-way-same c.args.tree.now c.args.edits c.loop-edit.tree c.loop-edit.undo c.setting.ensures c.restoring.ensures c.loop-edit.items c.requires c.loop-edit.invariant
 
 pub loop-edit-preserved : goal.loop-edit-preserved
 loop-edit-preserved c =
-    let first : (into_iter_items c.loop-edit.edit-iterator) ≡ c.in-Some.edit ∷ (into_iter_items c.next.new.self) = search rules in (
-      tt,
-      tt,
-      under-way-on c.args.tree.now c.args.edits c.loop-edit.tree c.loop-edit.undo c.in-Some.edit (into_iter_items c.next.new.self)
-          (subst (IsUnderWay c.args.tree.now c.args.edits c.loop-edit.tree c.loop-edit.undo) first c.loop-edit.invariant.2)
-          c.set.new.tree c.set.new.self (search rules) (search rules),
-    )
+    under-way-on c.args.tree.now c.args.edits c.loop-edit.tree c.loop-edit.undo c.in-Some.edit c.pop_front.new.self
+    (subst (IsUnderWay c.args.tree.now c.args.edits c.loop-edit.tree c.loop-edit.undo) c.in-Some.ensures.some c.loop-edit.invariant)
+    c.set.new.tree c.set.new.self (search rules) (search rules)

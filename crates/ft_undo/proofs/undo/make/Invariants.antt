@@ -1,9 +1,10 @@
-use Rattle.std.specs.Vec.Iter.{into_iter_items}
+use Rattle.std.proofs.Common.{length}
 use Rattle.ft_undo.proofs.Undoing.{IsUnderWay}
 use Rattle.ft_undo.proofs.undo.make.Given as goal
 
--- some edits were made, and the iterator has the others
+-- some edits were made, and the others are left
 abbrev pub invariant-loop-edit : goal.invariant-loop-edit
-invariant-loop-edit l =
-    (goal.iterator-loop-edit).can_next l.edit-iterator × (goal.iterator-loop-edit).is_finite l.edit-iterator
-    × IsUnderWay l.initial.tree l.fn.edits l.tree l.undo (into_iter_items l.edit-iterator)
+invariant-loop-edit l = IsUnderWay l.initial.tree l.fn.edits l.tree l.undo l.items
+
+abbrev pub decreases-loop-edit : goal.decreases-loop-edit
+decreases-loop-edit l = length l.items

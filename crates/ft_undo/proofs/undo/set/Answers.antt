@@ -1,8 +1,11 @@
-use Rattle.std.proofs.Common.{◌≡◌, ℕ, List, ap, sym, ◌∙◌}
+use Rattle.std.proofs.Common.{◌≡◌, ℕ, List, ap, sym, ◌∙◌, rules}
 use Rattle.ft_body.specs.Bytes.{BodyChange}
 use Rattle.ft_tree.specs.declared.cell.Cell.TheVariants.{Bytes}
-use Rattle.ft_tree.specs.Cells.{Cells, bytes_of, put_bytes}
+use Rattle.ft_tree.specs.Cells.{Cells, bytes_of, put_entry, put_bytes}
+use Rattle.ft_calls.specs.declared.intent.Edit.{Edit}
 use Rattle.ft_calls.specs.CellLaws.{SettingLaw}
+use Rattle.ft_calls.specs.Comes.{write_of}
+use Rattle.ft_calls.specs.Stored.{put}
 use Rattle.ft_undo.specs.declared.undo.Back.TheVariants as back
 use Rattle.ft_undo.specs.Undone.{back_of}
 use Rattle.ft_undo.proofs.undo.set.Goals as goal
@@ -23,3 +26,26 @@ pub returns-in_ok-undo-in-Resize-clause-back : goal.returns-in_ok-undo-in-Resize
 returns-in_ok-undo-in-Resize-clause-back c =
     let done = c.in_ok-undo-in-Resize in
     ap (back.Bytes c.in-Resize.file) (done.ensures.undo ∙ after_set c.setting.ensures c.args.tree.now c.set_size.new.self c.in-Resize.file _ done.ensures.ok) ∙ sym (ap (back_of c.args.tree.now) c.in-Resize.is)
+
+-- what makes an edit puts what it writes
+puts : (cells new : Cells) (edit made : Edit) → edit ≡ made → new ≡ put cells (write_of cells made) → new ≡ put cells (write_of cells edit)
+puts cells new edit made is set = set ∙ sym (ap (λ (e : Edit). put cells (write_of cells e)) is)
+
+pub returns-in_ok-was-in-Entry-clause-after : goal.returns-in_ok-was-in-Entry-clause-after
+returns-in_ok-was-in-Entry-clause-after c =
+    let set : c.set_entry.new.self ≡ put_entry c.args.tree.now c.in-Entry.dir c.in-Entry.name c.in-Entry.to = search rules in puts c.args.tree.now _ c.args.edit _ c.in-Entry.is set
+
+pub returns-in_ok-was-in-Parent-clause-after : goal.returns-in_ok-was-in-Parent-clause-after
+returns-in_ok-was-in-Parent-clause-after c = puts c.args.tree.now _ c.args.edit _ c.in-Parent.is c.in_ok-was-in-Parent.ensures.ok
+
+pub returns-in_ok-was-in-Links-clause-after : goal.returns-in_ok-was-in-Links-clause-after
+returns-in_ok-was-in-Links-clause-after c = puts c.args.tree.now _ c.args.edit _ c.in-Links.is c.in_ok-was-in-Links.ensures.ok
+
+pub returns-in_ok-undo-in-Overwrite-clause-after : goal.returns-in_ok-undo-in-Overwrite-clause-after
+returns-in_ok-undo-in-Overwrite-clause-after c = puts c.args.tree.now _ c.args.edit _ c.in-Overwrite.is c.in_ok-undo-in-Overwrite.ensures.ok
+
+pub returns-in_ok-undo-in-Resize-clause-after : goal.returns-in_ok-undo-in-Resize-clause-after
+returns-in_ok-undo-in-Resize-clause-after c = puts c.args.tree.now _ c.args.edit _ c.in-Resize.is c.in_ok-undo-in-Resize.ensures.ok
+
+pub returns-in_ok-was-in-Open-clause-after : goal.returns-in_ok-was-in-Open-clause-after
+returns-in_ok-was-in-Open-clause-after c = puts c.args.tree.now _ c.args.edit _ c.in-Open.is c.in_ok-was-in-Open.ensures.ok

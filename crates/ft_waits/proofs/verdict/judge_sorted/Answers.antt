@@ -3,9 +3,8 @@ use Rattle.std.specs.List.{IsDistinct}
 use Rattle.std.specs.FinMap as finite
 use Rattle.std.proofs.Math.Seq.{take-append_seam}
 use Rattle.ft_waits.specs.declared.edge.Edge.{Edge}
-use Rattle.ft_waits.specs.Waits.{IsCycle}
+use Rattle.ft_waits.specs.Waits.{IsCycle, IsToldCycle, AreToldRanks}
 use Rattle.ft_waits.specs.Walk.{IsWalk, AreInOrder}
-use Rattle.ft_waits.specs.Stands.{IsToldCycle, AreToldRanks}
 use Rattle.ft_waits.proofs.Ranked.{ranked-on, same-there}
 use Rattle.ft_waits.proofs.Verdicts.{told-cycle, told-ranks}
 use Rattle.ft_waits.proofs.verdict.judge_sorted.Goals as goal

@@ -1,6 +1,7 @@
 use Rattle.std.proofs.Common.{take}
 use Rattle.std.specs.Fmt.{HasWritten, IsPlainFormatter}
-use Rattle.ft_script.specs.Reports.{lines_text, lock_text}
+use Rattle.ft_words.specs.Texts.{lines_text}
+use Rattle.ft_script.specs.Reports.{lock_text}
 use Rattle.ft_script.proofs.lock_text.LockLinesDisplay.fmt.Given as goal
 
 -- the text so far is that of the locks so far

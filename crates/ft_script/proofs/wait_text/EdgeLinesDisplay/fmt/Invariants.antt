@@ -1,6 +1,7 @@
 use Rattle.std.proofs.Common.{take}
 use Rattle.std.specs.Fmt.{HasWritten, IsPlainFormatter}
-use Rattle.ft_script.specs.Reports.{lines_text, edge_text}
+use Rattle.ft_words.specs.Texts.{lines_text}
+use Rattle.ft_script.specs.Reports.{edge_text}
 use Rattle.ft_script.proofs.wait_text.EdgeLinesDisplay.fmt.Given as goal
 
 -- the text so far is that of the edges so far

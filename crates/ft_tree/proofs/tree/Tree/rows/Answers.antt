@@ -13,6 +13,7 @@ returns c =
     let files = file_rows (files_from c.self.inside.opens (finite.entries c.self.inside.files)) in
     let opens = open_rows (opens_from (finite.entries c.self.inside.opens)) in
     c.in_ok-push_opens.ensures
+    ∙ ap (λ m. c.push_files.new.rows.items ++ open_rows (opens_from (finite.entries m))) c.places.ensures
     ∙ ap (λ rows. rows ++ opens) (c.in_ok-push_files.ensures
     ∙ ap (λ rows. rows ++ files) (c.in_ok-push_edges.ensures
     ∙ ap (λ rows. rows ++ edges) (c.in_ok-push_dirs.ensures ∙ ap (λ rows. rows ++ dirs) c.new-rows.ensures.items)))

@@ -1,7 +1,7 @@
 use Rattle.std.proofs.Common.{List, leb, ltb, rules}
 use Rattle.std.proofs.lemmas.List.Sorted.{IsPartitionPoint-from_clause, IsPartitionedBy-leb, IsPartitionedBy-ltb}
 use Rattle.ft_waits.specs.declared.edge.Edge.{Edge}
-use Rattle.ft_waits.proofs.Edges.{out-lead, lead-out}
+use Rattle.ft_waits.proofs.Outgoing.{out-lead, lead-out}
 use Rattle.ft_waits.proofs.walk.Step.new.Goals as goal
 
 pub returns-clause-ahead : goal.returns-clause-ahead

@@ -1,0 +1,108 @@
+// A short list, whose first two values stand in itself.
+ghost use Rattle.std.specs.Prelude.{◌≡◌, ◌<◌, [], ◌∷◌, ◌++◌, drop, length, slice_get, option_copied, IsOk, IfNone, IfSome, OnOk, OnErr, IfErr};
+
+use std::alloc::{AllocFailed, Global};
+use std::marker::Model;
+
+/// A list of values, which clauses see as a list. Up to two of them take no memory.
+#[derive(Drop)]
+pub struct Few<T> {
+    first: Option<T>,
+    second: Option<T>,
+    more: Vec<T>,
+}
+
+impl<T> Model for Few<T> {
+    ghost use Rattle.std.specs.Prelude.{List};
+    ghost use Rattle.std.specs.Coded.{coded_list};
+    ghost use Rattle.ft_base.specs.Few.{in_a_row, AreFilled};
+
+    ghost Value = { List T };
+
+    ghost coded = { coded_list T.code };
+
+    ghost view = { λ a. in_a_row a.first a.second a.more.items };
+
+    ghost invariant = { λ a. AreFilled a.first a.second a.more.items };
+}
+
+impl<T: Drop> Few<T> {
+    /// The empty list. Takes no memory.
+    pub fn new(alloc: Global) -> Few<T>
+        ensures { result ≡ [] }
+    {
+        Few {
+            first: None,
+            second: None,
+            more: Vec::new(alloc),
+        }
+    }
+
+    /// The first value, where there is one.
+    pub fn first(&self) -> Option<&T>
+        ensures { option_copied result ≡ slice_get self.now 0 }
+    {
+        self.first.as_ref()
+    }
+
+    /// The second value, where there is one.
+    pub fn second(&self) -> Option<&T>
+        ensures { option_copied result ≡ slice_get self.now 1 }
+    {
+        self.second.as_ref()
+    }
+
+    /// The values from the third on, which are the ones that take memory.
+    pub fn others(&self) -> &[T]
+        ensures { result.now ≡ drop 2 self.now }
+    {
+        self.more.as_slice()
+    }
+
+    /// Puts a value behind the others; want of memory hands it back. The first two take none.
+    pub fn push(&mut self, value: T) -> Result<(), AllocFailed<T>>
+        ensures ok { OnOk result (self.new ≡ self.old ++ value ∷ []) }
+        ensures err { OnErr result (self.new ≡ self.old) }
+        ensures value_returned { IfErr result (λ failed. failed.value ≡ value) }
+        ensures two { length self.old < 2 → IsOk result }
+    {
+        if self.first.is_none() {
+            self.first = Some(value);
+            return Ok(());
+        }
+        if self.second.is_none() {
+            self.second = Some(value);
+            return Ok(());
+        }
+        self.more.push(value)
+    }
+
+    /// Takes out the last value, where there is one. Takes no memory.
+    pub fn pop(&mut self) -> Option<T>
+        ensures some { IfSome result (λ value. self.old ≡ self.new ++ value ∷ []) }
+        ensures none { IfNone result (self.old ≡ []) }
+        ensures left { IfNone result (self.new ≡ []) }
+    {
+        if let Some(value) = self.more.pop() {
+            return Some(value);
+        }
+        if let Some(value) = self.second.take() {
+            return Some(value);
+        }
+        self.first.take()
+    }
+
+    /// Takes out the first value, where there is one. Takes no memory.
+    pub fn pop_front(&mut self) -> Option<T>
+        ensures some { IfSome result (λ value. self.old ≡ value ∷ self.new) }
+        ensures none { IfNone result (self.old ≡ []) }
+        ensures left { IfNone result (self.new ≡ []) }
+    {
+        let value = self.first.take();
+        self.first = self.second.take();
+        if !self.more.is_empty() {
+            self.second = Some(self.more.remove(0));
+        }
+        value
+    }
+}

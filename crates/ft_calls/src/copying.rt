@@ -1,0 +1,88 @@
+// Copies of calls.
+ghost use Rattle.std.specs.Prelude.{◌≡◌, IfOk};
+
+use crate::call::Call;
+use ft_base::{Memory, Sequence};
+use std::alloc::Global;
+
+impl Call {
+    /// Another call like it. Refuses want of memory, which only paths and bytes can meet.
+    pub fn copy(&self, alloc: Global) -> Result<Call, Memory>
+        ensures { IfOk result (λ copy. copy ≡ self.now) }
+    {
+        Ok(match self {
+            Call::Mkdir { path } => Call::Mkdir {
+                path: path.try_clone()?,
+            },
+            Call::Rmdir { path } => Call::Rmdir {
+                path: path.try_clone()?,
+            },
+            Call::List { path } => Call::List {
+                path: path.try_clone()?,
+            },
+            Call::Open {
+                path,
+                access,
+                create,
+                excl,
+                trunc,
+                append,
+            } => Call::Open {
+                path: path.try_clone()?,
+                access: *access,
+                create: *create,
+                excl: *excl,
+                trunc: *trunc,
+                append: *append,
+            },
+            Call::Close { fd } => Call::Close { fd: *fd },
+            Call::Read { fd, len } => Call::Read { fd: *fd, len: *len },
+            Call::Write { fd, bytes } => Call::Write {
+                fd: *fd,
+                bytes: copy_bytes(alloc, bytes)?,
+            },
+            Call::Pread { fd, off, len } => Call::Pread {
+                fd: *fd,
+                off: *off,
+                len: *len,
+            },
+            Call::Pwrite { fd, off, bytes } => Call::Pwrite {
+                fd: *fd,
+                off: *off,
+                bytes: copy_bytes(alloc, bytes)?,
+            },
+            Call::Lseek { fd, whence, off } => Call::Lseek {
+                fd: *fd,
+                whence: *whence,
+                off: *off,
+            },
+            Call::Truncate { len, path } => Call::Truncate {
+                len: *len,
+                path: path.try_clone()?,
+            },
+            Call::Ftruncate { fd, len } => Call::Ftruncate { fd: *fd, len: *len },
+            Call::Stat { path } => Call::Stat {
+                path: path.try_clone()?,
+            },
+            Call::Fstat { fd } => Call::Fstat { fd: *fd },
+            Call::Link { old, new } => Call::Link {
+                old: old.try_clone()?,
+                new: new.try_clone()?,
+            },
+            Call::Unlink { path } => Call::Unlink {
+                path: path.try_clone()?,
+            },
+            Call::Rename { old, new } => Call::Rename {
+                old: old.try_clone()?,
+                new: new.try_clone()?,
+            },
+        })
+    }
+}
+
+/// Other bytes like these.
+fn copy_bytes(alloc: Global, bytes: &Sequence<u8>) -> Result<Sequence<u8>, Memory>
+    ensures { IfOk result (λ copy. copy ≡ bytes.now) }
+{
+    Ok(bytes.as_slice().to_vec(alloc)?.into())
+}

@@ -1,0 +1,3 @@
+pub mod Cutting
+pub mod Reports
+pub mod Stopping

@@ -1,0 +1,12 @@
+use Rattle.std.proofs.Common.{◌≡◌, ◌++◌, length}
+use Rattle.std.specs.Prelude.{option_map}
+use Rattle.ft_dot.specs.Reading.{rank_of}
+use Rattle.ft_dot.specs.Reading.{each}
+use Rattle.ft_dot.proofs.reading.ranks_in.Given as goal
+
+-- what was read so far, and then what is left
+abbrev pub invariant-loop-word : goal.invariant-loop-word
+invariant-loop-word l = each rank_of l.initial.rest ≡ option_map (λ others. l.ranks.items ++ others) (each rank_of l.rest)
+
+abbrev pub decreases-loop-word : goal.decreases-loop-word
+decreases-loop-word l = length l.rest

@@ -1,0 +1,11 @@
+//! Drawings of who waits for whom: the last report among replies, in the DOT language.
+#![tactic(auto)]
+
+mod drawing;
+mod filter;
+mod reading;
+mod report;
+#[cfg(test)]
+mod tests;
+
+pub use filter::draw;

@@ -1,0 +1,10 @@
+// A report of who waits for whom.
+use ft_base::Sequence;
+use ft_waits::{Edge, Verdict};
+
+/// A report of who waits for whom: the waits-for edges, and what they come to.
+#[derive(Debug, PartialEq, Eq, Drop)]
+pub struct Report {
+    pub edges: Sequence<Edge>,
+    pub verdict: Verdict,
+}

@@ -1,0 +1,10 @@
+//! Transactions that threads share: a core behind a lock, and the trait of what job threads ask of it.
+#![tactic(auto)]
+
+mod manager;
+mod shared;
+#[cfg(test)]
+mod tests;
+
+pub use manager::Manager;
+pub use shared::{MOST_PAUSE, Refused, Shared};

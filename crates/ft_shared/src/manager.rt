@@ -1,0 +1,70 @@
+// What job threads ask of the transactions that they share.
+ghost use Rattle.std.specs.Prelude.{◌≤◌};
+
+use crate::shared::Shared;
+use ft_calls::Call;
+use ft_core::{Core, Fault, Outcome, TxnId};
+use std::sync::Wait;
+use std::time::Clock;
+
+/// What job threads ask of the transactions that they share.
+///
+/// No answer is promised to be true: who takes a manager has to find out for itself, when it has the core back.
+pub trait Manager: Sync {
+    /// Begins a top-level transaction.
+    fn begin<R: Wait>(&self, rt: &R) -> Result<TxnId, Fault>;
+
+    /// Begins a subtransaction.
+    fn sub<R: Wait>(&self, rt: &R, parent: TxnId) -> Result<TxnId, Fault>;
+
+    /// Asks for a call up to so many times, until it is granted or refused. At least once.
+    fn ask_wait<R: Wait + Clock>(
+        &self,
+        rt: &R,
+        txn: TxnId,
+        call: &Call,
+        turns: u64,
+    ) -> Result<Outcome, Fault>
+        requires { 1 ≤ turns };
+
+    /// Commits a transaction.
+    fn commit<R: Wait>(&self, rt: &R, txn: TxnId) -> Result<(), Fault>;
+
+    /// Aborts a transaction with all that is live below it, and answers how many standing calls it takes away.
+    fn abort<R: Wait>(&self, rt: &R, txn: TxnId) -> Result<u64, Fault>;
+
+    /// Ends the manager, and gives the core back.
+    fn into_core(self) -> Core;
+}
+
+impl Manager for Shared {
+    fn begin<R: Wait>(&self, rt: &R) -> Result<TxnId, Fault> {
+        self.begin(rt)
+    }
+
+    fn sub<R: Wait>(&self, rt: &R, parent: TxnId) -> Result<TxnId, Fault> {
+        self.sub(rt, parent)
+    }
+
+    fn ask_wait<R: Wait + Clock>(
+        &self,
+        rt: &R,
+        txn: TxnId,
+        call: &Call,
+        turns: u64,
+    ) -> Result<Outcome, Fault> {
+        self.ask_wait(rt, txn, call, turns)
+    }
+
+    fn commit<R: Wait>(&self, rt: &R, txn: TxnId) -> Result<(), Fault> {
+        self.commit(rt, txn)
+    }
+
+    fn abort<R: Wait>(&self, rt: &R, txn: TxnId) -> Result<u64, Fault> {
+        self.abort(rt, txn)
+    }
+
+    fn into_core(self) -> Core {
+        self.into_core()
+    }
+}

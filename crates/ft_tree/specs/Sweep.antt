@@ -1,0 +1,104 @@
+-- What a sweep may drop, and what it leaves.
+use Rattle.std.specs.Prelude.{◌≡◌, ℕ, Bool, true, false, cond, not, ◌==◌, ◌&&◌, ◌||◌, ◌+◌, List, [], ◌∷◌, is_none}
+use Rattle.std.specs.FinMap as map
+use Rattle.std.specs.FinSet as set
+use Rattle.ft_tree.specs.declared.cell.Cell.{Cell}
+use Rattle.ft_tree.specs.declared.cell.Cell.TheVariants.{Entry, Names, Parent, Links, Bytes, Fd}
+use Rattle.ft_tree.specs.CellOrder.{cell_cmp}
+use Rattle.ft_tree.specs.Cells.{Cells, DirCells, entry_of, parent_of, links_of, bytes_of, open_of, dir_of, has_dir, has_file, HasFilePlace}
+use Rattle.ft_tree.specs.Held.{IsStored, without_place}
+
+-- the place of a cell is there and of no use: there is no entry or description in it, its directory is not there and has no place of an entry, or nothing names its file (POSIX.1-2017, System Interfaces, unlink, rmdir and close)
+abbrev pub is_useless : Cells → Cell → Bool
+is_useless cells (Entry d name) = map.contains_key (dir_of cells d).entries name && is_none (entry_of cells d name)
+is_useless cells (Names d) = map.contains_key cells.directories d && not (has_dir cells d) && (map.len (dir_of cells d).entries == 0)
+is_useless cells (Parent d) = map.contains_key cells.directories d && not (has_dir cells d) && (map.len (dir_of cells d).entries == 0)
+is_useless cells (Links i) = map.contains_key cells.files i && not (has_file cells i)
+is_useless cells (Bytes i) = map.contains_key cells.files i && not (has_file cells i)
+is_useless cells (Fd f) = map.contains_key cells.opens f && is_none (open_of cells f)
+
+-- one of the cells that have their place with this one is among these: the names of a directory and its parent have one place, and so have the links and the bytes of a file
+abbrev pub at_place : (Cell → Bool) → Cell → Bool
+at_place among (Entry d name) = among (Entry d name)
+at_place among (Names d) = among (Names d) || among (Parent d)
+at_place among (Parent d) = among (Names d) || among (Parent d)
+at_place among (Links i) = among (Links i) || among (Bytes i)
+at_place among (Bytes i) = among (Links i) || among (Bytes i)
+at_place among (Fd f) = among (Fd f)
+
+abbrev pub one_if : Bool → ℕ
+one_if b = cond b 1 0
+
+-- what a sweep is to drop: a place of no use, of which no cell is kept
+abbrev pub is_spare : (Cell → Bool) → Cells → Cell → Bool
+is_spare kept cells c = is_useless cells c && not (at_place kept c)
+
+-- the cells without the place of one of them, where it is to be dropped
+abbrev pub drop_spare : (Cell → Bool) → Cells → Cell → Cells
+drop_spare kept cells c = cond (is_spare kept cells c) (without_place cells c) cells
+
+-- what is to be dropped at a cell; a directory whose last place of an entry goes may go with it
+abbrev pub swept_at : (Cell → Bool) → Cells → Cell → Cells
+swept_at kept cells (Entry d name) = drop_spare kept (drop_spare kept cells (Entry d name)) (Parent d)
+swept_at kept cells (Names d) = drop_spare kept cells (Parent d)
+swept_at kept cells (Parent d) = drop_spare kept cells (Parent d)
+swept_at kept cells (Links i) = drop_spare kept cells (Links i)
+swept_at kept cells (Bytes i) = drop_spare kept cells (Bytes i)
+swept_at kept cells (Fd f) = drop_spare kept cells (Fd f)
+
+-- how many places a cell takes with it: that of an entry may take that of its directory
+abbrev pub dropped_at : (Cell → Bool) → Cells → Cell → ℕ
+dropped_at kept cells (Entry d name) = one_if (is_spare kept cells (Entry d name)) + one_if (is_spare kept (drop_spare kept cells (Entry d name)) (Parent d))
+dropped_at kept cells (Names d) = one_if (is_spare kept cells (Parent d))
+dropped_at kept cells (Parent d) = one_if (is_spare kept cells (Parent d))
+dropped_at kept cells (Links i) = one_if (is_spare kept cells (Links i))
+dropped_at kept cells (Bytes i) = one_if (is_spare kept cells (Bytes i))
+dropped_at kept cells (Fd f) = one_if (is_spare kept cells (Fd f))
+
+-- how many places there are: of directories, each with those of its entries, of files, and of descriptors
+abbrev pub places_of_dirs : List (ℕ × DirCells) → ℕ
+places_of_dirs [] = 0
+places_of_dirs (e ∷ es) = (1 + map.len e.1.entries) + places_of_dirs es
+
+abbrev pub places_in : Cells → ℕ
+places_in cells = places_of_dirs (map.entries cells.directories) + map.len cells.files + map.len cells.opens
+
+-- the file was stored, and is no more
+abbrev pub is_dropped : Cells → Cells → ℕ → Bool
+is_dropped old new i = map.contains_key old.files i && not (map.contains_key new.files i)
+
+-- A file that neither an entry nor a description names, and of which nothing is kept.
+pub record IsDeadFile (kept : Cell → Bool) (cells : Cells) (i : ℕ) : Type 0 where
+  pub dead : has_file cells i ≡ false
+  pub links : kept (Links i) ≡ false
+  pub bytes : kept (Bytes i) ≡ false
+
+-- Places went, and nothing else happened: each cell holds what it held, but for the bytes of dead files, and what is kept has its place.
+pub record IsSwept (kept : Cell → Bool) (old new : Cells) : Type 0 where
+  pub entries : (d : ℕ) (name : List ℕ) → entry_of new d name ≡ entry_of old d name
+  pub parents : (d : ℕ) → parent_of new d ≡ parent_of old d
+  pub links : (i : ℕ) → links_of new i ≡ links_of old i
+  pub opens : (f : ℕ) → open_of new f ≡ open_of old f
+  pub bytes : (i : ℕ) → HasFilePlace new i → bytes_of new i ≡ bytes_of old i
+  pub files : (i : ℕ) → is_dropped old new i ≡ true → IsDeadFile kept old i
+  pub dirs : (d : ℕ) → has_dir new d ≡ has_dir old d
+  pub named : (i : ℕ) → has_file new i ≡ has_file old i
+  pub places : (c : Cell) → kept c ≡ true → IsStored old c → IsStored new c
+  pub none_new : (c : Cell) → IsStored new c → IsStored old c
+
+-- the cells that were let go
+abbrev pub LetGo : Type 0
+LetGo = set.FinSet cell_cmp
+
+-- Of what was let go nothing is left to drop, and nothing to drop has come.
+pub record IsSweptClean (kept let_go : Cell → Bool) (old new : Cells) : Type 0 where
+  pub told : (c : Cell) → at_place let_go c ≡ true → is_spare kept new c ≡ false
+  pub others : (c : Cell) → is_spare kept new c ≡ true → is_spare kept old c ≡ true
+
+-- each place of no use is kept, or one of its cells was let go
+abbrev pub IsAccounted : (Cell → Bool) → (Cell → Bool) → Cells → Type 0
+IsAccounted kept let_go cells = (c : Cell) → is_spare kept cells c ≡ true → at_place let_go c ≡ true
+
+-- no place is left that is of no use and not kept
+abbrev pub HasNoneToDrop : (Cell → Bool) → Cells → Type 0
+HasNoneToDrop kept cells = (c : Cell) → is_spare kept cells c ≡ false

@@ -1,0 +1,82 @@
+// The waits-for edges of a core.
+ghost use Rattle.std.specs.Prelude.{◌≡◌, ◌++◌, ◌↔◌, IfOk, OnOk, map};
+ghost use Rattle.std.specs.List.{flat_map};
+ghost use Rattle.ft_laws.specs.Lists.{In};
+ghost use Rattle.ft_core.specs.Reports.{as_wait};
+ghost use Rattle.ft_waits.specs.declared.edge.Edge.{Edge as EdgeValue};
+ghost use Rattle.ft_waits.specs.Edges.{AreEdgesOf, AreRising};
+ghost use Rattle.ft_waits.specs.Listing.{lock_edges, child_edge};
+
+use crate::edge::{Edge, EdgeKind};
+use ft_base::Memory;
+use ft_core::{Core, LiveChild, Pending};
+use std::alloc::Global;
+
+/// The waits-for edges of a core as it is now, each once, in their order.
+///
+/// One goes from each transaction with a pending ask to each that is in the way of it, and one from each live transaction
+/// to each live child. Want of memory is the only refusal. Beside what `Core::pending` and `Core::children` take, it takes
+/// the time to sort the edges.
+pub fn edges(alloc: Global, core: &Core) -> Result<Vec<Edge>, Memory>
+    ensures { IfOk result (λ edges. AreEdgesOf core.now edges.items) }
+{
+    let Ok(waits) = core.pending() else {
+        return Err(Memory);
+    };
+    let Ok(pairs) = core.children() else {
+        return Err(Memory);
+    };
+    let mut edges = Vec::new(alloc);
+    list_waits(&mut edges, waits.as_slice())?;
+    list_children(&mut edges, pairs.as_slice())?;
+    put_in_order(&mut edges);
+    Ok(edges)
+}
+
+/// Lists for each of these waits an edge to each blocker.
+fn list_waits(edges: &mut Vec<Edge>, waits: &[Pending]) -> Result<(), Memory>
+    ensures { OnOk result (edges.new.items ≡ edges.old.items ++ flat_map (λ wait. lock_edges (as_wait wait)) waits.now) }
+{
+    for wait in waits {
+        list_wait(edges, wait)?;
+    }
+    Ok(())
+}
+
+/// Lists an edge to each blocker.
+fn list_wait(edges: &mut Vec<Edge>, wait: &Pending) -> Result<(), Memory>
+    ensures { OnOk result (edges.new.items ≡ edges.old.items ++ lock_edges (as_wait wait.now)) }
+{
+    for to in wait.blockers.as_slice() {
+        edges.push(Edge {
+            from: wait.txn,
+            to: *to,
+            kind: EdgeKind::Lock,
+        })?;
+    }
+    Ok(())
+}
+
+/// Lists an edge from each of these parents to its child.
+fn list_children(edges: &mut Vec<Edge>, pairs: &[LiveChild]) -> Result<(), Memory>
+    ensures { OnOk result (edges.new.items ≡ edges.old.items ++ map child_edge pairs.now) }
+{
+    for pair in pairs {
+        edges.push(Edge {
+            from: pair.parent,
+            to: pair.child,
+            kind: EdgeKind::Child,
+        })?;
+    }
+    Ok(())
+}
+
+/// Puts edges in their order, each once.
+fn put_in_order(edges: &mut Vec<Edge>)
+    ensures order { AreRising edges.new.items }
+    ensures same { (edge : EdgeValue) → In edge edges.new.items ↔ In edge edges.old.items }
+{
+    edges.sort_unstable();
+    // Each was listed once; from here on the list says so itself.
+    edges.dedup();
+}

@@ -1,0 +1,127 @@
+-- The calls: their names, and how their arguments are written. Each table has words, and what they ask for.
+use Rattle.std.specs.Prelude.{◌≡◌, ℕ, Bool, true, false, ◌==◌, List, [], ◌∷◌, ◌++◌, codes, if◌then◌else◌, Option, None, Some, option_and_then, option_map, Result, Ok, Err}
+use Rattle.std.specs.Str.{bytes_eq}
+use Rattle.ft_tree.specs.declared.open_file.AccessMode.{AccessMode}
+use Rattle.ft_tree.specs.declared.open_file.AccessMode.TheVariants.{ReadOnly, WriteOnly, ReadWrite}
+use Rattle.ft_calls.specs.declared.call.Call.{Call}
+use Rattle.ft_calls.specs.declared.call.Call.TheVariants as calls
+use Rattle.ft_calls.specs.declared.call.OpenFlags.{OpenFlags}
+use Rattle.ft_calls.specs.declared.call.Whence.{Whence}
+use Rattle.ft_calls.specs.declared.call.Whence.TheVariants.{Set, Cur, End}
+use Rattle.ft_words.specs.declared.unread.Unread.{Unread}
+use Rattle.ft_words.specs.declared.unread.Unread.TheVariants.{Misspelt, NoMemory}
+use Rattle.ft_words.specs.Spelling.{number_of, integer_of, path_of, data_of}
+
+-- what stands behind a word in a table of words
+abbrev pub look_up : {A : Type 0} → List (List ℕ × A) → List ℕ → Option A
+look_up [] word = None
+look_up (row ∷ rows) word = if bytes_eq word row.0 then Some row.1 else look_up rows word
+
+-- ---- the arguments of a call
+
+-- the word that is left alone
+abbrev pub only_word : List (List ℕ) → Option (List ℕ)
+only_word [] = None
+only_word (word ∷ []) = Some word
+only_word (word ∷ other ∷ words) = None
+
+-- the same. Where there is none, it is empty: the last word may be absent with its space
+abbrev pub last_word : List (List ℕ) → Option (List ℕ)
+last_word [] = Some []
+last_word (word ∷ words) = only_word (word ∷ words)
+
+-- the one word that is left, as a reader of words reads it
+abbrev pub only : {A : Type 0} → (List ℕ → Option A) → List (List ℕ) → Option A
+only read words = option_and_then read (only_word words)
+
+abbrev pub last : {A : Type 0} → (List ℕ → Option A) → List (List ℕ) → Option A
+last read words = option_and_then read (last_word words)
+
+-- the first word by a reader, and the others by another
+abbrev pub both : {A B : Type 0} → (List ℕ → Option A) → (List (List ℕ) → Option B) → List (List ℕ) → Option (A × B)
+both read others [] = None
+both read others (word ∷ words) = option_and_then (λ a. option_map (λ b. (a, b)) (others words)) (read word)
+
+abbrev pub three : {A B C : Type 0} → (List ℕ → Option A) → (List ℕ → Option B) → (List (List ℕ) → Option C) → List (List ℕ) → Option (A × B × C)
+three first second others words = option_map (λ p. (p.0, p.1.0, p.1.1)) (both first (both second others) words)
+
+-- whether a text begins with a letter, and what stands behind it
+abbrev pub split_letter : ℕ → List ℕ → Bool × List ℕ
+split_letter letter [] = (false, [])
+split_letter letter (b ∷ bs) = if b == letter then (true, bs) else (false, b ∷ bs)
+
+-- for reading, for writing, or for both
+abbrev pub access_of : Bool → Bool → Option AccessMode
+access_of true true = Some ReadWrite
+access_of true false = Some ReadOnly
+access_of false true = Some WriteOnly
+access_of false false = None
+
+abbrev pub if_none_left : {A : Type 0} → List ℕ → Option A → Option A
+if_none_left [] value = value
+if_none_left (b ∷ bs) value = None
+
+-- `r`, `w` or `rw`, and then any of `c`, `x`, `t` and `a`, each at most once, in this order
+abbrev pub flags_of : List ℕ → Option OpenFlags
+flags_of word =
+    let read = split_letter 114 word in
+    let write = split_letter 119 read.1 in
+    let create = split_letter 99 write.1 in
+    let excl = split_letter 120 create.1 in
+    let trunc = split_letter 116 excl.1 in
+    let append = split_letter 97 trunc.1 in
+    if_none_left append.1 (option_map (λ access. record { access = access; create = create.0; excl = excl.0; trunc = trunc.0; append = append.0 }) (access_of read.0 write.0))
+
+abbrev pub whence_words : List (List ℕ × Whence)
+whence_words = (codes "set", Set) ∷ (codes "cur", Cur) ∷ (codes "end", End) ∷ []
+
+abbrev pub whence_of : List ℕ → Option Whence
+whence_of word = look_up whence_words word
+
+-- ---- the calls
+
+abbrev pub CallRow : Type 0
+CallRow = List ℕ × (List (List ℕ) → Option Call)
+
+-- a call by its name, how its arguments are read, and what it is with them
+abbrev pub row : {A : Type 0} → List ℕ → (List (List ℕ) → Option A) → (A → Call) → CallRow
+row name arguments make = (name, λ words. option_map make (arguments words))
+
+abbrev pub path_calls : List CallRow
+path_calls =
+    row (codes "mkdir") (last path_of) calls.Mkdir
+    ∷ row (codes "rmdir") (last path_of) calls.Rmdir
+    ∷ row (codes "open") (both flags_of (last path_of)) (λ a. calls.Open a.1 a.0.access a.0.create a.0.excl a.0.trunc a.0.append)
+    ∷ row (codes "truncate") (both integer_of (last path_of)) (λ a. calls.Truncate a.0 a.1)
+    ∷ row (codes "stat") (last path_of) calls.Stat
+    ∷ row (codes "link") (both path_of (last path_of)) (λ a. calls.Link a.0 a.1)
+    ∷ row (codes "unlink") (last path_of) calls.Unlink
+    ∷ row (codes "rename") (both path_of (last path_of)) (λ a. calls.Rename a.0 a.1)
+    ∷ row (codes "list") (last path_of) calls.List
+    ∷ []
+
+abbrev pub descriptor_calls : List CallRow
+descriptor_calls =
+    row (codes "close") (only number_of) calls.Close
+    ∷ row (codes "read") (both number_of (only number_of)) (λ a. calls.Read a.0 a.1)
+    ∷ row (codes "write") (both number_of (last data_of)) (λ a. calls.Write a.0 a.1)
+    ∷ row (codes "pread") (three number_of integer_of (only number_of)) (λ a. calls.Pread a.0 a.1 a.2)
+    ∷ row (codes "pwrite") (three number_of integer_of (last data_of)) (λ a. calls.Pwrite a.0 a.1 a.2)
+    ∷ row (codes "lseek") (three number_of whence_of (only integer_of)) (λ a. calls.Lseek a.0 a.1 a.2)
+    ∷ row (codes "ftruncate") (both number_of (only integer_of)) (λ a. calls.Ftruncate a.0 a.1)
+    ∷ row (codes "fstat") (only number_of) calls.Fstat
+    ∷ []
+
+abbrev pub read_by : List CallRow → List ℕ → List (List ℕ) → Option Call
+read_by rows name words = option_and_then (λ arguments. arguments words) (look_up rows name)
+
+abbrev pub call_of : List ℕ → List (List ℕ) → Option Call
+call_of name words = read_by (path_calls ++ descriptor_calls) name words
+
+-- ---- how words are read
+
+-- the value that words spell; or they spell none; or memory was wanting
+abbrev pub Reads : {A : Type 0} → Result A Unread → Option A → Type 0
+Reads (Ok read) value = value ≡ Some read
+Reads (Err Misspelt) value = value ≡ None
+Reads (Err NoMemory) value = Unit {0}

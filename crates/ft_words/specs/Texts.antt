@@ -1,0 +1,71 @@
+-- The texts of what calls reply, and of what a tree holds.
+use Rattle.std.specs.Prelude.{ℕ, ◌||◌, ◌==◌, Bool, true, false, nat_le, List, [], ◌∷◌, ◌++◌, length, codes, if◌then◌else◌}
+use Rattle.std.specs.Fmt.{decimal}
+use Rattle.std.specs.List.{flat_map}
+use Rattle.percent_encoding.specs.Percent.{percent_encode_byte}
+use Rattle.ft_path.specs.Errno.{errno_name}
+use Rattle.ft_tree.specs.declared.node.Kind.{Kind}
+use Rattle.ft_tree.specs.declared.node.Kind.TheVariants.{Dir, File}
+use Rattle.ft_tree.specs.declared.open_file.AccessMode.{AccessMode}
+use Rattle.ft_tree.specs.declared.open_file.AccessMode.TheVariants.{ReadOnly, WriteOnly, ReadWrite}
+use Rattle.ft_tree.specs.declared.row.TreeRow.{TreeRow}
+use Rattle.ft_tree.specs.declared.row.TreeRow.TheVariants as rows
+use Rattle.ft_calls.specs.declared.call.Reply.{Reply}
+use Rattle.ft_calls.specs.declared.call.Reply.TheVariants.{Done, Names, Number, Bytes, Info, Failed}
+
+-- The bytes 0 to 32, `%`, and those from 127 on are printed as `%` and two upper-case hexadecimal digits.
+abbrev pub is_coded : ℕ → Bool
+is_coded b = nat_le b 32 || (b == 37) || nat_le 127 b
+
+abbrev pub coded : List ℕ → List ℕ
+coded bytes = flat_map (λ b. if is_coded b then percent_encode_byte b else b ∷ []) bytes
+
+-- a name after a space, and a slash behind a directory's
+abbrev pub listed : List ℕ → Kind → List ℕ
+listed name Dir = codes " " ++ coded name ++ codes "/"
+listed name File = codes " " ++ coded name
+
+abbrev pub listing : List (List ℕ × Kind) → List ℕ
+listing names = flat_map (λ entry. listed entry.0 entry.1) names
+
+-- the bytes of a file after a space, where there are any
+abbrev pub data_text : List ℕ → List ℕ
+data_text [] = []
+data_text (first ∷ more) = codes " " ++ coded (first ∷ more)
+
+abbrev pub kind_text : Kind → List ℕ
+kind_text Dir = codes "dir "
+kind_text File = codes "file "
+
+-- what a call replied
+abbrev pub reply_text : Reply → List ℕ
+reply_text Done = codes "ok"
+reply_text (Names names) = codes "ok " ++ decimal (length names) ++ listing names
+reply_text (Number number) = codes "ok " ++ decimal number
+reply_text (Bytes bytes) = codes "ok " ++ decimal (length bytes) ++ data_text bytes
+reply_text (Info kind number links size) = codes "ok " ++ kind_text kind ++ decimal number ++ codes " " ++ decimal links ++ codes " " ++ decimal size
+reply_text (Failed errno) = errno_name errno
+
+-- each of some lines after a line feed
+abbrev pub lines_text : {A : Type 0} → (A → List ℕ) → List A → List ℕ
+lines_text text_of lines = flat_map (λ line. 10 ∷ text_of line) lines
+
+-- ---- what the tree holds
+
+abbrev pub access_text : AccessMode → List ℕ
+access_text ReadOnly = codes "r"
+access_text WriteOnly = codes "w"
+access_text ReadWrite = codes "rw"
+
+abbrev pub append_text : Bool → List ℕ
+append_text true = codes "a"
+append_text false = []
+
+abbrev pub row_text : TreeRow → List ℕ
+row_text (rows.Dir number) = codes "dir " ++ decimal number
+row_text (rows.Edge dir name number) = codes "edge " ++ decimal dir ++ codes " " ++ coded name ++ codes " " ++ decimal number
+row_text (rows.File number size bytes) = codes "file " ++ decimal number ++ codes " " ++ decimal size ++ data_text bytes
+row_text (rows.Fd fd file access append offset) = codes "fd " ++ decimal fd ++ codes " " ++ decimal file ++ codes " " ++ access_text access ++ append_text append ++ codes " " ++ decimal offset
+
+abbrev pub tree_text : List TreeRow → List ℕ
+tree_text rows = codes "tree " ++ decimal (length rows) ++ lines_text row_text rows

@@ -1,0 +1,134 @@
+// The arguments of a call, by the words behind its name.
+ghost use Rattle.std.specs.Prelude.{◌≡◌};
+ghost use Rattle.ft_words.specs.Spelling.{number_of, integer_of, path_of, data_of};
+ghost use Rattle.ft_words.specs.Calls.{only, last, both, three, flags_of, whence_of, Reads};
+
+use crate::coded::{data_of, path_of};
+use crate::flags::{flags_of, whence_of};
+use crate::numbers::{integer_of, number_of};
+use crate::unread::Unread;
+use crate::words::Words;
+use ft_base::Sequence;
+use ft_calls::{OpenFlags, Whence};
+use ft_path::FilePath;
+use std::alloc::Global;
+
+/// `F`
+pub fn number(words: Words<'_>) -> Option<u64>
+    ensures { result ≡ only number_of words.entry }
+{
+    number_of(words.only()?)
+}
+
+/// `F N`
+pub fn number_number(words: Words<'_>) -> Option<(u64, u64)>
+    ensures { result ≡ both number_of (only number_of) words.entry }
+{
+    let mut words = words;
+    let first = number_of(words.next()?)?;
+    let second = number_of(words.only()?)?;
+    Some((first, second))
+}
+
+/// `F I`
+pub fn number_integer(words: Words<'_>) -> Option<(u64, i64)>
+    ensures { result ≡ both number_of (only integer_of) words.entry }
+{
+    let mut words = words;
+    let first = number_of(words.next()?)?;
+    let second = integer_of(words.only()?)?;
+    Some((first, second))
+}
+
+/// `F I N`
+pub fn number_integer_number(words: Words<'_>) -> Option<(u64, i64, u64)>
+    ensures { result ≡ three number_of integer_of (only number_of) words.entry }
+{
+    let mut words = words;
+    let first = number_of(words.next()?)?;
+    let second = integer_of(words.next()?)?;
+    let third = number_of(words.only()?)?;
+    Some((first, second, third))
+}
+
+/// `F WHENCE I`
+pub fn number_whence_integer(words: Words<'_>) -> Option<(u64, Whence, i64)>
+    ensures { result ≡ three number_of whence_of (only integer_of) words.entry }
+{
+    let mut words = words;
+    let first = number_of(words.next()?)?;
+    let second = whence_of(words.next()?)?;
+    let third = integer_of(words.only()?)?;
+    Some((first, second, third))
+}
+
+/// `P`
+pub fn path(alloc: Global, words: Words<'_>) -> Result<FilePath, Unread>
+    ensures { Reads result (last path_of words.entry) }
+{
+    let word = words.last().ok_or(Unread::Misspelt)?;
+    path_of(alloc, word)
+}
+
+// `D`
+fn data(alloc: Global, words: Words<'_>) -> Result<Sequence<u8>, Unread>
+    ensures { Reads result (last data_of words.entry) }
+{
+    let word = words.last().ok_or(Unread::Misspelt)?;
+    data_of(alloc, word)
+}
+
+/// `P P`
+pub fn path_path(alloc: Global, words: Words<'_>) -> Result<(FilePath, FilePath), Unread>
+    ensures { Reads result (both path_of (last path_of) words.entry) }
+{
+    let mut words = words;
+    let word = words.next().ok_or(Unread::Misspelt)?;
+    let first = path_of(alloc, word)?;
+    let second = path(alloc, words)?;
+    Ok((first, second))
+}
+
+/// `FLAGS P`
+pub fn flags_path(alloc: Global, words: Words<'_>) -> Result<(OpenFlags, FilePath), Unread>
+    ensures { Reads result (both flags_of (last path_of) words.entry) }
+{
+    let mut words = words;
+    let first = words.next().and_then(flags_of).ok_or(Unread::Misspelt)?;
+    let second = path(alloc, words)?;
+    Ok((first, second))
+}
+
+/// `I P`
+pub fn integer_path(alloc: Global, words: Words<'_>) -> Result<(i64, FilePath), Unread>
+    ensures { Reads result (both integer_of (last path_of) words.entry) }
+{
+    let mut words = words;
+    let first = words.next().and_then(integer_of).ok_or(Unread::Misspelt)?;
+    let second = path(alloc, words)?;
+    Ok((first, second))
+}
+
+/// `F D`
+pub fn number_data(alloc: Global, words: Words<'_>) -> Result<(u64, Sequence<u8>), Unread>
+    ensures { Reads result (both number_of (last data_of) words.entry) }
+{
+    let mut words = words;
+    let first = words.next().and_then(number_of).ok_or(Unread::Misspelt)?;
+    let second = data(alloc, words)?;
+    Ok((first, second))
+}
+
+/// `F I D`
+pub fn number_integer_data(
+    alloc: Global,
+    words: Words<'_>,
+) -> Result<(u64, i64, Sequence<u8>), Unread>
+    ensures { Reads result (three number_of integer_of (last data_of) words.entry) }
+{
+    let mut words = words;
+    let first = words.next().and_then(number_of).ok_or(Unread::Misspelt)?;
+    let second = words.next().and_then(integer_of).ok_or(Unread::Misspelt)?;
+    let third = data(alloc, words)?;
+    Ok((first, second, third))
+}

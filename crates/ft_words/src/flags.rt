@@ -1,0 +1,67 @@
+// The words that say how a file is opened, and from where an offset counts.
+ghost use Rattle.std.specs.Prelude.{◌≡◌, ◌==◌, ℕ, List, Option, codes, if◌then◌else◌, true, false, Some, None};
+ghost use Rattle.std.specs.Str.{bytes_eq};
+ghost use Rattle.ft_words.specs.Calls.{flags_of, whence_of, split_letter, access_of};
+
+use ft_calls::{OpenFlags, Whence};
+use ft_tree::AccessMode;
+
+/// `r`, `w` or `rw`, and then any of `c`, `x`, `t` and `a`, each at most once, in this order.
+pub fn flags_of(word: &[u8]) -> Option<OpenFlags>
+    ensures { result ≡ flags_of word.now }
+{
+    let (read, rest) = split_letter(b'r', word);
+    let (write, rest) = split_letter(b'w', rest);
+    let (create, rest) = split_letter(b'c', rest);
+    let (excl, rest) = split_letter(b'x', rest);
+    let (trunc, rest) = split_letter(b't', rest);
+    let (append, rest) = split_letter(b'a', rest);
+    if !rest.is_empty() {
+        return None;
+    }
+    let access = access_of(read, write)?;
+    Some(OpenFlags {
+        access,
+        create,
+        excl,
+        trunc,
+        append,
+    })
+}
+
+// Whether a text begins with a letter, and what stands behind it.
+fn split_letter(letter: u8, text: &[u8]) -> (bool, &[u8])
+    ensures { (result.0, result.1.now) ≡ split_letter letter text.now }
+{
+    match text.split_first() {
+        Some((first, rest)) if *first == letter => (true, rest),
+        _ => (false, text),
+    }
+}
+
+// For reading, for writing, or for both.
+fn access_of(read: bool, write: bool) -> Option<AccessMode>
+    ensures { result ≡ access_of read write }
+{
+    match (read, write) {
+        (true, true) => Some(AccessMode::ReadWrite),
+        (true, false) => Some(AccessMode::ReadOnly),
+        (false, true) => Some(AccessMode::WriteOnly),
+        (false, false) => None,
+    }
+}
+
+/// From where an offset counts.
+pub fn whence_of(word: &[u8]) -> Option<Whence>
+    ensures { result ≡ whence_of word.now }
+{
+    if word == b"set".as_slice() {
+        Some(Whence::Set)
+    } else if word == b"cur".as_slice() {
+        Some(Whence::Cur)
+    } else if word == b"end".as_slice() {
+        Some(Whence::End)
+    } else {
+        None
+    }
+}

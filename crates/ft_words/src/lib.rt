@@ -1,0 +1,24 @@
+//! Words: how numbers, paths, data, flags and calls are spelled in a line of words, and the text of
+//! what calls reply and of what a tree holds.
+#![tactic(auto)]
+
+mod arguments;
+mod calls;
+mod coded;
+mod flags;
+mod lines;
+mod numbers;
+mod split;
+mod text;
+mod tree_text;
+mod unread;
+mod words;
+
+pub use calls::{call_of, descriptor_call_of};
+pub use lines::Lines;
+pub use numbers::{integer_of, number_of};
+pub use split::split_once;
+pub use text::{Coded, Data, ReplyText};
+pub use tree_text::TreeText;
+pub use unread::Unread;
+pub use words::Words;

@@ -1,0 +1,17 @@
+// Where a byte stands in a text.
+ghost use Rattle.std.specs.Prelude.{◌≡◌, ◌∷◌, ◌++◌, MatchOption};
+ghost use Rattle.ft_words.specs.Spelling.{IsFreeOf};
+
+use bstr::ByteSlice;
+
+/// What stands before the first place of a byte, and what stands after it, where the byte is
+/// there.
+pub fn split_once(byte: u8, text: &[u8]) -> Option<(&[u8], &[u8])>
+    ensures { MatchOption result (IsFreeOf byte text.now)
+        (λ parts. IsFreeOf byte parts.0.now × (text.now ≡ parts.0.now ++ byte ∷ parts.1.now)) }
+{
+    match text.find_byte(byte) {
+        None => None,
+        Some(at) => Some((&text[..at], &text[at + 1..])),
+    }
+}
