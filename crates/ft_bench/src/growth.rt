@@ -7,47 +7,6 @@ use ft_undo::{perform, revert};
 use std::alloc::Global;
 use std::marker::Model;
 
-/// Who makes calls, one by one, on a tree.
-pub trait Performs {
-    /// Makes a call, and answers its reply.
-    fn perform(&mut self, call: Call) -> Result<Reply>;
-}
-
-/// Makes directories with three components, as many as `size`, and those above them: ten in each of the second level, and a
-/// hundred of these in each of the first.
-pub fn grow<P: Performs>(alloc: Global, tree: &mut P, size: u64) -> Result<()> {
-    for index in 0..size {
-        add(alloc, tree, index)?;
-    }
-    Ok(())
-}
-
-/// Makes the directory of this number, and those above it where it is the first in them.
-fn add<P: Performs>(alloc: Global, tree: &mut P, index: u64) -> Result<()> {
-    let (first, second, third) = (index / 1000, index / 10 % 100, index % 10);
-    if index % 1000 == 0 {
-        make_directory(alloc, tree, format!(in alloc; "/a{first}")?.as_str())?;
-    }
-    if third == 0 {
-        make_directory(
-            alloc,
-            tree,
-            format!(in alloc; "/a{first}/b{second}")?.as_str(),
-        )?;
-    }
-    let text = format!(in alloc; "/a{first}/b{second}/c{third}")?;
-    make_directory(alloc, tree, text.as_str())
-}
-
-fn make_directory<P: Performs>(alloc: Global, tree: &mut P, text: &str) -> Result<()> {
-    let path = FilePath::new(alloc, text.as_bytes())?;
-    ensure!(
-        tree.perform(Call::Mkdir { path })? == Reply::Done,
-        "mkdir {text}"
-    );
-    Ok(())
-}
-
 /// A tree, and the stamp of the next call on it.
 #[derive(Drop)]
 pub struct Growth {
@@ -71,17 +30,45 @@ impl Model for Growth {
 }
 
 impl Growth {
-    /// The root alone.
-    pub fn new(alloc: Global) -> Result<Growth> {
-        Ok(Growth {
+    /// A tree of directories with three components, as many as `size`, and those above them: ten in
+    /// each of the second level, and a hundred of these in each of the first.
+    pub fn new(alloc: Global, size: u64) -> Result<Growth> {
+        let mut growth = Growth {
             alloc,
             tree: Tree::new(alloc)?,
             next: 2,
-        })
+        };
+        for index in 0..size {
+            growth.add(index)?;
+        }
+        Ok(growth)
+    }
+
+    /// Makes the directory of this number, and those above it where it is the first in them.
+    fn add(&mut self, index: u64) -> Result<()> {
+        let alloc = self.alloc;
+        let (first, second, third) = (index / 1000, index / 10 % 100, index % 10);
+        if index % 1000 == 0 {
+            self.make_directory(format!(in alloc; "/a{first}")?.as_str())?;
+        }
+        if third == 0 {
+            self.make_directory(format!(in alloc; "/a{first}/b{second}")?.as_str())?;
+        }
+        self.make_directory(format!(in alloc; "/a{first}/b{second}/c{third}")?.as_str())
+    }
+
+    fn make_directory(&mut self, text: &str) -> Result<()> {
+        let alloc = self.alloc;
+        let path = FilePath::new(alloc, text.as_bytes())?;
+        ensure!(
+            self.perform(&Call::Mkdir { path })? == Reply::Done,
+            "mkdir {text}"
+        );
+        Ok(())
     }
 
     /// Makes a call, and answers its reply.
-    pub fn make(&mut self, call: &Call) -> Result<Reply> {
+    pub fn perform(&mut self, call: &Call) -> Result<Reply> {
         let stamp = self.next;
         let next = stamp.checked_add(1).context("no more stamps")?;
         let (reply, _undo) = perform(self.alloc, &mut self.tree, stamp, call)?;
@@ -103,11 +90,5 @@ impl Growth {
             revert(&mut copy, undo);
         }
         Ok(reply)
-    }
-}
-
-impl Performs for Growth {
-    fn perform(&mut self, call: Call) -> Result<Reply> {
-        self.make(&call)
     }
 }

@@ -1,5 +1,5 @@
 // What is measured.
-use crate::growth::{Growth, grow};
+use crate::growth::Growth;
 use anyhow::Result;
 use ft_calls::{Call, Reply, Whence};
 use ft_path::FilePath;
@@ -46,12 +46,12 @@ impl Measure {
         Ok(match self {
             Measure::Text => true,
             Measure::Stat => growth.accesses(call)? == 3,
-            Measure::Mkdir => growth.make(call)? == Reply::Done,
-            Measure::Refused => growth.make(call)? != Reply::Done,
+            Measure::Mkdir => growth.perform(call)? == Reply::Done,
+            Measure::Refused => growth.perform(call)? != Reply::Done,
             Measure::Lseek => {
                 let off = 1;
                 let whence = Whence::Set;
-                growth.make(&Call::Lseek { fd, whence, off })? == Reply::Number(1)
+                growth.perform(&Call::Lseek { fd, whence, off })? == Reply::Number(1)
             }
             Measure::Copy => growth.perform_on_copy(call, false)? == Reply::Done,
             Measure::Revert => growth.perform_on_copy(call, true)? == Reply::Done,
@@ -62,8 +62,7 @@ impl Measure {
 /// Does a measure as often as `count` says, over a tree of this size, each time at another
 /// directory: how often it went well.
 pub fn run(alloc: Global, measure: Measure, count: u64, size: u64) -> Result<u64> {
-    let mut growth = Growth::new(alloc)?;
-    grow(alloc, &mut growth, size)?;
+    let mut growth = Growth::new(alloc, size)?;
     let fd = open_file(alloc, &mut growth)?;
     let mut done: u64 = 0;
     for index in 0..count {
@@ -87,7 +86,7 @@ fn open_file(alloc: Global, growth: &mut Growth) -> Result<u64> {
         trunc: false,
         append: false,
     };
-    match growth.make(&open)? {
+    match growth.perform(&open)? {
         Reply::Number(fd) => Ok(fd),
         _ => anyhow::bail!("open /f"),
     }

@@ -1,9 +1,7 @@
-// Edges and verdicts by worked examples, and printed names.
-use crate::{Edge, EdgeKind, Verdict, edges, judge};
+// Verdicts by worked examples, and printed names.
+use crate::{Edge, EdgeKind, Verdict, judge};
 use ft_base::Memory;
-use ft_calls::Call;
-use ft_core::{Core, TxnId};
-use ft_path::FilePath;
+use ft_core::TxnId;
 use std::alloc::{AllocError, Global};
 use std::test::Fail;
 
@@ -48,60 +46,12 @@ fn single_calls(rt: HostRuntime) -> Result<(), Fail> {
     Ok(())
 }
 
-/// Asks for a directory to be made.
-fn mkdir(alloc: Global, core: &mut Core, txn: u64, path: &[u8]) -> Result<(), Fail> {
-    let path = FilePath::new(alloc, path)?;
-    core.ask(TxnId(txn), Call::Mkdir { path })?;
-    Ok(())
-}
-
-/// Asks what stands at a path.
-fn stat(alloc: Global, core: &mut Core, txn: u64, path: &[u8]) -> Result<(), Fail> {
-    let path = FilePath::new(alloc, path)?;
-    core.ask(TxnId(txn), Call::Stat { path })?;
-    Ok(())
-}
-
-/// Two transactions, of which each waits for the other.
-fn lock_each_other(alloc: Global, core: &mut Core) -> Result<(), Fail> {
-    core.begin()?;
-    core.begin()?;
-    mkdir(alloc, core, 1, b"/a")?;
-    mkdir(alloc, core, 2, b"/b")?;
-    stat(alloc, core, 1, b"/b")?;
-    stat(alloc, core, 2, b"/a")
-}
-
-fn has_edges(alloc: Global, core: &Core, wanted: &[Edge]) -> Result<bool, Memory> {
-    let edges = edges(alloc, core)?;
-    Ok(edges.as_slice() == wanted)
-}
-
 #[test]
 fn deadlock_is_reported(rt: HostRuntime) -> Result<(), Fail> {
-    let alloc = rt.alloc();
-    let mut core = Core::new(alloc)?;
-    lock_each_other(alloc, &mut core)?;
-    assert!(rt; has_edges(alloc, &core, &[lock(1, 2), lock(2, 1)])?);
-    core.abort(TxnId(2))?;
-    core.sub(TxnId(1))?;
-    assert!(rt; has_edges(alloc, &core, &[child(1, 3)])?);
-    Ok(())
-}
-
-#[test]
-fn verdicts_on_a_deadlock_and_a_child(rt: HostRuntime) -> Result<(), Fail> {
     let alloc = rt.alloc();
     assert!(rt; is_cycle(alloc, &[lock(1, 2), lock(2, 1)], &[1, 2])?);
     let ranks = [(TxnId(1), 1), (TxnId(3), 0)];
     assert!(rt; is_ranked(alloc, &[child(1, 3)], &ranks)?);
-    Ok(())
-}
-
-#[test]
-fn edges_of_a_new_core(rt: HostRuntime) -> Result<(), Fail> {
-    let core = Core::new(rt.alloc())?;
-    assert!(rt; has_edges(rt.alloc(), &core, &[])?);
     Ok(())
 }
 

@@ -1,7 +1,7 @@
 use Rattle.std.proofs.Common.{rules, ◌≤◌, ℕ, sym, subst}
 use Rattle.ft_tree.specs.Cells.{Cells}
 use Rattle.ft_tree.specs.Sound.{AreSoundCells, IsFree}
-use Rattle.ft_bench.proofs.growth.Growth.make.Goals as goal
+use Rattle.ft_bench.proofs.growth.Growth.perform.Goals as goal
 
 -- a call that is refused changes nothing
 pub invariant_of-self : goal.invariant_of-self
