@@ -1,15 +1,12 @@
-// Scripts worked by hand, request by request through the lock; a waiter and one who lets it go on; cores that can't be shared.
-use crate::{Manager, Shared};
+// Scripts worked by hand, request by request through the lock; turns that are used up; cores that can't be shared.
+use crate::Shared;
 use ft_calls::{Call, Reply};
-use ft_core::{Answer, Core, Fault, Outcome, Request, TxnId};
+use ft_core::{Answer, Core, Fault, Request, TxnId};
 use ft_path::FilePath;
 use ft_tree::AccessMode;
 use std::alloc::Global;
 use std::sync::Wait;
 use std::test::Fail;
-use std::thread;
-use std::thread::Threads;
-use std::time::{Clock, Duration};
 
 /// A request: the number of its transaction, and its path or its descriptor.
 #[derive(Clone, Copy)]
@@ -280,35 +277,6 @@ fn with_directory<R: Wait>(rt: &R, alloc: Global) -> Result<Shared, Fail> {
     }
 }
 
-/// One thread waits for a transaction, and another one commits that a while later.
-fn wait_and_commit<R: Threads + Wait + Clock + Sync>(
-    rt: &R,
-    shared: &Shared,
-    call: &Call,
-) -> (Result<Outcome, Fault>, Result<(), Fault>) {
-    thread::join(
-        rt,
-        || shared.ask_wait(rt, TxnId(2), call, 400),
-        || {
-            thread::sleep(rt, Duration::from_millis(50));
-            shared.commit(rt, TxnId(1))
-        },
-    )
-}
-
-#[test]
-fn waiter_lets_others_go_on(rt: HostRuntime) -> Result<(), Fail> {
-    let alloc = rt.alloc();
-    let path = FilePath::new(alloc, b"/".as_slice())?;
-    let call = Call::List { path };
-    let shared = with_directory(&rt, alloc)?;
-    let (outcome, committed) = wait_and_commit(&rt, &shared, &call);
-    let told = Answer::from(outcome?);
-    assert!(rt; is_answer(&told, Wanted::Names(3, b"a".as_slice())));
-    assert_eq!(rt; committed, Ok(()));
-    Ok(())
-}
-
 #[test]
 fn turns_are_used_up(rt: HostRuntime) -> Result<(), Fail> {
     let alloc = rt.alloc();
@@ -318,31 +286,6 @@ fn turns_are_used_up(rt: HostRuntime) -> Result<(), Fail> {
     let told = Answer::from(shared.ask_wait(&rt, TxnId(2), &call, 3)?);
     assert!(rt; is_answer(&told, Wanted::Waits(1)));
     assert_eq!(rt; shared.drop_ask(&rt, TxnId(2)), Ok(()));
-    Ok(())
-}
-
-/// A transaction with a directory and a subtransaction, by the trait alone.
-fn managed<R: Wait + Clock, M: Manager + Drop>(
-    rt: &R,
-    manager: M,
-    call: &Call,
-) -> Result<Core, Fault> {
-    let top = manager.begin(rt)?;
-    let below = manager.sub(rt, top)?;
-    let _ = manager.ask_wait(rt, top, call, 1)?;
-    let _ = manager.abort(rt, below)?;
-    manager.commit(rt, top)?;
-    Ok(manager.into_core())
-}
-
-#[test]
-fn manager_is_shared(rt: HostRuntime) -> Result<(), Fail> {
-    let alloc = rt.alloc();
-    let path = FilePath::new(alloc, b"/a".as_slice())?;
-    let call = Call::Mkdir { path };
-    let core = managed(&rt, new_shared(alloc)?, &call)?;
-    assert_eq!(rt; core.history().len(), 5);
-    assert_eq!(rt; core.tree().rows()?.len(), 3);
     Ok(())
 }
 
