@@ -18,13 +18,13 @@ pub same_cell-refl : (c : Cell) → same_cell c c ≡ true
 same_cell-refl = (eq_by_cmp_equiv cell_cmp_total).refl
 
 -- cells that the test tells apart are different
-other_cell : (x y : Cell) → same_cell x y ≡ false → x ≢ y
+pub other_cell : (x y : Cell) → same_cell x y ≡ false → x ≢ y
 other_cell x y h is = false≢true (sym h ∙ subst (λ z. same_cell x z ≡ true) is (same_cell-refl x))
 
 place-same : (d : ℕ) (name : List ℕ) → is_place d name d name ≡ true
 place-same d name = and_from (d == d) (pointwise nat_eq name name) (eq-eqb d d refl) ((bytes_decides name name).1 refl)
 
-place-other : (d : ℕ) (name : List ℕ) (e : ℕ) (other : List ℕ) → same_cell (Entry d name) (Entry e other) ≡ false → is_place d name e other ≡ false
+pub place-other : (d : ℕ) (name : List ℕ) (e : ℕ) (other : List ℕ) → same_cell (Entry d name) (Entry e other) ≡ false → is_place d name e other ≡ false
 place-other d name e other h =
     false_from_ne_true (is_place d name e other)
     (λ is. let parts = and_parts (e == d) (pointwise nat_eq other name) is in

@@ -67,11 +67,11 @@ covers-refl (Bytes i) = same_cell-refl (Bytes i)
 covers-refl (Fd f) = same_cell-refl (Fd f)
 
 -- p is the names of a directory, and x an entry of it
-abbrev IsOfNames : Cell → Cell → Type 0
+abbrev pub IsOfNames : Cell → Cell → Type 0
 IsOfNames p x = (d : ℕ) × (name : List ℕ) × (p ≡ Names d) × (x ≡ Entry d name)
 
 -- what a place covers is the cell that it is, or an entry where it is the names of a directory
-covers-cases : (p x : Cell) → covers p x ≡ true → (p ≡ x) ⊎ IsOfNames p x
+pub covers-cases : (p x : Cell) → covers p x ≡ true → (p ≡ x) ⊎ IsOfNames p x
 covers-cases (Names d) (Entry e name) h = inr (d, name, refl, ap (λ n. Entry n name) (sym (eqb-true d e h)))
 covers-cases p x h = inl (same_cell-is p x h)
 
@@ -239,7 +239,7 @@ nameless (Bytes n) v i j h = refl
 nameless (Fd f) v i j h = absurd (none-some i h)
 
 -- nothing is stored of a free number
-own_blank : (s : Cells) (k : ℕ) → IsFree s k → (x : Cell) → file_of x ≡ Some k → held s x ≡ blank x
+pub own_blank : (s : Cells) (k : ℕ) → IsFree s k → (x : Cell) → file_of x ≡ Some k → held s x ≡ blank x
 own_blank s k free (Entry d name) h = absurd (none-some k h)
 own_blank s k free (Names d) h = refl
 own_blank s k free (Parent d) h = absurd (none-some k h)
@@ -251,11 +251,11 @@ own_blank s k free (Fd f) h = absurd (none-some k h)
 
 module _ (hidden : ℕ → Bool) where
   -- the cells without the hidden files
-  abbrev without : Cells → Cells
+  abbrev pub without : Cells → Cells
   without p = record p { files = retain_keys p.files (λ i. not (hidden i)) }
 
   -- the places that are left
-  get-without : (p : Cells) (i : ℕ) → get (without p).files i ≡ cond (not (hidden i)) (get p.files i) None
+  pub get-without : (p : Cells) (i : ℕ) → get (without p).files i ≡ cond (not (hidden i)) (get p.files i) None
   get-without p i = get-retain_keys p.files (λ j. not (hidden j)) i (λ j tied. ap (λ n. not (hidden n)) (sym (exact_unsigned i j tied)))
 
   -- what is read of a file then
@@ -279,7 +279,7 @@ module _ (hidden : ℕ → Bool) where
 
     module _ (p : Cells) (sound : AreSoundCells p) (same : SameValues p r) where
       -- the values that are left are those of the cells without the hidden files
-      same-without : SameValues (without p) s
+      pub same-without : SameValues (without p) s
       same-without = record { values = values }
         where
           values : (c : Cell) → held s c ≡ held (without p) c
@@ -319,7 +319,7 @@ module _ (hidden : ℕ → Bool) where
           by_dir false is = count-none (tidy p).edges i (λ e h. by_entry e is (entry_of p e.0 e.1) refl (sym (get-tidy p e.0 e.1) ∙ h))
 
       -- so what is left is sound
-      sound-without : AreSoundCells (without p)
+      pub sound-without : AreSoundCells (without p)
       sound-without = record {
         root_is = sound.root_is;
         tree = sound.tree;
@@ -347,7 +347,7 @@ module _ (steps-alike : StepsAlike) (stored-enough : StoredEnough) where
       sym (λ i. record { accesses = map as_place (accesses i); writes = (alike.outcomes i).writes; reply = (alike.outcomes i).reply })
 
   -- after a call the values are those of the cells with places after it
-  after-places : (s : Cells) (a : Stamped) → (has : HasSoundValues s) → SameValues (after has.with_places a.stamp a.call) (write_all posix s (does s a).writes)
+  pub after-places : (s : Cells) (a : Stamped) → (has : HasSoundValues s) → SameValues (after has.with_places a.stamp a.call) (write_all posix s (does s a).writes)
   after-places s a has =
       let p = has.with_places in
       let alike = does-same steps-alike stored-enough p s has.same has.sound.tree a.stamp a.call in

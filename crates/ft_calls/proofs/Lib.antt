@@ -56,3 +56,5 @@ pub mod HiddenFiles
 pub mod Edited
 pub mod Setting
 mod Nameless
+pub mod Leaving
+mod Making

@@ -15,7 +15,7 @@ use Rattle.ft_calls.specs.RunLaws.{NamelessLaw}
 use Rattle.ft_calls.proofs.Named.{Named, by_entry, by_open}
 use Rattle.ft_calls.proofs.Shown.{named-there}
 
-named : (cells : Cells) (i : ℕ) (c : Cell) → names_file c (held cells c) i ≡ true → Named cells i
+pub named : (cells : Cells) (i : ℕ) (c : Cell) → names_file c (held cells c) i ≡ true → Named cells i
 named cells i (Entry d name) e = by_node (entry_of cells d name) refl e
   where
     by_node : (o : Option Node) → entry_of cells d name ≡ o → node_names o i ≡ true → Named cells i

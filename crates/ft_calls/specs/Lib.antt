@@ -16,3 +16,4 @@ pub mod Comes
 pub mod Edits
 pub mod CellLaws
 pub mod Within
+pub mod Leaving

@@ -5,6 +5,7 @@ ghost use Rattle.ft_calls.specs.Laws.{SoundnessLaw, FreshnessLaw, TidyingLaw, Va
 ghost use Rattle.ft_calls.specs.RunLaws.{PlainAccessesLaw, HidingLaw, RunLaw, PlacedLaw, WritesLaw, NamelessLaw};
 ghost use Rattle.ft_calls.specs.Edits.{PlacesLaw, EditingLaw};
 ghost use Rattle.ft_calls.specs.CellLaws.{SettingLaw, RestoringLaw};
+ghost use Rattle.ft_calls.specs.Leaving.{LeavingLaw, UselessLaw, MakingLaw};
 ghost use Rattle.ft_calls.specs.Posix.{posix_calls};
 
 /// A call whose stamp numbers nothing leaves sound cells sound.
@@ -128,4 +129,21 @@ pub fn writes()
 /// No entry and no description names a file that is not there.
 pub fn nameless()
     ensures { NamelessLaw }
+{}
+
+/// What is of no use after writes was so before, or they write a cell of its place, or it is of a
+/// file that was open.
+pub fn leaving()
+    ensures { LeavingLaw }
+{}
+
+/// A call that leaves an empty place, or a file or a directory that is not there any more, accesses a
+/// cell of its place, or it was so before the call.
+pub fn useless()
+    ensures { UselessLaw }
+{}
+
+/// A call that leaves the name of the file that it makes writes a cell of this file.
+pub fn making()
+    ensures { MakingLaw }
 {}

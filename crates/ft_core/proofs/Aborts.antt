@@ -8,15 +8,17 @@ use Rattle.std.specs.FinMap as finite
 use Rattle.ft_base.specs.Chains.{Lists, list_in}
 use Rattle.ft_laws.specs.Lists.{In}
 use Rattle.ft_laws.proofs.Tests.{by_test, by_option}
+use Rattle.ft_tree.specs.declared.cell.Cell.{Cell}
 use Rattle.ft_tree.specs.Cells.{Cells}
+use Rattle.ft_tree.specs.Sweep.{IsAccounted}
 use Rattle.ft_calls.specs.Posix.{posix_calls}
-use Rattle.ft_calls.specs.RunLaws.{HasNamedPlaces}
+use Rattle.ft_calls.specs.RunLaws.{HasNamedPlaces, writes_cell}
 use Rattle.ft_undo.specs.declared.logs.Logged.{Logged}
 use Rattle.ft_undo.specs.Logs.{is_open, AreLists, AreOpen}
 use Rattle.ft_forest.specs.declared.state.State.{State as Life}
 use Rattle.ft_forest.specs.declared.state.State.TheVariants.{Live as LiveState, Committed as CommittedState, Aborted as AbortedState}
 use Rattle.ft_forest.specs.Transactions.{Transactions, parent_in, state_in, over_in, last_in, is_live as is_live_in, HasEnded, HasAborted, IsAborting}
-use Rattle.ft_locks.specs.Locks.{LockTable, is_opened, AreReleased}
+use Rattle.ft_locks.specs.Locks.{LockTable, is_locked, is_let_go, is_opened, AreReleased}
 use Rattle.ft_locks.specs.Law.{AreDropped}
 use Rattle.ft_history.specs.Forest.{above}
 use Rattle.ft_history.specs.History.{Base as HistoryBase, Fate, fate, is_live, IsLive, parent, over, grants, standing, is_standing, newest_below}
@@ -37,10 +39,12 @@ use Rattle.ft_core.specs.Journals.{Journaled, with_event, without, state_of}
 use Rattle.ft_core.specs.Kept.{Item, fate_in, ArePlaced, AreLogged, AreLogs, IsCoreAt, IsCoreOf}
 use Rattle.ft_core.specs.Laws.{CallLaws, LockLaws}
 use Rattle.ft_core.specs.Taking.{taken_back, CanTakeBack}
+use Rattle.ft_core.proofs.Accounts.{still-accounted}
 use Rattle.ft_core.proofs.Ends.{named, kept-ending, events-abort, same-live, live-in, not-live-in, fate-live}
 use Rattle.ft_core.proofs.Joining.{start, values}
 use Rattle.ft_core.proofs.Lists.{IsTaking, IsListTaken, list-taken}
 use Rattle.ft_core.proofs.Noted.{removed-same, removed-other, opened-other, open-other}
+use Rattle.ft_core.proofs.Owned.{write_line, has-lock}
 use Rattle.ft_core.proofs.Reverting.{placed-stays}
 
 fewer-pass : {A : Type 0} (p : A → Bool) (xs : List A) → length (passing p xs) ≤ length xs
@@ -71,6 +75,9 @@ module _ (W : CallLaws) (K : LockLaws) (base : Base) (h : History) (asks : Asks)
     pub asks_live : (x : ℕ) → is_live_in (state_in forest x) ≡ true → finite.get j.asks x ≡ finite.get asks x
     pub asks_ended : (x : ℕ) → is_live_in (state_in forest x) ≡ false → finite.get j.asks x ≡ None
     pub journal : j ≡ record j₀ { asks = j.asks; subs = j.subs }
+    -- whose turn has not come has its list
+    pub waits : (x : ℕ) → state_in forest x ≡ Some LiveState → log x ≡ core.log x
+    pub accounted : IsAccounted (is_locked table) (is_let_go table) cells
 
   over-is : (forest : Transactions) → ((x : ℕ) → parent_in forest x ≡ parent posix_calls h x) → (x y : ℕ) → over_in forest x y ≡ over posix_calls h x y
   over-is forest parents x y = ap (λ (f : ℕ → Option ℕ). above f x y) (λ i z. parents z i)
@@ -97,8 +104,10 @@ module _ (W : CallLaws) (K : LockLaws) (base : Base) (h : History) (asks : Asks)
     listed = λ x e. (core.ready x (live-of x e)).log;
     subs = λ x e. refl;
     asks_live = λ x e. ap (λ (a : Asks). finite.get a x) same;
-    asks_ended = λ x e. ap (λ (a : Asks). finite.get a x) same ∙ waits (finite.get asks x) (λ some. false≢true (sym e ∙ sym (fate-of x) ∙ ap is_live (core.waiting x some)));
+    asks_ended = λ x e. ap (λ (a : Asks). finite.get a x) same ∙ no-ask (finite.get asks x) (λ some. false≢true (sym e ∙ sym (fate-of x) ∙ ap is_live (core.waiting x some)));
     journal = refl;
+    waits = λ x e. refl;
+    accounted = core.accounted;
   }
     where
       none : (a b : Bool) → b ≡ true → (a && not b) ≡ false
@@ -106,9 +115,9 @@ module _ (W : CallLaws) (K : LockLaws) (base : Base) (h : History) (asks : Asks)
       none true false e = absurd (false≢true e)
       none false b e = refl
 
-      waits : {A : Type 0} (o : Option A) → (is_some o ≡ true → ⊥) → o ≡ None
-      waits None never = refl
-      waits (Some x) never = absurd (never refl)
+      no-ask : {A : Type 0} (o : Option A) → (is_some o ≡ true → ⊥) → o ≡ None
+      no-ask None never = refl
+      no-ask (Some x) never = absurd (never refl)
 
   -- there is a place for the event
   pub place-abort : 0 < j₀.spare
@@ -121,6 +130,27 @@ module _ (W : CallLaws) (K : LockLaws) (base : Base) (h : History) (asks : Asks)
     parents : (x : ℕ) → parent_in forest x ≡ parent posix_calls h x
     parents x = way.forest_is.parents x ∙ core.transactions.parents x
 
+    was-live : (x : ℕ) → state_in forest x ≡ Some LiveState → IsLive posix_calls base.last_txn h x
+    was-live x e = elim (way.forest_is.states x) [
+      | inl same ↦ live-of x (sym same ∙ e)
+      | inr aborted ↦ absurd (other (sym aborted.2 ∙ e))
+    ]
+      where
+        other : Some AbortedState ≡ Some LiveState → ⊥
+        other e = cc
+
+    -- what the calls of a transaction wrote whose turn has not come is locked still
+    still-locked : (x : ℕ) → state_in forest x ≡ Some LiveState → (e : Item) → In e (way.log x) → (c : Cell) → writes_cell e.done.accesses c ≡ true → is_locked table c ≡ true
+    still-locked x live_x e i c writes =
+        let lock = has-lock W K base h asks last_txn last_number cells₀ forest₀ table₀ lists₀ j₀ core x e (subst (In e) (way.waits x live_x) i) c writes in
+        let l = write_line x c lock.0 in
+        let stays : way.gone x ≡ false = way.gone_is x (was-live x live_x) ∙ ap (λ o. over posix_calls h t x && not (is_live_in o)) live_x ∙ none (over posix_calls h t x) in
+        K.locked table l (way.dropped l ∙ (λ k. not (stays k) && lock.1 k))
+      where
+        none : (b : Bool) → (b && not true) ≡ false
+        none true = refl
+        none false = refl
+
     -- no more inverses are put than calls stand
     pub few : m ≤ last_number
     few =
@@ -130,10 +160,10 @@ module _ (W : CallLaws) (K : LockLaws) (base : Base) (h : History) (asks : Asks)
         omega arith
 
     module _ (next : ℕ) (under : over_in forest t next ≡ true) (is_live : state_in forest next ≡ Some LiveState) (lowest : (x : ℕ) → over_in forest next x ≡ true → state_in forest x ≡ Some LiveState → x ≡ next) where
-      one : IsListTaken W base h last_txn last_number cells₀ core.log core.kept t next m cells way.log (list_in lists next)
-      one = list-taken W base h last_txn last_number cells₀ core.log core.kept t next (sym (over-is forest parents t next) ∙ under) (list_in lists next) m cells way.log (way.logs.logged next)
+      one : IsListTaken W base h last_txn last_number cells₀ core.log core.kept table t next m cells way.log (list_in lists next)
+      one = list-taken W base h last_txn last_number cells₀ core.log core.kept table t next (sym (over-is forest parents t next) ∙ under) (list_in lists next) m cells way.log (way.logs.logged next)
           (λ y a ne. way.ended y (not-live-in (state_in forest y) (λ now. ne (lowest y (over-is forest parents next y ∙ a) now))))
-          (way.logs.placed next) way.places way.taking
+          (way.logs.placed next) (still-locked next is_live) way.places way.accounted way.taking
 
       -- its list can be taken back,
       pub can-take : CanTakeBack (list_in lists next) cells
@@ -191,6 +221,8 @@ module _ (W : CallLaws) (K : LockLaws) (base : Base) (h : History) (asks : Asks)
               (λ is. removed-same j.asks next x is)
               (λ ne. removed-other j.asks next x ne ∙ way.asks_ended x (sym (ap is_live_in (state-other x ne)) ∙ e));
           journal = shape told way.journal;
+          waits = λ x e. let was = still-state x e in one.others x was.0 ∙ way.waits x was.1;
+          accounted = subst (IsAccounted (is_locked table') (is_let_go table')) (sym made) (still-accounted table table' (taken_back (list_in lists next) cells) (K.known.released table table' next released) one.accounted);
         }
           where
             both : (a b : Bool) → a ≡ true → b ≡ false → (a && not b) ≡ true
@@ -228,15 +260,6 @@ module _ (W : CallLaws) (K : LockLaws) (base : Base) (h : History) (asks : Asks)
 
       now-live : (x : ℕ) → IsLive posix_calls base.last_txn after x → state_in forest x ≡ Some LiveState
       now-live x now = fate-live (state_in forest x) (fates-are x ∙ now)
-
-      was-live : (x : ℕ) → state_in forest x ≡ Some LiveState → IsLive posix_calls base.last_txn h x
-      was-live x e = elim (way.forest_is.states x) [
-        | inl same ↦ live-of x (sym same ∙ e)
-        | inr aborted ↦ absurd (other (sym aborted.2 ∙ e))
-      ]
-        where
-          other : Some AbortedState ≡ Some LiveState → ⊥
-          other e = cc
 
       empty : (x : ℕ) → over posix_calls h t x ≡ true → way.log x ≡ []
       empty x a = way.ended x (below x a)
@@ -303,6 +326,7 @@ module _ (W : CallLaws) (K : LockLaws) (base : Base) (h : History) (asks : Asks)
             let same = ap (λ (q : Journaled). q.spare) told in
             let kept = ap (λ (q : Journaled). q.spare) way.journal in
             omega arith;
+        accounted = way.accounted;
       }
         where
           with_true : (b : Bool) → (b && not false) ≡ b

@@ -6,13 +6,14 @@ use Rattle.ft_laws.specs.Lists.{In}
 use Rattle.ft_laws.proofs.Lists.{Each-from, Each-at}
 use Rattle.ft_laws.proofs.Tests.{by_test}
 use Rattle.ft_tree.specs.Cells.{Cells}
+use Rattle.ft_tree.specs.Sweep.{IsAccounted}
 use Rattle.ft_calls.specs.Posix.{HasSoundValues, posix_calls}
 use Rattle.ft_undo.specs.declared.logs.Logged.{Logged}
 use Rattle.ft_undo.specs.Logs.{is_open}
 use Rattle.ft_forest.specs.declared.state.State.{State as Life}
 use Rattle.ft_forest.specs.declared.state.State.TheVariants.{Live as LiveState}
 use Rattle.ft_forest.specs.Transactions.{Transactions, parent_in, state_in, last_in, HasBegun}
-use Rattle.ft_locks.specs.Locks.{LockTable, is_opened}
+use Rattle.ft_locks.specs.Locks.{LockTable, has_lock, is_locked, is_let_go, is_opened}
 use Rattle.ft_history.specs.History.{Base as HistoryBase, Fate, fate, is_live, IsLive, last_transaction, last_stamp, begun, parent, is_child, is_undone, grants, number}
 use Rattle.ft_history.specs.History.Fate.{Live, Committed, Aborted}
 use Rattle.ft_history.specs.History.Event.{Begin as WasBegun, Call as WasGranted, Undo as WasUndone, Commit as WasCommitted, Abort as WasAborted}
@@ -132,6 +133,7 @@ module _ (W : CallLaws) (K : LockLaws) (base : Base) (h : History) (asks : Asks)
           (λ ne. let was = core.ready t (was-live t ne now) in record { locks = was.locks; log = was.log; sub = ap (λ m. finite.get m t) subs ∙ was.sub });
       waiting = λ t some. still-live t (core.waiting t some);
       spare = let le = core.spare in let new = events-begin in omega arith;
+      accounted = core.accounted;
     }
       where
         number_is : last_in forest + 1 ≡ n
@@ -143,7 +145,7 @@ module _ (W : CallLaws) (K : LockLaws) (base : Base) (h : History) (asks : Asks)
     log = core.log;
     kept = core.kept;
     transactions = core.transactions;
-    locks = λ l. same.lines l ∙ core.locks l;
+    locks = λ l. ap (λ (q : LockTable). has_lock q l) same.locks ∙ core.locks l;
     logs = record { logged = λ t. subst (AreLogged (core.log t)) (sym (same.listed t)) (core.logs.logged t); placed = core.logs.placed };
     ready = λ t live.
         let was = core.ready t live in
@@ -152,6 +154,7 @@ module _ (W : CallLaws) (K : LockLaws) (base : Base) (h : History) (asks : Asks)
         record { locks = same.opened t was.locks; log = same.open_still t was.log; sub = same.subs t (λ is. absurd (omega arith)) ∙ was.sub };
     waiting = core.waiting;
     spare = let le = core.spare in let spare_is = ap (λ (q : Journaled). q.spare) same.journal in omega arith;
+    accounted = subst (λ (q : LockTable). IsAccounted (is_locked q) (is_let_go q) cells) (sym same.locks) core.accounted;
   }
 
 -- whom a begin is not refused under is live

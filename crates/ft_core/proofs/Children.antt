@@ -94,6 +94,7 @@ module _ (W : CallLaws) (base : Base) (h : History) (asks : Asks) (last_txn last
       ready = λ t now. absurd (no-live t now);
       waiting = core.waiting;
       spare = let zero = nothing-kept in omega arith;
+      accounted = core.accounted;
     }
 
 pub none_of : (forest : Transactions) (o : Option ℕ) → is_some o ≡ false → IsYoungestChild forest None o → (x : ℕ) → IsLiveUnder forest None x → ⊥

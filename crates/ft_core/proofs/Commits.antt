@@ -3,6 +3,7 @@ use Rattle.std.proofs.Common.{◌≡◌, ◌≢◌, ◌<◌, ◌==◌, ℕ, true
 use Rattle.std.proofs.lemmas.Bool.{false≢true}
 use Rattle.std.specs.FinMap as finite
 use Rattle.ft_base.specs.Chains.{Lists, list_in}
+use Rattle.ft_tree.specs.declared.cell.Cell.{Cell}
 use Rattle.ft_tree.specs.Cells.{Cells}
 use Rattle.ft_calls.specs.Posix.{posix_calls}
 use Rattle.ft_undo.specs.declared.logs.Logged.{Logged}
@@ -12,6 +13,7 @@ use Rattle.ft_forest.specs.declared.state.State.TheVariants.{Committed as Commit
 use Rattle.ft_forest.specs.Transactions.{Transactions, parent_in, state_in, IsLiveChild, HasEnded}
 use Rattle.ft_locks.specs.Locks.{LockTable, is_opened}
 use Rattle.ft_locks.specs.Law.{AreLocksOf}
+use Rattle.ft_locks.specs.Knowing.{is_known}
 use Rattle.ft_history.specs.Forest.{is_some_and}
 use Rattle.ft_history.specs.History.{Base as HistoryBase, Fate, fate, IsLive, parent, last_stamp}
 use Rattle.ft_history.specs.History.Fate.{Live, Committed}
@@ -32,6 +34,7 @@ use Rattle.ft_core.specs.States.{Base, Asks}
 use Rattle.ft_core.specs.Journals.{Journaled, with_event, without, with_sub}
 use Rattle.ft_core.specs.Kept.{Item, fate_in, AreLogged, IsCoreAt}
 use Rattle.ft_core.specs.Laws.{CallLaws, LockLaws}
+use Rattle.ft_core.proofs.Accounts.{still-accounted}
 use Rattle.ft_core.proofs.Children.{no-child}
 use Rattle.ft_core.proofs.Ends.{named, kept-ending, events-commit}
 use Rattle.ft_core.proofs.Joining.{start, values, past}
@@ -103,6 +106,11 @@ module _ (W : CallLaws) (K : LockLaws) (base : Base) (h : History) (asks : Asks)
   locks None is table' h' = K.commit.top from (values W base h last_txn last_number cells core.log core.kept) h table core.locks t table' legal is h'
   locks (Some p) is table' h' = K.commit.under from (values W base h last_txn last_number cells core.log core.kept) h table core.locks t p table' legal is h'
 
+  -- who inherits, and who is let go, knows what was known
+  knows : (up : Option ℕ) → parent posix_calls h t ≡ up → (table' : LockTable) → AreHandedUp table table' t up → (c : Cell) → is_known table c ≡ true → is_known table' c ≡ true
+  knows None is table' h' = K.known.released table table' t h'
+  knows (Some p) is table' h' = K.known.inherited table table' t p (up-live p is).1 h'
+
   -- what is noted of the parent's children
   subs : (up : Option ℕ) → parent posix_calls h t ≡ up → j.last_stamp ≡ last_number → (x : ℕ) → IsLive posix_calls base.last_txn h x → x ≢ t
       → finite.get (without (noted_up j up) t).subs x ≡ Some (last_sub posix_calls base.last_stamp after x)
@@ -167,6 +175,7 @@ module _ (W : CallLaws) (K : LockLaws) (base : Base) (h : History) (asks : Asks)
             let same = ap (λ (q : Journaled). q.spare) is in
             let noted = spare-noted up in
             omega arith;
+        accounted = still-accounted table table' cells (knows up parent_is table' handed_up) core.accounted;
       }
     where
       none : false ≡ true → ⊥

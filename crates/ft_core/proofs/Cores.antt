@@ -7,15 +7,16 @@ use Rattle.std.specs.Ordering.{nat_cmp}
 use Rattle.std.specs.FinMap as finite
 use Rattle.ft_base.specs.Chains.{Lists}
 use Rattle.ft_laws.proofs.Tests.{by_test}
-use Rattle.ft_tree.specs.Cells.{Cells}
+use Rattle.ft_tree.specs.Cells.{Cells, fresh_cells}
 use Rattle.ft_tree.specs.Sound.{AreSoundCells, IsFree}
+use Rattle.ft_tree.specs.Sweep.{IsAccounted}
 use Rattle.ft_tree.specs.Tidy.{tidy}
 use Rattle.ft_calls.specs.declared.call.Call.{Call}
 use Rattle.ft_calls.specs.Posix.{posix_calls}
 use Rattle.ft_undo.specs.declared.logs.Logged.{Logged}
 use Rattle.ft_undo.specs.Logs.{AreLists}
 use Rattle.ft_forest.specs.Transactions.{Transaction, Transactions, none_since, transaction_in, parent_of, state_of as life_of}
-use Rattle.ft_locks.specs.Locks.{LockTable, no_locks}
+use Rattle.ft_locks.specs.Locks.{LockTable, no_locks, is_locked, is_let_go}
 use Rattle.ft_history.specs.History.{Fate, fate, IsLive}
 use Rattle.ft_history.specs.History.Fate.{Live, Committed, Aborted}
 use Rattle.ft_history.proofs.Words.{by_number}
@@ -25,6 +26,7 @@ use Rattle.ft_core.specs.States.{Base, Asks}
 use Rattle.ft_core.specs.Journals.{Journaled, no_events, state_of}
 use Rattle.ft_core.specs.Kept.{fate_in, start_of, AreLogged, IsCoreAt, IsCoreOf}
 use Rattle.ft_core.specs.Laws.{CallLaws, LockLaws}
+use Rattle.ft_core.proofs.Accounts.{fresh-accounted}
 use Rattle.ft_core.proofs.Joining.{sound_values}
 
 none-in : (x : ℕ) → transaction_in (none_since 0) x ≡ None
@@ -36,9 +38,9 @@ unborn x = by_test (nat_lt 0 x && nat_le x 0)
     (λ k. ap (λ b. cond b (Some (cond false Committed (cond false Aborted Live))) None) k)
 
 -- new: the root alone
-pub core-first : CallLaws → LockLaws → (cells : Cells) → AreSoundCells cells → ((k : ℕ) → 2 ≤ k → IsFree cells k) → (lists : Lists Logged) → AreLists lists (λ t. []) → (room : ℕ)
+pub core-first : CallLaws → LockLaws → (cells : Cells) → cells ≡ fresh_cells → AreSoundCells cells → ((k : ℕ) → 2 ≤ k → IsFree cells k) → (lists : Lists Logged) → AreLists lists (λ t. []) → (room : ℕ)
     → IsCoreOf (state_of (none_since 0) (record (no_events (tidy cells) 1) { room = room })) cells (none_since 0) no_locks lists (record (no_events (tidy cells) 1) { room = room })
-core-first W K cells sound free lists none room = record {
+core-first W K cells fresh sound free lists none room = record {
   log = λ t. [];
   kept = record {
     started = record {
@@ -66,19 +68,20 @@ core-first W K cells sound free lists none room = record {
   ready = λ t live. absurd (not_live (sym (unborn t) ∙ live));
   waiting = λ t some. absurd (false≢true (sym (ap is_some (finite.get-empty {X = Call} nat_cmp t)) ∙ some));
   spare = omega arith;
+  accounted = subst (IsAccounted (is_locked no_locks) (is_let_go no_locks)) (sym fresh) (fresh-accounted (is_locked no_locks) (is_let_go no_locks));
 }
   where
     not_live : {f : Fate} → None ≡ Some f → ⊥
     not_live e = cc
 
-pub core-new : CallLaws → LockLaws → (cells : Cells) → AreSoundCells cells → ((k : ℕ) → 2 ≤ k → IsFree cells k) → (lists : Lists Logged) → AreLists lists (λ t. []) → (forest : Transactions) → forest ≡ none_since 0
+pub core-new : CallLaws → LockLaws → (cells : Cells) → cells ≡ fresh_cells → AreSoundCells cells → ((k : ℕ) → 2 ≤ k → IsFree cells k) → (lists : Lists Logged) → AreLists lists (λ t. []) → (forest : Transactions) → forest ≡ none_since 0
     → (table : LockTable) → table ≡ no_locks → (base : Cells) → base ≡ cells → (j : Journaled) → j ≡ record (no_events (tidy base) 1) { room = j.room } → IsCoreOf (state_of forest j) cells forest table lists j
-core-new W K cells sound free lists none forest first table empty base same j is =
+core-new W K cells fresh sound free lists none forest first table empty base same j is =
     let q : Journaled = record (no_events (tidy cells) 1) { room = j.room } in
     subst (λ (k : Journaled). IsCoreOf (state_of forest k) cells forest table lists k) (sym (is ∙ ap (λ b. record (no_events (tidy b) 1) { room = j.room }) same))
     (subst (λ (m : Transactions). IsCoreOf (state_of m q) cells m table lists q) (sym first)
     (subst (λ (t : LockTable). IsCoreOf (state_of (none_since 0) q) cells (none_since 0) t lists q) (sym empty)
-    (core-first W K cells sound free lists none j.room)))
+    (core-first W K cells fresh sound free lists none j.room)))
 
 module _ (base : Base) (h : History) (asks : Asks) (last_txn last_number : ℕ) (cells : Cells) (forest : Transactions) (table : LockTable) (lists : Lists Logged) (j : Journaled) (core : IsCoreAt base h asks last_txn last_number cells forest table lists j) where
   -- others wait
@@ -92,6 +95,7 @@ module _ (base : Base) (h : History) (asks : Asks) (last_txn last_number : ℕ) 
     ready = λ t live. let was = core.ready t live in record { locks = was.locks; log = was.log; sub = ap (λ m. finite.get m t) subs ∙ was.sub };
     waiting = waiting;
     spare = let le = core.spare in omega arith;
+    accounted = core.accounted;
   }
 
   -- one waits no more

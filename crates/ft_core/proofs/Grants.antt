@@ -11,6 +11,7 @@ use Rattle.ft_tree.specs.declared.cell.Cell.TheVariants.{Links}
 use Rattle.ft_tree.specs.Cells.{Cells}
 use Rattle.ft_tree.specs.Held.{IsStored}
 use Rattle.ft_tree.specs.Sound.{AreSoundCells, IsFree}
+use Rattle.ft_tree.specs.Sweep.{IsAccounted}
 use Rattle.ft_calls.specs.declared.call.Call.{Call}
 use Rattle.ft_calls.specs.declared.call.Reply.{Reply}
 use Rattle.ft_calls.specs.declared.call.Access.{Access}
@@ -21,7 +22,7 @@ use Rattle.ft_calls.specs.RunLaws.{writes_cell}
 use Rattle.ft_calls.specs.Posix.{HasSoundValues, Stamped, as_place, posix, posix_calls}
 use Rattle.ft_undo.specs.declared.logs.Logged.{Logged}
 use Rattle.ft_forest.specs.Transactions.{Transactions}
-use Rattle.ft_locks.specs.Locks.{LockTable}
+use Rattle.ft_locks.specs.Locks.{LockTable, is_locked, is_let_go}
 use Rattle.ft_history.specs.History.{Base as HistoryBase, last_stamp, IsLive, grants}
 use Rattle.ft_history.specs.History.Event.{Call as WasGranted}
 use Rattle.ft_history.specs.Locks.{blockers_of}
@@ -35,6 +36,7 @@ use Rattle.ft_core.specs.Journals.{Journaled}
 use Rattle.ft_core.specs.Kept.{Item, Change, is_owned, TakesBack, AreLogged, ArePlaced, IsCoreAt}
 use Rattle.ft_core.specs.Laws.{CallLaws, LockLaws}
 use Rattle.ft_core.specs.Makes.{IsMadeOn}
+use Rattle.ft_core.proofs.Accounts.{granted-accounted}
 use Rattle.ft_core.proofs.Counts.{count-push}
 use Rattle.ft_core.proofs.Joining.{start, values, free, sound_values}
 use Rattle.ft_core.proofs.Written.{of-written}
@@ -156,4 +158,5 @@ module _ (W : CallLaws) (K : LockLaws) (base : Base) (h : History) (asks : Asks)
           record { locks = ap (λ s. set.contains s u) made.granted.opened ∙ was.locks; log = made.open_still u ∙ was.log; sub = ap (λ m. finite.get m u) subs ∙ was.sub };
       waiting = waiting;
       spare = let le = core.spare in let more = count-push (is_owned h) (grants posix_calls h) c in omega arith;
+      accounted = subst (IsAccounted (is_locked table') (is_let_go table')) acted (granted-accounted W K cells table table' a t accesses core.kept.sound is_free touched made.granted core.accounted);
     }

@@ -5,6 +5,8 @@ mod Reporting
 mod Begins
 mod Opening
 mod Refusing
+mod Owned
+mod Accounts
 mod Cores
 mod RunsOn
 mod Placing
@@ -22,4 +24,4 @@ mod Alone
 mod Ended
 mod Families
 mod Written
-mod Swept
+mod Sweeps

@@ -8,8 +8,7 @@ use Rattle.std.specs.FinSet as set
 use Rattle.ft_base.specs.Chains.{Lists, list_in}
 use Rattle.ft_undo.specs.declared.logs.Logged.{Logged}
 use Rattle.ft_undo.specs.Logs.{is_open, AreLists, AreOpen}
-use Rattle.ft_locks.specs.declared.line.LockLine.{LockLine}
-use Rattle.ft_locks.specs.Locks.{LockTable, has_lock, is_opened}
+use Rattle.ft_locks.specs.Locks.{LockTable, is_opened}
 use Rattle.ft_history.specs.Logs.{put}
 use Rattle.ft_history.proofs.Words.{put_same, put_other, by_number}
 use Rattle.ft_core.specs.Journals.{Journaled}
@@ -37,13 +36,20 @@ logs-other old new n are t e = are t ∙ by_number t n (λ is. put_same (is_open
 shape : (j j' : Journaled) {subs : Subs} {room : ℕ} → j' ≡ record j { subs = subs; room = room } → j' ≡ record j { subs = j'.subs; room = j'.room }
 shape j j' is = is ∙ (λ i. record j { subs = (sym is i).subs; room = (sym is i).room })
 
+-- the table is the same but for who is open
+pub locks-same : (old new : LockTable) → new ≡ old → new ≡ record old { opened = new.opened }
+locks-same old new is = is ∙ (λ i. record old { opened = (sym is i).opened })
+
+pub locks-opened : (old new : LockTable) (n : ℕ) → new ≡ record old { opened = set.insert old.opened n } → new ≡ record old { opened = new.opened }
+locks-opened old new n is = is ∙ (λ i. record old { opened = (sym is i).opened })
+
 pub one-noted : (j middle j' : Journaled) (table table' : LockTable) (lists lists' : Lists Logged) (n : ℕ) → middle ≡ record j { room = middle.room } → j' ≡ record middle { subs = finite.insert middle.subs n None }
-    → ((l : LockLine) → has_lock table' l ≡ has_lock table l) → ((t : ℕ) → is_opened table t ≡ true → is_opened table' t ≡ true) → AreLists lists' (list_in lists) → ((t : ℕ) → is_open lists t ≡ true → is_open lists' t ≡ true)
+    → table' ≡ record table { opened = table'.opened } → ((t : ℕ) → is_opened table t ≡ true → is_opened table' t ≡ true) → AreLists lists' (list_in lists) → ((t : ℕ) → is_open lists t ≡ true → is_open lists' t ≡ true)
     → AreAsBefore j j' table table' lists lists' n
-one-noted j middle j' table table' lists lists' n one two lines opened listed still = record {
+one-noted j middle j' table table' lists lists' n one two locks opened listed still = record {
   journal = shape j j' (two ∙ (λ i. record (one i) { subs = finite.insert middle.subs n None; room = middle.room }));
   subs = λ t ne. ap (λ (q : Journaled). finite.get q.subs t) two ∙ noted-other middle.subs n None t ne ∙ ap (λ (q : Journaled). finite.get q.subs t) one;
-  lines = lines;
+  locks = locks;
   opened = opened;
   listed = listed;
   open_still = still;

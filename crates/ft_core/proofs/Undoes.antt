@@ -5,6 +5,8 @@ use Rattle.std.specs.FinMap as finite
 use Rattle.ft_base.specs.Chains.{Lists, list_in}
 use Rattle.ft_laws.specs.Lists.{In}
 use Rattle.ft_tree.specs.Cells.{Cells}
+use Rattle.ft_tree.specs.Sound.{AreSoundCells}
+use Rattle.ft_tree.specs.Sweep.{IsAccounted}
 use Rattle.ft_calls.specs.Posix.{posix_calls}
 use Rattle.ft_calls.specs.RunLaws.{HasNamedPlaces}
 use Rattle.ft_calls.specs.Stored.{put_all}
@@ -12,7 +14,7 @@ use Rattle.ft_undo.specs.declared.logs.Logged.{Logged}
 use Rattle.ft_undo.specs.Logs.{is_open, newest_of, AreLists, AreOpen}
 use Rattle.ft_undo.specs.Undone.{given_back, CanGiveAllBack}
 use Rattle.ft_forest.specs.Transactions.{Transactions, IsLiveChild}
-use Rattle.ft_locks.specs.Locks.{LockTable}
+use Rattle.ft_locks.specs.Locks.{LockTable, is_locked, is_let_go}
 use Rattle.ft_history.specs.Core.{IsCore}
 use Rattle.ft_history.specs.History.{Base as HistoryBase, IsLive}
 use Rattle.ft_history.specs.History.Event.{Undo as WasUndone}
@@ -22,6 +24,7 @@ use Rattle.ft_history.specs.Logs.{put}
 use Rattle.ft_history.specs.Undoing.{MayUndo, last_sub, undo_target}
 use Rattle.ft_history.specs.Undoing.Target.{Found, SubSince, Nothing}
 use Rattle.ft_history.proofs.Legal.{target_newest}
+use Rattle.ft_history.proofs.Losing.{LosesOwn, undo_loses}
 use Rattle.ft_history.proofs.Methods.{core_undone}
 use Rattle.ft_history.proofs.Targets.{target_by_stamps}
 use Rattle.ft_history.proofs.Words.{by_list, by_number, put_same, put_other, same_some}
@@ -31,12 +34,14 @@ use Rattle.ft_core.specs.States.{Base, Asks}
 use Rattle.ft_core.specs.declared.fault.Fault.TheVariants.{NothingToUndo, SubSince as SubSinceFault}
 use Rattle.ft_core.specs.Steps.{fault_of_target}
 use Rattle.ft_core.specs.Journals.{Journaled, with_event, sub_in}
-use Rattle.ft_core.specs.Kept.{Item, ArePlaced, TakesBack, AreLogged, IsCoreAt}
+use Rattle.ft_core.specs.Kept.{Item, ArePlaced, TakesBack, AreLogged, IsKept, IsCoreAt}
 use Rattle.ft_core.specs.Laws.{CallLaws, LockLaws}
+use Rattle.ft_core.proofs.Accounts.{reverted-accounted}
 use Rattle.ft_core.proofs.Commits.{logged-put}
 use Rattle.ft_core.proofs.Children.{no-child}
 use Rattle.ft_core.proofs.Ends.{named, kept-ending, events-undo}
 use Rattle.ft_core.proofs.Joining.{start, values, past}
+use Rattle.ft_core.proofs.Owned.{written-locked}
 use Rattle.ft_core.proofs.Reverting.{placed-stays, is_taken_back}
 
 module _ (W : CallLaws) (K : LockLaws) (base : Base) (h : History) (asks : Asks) (last_txn last_number : ℕ) (cells : Cells) (forest : Transactions) (table : LockTable) (lists : Lists Logged) (j : Journaled) (core : IsCoreAt base h asks last_txn last_number cells forest table lists j) (t : ℕ) (live : IsLive posix_calls base.last_txn h t) where
@@ -146,35 +151,42 @@ module _ (W : CallLaws) (K : LockLaws) (base : Base) (h : History) (asks : Asks)
       (λ none. absurd (subst (λ fs. AreLogged fs []) done.2 (subst (AreLogged (core.log t)) none (core.logs.logged t))))
       (λ x xs is.
       let both : TakesBack e x × AreLogged es xs = subst (λ fs. AreLogged fs (x ∷ xs)) done.2 (subst (AreLogged (core.log t)) is (core.logs.logged t)) in
-      let one = is_taken_back W.setting cells e x both.0 (core.logs.placed t e (subst (In e) (sym done.2) (inl refl))) (named W base h last_txn last_number cells core.log core.kept) done.3 in
+      let there : In e (core.log t) = subst (In e) (sym done.2) (inl refl) in
+      let one = is_taken_back W.setting cells e x both.0 (core.logs.placed t e there) (named W base h last_txn last_number cells core.log core.kept) done.3 in
       record {
         newest = x;
         rest = xs;
         list = is;
         can = one.can;
-        after = λ cells' made lists' are opened j' told. record {
-          log = put core.log t es;
-          kept = kept-ending W base h last_txn last_number cells core.log core.kept (WasUndone d.call.stamp) (record { begun = refl; grants = refl; last_transaction = λ first. refl; last_stamp = λ first. refl }) cells' (put core.log t es)
-              (subst (λ s. IsCore posix_calls from (WasUndone d.call.stamp ∷ h) core.kept.hidden s (put core.log t es)) (sym (made ∙ one.made)) done.4)
-              (subst HasNamedPlaces (sym made) one.named);
-          transactions = record { base_is = core.transactions.base_is; last = core.transactions.last; parents = core.transactions.parents; fates = core.transactions.fates };
-          locks = K.undo from (values W base h last_txn last_number cells core.log core.kept) h table core.locks d.call.stamp legal;
-          logs = record {
-            logged = λ u. subst (AreLogged (put core.log t es u)) (sym (are u)) (logged-put core.log (list_in lists) core.logs.logged t es xs both.1 u);
-            placed = λ u f i. subst (λ (s : Cells). ArePlaced s f) (sym made) (placed-stays cells (put_all cells (map given_back x.undo)) one.stay f (by_number u t
-                (λ same. core.logs.placed t f (subst (In f) (sym done.2) (inr (subst (In f) (put_same core.log t es u same) i))))
-                (λ ne. core.logs.placed u f (subst (In f) (put_other core.log t es u ne) i))));
-          };
-          ready = λ u now. let was = core.ready u now in record { locks = was.locks; log = opened u ∙ was.log; sub = ap (λ (q : Journaled). finite.get q.subs u) told ∙ was.sub };
-          waiting = core.waiting;
-          spare =
-              let from_list = target_newest posix_calls W.lawful from (values W base h last_txn last_number cells core.log core.kept) h core.kept.core.legal t d live found in
-              let there = ((past W base h last_txn last_number cells core.log core.kept).runs.kept.owned t d (subst (In d) (sym from_list.1) (inl refl))).0 in
-              let fewer = events-undo W base h last_txn last_number cells core.log core.kept t d live there from_list.2 in
-              let le = core.spare in
-              let same = ap (λ (q : Journaled). q.spare) told in
-              omega arith;
-        };
+        after = λ cells' made lists' are opened j' told.
+            let reverted : cells' ≡ posix_calls.revert cells e.inverse = made ∙ one.made in
+            let kept : IsKept base (WasUndone d.call.stamp ∷ h) last_txn last_number cells' (put core.log t es) = kept-ending W base h last_txn last_number cells core.log core.kept (WasUndone d.call.stamp) (record { begun = refl; grants = refl; last_transaction = λ first. refl; last_stamp = λ first. refl }) cells' (put core.log t es)
+            (subst (λ s. IsCore posix_calls from (WasUndone d.call.stamp ∷ h) core.kept.hidden s (put core.log t es)) (sym reverted) done.4)
+            (subst HasNamedPlaces (sym made) one.named) in
+            let loses : LosesOwn posix_calls cells (posix_calls.revert cells e.inverse) d = undo_loses posix_calls W.lawful from (values W base h last_txn last_number cells core.log core.kept) h core.kept.hidden cells core.log core.kept.core t d may done.0 es done.2 in
+            record {
+              log = put core.log t es;
+              kept = kept;
+              transactions = record { base_is = core.transactions.base_is; last = core.transactions.last; parents = core.transactions.parents; fates = core.transactions.fates };
+              locks = K.undo from (values W base h last_txn last_number cells core.log core.kept) h table core.locks d.call.stamp legal;
+              logs = record {
+                logged = λ u. subst (AreLogged (put core.log t es u)) (sym (are u)) (logged-put core.log (list_in lists) core.logs.logged t es xs both.1 u);
+                placed = λ u f i. subst (λ (s : Cells). ArePlaced s f) (sym made) (placed-stays cells (put_all cells (map given_back x.undo)) one.stay f (by_number u t
+                    (λ same. core.logs.placed t f (subst (In f) (sym done.2) (inr (subst (In f) (put_same core.log t es u same) i))))
+                    (λ ne. core.logs.placed u f (subst (In f) (put_other core.log t es u ne) i))));
+              };
+              ready = λ u now. let was = core.ready u now in record { locks = was.locks; log = opened u ∙ was.log; sub = ap (λ (q : Journaled). finite.get q.subs u) told ∙ was.sub };
+              waiting = core.waiting;
+              spare =
+                  let from_list = target_newest posix_calls W.lawful from (values W base h last_txn last_number cells core.log core.kept) h core.kept.core.legal t d live found in
+                  let there = ((past W base h last_txn last_number cells core.log core.kept).runs.kept.owned t d (subst (In d) (sym from_list.1) (inl refl))).0 in
+                  let fewer = events-undo W base h last_txn last_number cells core.log core.kept t d live there from_list.2 in
+                  let le = core.spare in
+                  let same = ap (λ (q : Journaled). q.spare) told in
+                  omega arith;
+              accounted = subst (IsAccounted (is_locked table) (is_let_go table)) (sym reverted)
+                  (reverted-accounted W cells e (core.logs.placed t e there).own table (written-locked W K base h asks last_txn last_number cells forest table lists j core t e there) loses (subst AreSoundCells reverted kept.sound) core.accounted);
+            };
       })
 
   -- there is a place for the event

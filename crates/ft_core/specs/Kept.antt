@@ -10,6 +10,7 @@ use Rattle.ft_tree.specs.CellOrder.{same_cell}
 use Rattle.ft_tree.specs.Cells.{Cells, HasFilePlace}
 use Rattle.ft_tree.specs.Held.{Holds, IsStored}
 use Rattle.ft_tree.specs.Sound.{AreSoundCells}
+use Rattle.ft_tree.specs.Sweep.{IsAccounted}
 use Rattle.ft_tree.specs.Tidy.{tidy}
 use Rattle.ft_calls.specs.Posix.{posix, posix_calls}
 use Rattle.ft_calls.specs.RunLaws.{writes_cell}
@@ -19,7 +20,7 @@ use Rattle.ft_undo.specs.Undone.{given_back, CanGiveAllBack}
 use Rattle.ft_forest.specs.declared.state.State.{State as Life}
 use Rattle.ft_forest.specs.declared.state.State.TheVariants.{Live as LiveState, Committed as CommittedState, Aborted as AbortedState}
 use Rattle.ft_forest.specs.Transactions.{Transactions, parent_in, state_in, last_in}
-use Rattle.ft_locks.specs.Locks.{LockTable, is_opened}
+use Rattle.ft_locks.specs.Locks.{LockTable, is_locked, is_let_go, is_opened}
 use Rattle.ft_locks.specs.Law.{AreLocksOf}
 use Rattle.ft_history.specs.History.{Base as HistoryBase, Fate, IsFresh, last_transaction, last_stamp, begun, parent, fate, owner_of, grants, is_live, IsLive, is_standing}
 use Rattle.ft_history.specs.History.Fate.{Live, Committed, Aborted}
@@ -131,7 +132,7 @@ pub record IsReady (base : Base) (h : History) (table : LockTable) (lists : List
   pub log : is_open lists t ≡ true
   pub sub : finite.get j.subs t ≡ Some (last_sub posix_calls base.last_stamp h t)
 
--- What a core keeps: its tree, its transactions, its locks and its lists are those of its history, and whatever can be taken back has its places.
+-- What a core keeps: its tree, its transactions, its locks and its lists are those of its history, whatever can be taken back has its places, and a place of no use is locked or was let go.
 pub record IsCoreAt (base : Base) (h : History) (asks : Asks) (last_txn last_number : ℕ) (cells : Cells) (forest : Transactions) (table : LockTable) (lists : Lists Logged) (j : Journaled) : Type 0 where
   pub log : ℕ → List Item
   pub kept : IsKept base h last_txn last_number cells log
@@ -142,6 +143,7 @@ pub record IsCoreAt (base : Base) (h : History) (asks : Asks) (last_txn last_num
   -- only live transactions wait
   pub waiting : (t : ℕ) → is_some (finite.get asks t) ≡ true → IsLive posix_calls base.last_txn h t
   pub spare : events_kept base.last_txn h ≤ j.spare
+  pub accounted : IsAccounted (is_locked table) (is_let_go table) cells
 
 abbrev pub IsCoreOf : State → Cells → Transactions → LockTable → Lists Logged → Journaled → Type 0
 IsCoreOf s cells forest table lists j = IsCoreAt s.base (history s) s.asks s.last_txn s.last_stamp cells forest table lists j

@@ -3,9 +3,11 @@ use Rattle.ft_laws.specs.Laws.{Lawful}
 use Rattle.ft_calls.specs.CellLaws.{SettingLaw}
 use Rattle.ft_calls.specs.Edits.{PlacesLaw}
 use Rattle.ft_calls.specs.Laws.{TidyingLaw, SoundnessLaw}
-use Rattle.ft_calls.specs.RunLaws.{PlainAccessesLaw, HidingLaw, RunLaw, PlacedLaw, WritesLaw}
+use Rattle.ft_calls.specs.Leaving.{LeavingLaw, UselessLaw, MakingLaw}
+use Rattle.ft_calls.specs.RunLaws.{PlainAccessesLaw, HidingLaw, RunLaw, PlacedLaw, WritesLaw, NamelessLaw}
 use Rattle.ft_calls.specs.Posix.{posix_calls}
-use Rattle.ft_locks.specs.Law.{FirstLaw, BeginLaw, GrantLaw, UndoLaw, CommitLaw, AbortLaw, ReleaseLaw, BlockLaw, CoverLaw, LockedLaw}
+use Rattle.ft_locks.specs.Knowing.{KnownLaw}
+use Rattle.ft_locks.specs.Law.{FirstLaw, OwnerLaw, BeginLaw, GrantLaw, UndoLaw, CommitLaw, AbortLaw, ReleaseLaw, BlockLaw, CoverLaw, LockedLaw}
 
 pub record CallLaws : Type 0 where
   pub lawful : Lawful posix_calls
@@ -18,6 +20,10 @@ pub record CallLaws : Type 0 where
   pub setting : SettingLaw
   pub places : PlacesLaw
   pub writes : WritesLaw
+  pub nameless : NamelessLaw
+  pub leaving : LeavingLaw
+  pub useless : UselessLaw
+  pub making : MakingLaw
 
 pub record LockLaws : Type 0 where
   pub first : FirstLaw
@@ -30,3 +36,5 @@ pub record LockLaws : Type 0 where
   pub block : BlockLaw
   pub cover : CoverLaw
   pub locked : LockedLaw
+  pub live : OwnerLaw
+  pub known : KnownLaw

@@ -12,3 +12,4 @@ pub mod Kept
 pub mod Reports
 pub mod Taking
 pub mod Handing
+pub mod Sweeps

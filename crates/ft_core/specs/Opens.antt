@@ -4,15 +4,14 @@ use Rattle.std.specs.FinMap as finite
 use Rattle.ft_base.specs.Chains.{Lists, list_in}
 use Rattle.ft_undo.specs.declared.logs.Logged.{Logged}
 use Rattle.ft_undo.specs.Logs.{is_open, AreLists}
-use Rattle.ft_locks.specs.declared.line.LockLine.{LockLine}
-use Rattle.ft_locks.specs.Locks.{LockTable, has_lock, is_opened}
+use Rattle.ft_locks.specs.Locks.{LockTable, is_opened}
 use Rattle.ft_core.specs.Journals.{Journaled}
 
 -- Each transaction has its locks, its list and what is noted of it, and at most the next one is open besides.
 pub record AreAsBefore (j j' : Journaled) (table table' : LockTable) (lists lists' : Lists Logged) (next : ℕ) : Type 0 where
   pub journal : j' ≡ record j { subs = j'.subs; room = j'.room }
   pub subs : (t : ℕ) → t ≢ next → finite.get j'.subs t ≡ finite.get j.subs t
-  pub lines : (l : LockLine) → has_lock table' l ≡ has_lock table l
+  pub locks : table' ≡ record table { opened = table'.opened }
   pub opened : (t : ℕ) → is_opened table t ≡ true → is_opened table' t ≡ true
   pub listed : AreLists lists' (list_in lists)
   pub open_still : (t : ℕ) → is_open lists t ≡ true → is_open lists' t ≡ true

@@ -2,11 +2,12 @@
 ghost use Rattle.ft_core.specs.Laws.{CallLaws, LockLaws};
 
 use ft_calls::laws::{
-    hiding, lawful, placed, places, plain_accesses, runs, setting, soundness, tidying, writes,
+    hiding, lawful, leaving, making, nameless, placed, places, plain_accesses, runs, setting,
+    soundness, tidying, useless, writes,
 };
 use ft_locks::laws::{
     locks_aborted, locks_begun, locks_block, locks_committed, locks_cover, locks_granted,
-    locks_lock, locks_released, locks_undone, no_locks_at_first,
+    locks_known, locks_live, locks_lock, locks_released, locks_undone, no_locks_at_first,
 };
 
 /// The laws of the calls.
@@ -23,6 +24,10 @@ pub(crate) fn call_laws()
     setting();
     places();
     writes();
+    nameless();
+    leaving();
+    useless();
+    making();
 }
 
 /// The laws of their locks.
@@ -39,4 +44,6 @@ pub(crate) fn lock_laws()
     locks_block();
     locks_cover();
     locks_lock();
+    locks_live();
+    locks_known();
 }

@@ -13,14 +13,13 @@ mod reports;
 mod request;
 mod running;
 mod sweeping;
-#[cfg(test)]
-mod tests;
 
 pub use fault::Fault;
 pub use ft_forest::{LAST_NUMBER, MOST_DEPTH, MOST_TRANSACTIONS, TxnId};
 pub use manager::Core;
 pub use reports::{LiveChild, Pending};
 pub use request::{Answer, Event, Outcome, Request};
+pub use sweeping::Swept;
 
 /// The most granted calls since the base.
 pub const MOST_CALLS: u64 = 1_000_000;

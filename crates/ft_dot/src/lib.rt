@@ -5,7 +5,5 @@ mod drawing;
 mod filter;
 mod reading;
 mod report;
-#[cfg(test)]
-mod tests;
 
 pub use filter::draw;

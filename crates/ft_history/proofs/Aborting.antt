@@ -58,7 +58,7 @@ module _ (C : Calls) (L : Lawful C) (parent : ℕ → Option ℕ) (above : ℕ �
 
   -- one call is taken back, the newest of x's list, where the lists strictly below x are empty
   module _ (x : ℕ) (under : above t x ≡ true) (d : Done C) (ds : List (Done C)) (cs : List (Done C)) (log : ℕ → List (Done C)) (is : log x ≡ d ∷ ds) (below : (y : ℕ) → above x y ≡ true → y ≢ x → log y ≡ []) where
-    older : (y : ℕ) → above x y ≡ true → y ≢ x → Each (λ z. number C z < number C d) (log y)
+    pub older : (y : ℕ) → above x y ≡ true → y ≢ x → Each (λ z. number C z < number C d) (log y)
     older y a ne = subst (Each (λ z. number C z < number C d)) (sym (below y a ne)) tt
 
     drained_step : (n : ℕ) → IsDrained n cs log → IsDrained (suc n) (without C (number C d) cs) (put log x ds)

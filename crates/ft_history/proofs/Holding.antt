@@ -63,7 +63,7 @@ module _ (C : Calls) (L : Lawful C) where
   -- The newest call of n's list is taken back, where the lists below n have older calls alone.
   module _ (above : ℕ → ℕ → Bool) (owner : Done C → Option ℕ) (base : C.Store) (cs : List (Done C)) (log : ℕ → List (Done C)) (runs : Runs C above owner base cs log)
       (n : ℕ) (d : Done C) (ds : List (Done C)) (newest : log n ≡ d ∷ ds) (older : (x : ℕ) → above n x ≡ true → x ≢ n → Each (λ y. number C y < number C d) (log x)) where
-    split : (xs : List (Done C)) × (ys : List (Done C)) × (cs ≡ xs ++ d ∷ ys)
+    pub split : (xs : List (Done C)) × (ys : List (Done C)) × (cs ≡ xs ++ d ∷ ys)
     split = In-split d cs (taken_owned C above owner cs log runs.kept n d ds newest).0
 
     abbrev xs : List (Done C)
@@ -72,16 +72,16 @@ module _ (C : Calls) (L : Lawful C) where
     abbrev ys : List (Done C)
     ys = split.1
 
-    calls : without C (number C d) cs ≡ xs ++ ys
+    pub calls : without C (number C d) cs ≡ xs ++ ys
     calls = taken_calls C above owner cs log runs.kept n d ds newest xs ys split.2
 
-    clear : Clear C d ys
+    pub clear : Clear C d ys
     clear = taken_clear C above owner cs log runs.kept n d ds newest xs ys split.2 older
 
-    able : Able C base (xs ++ d ∷ ys)
+    pub able : Able C base (xs ++ d ∷ ys)
     able = subst (Able C base) split.2 runs.able
 
-    faithful : Faithful C base (xs ++ d ∷ ys)
+    pub faithful : Faithful C base (xs ++ d ∷ ys)
     faithful = subst (Faithful C base) split.2 runs.faithful
 
     -- one call less

@@ -21,3 +21,4 @@ pub mod Without
 pub mod Growing
 pub mod Targets
 pub mod Sweeping
+pub mod Losing

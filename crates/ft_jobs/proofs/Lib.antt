@@ -1,3 +1,4 @@
-pub mod Naming
-pub mod Behind
-pub mod Grouping
+pub mod Same
+pub mod Told
+pub mod Ending
+pub mod Following

@@ -1,3 +1,3 @@
-pub mod Lines
-pub mod Plans
-pub mod Parsing
+pub mod Asked
+pub mod Reports
+pub mod Reading

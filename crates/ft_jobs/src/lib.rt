@@ -1,17 +1,20 @@
-//! Jobs that run side by side: the plan that says what they are.
+//! Jobs that run side by side, each in a thread and a transaction of its own, and what they report.
 #![tactic(auto)]
 
-mod fault;
-mod job;
-mod line;
-mod name;
-mod parsing;
-mod plan;
-mod rules;
+mod board;
+mod comparing;
+mod equality;
+mod gate;
+mod history;
+mod job_run;
+mod places;
+mod report;
+mod running;
+mod steps;
 #[cfg(test)]
 mod tests;
 
-pub use fault::JobFault;
-pub use job::{Job, Step};
-pub use name::JobName;
-pub use plan::{LONGEST_PLAN, Plan};
+pub use ft_plan::{Job, JobFault, JobName, LONGEST_PLAN, Plan, Step};
+pub use gate::{Gate, OpenGate};
+pub use report::{CallReport, End, Report};
+pub use running::{JobsOutcome, run_jobs};

@@ -1,57 +1,233 @@
-// A worked plan, bytes that are none, and printed names.
-use crate::{JobFault, JobName, Plan};
-use ft_words::Unread;
-use std::alloc::{AllocError, Global};
+// Plans run over a core behind a lock, and over managers that lie about it.
+use crate::{End, Gate, JobFault, OpenGate, Plan, Report, run_jobs};
+use ft_calls::{Call, Reply};
+use ft_core::{Core, Fault, Outcome, TxnId};
+use ft_path::Errno;
+use ft_shared::{Manager, Shared};
+use ft_tree::Kind;
+use std::alloc::Global;
+use std::sync::Wait;
+use std::sync::atomic::{AtomicU64, Ordering};
 use std::test::Fail;
+use std::thread::{self, Threads};
+use std::time::{Clock, Duration};
 
-// Two jobs side by side, of which the first has two subjobs.
+/// How often a job looks for the other one at a meeting, and how often its calls are asked for there.
+const MEETING_TURNS: u64 = 10_000;
+
+/// How often calls are asked for under a manager that lies, where some wait in vain.
+const FEW_TURNS: u64 = 3;
+
+/// Two jobs side by side, of which the first has two subjobs.
 const WORKED: &[u8] =
     b"job a\nmkdir /a\nstat /a\nsubs\ncommit\njob a1 a\nmkdir /a/p\nstat /a/p\ncommit\njob a2 a\nmkdir /a/q\nstat /a/q\ncommit\njob b\nmkdir /b\nstat /b\ncommit\n";
 
-// Whether these bytes are a plan of so many jobs, or none.
-fn is_plan_of(alloc: Global, text: &[u8], jobs: Result<usize, JobFault>) -> bool {
-    match Plan::read(alloc, text) {
-        Ok(plan) => jobs == Ok(plan.jobs().len()),
-        Err(fault) => jobs == Err(fault),
+/// A core behind a lock.
+fn new_shared(alloc: Global) -> Result<Shared, Fail> {
+    match Shared::new(Core::new(alloc)?) {
+        Ok(shared) => Ok(shared),
+        Err(_) => Err(Fail::from("a transaction is live")),
     }
 }
 
+/// A gate at which two jobs meet before their second step: each waits until the other one has come there too.
+#[derive(Drop)]
+struct Meeting {
+    /// For each job of the worked plan, whether it has come there.
+    came: [AtomicU64; 4],
+    /// How many have met the other one.
+    met: AtomicU64,
+}
+
+impl Meeting {
+    fn new() -> Meeting {
+        Meeting {
+            came: [
+                AtomicU64::new(0),
+                AtomicU64::new(0),
+                AtomicU64::new(0),
+                AtomicU64::new(0),
+            ],
+            met: AtomicU64::new(0),
+        }
+    }
+}
+
+impl Gate for Meeting {
+    fn pass<R: Wait + Clock>(&self, rt: &R, job: u64, step: u64) {
+        if step != 2 || job > 3 {
+            return;
+        }
+        self.came[job as usize].store(1, Ordering::SeqCst);
+        for _ in 0..MEETING_TURNS {
+            if self.came[3 - job as usize].load(Ordering::SeqCst) == 1 {
+                self.met.fetch_add(1, Ordering::SeqCst);
+                return;
+            }
+            thread::sleep(rt, Duration::from_millis(1));
+        }
+    }
+}
+
+/// Whether a job has committed, with a mkdir and a stat that tells of the new directory.
+fn has_made(report: &Report) -> bool {
+    let [made, told] = report.calls.as_slice() else {
+        return false;
+    };
+    let is_told = match &told.reply {
+        Reply::Info {
+            kind,
+            number,
+            links,
+            size,
+        } => *kind == Kind::Dir && *number == made.stamp && *links == 1 && *size == 0,
+        _ => false,
+    };
+    report.end == End::Committed && made.reply == Reply::Done && is_told
+}
+
+/// Whether the worked plan runs with jobs that meet at their second steps, and does all that it says.
+fn meets<R: Threads + Wait + Clock + Sync>(rt: &R, alloc: Global) -> Result<bool, Fail> {
+    let plan = Plan::read(alloc, WORKED)?;
+    let gate = Meeting::new();
+    let outcome = run_jobs(rt, alloc, &plan, new_shared(alloc)?, &gate, MEETING_TURNS)?;
+    let rows = outcome.core.tree().rows()?.len();
+    let have_made = outcome.reports.iter().all(|report| has_made(report));
+    Ok(have_made && rows == 9 && gate.met.load(Ordering::SeqCst) == 4)
+}
+
+/// What a manager does otherwise than it says.
+#[derive(Clone, Copy, Debug)]
+enum Lie {
+    Nothing,
+    /// It tells of a call that is done as one that failed.
+    DoneIsFailed,
+    /// It begins subtransactions at the top.
+    SubsAtTop,
+    /// It commits nothing.
+    NoCommit,
+    /// It refuses to begin.
+    NoBegin,
+}
+
+/// A manager that lies.
+struct Lying {
+    shared: Shared,
+    lie: Lie,
+}
+
+impl Manager for Lying {
+    fn begin<R: Wait>(&self, rt: &R) -> Result<TxnId, Fault> {
+        match self.lie {
+            Lie::NoBegin => Err(Fault::Full),
+            _ => self.shared.begin(rt),
+        }
+    }
+
+    fn sub<R: Wait>(&self, rt: &R, parent: TxnId) -> Result<TxnId, Fault> {
+        match self.lie {
+            Lie::SubsAtTop => self.shared.begin(rt),
+            _ => self.shared.sub(rt, parent),
+        }
+    }
+
+    fn ask_wait<R: Wait + Clock>(
+        &self,
+        rt: &R,
+        txn: TxnId,
+        call: &Call,
+        turns: u64,
+    ) -> Result<Outcome, Fault> {
+        match (self.shared.ask_wait(rt, txn, call, turns), self.lie) {
+            (
+                Ok(
+                    Outcome::Granted {
+                        stamp,
+                        reply: Reply::Done,
+                    },
+                ),
+                Lie::DoneIsFailed,
+            ) => Ok(Outcome::Granted {
+                stamp,
+                reply: Reply::Failed(Errno::ENOENT),
+            }),
+            (told, _) => told,
+        }
+    }
+
+    fn commit<R: Wait>(&self, rt: &R, txn: TxnId) -> Result<(), Fault> {
+        match self.lie {
+            Lie::NoCommit => Ok(()),
+            _ => self.shared.commit(rt, txn),
+        }
+    }
+
+    fn abort<R: Wait>(&self, rt: &R, txn: TxnId) -> Result<u64, Fault> {
+        self.shared.abort(rt, txn)
+    }
+
+    fn into_core(self) -> Core {
+        let Lying { shared, lie: _ } = self;
+        shared.into_core()
+    }
+}
+
+/// The ends of the jobs of the worked plan, or why they are not told, under a manager that lies so.
+fn ends_under<R: Threads + Wait + Clock + Sync>(
+    rt: &R,
+    alloc: Global,
+    lie: Lie,
+) -> Result<Result<Vec<End>, JobFault>, Fail> {
+    let plan = Plan::read(alloc, WORKED)?;
+    let lying = Lying {
+        shared: new_shared(alloc)?,
+        lie,
+    };
+    match run_jobs(rt, alloc, &plan, lying, &OpenGate, FEW_TURNS) {
+        Ok(outcome) => {
+            let mut ends = Vec::new(alloc);
+            for report in &outcome.reports {
+                ends.push(report.end)?;
+            }
+            Ok(Ok(ends))
+        }
+        Err(fault) => Ok(Err(fault)),
+    }
+}
+
+/// Whether the jobs end so.
+fn have_ended(told: &Result<Vec<End>, JobFault>, ends: [End; 4]) -> bool {
+    match told {
+        Ok(told) => told.as_slice() == ends.as_slice(),
+        Err(_) => false,
+    }
+}
+
+/// Whether the reports are not what happened.
+fn is_mismatch(told: &Result<Vec<End>, JobFault>) -> bool {
+    matches!(told, Err(JobFault::Mismatch))
+}
+
 #[test]
-fn single_calls(rt: HostRuntime) -> Result<(), Fail> {
-    let alloc = rt.alloc();
-    assert!(rt; is_plan_of(alloc, b"".as_slice(), Err(JobFault::BadPlan)));
-    assert!(rt; is_plan_of(alloc, b"commit\n".as_slice(), Err(JobFault::BadPlan)));
-    assert!(rt; is_plan_of(alloc, b"job a\ncommit\n".as_slice(), Ok(1)));
+fn jobs_side_by_side(rt: HostRuntime) -> Result<(), Fail> {
+    assert!(rt; meets(&rt, rt.alloc())?);
     Ok(())
 }
 
 #[test]
-fn worked_plan(rt: HostRuntime) -> Result<(), Fail> {
+fn lies_are_mismatches(rt: HostRuntime) -> Result<(), Fail> {
     let alloc = rt.alloc();
-    assert!(rt; is_plan_of(alloc, WORKED, Ok(4)));
-    let opens = b"job a\nopen rc x\nwrite @1 hello\nabort".as_slice();
-    assert!(rt; is_plan_of(alloc, opens, Ok(1)));
-    let stats = b"job a\nstat x\nwrite @1 hello\nabort".as_slice();
-    assert!(rt; is_plan_of(alloc, stats, Err(JobFault::BadPlan)));
+    assert!(rt; have_ended(&ends_under(&rt, alloc, Lie::Nothing)?, [End::Committed; 4]));
+    assert!(rt; is_mismatch(&ends_under(&rt, alloc, Lie::DoneIsFailed)?));
+    assert!(rt; is_mismatch(&ends_under(&rt, alloc, Lie::SubsAtTop)?));
+    assert!(rt; is_mismatch(&ends_under(&rt, alloc, Lie::NoCommit)?));
     Ok(())
 }
 
-// Whether a name is printed as it is read.
-fn is_printed(alloc: Global, word: &str) -> Result<bool, AllocError> {
-    match JobName::read(alloc, word.as_bytes()) {
-        Ok(name) => Ok(format!(in alloc; "{name}")?.as_str() == word),
-        Err(Unread::NoMemory) => Err(AllocError),
-        Err(Unread::Misspelt) => Ok(false),
-    }
-}
-
 #[test]
-fn names_and_faults_are_printed(rt: HostRuntime) -> Result<(), Fail> {
-    let alloc = rt.alloc();
-    assert!(rt; is_printed(alloc, "a_job-1")?);
-    assert_eq!(rt;
-        format!(in alloc; "{}", JobFault::BadPlan)?.as_str(),
-        "BadPlan"
-    );
+fn subjobs_of_a_refused_job_do_not_start(rt: HostRuntime) -> Result<(), Fail> {
+    let refused = End::Refused(Fault::Full);
+    let ends = [refused, End::NotStarted, End::NotStarted, refused];
+    assert!(rt; have_ended(&ends_under(&rt, rt.alloc(), Lie::NoBegin)?, ends));
     Ok(())
 }

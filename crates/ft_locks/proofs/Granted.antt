@@ -36,7 +36,7 @@ same_line_or_none m n same l =
     line_or_none (marks_at n l.cell l.owner) l ∙ ap (λ (x : Marks). has_mark x l.mode l.kind) (same l.cell l.owner) ∙ sym (line_or_none (marks_at m l.cell l.owner) l)
 
 -- some access is of a cell that is accessed, in its mode
-some_access : (xs : List Access) (c : Cell) → is_accessed xs c ≡ true → (mode : Mode) × (has_access xs c mode ≡ true)
+pub some_access : (xs : List Access) (c : Cell) → is_accessed xs c ≡ true → (mode : Mode) × (has_access xs c mode ≡ true)
 some_access [] c e = absurd (false≢true e)
 some_access (a ∷ xs) c e = by_head (same_cell a.cell c) refl e (some_access xs c)
   where

@@ -12,3 +12,4 @@ pub mod Granted
 pub mod InTheWay
 pub mod Following
 pub mod Listed
+pub mod Knowing

@@ -231,7 +231,7 @@ line_of_mark c u None e = absurd (false≢true e)
 line_of_mark c u (Some x) e = mark_one x e
 
 -- Whether a list has one that passes a test, where a set's test finds it.
-first_found : (p : LockLine → Bool) (ls : List LockLine) → list_any p ls ≡ true → (l : LockLine) × (p l ≡ true) × (list_any (same_line l) ls ≡ true)
+pub first_found : (p : LockLine → Bool) (ls : List LockLine) → list_any p ls ≡ true → (l : LockLine) × (p l ≡ true) × (list_any (same_line l) ls ≡ true)
 first_found p [] e = absurd (false≢true e)
 first_found p (x ∷ xs) e = by_head (p x) refl e (first_found p xs)
   where

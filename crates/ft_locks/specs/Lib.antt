@@ -9,3 +9,4 @@ pub mod Seen
 pub mod Blocking
 pub mod Listing
 pub mod Law
+pub mod Knowing

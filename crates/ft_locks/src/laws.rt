@@ -1,5 +1,6 @@
 // How the lock table follows a history: each is the contract of a function that does nothing.
 ghost use Rattle.ft_locks.specs.Law.{FirstLaw, OwnerLaw, BeginLaw, GrantLaw, UndoLaw, CommitLaw, AbortLaw, ReleaseLaw, BlockLaw, CoverLaw, LockedLaw};
+ghost use Rattle.ft_locks.specs.Knowing.{KnownLaw};
 
 use ft_calls::laws::lawful;
 
@@ -71,4 +72,9 @@ pub fn locks_cover()
 /// The cell of each lock is locked.
 pub fn locks_lock()
     ensures { LockedLaw }
+{}
+
+/// No cell that is locked, or was let go, is forgotten: only a sweep takes those that were let go.
+pub fn locks_known()
+    ensures { KnownLaw }
 {}

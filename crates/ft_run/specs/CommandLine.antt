@@ -1,42 +1,78 @@
 -- The command line of the program, in the words of the crate that reads it.
-use Rattle.std.specs.Prelude.{◌≡◌, ◌≢◌, ℕ, true, List, [], codes, Option, Some, option_map}
-use Rattle.clap.specs.Words.{App, IsAmong, Text, fault_of, new_app, subcommand_of, with_subcommand}
+use Rattle.std.specs.Prelude.{◌≡◌, ◌≢◌, ◌≤◌, ℕ, true, false, List, [], ◌∷◌, codes, Option, Some, string_bytes}
+use Rattle.std.specs.Str.Parse.{digits_value, without_leading_plus}
+use Rattle.clap.specs.Words.{App, IsAmong, Row, Rule, Text, fault_of, first_of, new_app, new_rule, one_of, subcommand_of, with_rule, with_subcommand}
+use Rattle.clap.specs.declared.builder.command.Command.{Command}
+use Rattle.clap.specs.declared.builder.command.Command.TheViews.{out-Command}
+use Rattle.clap.specs.declared.builder.value_parser.ValueParser.TheVariants.{Unsigned}
 use Rattle.clap.specs.declared.error.kind.ErrorKind.{ErrorKind}
 use Rattle.clap.specs.declared.error.kind.ErrorKind.TheVariants.{DisplayHelp, OutOfMemory}
 use Rattle.ft_run.specs.declared.choose.Choice.{Choice}
-use Rattle.ft_run.specs.declared.choose.Choice.TheVariants.{Play, Dot, Help, Usage, Fault}
+use Rattle.ft_run.specs.declared.choose.Choice.TheVariants.{Play, Dot, Jobs, Help, Usage, Fault}
 
--- the program: it needs a subcommand, and has `play` and `dot`. The words begin behind its name
+-- the plan of `jobs` has to be named
+abbrev pub file_rule : Rule
+file_rule = record (new_rule (codes "file")) { required = true; value_names = 1 }
+
+-- how often a call asks at most: `--turns N`, from 1 to 1,000,000, and 10,000 where it is not named
+abbrev pub turns_rule : Rule
+turns_rule = record (new_rule (codes "turns")) { long = Some (codes "turns"); value_names = 1; parser = Some (Unsigned 1 1000000); defaults = codes "10000" ∷ [] }
+
+abbrev pub jobs : App
+jobs = with_rule (with_rule (new_app (codes "jobs")) file_rule) turns_rule
+
+-- no argument of the command is one of its subcommands too
+abbrev pub HasNoGlobals : Command → Type 0
+HasNoGlobals command = (out-Command command).has_globals ≡ false
+
+-- the program: it needs a subcommand, and has `play`, `dot` and `jobs`. The words begin behind its name
 abbrev pub program : App
 program =
     let named = new_app (codes "ft_run") in
     let bare = record named { top = record named.top { no_binary_name = true; subcommand_required = true } } in
-    with_subcommand (with_subcommand bare (new_app (codes "play")).top) (new_app (codes "dot")).top
+    with_subcommand (with_subcommand (with_subcommand bare (new_app (codes "play")).top) (new_app (codes "dot")).top) jobs.top
+
+-- a subcommand by its name, with what was found for it
+abbrev pub Met : Type 0
+Met = Option (Text × List Row)
+
+abbrev pub Names : Text → Met → Type 0
+Names name met = (found : List Row) × (met ≡ Some (name, found))
+
+-- the file and the turns that were found, at least one
+abbrev pub TellsJobs : List Row → Text → ℕ → Type 0
+TellsJobs found file turns =
+    (first_of (codes "file") found ≡ Some file)
+    × ((digits : Text) × (one_of (codes "turns") found ≡ Some digits) × (turns ≡ digits_value 10 (without_leading_plus digits)))
+    × (1 ≤ turns)
 
 -- the choice where the words name this subcommand
-abbrev pub ReadChoice : Option (List ℕ) → Choice → Type 0
-ReadChoice name Play = name ≡ Some (codes "play")
-ReadChoice name Dot = name ≡ Some (codes "dot")
-ReadChoice name (Help text) = ⊥
-ReadChoice name (Usage text) = ⊥
-ReadChoice name Fault = Unit {0}
+abbrev pub ReadChoice : Met → Choice → Type 0
+ReadChoice met Play = Names (codes "play") met
+ReadChoice met Dot = Names (codes "dot") met
+ReadChoice met (Jobs file turns) = (found : List Row) × (met ≡ Some (codes "jobs", found)) × TellsJobs found (string_bytes file) turns
+ReadChoice met (Help text) = ⊥
+ReadChoice met (Usage text) = ⊥
+ReadChoice met Fault = Unit {0}
 
 -- the choice where the words have an error of this kind
 abbrev pub ErrorChoice : ErrorKind → Choice → Type 0
 ErrorChoice kind Play = ⊥
 ErrorChoice kind Dot = ⊥
+ErrorChoice kind (Jobs file turns) = ⊥
 ErrorChoice kind (Help text) = kind ≡ DisplayHelp
 ErrorChoice kind (Usage text) = (kind ≢ DisplayHelp) × (kind ≢ OutOfMemory)
 ErrorChoice kind Fault = Unit {0}
 
--- the words have no error, and name this subcommand
-abbrev pub IsCommand : List ℕ → List Text → Type 0
-IsCommand name words = (fault_of program words ≡ []) × (option_map (λ met. met.0) (subcommand_of program words) ≡ Some name)
+-- the words have no error, and the subcommand that they name is read as this choice
+abbrev pub IsCommand : List Text → Choice → Type 0
+IsCommand words choice = (fault_of program words ≡ []) × ReadChoice (subcommand_of program words) choice
 
 -- the choice that words ask for
 abbrev pub ChoiceOf : List Text → Choice → Type 0
-ChoiceOf words Play = IsCommand (codes "play") words
-ChoiceOf words Dot = IsCommand (codes "dot") words
+ChoiceOf words Play = IsCommand words Play
+ChoiceOf words Dot = IsCommand words Dot
+ChoiceOf words (Jobs file turns) = IsCommand words (Jobs file turns)
 ChoiceOf words (Help text) = IsAmong DisplayHelp (fault_of program words)
 ChoiceOf words (Usage text) = (kind : ErrorKind) × IsAmong kind (fault_of program words) × (kind ≢ DisplayHelp)
 ChoiceOf words Fault = Unit {0}

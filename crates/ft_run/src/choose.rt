@@ -1,10 +1,11 @@
 // What a command line asks for.
-ghost use Rattle.std.specs.Prelude.{◌≡◌, IfOk, map};
-ghost use Rattle.clap.specs.Words.{app_of, kind_of, subcommand_name_of};
-ghost use Rattle.ft_run.specs.CommandLine.{ChoiceOf, ErrorChoice, ReadChoice, program};
+ghost use Rattle.std.specs.Prelude.{◌≡◌, IfOk, IfSome, map, string_bytes};
+ghost use Rattle.clap.specs.Words.{app_of, found_of, kind_of, rows_of, subcommand_rows_of};
+ghost use Rattle.ft_run.specs.CommandLine.{ChoiceOf, ErrorChoice, HasNoGlobals, ReadChoice, TellsJobs, jobs, program};
 
+use clap::builder::ValueParser;
 use clap::error::ErrorKind;
-use clap::{ArgMatches, Command, Error};
+use clap::{Arg, ArgMatches, Command, Error};
 use std::alloc::{AllocError, Global};
 use std::convert::AsStr;
 
@@ -15,6 +16,8 @@ pub enum Choice {
     Play,
     /// Draw the last report on who waits for whom.
     Dot,
+    /// Run the jobs of the plan in a file. A call of theirs asks at most so many times, at least once.
+    Jobs { file: String, turns: u64 },
     /// Print this help to the standard output, and end with status 0.
     Help(String),
     /// Print this to the standard error, and end with status 2: the words ask for nothing that
@@ -24,9 +27,12 @@ pub enum Choice {
     Fault,
 }
 
-// How a script is run, and how who waits for whom is drawn.
+// How a script is run, how who waits for whom is drawn, and how the jobs of a plan are run.
 const EXAMPLE: &str =
-    "Example:\n  ft_run play < script.ft\n  ft_run play < script.ft | ft_run dot | dot -Tsvg > waits.svg";
+    "Example:\n  ft_run play < script.ft\n  ft_run play < script.ft | ft_run dot | dot -Tsvg > waits.svg\n  ft_run jobs build.plan";
+
+// The most times that a call of a job may be told to ask.
+const MOST_TURNS: u64 = 1_000_000;
 
 /// What the words after the program's name ask for.
 ///
@@ -38,20 +44,41 @@ pub fn choose<'a, S: AsStr>(alloc: Global, words: &'a [S]) -> Choice
         return Choice::Fault;
     };
     match command.try_get_matches_from(words) {
-        Ok(matches) => choice_of(&matches),
+        Ok(matches) => choice_of(alloc, &matches),
         Err(error) => choice_at(alloc, &error),
     }
 }
 
 // The choice where the words could be read. The crate that reads them knows no other subcommand.
-fn choice_of(matches: &ArgMatches) -> Choice
-    ensures { ReadChoice (subcommand_name_of matches.now) result }
+fn choice_of(alloc: Global, matches: &ArgMatches) -> Choice
+    ensures { ReadChoice (subcommand_rows_of matches.now) result }
 {
     match matches.subcommand_name() {
-        Some("play") => Choice::Play,
-        Some("dot") => Choice::Dot,
-        _ => Choice::Fault,
+        Some("play") => return Choice::Play,
+        Some("dot") => return Choice::Dot,
+        _ => {}
     }
+    let Some(found) = matches.subcommand_matches("jobs") else {
+        return Choice::Fault;
+    };
+    match asked_of_jobs(alloc, found) {
+        Some((file, turns)) => Choice::Jobs { file, turns },
+        None => Choice::Fault,
+    }
+}
+
+// The file and the turns that `jobs` was given. There may be no memory for the name of the file. (The crate that reads the
+// words lets no 0 through.)
+fn asked_of_jobs(alloc: Global, found: &ArgMatches) -> Option<(String, u64)>
+    ensures { IfSome result (λ asked. TellsJobs (rows_of (found_of found.now)) (string_bytes asked.0) asked.1) }
+{
+    let file = found.get_str("file")?;
+    let turns = found.get_one::<u64>("turns")?;
+    if turns == 0 {
+        return None;
+    }
+    let file = String::from_str(alloc, file).ok()?;
+    Some((file, turns))
 }
 
 // The command line of the program.
@@ -70,7 +97,29 @@ fn program<'a>(alloc: Global) -> Result<Command<'a>, AllocError>
         .subcommand_required(true)
         .after_help(EXAMPLE)
         .subcommand(play)?
-        .subcommand(dot)
+        .subcommand(dot)?
+        .subcommand(jobs_command(alloc)?)
+}
+
+// The part of it that runs the jobs of a plan.
+fn jobs_command<'a>(alloc: Global) -> Result<Command<'a>, AllocError>
+    ensures app { IfOk result (λ command. app_of command ≡ jobs) }
+    ensures local { IfOk result HasNoGlobals }
+{
+    let file = Arg::new(alloc, "file")
+        .required(true)
+        .value_name("FILE")
+        .help("The plan");
+    let turns = Arg::new(alloc, "turns")
+        .long("turns")
+        .value_name("N")
+        .value_parser(ValueParser::unsigned(1, MOST_TURNS))
+        .default_value("10000")
+        .help("How often a call that waits asks at most");
+    Command::new(alloc, "jobs")
+        .about("Runs the jobs of a plan in threads, and prints what they came to")
+        .arg(file)?
+        .arg(turns)
 }
 
 // The choice where the words could not be read.

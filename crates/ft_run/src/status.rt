@@ -1,15 +1,21 @@
 // The status that the program ends with.
-ghost use Rattle.std.specs.Prelude.{◌≡◌, ◌⊎◌, IfErr, OnOk};
+ghost use Rattle.std.specs.Prelude.{◌≡◌, ◌≤◌, ◌⊎◌, IfErr, OnOk};
 ghost use Rattle.std.specs.Io.KnownBytes.{Keeps};
 ghost use Rattle.ft_dot.specs.Drawn.{Draws, StopsDrawing};
-ghost use Rattle.ft_run.specs.FaultLines.{fault_line};
+ghost use Rattle.ft_outcome.specs.Runs.{RunsPlan, StopsPlan};
+ghost use Rattle.ft_run.specs.FaultLines.{fault_line, run_fault_line};
 ghost use Rattle.ft_script.specs.Runs.{PlaysAnew, StopsAnew, WritesFront};
 
 use ft_core::Core;
 use ft_dot::draw;
+use ft_jobs::JobFault;
+use ft_outcome::{RunFault, run_plan};
 use ft_script::{PlayFault, play, write_out};
 use std::alloc::Global;
 use std::io::{Read, Write};
+use std::sync::Wait;
+use std::thread::Threads;
+use std::time::Clock;
 
 /// Runs a script on a new core, and answers the status to end with: 0, or 1 after a fault, of
 /// which a line tells on `errors`. Where that line can't be written, the status is the same.
@@ -29,7 +35,7 @@ pub fn play_status<R: Read, W: Write, E: Write>(
 {
     match play_anew(alloc, reader, writer) {
         Ok(()) => 0,
-        Err(fault) => failed(errors, fault),
+        Err(fault) => failed(errors, fault_line(fault)),
     }
 }
 
@@ -51,16 +57,39 @@ pub fn dot_status<R: Read, W: Write, E: Write>(
 {
     match draw(alloc, reader, writer) {
         Ok(()) => 0,
-        Err(fault) => failed(errors, fault),
+        Err(fault) => failed(errors, fault_line(fault)),
     }
 }
 
-// Tells of a fault, and answers the status that it ends with.
-fn failed<E: Write>(errors: &mut E, fault: PlayFault) -> u8
-    ensures status { result ≡ 1 }
-    ensures line { WritesFront (E.contents errors.old) (E.contents errors.new) (fault_line fault) }
+/// Runs the jobs of a plan on a new core, and answers the status to end with: 0, or 1 after a fault, of which a line tells
+/// on `errors`. Where that line can't be written, the status is the same.
+pub fn jobs_status<R: Threads + Wait + Clock + Sync, W: Write, E: Write>(
+    rt: &R,
+    alloc: Global,
+    plan: &[u8],
+    turns: u64,
+    writer: &mut W,
+    errors: &mut E,
+) -> u8
+    requires { 1 ≤ turns }
+    ensures status { (result ≡ 0) ⊎ (result ≡ 1) }
+    ensures quiet { result ≡ 0 → Keeps (E.contents errors.old) (E.contents errors.new) }
+    ensures ok { result ≡ 0 → RunsPlan plan.now (W.contents writer.old) (W.contents writer.new) }
+    ensures fault { result ≡ 1 → (fault : RunFault) × StopsPlan fault plan.now (W.contents writer.old) (W.contents writer.new)
+        × WritesFront (E.contents errors.old) (E.contents errors.new) (run_fault_line fault) }
 {
-    let _ = write_out(errors, fault_line(fault).as_bytes());
+    match run_plan(rt, alloc, plan, turns, writer) {
+        Ok(()) => 0,
+        Err(fault) => failed(errors, run_fault_line(fault)),
+    }
+}
+
+/// Tells of a fault by its line, and answers the status that it ends with.
+pub fn failed<E: Write>(errors: &mut E, line: &str) -> u8
+    ensures status { result ≡ 1 }
+    ensures line { WritesFront (E.contents errors.old) (E.contents errors.new) line.now }
+{
+    let _ = write_out(errors, line.as_bytes());
     1
 }
 
@@ -91,5 +120,18 @@ pub fn fault_line(fault: PlayFault) -> &'static str
         PlayFault::Write => "fault: Write\n",
         PlayFault::TooLong => "fault: TooLong\n",
         PlayFault::Turns => "fault: Turns\n",
+    }
+}
+
+/// The same of a fault of a plan.
+pub fn run_fault_line(fault: RunFault) -> &'static str
+    ensures { result.now ≡ run_fault_line fault }
+{
+    match fault {
+        RunFault::Jobs(JobFault::Memory) => fault_line(PlayFault::Memory),
+        RunFault::Jobs(JobFault::BadPlan) => "fault: BadPlan\n",
+        RunFault::Jobs(JobFault::Mismatch) => "fault: Mismatch\n",
+        RunFault::Jobs(JobFault::Thread) => "fault: Thread\n",
+        RunFault::Write => fault_line(PlayFault::Write),
     }
 }

@@ -1,6 +1,6 @@
-// What no clause says: the line that tells of a fault, and the words of the command line.
+// What no clause says: the line that tells of a fault, the words of the command line, and what jobs came to.
 use crate::choose::{Choice, choose};
-use crate::status::play_status;
+use crate::status::{jobs_status, play_status};
 use std::alloc::Global;
 use std::io;
 use std::io::{ErrorKind, Read, Write};
@@ -125,6 +125,12 @@ fn is_dot(alloc: Global, words: &[&str]) -> bool {
     matches!(choose(alloc, words), Choice::Dot)
 }
 
+// Whether they ask for the jobs of this plan, in so many turns.
+fn is_jobs(alloc: Global, words: &[&str], plan: &str, most: u64) -> bool {
+    let choice = choose(alloc, words);
+    matches!(&choice, Choice::Jobs { file, turns } if file.as_str() == plan && *turns == most)
+}
+
 #[test]
 fn choices(rt: HostRuntime) -> Result<(), Fail> {
     let alloc = rt.alloc();
@@ -141,5 +147,64 @@ fn choices(rt: HostRuntime) -> Result<(), Fail> {
         )
     );
     assert!(rt; is_help(alloc, &["play", "--help"], "play"));
+    Ok(())
+}
+
+#[test]
+fn choices_of_jobs(rt: HostRuntime) -> Result<(), Fail> {
+    let alloc = rt.alloc();
+    assert!(rt; is_jobs(alloc, &["jobs", "p"], "p", 10_000));
+    assert!(rt; is_jobs(alloc, &["jobs", "p", "--turns", "1000000"], "p", 1_000_000));
+    assert!(rt; is_jobs(alloc, &["jobs", "--turns=1", "p"], "p", 1));
+    assert!(rt;
+        is_usage(
+            alloc,
+            &["jobs", "p", "--turns", "0"],
+            "0 is not in 1..=1000000"
+        )
+    );
+    assert!(rt;
+        is_usage(
+            alloc,
+            &["jobs", "p", "--turns", "1000001"],
+            "1000001 is not in 1..=1000000"
+        )
+    );
+    assert!(rt; is_usage(alloc, &["jobs"], "<FILE>"));
+    assert!(rt; is_help(alloc, &["jobs", "--help"], "[default: 10000]"));
+    Ok(())
+}
+
+// One job: what it came to has one outcome.
+const ONE_JOB: &[u8] = b"job a\nmkdir /a\nlist /\ncommit\n";
+
+const ONE_OUTCOME: &str =
+    "job a 1 committed\nhistory 2\ncall 2 1 mkdir /a = ok\ncall 3 1 list / = ok 1 a/\ntree 3\ndir 1\ndir 2\nedge 1 a 2\n";
+
+#[test]
+fn jobs_program_text(rt: HostRuntime) -> Result<(), Fail> {
+    let alloc = rt.alloc();
+    let mut output = Narrow::new(alloc, 200);
+    let mut errors = Narrow::new(alloc, 100);
+    let status = jobs_status(&rt, alloc, ONE_JOB, 1, &mut output, &mut errors);
+    assert!(rt;
+        status == 0 && output.held.as_slice() == ONE_OUTCOME.as_bytes() && errors.held.is_empty()
+    );
+    let status = jobs_status(&rt, alloc, b"".as_slice(), 1, &mut output, &mut errors);
+    assert!(rt; status == 1 && errors.held.as_slice() == b"fault: BadPlan\n".as_slice());
+    Ok(())
+}
+
+#[test]
+fn output_that_fails(rt: HostRuntime) -> Result<(), Fail> {
+    let alloc = rt.alloc();
+    let mut output = Narrow::new(alloc, 10);
+    let mut errors = Narrow::new(alloc, 100);
+    let status = jobs_status(&rt, alloc, ONE_JOB, 1, &mut output, &mut errors);
+    assert!(rt;
+        status == 1
+            && output.held.as_slice() == b"job a 1 co".as_slice()
+            && errors.held.as_slice() == b"fault: Write\n".as_slice()
+    );
     Ok(())
 }

@@ -1,4 +1,3 @@
 pub mod Cutting
 pub mod Running
 pub mod Stopping
-pub mod Judged

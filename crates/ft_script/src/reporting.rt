@@ -1,7 +1,5 @@
 // Reports of how things stand.
 ghost use Rattle.std.specs.Prelude.{◌≡◌, ◌++◌, ◌∷◌, [], IfOk, codes, string_bytes};
-ghost use Rattle.ft_waits.specs.Edges.{AreEdgesOf};
-ghost use Rattle.ft_waits.specs.Waits.{IsVerdict};
 ghost use Rattle.ft_script.specs.Runs.{IsReport};
 
 use crate::line::Report;
@@ -9,7 +7,7 @@ use crate::lock_text::LocksText;
 use crate::wait_text::WaitsText;
 use ft_base::Memory;
 use ft_core::Core;
-use ft_waits::{Edge, Verdict, edges, judge};
+use ft_waits::judged_edges;
 use ft_words::TreeText;
 use std::alloc::Global;
 
@@ -50,7 +48,7 @@ fn locks_report(alloc: Global, core: &Core) -> Result<String, Memory>
 fn waits_report(alloc: Global, core: &Core) -> Result<String, Memory>
     ensures { IfOk result (λ text. IsReport core.now Report.Waits (string_bytes text)) }
 {
-    match judged_edges(alloc, core) {
+    match judged_edges(core) {
         Ok((edges, verdict)) => {
             let text = WaitsText {
                 edges: edges.as_slice(),
@@ -60,16 +58,6 @@ fn waits_report(alloc: Global, core: &Core) -> Result<String, Memory>
         }
         Err(Memory) => memory_report(alloc),
     }
-}
-
-// The waits-for edges, and the verdict on them.
-fn judged_edges(alloc: Global, core: &Core) -> Result<(Vec<Edge>, Verdict), Memory>
-    ensures edges { IfOk result (λ told. AreEdgesOf core.now told.0.items) }
-    ensures verdict { IfOk result (λ told. IsVerdict told.0.items told.1) }
-{
-    let edges = edges(alloc, core)?;
-    let verdict = judge(alloc, edges.as_slice())?;
-    Ok((edges, verdict))
 }
 
 // That there was no memory for what a report tells of.

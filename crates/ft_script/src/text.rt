@@ -40,8 +40,8 @@ impl fmt::Display for TxnList<'_> {
     }
 }
 
-// The name of a refusal.
-fn fault_name(fault: Fault) -> &'static str
+/// The name of a refusal.
+pub fn fault_name(fault: Fault) -> &'static str
     ensures { result.now ≡ fault_name fault }
 {
     match fault {

@@ -1,15 +1,18 @@
 // A core behind a lock.
-ghost use Rattle.std.specs.Prelude.{◌≡◌, ◌≤◌, MatchResult};
+ghost use Rattle.std.specs.Prelude.{◌≡◌, ◌≤◌, MatchResult, IfOk, IfErr};
 ghost use Rattle.std.specs.Sync.Mutex.{mutex_guard_value};
-ghost use Rattle.ft_core.specs.declared.fault.Fault.TheVariants.{Live as LiveFault};
+ghost use Rattle.ft_core.specs.declared.fault.Fault.TheVariants.{Memory as MemoryFault, Live as LiveFault};
 ghost use Rattle.ft_core.specs.declared.request.Request.TheVariants.{Begin, Sub, Ask, Retry, Drop as DropAsk, Commit, Abort, Undo};
 ghost use Rattle.ft_core.specs.declared.request.Answer.TheVariants.{Txn, Dropped, Committed, Aborted, Undone};
 ghost use Rattle.ft_core.specs.Living.{SomeIsLive, NoneIsLive};
 ghost use Rattle.ft_core.specs.Steps.{IsStep, exact_rule, answer_with, outcome_answer};
-ghost use Rattle.ft_shared.specs.Behind.{IsOfCore, InSomeCore, IsAborted, IsUndone};
+ghost use Rattle.ft_waits.specs.Edges.{AreEdgesOf};
+ghost use Rattle.ft_waits.specs.Waits.{IsVerdict};
+ghost use Rattle.ft_shared.specs.Behind.{IsOfCore, OfSomeCore, InSomeCore, IsAborted, IsUndone};
 
 use ft_calls::Call;
 use ft_core::{Core, Fault, Outcome, TxnId};
+use ft_waits::{Edge, Verdict, judged_edges};
 use std::sync::{Condvar, Mutex, MutexGuard, Wait};
 use std::time::Duration;
 
@@ -18,9 +21,10 @@ pub const MOST_PAUSE: u64 = 5;
 
 /// Transactions that threads share: a core behind a lock.
 ///
-/// Each call makes one call of the core, in one holding of the lock. What stands behind the lock is a `Core`: whenever the
-/// lock is got, the tree is what a plain tree holds after the standing calls of the history alone. Which core it was, no clause
-/// can say: each says that the answer is a legal one of some core in some state. No clause says that a call returns.
+/// Each call makes one call of the core, or reads it, in one holding of the lock. What stands behind the lock is a `Core`:
+/// whenever the lock is got, the tree is what a plain tree holds after the standing calls of the history alone. Which core it
+/// was, no clause can say: each says that the answer is a legal one of some core in some state. No clause says that a call
+/// returns.
 #[derive(Drop)]
 pub struct Shared {
     core: Mutex<Core>,
@@ -180,6 +184,20 @@ impl Shared {
             self.moved.notify_all();
         }
         undone
+    }
+
+    /// Who waits for whom: the waits-for edges of the core, each once, in their order, and whether there is a cycle of just
+    /// these.
+    ///
+    /// Want of memory is the only refusal.
+    pub fn waits<R: Wait>(&self, rt: &R) -> Result<(Vec<Edge>, Verdict), Fault>
+        ensures edges { IfOk result (λ told. OfSomeCore (λ state. AreEdgesOf state told.0.items)) }
+        ensures verdict { IfOk result (λ told. IsVerdict told.0.items told.1) }
+        ensures fault { IfErr result (λ fault. fault ≡ MemoryFault) }
+    {
+        let core = self.held(rt);
+        let told = judged_edges(&core)?;
+        Ok(told)
     }
 
     /// Ends the sharing, and gives the core back. Takes no memory.

@@ -1,128 +1,164 @@
-// Scripts worked by hand, request by request through the lock; turns that are used up; cores that can't be shared.
-use crate::Shared;
+// Rows worked by hand, request by request through the lock; who waits for whom; threads that wait, and let others go on; what is
+// handed back.
+use crate::{Manager, Refused, Shared};
 use ft_calls::{Call, Reply};
-use ft_core::{Answer, Core, Fault, Request, TxnId};
+use ft_core::{Answer, Core, Fault, Outcome, Request, TxnId};
 use ft_path::FilePath;
 use ft_tree::AccessMode;
+use ft_waits::{Edge, EdgeKind, Verdict};
 use std::alloc::Global;
 use std::sync::Wait;
 use std::test::Fail;
+use std::thread;
+use std::thread::Threads;
+use std::time::{Clock, Duration};
 
-/// A request: the number of its transaction, and its path or its descriptor.
-#[derive(Clone, Copy)]
-enum Line<'a> {
-    Begin,
-    Sub(u64),
-    Mkdir(u64, &'a [u8]),
-    List(u64, &'a [u8]),
-    /// To read and write, and made where it is not there.
-    Open(u64, &'a [u8]),
-    /// At the beginning.
-    Pwrite(u64, u64, &'a [u8]),
-    Read(u64, u64),
-    Retry(u64),
-    Drop(u64),
-    Undo(u64),
-    Commit(u64),
-    Abort(u64),
+/// Requests, each with its answer.
+type Row = Vec<(Request, Answer)>;
+
+fn add(row: &mut Row, request: Request, answer: Answer) -> Result<(), Fail> {
+    row.push((request, answer))?;
+    Ok(())
 }
 
-/// An answer; of a granted call, its stamp.
-#[derive(Clone, Copy)]
-enum Wanted<'a> {
-    Txn(u64),
-    Done(u64),
-    /// The names in their order, one behind the other.
-    Names(u64, &'a [u8]),
-    Number(u64, u64),
-    Bytes(u64, &'a [u8]),
-    Waits(u64),
-    Dropped,
-    Committed,
-    Aborted(u64),
-    Undone(u64),
-    Refused(Fault),
+/// A transaction is begun.
+fn add_txn(row: &mut Row, request: Request, number: u64) -> Result<(), Fail> {
+    add(row, request, Answer::Txn(TxnId(number)))
 }
 
-fn call_of(alloc: Global, line: Line) -> Result<(u64, Call), Fail> {
-    match line {
-        Line::Mkdir(txn, path) => {
-            let path = FilePath::new(alloc, path)?;
-            Ok((txn, Call::Mkdir { path }))
-        }
-        Line::List(txn, path) => {
-            let path = FilePath::new(alloc, path)?;
-            Ok((txn, Call::List { path }))
-        }
-        Line::Open(txn, path) => {
-            let path = FilePath::new(alloc, path)?;
-            let call = Call::Open {
-                path,
-                access: AccessMode::ReadWrite,
-                create: true,
-                excl: false,
-                trunc: false,
-                append: false,
-            };
-            Ok((txn, call))
-        }
-        Line::Pwrite(txn, fd, bytes) => {
-            let bytes = bytes.to_vec(alloc)?.into();
-            Ok((txn, Call::Pwrite { fd, off: 0, bytes }))
-        }
-        Line::Read(txn, fd) => Ok((txn, Call::Read { fd, len: 9 })),
-        _ => Err(Fail::from("no call")),
-    }
+/// A call is granted.
+fn add_call(row: &mut Row, request: Request, stamp: u64, reply: Reply) -> Result<(), Fail> {
+    add(row, request, Answer::Granted { stamp, reply })
 }
 
-fn request_of(alloc: Global, line: Line) -> Result<Request, Fail> {
-    match line {
-        Line::Begin => Ok(Request::Begin),
-        Line::Sub(txn) => Ok(Request::Sub(TxnId(txn))),
-        Line::Retry(txn) => Ok(Request::Retry(TxnId(txn))),
-        Line::Drop(txn) => Ok(Request::Drop(TxnId(txn))),
-        Line::Undo(txn) => Ok(Request::Undo(TxnId(txn))),
-        Line::Commit(txn) => Ok(Request::Commit(TxnId(txn))),
-        Line::Abort(txn) => Ok(Request::Abort(TxnId(txn))),
-        line => {
-            let (txn, call) = call_of(alloc, line)?;
-            Ok(Request::Ask(TxnId(txn), call))
-        }
-    }
+/// A call waits for one transaction.
+fn add_wait(row: &mut Row, request: Request, blocker: u64) -> Result<(), Fail> {
+    let mut blockers = Vec::new(*row.allocator());
+    blockers.push(TxnId(blocker))?;
+    let blockers = blockers.into();
+    add(row, request, Answer::Waits { blockers })
 }
 
-fn is_reply(stamp: u64, reply: &Reply, wanted: Wanted) -> bool {
-    match (reply, wanted) {
-        (Reply::Done, Wanted::Done(wanted)) => stamp == wanted,
-        (Reply::Number(fd), Wanted::Number(number, wanted)) => stamp == number && *fd == wanted,
-        (Reply::Bytes(bytes), Wanted::Bytes(number, wanted)) => {
-            stamp == number && bytes.as_slice() == wanted
-        }
-        (Reply::Names(names), Wanted::Names(number, wanted)) => {
-            let all = names
-                .as_slice()
-                .iter()
-                .flat_map(|(name, _)| name.as_bytes());
-            stamp == number && all.copied().eq(wanted.iter().copied())
-        }
-        _ => false,
-    }
+/// Descriptor 2 is read from the beginning.
+fn add_read(row: &mut Row, txn: u64, stamp: u64, bytes: &[u8]) -> Result<(), Fail> {
+    let bytes = bytes.to_vec(*row.allocator())?.into();
+    let call = Call::Pread {
+        fd: 2,
+        off: 0,
+        len: 9,
+    };
+    add_call(
+        row,
+        Request::Ask(TxnId(txn), call),
+        stamp,
+        Reply::Bytes(bytes),
+    )
 }
 
-fn is_answer(answer: &Answer, wanted: Wanted) -> bool {
-    match (answer, wanted) {
-        (Answer::Txn(txn), Wanted::Txn(wanted)) => txn.0 == wanted,
-        (Answer::Granted { stamp, reply }, wanted) => is_reply(*stamp, reply, wanted),
-        (Answer::Waits { blockers }, Wanted::Waits(wanted)) => {
-            blockers.as_slice() == [TxnId(wanted)].as_slice()
-        }
-        (Answer::Dropped, Wanted::Dropped) => true,
-        (Answer::Committed, Wanted::Committed) => true,
-        (Answer::Aborted(count), Wanted::Aborted(wanted)) => *count == wanted,
-        (Answer::Undone(stamp), Wanted::Undone(wanted)) => *stamp == wanted,
-        (Answer::Refused(fault), Wanted::Refused(wanted)) => *fault == wanted,
-        _ => false,
-    }
+fn add_refusal(row: &mut Row, request: Request, fault: Fault) -> Result<(), Fail> {
+    add(row, request, Answer::Refused(fault))
+}
+
+fn mkdir(alloc: Global, txn: u64, path: &[u8]) -> Result<Request, Fail> {
+    let path = FilePath::new(alloc, path)?;
+    Ok(Request::Ask(TxnId(txn), Call::Mkdir { path }))
+}
+
+fn stat(alloc: Global, txn: u64, path: &[u8]) -> Result<Request, Fail> {
+    let path = FilePath::new(alloc, path)?;
+    Ok(Request::Ask(TxnId(txn), Call::Stat { path }))
+}
+
+fn stat_call(alloc: Global) -> Result<Call, Fail> {
+    let path = FilePath::new(alloc, b"/a".as_slice())?;
+    Ok(Call::Stat { path })
+}
+
+/// To read and write, and made where it is not there.
+fn open(alloc: Global, txn: u64, path: &[u8]) -> Result<Request, Fail> {
+    let path = FilePath::new(alloc, path)?;
+    let call = Call::Open {
+        path,
+        access: AccessMode::ReadWrite,
+        create: true,
+        excl: false,
+        trunc: false,
+        append: false,
+    };
+    Ok(Request::Ask(TxnId(txn), call))
+}
+
+/// To descriptor 2, at the beginning.
+fn pwrite(alloc: Global, txn: u64, bytes: &[u8]) -> Result<Request, Fail> {
+    let bytes = bytes.to_vec(alloc)?.into();
+    let call = Call::Pwrite {
+        fd: 2,
+        off: 0,
+        bytes,
+    };
+    Ok(Request::Ask(TxnId(txn), call))
+}
+
+/// Locks go to the parent.
+fn commit_hands_locks_up(alloc: Global, row: &mut Row) -> Result<(), Fail> {
+    add_txn(row, Request::Begin, 1)?;
+    add_txn(row, Request::Sub(TxnId(1)), 2)?;
+    add_txn(row, Request::Sub(TxnId(1)), 3)?;
+    add_call(row, open(alloc, 2, b"/f".as_slice())?, 2, Reply::Number(2))?;
+    add_call(
+        row,
+        pwrite(alloc, 2, b"hi".as_slice())?,
+        3,
+        Reply::Number(2),
+    )?;
+    add_wait(row, pwrite(alloc, 3, b"XX".as_slice())?, 2)?;
+    add(row, Request::Commit(TxnId(2)), Answer::Committed)?;
+    add_call(row, Request::Retry(TxnId(3)), 4, Reply::Number(2))?;
+    add(row, Request::Abort(TxnId(3)), Answer::Aborted(1))?;
+    add_read(row, 1, 5, b"hi".as_slice())?;
+    add(row, Request::Commit(TxnId(1)), Answer::Committed)
+}
+
+/// Refusals.
+fn ended_and_unknown_transactions(alloc: Global, row: &mut Row) -> Result<(), Fail> {
+    add_txn(row, Request::Begin, 1)?;
+    add_txn(row, Request::Sub(TxnId(1)), 2)?;
+    add_refusal(row, Request::Commit(TxnId(1)), Fault::ChildLive)?;
+    add(row, Request::Abort(TxnId(1)), Answer::Aborted(0))?;
+    add_refusal(row, stat(alloc, 2, b"/".as_slice())?, Fault::Ended)?;
+    add_refusal(row, Request::Commit(TxnId(9)), Fault::NoTxn)?;
+    add_txn(row, Request::Begin, 3)?;
+    add_refusal(row, Request::Retry(TxnId(3)), Fault::NoAsk)?;
+    add_txn(row, Request::Sub(TxnId(3)), 4)?;
+    add_call(row, mkdir(alloc, 4, b"/a".as_slice())?, 2, Reply::Done)?;
+    add_wait(row, stat(alloc, 3, b"/a".as_slice())?, 4)?;
+    add(row, Request::Drop(TxnId(3)), Answer::Dropped)?;
+    add_refusal(row, Request::Drop(TxnId(3)), Fault::NoAsk)
+}
+
+/// Undos.
+fn undo_walks_back(alloc: Global, row: &mut Row) -> Result<(), Fail> {
+    add_txn(row, Request::Begin, 1)?;
+    add_call(row, open(alloc, 1, b"/f".as_slice())?, 2, Reply::Number(2))?;
+    add_call(
+        row,
+        pwrite(alloc, 1, b"hi".as_slice())?,
+        3,
+        Reply::Number(2),
+    )?;
+    add(row, Request::Undo(TxnId(1)), Answer::Undone(3))?;
+    add(row, Request::Undo(TxnId(1)), Answer::Undone(2))?;
+    add_refusal(row, Request::Undo(TxnId(1)), Fault::NothingToUndo)
+}
+
+/// Two transactions wait for each other.
+fn deadlock(alloc: Global, row: &mut Row) -> Result<(), Fail> {
+    add_txn(row, Request::Begin, 1)?;
+    add_txn(row, Request::Begin, 2)?;
+    add_call(row, mkdir(alloc, 1, b"/a".as_slice())?, 2, Reply::Done)?;
+    add_call(row, mkdir(alloc, 2, b"/b".as_slice())?, 3, Reply::Done)?;
+    add_wait(row, stat(alloc, 1, b"/b".as_slice())?, 2)?;
+    add_wait(row, stat(alloc, 2, b"/a".as_slice())?, 1)
 }
 
 /// Carries a request out through the lock.
@@ -139,23 +175,18 @@ fn answer<R: Wait>(rt: &R, shared: &Shared, request: Request) -> Result<Answer, 
     }
 }
 
-/// Carries a script out, one call for each line, and says whether each is answered as it says.
-fn plays<R: Wait>(
-    rt: &R,
-    alloc: Global,
-    shared: &Shared,
-    script: &[(Line, Wanted)],
-) -> Result<bool, Fail> {
-    for (line, wanted) in script {
-        let told = match answer(rt, shared, request_of(alloc, *line)?) {
+/// Carries a row out, and says whether each request is answered so.
+fn plays<R: Wait>(rt: &R, shared: &Shared, row: Row) -> bool {
+    for (request, wanted) in row {
+        let told = match answer(rt, shared, request) {
             Ok(told) => told,
             Err(fault) => Answer::Refused(fault),
         };
-        if !is_answer(&told, *wanted) {
-            return Ok(false);
+        if told != wanted {
+            return false;
         }
     }
-    Ok(true)
+    true
 }
 
 /// A new core behind a lock.
@@ -166,135 +197,186 @@ fn new_shared(alloc: Global) -> Result<Shared, Fault> {
     }
 }
 
-/// A waiter, and an abort of whom it waits for.
-fn wait_then_retry<R: Wait>(rt: &R, alloc: Global) -> Result<bool, Fail> {
-    let script = [
-        (Line::Begin, Wanted::Txn(1)),
-        (Line::Mkdir(1, b"/d".as_slice()), Wanted::Done(2)),
-        (Line::Commit(1), Wanted::Committed),
-        (Line::Begin, Wanted::Txn(2)),
-        (Line::Begin, Wanted::Txn(3)),
-        (Line::Mkdir(2, b"/d/a".as_slice()), Wanted::Done(3)),
-        (Line::Mkdir(3, b"/d/b".as_slice()), Wanted::Done(4)),
-        (Line::List(3, b"/d".as_slice()), Wanted::Waits(2)),
-        (Line::Abort(2), Wanted::Aborted(1)),
-        (Line::Retry(3), Wanted::Names(5, b"b".as_slice())),
-    ];
-    plays(rt, alloc, &new_shared(alloc)?, &script)
+/// Carries a row out on a new core.
+fn plays_anew<R: Wait>(rt: &R, row: Row) -> Result<bool, Fail> {
+    let shared = new_shared(*row.allocator())?;
+    Ok(plays(rt, &shared, row))
 }
 
-/// Locks go to the parent.
-fn commit_hands_locks_up<R: Wait>(rt: &R, alloc: Global) -> Result<bool, Fail> {
-    let script = [
-        (Line::Begin, Wanted::Txn(1)),
-        (Line::Sub(1), Wanted::Txn(2)),
-        (Line::Sub(1), Wanted::Txn(3)),
-        (Line::Open(2, b"/f".as_slice()), Wanted::Number(2, 2)),
-        (Line::Pwrite(2, 2, b"hi".as_slice()), Wanted::Number(3, 2)),
-        (Line::Pwrite(3, 2, b"XX".as_slice()), Wanted::Waits(2)),
-        (Line::Commit(2), Wanted::Committed),
-        (Line::Retry(3), Wanted::Number(4, 2)),
-        (Line::Abort(3), Wanted::Aborted(1)),
-        (Line::Begin, Wanted::Txn(4)),
-        (Line::List(4, b"/".as_slice()), Wanted::Waits(1)),
-        (Line::Read(1, 2), Wanted::Bytes(5, b"hi".as_slice())),
-        (Line::Commit(1), Wanted::Committed),
-        (Line::Retry(4), Wanted::Names(6, b"f".as_slice())),
-    ];
-    plays(rt, alloc, &new_shared(alloc)?, &script)
+fn hands_locks_up<R: Wait>(rt: &R, alloc: Global) -> Result<bool, Fail> {
+    let mut row = Vec::new(alloc);
+    commit_hands_locks_up(alloc, &mut row)?;
+    plays_anew(rt, row)
 }
 
-/// Refusals.
-fn ended_and_unknown_transactions<R: Wait>(rt: &R, alloc: Global) -> Result<bool, Fail> {
-    let script = [
-        (Line::Begin, Wanted::Txn(1)),
-        (Line::Sub(1), Wanted::Txn(2)),
-        (Line::Commit(1), Wanted::Refused(Fault::ChildLive)),
-        (Line::Abort(1), Wanted::Aborted(0)),
-        (
-            Line::List(2, b"/".as_slice()),
-            Wanted::Refused(Fault::Ended),
-        ),
-        (Line::Commit(9), Wanted::Refused(Fault::NoTxn)),
-        (Line::Begin, Wanted::Txn(3)),
-        (Line::Retry(3), Wanted::Refused(Fault::NoAsk)),
-        (Line::Sub(3), Wanted::Txn(4)),
-        (Line::Mkdir(4, b"/a".as_slice()), Wanted::Done(2)),
-        (Line::List(3, b"/a".as_slice()), Wanted::Waits(4)),
-        (Line::Drop(3), Wanted::Dropped),
-        (Line::Drop(3), Wanted::Refused(Fault::NoAsk)),
-    ];
-    plays(rt, alloc, &new_shared(alloc)?, &script)
+fn refuses<R: Wait>(rt: &R, alloc: Global) -> Result<bool, Fail> {
+    let mut row = Vec::new(alloc);
+    ended_and_unknown_transactions(alloc, &mut row)?;
+    plays_anew(rt, row)
 }
 
-/// Undos.
-fn undo_walks_back<R: Wait>(rt: &R, alloc: Global) -> Result<bool, Fail> {
-    let script = [
-        (Line::Begin, Wanted::Txn(1)),
-        (Line::Open(1, b"/f".as_slice()), Wanted::Number(2, 2)),
-        (Line::Pwrite(1, 2, b"hi".as_slice()), Wanted::Number(3, 2)),
-        (Line::Read(1, 2), Wanted::Bytes(4, b"hi".as_slice())),
-        (Line::Undo(1), Wanted::Undone(4)),
-        (Line::Undo(1), Wanted::Undone(3)),
-        (Line::Undo(1), Wanted::Undone(2)),
-        (Line::Undo(1), Wanted::Refused(Fault::NothingToUndo)),
-        (Line::Sub(1), Wanted::Txn(2)),
-        (Line::Undo(1), Wanted::Refused(Fault::ChildLive)),
-        (Line::Commit(2), Wanted::Committed),
-        (Line::Undo(1), Wanted::Refused(Fault::SubSince)),
-        (
-            Line::List(1, b"/".as_slice()),
-            Wanted::Names(5, b"".as_slice()),
-        ),
-        (Line::Undo(1), Wanted::Undone(5)),
-        (Line::Undo(1), Wanted::Refused(Fault::SubSince)),
-    ];
-    plays(rt, alloc, &new_shared(alloc)?, &script)
+fn walks_back<R: Wait>(rt: &R, alloc: Global) -> Result<bool, Fail> {
+    let mut row = Vec::new(alloc);
+    undo_walks_back(alloc, &mut row)?;
+    plays_anew(rt, row)
 }
 
 #[test]
 fn rows_through_shared(rt: HostRuntime) -> Result<(), Fail> {
     let alloc = rt.alloc();
-    assert!(rt; wait_then_retry(&rt, alloc)?);
-    assert!(rt; commit_hands_locks_up(&rt, alloc)?);
-    assert!(rt; ended_and_unknown_transactions(&rt, alloc)?);
-    assert!(rt; undo_walks_back(&rt, alloc)?);
+    assert!(rt; hands_locks_up(&rt, alloc)?);
+    assert!(rt; refuses(&rt, alloc)?);
+    assert!(rt; walks_back(&rt, alloc)?);
     Ok(())
 }
 
-/// A core in which one transaction has made a directory, and another one is live.
+/// Whether two transactions alone wait for each other's locks.
+fn is_deadlock(edges: &[Edge], verdict: &Verdict) -> bool {
+    let (one, two) = (TxnId(1), TxnId(2));
+    let lock = |from, to| Edge {
+        from,
+        to,
+        kind: EdgeKind::Lock,
+    };
+    let is_cycle = match verdict {
+        Verdict::Cycle(members) => members.as_slice() == [one, two].as_slice(),
+        Verdict::Ranked(_) => false,
+    };
+    is_cycle && edges == [lock(one, two), lock(two, one)].as_slice()
+}
+
+/// Whether a core tells a deadlock of two, where there is one.
+fn tells_deadlock<R: Wait>(rt: &R, shared: &Shared, row: Row) -> Result<bool, Fail> {
+    if !plays(rt, shared, row) {
+        return Ok(false);
+    }
+    let (edges, verdict) = shared.waits(rt)?;
+    Ok(is_deadlock(edges.as_slice(), &verdict))
+}
+
+fn waits_in_circle<R: Wait>(rt: &R, alloc: Global) -> Result<bool, Fail> {
+    let mut row = Vec::new(alloc);
+    deadlock(alloc, &mut row)?;
+    let shared = new_shared(alloc)?;
+    tells_deadlock(rt, &shared, row)
+}
+
+#[test]
+fn waits_through_shared(rt: HostRuntime) -> Result<(), Fail> {
+    assert!(rt; waits_in_circle(&rt, rt.alloc())?);
+    Ok(())
+}
+
+/// One transaction makes a directory, and another one is live.
+fn make_directory<R: Wait>(rt: &R, alloc: Global, shared: &Shared) -> Result<(), Fail> {
+    let path = FilePath::new(alloc, b"/a".as_slice())?;
+    let one = shared.begin(rt)?;
+    let _two = shared.begin(rt)?;
+    let _ = shared.ask(rt, one, Call::Mkdir { path })?;
+    Ok(())
+}
+
+/// A core in which transaction 1 has made a directory, and transaction 2 is live.
 fn with_directory<R: Wait>(rt: &R, alloc: Global) -> Result<Shared, Fail> {
     let shared = new_shared(alloc)?;
-    let script = [
-        (Line::Begin, Wanted::Txn(1)),
-        (Line::Begin, Wanted::Txn(2)),
-        (Line::Mkdir(1, b"/a".as_slice()), Wanted::Done(2)),
-    ];
-    if plays(rt, alloc, &shared, &script)? {
-        Ok(shared)
-    } else {
-        Err(Fail::from("another answer"))
+    make_directory(rt, alloc, &shared)?;
+    Ok(shared)
+}
+
+/// The second transaction waits for the first, which another thread commits a while later.
+fn wait_and_commit<R: Threads + Wait + Clock + Sync>(
+    rt: &R,
+    shared: &Shared,
+    call: &Call,
+) -> (Result<Outcome, Fault>, Result<(), Fault>) {
+    thread::join(
+        rt,
+        || shared.ask_wait(rt, TxnId(2), call, 400),
+        || {
+            thread::sleep(rt, Duration::from_millis(50));
+            shared.commit(rt, TxnId(1))
+        },
+    )
+}
+
+/// Whether the waiter is granted once the other one has committed.
+fn goes_on<R: Threads + Wait + Clock + Sync>(rt: &R, shared: &Shared, call: &Call) -> bool {
+    match wait_and_commit(rt, shared, call) {
+        (Ok(Outcome::Granted { stamp, reply: _ }), Ok(())) => stamp == 3,
+        _ => false,
     }
+}
+
+fn lets_go_on<R: Threads + Wait + Clock + Sync>(rt: &R, alloc: Global) -> Result<bool, Fail> {
+    let call = stat_call(alloc)?;
+    let shared = with_directory(rt, alloc)?;
+    Ok(goes_on(rt, &shared, &call))
+}
+
+#[test]
+fn waiter_lets_others_go_on(rt: HostRuntime) -> Result<(), Fail> {
+    assert!(rt; lets_go_on(&rt, rt.alloc())?);
+    Ok(())
+}
+
+/// Whether a waiter waits for the first transaction all its turns long, and its ask stays.
+fn waits_in_vain<R: Wait>(rt: &R, shared: &Shared, call: &Call) -> bool {
+    let is_waiting = match &shared.ask_wait(rt, TxnId(2), call, 3) {
+        Ok(Outcome::Waits { blockers }) => blockers.as_slice() == [TxnId(1)].as_slice(),
+        _ => false,
+    };
+    is_waiting && shared.drop_ask(rt, TxnId(2)) == Ok(())
+}
+
+fn uses_turns_up<R: Wait>(rt: &R, alloc: Global) -> Result<bool, Fail> {
+    let call = stat_call(alloc)?;
+    let shared = with_directory(rt, alloc)?;
+    Ok(waits_in_vain(rt, &shared, &call))
 }
 
 #[test]
 fn turns_are_used_up(rt: HostRuntime) -> Result<(), Fail> {
-    let alloc = rt.alloc();
-    let path = FilePath::new(alloc, b"/a".as_slice())?;
-    let call = Call::List { path };
-    let shared = with_directory(&rt, alloc)?;
-    let told = Answer::from(shared.ask_wait(&rt, TxnId(2), &call, 3)?);
-    assert!(rt; is_answer(&told, Wanted::Waits(1)));
-    assert_eq!(rt; shared.drop_ask(&rt, TxnId(2)), Ok(()));
+    assert!(rt; uses_turns_up(&rt, rt.alloc())?);
     Ok(())
 }
 
-/// Whether a core is refused as one in which a transaction is live, and handed back as it was.
+/// A transaction that makes a directory, and a subtransaction, by the trait alone.
+fn managed<R: Wait + Clock, M: Manager + Drop>(
+    rt: &R,
+    manager: M,
+    call: &Call,
+) -> Result<Core, Fault> {
+    let top = manager.begin(rt)?;
+    let below = manager.sub(rt, top)?;
+    let _ = manager.ask_wait(rt, top, call, 1)?;
+    let _ = manager.abort(rt, below)?;
+    manager.commit(rt, top)?;
+    Ok(manager.into_core())
+}
+
+/// Whether the core has its five events when it comes back.
+fn manages<R: Wait + Clock>(rt: &R, alloc: Global) -> Result<bool, Fail> {
+    let path = FilePath::new(alloc, b"/a".as_slice())?;
+    let call = Call::Mkdir { path };
+    let core = managed(rt, new_shared(alloc)?, &call)?;
+    Ok(core.history().len() == 5)
+}
+
+#[test]
+fn manager_is_shared(rt: HostRuntime) -> Result<(), Fail> {
+    assert!(rt; manages(&rt, rt.alloc())?);
+    Ok(())
+}
+
+/// Whether the core with its one event is handed back as one in which a transaction is live.
+fn is_handed_back(refused: &Refused) -> bool {
+    refused.fault == Fault::Live && refused.core.history().len() == 1
+}
+
 fn is_refused(core: Core) -> bool {
-    let events = core.history().len();
     match Shared::new(core) {
         Ok(_) => false,
-        Err(refused) => refused.fault == Fault::Live && refused.core.history().len() == events,
+        Err(refused) => is_handed_back(&refused),
     }
 }
 

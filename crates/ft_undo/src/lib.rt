@@ -6,8 +6,6 @@ mod action;
 mod log_tests;
 mod logs;
 #[cfg(test)]
-mod table_tests;
-#[cfg(test)]
 mod tests;
 #[cfg(test)]
 mod texts;

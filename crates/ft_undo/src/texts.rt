@@ -2,7 +2,7 @@
 use ft_base::Memory;
 use ft_calls::{Access, Mode, Reply};
 use ft_path::Name;
-use ft_tree::{AccessMode, Cell, Kind, TreeRow};
+use ft_tree::{Cell, Kind};
 use std::alloc::Global;
 
 /// A reply: `done`, names with a slash behind those of directories, a number, bytes in quotes, what
@@ -71,73 +71,6 @@ fn access_text(alloc: Global, access: &Access) -> Result<String, Memory> {
         Cell::Links(file) => format!(in alloc; "{mode} links {file}")?,
         Cell::Bytes(file) => format!(in alloc; "{mode} bytes {file}")?,
         Cell::Fd(fd) => format!(in alloc; "{mode} fd {fd}")?,
-    })
-}
-
-/// The rows that went, with a minus before each, and then those that came, with a plus.
-pub(crate) fn change_texts(
-    alloc: Global,
-    old: &[TreeRow],
-    new: &[TreeRow],
-) -> Result<String, Memory> {
-    let mut text = String::new(alloc);
-    push_missing(alloc, &mut text, '-', old, new)?;
-    push_missing(alloc, &mut text, '+', new, old)?;
-    Ok(text)
-}
-
-/// Tells the rows that are not among others.
-fn push_missing(
-    alloc: Global,
-    text: &mut String,
-    sign: char,
-    rows: &[TreeRow],
-    others: &[TreeRow],
-) -> Result<(), Memory> {
-    for row in rows {
-        if !others.contains(row) {
-            if !text.is_empty() {
-                text.push_str("; ")?;
-            }
-            text.push(sign)?;
-            text.push_str(row_text(alloc, row)?.as_str())?;
-        }
-    }
-    Ok(())
-}
-
-fn row_text(alloc: Global, row: &TreeRow) -> Result<String, Memory> {
-    Ok(match row {
-        TreeRow::Dir { number } => format!(in alloc; "dir {number}")?,
-        TreeRow::Edge { dir, name, number } => {
-            let mut text = format!(in alloc; "edge {dir} ")?;
-            push_bytes(&mut text, name.as_bytes())?;
-            text.push_str(format!(in alloc; " {number}")?.as_str())?;
-            text
-        }
-        TreeRow::File {
-            number,
-            size,
-            bytes,
-        } => {
-            let data = quoted(alloc, bytes.as_slice())?;
-            format!(in alloc; "file {number} {size} {data}")?
-        }
-        TreeRow::Fd {
-            fd,
-            file,
-            access,
-            append,
-            offset,
-        } => {
-            let access = match access {
-                AccessMode::ReadOnly => "r",
-                AccessMode::WriteOnly => "w",
-                AccessMode::ReadWrite => "rw",
-            };
-            let append = if *append { "a" } else { "" };
-            format!(in alloc; "fd {fd} {file} {access}{append} {offset}")?
-        }
     })
 }
 

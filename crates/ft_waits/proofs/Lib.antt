@@ -10,3 +10,4 @@ pub mod Named
 pub mod Ranked
 pub mod Ordered
 pub mod Waiting
+pub mod Judged

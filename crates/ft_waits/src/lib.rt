@@ -3,11 +3,9 @@
 
 mod edge;
 mod listing;
-#[cfg(test)]
-mod tests;
 mod verdict;
 mod walk;
 
 pub use edge::{Edge, EdgeKind};
-pub use listing::edges;
+pub use listing::{edges, judged_edges};
 pub use verdict::{Verdict, judge};

@@ -1,4 +1,4 @@
-// The waits-for edges of a core.
+// The waits-for edges of a core, and the verdict on them.
 ghost use Rattle.std.specs.Prelude.{◌≡◌, ◌++◌, ◌↔◌, IfOk, OnOk, map};
 ghost use Rattle.std.specs.List.{flat_map};
 ghost use Rattle.ft_laws.specs.Lists.{In};
@@ -6,18 +6,19 @@ ghost use Rattle.ft_core.specs.Reports.{as_wait};
 ghost use Rattle.ft_waits.specs.declared.edge.Edge.{Edge as EdgeValue};
 ghost use Rattle.ft_waits.specs.Edges.{AreEdgesOf, AreRising};
 ghost use Rattle.ft_waits.specs.Listing.{lock_edges, child_edge};
+ghost use Rattle.ft_waits.specs.Waits.{IsVerdict};
 
 use crate::edge::{Edge, EdgeKind};
+use crate::verdict::{Verdict, judge};
 use ft_base::Memory;
 use ft_core::{Core, LiveChild, Pending};
-use std::alloc::Global;
 
 /// The waits-for edges of a core as it is now, each once, in their order.
 ///
 /// One goes from each transaction with a pending ask to each that is in the way of it, and one from each live transaction
 /// to each live child. Want of memory is the only refusal. Beside what `Core::pending` and `Core::children` take, it takes
 /// the time to sort the edges.
-pub fn edges(alloc: Global, core: &Core) -> Result<Vec<Edge>, Memory>
+pub fn edges(core: &Core) -> Result<Vec<Edge>, Memory>
     ensures { IfOk result (λ edges. AreEdgesOf core.now edges.items) }
 {
     let Ok(waits) = core.pending() else {
@@ -26,11 +27,23 @@ pub fn edges(alloc: Global, core: &Core) -> Result<Vec<Edge>, Memory>
     let Ok(pairs) = core.children() else {
         return Err(Memory);
     };
-    let mut edges = Vec::new(alloc);
+    let mut edges = Vec::new(*waits.allocator());
     list_waits(&mut edges, waits.as_slice())?;
     list_children(&mut edges, pairs.as_slice())?;
     put_in_order(&mut edges);
     Ok(edges)
+}
+
+/// The waits-for edges of a core as it is now, each once, in their order, and the verdict on just these.
+///
+/// Want of memory is the only refusal.
+pub fn judged_edges(core: &Core) -> Result<(Vec<Edge>, Verdict), Memory>
+    ensures edges { IfOk result (λ told. AreEdgesOf core.now told.0.items) }
+    ensures verdict { IfOk result (λ told. IsVerdict told.0.items told.1) }
+{
+    let edges = edges(core)?;
+    let verdict = judge(*edges.allocator(), edges.as_slice())?;
+    Ok((edges, verdict))
 }
 
 /// Lists for each of these waits an edge to each blocker.

@@ -28,7 +28,7 @@ listed name File = codes " " ++ coded name
 abbrev pub listing : List (List ℕ × Kind) → List ℕ
 listing names = flat_map (λ entry. listed entry.0 entry.1) names
 
--- the bytes of a file after a space, where there are any
+-- bytes after a space, where there are any
 abbrev pub data_text : List ℕ → List ℕ
 data_text [] = []
 data_text (first ∷ more) = codes " " ++ coded (first ∷ more)
@@ -57,15 +57,16 @@ access_text ReadOnly = codes "r"
 access_text WriteOnly = codes "w"
 access_text ReadWrite = codes "rw"
 
-abbrev pub append_text : Bool → List ℕ
-append_text true = codes "a"
-append_text false = []
+-- a letter where a flag is set
+abbrev pub flag_text : Bool → List ℕ → List ℕ
+flag_text true letter = letter
+flag_text false letter = []
 
 abbrev pub row_text : TreeRow → List ℕ
 row_text (rows.Dir number) = codes "dir " ++ decimal number
 row_text (rows.Edge dir name number) = codes "edge " ++ decimal dir ++ codes " " ++ coded name ++ codes " " ++ decimal number
 row_text (rows.File number size bytes) = codes "file " ++ decimal number ++ codes " " ++ decimal size ++ data_text bytes
-row_text (rows.Fd fd file access append offset) = codes "fd " ++ decimal fd ++ codes " " ++ decimal file ++ codes " " ++ access_text access ++ append_text append ++ codes " " ++ decimal offset
+row_text (rows.Fd fd file access append offset) = codes "fd " ++ decimal fd ++ codes " " ++ decimal file ++ codes " " ++ access_text access ++ flag_text append (codes "a") ++ codes " " ++ decimal offset
 
 abbrev pub tree_text : List TreeRow → List ℕ
 tree_text rows = codes "tree " ++ decimal (length rows) ++ lines_text row_text rows

@@ -1,8 +1,9 @@
 //! Words: how numbers, paths, data, flags and calls are spelled in a line of words, and the text of
-//! what calls reply and of what a tree holds.
+//! calls, of what they reply and of what a tree holds.
 #![tactic(auto)]
 
 mod arguments;
+mod call_text;
 mod calls;
 mod coded;
 mod flags;
@@ -14,6 +15,7 @@ mod tree_text;
 mod unread;
 mod words;
 
+pub use call_text::CallText;
 pub use calls::{call_of, descriptor_call_of};
 pub use lines::Lines;
 pub use numbers::{integer_of, number_of};

@@ -56,7 +56,7 @@ impl fmt::Display for Coded<'_> {
     }
 }
 
-/// The bytes of a file, after a space where there are any.
+/// Bytes, percent-coded, after a space where there are any.
 #[derive(Clone, Copy)]
 pub struct Data<'a>(pub &'a [u8]);
 

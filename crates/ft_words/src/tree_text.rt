@@ -1,6 +1,6 @@
 // The text of what a tree holds.
 ghost use Rattle.std.specs.Prelude.{◌≡◌, ◌++◌, Some};
-ghost use Rattle.ft_words.specs.Texts.{tree_text, row_text, lines_text, access_text, append_text};
+ghost use Rattle.ft_words.specs.Texts.{tree_text, row_text, lines_text, access_text, flag_text};
 
 use crate::text::{Coded, Data};
 use ft_tree::{AccessMode, TreeRow};
@@ -61,14 +61,14 @@ impl fmt::Display for RowText<'_> {
                 f,
                 "fd {fd} {file} {}{} {offset}",
                 access_text(*access),
-                append_text(*append)
+                flag_text(*append, "a")
             ),
         }
     }
 }
 
-// How a file is open.
-fn access_text(access: AccessMode) -> &'static str
+/// How a file is open.
+pub(crate) fn access_text(access: AccessMode) -> &'static str
     ensures { result.now ≡ access_text access }
 {
     match access {
@@ -78,9 +78,9 @@ fn access_text(access: AccessMode) -> &'static str
     }
 }
 
-// Whether each write goes to the end.
-fn append_text(append: bool) -> &'static str
-    ensures { result.now ≡ append_text append }
+/// A letter, where a flag is set.
+pub(crate) fn flag_text(is_set: bool, letter: &'static str) -> &'static str
+    ensures { result.now ≡ flag_text is_set letter.entry.now }
 {
-    if append { "a" } else { "" }
+    if is_set { letter } else { "" }
 }

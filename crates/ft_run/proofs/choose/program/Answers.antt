@@ -12,5 +12,6 @@ returns c =
     ∙ ap (λ f. app_of_fields (record f { subcommand_required = true })) c.no_binary_name.ensures
     ∙ ap (λ f. app_of_fields (record f { no_binary_name = true; subcommand_required = true })) c.about.ensures
     ∙ ap (λ (a : App). record a { top = record a.top { no_binary_name = true; subcommand_required = true } }) c.new-3.ensures.app in
-    let first_is = c.in_ok-subcommand.ensures.shape (ap (λ f. f.has_globals) c.about-play.ensures ∙ c.new.ensures.local) ∙ ap₂ with_subcommand bare_is (ap (λ (a : App). a.top) play_is) in
-    IfOk-weaker c.subcommand-2.result _ _ (λ command h. h.shape (ap (λ f. f.has_globals) c.about-dot.ensures ∙ c.new-2.ensures.local) ∙ ap₂ with_subcommand first_is (ap (λ (a : App). a.top) dot_is)) c.subcommand-2.ensures
+    let with_play = c.in_ok-subcommand.ensures.shape (ap (λ f. f.has_globals) c.about-play.ensures ∙ c.new.ensures.local) ∙ ap₂ with_subcommand bare_is (ap (λ (a : App). a.top) play_is) in
+    let with_dot = c.in_ok-subcommand-2.ensures.shape (ap (λ f. f.has_globals) c.about-dot.ensures ∙ c.new-2.ensures.local) ∙ ap₂ with_subcommand with_play (ap (λ (a : App). a.top) dot_is) in
+    IfOk-weaker c.subcommand-3.result _ _ (λ command h. h.shape c.in_ok-jobs_command.ensures.local ∙ ap₂ with_subcommand with_dot (ap (λ (a : App). a.top) c.in_ok-jobs_command.ensures.app)) c.subcommand-3.ensures

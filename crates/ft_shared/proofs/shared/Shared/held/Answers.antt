@@ -1,4 +1,4 @@
-use Rattle.std.proofs.Common.{sym, subst}
+use Rattle.std.proofs.Common.{subst}
 use Rattle.ft_core.specs.States.{State}
 use Rattle.ft_core.specs.Promises.{IsHeadline}
 use Rattle.ft_shared.proofs.shared.Shared.held.Goals as goal

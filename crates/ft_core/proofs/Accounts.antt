@@ -1,0 +1,169 @@
+-- Each place of no use is known to the locks: what keeps it so, and what a sweep makes of it.
+use Rattle.std.proofs.Common.{◌≡◌, ◌≢◌, ◌⊎◌, inl, inr, ℕ, Bool, true, false, cond, not, ◌&&◌, ◌||◌, ◌==◌, List, [], ◌∷◌, Option, Some, None, is_some, is_none, unwrap_or, map, refl, sym, ap, subst, ◌∙◌}
+use Rattle.std.proofs.lemmas.Bool.{false≢true, and_parts, and_from, or_left, or_right}
+use Rattle.std.specs.Ordering.{nat_cmp}
+use Rattle.std.specs.Cmp.{nat_cmp_total, unsigned_tied}
+use Rattle.std.specs.Cmp.Lexicographic.{slice_cmp}
+use Rattle.std.specs.Option.{option_flatten, option_map_or}
+use Rattle.std.specs.List.{list_any}
+use Rattle.std.specs.FinMap as finite
+use Rattle.std.specs.FinSet as set
+use Rattle.ft_laws.specs.Effects.{is_written}
+use Rattle.ft_laws.proofs.Tests.{by_test}
+use Rattle.ft_tree.specs.declared.node.Node.{Node}
+use Rattle.ft_tree.specs.declared.cell.Cell.{Cell}
+use Rattle.ft_tree.specs.declared.cell.Cell.TheVariants.{Entry, Names, Parent, Links, Bytes, Fd}
+use Rattle.ft_tree.specs.declared.open_file.OpenFile.{OpenFile}
+use Rattle.ft_tree.specs.CellOrder.{same_cell}
+use Rattle.ft_tree.specs.Cells.{Cells, DirCells, FileCells, no_dir, dir_of, is_there, has_file, fresh_cells}
+use Rattle.ft_tree.specs.Held.{held}
+use Rattle.ft_tree.specs.Sound.{AreSoundCells, IsFree}
+use Rattle.ft_tree.specs.Sweep.{is_useless, at_place, is_spare, IsAccounted, HasNoneToDrop}
+use Rattle.ft_calls.specs.declared.call.Access.{Access}
+use Rattle.ft_calls.specs.Accesses.{accesses_of}
+use Rattle.ft_calls.specs.Posix.{Stamped, as_place, does, names_file, posix, posix_calls}
+use Rattle.ft_calls.specs.RunLaws.{writes_cell}
+use Rattle.ft_calls.specs.Leaving.{accesses_cell, IsOfOpenFile}
+use Rattle.ft_calls.proofs.Leaving.{at_place-more, same-place, dead-file, all-noted}
+use Rattle.ft_locks.specs.declared.line.LockLine.{LockLine}
+use Rattle.ft_locks.specs.Locks.{LockTable, is_locked, is_let_go, is_accessed, AreGranted}
+use Rattle.ft_locks.specs.Knowing.{is_known}
+use Rattle.ft_history.proofs.Losing.{LosesOwn}
+use Rattle.ft_history.proofs.Words.{not_true}
+use Rattle.ft_core.specs.Kept.{Item, IsOfWritten}
+use Rattle.ft_core.specs.Laws.{CallLaws, LockLaws}
+use Rattle.ft_core.proofs.Placing.{put-write}
+
+-- Two words for it.
+
+one_rest : (a b : Bool) → (a || b) ≡ true → a ≡ false → b ≡ true
+one_rest true b h f = absurd (false≢true (sym f))
+one_rest false b h f = h
+
+two_rest : (a b c d : Bool) → ((a || c) || (b || d)) ≡ true → (a || b) ≡ false → (c || d) ≡ true
+two_rest true b c d h f = absurd (false≢true (sym f))
+two_rest false true c d h f = absurd (false≢true (sym f))
+two_rest false false c d h f = h
+
+-- what is known of a place, and locked at none of its cells, was let go
+let-go-rest : (t : LockTable) (c : Cell) → at_place (is_known t) c ≡ true → at_place (is_locked t) c ≡ false → at_place (is_let_go t) c ≡ true
+let-go-rest t (Entry d name) h f = one_rest (is_locked t (Entry d name)) (is_let_go t (Entry d name)) h f
+let-go-rest t (Names d) h f = two_rest (is_locked t (Names d)) (is_locked t (Parent d)) (is_let_go t (Names d)) (is_let_go t (Parent d)) h f
+let-go-rest t (Parent d) h f = two_rest (is_locked t (Names d)) (is_locked t (Parent d)) (is_let_go t (Names d)) (is_let_go t (Parent d)) h f
+let-go-rest t (Links i) h f = two_rest (is_locked t (Links i)) (is_locked t (Bytes i)) (is_let_go t (Links i)) (is_let_go t (Bytes i)) h f
+let-go-rest t (Bytes i) h f = two_rest (is_locked t (Links i)) (is_locked t (Bytes i)) (is_let_go t (Links i)) (is_let_go t (Bytes i)) h f
+let-go-rest t (Fd f) h g = one_rest (is_locked t (Fd f)) (is_let_go t (Fd f)) h g
+
+-- each place of no use is known
+abbrev IsKnown : LockTable → Cells → Type 0
+IsKnown t cells = (c : Cell) → is_useless cells c ≡ true → at_place (is_known t) c ≡ true
+
+known-of : (t : LockTable) (cells : Cells) → IsAccounted (is_locked t) (is_let_go t) cells → IsKnown t cells
+known-of t cells all c u = by_test (at_place (is_locked t) c)
+    (λ k. at_place-more (is_locked t) (is_known t) (λ x e. or_left (is_locked t x) (is_let_go t x) e) c k)
+    (λ k. at_place-more (is_let_go t) (is_known t) (λ x e. or_right (is_locked t x) (is_let_go t x) e) c (all c (and_from (is_useless cells c) (not (at_place (is_locked t) c)) u (ap not k))))
+
+accounted-of : (t : LockTable) (cells : Cells) → IsKnown t cells → IsAccounted (is_locked t) (is_let_go t) cells
+accounted-of t cells all c spare =
+    let parts = and_parts (is_useless cells c) (not (at_place (is_locked t) c)) spare in
+    let-go-rest t c (all c parts.0) (not_true (at_place (is_locked t) c) parts.1)
+
+-- At first.
+
+fresh-get : (d : ℕ) → finite.get fresh_cells.directories d ≡ cond (d == 1) (Some no_dir) None
+fresh-get d = finite.get-insert nat_cmp_total finite.empty 1 no_dir d ∙ (λ i. cond (unsigned_tied d 1 i) (Some no_dir) (finite.get-empty {X = DirCells} nat_cmp d i))
+
+fresh-dir : (d : ℕ) → dir_of fresh_cells d ≡ no_dir
+fresh-dir d = ap (λ o. unwrap_or o no_dir) (fresh-get d) ∙ by_root (d == 1)
+  where
+    by_root : (b : Bool) → unwrap_or (cond b (Some no_dir) None) no_dir ≡ no_dir
+    by_root true = refl
+    by_root false = refl
+
+abbrev useless_dir : ℕ → Option DirCells → Bool
+useless_dir d o = is_some o && not (option_map_or (is_there d) o false) && (finite.len (unwrap_or o no_dir).entries == 0)
+
+-- the root is there
+no-directory : (d : ℕ) → is_useless fresh_cells (Parent d) ≡ false
+no-directory d = ap (λ (o : Option DirCells). useless_dir d o) (fresh-get d) ∙ by_root (d == 1) refl
+  where
+    by_root : (b : Bool) → (d == 1) ≡ b → useless_dir d (cond b (Some no_dir) None) ≡ false
+    by_root true is = ap (λ b. true && not (b || false) && (finite.len no_dir.entries == 0)) is
+    by_root false is = refl
+
+no-file : (i : ℕ) → is_useless fresh_cells (Links i) ≡ false
+no-file i = ap (λ (o : Option FileCells). is_some o && not (has_file fresh_cells i)) (finite.get-empty {X = FileCells} nat_cmp i)
+
+fresh-none : (c : Cell) → is_useless fresh_cells c ≡ false
+fresh-none (Entry d name) =
+    ap (λ (x : DirCells). finite.contains_key x.entries name && is_none (option_flatten (finite.get x.entries name))) (fresh-dir d)
+    ∙ ap (λ (o : Option (Option Node)). is_some o && is_none (option_flatten o)) (finite.get-empty {X = Option Node} (slice_cmp nat_cmp) name)
+fresh-none (Names d) = no-directory d
+fresh-none (Parent d) = no-directory d
+fresh-none (Links i) = no-file i
+fresh-none (Bytes i) = no-file i
+fresh-none (Fd f) = ap (λ (o : Option (Option OpenFile)). is_some o && is_none (option_flatten o)) (finite.get-empty {X = Option OpenFile} nat_cmp f)
+
+pub fresh-accounted : (kept let_go : Cell → Bool) → IsAccounted kept let_go fresh_cells
+fresh-accounted kept let_go c spare = absurd (false≢true (sym (fresh-none c) ∙ (and_parts (is_useless fresh_cells c) (not (at_place kept c)) spare).0))
+
+-- The locks change, and know what they knew.
+
+pub still-accounted : (t t' : LockTable) (cells : Cells) → ((c : Cell) → is_known t c ≡ true → is_known t' c ≡ true) → IsAccounted (is_locked t) (is_let_go t) cells → IsAccounted (is_locked t') (is_let_go t') cells
+still-accounted t t' cells knows all = accounted-of t' cells (λ c u. at_place-more (is_known t) (is_known t') knows c (known-of t cells all c u))
+
+-- A call is granted.
+
+accessed-is : (accesses : List Access) (c : Cell) → accesses_cell (map as_place accesses) c ≡ is_accessed accesses c
+accessed-is [] c = refl
+accessed-is (a ∷ accesses) c = λ i. same_cell a.cell c || accessed-is accesses c i
+
+pub granted-accounted : (W : CallLaws) (K : LockLaws) (cells : Cells) (t t' : LockTable) (a : Stamped) (txn : ℕ) (accesses : List Access) → AreSoundCells cells → IsFree cells a.stamp → accesses ≡ accesses_of cells a.stamp a.call → AreGranted t t' txn accesses
+    → IsAccounted (is_locked t) (is_let_go t) cells → IsAccounted (is_locked t') (is_let_go t') (posix_calls.act cells a)
+granted-accounted W K cells t t' a txn accesses sound free touched granted all = accounted-of t' (posix_calls.act cells a) (λ c u. elim (W.useless cells a sound free c u) [
+  | inl was ↦ at_place-more (is_known t) (is_known t') (λ x e. K.known.granted t t' txn accesses granted x (or_left (is_known t x) (is_accessed accesses x) e)) c (known-of t cells all c was)
+  | inr accessed ↦ at_place-more (accesses_cell (does cells a).accesses) (is_known t')
+      (λ x e. K.known.granted t t' txn accesses granted x (or_right (is_known t x) (is_accessed accesses x) (sym (accessed-is accesses x) ∙ ap (λ f. accesses_cell (map as_place f) x) touched ∙ e))) c accessed
+])
+
+-- A call is taken back, whose owner has its locks still.
+
+module _ (W : CallLaws) (cells : Cells) (e : Item) (own : IsOfWritten e) (t : LockTable) (locked : (c : Cell) → writes_cell e.done.accesses c ≡ true → is_locked t c ≡ true) where
+  abbrev new : Cells
+  new = posix_calls.revert cells e.inverse
+
+  written-known : (c : Cell) → writes_cell e.done.accesses c ≡ true → is_known t c ≡ true
+  written-known c h = or_left (is_locked t c) (is_let_go t c) (locked c h)
+
+  pub reverted-accounted : LosesOwn posix_calls cells new e.done → AreSoundCells new → IsAccounted (is_locked t) (is_let_go t) cells → IsAccounted (is_locked t) (is_let_go t) new
+  reverted-accounted loses sound all = accounted-of t new (λ c u. by_left c u (W.leaving cells e.inverse.before c (subst (λ s. is_useless s c ≡ true) (sym (put-write cells e.inverse.before)) u)))
+    where
+      -- a file that was open is the call's own, so the call wrote to it
+      closed : (c : Cell) → is_useless new c ≡ true → IsOfOpenFile cells c → at_place (is_known t) c ≡ true
+      closed c u shown =
+          let lost = loses (Fd shown.descriptor) shown.file shown.opened (W.nameless new sound shown.file (dead-file new c shown.file shown.belongs u)) in
+          let made = W.making lost.store e.done.call lost.sound lost.ready lost.cell (subst (λ i. names_file lost.cell (held (posix_calls.act lost.store e.done.call) lost.cell) i ≡ true) (sym lost.own) lost.named) in
+          same-place (is_known t) made.0 c shown.file (made.1 ∙ ap Some lost.own) shown.belongs (written-known made.0 (subst (λ f. writes_cell f made.0 ≡ true) lost.accesses made.2))
+
+      by_left : (c : Cell) → is_useless new c ≡ true → (is_useless cells c ≡ true) ⊎ ((at_place (is_written posix e.inverse.before) c ≡ true) ⊎ IsOfOpenFile cells c) → at_place (is_known t) c ≡ true
+      by_left c u (inl was) = known-of t cells all c was
+      by_left c u (inr (inl written)) = at_place-more (is_written posix e.inverse.before) (is_known t) (λ x h. written-known x (all-noted e.done.accesses e.inverse.before own.before x h)) c written
+      by_left c u (inr (inr shown)) = closed c u shown
+
+-- A sweep leaves nothing to drop.
+
+pub swept-accounted : (t t' : LockTable) (cells : Cells) → t'.lines ≡ t.lines → HasNoneToDrop (is_locked t) cells → IsAccounted (is_locked t') (is_let_go t') cells
+swept-accounted t t' cells same none c spare = absurd (false≢true (sym (none c) ∙ ap (λ s. is_spare (λ x. list_any (λ (l : LockLine). same_cell l.cell x) (set.items s)) cells c) (sym same) ∙ spare))
+
+none-locked : (p : Cell → Bool) → ((c : Cell) → p c ≡ false) → (c : Cell) → at_place p c ≡ false
+none-locked p none (Entry d name) = none (Entry d name)
+none-locked p none (Names d) = λ i. none (Names d) i || none (Parent d) i
+none-locked p none (Parent d) = λ i. none (Names d) i || none (Parent d) i
+none-locked p none (Links i) = λ j. none (Links i) j || none (Bytes i) j
+none-locked p none (Bytes i) = λ j. none (Links i) j || none (Bytes i) j
+none-locked p none (Fd f) = none (Fd f)
+
+pub none-useless : (t : LockTable) (cells : Cells) → ((c : Cell) → is_locked t c ≡ false) → HasNoneToDrop (is_locked t) cells → (c : Cell) → is_useless cells c ≡ false
+none-useless t cells free none c = by_test (is_useless cells c)
+    (λ u. absurd (false≢true (sym (none c) ∙ and_from (is_useless cells c) (not (at_place (is_locked t) c)) u (ap not (none-locked (is_locked t) free c)))))
+    (λ u. u)

@@ -1,0 +1,7 @@
+-- Lists whose elements are the same one by one are the same.
+use Rattle.std.proofs.Common.{◌≡◌, ℕ, true, List}
+use Rattle.std.proofs.lemmas.Slice.Eq.{bytes_eq-Decides}
+use Rattle.std.specs.Str.{bytes_eq}
+
+pub text : (a b : List ℕ) → bytes_eq a b ≡ true → a ≡ b
+text a b h = (bytes_eq-Decides a b).0 h

@@ -1,0 +1,40 @@
+// What becomes of jobs.
+use ft_base::Sequence;
+use ft_calls::{Call, Reply};
+use ft_core::{Fault, TxnId};
+
+/// How a job ended.
+#[derive(Clone, Copy, Debug, PartialEq, Eq)]
+pub enum End {
+    /// Its last step committed its transaction.
+    Committed,
+    /// Its last step aborted its transaction.
+    Aborted,
+    /// The turns of a call were used up, and then its transaction was aborted.
+    Waited,
+    /// It was refused something, and then its transaction was aborted, if it had one that was still live.
+    Refused(Fault),
+    /// The job that it is a subjob of ended before it came to its subjobs.
+    NotStarted,
+}
+
+/// A call that a job was granted, as the job was told of it.
+#[derive(Debug, PartialEq, Eq, Drop)]
+pub struct CallReport {
+    pub stamp: u64,
+    pub call: Call,
+    pub reply: Reply,
+}
+
+/// What became of a job.
+#[derive(Debug, PartialEq, Eq, Drop)]
+pub struct Report {
+    /// The job's place in the plan. The first has the number 0.
+    pub job: u64,
+    /// Its transaction, if it began one.
+    pub txn: Option<TxnId>,
+    /// How it ended.
+    pub end: End,
+    /// The calls that it was granted, in order.
+    pub calls: Sequence<CallReport>,
+}

@@ -1,0 +1,93 @@
+// All jobs of a plan, side by side.
+ghost use Rattle.std.specs.Prelude.{◌≤◌, IfOk};
+ghost use Rattle.ft_jobs.specs.Reports.{AreReports};
+
+use crate::board::Board;
+use crate::comparing::check_reports;
+use crate::gate::Gate;
+use crate::job_run::{Work, run_job};
+use crate::report::Report;
+use ft_core::Core;
+use ft_plan::{Job, JobFault, Plan};
+use ft_shared::Manager;
+use std::alloc::Global;
+use std::sync::Wait;
+use std::thread::{self, Threads};
+use std::time::Clock;
+
+/// What has become of the jobs of a plan.
+#[derive(Drop)]
+pub struct JobsOutcome {
+    /// The core, after all jobs have ended.
+    pub core: Core,
+    /// A report of each job, in the order of the plan.
+    pub reports: Vec<Report>,
+}
+
+/// Runs the jobs of a plan, each in a thread and in a transaction of its own: a top job in one at the top, a subjob, once its
+/// parent has come to its `subs`, in one under its parent's. Each call is asked for so many times until it is granted.
+///
+/// At the end the reports are compared with the history, whatever the manager answered. Answers Mismatch where they are not
+/// what happened, and Thread where a thread could not be started, after those that were have ended. At a fault the core is
+/// dropped.
+pub fn run_jobs<M: Manager, G: Gate, R: Threads + Wait + Clock + Sync>(
+    rt: &R,
+    alloc: Global,
+    plan: &Plan,
+    manager: M,
+    gate: &G,
+    turns: u64,
+) -> Result<JobsOutcome, JobFault>
+    requires { 1 ≤ turns }
+    ensures { IfOk result (λ outcome. AreReports outcome.core plan.now outcome.reports.items) }
+{
+    let run = run_all(rt, alloc, plan.jobs(), &manager, gate, turns);
+    let mut core = manager.into_core();
+    let reports = run?;
+    check_reports(alloc, plan, &mut core, reports.as_slice())?;
+    Ok(JobsOutcome { core, reports })
+}
+
+// Runs the jobs, and answers what they report.
+fn run_all<M: Manager, G: Gate, R: Threads + Wait + Clock + Sync>(
+    rt: &R,
+    alloc: Global,
+    jobs: &[Job],
+    manager: &M,
+    gate: &G,
+    turns: u64,
+) -> Result<Vec<Report>, JobFault>
+    requires { 1 ≤ turns }
+{
+    let board = Board::new(alloc, jobs.len())?;
+    let work = Work {
+        alloc,
+        jobs,
+        manager,
+        gate,
+        board: &board,
+        turns,
+    };
+    if !start_all(rt, &work) {
+        return Err(JobFault::Thread);
+    }
+    Ok(board.into_reports())
+}
+
+// Starts a thread for each job, and waits until all have ended. Whether all could be started: behind one that could not, no
+// other is.
+fn start_all<M: Manager, G: Gate, R: Threads + Wait + Clock + Sync>(
+    rt: &R,
+    work: &Work<'_, M, G>,
+) -> bool {
+    thread::scope(thread::scope_env(), rt, |scope| {
+        let mut all = true;
+        for at in 0..work.jobs.len() {
+            if !all || scope.spawn(move || run_job(rt, work, at)).is_err() {
+                all = false;
+                work.board.leave_out(rt, at);
+            }
+        }
+        all
+    })
+}

@@ -1,0 +1,15 @@
+use Rattle.std.proofs.Common.{List, ◌∙◌, ap}
+use Rattle.ft_plan.specs.declared.job.Job.{Job}
+use Rattle.ft_outcome.specs.Runs.{text_of_outcome}
+use Rattle.ft_outcome.proofs.running.text_of.Goals as goal
+
+pub returns-clause-ok : goal.returns-clause-ok
+returns-clause-ok g c =
+    let outcome = c.in_ok-outcome.outcome in
+    record {
+      jobs = c.in_ok-plan.plan;
+      outcome = outcome;
+      plan = c.in_ok-plan.ensures.plan;
+      reports = c.in_ok-outcome.ensures.ok;
+      told = c.in_ok-told.ensures ∙ ap (λ (jobs : List Job). text_of_outcome jobs outcome) c.jobs.ensures.jobs;
+    }

@@ -1,0 +1,42 @@
+-- What a run of a plan writes.
+use Rattle.std.specs.Prelude.{◌≡◌, ℕ, List, Option}
+use Rattle.std.specs.Io.KnownBytes.{Appends, Keeps}
+use Rattle.ft_tree.specs.Rows.{rows_of}
+use Rattle.ft_core.specs.States.{tree_of}
+use Rattle.ft_plan.specs.declared.fault.JobFault.TheVariants.{Memory, BadPlan, Mismatch, Thread}
+use Rattle.ft_plan.specs.declared.job.Job.{Job}
+use Rattle.ft_plan.specs.Plans.{IsPlanOf}
+use Rattle.ft_jobs.specs.Reports.{AreReports}
+use Rattle.ft_jobs.specs.declared.running.JobsOutcome.{JobsOutcome}
+use Rattle.ft_script.specs.Runs.{WritesPart}
+use Rattle.ft_outcome.specs.declared.running.RunFault.{RunFault}
+use Rattle.ft_outcome.specs.declared.running.RunFault.TheVariants as faults
+use Rattle.ft_outcome.specs.Texts.{outcome_text}
+
+-- the text of what came of jobs: their ends, the history of the core, and the tree of its standing calls
+abbrev pub text_of_outcome : List Job → JobsOutcome → List ℕ
+text_of_outcome jobs outcome = outcome_text jobs outcome.reports.items outcome.core.events (rows_of (tree_of outcome.core))
+
+-- The text of what came of a plan: of jobs that have run, with reports of what happened.
+pub record IsTextOfPlan (bytes text : List ℕ) : Type 0 where
+  pub jobs : List Job
+  pub outcome : JobsOutcome
+  pub plan : IsPlanOf bytes jobs
+  pub reports : AreReports outcome.core jobs outcome.reports.items
+  pub told : text ≡ text_of_outcome jobs outcome
+
+-- the bytes are the plan of no jobs
+abbrev pub IsNoPlan : List ℕ → Type 0
+IsNoPlan bytes = (jobs : List Job) → IsPlanOf bytes jobs → ⊥
+
+-- A plan was run, and all of the text of what came of it was written.
+abbrev pub RunsPlan : List ℕ → Option (List ℕ) → Option (List ℕ) → Type 0
+RunsPlan bytes before after = (text : List ℕ) × IsTextOfPlan bytes text × Appends before after text
+
+-- What a fault left. Nothing was written, but at a failed write, where a part of the text was.
+abbrev pub StopsPlan : RunFault → List ℕ → Option (List ℕ) → Option (List ℕ) → Type 0
+StopsPlan (faults.Jobs BadPlan) bytes before after = IsNoPlan bytes × Keeps before after
+StopsPlan (faults.Jobs Memory) bytes before after = Keeps before after
+StopsPlan (faults.Jobs Mismatch) bytes before after = Keeps before after
+StopsPlan (faults.Jobs Thread) bytes before after = Keeps before after
+StopsPlan faults.Write bytes before after = (text : List ℕ) × IsTextOfPlan bytes text × WritesPart before after text

@@ -1,0 +1,58 @@
+-- The text of what jobs came to.
+use Rattle.std.specs.Prelude.{ℕ, Bool, true, false, List, [], ◌∷◌, ◌++◌, codes, Option, None, Some}
+use Rattle.std.specs.Fmt.{decimal}
+use Rattle.std.specs.List.{flat_map, count_by, zip}
+use Rattle.ft_tree.specs.declared.row.TreeRow.{TreeRow}
+use Rattle.ft_core.specs.declared.request.Event.{Event}
+use Rattle.ft_core.specs.declared.request.Event.TheVariants.{Call}
+use Rattle.ft_plan.specs.declared.job.Job.{Job}
+use Rattle.ft_jobs.specs.declared.report.End.{End}
+use Rattle.ft_jobs.specs.declared.report.End.TheVariants.{Committed, Aborted, Waited, Refused, NotStarted}
+use Rattle.ft_jobs.specs.declared.report.Report.{Report}
+use Rattle.ft_script.specs.Texts.{fault_name}
+use Rattle.ft_words.specs.CallTexts.{call_text}
+use Rattle.ft_words.specs.Texts.{reply_text, tree_text}
+
+-- ---- jobs
+
+-- the number of a transaction, or `-` where there is none
+abbrev pub txn_text : Option ℕ → List ℕ
+txn_text None = codes "-"
+txn_text (Some txn) = decimal txn
+
+abbrev pub end_text : End → List ℕ
+end_text Committed = codes "committed"
+end_text Aborted = codes "aborted"
+end_text Waited = codes "waited"
+end_text (Refused fault) = codes "refused " ++ fault_name fault
+end_text NotStarted = codes "notstarted"
+
+-- what became of a job
+abbrev pub job_text : Job → Report → List ℕ
+job_text job report = codes "job " ++ job.name ++ codes " " ++ txn_text report.txn ++ codes " " ++ end_text report.end
+
+-- the jobs in the order of the plan, each with a line feed
+abbrev pub jobs_text : List Job → List Report → List ℕ
+jobs_text jobs reports = flat_map (λ pair. job_text pair.0 pair.1 ++ 10 ∷ []) (zip jobs reports)
+
+-- ---- granted calls
+
+abbrev pub is_call : Event → Bool
+is_call (Call stamp txn call reply accesses) = true
+is_call event = false
+
+-- a granted call after a line feed, and nothing for another event
+abbrev pub event_text : Event → List ℕ
+event_text (Call stamp txn call reply accesses) =
+    10 ∷ codes "call " ++ decimal stamp ++ codes " " ++ decimal txn ++ codes " " ++ call_text call ++ codes " = " ++ reply_text reply
+event_text event = []
+
+-- how many calls were granted, and each of them
+abbrev pub history_text : List Event → List ℕ
+history_text events = codes "history " ++ decimal (count_by is_call events) ++ flat_map event_text events
+
+-- ---- the whole
+
+-- what became of each job; the granted calls; what the tree holds
+abbrev pub outcome_text : List Job → List Report → List Event → List TreeRow → List ℕ
+outcome_text jobs reports events rows = jobs_text jobs reports ++ history_text events ++ 10 ∷ tree_text rows ++ 10 ∷ []

@@ -1,0 +1,118 @@
+// Runs a plan: reads it, runs its jobs in threads, and writes what they came to.
+ghost use Rattle.std.specs.Prelude.{◌≡◌, ◌≢◌, ◌≤◌, OnOk, IfOk, IfErr, IsErrOf, string_bytes};
+ghost use Rattle.ft_jobs.specs.Reports.{AreReports};
+ghost use Rattle.ft_outcome.specs.Runs.{IsNoPlan, IsTextOfPlan, RunsPlan, StopsPlan, text_of_outcome};
+
+use crate::text::OutcomeText;
+use ft_base::Memory;
+use ft_core::Core;
+use ft_jobs::{Job, JobFault, JobsOutcome, OpenGate, Plan, run_jobs};
+use ft_script::write_out;
+use ft_shared::Shared;
+use std::alloc::Global;
+use std::io::Write;
+use std::sync::Wait;
+use std::thread::Threads;
+use std::time::Clock;
+use thiserror::Error;
+
+/// Why a plan was not run to its end.
+#[derive(Clone, Copy, Debug, PartialEq, Eq, Error)]
+pub enum RunFault {
+    /// The bytes are no plan, or its jobs could not be run.
+    #[error("{0}")]
+    Jobs(JobFault),
+    /// A write failed, was interrupted or took nothing.
+    #[error("Write")]
+    Write,
+}
+
+impl From<JobFault> for RunFault {
+    ghost use Rattle.std.specs.Prelude.{◌≡◌};
+    ghost use Rattle.ft_outcome.specs.declared.running.RunFault.TheVariants.{Jobs};
+
+    ghost from_gives = { λ fault made. made ≡ Jobs fault };
+
+    fn from(fault: JobFault) -> RunFault {
+        RunFault::Jobs(fault)
+    }
+}
+
+/// Reads a plan, runs its jobs on a new core, each in a thread of its own, and writes what they came to. A call of theirs
+/// asks at most so many times.
+///
+/// A fault ends the run.
+/// - Jobs: the bytes are no plan, or memory was wanted, a thread could not be started, or what the jobs report is not what
+///   happened. Nothing was written.
+/// - Write: a write failed, was interrupted or took nothing. A part of the text was written.
+pub fn run_plan<R: Threads + Wait + Clock + Sync, W: Write>(
+    rt: &R,
+    alloc: Global,
+    plan: &[u8],
+    turns: u64,
+    writer: &mut W,
+) -> Result<(), RunFault>
+    requires { 1 ≤ turns }
+    ensures ok { OnOk result (RunsPlan plan.now (W.contents writer.old) (W.contents writer.new)) }
+    ensures fault { IfErr result (λ fault. StopsPlan fault plan.now (W.contents writer.old) (W.contents writer.new)) }
+{
+    let text = text_of(rt, alloc, plan, turns)?;
+    match write_out(writer, text.as_bytes()) {
+        Ok(()) => Ok(()),
+        Err(_) => Err(RunFault::Write),
+    }
+}
+
+// Runs the jobs of a plan, and tells what they came to.
+fn text_of<R: Threads + Wait + Clock + Sync>(
+    rt: &R,
+    alloc: Global,
+    plan: &[u8],
+    turns: u64,
+) -> Result<String, JobFault>
+    requires { 1 ≤ turns }
+    ensures ok { IfOk result (λ text. IsTextOfPlan plan.now (string_bytes text)) }
+    ensures bad_plan { IsErrOf result JobFault.BadPlan → IsNoPlan plan.now }
+{
+    let plan = Plan::read(alloc, plan)?;
+    let outcome = run_anew(rt, alloc, &plan, turns)?;
+    Ok(told(alloc, plan.jobs(), &outcome)?)
+}
+
+// What jobs came to.
+fn told(alloc: Global, jobs: &[Job], outcome: &JobsOutcome) -> Result<String, Memory>
+    ensures { IfOk result (λ text. string_bytes text ≡ text_of_outcome jobs.now outcome.now) }
+{
+    let rows = outcome.core.tree().rows()?;
+    let text = OutcomeText {
+        jobs,
+        reports: outcome.reports.as_slice(),
+        history: outcome.core.history(),
+        rows: rows.as_slice(),
+    };
+    Ok(format!(in alloc; "{text}")?)
+}
+
+// Runs the jobs of a plan on a new core.
+fn run_anew<R: Threads + Wait + Clock + Sync>(
+    rt: &R,
+    alloc: Global,
+    plan: &Plan,
+    turns: u64,
+) -> Result<JobsOutcome, JobFault>
+    requires { 1 ≤ turns }
+    ensures ok { IfOk result (λ outcome. AreReports outcome.core plan.now outcome.reports.items) }
+    ensures cause { IfErr result (λ fault. fault ≢ JobFault.BadPlan) }
+{
+    let Ok(core) = Core::new(alloc) else {
+        return Err(JobFault::Memory);
+    };
+    match Shared::new(core) {
+        Ok(shared) => match run_jobs(rt, alloc, plan, shared, &OpenGate, turns) {
+            // The plan was read before. (No clause of `run_jobs` says that it does not answer this.)
+            Err(JobFault::BadPlan) => Err(JobFault::Mismatch),
+            run => run,
+        },
+        Err(_) => unreachable!(),
+    }
+}

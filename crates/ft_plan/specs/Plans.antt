@@ -1,0 +1,115 @@
+-- What a plan is.
+use Rattle.std.specs.Prelude.{◌≡◌, ◌==◌, ◌||◌, ◌&&◌, not, ℕ, zero, suc, Bool, true, false, nat_le, List, [], ◌∷◌, ◌++◌, length, if◌then◌else◌, Option, None, Some, option_map, option_and_then, map}
+use Rattle.std.specs.List.{flat_map, list_all, list_any, slice_get, count_by}
+use Rattle.std.specs.Option.{option_map_or}
+use Rattle.std.specs.Str.{bytes_eq}
+use Rattle.ft_calls.specs.declared.call.Call.{Call}
+use Rattle.ft_calls.specs.declared.call.Call.TheVariants as calls
+use Rattle.ft_words.specs.Spelling.{lines_of, words_of_line}
+use Rattle.ft_plan.specs.declared.job.Job.{Job}
+use Rattle.ft_plan.specs.declared.job.Step.{Step}
+use Rattle.ft_plan.specs.declared.job.Step.TheVariants as steps
+use Rattle.ft_plan.specs.declared.line.PlanLine.{PlanLine}
+use Rattle.ft_plan.specs.declared.line.PlanLine.TheVariants as line
+use Rattle.ft_plan.specs.declared.plan.TheConstants.{LONGEST_PLAN}
+use Rattle.ft_plan.specs.Lines.{line_of}
+
+-- ---- how a plan is written
+
+-- what the lines say, silent ones left out, if each of the others says something
+abbrev pub said : List (List ℕ) → Option (List PlanLine)
+said [] = Some []
+said (bytes ∷ lines) = option_map_or (λ words. option_and_then (λ first. option_map (λ more. first ∷ more) (said lines)) (line_of words)) (words_of_line bytes) (said lines)
+
+-- the lines of a job: the one that begins it, and its steps
+abbrev pub job_lines : Job → List PlanLine
+job_lines job = line.Job job.name job.parent ∷ map line.Step job.steps
+
+abbrev pub plan_lines : List Job → List PlanLine
+plan_lines jobs = flat_map job_lines jobs
+
+-- ---- the rules for jobs
+
+-- whether one of the jobs has this name
+abbrev pub is_named : List Job → List ℕ → Bool
+is_named jobs name = list_any (λ job. bytes_eq job.name name) jobs
+
+-- each passes a test with those before it
+abbrev pub all_behind : {A : Type 0} → (List A → A → Bool) → List A → List A → Bool
+all_behind test before [] = true
+all_behind test before (x ∷ xs) = test before x && all_behind test (before ++ x ∷ []) xs
+
+-- Behind these jobs: the name is new, and the parent is one of them.
+abbrev pub is_opened : List Job → Job → Bool
+is_opened before job = not (is_named before job.name) && option_map_or (is_named before) job.parent true
+
+-- whether the job is a subjob of the one of this name
+abbrev pub is_subjob_of : List ℕ → Job → Bool
+is_subjob_of name job = option_map_or (λ parent. bytes_eq parent name) job.parent false
+
+-- ---- the rules for the steps of a job
+
+abbrev pub is_end : Step → Bool
+is_end steps.Commit = true
+is_end steps.Abort = true
+is_end (steps.Call call) = false
+is_end (steps.CallOn call) = false
+is_end steps.Subs = false
+
+-- The last step is a commit or an abort, and no other is.
+abbrev pub ends_last : List Step → Bool
+ends_last [] = false
+ends_last (step ∷ []) = is_end step
+ends_last (step ∷ next ∷ others) = not (is_end step) && ends_last (next ∷ others)
+
+abbrev pub is_subs : Step → Bool
+is_subs steps.Subs = true
+is_subs (steps.Call call) = false
+is_subs (steps.CallOn call) = false
+is_subs steps.Commit = false
+is_subs steps.Abort = false
+
+abbrev pub is_open : Step → Bool
+is_open (steps.Call (calls.Open path access create excl trunc append)) = true
+is_open step = false
+
+-- the descriptor that a call is on, or 0
+abbrev pub descriptor : Call → ℕ
+descriptor (calls.Close fd) = fd
+descriptor (calls.Read fd len) = fd
+descriptor (calls.Write fd bytes) = fd
+descriptor (calls.Pread fd off len) = fd
+descriptor (calls.Pwrite fd off bytes) = fd
+descriptor (calls.Lseek fd whence off) = fd
+descriptor (calls.Ftruncate fd len) = fd
+descriptor (calls.Fstat fd) = fd
+descriptor call = 0
+
+-- the step of this number. The first has the number 1
+abbrev pub step_at : List Step → ℕ → Option Step
+step_at steps zero = None
+step_at steps (suc before) = slice_get steps before
+
+-- Behind these steps: a call on what a step opened is on what one of them opened.
+abbrev pub is_on_opened : List Step → Step → Bool
+is_on_opened before (steps.CallOn call) = option_map_or is_open (step_at before (descriptor call)) false
+is_on_opened before step = true
+
+-- Among these jobs: it starts its subjobs in one step where it has any, and else in none.
+abbrev pub starts_subjobs : List Job → Job → Bool
+starts_subjobs jobs job = count_by is_subs job.steps == (if list_any (is_subjob_of job.name) jobs then 1 else 0)
+
+-- Among these jobs: the steps are those that it may have.
+abbrev pub is_job : List Job → Job → Bool
+is_job jobs job = ends_last job.steps && (all_behind is_on_opened [] job.steps && starts_subjobs jobs job)
+
+-- ---- the plan
+
+abbrev pub is_plan : List Job → Bool
+is_plan jobs = (nat_le 1 (length jobs) && nat_le (length jobs) 64) && (all_behind is_opened [] jobs && list_all (is_job jobs) jobs)
+
+-- The bytes are those of the plan of these jobs.
+pub record IsPlanOf (bytes : List ℕ) (jobs : List Job) : Type 0 where
+  pub size : nat_le (length bytes) LONGEST_PLAN ≡ true
+  pub lines : said (lines_of bytes) ≡ Some (plan_lines jobs)
+  pub rules : is_plan jobs ≡ true

@@ -1,0 +1,17 @@
+//! Jobs that run side by side: the plan that says what they are.
+#![tactic(auto)]
+
+mod fault;
+mod job;
+mod line;
+mod name;
+mod parsing;
+mod plan;
+mod rules;
+#[cfg(test)]
+mod tests;
+
+pub use fault::JobFault;
+pub use job::{Job, Step};
+pub use name::JobName;
+pub use plan::{LONGEST_PLAN, Plan};

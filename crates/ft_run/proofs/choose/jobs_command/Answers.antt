@@ -1,0 +1,25 @@
+use Rattle.std.proofs.Common.{◌≡◌, ◌∙◌, ◌||◌, Some, false, ap, ap₂, rules}
+use Rattle.std.proofs.lemmas.Result.{IfOk-weaker}
+use Rattle.clap.specs.Simple.{app_of_fields}
+use Rattle.clap.specs.Words.{rule_of, with_rule}
+use Rattle.clap.specs.declared.builder.command.Command.TheViews.{out-Command}
+use Rattle.clap.specs.declared.builder.value_parser.ValueParser.TheVariants.{Unsigned}
+use Rattle.ft_run.specs.CommandLine.{file_rule, turns_rule}
+use Rattle.ft_run.proofs.choose.jobs_command.Goals as goal
+
+pub returns-clause-app : goal.returns-clause-app
+returns-clause-app c =
+    let given = c.value_parser.ensures.given in
+    let parser_is : c.value_parser.result.value_parser ≡ Some (Unsigned 1 1000000) = given.1 ∙ ap Some (given.2 ∙ c.unsigned.ensures) in
+    let file_is : rule_of c.help-file.result ≡ file_rule = search rules in
+    let turns_is : rule_of c.help-turns.result ≡ turns_rule = search (rules, parser_is) in
+    let one_is = c.in_ok-arg.ensures.shape (search rules) ∙ ap₂ with_rule (ap app_of_fields c.about.ensures ∙ c.new-3.ensures.app) file_is in
+    IfOk-weaker c.arg-2.result _ _ (λ command h. h.shape (search rules) ∙ ap₂ with_rule one_is turns_is) c.arg-2.ensures
+
+pub returns-clause-local : goal.returns-clause-local
+returns-clause-local c =
+    let bare : (out-Command c.about.result).has_globals ≡ false = ap (λ f. f.has_globals) c.about.ensures ∙ c.new-3.ensures.local in
+    let file : c.help-file.result.global ≡ false = search rules in
+    let turns : c.help-turns.result.global ≡ false = search rules in
+    let one = c.in_ok-arg.ensures.globals ∙ ap₂ (λ a b. a || b) bare file in
+    IfOk-weaker c.arg-2.result _ _ (λ command h. h.globals ∙ ap₂ (λ a b. a || b) one turns) c.arg-2.ensures

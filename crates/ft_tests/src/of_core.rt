@@ -1,0 +1,391 @@
+// Scripts worked by hand, one call of the core a request; lists of requests; the numbers of the faults, and what is
+// printed.
+use crate::scripts::{Line, Wanted, is_answer, request};
+use ft_calls::Mode;
+use ft_core::{Answer, Core, Fault, LiveChild, Request, TxnId};
+use ft_locks::{LockKind, LockLine};
+use ft_path::Errno;
+use ft_tree::{Cell, TreeRow};
+use std::alloc::Global;
+use std::test::Fail;
+
+/// Carries a script out, one call for each line, and says whether each is answered as it says.
+fn plays(alloc: Global, core: &mut Core, script: &[(Line, Wanted)]) -> Result<bool, Fail> {
+    for (line, wanted) in script {
+        let answer = core.answer(request(alloc, *line)?);
+        if !is_answer(&answer, *wanted) {
+            return Ok(false);
+        }
+    }
+    Ok(true)
+}
+
+/// Carries a script out on a new core, and says whether each line is answered as it says.
+fn plays_anew(alloc: Global, script: &[(Line, Wanted)]) -> Result<bool, Fail> {
+    let mut core = Core::new(alloc)?;
+    plays(alloc, &mut core, script)
+}
+
+/// The same, and whether the tree holds the root alone then.
+fn plays_to_nothing(alloc: Global, script: &[(Line, Wanted)]) -> Result<bool, Fail> {
+    let mut core = Core::new(alloc)?;
+    Ok(plays(alloc, &mut core, script)? && is_bare(&core)?)
+}
+
+/// The same, with a sweep before each.
+fn plays_swept(alloc: Global, core: &mut Core, script: &[(Line, Wanted)]) -> Result<bool, Fail> {
+    for (line, wanted) in script {
+        let _ = core.sweep();
+        let answer = core.answer(request(alloc, *line)?);
+        if !is_answer(&answer, *wanted) {
+            return Ok(false);
+        }
+    }
+    Ok(true)
+}
+
+/// Whether the tree holds the root alone.
+fn is_bare(core: &Core) -> Result<bool, Fail> {
+    let rows = core.tree().rows()?;
+    Ok(rows.as_slice() == [TreeRow::Dir { number: 1 }].as_slice())
+}
+
+#[test]
+fn parent_abort_takes_committed_child(rt: HostRuntime) -> Result<(), Fail> {
+    let script = [
+        (Line::Begin, Wanted::Txn(1)),
+        (Line::Mkdir(1, b"/x".as_slice()), Wanted::Done(2)),
+        (Line::Sub(1), Wanted::Txn(2)),
+        (Line::Mkdir(2, b"/x/y".as_slice()), Wanted::Done(3)),
+        (Line::Commit(2), Wanted::Committed),
+        (Line::Sub(1), Wanted::Txn(3)),
+        (Line::Rmdir(3, b"/x/y".as_slice()), Wanted::Done(4)),
+        (Line::Abort(1), Wanted::Aborted(3)),
+        (
+            Line::List(3, b"/".as_slice()),
+            Wanted::Refused(Fault::Ended),
+        ),
+    ];
+    assert!(rt; plays_to_nothing(rt.alloc(), &script)?);
+    Ok(())
+}
+
+#[test]
+fn abort_amid_neighbours(rt: HostRuntime) -> Result<(), Fail> {
+    let script = [
+        (Line::Begin, Wanted::Txn(1)),
+        (Line::Sub(1), Wanted::Txn(2)),
+        (Line::Sub(1), Wanted::Txn(3)),
+        (Line::Begin, Wanted::Txn(4)),
+        (Line::Mkdir(2, b"/p".as_slice()), Wanted::Done(2)),
+        (Line::Mkdir(4, b"/q".as_slice()), Wanted::Done(3)),
+        (Line::Open(3, b"/f".as_slice()), Wanted::Number(4, 4)),
+        (Line::Open(4, b"/g".as_slice()), Wanted::Number(5, 5)),
+        (Line::Commit(2), Wanted::Committed),
+        (
+            Line::Rename(3, b"/f".as_slice(), b"/p/f".as_slice()),
+            Wanted::Done(6),
+        ),
+        (Line::Write(4, 5, b"zz".as_slice()), Wanted::Number(7, 2)),
+        (Line::Abort(1), Wanted::Aborted(3)),
+        (
+            Line::List(4, b"/".as_slice()),
+            Wanted::Names(8, b"gq".as_slice()),
+        ),
+        (Line::Fstat(4, 4), Wanted::Failed(9, Errno::EBADF)),
+        (
+            Line::List(2, b"/".as_slice()),
+            Wanted::Refused(Fault::Ended),
+        ),
+    ];
+    assert!(rt; plays_anew(rt.alloc(), &script)?);
+    Ok(())
+}
+
+#[test]
+fn abort_in_log_order(rt: HostRuntime) -> Result<(), Fail> {
+    let script = [
+        (Line::Begin, Wanted::Txn(1)),
+        (Line::Sub(1), Wanted::Txn(2)),
+        (Line::Mkdir(2, b"/x".as_slice()), Wanted::Done(2)),
+        (Line::Mkdir(1, b"/y".as_slice()), Wanted::Done(3)),
+        (Line::Commit(2), Wanted::Committed),
+        (Line::Undo(1), Wanted::Refused(Fault::SubSince)),
+        (Line::Rmdir(1, b"/x".as_slice()), Wanted::Done(4)),
+        (Line::Begin, Wanted::Txn(3)),
+        (Line::Mkdir(3, b"/z".as_slice()), Wanted::Done(5)),
+        (Line::Abort(1), Wanted::Aborted(3)),
+        (
+            Line::List(3, b"/".as_slice()),
+            Wanted::Names(6, b"z".as_slice()),
+        ),
+    ];
+    assert!(rt; plays_anew(rt.alloc(), &script)?);
+    Ok(())
+}
+
+/// Carries a script out on a new core, and says whether each line is answered as it says, so many events stand then, and the tree
+/// holds the root alone.
+fn walks_back(alloc: Global, script: &[(Line, Wanted)], events: usize) -> Result<bool, Fail> {
+    let mut core = Core::new(alloc)?;
+    Ok(plays(alloc, &mut core, script)? && core.history().len() == events && is_bare(&core)?)
+}
+
+#[test]
+fn undo_walks_back(rt: HostRuntime) -> Result<(), Fail> {
+    let script = [
+        (Line::Begin, Wanted::Txn(1)),
+        (Line::Open(1, b"/f".as_slice()), Wanted::Number(2, 2)),
+        (Line::Pwrite(1, 2, b"hi".as_slice()), Wanted::Number(3, 2)),
+        (Line::Read(1, 2), Wanted::Bytes(4, b"hi".as_slice())),
+        (Line::Undo(1), Wanted::Undone(4)),
+        (Line::Undo(1), Wanted::Undone(3)),
+        (Line::Undo(1), Wanted::Undone(2)),
+        (Line::Undo(1), Wanted::Refused(Fault::NothingToUndo)),
+        (Line::Sub(1), Wanted::Txn(2)),
+        (Line::Undo(1), Wanted::Refused(Fault::ChildLive)),
+        (Line::Commit(2), Wanted::Committed),
+        (Line::Undo(1), Wanted::Refused(Fault::SubSince)),
+        (
+            Line::List(1, b"/".as_slice()),
+            Wanted::Names(5, b"".as_slice()),
+        ),
+        (Line::Undo(1), Wanted::Undone(5)),
+        (Line::Undo(1), Wanted::Refused(Fault::SubSince)),
+    ];
+    assert!(rt; walks_back(rt.alloc(), &script, 11)?);
+    Ok(())
+}
+
+#[test]
+fn ended_and_unknown_transactions(rt: HostRuntime) -> Result<(), Fail> {
+    let script = [
+        (Line::Begin, Wanted::Txn(1)),
+        (Line::Sub(1), Wanted::Txn(2)),
+        (Line::Commit(1), Wanted::Refused(Fault::ChildLive)),
+        (Line::Abort(1), Wanted::Aborted(0)),
+        (
+            Line::List(2, b"/".as_slice()),
+            Wanted::Refused(Fault::Ended),
+        ),
+        (Line::Commit(9), Wanted::Refused(Fault::NoTxn)),
+        (Line::Begin, Wanted::Txn(3)),
+        (Line::Retry(3), Wanted::Refused(Fault::NoAsk)),
+        (Line::Sub(3), Wanted::Txn(4)),
+        (Line::Mkdir(4, b"/a".as_slice()), Wanted::Done(2)),
+        (Line::List(3, b"/a".as_slice()), Wanted::Waits(4)),
+        (Line::Retry(3), Wanted::Waits(4)),
+        (Line::Drop(3), Wanted::Dropped),
+        (Line::Drop(3), Wanted::Refused(Fault::NoAsk)),
+        (Line::List(3, b"/a".as_slice()), Wanted::Waits(4)),
+        (Line::Commit(4), Wanted::Committed),
+        (Line::Retry(3), Wanted::Names(3, b"".as_slice())),
+        (Line::Retry(3), Wanted::Refused(Fault::NoAsk)),
+    ];
+    assert!(rt; plays_anew(rt.alloc(), &script)?);
+    Ok(())
+}
+
+/// Carries a script out on a new core with a sweep before each line, and says whether the tree holds the root alone then.
+fn sweeps_to_nothing(alloc: Global, script: &[(Line, Wanted)]) -> Result<bool, Fail> {
+    let mut core = Core::new(alloc)?;
+    Ok(plays_swept(alloc, &mut core, script)? && is_bare(&core)?)
+}
+
+#[test]
+fn sweep_before_each_request(rt: HostRuntime) -> Result<(), Fail> {
+    let script = [
+        (Line::Begin, Wanted::Txn(1)),
+        (Line::Open(1, b"/f".as_slice()), Wanted::Number(2, 2)),
+        (Line::Write(1, 2, b"hi".as_slice()), Wanted::Number(3, 2)),
+        (Line::Unlink(1, b"/f".as_slice()), Wanted::Done(4)),
+        (Line::Fstat(1, 2), Wanted::File(5, [2, 0, 2])),
+        (Line::Pread(1, 2), Wanted::Bytes(6, b"hi".as_slice())),
+        (Line::Close(1, 2), Wanted::Done(7)),
+        (Line::Undo(1), Wanted::Undone(7)),
+        (Line::Undo(1), Wanted::Undone(6)),
+        (Line::Pread(1, 2), Wanted::Bytes(8, b"hi".as_slice())),
+        (Line::Abort(1), Wanted::Aborted(5)),
+        (Line::Begin, Wanted::Txn(2)),
+        (
+            Line::List(2, b"/".as_slice()),
+            Wanted::Names(9, b"".as_slice()),
+        ),
+    ];
+    assert!(rt; sweeps_to_nothing(rt.alloc(), &script)?);
+    Ok(())
+}
+
+/// Whether a sweep spares what the first transaction has made, and drops two places once it is aborted: that of the entry, and
+/// that of the directory.
+fn drops_two_after_abort(core: &mut Core) -> bool {
+    let before = core.sweep().dropped;
+    let aborted = core.abort(TxnId(1));
+    let after = core.sweep().dropped;
+    before == 0 && aborted == Ok(1) && after == 2 && core.sweep().dropped == 0
+}
+
+/// The same on a new core, behind a script.
+fn sweeps_two(alloc: Global, script: &[(Line, Wanted)]) -> Result<bool, Fail> {
+    let mut core = Core::new(alloc)?;
+    Ok(plays(alloc, &mut core, script)? && drops_two_after_abort(&mut core))
+}
+
+#[test]
+fn sweep_counts_places(rt: HostRuntime) -> Result<(), Fail> {
+    let script = [
+        (Line::Begin, Wanted::Txn(1)),
+        (Line::Mkdir(1, b"/a".as_slice()), Wanted::Done(2)),
+    ];
+    assert!(rt; sweeps_two(rt.alloc(), &script)?);
+    Ok(())
+}
+
+/// Whether one transaction waits for another alone, and is its parent, as the only ones.
+fn waits_for_its_child(core: &Core, parent: u64, child: u64) -> Result<bool, Fail> {
+    let (parent, child) = (TxnId(parent), TxnId(child));
+    let pending = core.pending()?;
+    let children = core.children()?;
+    let waits = match pending.as_slice() {
+        [one] => one.txn == parent && one.blockers.as_slice() == [child].as_slice(),
+        _ => false,
+    };
+    Ok(waits && children.as_slice() == [LiveChild { parent, child }].as_slice())
+}
+
+/// Whether transaction 3 waits for 4 alone behind a script, and is its parent.
+fn leaves_waiting(alloc: Global, script: &[(Line, Wanted)]) -> Result<bool, Fail> {
+    let mut core = Core::new(alloc)?;
+    Ok(plays(alloc, &mut core, script)? && waits_for_its_child(&core, 3, 4)?)
+}
+
+#[test]
+fn small_calls(rt: HostRuntime) -> Result<(), Fail> {
+    let script = [
+        (Line::Begin, Wanted::Txn(1)),
+        (Line::Sub(1), Wanted::Txn(2)),
+        (Line::Abort(1), Wanted::Aborted(0)),
+        (Line::Begin, Wanted::Txn(3)),
+        (Line::Sub(3), Wanted::Txn(4)),
+        (Line::Mkdir(4, b"/a".as_slice()), Wanted::Done(2)),
+        (Line::List(3, b"/a".as_slice()), Wanted::Waits(4)),
+    ];
+    assert!(rt; leaves_waiting(rt.alloc(), &script)?);
+    Ok(())
+}
+
+/// Whether these are the write locks of a transaction on the entry `a` of the root and on a directory's parent.
+fn are_locks(lines: &[LockLine], txn: u64, kind: LockKind) -> bool {
+    let all = lines.iter().all(|line| line.owner == TxnId(txn)
+        && line.mode == Mode::Write
+        && line.kind == kind);
+    match lines {
+        [entry, parent] => {
+            let is_entry = match &entry.cell {
+                Cell::Entry(1, name) => name.as_bytes() == b"a".as_slice(),
+                _ => false,
+            };
+            all && is_entry && parent.cell == Cell::Parent(2)
+        }
+        _ => false,
+    }
+}
+
+/// Whether the second transaction holds those locks, and its parent retains them once it has committed.
+fn hands_locks_up(core: &mut Core) -> Result<bool, Fail> {
+    let are_held = are_locks(core.lock_lines()?.as_slice(), 2, LockKind::Held);
+    core.commit(TxnId(2))?;
+    let lines = core.lock_lines()?;
+    Ok(are_held && are_locks(lines.as_slice(), 1, LockKind::Retained))
+}
+
+/// The same on a new core, behind a script.
+fn hands_up_behind(alloc: Global, script: &[(Line, Wanted)]) -> Result<bool, Fail> {
+    let mut core = Core::new(alloc)?;
+    Ok(plays(alloc, &mut core, script)? && hands_locks_up(&mut core)?)
+}
+
+#[test]
+fn lock_lines(rt: HostRuntime) -> Result<(), Fail> {
+    let script = [
+        (Line::Begin, Wanted::Txn(1)),
+        (Line::Sub(1), Wanted::Txn(2)),
+        (Line::Mkdir(2, b"/a".as_slice()), Wanted::Done(2)),
+    ];
+    assert!(rt; hands_up_behind(rt.alloc(), &script)?);
+    Ok(())
+}
+
+/// Whether a new core answers these requests so, all at once.
+fn runs(alloc: Global, requests: Vec<Request>, wanted: &[Answer]) -> Result<bool, Fail> {
+    let mut core = Core::new(alloc)?;
+    let answers = core.run(requests)?;
+    Ok(answers.as_slice() == wanted)
+}
+
+#[test]
+fn single_calls(rt: HostRuntime) -> Result<(), Fail> {
+    let alloc = rt.alloc();
+    let mut requests = Vec::new(alloc);
+    requests.push(Request::Begin)?;
+    requests.push(Request::Sub(TxnId(1)))?;
+    requests.push(Request::Commit(TxnId(1)))?;
+    requests.push(Request::Abort(TxnId(1)))?;
+    let wanted = [
+        Answer::Txn(TxnId(1)),
+        Answer::Txn(TxnId(2)),
+        Answer::Refused(Fault::ChildLive),
+        Answer::Aborted(0),
+    ];
+    assert!(rt; runs(alloc, requests, &wanted)?);
+    Ok(())
+}
+
+/// Begins subtransactions, each under the last.
+fn chain(core: &mut Core, count: u64) -> bool {
+    for parent in 1..=count {
+        if core.sub(TxnId(parent)).is_err() {
+            return false;
+        }
+    }
+    true
+}
+
+/// Whether so many subtransactions may be begun under a new one, each under the last, and no more.
+fn goes_as_deep_as(alloc: Global, count: u64) -> Result<bool, Fail> {
+    let mut core = Core::new(alloc)?;
+    Ok(
+        core.begin() == Ok(TxnId(1))
+            && chain(&mut core, count)
+            && core.sub(TxnId(count.saturating_add(1))) == Err(Fault::Deep),
+    )
+}
+
+#[test]
+fn sixty_three_subs_then_deep(rt: HostRuntime) -> Result<(), Fail> {
+    assert!(rt; goes_as_deep_as(rt.alloc(), 63)?);
+    Ok(())
+}
+
+#[test]
+fn faults_have_numbers(rt: HostRuntime) {
+    assert_eq!(rt; Fault::Memory as u8, 1);
+    assert_eq!(rt; Fault::NoTxn as u8, 2);
+    assert_eq!(rt; Fault::Ended as u8, 3);
+    assert_eq!(rt; Fault::ChildLive as u8, 4);
+    assert_eq!(rt; Fault::NothingToUndo as u8, 5);
+    assert_eq!(rt; Fault::SubSince as u8, 6);
+    assert_eq!(rt; Fault::Full as u8, 7);
+    assert_eq!(rt; Fault::Deep as u8, 8);
+    assert_eq!(rt; Fault::Live as u8, 9);
+    assert_eq!(rt; Fault::NoAsk as u8, 10);
+    assert_eq!(rt; Fault::NoViews as u8, 11);
+}
+
+#[test]
+fn names_are_printed(rt: HostRuntime) -> Result<(), Fail> {
+    let alloc = rt.alloc();
+    let fault = format!(in alloc; "{}", Fault::NothingToUndo)?;
+    assert_eq!(rt; fault.as_str(), "NothingToUndo");
+    Ok(())
+}
