@@ -98,10 +98,15 @@ impl<T: Drop> Few<T> {
         ensures none { IfNone result (self.old ≡ []) }
         ensures left { IfNone result (self.new ≡ []) }
     {
+        if self.first.is_none() {
+            return None;
+        }
         let value = self.first.take();
-        self.first = self.second.take();
-        if !self.more.is_empty() {
-            self.second = Some(self.more.remove(0));
+        if self.second.is_some() {
+            self.first = self.second.take();
+            if !self.more.is_empty() {
+                self.second = Some(self.more.remove(0));
+            }
         }
         value
     }

@@ -8,8 +8,6 @@ mod memory;
 mod node;
 mod sequence;
 mod table;
-#[cfg(test)]
-mod tests;
 
 pub use chains::Chains;
 pub use few::Few;

@@ -1,13 +1,15 @@
 //! The program `ft_bench`: `ft_bench WHAT COUNT SIZE` makes a tree of SIZE directories with three
-//! components, or a table of SIZE locks, and then does COUNT times WHAT to it. It is run under a tool that counts
+//! components, by itself or through a core, or a table of SIZE locks, and then does COUNT times WHAT to it. It is run under a tool that counts
 //! instructions: what one call takes is the difference between two runs that differ in COUNT.
 #![tactic(auto)]
 
+mod asking;
 mod growth;
 mod locking;
 mod measure;
 
 use anyhow::{Context, Result};
+use asking::Stage;
 use locking::Asking;
 use measure::Measure;
 use std::env;
@@ -19,9 +21,10 @@ fn main(rt: HostRuntime) -> Result<()> {
     };
     let count = count.parse::<u64>().context("reading COUNT")?;
     let size = size.parse::<u64>().context("reading SIZE")?;
-    let done = match Asking::named(what.as_str()) {
-        Some(asking) => locking::run(rt.alloc(), asking, count, size)?,
-        None => {
+    let done = match (Asking::named(what.as_str()), Stage::named(what.as_str())) {
+        (Some(asking), _) => locking::run(rt.alloc(), asking, count, size)?,
+        (_, Some(stage)) => asking::run(rt.alloc(), stage, count, size)?,
+        _ => {
             let measure = Measure::named(what.as_str()).context("no such measure")?;
             measure::run(rt.alloc(), measure, count, size)?
         }

@@ -9,8 +9,6 @@ mod body;
 mod buffer;
 mod page;
 mod pages;
-#[cfg(test)]
-mod tests;
 mod undo;
 
 pub use body::Body;

@@ -79,12 +79,12 @@ fn write_at<'c>(
     look.size(description.file)?;
     let file = description.file;
     let taken = room_for(bytes, at);
-    let intent = Intent::tell(alloc, Told::Number(taken))
-        .and(Edit::Overwrite { file, at, bytes })?
-        .and(Edit::Open {
-            fd,
-            to: Some(at_offset(description, at + taken)),
-        })?;
+    let mut intent = Intent::tell(alloc, Told::Number(taken));
+    intent.push(Edit::Overwrite { file, at, bytes })?;
+    intent.push(Edit::Open {
+        fd,
+        to: Some(at_offset(description, at + taken)),
+    })?;
     Ok(intent)
 }
 
@@ -130,7 +130,8 @@ fn close_open<'c>(
     ensures { Comes look.old (close_open fd description) look.new result }
 {
     look.links(description.file)?;
-    let intent = Intent::tell(alloc, Told::Done).and(Edit::Open { fd, to: None })?;
+    let mut intent = Intent::tell(alloc, Told::Done);
+    intent.push(Edit::Open { fd, to: None })?;
     Ok(intent)
 }
 
@@ -168,7 +169,8 @@ fn read_open<'c>(
         at: description.offset,
         len,
     };
-    let intent = Intent::tell(alloc, told).and(Edit::Open {
+    let mut intent = Intent::tell(alloc, told);
+    intent.push(Edit::Open {
         fd,
         to: Some(at_offset(description, description.offset + read)),
     })?;
@@ -272,11 +274,8 @@ fn pwrite_at<'c>(
     }
     let file = description.file;
     look.size(file)?;
-    let intent = Intent::tell(alloc, Told::Number(room_for(bytes, at))).and(Edit::Overwrite {
-        file,
-        at,
-        bytes,
-    })?;
+    let mut intent = Intent::tell(alloc, Told::Number(room_for(bytes, at)));
+    intent.push(Edit::Overwrite { file, at, bytes })?;
     Ok(intent)
 }
 
@@ -334,7 +333,8 @@ fn sought<'c>(
     ensures { Comes look.old (Answer (sought fd description (moved from offset))) look.new result }
 {
     let at = seek_place(from, offset)?;
-    let intent = Intent::tell(alloc, Told::Number(at)).and(Edit::Open {
+    let mut intent = Intent::tell(alloc, Told::Number(at));
+    intent.push(Edit::Open {
         fd,
         to: Some(at_offset(description, at)),
     })?;

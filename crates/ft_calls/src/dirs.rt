@@ -44,16 +44,16 @@ fn make_dir<'c>(
     else {
         return Err(Stop::Errno(Errno::EEXIST));
     };
-    let intent = Intent::tell(alloc, Told::Done)
-        .and(Edit::Parent {
-            dir: stamp,
-            to: Some(dir),
-        })?
-        .and(Edit::Entry {
-            dir,
-            name: name.try_clone()?,
-            to: Some(Node::Dir(stamp)),
-        })?;
+    let mut intent = Intent::tell(alloc, Told::Done);
+    intent.push(Edit::Parent {
+        dir: stamp,
+        to: Some(dir),
+    })?;
+    intent.push(Edit::Entry {
+        dir,
+        name: name.try_clone()?,
+        to: Some(Node::Dir(stamp)),
+    })?;
     Ok(intent)
 }
 
@@ -124,16 +124,16 @@ fn remove_bare<'c>(
     if !look.is_empty_dir(number)? {
         return Err(Stop::Errno(Errno::ENOTEMPTY));
     }
-    let intent = Intent::tell(alloc, Told::Done)
-        .and(Edit::Parent {
-            dir: number,
-            to: None,
-        })?
-        .and(Edit::Entry {
-            dir,
-            name: name.try_clone()?,
-            to: None,
-        })?;
+    let mut intent = Intent::tell(alloc, Told::Done);
+    intent.push(Edit::Parent {
+        dir: number,
+        to: None,
+    })?;
+    intent.push(Edit::Entry {
+        dir,
+        name: name.try_clone()?,
+        to: None,
+    })?;
     Ok(intent)
 }
 

@@ -67,21 +67,21 @@ fn open_spot<'c>(
             if !flags.create || trailing {
                 return Err(Stop::Errno(Errno::ENOENT));
             }
-            let intent = Intent::tell(alloc, Told::Number(stamp))
-                .and(Edit::Links { file: stamp, to: 1 })?
-                .and(Edit::Resize {
-                    file: stamp,
-                    size: 0,
-                })?
-                .and(Edit::Open {
-                    fd: stamp,
-                    to: Some(flags.description(stamp)),
-                })?
-                .and(Edit::Entry {
-                    dir,
-                    name: name.try_clone()?,
-                    to: Some(Node::File(stamp)),
-                })?;
+            let mut intent = Intent::tell(alloc, Told::Number(stamp));
+            intent.push(Edit::Links { file: stamp, to: 1 })?;
+            intent.push(Edit::Resize {
+                file: stamp,
+                size: 0,
+            })?;
+            intent.push(Edit::Open {
+                fd: stamp,
+                to: Some(flags.description(stamp)),
+            })?;
+            intent.push(Edit::Entry {
+                dir,
+                name: name.try_clone()?,
+                to: Some(Node::File(stamp)),
+            })?;
             Ok(intent)
         }
         _ if flags.is_exclusive() => Err(Stop::Errno(Errno::EEXIST)),
@@ -106,15 +106,16 @@ fn open_node<'c>(
     let Node::File(file) = node else {
         return Err(Stop::Errno(Errno::EISDIR));
     };
-    let intent = Intent::tell(alloc, Told::Number(stamp)).and(Edit::Open {
+    let mut intent = Intent::tell(alloc, Told::Number(stamp));
+    intent.push(Edit::Open {
         fd: stamp,
         to: Some(flags.description(file)),
     })?;
     if !flags.trunc {
         return Ok(intent);
     }
-    let cut = intent.and(Edit::Resize { file, size: 0 })?;
-    Ok(cut)
+    intent.push(Edit::Resize { file, size: 0 })?;
+    Ok(intent)
 }
 
 /// Cuts a file to a length, or adds zeros up to it.
@@ -176,7 +177,8 @@ pub(crate) fn cut_file<'c>(
     ensures { Comes look.old (cut_file file size) look.new result }
 {
     look.size(file)?;
-    let intent = Intent::tell(alloc, Told::Done).and(Edit::Resize { file, size })?;
+    let mut intent = Intent::tell(alloc, Told::Done);
+    intent.push(Edit::Resize { file, size })?;
     Ok(intent)
 }
 

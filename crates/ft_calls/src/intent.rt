@@ -1,5 +1,5 @@
 // What a call comes to, before it is made.
-ghost use Rattle.std.specs.Prelude.{◌≡◌, [], ◌∷◌, ◌++◌, IfOk};
+ghost use Rattle.std.specs.Prelude.{◌≡◌, [], ◌∷◌, ◌++◌, OnOk};
 ghost use Rattle.ft_calls.specs.Within.{IsWithin, AreWithin};
 
 use crate::bytes::read_bytes;
@@ -123,13 +123,13 @@ impl<'c> Edits<'c> {
         items
     }
 
-    /// With one more behind the others; the first two take no memory.
-    pub(crate) fn and(mut self, edit: Edit<'c>) -> Result<Edits<'c>, Memory>
+    /// Puts one more behind the others; the first two take no memory.
+    pub(crate) fn push(&mut self, edit: Edit<'c>) -> Result<(), Memory>
         requires { IsWithin edit }
-        ensures { IfOk result (λ edits. edits ≡ self.entry ++ edit.entry ∷ []) }
+        ensures { OnOk result (self.new ≡ self.old ++ edit.entry ∷ []) }
     {
         self.items.push(edit)?;
-        Ok(self)
+        Ok(())
     }
 }
 
@@ -167,7 +167,7 @@ pub struct Intent<'c> {
 }
 
 impl<'c> Intent<'c> {
-    ghost use Rattle.std.specs.Prelude.{◌≡◌, [], ◌∷◌, ◌++◌, IfOk, OnErr};
+    ghost use Rattle.std.specs.Prelude.{◌≡◌, [], ◌∷◌, ◌++◌, IfOk, OnOk, OnErr};
     ghost use Rattle.ft_calls.specs.Within.{IsWithin};
     ghost use Rattle.ft_calls.specs.Comes.{reply_of};
     ghost use Rattle.ft_calls.specs.Perform.{IsList};
@@ -182,16 +182,13 @@ impl<'c> Intent<'c> {
         }
     }
 
-    /// With one more cell to be set.
-    pub(crate) fn and(self, edit: Edit<'c>) -> Result<Intent<'c>, Memory>
+    /// Has one more cell be set.
+    pub(crate) fn push(&mut self, edit: Edit<'c>) -> Result<(), Memory>
         requires { IsWithin edit }
-        ensures { IfOk result (λ intent. intent ≡ record { told = self.entry.told; edits = self.entry.edits ++ edit.entry ∷ [] }) }
+        ensures told { OnOk result (self.new.told ≡ self.old.told) }
+        ensures edits { OnOk result (self.new.edits ≡ self.old.edits ++ edit.entry ∷ []) }
     {
-        let Intent { told, edits } = self;
-        Ok(Intent {
-            told,
-            edits: edits.and(edit)?,
-        })
+        self.edits.push(edit)
     }
 
     /// The reply of the call. A list is read off the tree, which is as it was looked at. Only a list

@@ -42,16 +42,16 @@ fn unlink_spot<'c>(alloc: Global, look: &mut Look<'_>, spot: Spot<'_>) -> Result
             node: Some(Node::File(file)),
         } => {
             let links = look.links(file)?;
-            let intent = Intent::tell(alloc, Told::Done)
-                .and(Edit::Links {
-                    file,
-                    to: links.saturating_sub(1),
-                })?
-                .and(Edit::Entry {
-                    dir,
-                    name: name.try_clone()?,
-                    to: None,
-                })?;
+            let mut intent = Intent::tell(alloc, Told::Done);
+            intent.push(Edit::Links {
+                file,
+                to: links.saturating_sub(1),
+            })?;
+            intent.push(Edit::Entry {
+                dir,
+                name: name.try_clone()?,
+                to: None,
+            })?;
             Ok(intent)
         }
         _ => Err(Stop::Errno(Errno::EPERM)),
@@ -142,16 +142,16 @@ fn link_new<'c>(
     if links >= MOST_LINKS {
         return Err(Stop::Errno(Errno::EMLINK));
     }
-    let intent = Intent::tell(alloc, Told::Done)
-        .and(Edit::Entry {
-            dir,
-            name: name.try_clone()?,
-            to: Some(Node::File(file)),
-        })?
-        .and(Edit::Links {
-            file,
-            to: links + 1,
-        })?;
+    let mut intent = Intent::tell(alloc, Told::Done);
+    intent.push(Edit::Entry {
+        dir,
+        name: name.try_clone()?,
+        to: Some(Node::File(file)),
+    })?;
+    intent.push(Edit::Links {
+        file,
+        to: links + 1,
+    })?;
     Ok(intent)
 }
 
@@ -293,7 +293,8 @@ fn replace_file<'c>(
     ensures { Comes look.old (replace_file renaming.entry.dir renaming.entry.name.now file renaming.entry.into renaming.entry.other.now replaced) look.new result }
 {
     let links = look.links(replaced)?;
-    let intent = renamed(alloc, renaming, Node::File(file))?.and(Edit::Links {
+    let mut intent = renamed(alloc, renaming, Node::File(file))?;
+    intent.push(Edit::Links {
         file: replaced,
         to: links.saturating_sub(1),
     })?;
@@ -395,7 +396,8 @@ fn replace_empty<'c>(
     if !look.is_empty_dir(replaced)? {
         return Err(Stop::Errno(Errno::ENOTEMPTY));
     }
-    let intent = renamed(alloc, renaming, Node::Dir(number))?.and(Edit::Parent {
+    let mut intent = renamed(alloc, renaming, Node::Dir(number))?;
+    intent.push(Edit::Parent {
         dir: replaced,
         to: None,
     })?;
@@ -406,22 +408,23 @@ fn replace_empty<'c>(
 fn renamed<'c>(alloc: Global, renaming: Renaming<'_>, node: Node) -> Result<Intent<'c>, Memory>
     ensures { (cells : Cells) → IfOk result (λ intent. outcome_of cells intent ≡ renamed renaming.entry.dir renaming.entry.name.now node renaming.entry.into renaming.entry.other.now []) }
 {
-    Intent::tell(alloc, Told::Done)
-        .and(Edit::Entry {
-            dir: renaming.into,
-            name: renaming.other.try_clone()?,
-            to: Some(node),
-        })?
-        .and(Edit::Entry {
-            dir: renaming.dir,
-            name: renaming.name.try_clone()?,
-            to: None,
-        })
+    let mut intent = Intent::tell(alloc, Told::Done);
+    intent.push(Edit::Entry {
+        dir: renaming.into,
+        name: renaming.other.try_clone()?,
+        to: Some(node),
+    })?;
+    intent.push(Edit::Entry {
+        dir: renaming.dir,
+        name: renaming.name.try_clone()?,
+        to: None,
+    })?;
+    Ok(intent)
 }
 
 /// A directory has another parent where another one holds it.
 fn with_parent<'c>(
-    intent: Intent<'c>,
+    mut intent: Intent<'c>,
     number: u64,
     renaming: Renaming<'_>,
 ) -> Result<Intent<'c>, Memory>
@@ -431,8 +434,9 @@ fn with_parent<'c>(
     if renaming.dir == renaming.into {
         return Ok(intent);
     }
-    intent.and(Edit::Parent {
+    intent.push(Edit::Parent {
         dir: number,
         to: Some(renaming.into),
-    })
+    })?;
+    Ok(intent)
 }

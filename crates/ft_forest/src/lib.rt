@@ -5,8 +5,6 @@ mod fault;
 mod forest;
 mod records;
 mod state;
-#[cfg(test)]
-mod tests;
 mod txn;
 
 pub use fault::ForestFault;

@@ -1,5 +1,5 @@
 -- What the steps of a job ask for.
-use Rattle.std.specs.Prelude.{◌≡◌, ℕ, zero, suc, ◌-◌, Bool, true, false, List, [], ◌∷◌, ◌++◌, length, drop, if◌then◌else◌, Option, None, Some, map}
+use Rattle.std.specs.Prelude.{◌≡◌, ◌≢◌, ℕ, zero, suc, ◌-◌, Bool, true, false, List, [], ◌∷◌, ◌++◌, length, drop, if◌then◌else◌, Option, None, Some, map}
 use Rattle.std.specs.Option.{unwrap_or}
 use Rattle.std.specs.List.{filter_map, slice_get}
 use Rattle.ft_calls.specs.declared.call.Call.{Call}
@@ -11,6 +11,8 @@ use Rattle.ft_plan.specs.declared.job.Step.TheVariants as does
 use Rattle.ft_jobs.specs.declared.report.CallReport.{CallReport}
 use Rattle.ft_jobs.specs.declared.report.End.{End}
 use Rattle.ft_jobs.specs.declared.report.End.TheVariants.{Committed, Aborted, Waited, Refused, NotStarted}
+use Rattle.ft_jobs.specs.declared.steps.Extent.{Extent}
+use Rattle.ft_jobs.specs.declared.steps.Extent.TheVariants.{Whole, Other}
 
 -- ---- what steps opened
 
@@ -90,13 +92,13 @@ AreFirstOf asked calls = (later : List Call) × (asked ≡ calls_told calls ++ l
 abbrev pub EndsWith : List Step → Step → Type 0
 EndsWith steps last = slice_get steps (length steps - 1) ≡ Some last
 
--- The last step is the one that this end names, if it names one, and all calls were made.
-abbrev pub IsAtEnd : List Step → End → Bool → Type 0
-IsAtEnd steps Committed all = (all ≡ true) × EndsWith steps does.Commit
-IsAtEnd steps Aborted all = (all ≡ true) × EndsWith steps does.Abort
-IsAtEnd steps Waited all = Unit {0}
-IsAtEnd steps (Refused fault) all = Unit {0}
-IsAtEnd steps NotStarted all = Unit {0}
+-- A job with calls to this extent may have ended so: where the end names a step, that is the last one, and all calls were made.
+abbrev pub IsAtEnd : List Step → End → Extent → Type 0
+IsAtEnd steps Committed extent = (extent ≡ Whole) × EndsWith steps does.Commit
+IsAtEnd steps Aborted extent = (extent ≡ Whole) × EndsWith steps does.Abort
+IsAtEnd steps Waited extent = extent ≢ Other
+IsAtEnd steps (Refused fault) extent = extent ≢ Other
+IsAtEnd steps NotStarted extent = extent ≢ Other
 
 -- what the steps ask for, where these are their calls
 abbrev pub asked_with : List Step → List CallReport → List Call

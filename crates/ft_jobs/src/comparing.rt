@@ -1,5 +1,5 @@
 // Whether reports are what happened.
-ghost use Rattle.std.specs.Prelude.{◌≡◌, true, [], ℕ, All, IfSome, IfNone, OnOk, option_copied};
+ghost use Rattle.std.specs.Prelude.{◌≡◌, true, [], ℕ, All, IfSome, IfNone, IfOk, option_copied};
 ghost use Rattle.std.specs.List.{list_all};
 ghost use Rattle.ft_core.specs.Histories.{told};
 ghost use Rattle.ft_jobs.specs.Reports.{calls_of, has_txn, has_txn_up_to, is_reported, is_from_least_on, have_own_txns, report_of, txn_of, IsNested, ends_committed, may_lack_txn, may_leave_subjobs, may_be_unstarted, IsReportAt, HasItsFate, AreReports};
@@ -8,44 +8,43 @@ ghost use Rattle.ft_jobs.specs.Reading.{is_accounted};
 use crate::history::{are_calls_of, do_stamps_rise, has_ended, parent_of};
 use crate::places::place_of;
 use crate::report::{End, Report};
-use crate::steps::check_steps;
+use crate::steps::is_done;
+use ft_base::Memory;
 use ft_core::{Core, Event, TxnId};
-use ft_plan::{Job, JobFault, Plan};
+use ft_plan::{Job, Plan};
 use std::alloc::Global;
 
-/// Answers Mismatch unless these are the reports of what happened to the jobs of a plan, in the core that they left.
-pub fn check_reports(
+/// Whether these are the reports of what happened to the jobs of a plan, in the core that they left.
+pub fn are_reports(
     alloc: Global,
     plan: &Plan,
     core: &mut Core,
     reports: &[Report],
-) -> Result<(), JobFault>
-    ensures { OnOk result (AreReports core.new plan.now reports.now) }
+) -> Result<bool, Memory>
+    ensures { IfOk result (λ are. are ≡ true → AreReports core.new plan.now reports.now) }
 {
     let jobs = plan.jobs();
-    if reports.len() != jobs.len() || !have_own_txns(reports) {
-        return Err(JobFault::Mismatch);
+    if reports.len() != jobs.len() || !have_own_txns(reports) || !have_their_fates(core, reports) {
+        return Ok(false);
     }
-    check_fates(core, reports)?;
     let events = core.history();
-    check_each(alloc, events, jobs, reports)?;
-    if !are_accounted(events, reports) {
-        return Err(JobFault::Mismatch);
+    if !are_each(alloc, events, jobs, reports)? {
+        return Ok(false);
     }
-    Ok(())
+    Ok(are_accounted(events, reports))
 }
 
-// Answers Mismatch unless the transactions of the reports are committed or aborted as they say. Else nothing changes.
-fn check_fates(core: &mut Core, reports: &[Report]) -> Result<(), JobFault>
-    ensures same { OnOk result (core.new ≡ core.old) }
-    ensures fates { OnOk result (All (HasItsFate core.old) reports.now) }
+// Whether the transactions of the reports are committed or aborted as they say. Where they are, nothing changes.
+fn have_their_fates(core: &mut Core, reports: &[Report]) -> bool
+    ensures same { result ≡ true → core.new ≡ core.old }
+    ensures fates { result ≡ true → All (HasItsFate core.old) reports.now }
 {
     for report in reports {
         if !has_its_fate(core, report) {
-            return Err(JobFault::Mismatch);
+            return false;
         }
     }
-    Ok(())
+    true
 }
 
 // Whether the transaction of a report, if it has one, is committed or aborted as it says. Where it is, nothing changes.
@@ -66,43 +65,45 @@ fn ends_committed(end: End) -> bool
     matches!(end, End::Committed)
 }
 
-// Answers Mismatch unless each report is that of its job.
-fn check_each(
+// Whether each report is that of its job.
+fn are_each(
     alloc: Global,
     events: &[Event],
     jobs: &[Job],
     reports: &[Report],
-) -> Result<(), JobFault>
-    ensures { OnOk result ((at : ℕ) → IsReportAt (told events.now) jobs.now reports.now at) }
+) -> Result<bool, Memory>
+    ensures { IfOk result (λ are. are ≡ true → (at : ℕ) → IsReportAt (told events.now) jobs.now reports.now at) }
 {
     for at in 0..jobs.len() {
-        check_report(alloc, events, jobs, reports, at)?;
+        if !is_report_at(alloc, events, jobs, reports, at)? {
+            return Ok(false);
+        }
     }
-    Ok(())
+    Ok(true)
 }
 
-// Answers Mismatch unless the report at this place, if there is one, is that of the job at this place.
-fn check_report(
+// Whether there is a job at this place, and a report of it.
+fn is_report_at(
     alloc: Global,
     events: &[Event],
     jobs: &[Job],
     reports: &[Report],
     at: usize,
-) -> Result<(), JobFault>
-    ensures { OnOk result (IsReportAt (told events.now) jobs.now reports.now at) }
+) -> Result<bool, Memory>
+    ensures { IfOk result (λ is. is ≡ true → IsReportAt (told events.now) jobs.now reports.now at) }
 {
     let (Some(job), Some(report)) = (jobs.get(at), reports.get(at)) else {
-        return Err(JobFault::Mismatch);
+        return Ok(false);
     };
-    check_steps(alloc, job.steps.as_slice(), report)?;
-    let is_so = report.job == at as u64
-        && do_stamps_rise(report.calls.as_slice())
-        && is_of_txn(events, jobs, reports, job, report)
-        && is_started(jobs, reports, job, report);
-    if !is_so {
-        return Err(JobFault::Mismatch);
+    if !is_done(alloc, job.steps.as_slice(), report)? {
+        return Ok(false);
     }
-    Ok(())
+    Ok(
+        report.job == at as u64
+            && do_stamps_rise(report.calls.as_slice())
+            && is_of_txn(events, jobs, reports, job, report)
+            && is_started(jobs, reports, job, report),
+    )
 }
 
 // Whether a report has just the calls that its transaction was granted, which is nested as the job is. Without a

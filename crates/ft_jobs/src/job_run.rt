@@ -41,6 +41,7 @@ pub fn run_job<M: Manager, G: Gate, R: Wait + Clock>(rt: &R, work: &Work<'_, M, 
         },
     };
     work.board.end(rt, at, report);
+    work.gate.ended(rt, at as u64);
 }
 
 // Begins a job's transaction: at the top, or, once its parent has come to its subjobs, under that one's. Where it has none,

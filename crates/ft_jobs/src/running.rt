@@ -1,9 +1,9 @@
 // All jobs of a plan, side by side.
-ghost use Rattle.std.specs.Prelude.{◌≤◌, IfOk};
+ghost use Rattle.std.specs.Prelude.{◌≢◌, ◌≤◌, IfOk, IfErr};
 ghost use Rattle.ft_jobs.specs.Reports.{AreReports};
 
 use crate::board::Board;
-use crate::comparing::check_reports;
+use crate::comparing::are_reports;
 use crate::gate::Gate;
 use crate::job_run::{Work, run_job};
 use crate::report::Report;
@@ -29,7 +29,7 @@ pub struct JobsOutcome {
 ///
 /// At the end the reports are compared with the history, whatever the manager answered. Answers Mismatch where they are not
 /// what happened, and Thread where a thread could not be started, after those that were have ended. At a fault the core is
-/// dropped.
+/// dropped. Any other fault is Memory.
 pub fn run_jobs<M: Manager, G: Gate, R: Threads + Wait + Clock + Sync>(
     rt: &R,
     alloc: Global,
@@ -39,12 +39,15 @@ pub fn run_jobs<M: Manager, G: Gate, R: Threads + Wait + Clock + Sync>(
     turns: u64,
 ) -> Result<JobsOutcome, JobFault>
     requires { 1 ≤ turns }
-    ensures { IfOk result (λ outcome. AreReports outcome.core plan.now outcome.reports.items) }
+    ensures ok { IfOk result (λ outcome. AreReports outcome.core plan.now outcome.reports.items) }
+    ensures cause { IfErr result (λ fault. fault ≢ JobFault.BadPlan) }
 {
     let run = run_all(rt, alloc, plan.jobs(), &manager, gate, turns);
     let mut core = manager.into_core();
     let reports = run?;
-    check_reports(alloc, plan, &mut core, reports.as_slice())?;
+    if !are_reports(alloc, plan, &mut core, reports.as_slice())? {
+        return Err(JobFault::Mismatch);
+    }
     Ok(JobsOutcome { core, reports })
 }
 
@@ -58,6 +61,7 @@ fn run_all<M: Manager, G: Gate, R: Threads + Wait + Clock + Sync>(
     turns: u64,
 ) -> Result<Vec<Report>, JobFault>
     requires { 1 ≤ turns }
+    ensures { IfErr result (λ fault. fault ≢ JobFault.BadPlan) }
 {
     let board = Board::new(alloc, jobs.len())?;
     let work = Work {

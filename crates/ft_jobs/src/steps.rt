@@ -1,12 +1,12 @@
 // What the steps of a job ask for.
-ghost use Rattle.std.specs.Prelude.{◌≡◌, true, IfOk, OnOk};
+ghost use Rattle.std.specs.Prelude.{◌≡◌, ◌≢◌, true, IfOk};
 ghost use Rattle.ft_jobs.specs.Asked.{is_call, descriptor_in, first_descriptor, opened_by, calls_behind, opened, opened_at, on_opened, asked_by, all_asked, AreAllOf, AreFirstOf, IsAtEnd, IsDone};
 
 use crate::equality::is_same_call;
 use crate::report::{CallReport, End, Report};
 use ft_base::Memory;
 use ft_calls::{Call, Reply};
-use ft_plan::{JobFault, Step};
+use ft_plan::Step;
 use std::alloc::Global;
 
 /// The call that a step asks for, where the steps opened these descriptors; none where it asks for none.
@@ -124,54 +124,62 @@ fn opened(alloc: Global, steps: &[Step], calls: &[CallReport]) -> Result<Vec<u64
     Ok(descriptors)
 }
 
-// Whether these calls are all that the steps ask for, where they opened these descriptors. Answers Mismatch where the
-// calls are not even the first of those.
-fn are_all_asked(
+// How much calls are of what steps ask for.
+#[derive(Clone, Copy, Debug, PartialEq, Eq)]
+enum Extent {
+    // All of it.
+    Whole,
+    // The first of it.
+    Front,
+    // They are other calls.
+    Other,
+}
+
+// How much these calls are of what the steps ask for, where they opened these descriptors.
+fn extent_of(
     alloc: Global,
     steps: &[Step],
     descriptors: &[u64],
     calls: &[CallReport],
-) -> Result<bool, JobFault>
-    ensures all { IfOk result (λ all. all ≡ true → AreAllOf (all_asked descriptors.now steps.now) calls.now) }
-    ensures first { OnOk result (AreFirstOf (all_asked descriptors.now steps.now) calls.now) }
+) -> Result<Extent, Memory>
+    ensures whole { IfOk result (λ extent. extent ≡ Extent.Whole → AreAllOf (all_asked descriptors.now steps.now) calls.now) }
+    ensures front { IfOk result (λ extent. extent ≢ Extent.Other → AreFirstOf (all_asked descriptors.now steps.now) calls.now) }
 {
     let mut made = 0;
     for step in steps {
         if let Some(call) = asked(alloc, step, descriptors)? {
             match calls.get(made) {
-                None => return Ok(false),
+                None => return Ok(Extent::Front),
                 Some(told) if is_same_call(&told.call, &call) => made += 1,
-                Some(_) => return Err(JobFault::Mismatch),
+                Some(_) => return Ok(Extent::Other),
             }
         }
     }
     if made < calls.len() {
-        return Err(JobFault::Mismatch);
+        return Ok(Extent::Other);
     }
-    Ok(true)
+    Ok(Extent::Whole)
 }
 
-/// Answers Mismatch unless the calls of a report are those of the steps of its job: all of them where its last step ended
-/// the job, and else the first of them.
-pub fn check_steps(alloc: Global, steps: &[Step], report: &Report) -> Result<(), JobFault>
-    ensures { OnOk result (IsDone steps.now report.now.end report.now.calls) }
+/// Whether the calls of a report are those of the steps of its job: all of them where its last step ended the job, and else
+/// the first of them.
+pub fn is_done(alloc: Global, steps: &[Step], report: &Report) -> Result<bool, Memory>
+    ensures { IfOk result (λ done. done ≡ true → IsDone steps.now report.now.end report.now.calls) }
 {
     let calls = report.calls.as_slice();
     let descriptors = opened(alloc, steps, calls)?;
-    let all = are_all_asked(alloc, steps, descriptors.as_slice(), calls)?;
-    if !is_at_end(steps, report.end, all) {
-        return Err(JobFault::Mismatch);
-    }
-    Ok(())
+    let extent = extent_of(alloc, steps, descriptors.as_slice(), calls)?;
+    Ok(is_at_end(steps, report.end, extent))
 }
 
-// Whether the last step is the one that this end names, if it names one, and all calls were made.
-fn is_at_end(steps: &[Step], end: End, all: bool) -> bool
-    ensures { result ≡ true → IsAtEnd steps.now end all }
+// Whether a job with calls to this extent may have ended so: where the end names a step, that is the last one, and all calls
+// were made.
+fn is_at_end(steps: &[Step], end: End, extent: Extent) -> bool
+    ensures { result ≡ true → IsAtEnd steps.now end extent }
 {
     match end {
-        End::Committed => all && matches!(steps.last(), Some(Step::Commit)),
-        End::Aborted => all && matches!(steps.last(), Some(Step::Abort)),
-        End::Waited | End::Refused(_) | End::NotStarted => true,
+        End::Committed => extent == Extent::Whole && matches!(steps.last(), Some(Step::Commit)),
+        End::Aborted => extent == Extent::Whole && matches!(steps.last(), Some(Step::Abort)),
+        End::Waited | End::Refused(_) | End::NotStarted => extent != Extent::Other,
     }
 }

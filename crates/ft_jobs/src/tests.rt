@@ -1,5 +1,7 @@
 // Plans run over a core behind a lock, and over managers that lie about it.
-use crate::{End, Gate, JobFault, OpenGate, Plan, Report, run_jobs};
+ghost use Rattle.std.specs.Prelude.{◌≤◌};
+
+use crate::{End, Gate, JobFault, JobsOutcome, OpenGate, Plan, Report, run_jobs};
 use ft_calls::{Call, Reply};
 use ft_core::{Core, Fault, Outcome, TxnId};
 use ft_path::Errno;
@@ -30,18 +32,25 @@ fn new_shared(alloc: Global) -> Result<Shared, Fail> {
     }
 }
 
-/// A gate at which two jobs meet before their second step: each waits until the other one has come there too.
+/// Two jobs, each of which asks for what the other one has made.
+const CROSSED: &[u8] = b"job a\nmkdir /x\nstat /y\ncommit\njob b\nmkdir /y\nstat /x\ncommit\n";
+
+/// A gate at which two jobs meet before their second step: each waits until the other one has come there too. The first job
+/// meets the last one, and so on inwards.
 #[derive(Drop)]
 struct Meeting {
-    /// For each job of the worked plan, whether it has come there.
+    last: u64,
+    /// For each job, whether it has come there.
     came: [AtomicU64; 4],
     /// How many have met the other one.
     met: AtomicU64,
 }
 
 impl Meeting {
-    fn new() -> Meeting {
+    /// Of the jobs up to this one, the last.
+    fn up_to(last: u64) -> Meeting {
         Meeting {
+            last,
             came: [
                 AtomicU64::new(0),
                 AtomicU64::new(0),
@@ -55,12 +64,12 @@ impl Meeting {
 
 impl Gate for Meeting {
     fn pass<R: Wait + Clock>(&self, rt: &R, job: u64, step: u64) {
-        if step != 2 || job > 3 {
+        if step != 2 || job > self.last || self.last > 3 {
             return;
         }
         self.came[job as usize].store(1, Ordering::SeqCst);
         for _ in 0..MEETING_TURNS {
-            if self.came[3 - job as usize].load(Ordering::SeqCst) == 1 {
+            if self.came[(self.last - job) as usize].load(Ordering::SeqCst) == 1 {
                 self.met.fetch_add(1, Ordering::SeqCst);
                 return;
             }
@@ -86,14 +95,50 @@ fn has_made(report: &Report) -> bool {
     report.end == End::Committed && made.reply == Reply::Done && is_told
 }
 
+/// Runs a plan with jobs that meet.
+fn run_meeting<R: Threads + Wait + Clock + Sync>(
+    rt: &R,
+    alloc: Global,
+    plan: &[u8],
+    gate: &Meeting,
+    turns: u64,
+) -> Result<JobsOutcome, Fail>
+    requires { 1 ≤ turns }
+{
+    let plan = Plan::read(alloc, plan)?;
+    Ok(run_jobs(rt, alloc, &plan, new_shared(alloc)?, gate, turns)?)
+}
+
 /// Whether the worked plan runs with jobs that meet at their second steps, and does all that it says.
 fn meets<R: Threads + Wait + Clock + Sync>(rt: &R, alloc: Global) -> Result<bool, Fail> {
-    let plan = Plan::read(alloc, WORKED)?;
-    let gate = Meeting::new();
-    let outcome = run_jobs(rt, alloc, &plan, new_shared(alloc)?, &gate, MEETING_TURNS)?;
+    let gate = Meeting::up_to(3);
+    let outcome = run_meeting(rt, alloc, WORKED, &gate, MEETING_TURNS)?;
     let rows = outcome.core.tree().rows()?.len();
     let have_made = outcome.reports.iter().all(|report| has_made(report));
     Ok(have_made && rows == 9 && gate.met.load(Ordering::SeqCst) == 4)
+}
+
+/// Whether a job has used up its turns behind its mkdir, or has committed, and found nothing of the other one.
+fn has_crossed(report: &Report) -> bool {
+    match (report.end, report.calls.as_slice()) {
+        (End::Waited, [made]) => made.reply == Reply::Done,
+        (End::Committed, [made, told]) => {
+            made.reply == Reply::Done && told.reply == Reply::Failed(Errno::ENOENT)
+        }
+        _ => false,
+    }
+}
+
+/// Whether, of two jobs that wait for each other, one uses up its turns at least, and the other may go on.
+fn crosses<R: Threads + Wait + Clock + Sync>(rt: &R, alloc: Global) -> Result<bool, Fail> {
+    let gate = Meeting::up_to(1);
+    let outcome = run_meeting(rt, alloc, CROSSED, &gate, FEW_TURNS)?;
+    let have_crossed = outcome.reports.iter().all(|report| has_crossed(report));
+    let has_waited = outcome
+        .reports
+        .iter()
+        .any(|report| report.end == End::Waited);
+    Ok(have_crossed && has_waited && gate.met.load(Ordering::SeqCst) == 2)
 }
 
 /// What a manager does otherwise than it says.
@@ -211,6 +256,12 @@ fn is_mismatch(told: &Result<Vec<End>, JobFault>) -> bool {
 #[test]
 fn jobs_side_by_side(rt: HostRuntime) -> Result<(), Fail> {
     assert!(rt; meets(&rt, rt.alloc())?);
+    Ok(())
+}
+
+#[test]
+fn turns_are_used_up(rt: HostRuntime) -> Result<(), Fail> {
+    assert!(rt; crosses(&rt, rt.alloc())?);
     Ok(())
 }
 

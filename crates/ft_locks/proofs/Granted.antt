@@ -1,5 +1,5 @@
 -- What callers see of a grant.
-use Rattle.std.proofs.Common.{◌≡◌, ◌⊎◌, inl, inr, ℕ, Bool, true, false, not, ◌&&◌, ◌||◌, ◌==◌, List, [], ◌∷◌, Option, Some, None, is_some, unwrap_or, refl, sym, ap, ◌∙◌}
+use Rattle.std.proofs.Common.{◌≡◌, ◌⊎◌, inl, inr, ℕ, Bool, true, false, not, ◌&&◌, ◌||◌, ◌==◌, List, [], ◌∷◌, is_some, refl, sym, ap, ◌∙◌}
 use Rattle.std.proofs.lemmas.Bool.{false≢true, eqb-true}
 use Rattle.std.specs.FinMap as finite
 use Rattle.ft_base.specs.Chains.{Lists}
@@ -11,29 +11,13 @@ use Rattle.ft_calls.specs.declared.call.Access.{Access}
 use Rattle.ft_locks.specs.declared.line.LockKind.{LockKind}
 use Rattle.ft_locks.specs.declared.line.LockKind.TheVariants.{Held, Retained}
 use Rattle.ft_locks.specs.declared.line.LockLine.{LockLine}
-use Rattle.ft_locks.specs.declared.marks.Marks.{Marks}
-use Rattle.ft_locks.specs.Marks.{no_marks, has_mark, is_marked_of}
+use Rattle.ft_locks.specs.Marks.{is_marked_of}
 use Rattle.ft_locks.specs.Cells.{Cells, marks_at, let_go_owner}
-use Rattle.ft_locks.specs.Holdings.{has_place, marks_or_none, AreOpenStill}
+use Rattle.ft_locks.specs.Holdings.{has_place, is_given, AreOpenStill}
 use Rattle.ft_locks.specs.Locks.{is_held, same_mode, is_accessed, has_access, AreGranted}
 use Rattle.ft_locks.specs.Seen.{has_mark_of, has_line, is_marked_at, table_of, IsKept}
 use Rattle.ft_locks.proofs.Joining.{apart_test, itself}
 use Rattle.ft_locks.proofs.Tables.{lines-seen, let_go-seen, opened-seen, marked_by, marked_one, same_truth, same_lines, same_cells_set, same_numbers, line, line_of_mark, mark_of_line}
-
--- a lock is read off the marks, whether there is a place or none
-line_or_none : (o : Option Marks) (l : LockLine) → has_mark_of o l ≡ has_mark (unwrap_or o no_marks) l.mode l.kind
-line_or_none (Some x) l = refl
-line_or_none None l = by_mode l.mode l.kind
-  where
-    by_mode : (mode : Mode) (kind : LockKind) → false ≡ has_mark no_marks mode kind
-    by_mode ReadMode Held = refl
-    by_mode ReadMode Retained = refl
-    by_mode WriteMode Held = refl
-    by_mode WriteMode Retained = refl
-
-pub same_line_or_none : (m n : Cells) → ((c : Cell) (u : ℕ) → marks_or_none n c u ≡ marks_or_none m c u) → (l : LockLine) → has_line n l ≡ has_line m l
-same_line_or_none m n same l =
-    line_or_none (marks_at n l.cell l.owner) l ∙ ap (λ (x : Marks). has_mark x l.mode l.kind) (same l.cell l.owner) ∙ sym (line_or_none (marks_at m l.cell l.owner) l)
 
 -- some access is of a cell that is accessed, in its mode
 pub some_access : (xs : List Access) (c : Cell) → is_accessed xs c ≡ true → (mode : Mode) × (has_access xs c mode ≡ true)
@@ -79,22 +63,35 @@ or_second : (a b : Bool) → b ≡ true → (a || b) ≡ true
 or_second true b e = refl
 or_second false b e = e
 
--- Room was made, and then the locks given.
-module _ (m k n : Cells) (old mid new : Lists Cell) (txn : ℕ) (xs : List Access) (is_txn : (txn == let_go_owner) ≡ false)
-    (room : (c : Cell) (u : ℕ) → marks_or_none k c u ≡ marks_or_none m c u)
-    (room_places : (c : Cell) (u : ℕ) → has_place k c u ≡ (has_place m c u || ((u == txn) && is_accessed xs c)))
-    (lines : (l : LockLine) → has_line n l ≡ (has_line k l || (has_place k l.cell l.owner && is_held l.kind && (l.owner == txn) && has_access xs l.cell l.mode)))
-    (places : (c : Cell) (u : ℕ) → has_place n c u ≡ has_place k c u)
-    (still : AreOpenStill old mid) (new_is : new ≡ mid) (kept : IsKept m old) where
-  granted_line : (l : LockLine) → has_line n l ≡ (has_line m l || (is_held l.kind && (l.owner == txn) && has_access xs l.cell l.mode))
-  granted_line l =
-      lines l ∙ ap (λ b. b || (has_place k l.cell l.owner && is_held l.kind && (l.owner == txn) && has_access xs l.cell l.mode)) (same_line_or_none m k room l)
-      ∙ ap (λ b. has_line m l || b) (absorb (has_place k l.cell l.owner) (is_held l.kind) (l.owner == txn) (has_access xs l.cell l.mode)
-      (λ own at. room_places l.cell l.owner ∙ or_second (has_place m l.cell l.owner) ((l.owner == txn) && is_accessed xs l.cell) (λ i. own i && accessed_if xs l.cell l.mode at i)))
+-- Places were made with their locks, and then those given that were lacking.
+pub given_after : (m k n : Cells) (txn : ℕ) (xs : List Access)
+    → ((l : LockLine) → (has_line k l || is_given txn xs l) ≡ (has_line m l || is_given txn xs l))
+    → ((c : Cell) (u : ℕ) → has_place k c u ≡ (has_place m c u || ((u == txn) && is_accessed xs c)))
+    → ((l : LockLine) → has_line n l ≡ (has_line k l || (has_place k l.cell l.owner && is_held l.kind && (l.owner == txn) && has_access xs l.cell l.mode)))
+    → (l : LockLine) → has_line n l ≡ (has_line m l || is_given txn xs l)
+given_after m k n txn xs made places lines l =
+    lines l
+    ∙ ap (λ b. has_line k l || b) (absorb (has_place k l.cell l.owner) (is_held l.kind) (l.owner == txn) (has_access xs l.cell l.mode)
+    (λ own at. places l.cell l.owner ∙ or_second (has_place m l.cell l.owner) ((l.owner == txn) && is_accessed xs l.cell) (λ i. own i && accessed_if xs l.cell l.mode at i)))
+    ∙ made l
 
-  granted_place : (c : Cell) (u : ℕ) → has_place n c u ≡ (has_place m c u || ((u == txn) && is_accessed xs c))
-  granted_place c u = places c u ∙ room_places c u
+-- None was lacking.
+pub given_at_once : (m k : Cells) (txn : ℕ) (xs : List Access)
+    → ((l : LockLine) → (has_line k l || is_given txn xs l) ≡ (has_line m l || is_given txn xs l))
+    → ((l : LockLine) → is_given txn xs l ≡ true → has_line k l ≡ true)
+    → (l : LockLine) → has_line k l ≡ (has_line m l || is_given txn xs l)
+given_at_once m k txn xs made all l = covered (has_line k l) (is_given txn xs l) (all l) ∙ made l
+  where
+    covered : (a b : Bool) → (b ≡ true → a ≡ true) → a ≡ (a || b)
+    covered true b there = refl
+    covered false true there = there refl
+    covered false false there = refl
 
+-- A transaction has the locks of these accesses now.
+module _ (m n : Cells) (old new : Lists Cell) (txn : ℕ) (xs : List Access) (is_txn : (txn == let_go_owner) ≡ false)
+    (granted_line : (l : LockLine) → has_line n l ≡ (has_line m l || is_given txn xs l))
+    (granted_place : (c : Cell) (u : ℕ) → has_place n c u ≡ (has_place m c u || ((u == txn) && is_accessed xs c)))
+    (still : AreOpenStill old new) (kept : IsKept m old) where
   -- who was marked is marked
   marked_still : (c : Cell) (u : ℕ) → is_marked_of (marks_at m c u) ≡ true → is_marked_of (marks_at n c u) ≡ true
   marked_still c u marked =
@@ -146,13 +143,13 @@ module _ (m k n : Cells) (old mid new : Lists Cell) (txn : ℕ) (xs : List Acces
       or_none false = refl
 
   granted_opened : (table_of n new).opened ≡ (table_of m old).opened
-  granted_opened = same_numbers _ _ (λ u. opened-seen n new u ∙ ap (λ x. not (u == let_go_owner) && is_some (finite.get x u)) new_is ∙ ap (λ b. not (u == let_go_owner) && b) (still u) ∙ sym (opened-seen m old u))
+  granted_opened = same_numbers _ _ (λ u. opened-seen n new u ∙ ap (λ b. not (u == let_go_owner) && b) (still u) ∙ sym (opened-seen m old u))
 
   pub granted_kept : IsKept n new
   granted_kept = record {
     marked = λ c u is_real place. of_place c u is_real (either (has_place m c u) ((u == txn) && is_accessed xs c) (sym (granted_place c u) ∙ place));
     unmarked = λ c. same_truth (is_marked_of (marks_at n c let_go_owner)) false (λ marked. of_zero c (marked_from c let_go_owner marked)) (λ e. absurd (false≢true e));
-    ready = ap (λ x. is_some (finite.get x let_go_owner)) new_is ∙ still let_go_owner ∙ kept.ready;
+    ready = still let_go_owner ∙ kept.ready;
   }
     where
       of_place : (c : Cell) (u : ℕ) → (u == let_go_owner) ≡ false → (has_place m c u ≡ true) ⊎ (((u == txn) && is_accessed xs c) ≡ true) → is_marked_of (marks_at n c u) ≡ true

@@ -1,5 +1,5 @@
 -- Places on cells, found both by cell and by owner.
-use Rattle.std.specs.Prelude.{◌≡◌, ◌==◌, ◌&&◌, ℕ, Bool, false, cond, is_some, unwrap_or, take, Option, None, List, [], ◌∷◌, refl}
+use Rattle.std.specs.Prelude.{◌≡◌, ◌==◌, ◌&&◌, ℕ, Bool, false, cond, is_some, take, Option, None, List, [], ◌∷◌, refl}
 use Rattle.std.specs.List.{list_any}
 use Rattle.std.specs.FinMap as finite
 use Rattle.std.specs.Coded.{Coded, code_by, coded×}
@@ -7,9 +7,11 @@ use Rattle.ft_base.specs.Chains.{Lists, coded_lists, list_in}
 use Rattle.ft_tree.specs.declared.cell.Cell.{Cell}
 use Rattle.ft_tree.specs.contracts.cell.Cell as cell
 use Rattle.ft_tree.specs.CellOrder.{same_cell}
+use Rattle.ft_calls.specs.declared.call.Access.{Access}
+use Rattle.ft_locks.specs.declared.line.LockLine.{LockLine}
 use Rattle.ft_locks.specs.declared.marks.Marks.{Marks}
-use Rattle.ft_locks.specs.Marks.{no_marks}
 use Rattle.ft_locks.specs.Cells.{Cells, coded_cells, marks_at}
+use Rattle.ft_locks.specs.Locks.{is_held, has_access}
 
 -- for each cell its owners, and for each owner its cells
 pub record Held : Type 0 where
@@ -49,6 +51,6 @@ popped m owner = popped_of m owner (list_in m owner)
 abbrev pub after_back : ℕ → ℕ → Cells → Lists Cell → Cell → ℕ → Option Marks
 after_back count owner m lists c u = cond ((u == owner) && list_any (same_cell c) (take count (list_in lists owner))) None (marks_at m c u)
 
--- an owner's marks; where it has no place, none
-abbrev pub marks_or_none : Cells → Cell → ℕ → Marks
-marks_or_none m c u = unwrap_or (marks_at m c u) no_marks
+-- the line is of a lock that the owner holds by one of these accesses
+abbrev pub is_given : ℕ → List Access → LockLine → Bool
+is_given owner accesses l = is_held l.kind && (l.owner == owner) && has_access accesses l.cell l.mode

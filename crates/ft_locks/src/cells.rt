@@ -6,7 +6,7 @@ ghost use Rattle.std.specs.Borrow.{sem};
 ghost use Rattle.ft_tree.specs.declared.cell.Cell.TheVariants.{Entry};
 ghost use Rattle.ft_tree.specs.declared.cell.Cell.{Cell};
 ghost use Rattle.ft_tree.specs.CellOrder.{same_cell};
-ghost use Rattle.ft_locks.specs.Marks.{no_marks, with_marks};
+ghost use Rattle.ft_locks.specs.Marks.{with_marks};
 ghost use Rattle.ft_locks.specs.Cells.{is_among, is_at, marks_at, passed_to, after_hand};
 ghost use Rattle.ft_locks.specs.Listing.{AreAdded};
 ghost use Rattle.ft_locks.specs.Seen.{has_line};
@@ -97,17 +97,17 @@ impl LockedCells {
         list_cells(lines, &self.cells)
     }
 
-    /// Gives an owner a place on a cell, with no lock yet. Want of memory changes nothing.
-    pub(crate) fn add(&mut self, cell: &Cell, owner: u64) -> Result<(), Memory>
+    /// Gives an owner a place on a cell, with these locks. Want of memory changes nothing.
+    pub(crate) fn add(&mut self, cell: &Cell, owner: u64, marks: Marks) -> Result<(), Memory>
         requires { marks_at self.old cell.now owner ≡ None }
-        ensures ok { OnOk result ((c : Cell) (u : ℕ) → marks_at self.new c u ≡ cond (is_at cell.now owner c u) (Some no_marks) (marks_at self.old c u)) }
+        ensures ok { OnOk result ((c : Cell) (u : ℕ) → marks_at self.new c u ≡ cond (is_at cell.now owner c u) (Some marks) (marks_at self.old c u)) }
         ensures err { OnErr result (self.new ≡ self.old) }
     {
         if let Some(holders) = self.get_mut(cell) {
-            return holders.add(owner);
+            return holders.add(owner, marks);
         }
         let mut holders = Holders::new(self.alloc);
-        holders.add(owner)?;
+        holders.add(owner, marks)?;
         self.insert(cell.clone()?, holders)
     }
 

@@ -2,7 +2,7 @@
 ghost use Rattle.std.specs.Prelude.{◌≡◌, ◌≢◌, ℕ, true, false, OnOk, OnErr, IsSome, IsTrue};
 ghost use Rattle.std.specs.FinMap as finite;
 ghost use Rattle.std.specs.List.{list_any};
-ghost use Rattle.ft_locks.specs.Marks.{no_marks, is_marked, is_marked_of};
+ghost use Rattle.ft_locks.specs.Marks.{is_marked, is_marked_of};
 ghost use Rattle.ft_locks.specs.Holders.{place_in};
 
 use crate::marks::Marks;
@@ -98,13 +98,12 @@ impl Holders {
         is_any_marked(self.list.as_slice())
     }
 
-    /// Gives an owner a place, with no lock. Want of memory changes nothing.
-    pub(crate) fn add(&mut self, owner: u64) -> Result<(), Memory>
+    /// Gives an owner a place, with these locks. Want of memory changes nothing.
+    pub(crate) fn add(&mut self, owner: u64, marks: Marks) -> Result<(), Memory>
         requires { finite.get self.old owner ≡ None }
-        ensures ok { OnOk result (self.new ≡ finite.insert self.old owner no_marks) }
+        ensures ok { OnOk result (self.new ≡ finite.insert self.old owner marks) }
         ensures err { OnErr result (self.new ≡ self.old) }
     {
-        let marks = Marks::none();
         self.list.push(Holding { owner, marks })?;
         Ok(())
     }

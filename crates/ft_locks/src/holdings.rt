@@ -1,17 +1,17 @@
 // The places of owners on cells, found both by cell and by owner.
-ghost use Rattle.std.specs.Prelude.{◌≡◌, ◌≢◌, ◌+◌, ℕ, cond, true, false, not, List, [], ◌∷◌, drop, length, None, Some, IsSome, IsTrue, is_some, IfSome, IfNone, OnSome, OnOk, OnErr};
+ghost use Rattle.std.specs.Prelude.{◌≡◌, ◌≢◌, ◌+◌, ℕ, cond, true, false, not, List, [], ◌∷◌, drop, length, None, Some, IsSome, IsTrue, is_some, IfSome, IfNone, OnSome, IfOk, OnOk, OnErr};
 ghost use Rattle.std.specs.Option.{option_map, option_copied};
 ghost use Rattle.std.specs.FinMap as finite;
 ghost use Rattle.ft_base.specs.Chains.{list_in, IsOpen};
 ghost use Rattle.ft_tree.specs.declared.cell.Cell.{Cell};
 ghost use Rattle.ft_tree.specs.declared.cell.Cell.TheVariants.{Entry};
-ghost use Rattle.ft_locks.specs.Marks.{no_marks, with_marks};
+ghost use Rattle.ft_locks.specs.Marks.{with_marks};
 ghost use Rattle.ft_locks.specs.Cells.{is_among, is_at, marks_at, after_hand};
 ghost use Rattle.ft_locks.specs.Holdings.{AreOpenStill, popped};
 
 use crate::cells::LockedCells;
 use crate::holders::Holders;
-use crate::line::LockLine;
+use crate::line::{LockKind, LockLine};
 use crate::marks::Marks;
 use ft_base::{Chains, Memory};
 use ft_calls::Access;
@@ -64,7 +64,7 @@ impl Holdings {
     ghost use Rattle.ft_locks.specs.Locks.{is_held, is_accessed, has_access};
     ghost use Rattle.ft_locks.specs.Listing.{AreAdded};
     ghost use Rattle.ft_locks.specs.Seen.{has_line};
-    ghost use Rattle.ft_locks.specs.Holdings.{has_place, after_back, marks_or_none};
+    ghost use Rattle.ft_locks.specs.Holdings.{has_place, after_back, is_given};
 
     /// No owner and no place. Takes no memory.
     pub(crate) fn new(alloc: Global) -> Holdings
@@ -123,17 +123,17 @@ impl Holdings {
         self.cells.list(lines)
     }
 
-    /// Gives an owner a place on a cell, with no lock yet, in front of its others. Want of memory
+    /// Gives an owner a place on a cell, with these locks, in front of its others. Want of memory
     /// changes nothing.
-    pub(crate) fn add(&mut self, owner: u64, cell: &Cell) -> Result<(), Memory>
+    pub(crate) fn add(&mut self, owner: u64, cell: &Cell, marks: Marks) -> Result<(), Memory>
         requires open { IsOpen self.old.lists owner }
         requires absent { marks_at self.old.cells cell.now owner ≡ None }
-        ensures ok { OnOk result ((c : Cell) (u : ℕ) → marks_at self.new.cells c u ≡ cond (is_at cell.now owner c u) (Some no_marks) (marks_at self.old.cells c u)) }
+        ensures ok { OnOk result ((c : Cell) (u : ℕ) → marks_at self.new.cells c u ≡ cond (is_at cell.now owner c u) (Some marks) (marks_at self.old.cells c u)) }
         ensures list { OnOk result (self.new.lists ≡ finite.insert self.old.lists owner (cell.now ∷ list_in self.old.lists owner)) }
         ensures err { OnErr result (self.new ≡ self.old) }
     {
         self.chains.push_front(owner, cell.clone()?)?;
-        let added = self.cells.add(cell, owner);
+        let added = self.cells.add(cell, owner, marks);
         if added.is_err() {
             discard_front(&mut self.chains, owner);
         }
@@ -197,14 +197,11 @@ impl Holdings {
         while self.hand_front(from, to) {}
     }
 
-    /// Whether an owner has a place on a cell.
-    pub(crate) fn has_place(&self, owner: u64, cell: &Cell) -> bool
-        ensures { result ≡ has_place self.now.cells cell.now owner }
+    /// The locks of an owner on a cell, if it has a place there.
+    pub(crate) fn marks(&self, owner: u64, cell: &Cell) -> Option<Marks>
+        ensures { result ≡ marks_at self.now.cells cell.now owner }
     {
-        match self.holders(cell) {
-            Some(holders) => holders.get(owner).is_some(),
-            None => false,
-        }
+        self.holders(cell)?.get(owner)
     }
 
     /// Takes out so many of an owner's newest places, as far as it has them. Takes no memory.
@@ -218,27 +215,31 @@ impl Holdings {
         }
     }
 
-    /// Gives an owner a place on each cell that is accessed, with no lock yet where it had none.
-    /// Want of memory changes nothing.
-    pub(crate) fn reserve(&mut self, owner: u64, accesses: &[Access]) -> Result<(), Memory>
+    /// Gives an owner a place on each cell that is accessed, with the lock of the access where it had
+    /// none. Answers whether it has all these locks now: one on a cell where it had a place may be
+    /// lacking still. Want of memory changes nothing.
+    pub(crate) fn reserve(&mut self, owner: u64, accesses: &[Access]) -> Result<bool, Memory>
         requires { IsOpen self.old.lists owner }
-        ensures same { OnOk result ((c : Cell) (u : ℕ) → marks_or_none self.new.cells c u ≡ marks_or_none self.old.cells c u) }
+        ensures lines { OnOk result ((l : LockLine) → (has_line self.new.cells l || is_given owner accesses.now l) ≡ (has_line self.old.cells l || is_given owner accesses.now l)) }
+        ensures all { IfOk result (λ has_all. has_all ≡ true → (l : LockLine) → is_given owner accesses.now l ≡ true → has_line self.new.cells l ≡ true) }
         ensures places { OnOk result ((c : Cell) (u : ℕ) → has_place self.new.cells c u ≡ (has_place self.old.cells c u || ((u == owner) && is_accessed accesses.now c))) }
         ensures err { OnErr result ((c : Cell) (u : ℕ) → marks_at self.new.cells c u ≡ marks_at self.old.cells c u) }
         ensures still { AreOpenStill self.old.lists self.new.lists }
     {
+        let mut has_all = true;
         let mut made = 0;
         for access in accesses {
-            if self.has_place(owner, &access.cell) {
+            if let Some(own) = self.marks(owner, &access.cell) {
+                has_all &= own.has(access.mode, LockKind::Held);
                 continue;
             }
-            if let Err(refused) = self.add(owner, &access.cell) {
+            if let Err(refused) = self.add(owner, &access.cell, Marks::held(access.mode)) {
                 self.take_back(owner, made);
                 return Err(refused);
             }
             made += 1;
         }
-        Ok(())
+        Ok(has_all)
     }
 
     /// Gives an owner the locks of these accesses, wherever it has a place. Takes no memory.

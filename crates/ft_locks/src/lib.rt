@@ -14,8 +14,6 @@ mod line;
 mod listing;
 mod locks;
 mod marks;
-#[cfg(test)]
-mod tests;
 
 pub use line::{LockKind, LockLine};
 pub use locks::Locks;

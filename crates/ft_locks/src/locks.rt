@@ -93,8 +93,10 @@ impl Locks {
         ensures ok { OnOk result (AreGranted self.old self.new txn accesses.now) }
         ensures err { OnErr result (self.new ≡ self.old) }
     {
-        self.holdings.reserve(txn.0, accesses)?;
-        self.holdings.mark_all(txn.0, accesses);
+        let has_all = self.holdings.reserve(txn.0, accesses)?;
+        if !has_all {
+            self.holdings.mark_all(txn.0, accesses);
+        }
         Ok(())
     }
 

@@ -6,7 +6,8 @@ ghost use Rattle.ft_outcome.specs.Runs.{IsNoPlan, IsTextOfPlan, RunsPlan, StopsP
 use crate::text::OutcomeText;
 use ft_base::Memory;
 use ft_core::Core;
-use ft_jobs::{Job, JobFault, JobsOutcome, OpenGate, Plan, run_jobs};
+use ft_jobs::{Job, JobFault, JobsOutcome, Plan};
+use ft_progress::run_shown;
 use ft_script::write_out;
 use ft_shared::Shared;
 use std::alloc::Global;
@@ -39,24 +40,25 @@ impl From<JobFault> for RunFault {
 }
 
 /// Reads a plan, runs its jobs on a new core, each in a thread of its own, and writes what they came to. A call of theirs
-/// asks at most so many times.
+/// asks at most so many times. How far they have come is shown on a screen while they run, if there is one.
 ///
 /// A fault ends the run.
 /// - Jobs: the bytes are no plan, or memory was wanted, a thread could not be started, or what the jobs report is not what
 ///   happened. Nothing was written.
 /// - Write: a write failed, was interrupted or took nothing. A part of the text was written.
-pub fn run_plan<R: Threads + Wait + Clock + Sync, W: Write>(
+pub fn run_plan<R: Threads + Wait + Clock + Sync, S: Write + Send + Drop, W: Write>(
     rt: &R,
     alloc: Global,
     plan: &[u8],
     turns: u64,
+    screen: Option<S>,
     writer: &mut W,
 ) -> Result<(), RunFault>
     requires { 1 ≤ turns }
     ensures ok { OnOk result (RunsPlan plan.now (W.contents writer.old) (W.contents writer.new)) }
     ensures fault { IfErr result (λ fault. StopsPlan fault plan.now (W.contents writer.old) (W.contents writer.new)) }
 {
-    let text = text_of(rt, alloc, plan, turns)?;
+    let text = text_of(rt, alloc, plan, turns, screen)?;
     match write_out(writer, text.as_bytes()) {
         Ok(()) => Ok(()),
         Err(_) => Err(RunFault::Write),
@@ -64,18 +66,19 @@ pub fn run_plan<R: Threads + Wait + Clock + Sync, W: Write>(
 }
 
 // Runs the jobs of a plan, and tells what they came to.
-fn text_of<R: Threads + Wait + Clock + Sync>(
+fn text_of<R: Threads + Wait + Clock + Sync, S: Write + Send + Drop>(
     rt: &R,
     alloc: Global,
     plan: &[u8],
     turns: u64,
+    screen: Option<S>,
 ) -> Result<String, JobFault>
     requires { 1 ≤ turns }
     ensures ok { IfOk result (λ text. IsTextOfPlan plan.now (string_bytes text)) }
     ensures bad_plan { IsErrOf result JobFault.BadPlan → IsNoPlan plan.now }
 {
     let plan = Plan::read(alloc, plan)?;
-    let outcome = run_anew(rt, alloc, &plan, turns)?;
+    let outcome = run_anew(rt, alloc, &plan, turns, screen)?;
     Ok(told(alloc, plan.jobs(), &outcome)?)
 }
 
@@ -94,11 +97,12 @@ fn told(alloc: Global, jobs: &[Job], outcome: &JobsOutcome) -> Result<String, Me
 }
 
 // Runs the jobs of a plan on a new core.
-fn run_anew<R: Threads + Wait + Clock + Sync>(
+fn run_anew<R: Threads + Wait + Clock + Sync, S: Write + Send + Drop>(
     rt: &R,
     alloc: Global,
     plan: &Plan,
     turns: u64,
+    screen: Option<S>,
 ) -> Result<JobsOutcome, JobFault>
     requires { 1 ≤ turns }
     ensures ok { IfOk result (λ outcome. AreReports outcome.core plan.now outcome.reports.items) }
@@ -108,11 +112,7 @@ fn run_anew<R: Threads + Wait + Clock + Sync>(
         return Err(JobFault::Memory);
     };
     match Shared::new(core) {
-        Ok(shared) => match run_jobs(rt, alloc, plan, shared, &OpenGate, turns) {
-            // The plan was read before. (No clause of `run_jobs` says that it does not answer this.)
-            Err(JobFault::BadPlan) => Err(JobFault::Mismatch),
-            run => run,
-        },
+        Ok(shared) => run_shown(rt, alloc, plan, shared, turns, screen),
         Err(_) => unreachable!(),
     }
 }

@@ -10,8 +10,6 @@ mod name;
 mod names;
 mod path;
 mod slashes;
-#[cfg(test)]
-mod tests;
 
 pub use errno::Errno;
 pub use name::Name;

@@ -1,5 +1,5 @@
 -- What the kinds of an error say of the choice.
-use Rattle.std.proofs.Common.{◌≡◌, ◌⊎◌, ◌∙◌, ℕ, true, List, [], Option, None, Some, Result, Ok, codes, inl, inr, refl, sym, ap, subst}
+use Rattle.std.proofs.Common.{◌≡◌, ◌⊎◌, ◌∙◌, ℕ, Bool, true, false, List, [], Option, None, Some, Result, Ok, codes, inl, inr, refl, sym, ap, subst}
 use Rattle.std.specs.Prelude.{option_map, Box}
 use Rattle.std.specs.Str.Parse.{ParsesUnsigned, digits_value, without_leading_plus}
 use Rattle.clap.specs.Matches.{ReadsOne}
@@ -15,7 +15,7 @@ use Rattle.clap.specs.declared.error.kind.ErrorKind.TheVariants.{OutOfMemory}
 use Rattle.clap.proofs.OnLiterals.{clap_on_literals}
 use Rattle.ft_run.specs.declared.choose.Choice.{Choice}
 use Rattle.ft_run.specs.declared.choose.Choice.TheVariants.{Play, Dot, Jobs, Help, Usage, Fault}
-use Rattle.ft_run.specs.CommandLine.{ChoiceOf, ErrorChoice, Met, Names, ReadChoice, program}
+use Rattle.ft_run.specs.CommandLine.{ChoiceOf, ErrorChoice, IsFlag, Met, Names, ReadChoice, program}
 
 pub is_free : is_simple_and_free program ≡ true
 unfolding clap_on_literals
@@ -46,7 +46,7 @@ choice_of_matches words m choice free rows h = go choice (subst (λ met. ReadCho
     go : (choice : Choice) → ReadChoice (subcommand_of program words) choice → ChoiceOf words choice
     go Play h = (free, h)
     go Dot h = (free, h)
-    go (Jobs file turns) h = (free, h)
+    go (Jobs file turns quiet) h = (free, h)
     go (Help text) h = absurd h
     go (Usage text) h = absurd h
     go Fault h = tt
@@ -54,7 +54,7 @@ choice_of_matches words m choice free rows h = go choice (subst (λ met. ReadCho
 pub choice_of_error : (words : List Text) (kind : ErrorKind) (choice : Choice) → (kind ≡ OutOfMemory) ⊎ IsAmong kind (fault_of program words) → ErrorChoice kind choice → ChoiceOf words choice
 choice_of_error words kind Play among h = absurd h
 choice_of_error words kind Dot among h = absurd h
-choice_of_error words kind (Jobs file turns) among h = absurd h
+choice_of_error words kind (Jobs file turns quiet) among h = absurd h
 choice_of_error words kind (Help text) (inl is) h = cc
 choice_of_error words kind (Help text) (inr among) h = subst (λ k. IsAmong k (fault_of program words)) h among
 choice_of_error words kind (Usage text) (inl is) h = absurd (h.1 is)
@@ -73,3 +73,14 @@ turns_read E G f read turns only none some is = go (one_text f (codes "turns")) 
     go : (text : Option Text) → one_text f (codes "turns") ≡ text → (digits : Text) × (one_of (codes "turns") (rows_of f) ≡ Some digits) × (turns ≡ digits_value 10 (without_leading_plus digits))
     go None found = let no = none found in cc
     go (Some text) found = (text, sym (one_text-rows f (codes "turns")) ∙ found, (only text (Ok turns) (subst (ReadsOne G text) is (some text found))).1)
+
+-- ---- flags
+
+-- a flag is what was found of it
+pub flag_read : (f : Found) (id : Text) (flag : Bool) → (one_text f id ≡ None → flag ≡ false) → (one_text f id ≡ Some (codes "true") → flag ≡ true) → (one_text f id ≡ Some (codes "false") → flag ≡ false)
+    → IsFlag (one_of id (rows_of f)) flag
+flag_read f id flag none stands falls = subst (λ (found : Option Text). IsFlag found flag) (one_text-rows f id) (go (one_text f id) refl)
+  where
+    go : (found : Option Text) → one_text f id ≡ found → IsFlag found flag
+    go None is = none is
+    go (Some text) is = ((λ (same : text ≡ codes "true"). stands (is ∙ ap Some same)), (λ (same : text ≡ codes "false"). falls (is ∙ ap Some same)))

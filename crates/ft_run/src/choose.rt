@@ -1,11 +1,11 @@
 // What a command line asks for.
-ghost use Rattle.std.specs.Prelude.{◌≡◌, IfOk, IfSome, map, string_bytes};
-ghost use Rattle.clap.specs.Words.{app_of, found_of, kind_of, rows_of, subcommand_rows_of};
-ghost use Rattle.ft_run.specs.CommandLine.{ChoiceOf, ErrorChoice, HasNoGlobals, ReadChoice, TellsJobs, jobs, program};
+ghost use Rattle.std.specs.Prelude.{◌≡◌, IfOk, IfSome, false, map, string_bytes};
+ghost use Rattle.clap.specs.Words.{app_of, found_of, kind_of, rows_of, rule_of, subcommand_rows_of};
+ghost use Rattle.ft_run.specs.CommandLine.{ChoiceOf, ErrorChoice, HasNoGlobals, ReadChoice, TellsJobs, file_rule, jobs, program, quiet_rule};
 
 use clap::builder::ValueParser;
 use clap::error::ErrorKind;
-use clap::{Arg, ArgMatches, Command, Error};
+use clap::{Arg, ArgAction, ArgMatches, Command, Error};
 use std::alloc::{AllocError, Global};
 use std::convert::AsStr;
 
@@ -16,8 +16,13 @@ pub enum Choice {
     Play,
     /// Draw the last report on who waits for whom.
     Dot,
-    /// Run the jobs of the plan in a file. A call of theirs asks at most so many times, at least once.
-    Jobs { file: String, turns: u64 },
+    /// Run the jobs of the plan in a file. A call of theirs asks at most so many times, at least once. How far they have come
+    /// is not shown where it is to be quiet.
+    Jobs {
+        file: String,
+        turns: u64,
+        quiet: bool,
+    },
     /// Print this help to the standard output, and end with status 0.
     Help(String),
     /// Print this to the standard error, and end with status 2: the words ask for nothing that
@@ -62,15 +67,15 @@ fn choice_of(alloc: Global, matches: &ArgMatches) -> Choice
         return Choice::Fault;
     };
     match asked_of_jobs(alloc, found) {
-        Some((file, turns)) => Choice::Jobs { file, turns },
+        Some((file, turns, quiet)) => Choice::Jobs { file, turns, quiet },
         None => Choice::Fault,
     }
 }
 
-// The file and the turns that `jobs` was given. There may be no memory for the name of the file. (The crate that reads the
+// The file and the turns that `jobs` was given, and whether it is to be quiet. There may be no memory for the name of the file. (The crate that reads the
 // words lets no 0 through.)
-fn asked_of_jobs(alloc: Global, found: &ArgMatches) -> Option<(String, u64)>
-    ensures { IfSome result (λ asked. TellsJobs (rows_of (found_of found.now)) (string_bytes asked.0) asked.1) }
+fn asked_of_jobs(alloc: Global, found: &ArgMatches) -> Option<(String, u64, bool)>
+    ensures { IfSome result (λ asked. TellsJobs (rows_of (found_of found.now)) (string_bytes asked.0) asked.1 asked.2) }
 {
     let file = found.get_str("file")?;
     let turns = found.get_one::<u64>("turns")?;
@@ -78,7 +83,7 @@ fn asked_of_jobs(alloc: Global, found: &ArgMatches) -> Option<(String, u64)>
         return None;
     }
     let file = String::from_str(alloc, file).ok()?;
-    Some((file, turns))
+    Some((file, turns, found.get_flag("quiet")))
 }
 
 // The command line of the program.
@@ -106,10 +111,6 @@ fn jobs_command<'a>(alloc: Global) -> Result<Command<'a>, AllocError>
     ensures app { IfOk result (λ command. app_of command ≡ jobs) }
     ensures local { IfOk result HasNoGlobals }
 {
-    let file = Arg::new(alloc, "file")
-        .required(true)
-        .value_name("FILE")
-        .help("The plan");
     let turns = Arg::new(alloc, "turns")
         .long("turns")
         .value_name("N")
@@ -118,8 +119,31 @@ fn jobs_command<'a>(alloc: Global) -> Result<Command<'a>, AllocError>
         .help("How often a call that waits asks at most");
     Command::new(alloc, "jobs")
         .about("Runs the jobs of a plan in threads, and prints what they came to")
-        .arg(file)?
-        .arg(turns)
+        .arg(file_arg(alloc))?
+        .arg(turns)?
+        .arg(quiet_arg(alloc))
+}
+
+// The plan of it.
+fn file_arg<'a>(alloc: Global) -> Arg<'a>
+    ensures rule { rule_of result ≡ file_rule }
+    ensures local { result.global ≡ false }
+{
+    Arg::new(alloc, "file")
+        .required(true)
+        .value_name("FILE")
+        .help("The plan")
+}
+
+// The flag that leaves out how far the jobs have come.
+fn quiet_arg<'a>(alloc: Global) -> Arg<'a>
+    ensures rule { rule_of result ≡ quiet_rule }
+    ensures local { result.global ≡ false }
+{
+    Arg::new(alloc, "quiet")
+        .long("quiet")
+        .action(ArgAction::SetTrue)
+        .help("Don't show on a terminal how far the jobs have come")
 }
 
 // The choice where the words could not be read.

@@ -18,7 +18,7 @@ use ft_jobs::LONGEST_PLAN;
 use ft_script::PlayFault;
 use status::{dot_status, failed, fault_line, jobs_status, play_status};
 use std::fs::{File, Files};
-use std::io::{ErrorKind, Read};
+use std::io::{ErrorKind, IsTerminal, Read, Stderr};
 use std::process::ExitCode;
 use std::{env, io};
 
@@ -34,8 +34,16 @@ fn main(rt: HostRuntime) -> ExitCode {
     let status = match choice {
         Choice::Play => play_status(alloc, &mut input, &mut output, &mut errors),
         Choice::Dot => dot_status(alloc, &mut input, &mut output, &mut errors),
-        Choice::Jobs { file, turns } => match read_plan(&rt, file.as_str()) {
-            Ok(plan) => jobs_status(&rt, alloc, plan.as_slice(), turns, &mut output, &mut errors),
+        Choice::Jobs { file, turns, quiet } => match read_plan(&rt, file.as_str()) {
+            Ok(plan) => jobs_status(
+                &rt,
+                alloc,
+                plan.as_slice(),
+                turns,
+                screen(&rt, quiet),
+                &mut output,
+                &mut errors,
+            ),
             Err(fault) => failed(&mut errors, fault_line(fault)),
         },
         Choice::Help(text) => {
@@ -54,6 +62,15 @@ fn main(rt: HostRuntime) -> ExitCode {
 // The words after the program's name.
 fn words_given(rt: &HostRuntime) -> io::Result<Vec<String>> {
     Ok(env::args(rt)?.skip(1).collect(rt.alloc())?)
+}
+
+// Where it is shown how far jobs have come: on standard error, where that is a terminal, unless nothing is to be shown.
+fn screen(rt: &HostRuntime, quiet: bool) -> Option<Stderr> {
+    let errors = rt.stderr();
+    if quiet || !errors.is_terminal() {
+        return None;
+    }
+    Some(errors)
 }
 
 // The bytes of a file, or of a longer one that can't be a plan one more than a plan may have.

@@ -62,12 +62,14 @@ pub fn dot_status<R: Read, W: Write, E: Write>(
 }
 
 /// Runs the jobs of a plan on a new core, and answers the status to end with: 0, or 1 after a fault, of which a line tells
-/// on `errors`. Where that line can't be written, the status is the same.
-pub fn jobs_status<R: Threads + Wait + Clock + Sync, W: Write, E: Write>(
+/// on `errors`. Where that line can't be written, the status is the same. How far the jobs have come is shown on a screen
+/// while they run, if there is one.
+pub fn jobs_status<R: Threads + Wait + Clock + Sync, S: Write + Send + Drop, W: Write, E: Write>(
     rt: &R,
     alloc: Global,
     plan: &[u8],
     turns: u64,
+    screen: Option<S>,
     writer: &mut W,
     errors: &mut E,
 ) -> u8
@@ -78,7 +80,7 @@ pub fn jobs_status<R: Threads + Wait + Clock + Sync, W: Write, E: Write>(
     ensures fault { result ≡ 1 → (fault : RunFault) × StopsPlan fault plan.now (W.contents writer.old) (W.contents writer.new)
         × WritesFront (E.contents errors.old) (E.contents errors.new) (run_fault_line fault) }
 {
-    match run_plan(rt, alloc, plan, turns, writer) {
+    match run_plan(rt, alloc, plan, turns, screen, writer) {
         Ok(()) => 0,
         Err(fault) => failed(errors, run_fault_line(fault)),
     }

@@ -125,10 +125,14 @@ fn is_dot(alloc: Global, words: &[&str]) -> bool {
     matches!(choose(alloc, words), Choice::Dot)
 }
 
-// Whether they ask for the jobs of this plan, in so many turns.
-fn is_jobs(alloc: Global, words: &[&str], plan: &str, most: u64) -> bool {
-    let choice = choose(alloc, words);
-    matches!(&choice, Choice::Jobs { file, turns } if file.as_str() == plan && *turns == most)
+// Whether they ask for the jobs of this plan, in so many turns, and to be as quiet.
+fn is_jobs(alloc: Global, words: &[&str], plan: &str, most: u64, hushed: bool) -> bool {
+    match choose(alloc, words) {
+        Choice::Jobs { file, turns, quiet } => {
+            file.as_str() == plan && turns == most && quiet == hushed
+        }
+        _ => false,
+    }
 }
 
 #[test]
@@ -153,9 +157,17 @@ fn choices(rt: HostRuntime) -> Result<(), Fail> {
 #[test]
 fn choices_of_jobs(rt: HostRuntime) -> Result<(), Fail> {
     let alloc = rt.alloc();
-    assert!(rt; is_jobs(alloc, &["jobs", "p"], "p", 10_000));
-    assert!(rt; is_jobs(alloc, &["jobs", "p", "--turns", "1000000"], "p", 1_000_000));
-    assert!(rt; is_jobs(alloc, &["jobs", "--turns=1", "p"], "p", 1));
+    assert!(rt; is_jobs(alloc, &["jobs", "p"], "p", 10_000, false));
+    assert!(rt;
+        is_jobs(
+            alloc,
+            &["jobs", "p", "--turns", "1000000"],
+            "p",
+            1_000_000,
+            false
+        )
+    );
+    assert!(rt; is_jobs(alloc, &["jobs", "--turns=1", "--quiet", "p"], "p", 1, true));
     assert!(rt;
         is_usage(
             alloc,
@@ -186,11 +198,27 @@ fn jobs_program_text(rt: HostRuntime) -> Result<(), Fail> {
     let alloc = rt.alloc();
     let mut output = Narrow::new(alloc, 200);
     let mut errors = Narrow::new(alloc, 100);
-    let status = jobs_status(&rt, alloc, ONE_JOB, 1, &mut output, &mut errors);
+    let status = jobs_status(
+        &rt,
+        alloc,
+        ONE_JOB,
+        1,
+        None::<Narrow>,
+        &mut output,
+        &mut errors,
+    );
     assert!(rt;
         status == 0 && output.held.as_slice() == ONE_OUTCOME.as_bytes() && errors.held.is_empty()
     );
-    let status = jobs_status(&rt, alloc, b"".as_slice(), 1, &mut output, &mut errors);
+    let status = jobs_status(
+        &rt,
+        alloc,
+        b"".as_slice(),
+        1,
+        None::<Narrow>,
+        &mut output,
+        &mut errors,
+    );
     assert!(rt; status == 1 && errors.held.as_slice() == b"fault: BadPlan\n".as_slice());
     Ok(())
 }
@@ -200,7 +228,15 @@ fn output_that_fails(rt: HostRuntime) -> Result<(), Fail> {
     let alloc = rt.alloc();
     let mut output = Narrow::new(alloc, 10);
     let mut errors = Narrow::new(alloc, 100);
-    let status = jobs_status(&rt, alloc, ONE_JOB, 1, &mut output, &mut errors);
+    let status = jobs_status(
+        &rt,
+        alloc,
+        ONE_JOB,
+        1,
+        None::<Narrow>,
+        &mut output,
+        &mut errors,
+    );
     assert!(rt;
         status == 1
             && output.held.as_slice() == b"job a 1 co".as_slice()

@@ -16,8 +16,6 @@ mod node;
 mod open_file;
 mod reader;
 mod row;
-#[cfg(test)]
-mod tests;
 mod tree;
 
 pub use cell::Cell;

@@ -2,13 +2,7 @@
 #![tactic(auto)]
 
 mod action;
-#[cfg(test)]
-mod log_tests;
 mod logs;
-#[cfg(test)]
-mod tests;
-#[cfg(test)]
-mod texts;
 mod undo;
 
 pub use action::perform;

@@ -5,7 +5,6 @@ use Rattle.ft_tree.specs.Cells.{links_of}
 use Rattle.ft_calls.specs.Outcomes.{sets}
 use Rattle.ft_calls.specs.Links.{renamed}
 use Rattle.ft_calls.specs.declared.intent.Edit.TheVariants.{Links}
-use Rattle.ft_calls.specs.declared.intent.Intent.{Intent}
 use Rattle.ft_calls.specs.Comes.{writes_of}
 use Rattle.ft_calls.proofs.Moving.{comes-more, writes_of-append}
 use Rattle.ft_calls.proofs.links.replace_file.Goals as goal
@@ -14,11 +13,11 @@ pub returns : goal.returns
 returns c =
     let r = c.args.renaming in
     let cells = c.args.look.now.cells in
-    let first = c.in_ok-renamed.field-0 in
-    let second = c.in_ok-intent.intent in
+    let first = c.in_ok-intent.intent in
+    let second = c.push.new.self in
     let left : c.saturating_sub.result ≡ links_of cells c.args.replaced - 1 = search rules in
-    let told : second.told ≡ first.told = ap (λ (x : Intent). x.told) c.in_ok-intent.ensures in
+    let told : second.told ≡ first.told = c.in_ok-push.ensures.told in
     let edits : writes_of cells second.edits ≡ writes_of cells first.edits ++ sets (cell.Links c.args.replaced) (links_of cells c.args.replaced - 1) ∷ [] =
-    ap (λ (x : Intent). writes_of cells x.edits) c.in_ok-intent.ensures ∙ writes_of-append cells first.edits (Links c.args.replaced c.saturating_sub.result ∷ [])
+    ap (writes_of cells) c.in_ok-push.ensures.edits ∙ writes_of-append cells first.edits (Links c.args.replaced c.saturating_sub.result ∷ [])
     ∙ ap (λ (n : ℕ). writes_of cells first.edits ++ sets (cell.Links c.args.replaced) n ∷ []) left in
-    (comes-more cells first second (renamed r.dir r.name.now (FileNode c.args.file) r.into r.other.now []) _ told edits (c.in_ok-renamed.ensures cells), c.in_ok-links.ensures.1)
+    (comes-more cells first second (renamed r.dir r.name.now (FileNode c.args.file) r.into r.other.now []) _ told edits (c.in_ok-intent.ensures cells), c.in_ok-links.ensures.1)

@@ -1,6 +1,4 @@
 use Rattle.std.proofs.Common.{subst, sym, ap, ◌∙◌}
-use Rattle.std.specs.FinMap as finite
-use Rattle.ft_locks.specs.declared.marks.Marks.{Marks}
 use Rattle.ft_locks.specs.Holders.{AreApart}
 use Rattle.ft_locks.proofs.HolderLists.{seen, get-list, apart-push, seen-push}
 use Rattle.ft_locks.proofs.holders.Holders.add.Goals as goal
@@ -8,10 +6,9 @@ use Rattle.ft_locks.proofs.holders.Holders.add.Goals as goal
 pub invariant_of-self-2 : goal.invariant_of-self-2
 invariant_of-self-2 c =
     subst AreApart (sym c.in_ok-push.ensures.ok)
-    (apart-push c.self.inside.list.items (record { owner = c.args.owner; marks = c.none-marks.result }) c.self.invariant (sym (get-list _ _ c.self.view_is c.args.owner) ∙ c.requires))
+    (apart-push c.self.inside.list.items (record { owner = c.args.owner; marks = c.args.marks }) c.self.invariant (sym (get-list _ _ c.self.view_is c.args.owner) ∙ c.requires))
 
 pub returns-clause-ok : goal.returns-clause-ok
 returns-clause-ok c =
     ap seen c.in_ok-push.ensures.ok
-    ∙ seen-push c.args.self.now c.self.inside.list.items c.self.view_is (record { owner = c.args.owner; marks = c.none-marks.result }) (sym (get-list _ _ c.self.view_is c.args.owner) ∙ c.requires)
-    ∙ ap (λ (m : Marks). finite.insert c.args.self.now c.args.owner m) c.none-marks.ensures
+    ∙ seen-push c.args.self.now c.self.inside.list.items c.self.view_is (record { owner = c.args.owner; marks = c.args.marks }) (sym (get-list _ _ c.self.view_is c.args.owner) ∙ c.requires)

@@ -1,7 +1,6 @@
 use Rattle.std.proofs.Common.{is_some, ◌∷◌, ap, sym, ◌∙◌}
 use Rattle.std.specs.FinMap as finite
 use Rattle.ft_base.specs.Chains.{list_in}
-use Rattle.ft_locks.specs.Marks.{no_marks}
 use Rattle.ft_locks.specs.Cells.{is_at, marks_at}
 use Rattle.ft_locks.specs.Holdings.{has_place, popped}
 use Rattle.ft_locks.proofs.Names.{err_then}
@@ -21,7 +20,7 @@ invariant_of-self-else-is_err c =
     let added = ok_if c.add-added.result _ (sym c.is_err.ensures.value ∙ c.if-is_err.false) c.add-added.ensures.ok in
     joined-add _ _ c.self.invariant _ c.push_front.new.self c.args.cell.now c.args.owner
     (ap is_some (ap (λ h. marks_at h.cells c.args.cell.now c.args.owner) c.self.view_is ∙ c.requires.absent))
-    (λ d u. ap is_some (added d u) ∙ placed-put (is_at c.args.cell.now c.args.owner d u) no_marks (marks_at c.self.inside.cells d u))
+    (λ d u. ap is_some (added d u) ∙ placed-put (is_at c.args.cell.now c.args.owner d u) c.args.marks (marks_at c.self.inside.cells d u))
     (λ u. ap (λ m. list_in m u) pushed ∙ list-insert c.self.inside.chains c.args.owner _ u)
 
 pub returns-then-is_err-clause-err : goal.returns-then-is_err-clause-err

@@ -1,7 +1,0 @@
-use Rattle.std.proofs.Common.{sym, subst}
-use Rattle.ft_calls.specs.Within.{AreWithin}
-use Rattle.ft_calls.proofs.Withins.{within-more}
-use Rattle.ft_calls.proofs.intent.Edits.and.Goals as goal
-
-pub invariant_of-self : goal.invariant_of-self
-invariant_of-self c = subst AreWithin (sym c.in_ok-push.ensures.ok) (within-more c.self.inside.items c.args.edit c.self.invariant c.requires)

@@ -1,0 +1,19 @@
+-- The line that tells how far jobs have come.
+use Rattle.std.specs.Prelude.{ℕ, List, [], ◌∷◌, ◌++◌, codes}
+use Rattle.std.specs.Borrow.{Bor}
+use Rattle.std.specs.Fmt.{decimal}
+use Rattle.std.specs.List.{flat_map}
+
+-- a name behind a space
+abbrev pub name_text : Bor (List ℕ) → List ℕ
+name_text name = codes " " ++ name.now
+
+-- who waits, if anybody does
+abbrev pub waiting_text : List (Bor (List ℕ)) → List ℕ
+waiting_text [] = []
+waiting_text (name ∷ names) = codes "; waiting:" ++ flat_map name_text (name ∷ names)
+
+-- how many jobs of all have ended, how many calls were granted, and who waits
+abbrev pub progress_text : ℕ → ℕ → ℕ → List (Bor (List ℕ)) → List ℕ
+progress_text ended jobs granted waiting =
+    codes "jobs ended: " ++ decimal ended ++ codes " of " ++ decimal jobs ++ codes "; calls granted: " ++ decimal granted ++ waiting_text waiting

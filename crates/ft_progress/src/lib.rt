@@ -1,0 +1,12 @@
+//! How far the jobs of a plan have come, told on a line of a screen while they run.
+#![tactic(auto)]
+
+mod progress;
+mod running;
+#[cfg(test)]
+mod tests;
+mod watch;
+
+pub use progress::Progress;
+pub use running::run_shown;
+pub use watch::Watch;

@@ -1,0 +1,62 @@
+// The jobs of a plan, shown while they run.
+ghost use Rattle.std.specs.Prelude.{◌≢◌, ◌≤◌, IfOk, IfErr};
+ghost use Rattle.ft_jobs.specs.Reports.{AreReports};
+
+use crate::watch::Watch;
+use ft_jobs::{JobFault, JobsOutcome, OpenGate, Plan, run_jobs};
+use ft_shared::Manager;
+use std::alloc::Global;
+use std::io::Write;
+use std::sync::Wait;
+use std::thread::{self, Threads};
+use std::time::Clock;
+
+/// Runs the jobs of a plan as `run_jobs` does, and meanwhile shows on a screen, if there is one, how far they have come.
+///
+/// Where there is no memory or no thread to show it, it is not shown.
+pub fn run_shown<M: Manager + Drop, R: Threads + Wait + Clock + Sync, S: Write + Send + Drop>(
+    rt: &R,
+    alloc: Global,
+    plan: &Plan,
+    manager: M,
+    turns: u64,
+    screen: Option<S>,
+) -> Result<JobsOutcome, JobFault>
+    requires { 1 ≤ turns }
+    ensures ok { IfOk result (λ outcome. AreReports outcome.core plan.now outcome.reports.items) }
+    ensures cause { IfErr result (λ fault. fault ≢ JobFault.BadPlan) }
+{
+    match (screen, Watch::new(alloc, plan.jobs())) {
+        (Some(screen), Ok(watch)) => run_watched(rt, alloc, plan, manager, turns, &watch, screen),
+        _ => run_jobs(rt, alloc, plan, manager, &OpenGate, turns),
+    }
+}
+
+// Runs them under a watch, which another thread shows.
+fn run_watched<M: Manager + Drop, R: Threads + Wait + Clock + Sync, S: Write + Send + Drop>(
+    rt: &R,
+    alloc: Global,
+    plan: &Plan,
+    manager: M,
+    turns: u64,
+    watch: &Watch<'_>,
+    screen: S,
+) -> Result<JobsOutcome, JobFault>
+    requires { 1 ≤ turns }
+    ensures ok { IfOk result (λ outcome. AreReports outcome.core plan.now outcome.reports.items) }
+    ensures cause { IfErr result (λ fault. fault ≢ JobFault.BadPlan) }
+{
+    thread::scope(
+        thread::scope_env(),
+        rt,
+        move |scope|
+            requires { 1 ≤ turns }
+        {
+            let mut screen = screen;
+            let _ = scope.spawn(move || watch.show(rt, alloc, &mut screen));
+            let run = run_jobs(rt, alloc, plan, manager, watch, turns);
+            watch.stop(rt);
+            run
+        },
+    )
+}

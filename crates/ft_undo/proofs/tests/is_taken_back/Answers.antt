@@ -1,8 +1,0 @@
-use Rattle.std.proofs.Common.{sym, subst}
-use Rattle.ft_tree.specs.Cells.{Cells}
-use Rattle.ft_tree.specs.Sound.{AreSoundCells, IsFree}
-use Rattle.ft_undo.proofs.tests.is_taken_back.Goals as goal
-
--- right after the call its cells are as it left them
-pub revert-requires : goal.revert-requires
-revert-requires c = c.in_ok-_reply.ensures.may_revert c.perform.new.tree c.in_ok-_reply.ensures.left
