@@ -82,7 +82,7 @@ fn are_each(
     Ok(true)
 }
 
-// Whether there is a job at this place, and a report of it.
+// Whether the report at this place is that of the job at this place. There are both.
 fn is_report_at(
     alloc: Global,
     events: &[Event],

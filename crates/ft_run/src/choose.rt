@@ -72,8 +72,8 @@ fn choice_of(alloc: Global, matches: &ArgMatches) -> Choice
     }
 }
 
-// The file and the turns that `jobs` was given, and whether it is to be quiet. There may be no memory for the name of the file. (The crate that reads the
-// words lets no 0 through.)
+// The file and the turns that `jobs` was given, and whether it is to be quiet. There may be no memory for the name of the
+// file. (The crate that reads the words lets no 0 through.)
 fn asked_of_jobs(alloc: Global, found: &ArgMatches) -> Option<(String, u64, bool)>
     ensures { IfSome result (λ asked. TellsJobs (rows_of (found_of found.now)) (string_bytes asked.0) asked.1 asked.2) }
 {
