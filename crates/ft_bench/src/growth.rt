@@ -29,9 +29,23 @@ impl Model for Growth {
     ghost invariant = { λ a. AreSoundCells a.tree × ((k : ℕ) → a.next ≤ k → IsFree a.tree k) };
 }
 
+/// The path with three components of this number, behind those of the directories above it where it is the first in them:
+/// ten in each of the second level, and a hundred of these in each of the first.
+pub fn directories(alloc: Global, index: u64) -> Result<Vec<String>> {
+    let (first, second, third) = (index / 1000, index / 10 % 100, index % 10);
+    let mut paths = Vec::new(alloc);
+    if index % 1000 == 0 {
+        paths.push(format!(in alloc; "/a{first}")?)?;
+    }
+    if third == 0 {
+        paths.push(format!(in alloc; "/a{first}/b{second}")?)?;
+    }
+    paths.push(format!(in alloc; "/a{first}/b{second}/c{third}")?)?;
+    Ok(paths)
+}
+
 impl Growth {
-    /// A tree of directories with three components, as many as `size`, and those above them: ten in
-    /// each of the second level, and a hundred of these in each of the first.
+    /// A tree of directories, as many as `size` with three components.
     pub fn new(alloc: Global, size: u64) -> Result<Growth> {
         let mut growth = Growth {
             alloc,
@@ -46,24 +60,13 @@ impl Growth {
 
     /// Makes the directory of this number, and those above it where it is the first in them.
     fn add(&mut self, index: u64) -> Result<()> {
-        let alloc = self.alloc;
-        let (first, second, third) = (index / 1000, index / 10 % 100, index % 10);
-        if index % 1000 == 0 {
-            self.make_directory(format!(in alloc; "/a{first}")?.as_str())?;
+        for text in directories(self.alloc, index)? {
+            let path = FilePath::new(self.alloc, text.as_bytes())?;
+            ensure!(
+                self.perform(&Call::Mkdir { path })? == Reply::Done,
+                "mkdir {text}"
+            );
         }
-        if third == 0 {
-            self.make_directory(format!(in alloc; "/a{first}/b{second}")?.as_str())?;
-        }
-        self.make_directory(format!(in alloc; "/a{first}/b{second}/c{third}")?.as_str())
-    }
-
-    fn make_directory(&mut self, text: &str) -> Result<()> {
-        let alloc = self.alloc;
-        let path = FilePath::new(alloc, text.as_bytes())?;
-        ensure!(
-            self.perform(&Call::Mkdir { path })? == Reply::Done,
-            "mkdir {text}"
-        );
         Ok(())
     }
 

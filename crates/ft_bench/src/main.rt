@@ -3,15 +3,15 @@
 //! instructions: what one call takes is the difference between two runs that differ in COUNT.
 #![tactic(auto)]
 
-mod asking;
 mod growth;
 mod locking;
 mod measure;
+mod stages;
 
 use anyhow::{Context, Result};
-use asking::Stage;
 use locking::Asking;
 use measure::Measure;
+use stages::Stage;
 use std::env;
 
 fn main(rt: HostRuntime) -> Result<()> {
@@ -23,7 +23,7 @@ fn main(rt: HostRuntime) -> Result<()> {
     let size = size.parse::<u64>().context("reading SIZE")?;
     let done = match (Asking::named(what.as_str()), Stage::named(what.as_str())) {
         (Some(asking), _) => locking::run(rt.alloc(), asking, count, size)?,
-        (_, Some(stage)) => asking::run(rt.alloc(), stage, count, size)?,
+        (_, Some(stage)) => stages::run(rt.alloc(), stage, count, size)?,
         _ => {
             let measure = Measure::named(what.as_str()).context("no such measure")?;
             measure::run(rt.alloc(), measure, count, size)?

@@ -5,17 +5,22 @@ use Rattle.ft_tree.specs.declared.node.Node.{Node}
 use Rattle.ft_tree.specs.Cells.{Cells}
 use Rattle.ft_calls.specs.declared.intent.Edit.{Edit}
 use Rattle.ft_calls.specs.declared.intent.Intent.{Intent}
+use Rattle.ft_calls.specs.declared.intent.Told.TheVariants.{Done}
 use Rattle.ft_calls.specs.Outcomes.{Write, Outcome}
 use Rattle.ft_calls.specs.Links.{if_bare}
 use Rattle.ft_calls.specs.Looking.{is_none_of}
-use Rattle.ft_calls.specs.Comes.{reply_of, write_of, writes_of, outcome_of}
+use Rattle.ft_calls.specs.Comes.{write_of, writes_of, outcome_of}
 
 -- more is written
 abbrev pub and_more : Outcome → List Write → Outcome
 and_more o more = record { reply = o.reply; writes = o.writes ++ more }
 
-pub comes-more : (cells : Cells) (x y : Intent) (o : Outcome) (more : List Write) → y.told ≡ x.told → writes_of cells y.edits ≡ writes_of cells x.edits ++ more → outcome_of cells x ≡ o → outcome_of cells y ≡ and_more o more
-comes-more cells x y o more told edits is i = record { reply = (ap (reply_of cells) told ∙ ap (λ (q : Outcome). q.reply) is) i; writes = (edits ∙ ap (λ (q : Outcome). q.writes ++ more) is) i }
+-- what is done by edits
+abbrev pub done : List Edit → Intent
+done edits = record { told = Done; edits = edits }
+
+pub comes-more : (cells : Cells) (es fs : List Edit) (o : Outcome) (more : List Write) → writes_of cells fs ≡ writes_of cells es ++ more → outcome_of cells (done es) ≡ o → outcome_of cells (done fs) ≡ and_more o more
+comes-more cells es fs o more edits is i = record { reply = ap (λ (q : Outcome). q.reply) is i; writes = (edits ∙ ap (λ (q : Outcome). q.writes ++ more) is) i }
 
 -- edits behind others
 pub writes_of-append : (cells : Cells) (es fs : List Edit) → writes_of cells (es ++ fs) ≡ writes_of cells es ++ writes_of cells fs

@@ -13,6 +13,7 @@ pub mod Laws
 pub mod RunLaws
 pub mod Perform
 pub mod Comes
+pub mod Intended
 pub mod Edits
 pub mod CellLaws
 pub mod Within

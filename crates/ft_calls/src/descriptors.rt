@@ -1,35 +1,36 @@
 // What the calls on descriptors come to.
-ghost use Rattle.std.specs.Prelude.{◌≡◌, ◌<◌, ◌≤◌, length};
+ghost use Rattle.std.specs.Prelude.{◌≡◌, ◌<◌, ◌≤◌, [], length};
 ghost use Rattle.ft_body.specs.declared.TheConstants.{SIZE_LIMIT};
 ghost use Rattle.ft_body.specs.Bytes.{fitting};
 ghost use Rattle.ft_calls.specs.Descriptors.{with_open, any_open, is_readable, is_writable, at_offset, close_open, read_open, pread_at, pread_open, write_place, write_at, write_open, pwrite_at, pwrite_open, seek_from, seek_open, moved, sought, ftruncate_open, fstat_open};
 ghost use Rattle.ft_tree.specs.Looks.{Answer};
 ghost use Rattle.ft_calls.specs.Looking.{Finds};
 ghost use Rattle.ft_calls.specs.Comes.{Comes};
+ghost use Rattle.ft_calls.specs.Intended.{intended};
 
 use crate::bytes::{not_negative, seek_place, to_size};
 use crate::call::Whence;
 use crate::files::{cut_file, file_info};
-use crate::intent::{Edit, Intent, Stop, Told};
+use crate::intent::{Edit, Edits, Stop, Told};
 use crate::look::Look;
 use ft_base::Memory;
 use ft_body::SIZE_LIMIT;
 use ft_path::Errno;
 use ft_tree::OpenFile;
-use std::alloc::Global;
 
 /// Writes at the offset, which becomes the end of what was written.
 pub(crate) fn write<'c>(
-    alloc: Global,
     look: &mut Look<'_>,
+    edits: &mut Edits<'c>,
     fd: u64,
     bytes: &'c [u8],
-) -> Result<Intent<'c>, Stop>
-    ensures { Comes look.old (with_open fd is_writable (write_open fd bytes.now)) look.new result }
+) -> Result<Told, Stop>
+    requires { edits.old ≡ [] }
+    ensures { Comes look.old (with_open fd is_writable (write_open fd bytes.now)) look.new (intended edits.new result) }
 {
     match look.open_file(fd)? {
         Some(description) if description.access.can_write() => {
-            write_open(alloc, look, fd, bytes, description)
+            write_open(look, edits, fd, bytes, description)
         }
         _ => Err(Stop::Errno(Errno::EBADF)),
     }
@@ -37,19 +38,20 @@ pub(crate) fn write<'c>(
 
 /// Writes at the offset of a description, or with append at the end of its file.
 fn write_open<'c>(
-    alloc: Global,
     look: &mut Look<'_>,
+    edits: &mut Edits<'c>,
     fd: u64,
     bytes: &'c [u8],
     description: OpenFile,
-) -> Result<Intent<'c>, Stop>
-    ensures { Comes look.old (write_open fd bytes.now description) look.new result }
+) -> Result<Told, Stop>
+    requires { edits.old ≡ [] }
+    ensures { Comes look.old (write_open fd bytes.now description) look.new (intended edits.new result) }
 {
     if bytes.is_empty() {
-        return Ok(Intent::tell(alloc, Told::Number(0)));
+        return Ok(Told::Number(0));
     }
     let place = write_place(look, description)?;
-    write_at(alloc, look, fd, description, bytes, place)
+    write_at(look, edits, fd, description, bytes, place)
 }
 
 /// Where bytes are to go: with append, to the end of the file.
@@ -64,14 +66,15 @@ fn write_place(look: &mut Look<'_>, description: OpenFile) -> Result<u64, Memory
 
 /// Writes at a place, as many bytes as have room there.
 fn write_at<'c>(
-    alloc: Global,
     look: &mut Look<'_>,
+    edits: &mut Edits<'c>,
     fd: u64,
     description: OpenFile,
     bytes: &'c [u8],
     at: u64,
-) -> Result<Intent<'c>, Stop>
-    ensures { Comes look.old (write_at fd description bytes.now at) look.new result }
+) -> Result<Told, Stop>
+    requires { edits.old ≡ [] }
+    ensures { Comes look.old (write_at fd description bytes.now at) look.new (intended edits.new result) }
 {
     if at >= SIZE_LIMIT {
         return Err(Stop::Errno(Errno::EFBIG));
@@ -79,13 +82,12 @@ fn write_at<'c>(
     look.size(description.file)?;
     let file = description.file;
     let taken = room_for(bytes, at);
-    let mut intent = Intent::tell(alloc, Told::Number(taken));
-    intent.push(Edit::Overwrite { file, at, bytes })?;
-    intent.push(Edit::Open {
+    edits.push(Edit::Overwrite { file, at, bytes })?;
+    edits.push(Edit::Open {
         fd,
         to: Some(at_offset(description, at + taken)),
     })?;
-    Ok(intent)
+    Ok(Told::Number(taken))
 }
 
 /// How many of the bytes have room at a place.
@@ -111,56 +113,59 @@ fn at_offset(description: OpenFile, offset: u64) -> OpenFile
 }
 
 /// Closes a descriptor.
-pub(crate) fn close<'c>(alloc: Global, look: &mut Look<'_>, fd: u64) -> Result<Intent<'c>, Stop>
-    ensures { Comes look.old (with_open fd any_open (close_open fd)) look.new result }
+pub(crate) fn close(look: &mut Look<'_>, edits: &mut Edits<'_>, fd: u64) -> Result<Told, Stop>
+    requires { edits.old ≡ [] }
+    ensures { Comes look.old (with_open fd any_open (close_open fd)) look.new (intended edits.new result) }
 {
     match look.open_file(fd)? {
-        Some(description) => close_open(alloc, look, fd, description),
+        Some(description) => close_open(look, edits, fd, description),
         None => Err(Stop::Errno(Errno::EBADF)),
     }
 }
 
 /// Closes a descriptor that is open; whether entries name its file is looked at.
-fn close_open<'c>(
-    alloc: Global,
+fn close_open(
     look: &mut Look<'_>,
+    edits: &mut Edits<'_>,
     fd: u64,
     description: OpenFile,
-) -> Result<Intent<'c>, Stop>
-    ensures { Comes look.old (close_open fd description) look.new result }
+) -> Result<Told, Stop>
+    requires { edits.old ≡ [] }
+    ensures { Comes look.old (close_open fd description) look.new (intended edits.new result) }
 {
     look.links(description.file)?;
-    let mut intent = Intent::tell(alloc, Told::Done);
-    intent.push(Edit::Open { fd, to: None })?;
-    Ok(intent)
+    edits.push(Edit::Open { fd, to: None })?;
+    Ok(Told::Done)
 }
 
 /// Reads at the offset, which moves.
-pub(crate) fn read<'c>(
-    alloc: Global,
+pub(crate) fn read(
     look: &mut Look<'_>,
+    edits: &mut Edits<'_>,
     fd: u64,
     len: u64,
-) -> Result<Intent<'c>, Stop>
-    ensures { Comes look.old (with_open fd is_readable (read_open fd len)) look.new result }
+) -> Result<Told, Stop>
+    requires { edits.old ≡ [] }
+    ensures { Comes look.old (with_open fd is_readable (read_open fd len)) look.new (intended edits.new result) }
 {
     match look.open_file(fd)? {
         Some(description) if description.access.can_read() => {
-            read_open(alloc, look, fd, len, description)
+            read_open(look, edits, fd, len, description)
         }
         _ => Err(Stop::Errno(Errno::EBADF)),
     }
 }
 
 /// Reads at the offset of a description.
-fn read_open<'c>(
-    alloc: Global,
+fn read_open(
     look: &mut Look<'_>,
+    edits: &mut Edits<'_>,
     fd: u64,
     len: u64,
     description: OpenFile,
-) -> Result<Intent<'c>, Stop>
-    ensures { Comes look.old (read_open fd len description) look.new result }
+) -> Result<Told, Stop>
+    requires { edits.old ≡ [] }
+    ensures { Comes look.old (read_open fd len description) look.new (intended edits.new result) }
 {
     let size = look.size(description.file)?;
     let read = size.saturating_sub(description.offset).min(len);
@@ -169,74 +174,61 @@ fn read_open<'c>(
         at: description.offset,
         len,
     };
-    let mut intent = Intent::tell(alloc, told);
-    intent.push(Edit::Open {
+    edits.push(Edit::Open {
         fd,
         to: Some(at_offset(description, description.offset + read)),
     })?;
-    Ok(intent)
+    Ok(told)
 }
 
 /// Reads at an offset, and leaves that of the description.
-pub(crate) fn pread<'c>(
-    alloc: Global,
-    look: &mut Look<'_>,
-    fd: u64,
-    offset: i64,
-    len: u64,
-) -> Result<Intent<'c>, Stop>
-    ensures { Comes look.old (with_open fd is_readable (pread_open offset len)) look.new result }
+pub(crate) fn pread(look: &mut Look<'_>, fd: u64, offset: i64, len: u64) -> Result<Told, Stop>
+    ensures { Comes look.old (with_open fd is_readable (pread_open offset len)) look.new (intended [] result) }
 {
     match look.open_file(fd)? {
         Some(description) if description.access.can_read() => {
-            pread_open(alloc, look, offset, len, description)
+            pread_open(look, offset, len, description)
         }
         _ => Err(Stop::Errno(Errno::EBADF)),
     }
 }
 
 /// Reads from a description's file at an offset that may be negative.
-fn pread_open<'c>(
-    alloc: Global,
+fn pread_open(
     look: &mut Look<'_>,
     offset: i64,
     len: u64,
     description: OpenFile,
-) -> Result<Intent<'c>, Stop>
-    ensures { Comes look.old (pread_open offset len description) look.new result }
+) -> Result<Told, Stop>
+    ensures { Comes look.old (pread_open offset len description) look.new (intended [] result) }
 {
     let at = not_negative(offset)?;
-    pread_at(alloc, look, len, description, at)
+    pread_at(look, len, description, at)
 }
 
 /// Reads from a description's file.
-fn pread_at<'c>(
-    alloc: Global,
-    look: &mut Look<'_>,
-    len: u64,
-    description: OpenFile,
-    at: u64,
-) -> Result<Intent<'c>, Stop>
-    ensures { Comes look.old (pread_at len description at) look.new result }
+fn pread_at(look: &mut Look<'_>, len: u64, description: OpenFile, at: u64) -> Result<Told, Stop>
+    ensures { Comes look.old (pread_at len description at) look.new (intended [] result) }
 {
     let file = description.file;
     look.size(file)?;
-    Ok(Intent::tell(alloc, Told::BytesOf { file, at, len }))
+    Ok(Told::BytesOf { file, at, len })
 }
 
 /// Writes at an offset, and leaves that of the description.
 pub(crate) fn pwrite<'c>(
-    alloc: Global,
     look: &mut Look<'_>,
+    edits: &mut Edits<'c>,
     fd: u64,
     offset: i64,
     bytes: &'c [u8],
-) -> Result<Intent<'c>, Stop>
-    ensures { Comes look.old (with_open fd is_writable (pwrite_open offset bytes.now)) look.new result }
+) -> Result<Told, Stop>
+    requires { edits.old ≡ [] }
+    ensures { Comes look.old (with_open fd is_writable (pwrite_open offset bytes.now)) look.new (intended edits.new result) }
 {
     match look.open_file(fd)? {
         Some(description) if description.access.can_write() => {
-            pwrite_open(alloc, look, offset, bytes, description)
+            pwrite_open(look, edits, offset, bytes, description)
         }
         _ => Err(Stop::Errno(Errno::EBADF)),
     }
@@ -244,70 +236,73 @@ pub(crate) fn pwrite<'c>(
 
 /// Writes to a description's file at an offset that may be negative.
 fn pwrite_open<'c>(
-    alloc: Global,
     look: &mut Look<'_>,
+    edits: &mut Edits<'c>,
     offset: i64,
     bytes: &'c [u8],
     description: OpenFile,
-) -> Result<Intent<'c>, Stop>
-    ensures { Comes look.old (pwrite_open offset bytes.now description) look.new result }
+) -> Result<Told, Stop>
+    requires { edits.old ≡ [] }
+    ensures { Comes look.old (pwrite_open offset bytes.now description) look.new (intended edits.new result) }
 {
     let at = not_negative(offset)?;
-    pwrite_at(alloc, look, description, bytes, at)
+    pwrite_at(look, edits, description, bytes, at)
 }
 
 /// Writes to a description's file, as many bytes as have room there.
 fn pwrite_at<'c>(
-    alloc: Global,
     look: &mut Look<'_>,
+    edits: &mut Edits<'c>,
     description: OpenFile,
     bytes: &'c [u8],
     at: u64,
-) -> Result<Intent<'c>, Stop>
-    ensures { Comes look.old (pwrite_at description bytes.now at) look.new result }
+) -> Result<Told, Stop>
+    requires { edits.old ≡ [] }
+    ensures { Comes look.old (pwrite_at description bytes.now at) look.new (intended edits.new result) }
 {
     if bytes.is_empty() {
-        return Ok(Intent::tell(alloc, Told::Number(0)));
+        return Ok(Told::Number(0));
     }
     if at >= SIZE_LIMIT {
         return Err(Stop::Errno(Errno::EFBIG));
     }
     let file = description.file;
     look.size(file)?;
-    let mut intent = Intent::tell(alloc, Told::Number(room_for(bytes, at)));
-    intent.push(Edit::Overwrite { file, at, bytes })?;
-    Ok(intent)
+    edits.push(Edit::Overwrite { file, at, bytes })?;
+    Ok(Told::Number(room_for(bytes, at)))
 }
 
 /// Sets the offset.
-pub(crate) fn lseek<'c>(
-    alloc: Global,
+pub(crate) fn lseek(
     look: &mut Look<'_>,
+    edits: &mut Edits<'_>,
     fd: u64,
     whence: Whence,
     offset: i64,
-) -> Result<Intent<'c>, Stop>
-    ensures { Comes look.old (with_open fd any_open (seek_open fd whence offset)) look.new result }
+) -> Result<Told, Stop>
+    requires { edits.old ≡ [] }
+    ensures { Comes look.old (with_open fd any_open (seek_open fd whence offset)) look.new (intended edits.new result) }
 {
     match look.open_file(fd)? {
-        Some(description) => seek_open(alloc, look, fd, whence, offset, description),
+        Some(description) => seek_open(look, edits, fd, whence, offset, description),
         None => Err(Stop::Errno(Errno::EBADF)),
     }
 }
 
 /// Sets the offset of a description.
-fn seek_open<'c>(
-    alloc: Global,
+fn seek_open(
     look: &mut Look<'_>,
+    edits: &mut Edits<'_>,
     fd: u64,
     whence: Whence,
     offset: i64,
     description: OpenFile,
-) -> Result<Intent<'c>, Stop>
-    ensures { Comes look.old (seek_open fd whence offset description) look.new result }
+) -> Result<Told, Stop>
+    requires { edits.old ≡ [] }
+    ensures { Comes look.old (seek_open fd whence offset description) look.new (intended edits.new result) }
 {
     let from = seek_from(look, whence, description)?;
-    sought(alloc, look, fd, description, from, offset)
+    sought(look, edits, fd, description, from, offset)
 }
 
 /// From where an offset counts.
@@ -322,61 +317,63 @@ fn seek_from(look: &mut Look<'_>, whence: Whence, description: OpenFile) -> Resu
 }
 
 /// The offset lies behind a place, or before it.
-fn sought<'c>(
-    alloc: Global,
+fn sought(
     look: &mut Look<'_>,
+    edits: &mut Edits<'_>,
     fd: u64,
     description: OpenFile,
     from: u64,
     offset: i64,
-) -> Result<Intent<'c>, Stop>
-    ensures { Comes look.old (Answer (sought fd description (moved from offset))) look.new result }
+) -> Result<Told, Stop>
+    requires { edits.old ≡ [] }
+    ensures { Comes look.old (Answer (sought fd description (moved from offset))) look.new (intended edits.new result) }
 {
     let at = seek_place(from, offset)?;
-    let mut intent = Intent::tell(alloc, Told::Number(at));
-    intent.push(Edit::Open {
+    edits.push(Edit::Open {
         fd,
         to: Some(at_offset(description, at)),
     })?;
-    Ok(intent)
+    Ok(Told::Number(at))
 }
 
 /// Cuts a descriptor's file to a length, or adds zeros up to it.
-pub(crate) fn ftruncate<'c>(
-    alloc: Global,
+pub(crate) fn ftruncate(
     look: &mut Look<'_>,
+    edits: &mut Edits<'_>,
     fd: u64,
     length: i64,
-) -> Result<Intent<'c>, Stop>
-    ensures { Comes look.old (with_open fd is_writable (ftruncate_open length)) look.new result }
+) -> Result<Told, Stop>
+    requires { edits.old ≡ [] }
+    ensures { Comes look.old (with_open fd is_writable (ftruncate_open length)) look.new (intended edits.new result) }
 {
     match look.open_file(fd)? {
         Some(description) if description.access.can_write() => {
-            ftruncate_open(alloc, look, length, description)
+            ftruncate_open(look, edits, length, description)
         }
         _ => Err(Stop::Errno(Errno::EBADF)),
     }
 }
 
 /// Cuts a description's file.
-fn ftruncate_open<'c>(
-    alloc: Global,
+fn ftruncate_open(
     look: &mut Look<'_>,
+    edits: &mut Edits<'_>,
     length: i64,
     description: OpenFile,
-) -> Result<Intent<'c>, Stop>
-    ensures { Comes look.old (ftruncate_open length description) look.new result }
+) -> Result<Told, Stop>
+    requires { edits.old ≡ [] }
+    ensures { Comes look.old (ftruncate_open length description) look.new (intended edits.new result) }
 {
     let size = to_size(length)?;
-    cut_file(alloc, look, description.file, size)
+    cut_file(look, edits, description.file, size)
 }
 
 /// Tells what a descriptor has open.
-pub(crate) fn fstat<'c>(alloc: Global, look: &mut Look<'_>, fd: u64) -> Result<Intent<'c>, Stop>
-    ensures { Comes look.old (with_open fd any_open fstat_open) look.new result }
+pub(crate) fn fstat(look: &mut Look<'_>, fd: u64) -> Result<Told, Stop>
+    ensures { Comes look.old (with_open fd any_open fstat_open) look.new (intended [] result) }
 {
     match look.open_file(fd)? {
-        Some(description) => file_info(alloc, look, description.file),
+        Some(description) => file_info(look, description.file),
         None => Err(Stop::Errno(Errno::EBADF)),
     }
 }

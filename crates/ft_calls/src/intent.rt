@@ -167,29 +167,9 @@ pub struct Intent<'c> {
 }
 
 impl<'c> Intent<'c> {
-    ghost use Rattle.std.specs.Prelude.{◌≡◌, [], ◌∷◌, ◌++◌, IfOk, OnOk, OnErr};
-    ghost use Rattle.ft_calls.specs.Within.{IsWithin};
+    ghost use Rattle.std.specs.Prelude.{◌≡◌, IfOk, OnErr};
     ghost use Rattle.ft_calls.specs.Comes.{reply_of};
     ghost use Rattle.ft_calls.specs.Perform.{IsList};
-
-    /// An answer, with nothing to be set.
-    pub(crate) fn tell(alloc: Global, told: Told) -> Intent<'c>
-        ensures { result ≡ record { told = told; edits = [] } }
-    {
-        Intent {
-            told,
-            edits: Edits::new(alloc),
-        }
-    }
-
-    /// Has one more cell be set.
-    pub(crate) fn push(&mut self, edit: Edit<'c>) -> Result<(), Memory>
-        requires { IsWithin edit }
-        ensures told { OnOk result (self.new.told ≡ self.old.told) }
-        ensures edits { OnOk result (self.new.edits ≡ self.old.edits ++ edit.entry ∷ []) }
-    {
-        self.edits.push(edit)
-    }
 
     /// The reply of the call. A list is read off the tree, which is as it was looked at. Only a list
     /// takes memory, and want of it is the one refusal.

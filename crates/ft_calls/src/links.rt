@@ -1,5 +1,5 @@
 // What link, unlink and rename come to.
-ghost use Rattle.std.specs.Prelude.{◌≡◌, [], ◌++◌, Ok, IfOk};
+ghost use Rattle.std.specs.Prelude.{◌≡◌, [], ◌++◌, Ok, OnOk};
 ghost use Rattle.ft_path.specs.FilePath.{parts_of};
 ghost use Rattle.ft_tree.specs.declared.node.Node.TheVariants.{Dir as DirNode};
 ghost use Rattle.ft_tree.specs.Cells.{Cells, stored_dirs};
@@ -7,10 +7,12 @@ ghost use Rattle.ft_tree.specs.Looks.{Answer};
 ghost use Rattle.ft_tree.specs.Walk.{seen_at};
 ghost use Rattle.ft_calls.specs.Outcomes.{from_parts};
 ghost use Rattle.ft_calls.specs.Links.{link_at, link_new, link_old, link_parts, unlink_spot, rename_fault, renamed, with_parent, unless_below, replace_file, replace_dir, rename_file, rename_dir, rename_old, rename_parts};
+ghost use Rattle.ft_calls.specs.declared.intent.Told.TheVariants.{Done};
 ghost use Rattle.ft_calls.specs.Comes.{writes_of, outcome_of, Comes};
+ghost use Rattle.ft_calls.specs.Intended.{intended};
 
 use crate::MOST_LINKS;
-use crate::intent::{Edit, Intent, Stop, Told};
+use crate::intent::{Edit, Edits, Stop, Told};
 use crate::look::{Look, text_parts};
 use ft_base::Memory;
 use ft_path::{Errno, FilePath, LastName, Name, Parts};
@@ -18,21 +20,24 @@ use ft_tree::{Node, Spot};
 use std::alloc::Global;
 
 /// Removes an entry of a file.
-pub(crate) fn unlink<'c>(
+pub(crate) fn unlink(
     alloc: Global,
     look: &mut Look<'_>,
+    edits: &mut Edits<'_>,
     path: &FilePath,
-) -> Result<Intent<'c>, Stop>
-    ensures { Comes look.old (from_parts (parts_of path.now) unlink_spot) look.new result }
+) -> Result<Told, Stop>
+    requires { edits.old ≡ [] }
+    ensures { Comes look.old (from_parts (parts_of path.now) unlink_spot) look.new (intended edits.new result) }
 {
     let parts = text_parts(alloc, path)?;
     let spot = look.walk(&parts)?;
-    unlink_spot(alloc, look, spot)
+    unlink_spot(look, edits, spot)
 }
 
 /// Removes the entry of a file at which a walk ended.
-fn unlink_spot<'c>(alloc: Global, look: &mut Look<'_>, spot: Spot<'_>) -> Result<Intent<'c>, Stop>
-    ensures { Comes look.old (unlink_spot (seen_at spot.entry)) look.new result }
+fn unlink_spot(look: &mut Look<'_>, edits: &mut Edits<'_>, spot: Spot<'_>) -> Result<Told, Stop>
+    requires { edits.old ≡ [] }
+    ensures { Comes look.old (unlink_spot (seen_at spot.entry)) look.new (intended edits.new result) }
 {
     match spot {
         Spot::Named { node: None, .. } => Err(Stop::Errno(Errno::ENOENT)),
@@ -42,90 +47,95 @@ fn unlink_spot<'c>(alloc: Global, look: &mut Look<'_>, spot: Spot<'_>) -> Result
             node: Some(Node::File(file)),
         } => {
             let links = look.links(file)?;
-            let mut intent = Intent::tell(alloc, Told::Done);
-            intent.push(Edit::Links {
+            edits.push(Edit::Links {
                 file,
                 to: links.saturating_sub(1),
             })?;
-            intent.push(Edit::Entry {
+            edits.push(Edit::Entry {
                 dir,
                 name: name.try_clone()?,
                 to: None,
             })?;
-            Ok(intent)
+            Ok(Told::Done)
         }
         _ => Err(Stop::Errno(Errno::EPERM)),
     }
 }
 
 /// Makes another entry for a file.
-pub(crate) fn link<'c>(
+pub(crate) fn link(
     alloc: Global,
     look: &mut Look<'_>,
+    edits: &mut Edits<'_>,
     old: &FilePath,
     new: &FilePath,
-) -> Result<Intent<'c>, Stop>
-    ensures { Comes look.old (link_parts (parts_of old.now) (parts_of new.now)) look.new result }
+) -> Result<Told, Stop>
+    requires { edits.old ≡ [] }
+    ensures { Comes look.old (link_parts (parts_of old.now) (parts_of new.now)) look.new (intended edits.new result) }
 {
     let from = text_parts(alloc, old)?;
     let to = text_parts(alloc, new)?;
-    link_parts(alloc, look, &from, &to)
+    link_parts(look, edits, &from, &to)
 }
 
 /// Links the file that a path's components lead to, where those of another lead.
-fn link_parts<'c>(
-    alloc: Global,
+fn link_parts(
     look: &mut Look<'_>,
+    edits: &mut Edits<'_>,
     old: &Parts,
     new: &Parts,
-) -> Result<Intent<'c>, Stop>
-    ensures { Comes look.old (link_parts (Ok old.now) (Ok new.now)) look.new result }
+) -> Result<Told, Stop>
+    requires { edits.old ≡ [] }
+    ensures { Comes look.old (link_parts (Ok old.now) (Ok new.now)) look.new (intended edits.new result) }
 {
     let spot = look.walk(old)?;
-    link_old(alloc, look, new, spot)
+    link_old(look, edits, new, spot)
 }
 
 /// Links the file at which a walk ended.
-fn link_old<'c>(
-    alloc: Global,
+fn link_old(
     look: &mut Look<'_>,
+    edits: &mut Edits<'_>,
     new: &Parts,
     spot: Spot<'_>,
-) -> Result<Intent<'c>, Stop>
-    ensures { Comes look.old (link_old new.now (seen_at spot.entry)) look.new result }
+) -> Result<Told, Stop>
+    requires { edits.old ≡ [] }
+    ensures { Comes look.old (link_old new.now (seen_at spot.entry)) look.new (intended edits.new result) }
 {
     match spot {
         Spot::Named { node: None, .. } => Err(Stop::Errno(Errno::ENOENT)),
         Spot::Named {
             node: Some(Node::File(file)),
             ..
-        } => link_file(alloc, look, file, new),
+        } => link_file(look, edits, file, new),
         _ => Err(Stop::Errno(Errno::EPERM)),
     }
 }
 
 /// Links a file where a path's components lead.
-fn link_file<'c>(
-    alloc: Global,
+fn link_file(
     look: &mut Look<'_>,
+    edits: &mut Edits<'_>,
     file: u64,
     new: &Parts,
-) -> Result<Intent<'c>, Stop>
-    ensures { Comes look.old (from_parts (Ok new.now) (link_new file new.now.trailing)) look.new result }
+) -> Result<Told, Stop>
+    requires { edits.old ≡ [] }
+    ensures { Comes look.old (from_parts (Ok new.now) (link_new file new.now.trailing)) look.new (intended edits.new result) }
 {
     let spot = look.walk(new)?;
-    link_new(alloc, look, file, new.trailing, spot)
+    link_new(look, edits, file, new.trailing, spot)
 }
 
 /// Links a file where a walk ended, unless it has as many links as a file may have.
-fn link_new<'c>(
-    alloc: Global,
+fn link_new(
     look: &mut Look<'_>,
+    edits: &mut Edits<'_>,
     file: u64,
     trailing: bool,
     spot: Spot<'_>,
-) -> Result<Intent<'c>, Stop>
-    ensures { Comes look.old (link_new file trailing (seen_at spot.entry)) look.new result }
+) -> Result<Told, Stop>
+    requires { edits.old ≡ [] }
+    ensures { Comes look.old (link_new file trailing (seen_at spot.entry)) look.new (intended edits.new result) }
 {
     let Spot::Named {
         dir,
@@ -142,17 +152,16 @@ fn link_new<'c>(
     if links >= MOST_LINKS {
         return Err(Stop::Errno(Errno::EMLINK));
     }
-    let mut intent = Intent::tell(alloc, Told::Done);
-    intent.push(Edit::Entry {
+    edits.push(Edit::Entry {
         dir,
         name: name.try_clone()?,
         to: Some(Node::File(file)),
     })?;
-    intent.push(Edit::Links {
+    edits.push(Edit::Links {
         file,
         to: links + 1,
     })?;
-    Ok(intent)
+    Ok(Told::Done)
 }
 
 /// An entry that is to go, and the one that is to name what it names.
@@ -165,33 +174,36 @@ struct Renaming<'a> {
 }
 
 /// Gives a file or a directory another name.
-pub(crate) fn rename<'c>(
+pub(crate) fn rename(
     alloc: Global,
     look: &mut Look<'_>,
+    edits: &mut Edits<'_>,
     old: &FilePath,
     new: &FilePath,
-) -> Result<Intent<'c>, Stop>
-    ensures { Comes look.old (rename_parts (stored_dirs look.old.cells) (parts_of old.now) (parts_of new.now)) look.new result }
+) -> Result<Told, Stop>
+    requires { edits.old ≡ [] }
+    ensures { Comes look.old (rename_parts (stored_dirs look.old.cells) (parts_of old.now) (parts_of new.now)) look.new (intended edits.new result) }
 {
     let from = text_parts(alloc, old)?;
     let to = text_parts(alloc, new)?;
-    rename_parts(alloc, look, &from, &to)
+    rename_parts(look, edits, &from, &to)
 }
 
 /// Moves what a path's components lead to, to where those of another lead.
-fn rename_parts<'c>(
-    alloc: Global,
+fn rename_parts(
     look: &mut Look<'_>,
+    edits: &mut Edits<'_>,
     old: &Parts,
     new: &Parts,
-) -> Result<Intent<'c>, Stop>
-    ensures { Comes look.old (rename_parts (stored_dirs look.old.cells) (Ok old.now) (Ok new.now)) look.new result }
+) -> Result<Told, Stop>
+    requires { edits.old ≡ [] }
+    ensures { Comes look.old (rename_parts (stored_dirs look.old.cells) (Ok old.now) (Ok new.now)) look.new (intended edits.new result) }
 {
     if let Some(errno) = rename_fault(old.last(), new.last()) {
         return Err(Stop::Errno(errno));
     }
     let spot = look.walk(old)?;
-    rename_old(alloc, look, new, spot)
+    rename_old(look, edits, new, spot)
 }
 
 /// What is wrong with the last components of two paths, before anything is looked up.
@@ -208,13 +220,14 @@ fn rename_fault(old: LastName, new: LastName) -> Option<Errno>
 }
 
 /// Moves the entry at which a walk ended, to where a path's components lead.
-fn rename_old<'c>(
-    alloc: Global,
+fn rename_old(
     look: &mut Look<'_>,
+    edits: &mut Edits<'_>,
     new: &Parts,
     spot: Spot<'_>,
-) -> Result<Intent<'c>, Stop>
-    ensures { Comes look.old (rename_old (stored_dirs look.old.cells) new.now (seen_at spot.entry)) look.new result }
+) -> Result<Told, Stop>
+    requires { edits.old ≡ [] }
+    ensures { Comes look.old (rename_old (stored_dirs look.old.cells) new.now (seen_at spot.entry)) look.new (intended edits.new result) }
 {
     match spot {
         Spot::Itself(_) => Err(Stop::Errno(Errno::EBUSY)),
@@ -223,41 +236,43 @@ fn rename_old<'c>(
             dir,
             name,
             node: Some(Node::File(file)),
-        } => { rename_file_to(alloc, look, dir, name, file, new) }
+        } => { rename_file_to(look, edits, dir, name, file, new) }
         Spot::Named {
             dir,
             name,
             node: Some(Node::Dir(number)),
-        } => { rename_dir_to(alloc, look, dir, name, number, new) }
+        } => { rename_dir_to(look, edits, dir, name, number, new) }
     }
 }
 
 /// Moves the entry of a file to where a path's components lead.
-fn rename_file_to<'c>(
-    alloc: Global,
+fn rename_file_to(
     look: &mut Look<'_>,
+    edits: &mut Edits<'_>,
     dir: u64,
     name: &Name,
     file: u64,
     new: &Parts,
-) -> Result<Intent<'c>, Stop>
-    ensures { Comes look.old (from_parts (Ok new.now) (rename_file dir name.now file new.now.trailing)) look.new result }
+) -> Result<Told, Stop>
+    requires { edits.old ≡ [] }
+    ensures { Comes look.old (from_parts (Ok new.now) (rename_file dir name.now file new.now.trailing)) look.new (intended edits.new result) }
 {
     let spot = look.walk(new)?;
-    rename_file(alloc, look, dir, name, file, new.trailing, spot)
+    rename_file(look, edits, dir, name, file, new.trailing, spot)
 }
 
 /// Moves the entry of a file to where a walk ended.
-fn rename_file<'c>(
-    alloc: Global,
+fn rename_file(
     look: &mut Look<'_>,
+    edits: &mut Edits<'_>,
     dir: u64,
     name: &Name,
     file: u64,
     trailing: bool,
     spot: Spot<'_>,
-) -> Result<Intent<'c>, Stop>
-    ensures { Comes look.old (rename_file dir name.now file trailing (seen_at spot.entry)) look.new result }
+) -> Result<Told, Stop>
+    requires { edits.old ≡ [] }
+    ensures { Comes look.old (rename_file dir name.now file trailing (seen_at spot.entry)) look.new (intended edits.new result) }
 {
     let Spot::Named {
         dir: into,
@@ -275,57 +290,63 @@ fn rename_file<'c>(
     };
     match node {
         None if trailing => Err(Stop::Errno(Errno::ENOTDIR)),
-        None => Ok(renamed(alloc, renaming, Node::File(file))?),
-        Some(Node::File(replaced)) if replaced == file => Ok(Intent::tell(alloc, Told::Done)),
-        Some(Node::File(replaced)) => replace_file(alloc, look, renaming, file, replaced),
+        None => {
+            renamed(edits, renaming, Node::File(file))?;
+            Ok(Told::Done)
+        }
+        Some(Node::File(replaced)) if replaced == file => Ok(Told::Done),
+        Some(Node::File(replaced)) => replace_file(look, edits, renaming, file, replaced),
         Some(Node::Dir(_)) => Err(Stop::Errno(Errno::EISDIR)),
     }
 }
 
 /// Moves the entry of a file to where it replaces another.
-fn replace_file<'c>(
-    alloc: Global,
+fn replace_file(
     look: &mut Look<'_>,
+    edits: &mut Edits<'_>,
     renaming: Renaming<'_>,
     file: u64,
     replaced: u64,
-) -> Result<Intent<'c>, Stop>
-    ensures { Comes look.old (replace_file renaming.entry.dir renaming.entry.name.now file renaming.entry.into renaming.entry.other.now replaced) look.new result }
+) -> Result<Told, Stop>
+    requires { edits.old ≡ [] }
+    ensures { Comes look.old (replace_file renaming.entry.dir renaming.entry.name.now file renaming.entry.into renaming.entry.other.now replaced) look.new (intended edits.new result) }
 {
     let links = look.links(replaced)?;
-    let mut intent = renamed(alloc, renaming, Node::File(file))?;
-    intent.push(Edit::Links {
+    renamed(edits, renaming, Node::File(file))?;
+    edits.push(Edit::Links {
         file: replaced,
         to: links.saturating_sub(1),
     })?;
-    Ok(intent)
+    Ok(Told::Done)
 }
 
 /// Moves the entry of a directory to where a path's components lead.
-fn rename_dir_to<'c>(
-    alloc: Global,
+fn rename_dir_to(
     look: &mut Look<'_>,
+    edits: &mut Edits<'_>,
     dir: u64,
     name: &Name,
     number: u64,
     new: &Parts,
-) -> Result<Intent<'c>, Stop>
-    ensures { Comes look.old (from_parts (Ok new.now) (rename_dir (stored_dirs look.old.cells) dir name.now number)) look.new result }
+) -> Result<Told, Stop>
+    requires { edits.old ≡ [] }
+    ensures { Comes look.old (from_parts (Ok new.now) (rename_dir (stored_dirs look.old.cells) dir name.now number)) look.new (intended edits.new result) }
 {
     let spot = look.walk(new)?;
-    rename_dir(alloc, look, dir, name, number, spot)
+    rename_dir(look, edits, dir, name, number, spot)
 }
 
 /// Moves the entry of a directory to where a walk ended.
-fn rename_dir<'c>(
-    alloc: Global,
+fn rename_dir(
     look: &mut Look<'_>,
+    edits: &mut Edits<'_>,
     dir: u64,
     name: &Name,
     number: u64,
     spot: Spot<'_>,
-) -> Result<Intent<'c>, Stop>
-    ensures { Comes look.old (rename_dir (stored_dirs look.old.cells) dir name.now number (seen_at spot.entry)) look.new result }
+) -> Result<Told, Stop>
+    requires { edits.old ≡ [] }
+    ensures { Comes look.old (rename_dir (stored_dirs look.old.cells) dir name.now number (seen_at spot.entry)) look.new (intended edits.new result) }
 {
     let Spot::Named {
         dir: into,
@@ -342,101 +363,101 @@ fn rename_dir<'c>(
         other,
     };
     match node {
-        None => move_dir(alloc, look, number, renaming),
-        Some(Node::Dir(replaced)) if replaced == number => Ok(Intent::tell(alloc, Told::Done)),
-        Some(Node::Dir(replaced)) => replace_dir(alloc, look, number, renaming, replaced),
+        None => move_dir(look, edits, number, renaming),
+        Some(Node::Dir(replaced)) if replaced == number => Ok(Told::Done),
+        Some(Node::Dir(replaced)) => replace_dir(look, edits, number, renaming, replaced),
         Some(Node::File(_)) => Err(Stop::Errno(Errno::ENOTDIR)),
     }
 }
 
 /// Moves the entry of a directory to a name that is not there, unless it would come to stand below
 /// itself.
-fn move_dir<'c>(
-    alloc: Global,
+fn move_dir(
     look: &mut Look<'_>,
+    edits: &mut Edits<'_>,
     number: u64,
     renaming: Renaming<'_>,
-) -> Result<Intent<'c>, Stop>
-    ensures { Comes look.old (unless_below (stored_dirs look.old.cells) number renaming.entry.into (Answer (renamed renaming.entry.dir renaming.entry.name.now (DirNode number) renaming.entry.into renaming.entry.other.now (with_parent number renaming.entry.dir renaming.entry.into)))) look.new result }
+) -> Result<Told, Stop>
+    requires { edits.old ≡ [] }
+    ensures { Comes look.old (unless_below (stored_dirs look.old.cells) number renaming.entry.into (Answer (renamed renaming.entry.dir renaming.entry.name.now (DirNode number) renaming.entry.into renaming.entry.other.now (with_parent number renaming.entry.dir renaming.entry.into)))) look.new (intended edits.new result) }
 {
     if look.climb(number, renaming.into)? {
         return Err(Stop::Errno(Errno::EINVAL));
     }
-    let intent = renamed(alloc, renaming, Node::Dir(number))?;
-    Ok(with_parent(intent, number, renaming)?)
+    renamed(edits, renaming, Node::Dir(number))?;
+    with_parent(edits, number, renaming)?;
+    Ok(Told::Done)
 }
 
 /// Moves the entry of a directory to that of another, which is gone then, unless it would come to
 /// stand below itself or that one is not empty.
-fn replace_dir<'c>(
-    alloc: Global,
+fn replace_dir(
     look: &mut Look<'_>,
+    edits: &mut Edits<'_>,
     number: u64,
     renaming: Renaming<'_>,
     replaced: u64,
-) -> Result<Intent<'c>, Stop>
-    ensures { Comes look.old (unless_below (stored_dirs look.old.cells) number renaming.entry.into (replace_dir renaming.entry.dir renaming.entry.name.now number renaming.entry.into renaming.entry.other.now replaced)) look.new result }
+) -> Result<Told, Stop>
+    requires { edits.old ≡ [] }
+    ensures { Comes look.old (unless_below (stored_dirs look.old.cells) number renaming.entry.into (replace_dir renaming.entry.dir renaming.entry.name.now number renaming.entry.into renaming.entry.other.now replaced)) look.new (intended edits.new result) }
 {
     if look.climb(number, renaming.into)? {
         return Err(Stop::Errno(Errno::EINVAL));
     }
-    replace_empty(alloc, look, number, renaming, replaced)
+    replace_empty(look, edits, number, renaming, replaced)
 }
 
 /// Moves the entry of a directory to that of an empty one, which is gone then.
-fn replace_empty<'c>(
-    alloc: Global,
+fn replace_empty(
     look: &mut Look<'_>,
+    edits: &mut Edits<'_>,
     number: u64,
     renaming: Renaming<'_>,
     replaced: u64,
-) -> Result<Intent<'c>, Stop>
-    ensures { Comes look.old (replace_dir renaming.entry.dir renaming.entry.name.now number renaming.entry.into renaming.entry.other.now replaced) look.new result }
+) -> Result<Told, Stop>
+    requires { edits.old ≡ [] }
+    ensures { Comes look.old (replace_dir renaming.entry.dir renaming.entry.name.now number renaming.entry.into renaming.entry.other.now replaced) look.new (intended edits.new result) }
 {
     if !look.is_empty_dir(replaced)? {
         return Err(Stop::Errno(Errno::ENOTEMPTY));
     }
-    let mut intent = renamed(alloc, renaming, Node::Dir(number))?;
-    intent.push(Edit::Parent {
+    renamed(edits, renaming, Node::Dir(number))?;
+    edits.push(Edit::Parent {
         dir: replaced,
         to: None,
     })?;
-    Ok(with_parent(intent, number, renaming)?)
+    with_parent(edits, number, renaming)?;
+    Ok(Told::Done)
 }
 
 /// The new entry names what the old one named, and that one is gone.
-fn renamed<'c>(alloc: Global, renaming: Renaming<'_>, node: Node) -> Result<Intent<'c>, Memory>
-    ensures { (cells : Cells) → IfOk result (λ intent. outcome_of cells intent ≡ renamed renaming.entry.dir renaming.entry.name.now node renaming.entry.into renaming.entry.other.now []) }
+fn renamed(edits: &mut Edits<'_>, renaming: Renaming<'_>, node: Node) -> Result<(), Memory>
+    requires { edits.old ≡ [] }
+    ensures { (cells : Cells) → OnOk result (outcome_of cells (record { told = Done; edits = edits.new }) ≡ renamed renaming.entry.dir renaming.entry.name.now node renaming.entry.into renaming.entry.other.now []) }
 {
-    let mut intent = Intent::tell(alloc, Told::Done);
-    intent.push(Edit::Entry {
+    edits.push(Edit::Entry {
         dir: renaming.into,
         name: renaming.other.try_clone()?,
         to: Some(node),
     })?;
-    intent.push(Edit::Entry {
+    edits.push(Edit::Entry {
         dir: renaming.dir,
         name: renaming.name.try_clone()?,
         to: None,
     })?;
-    Ok(intent)
+    Ok(())
 }
 
 /// A directory has another parent where another one holds it.
-fn with_parent<'c>(
-    mut intent: Intent<'c>,
-    number: u64,
-    renaming: Renaming<'_>,
-) -> Result<Intent<'c>, Memory>
-    ensures told { IfOk result (λ more. more.told ≡ intent.entry.told) }
-    ensures edits { (cells : Cells) → IfOk result (λ more. writes_of cells more.edits ≡ writes_of cells intent.entry.edits ++ with_parent number renaming.entry.dir renaming.entry.into) }
+fn with_parent(edits: &mut Edits<'_>, number: u64, renaming: Renaming<'_>) -> Result<(), Memory>
+    ensures { (cells : Cells) → OnOk result (writes_of cells edits.new ≡ writes_of cells edits.old ++ with_parent number renaming.entry.dir renaming.entry.into) }
 {
     if renaming.dir == renaming.into {
-        return Ok(intent);
+        return Ok(());
     }
-    intent.push(Edit::Parent {
+    edits.push(Edit::Parent {
         dir: number,
         to: Some(renaming.into),
     })?;
-    Ok(intent)
+    Ok(())
 }

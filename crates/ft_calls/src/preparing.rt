@@ -1,5 +1,5 @@
 // What a call touches and comes to, found out in one go.
-ghost use Rattle.std.specs.Prelude.{◌≡◌, IfOk, OnOk};
+ghost use Rattle.std.specs.Prelude.{◌≡◌, [], IfOk, OnOk};
 ghost use Rattle.ft_tree.specs.Cells.{stored_dirs};
 ghost use Rattle.ft_tree.specs.Sound.{AreSoundCells};
 ghost use Rattle.ft_calls.specs.Edits.{CanEditAll, Apart};
@@ -8,12 +8,13 @@ ghost use Rattle.ft_calls.specs.Stored.{outcome};
 ghost use Rattle.ft_calls.specs.Accesses.{accesses_of};
 ghost use Rattle.ft_calls.specs.Looking.{noted};
 ghost use Rattle.ft_calls.specs.Comes.{Comes, outcome_of};
+ghost use Rattle.ft_calls.specs.Intended.{intended};
 
 use crate::call::{Access, Call, OpenFlags};
 use crate::descriptors::{close, fstat, ftruncate, lseek, pread, pwrite, read, write};
 use crate::dirs::{list, mkdir, rmdir};
 use crate::files::{open, stat, truncate};
-use crate::intent::{Intent, Stop, Told};
+use crate::intent::{Edits, Intent, Stop, Told};
 use crate::links::{link, rename, unlink};
 use crate::look::Look;
 use ft_base::Memory;
@@ -40,40 +41,49 @@ pub fn prepare<'c>(
     ensures apart { AreSoundCells tree.now → IfOk result (λ call_made. Apart call_made.intent.edits) }
 {
     let mut look = Look::new(alloc, tree);
-    let intent = intend_or_fail(alloc, &mut look, stamp, call)?;
-    let accesses = look.into_accesses(&intent.edits)?;
+    let mut edits = Edits::new(alloc);
+    let told = tell_or_fail(alloc, &mut look, &mut edits, stamp, call)?;
+    let accesses = look.into_accesses(&edits)?;
+    let intent = Intent { told, edits };
     Ok(Prepared { accesses, intent })
 }
 
-/// What a call comes to, where a fault is an answer like others.
-fn intend_or_fail<'c>(
+/// What a call answers, and the edits that it makes out; a fault is an answer like others.
+fn tell_or_fail<'c>(
     alloc: Global,
     look: &mut Look<'_>,
+    edits: &mut Edits<'c>,
     stamp: u64,
     call: &'c Call,
-) -> Result<Intent<'c>, Memory>
-    ensures outcome { IfOk result (λ intent. outcome_of look.old.cells intent ≡ outcome look.old.cells stamp call.now) }
+) -> Result<Told, Memory>
+    requires { edits.old ≡ [] }
+    ensures outcome { IfOk result (λ told. outcome_of look.old.cells (record { told = told; edits = edits.new }) ≡ outcome look.old.cells stamp call.now) }
     ensures looks { OnOk result (look.new ≡ noted look.old (steps (stored_dirs look.old.cells) stamp call.now)) }
 {
-    match intend(alloc, look, stamp, call) {
-        Ok(intent) => Ok(intent),
-        Err(Stop::Errno(errno)) => Ok(Intent::tell(alloc, Told::Failed(errno))),
+    match tell(alloc, look, edits, stamp, call) {
+        Ok(told) => Ok(told),
+        Err(Stop::Errno(errno)) => {
+            *edits = Edits::new(alloc);
+            Ok(Told::Failed(errno))
+        }
         Err(Stop::Memory) => Err(Memory),
     }
 }
 
-/// What a call comes to.
-fn intend<'c>(
+/// What a call answers, and the edits that it makes out, or its fault.
+fn tell<'c>(
     alloc: Global,
     look: &mut Look<'_>,
+    edits: &mut Edits<'c>,
     stamp: u64,
     call: &'c Call,
-) -> Result<Intent<'c>, Stop>
-    ensures { Comes look.old (steps (stored_dirs look.old.cells) stamp call.now) look.new result }
+) -> Result<Told, Stop>
+    requires { edits.old ≡ [] }
+    ensures { Comes look.old (steps (stored_dirs look.old.cells) stamp call.now) look.new (intended edits.new result) }
 {
     match call {
-        Call::Mkdir { path } => mkdir(alloc, look, stamp, path),
-        Call::Rmdir { path } => rmdir(alloc, look, path),
+        Call::Mkdir { path } => mkdir(alloc, look, edits, stamp, path),
+        Call::Rmdir { path } => rmdir(alloc, look, edits, path),
         Call::List { path } => list(alloc, look, path),
         Call::Open {
             path,
@@ -90,21 +100,21 @@ fn intend<'c>(
                 trunc: *trunc,
                 append: *append,
             };
-            open(alloc, look, stamp, path, flags)
+            open(alloc, look, edits, stamp, path, flags)
         }
-        Call::Close { fd } => close(alloc, look, *fd),
-        Call::Read { fd, len } => read(alloc, look, *fd, *len),
-        Call::Write { fd, bytes } => write(alloc, look, *fd, bytes.as_slice()),
-        Call::Pread { fd, off, len } => pread(alloc, look, *fd, *off, *len),
-        Call::Pwrite { fd, off, bytes } => pwrite(alloc, look, *fd, *off, bytes.as_slice()),
-        Call::Lseek { fd, whence, off } => lseek(alloc, look, *fd, *whence, *off),
-        Call::Truncate { len, path } => truncate(alloc, look, *len, path),
-        Call::Ftruncate { fd, len } => ftruncate(alloc, look, *fd, *len),
+        Call::Close { fd } => close(look, edits, *fd),
+        Call::Read { fd, len } => read(look, edits, *fd, *len),
+        Call::Write { fd, bytes } => write(look, edits, *fd, bytes.as_slice()),
+        Call::Pread { fd, off, len } => pread(look, *fd, *off, *len),
+        Call::Pwrite { fd, off, bytes } => pwrite(look, edits, *fd, *off, bytes.as_slice()),
+        Call::Lseek { fd, whence, off } => lseek(look, edits, *fd, *whence, *off),
+        Call::Truncate { len, path } => truncate(alloc, look, edits, *len, path),
+        Call::Ftruncate { fd, len } => ftruncate(look, edits, *fd, *len),
         Call::Stat { path } => stat(alloc, look, path),
-        Call::Fstat { fd } => fstat(alloc, look, *fd),
-        Call::Link { old, new } => link(alloc, look, old, new),
-        Call::Unlink { path } => unlink(alloc, look, path),
-        Call::Rename { old, new } => rename(alloc, look, old, new),
+        Call::Fstat { fd } => fstat(look, *fd),
+        Call::Link { old, new } => link(alloc, look, edits, old, new),
+        Call::Unlink { path } => unlink(alloc, look, edits, path),
+        Call::Rename { old, new } => rename(alloc, look, edits, old, new),
     }
 }
 

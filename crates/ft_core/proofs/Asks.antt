@@ -10,7 +10,6 @@ use Rattle.ft_calls.specs.declared.call.Call.{Call}
 use Rattle.ft_calls.specs.declared.call.Reply.{Reply}
 use Rattle.ft_calls.specs.declared.call.Access.{Access}
 use Rattle.ft_calls.specs.Accesses.{accesses_of}
-use Rattle.ft_calls.specs.Outcomes.{Outcome}
 use Rattle.ft_calls.specs.Stored.{outcome}
 use Rattle.ft_calls.specs.Posix.{posix_calls}
 use Rattle.ft_undo.specs.declared.logs.Logged.{Logged}
@@ -27,6 +26,8 @@ use Rattle.ft_core.specs.Journals.{Journaled, is_full, with_call, state_of}
 use Rattle.ft_core.specs.Kept.{IsCoreAt, IsCoreOf}
 use Rattle.ft_core.specs.Laws.{CallLaws, LockLaws}
 use Rattle.ft_core.specs.Makes.{IsMadeOn, IsUnmade}
+use Rattle.ft_core.specs.Tries.{IsMade}
+use Rattle.ft_core.specs.declared.asking.Made.{Made}
 use Rattle.ft_core.specs.Steps.{IsAsked, exact_rule}
 use Rattle.ft_core.proofs.Cores.{dropped, core-asks, awaited}
 use Rattle.ft_core.proofs.Begins.{core-opened}
@@ -92,17 +93,15 @@ module _ (W : CallLaws) (K : LockLaws) (cells : Cells) (forest : Transactions) (
         kept = subst (λ (p : Journaled). IsCoreOf (state_of forest p) cells' forest table' lists' p) (sym is) whole;
       }
 
-  -- the same, as the steps of the code have it
-  pub core-request : (t : ℕ) (call : Call) → fate_of s t ≡ Some Live → (stamp : ℕ) → stamp ≡ next_stamp s → (touched : List Access) → touched ≡ accesses_of cells stamp call → (o : Outcome) → o ≡ outcome cells stamp call
-      → (seen : List Access) (found : List ℕ) → seen ≡ touched → AreBlockers table forest t seen found → found ≡ [] → (kept : Reply) → kept ≡ o.reply → (taken : List Access) → taken ≡ touched
-      → (cells' : Cells) (table' : LockTable) (lists' : Lists Logged) → IsMadeOn cells cells' o.writes table table' lists lists' t stamp touched → (j1 j' : Journaled) → j1 ≡ record j { room = j1.room } → j' ≡ with_call j1 t call kept taken → IsGranted t call kept cells' table' lists' j'
-  core-request t call live stamp next touched is_touched o is_o seen found same are none kept answered taken all cells' table' lists' made j1 j' reserved is =
-      let k = next_stamp s in
-      let here : o ≡ outcome cells k call = is_o ∙ ap (λ n. outcome cells n call) next in
-      core-called t call kept touched live (is_touched ∙ ap (λ n. accesses_of cells n call) next) (answered ∙ ap (λ (q : Outcome). q.reply) here)
-      (subst (AreBlockers table forest t touched) none (subst (λ f. AreBlockers table forest t f found) same are)) cells' table' lists'
-      (subst (λ n. IsMadeOn cells cells' (outcome cells k call).writes table table' lists lists' t n touched) next (subst (λ (q : Outcome). IsMadeOn cells cells' q.writes table table' lists lists' t stamp touched) here made))
-      j' j1.room (is ∙ (λ x. with_call (reserved x) t call kept (all x)))
+  -- a call that was tried and made is granted
+  pub core-made : (t : ℕ) (call : Call) → fate_of s t ≡ Some Live → (stamp : ℕ) → stamp ≡ next_stamp s → (cells' : Cells) (table' : LockTable) (lists' : Lists Logged) (made : Made) → IsMade cells cells' table table' lists lists' forest t stamp call made
+      → (j1 j' : Journaled) → j1 ≡ record j { room = j1.room } → j' ≡ with_call j1 t call made.kept made.accesses.items → IsGranted t call made.kept cells' table' lists' j'
+  core-made t call live stamp next cells' table' lists' made is j1 j' reserved told =
+      core-called t call made.kept made.accesses.items live (is.accesses ∙ ap (λ n. accesses_of cells n call) next) (is.reply ∙ ap (λ n. (outcome cells n call).reply) next)
+      (subst (λ xs. AreBlockers table forest t xs []) (sym is.accesses) is.free) cells' table' lists'
+      (subst (λ n. IsMadeOn cells cells' (outcome cells n call).writes table table' lists lists' t n made.accesses.items) next
+      (subst (IsMadeOn cells cells' (outcome cells stamp call).writes table table' lists lists' t stamp) (sym is.accesses) is.made_on))
+      j' j1.room (told ∙ ap (λ (q : Journaled). with_call q t call made.kept made.accesses.items) reserved)
 
   pub asked-now : (now : State) → s ≡ now → (t : ℕ) (call : Call) (stamp : ℕ) → stamp ≡ next_stamp s → (reply kept : Reply) → reply ≡ kept → (cells' : Cells) (table' : LockTable) (lists' : Lists Logged) (j' : Journaled) → IsGranted t call kept cells' table' lists' j'
       → IsAsked exact_rule now t call (Granted stamp reply) (state_of forest j')
@@ -111,10 +110,16 @@ module _ (W : CallLaws) (K : LockLaws) (cells : Cells) (forest : Transactions) (
       (subst (λ q. IsAsked exact_rule q t call (Granted (next_stamp q) kept) (state_of forest j')) is g.asked)
 
   -- whom a call waits for
-  pub waits-for : (now : State) → s ≡ now → (t : ℕ) (call : Call) (stamp : ℕ) → stamp ≡ next_stamp s → (touched : List Access) → touched ≡ accesses_of cells stamp call → (seen : List Access) (found : List ℕ) → seen ≡ touched → AreBlockers table forest t seen found
-      → found ≡ exact_rule now t (accesses_now now call)
-  waits-for now is t call stamp next touched is_touched seen found same are =
-      blocked t call touched found (is_touched ∙ ap (λ n. accesses_of cells n call) next) (subst (λ f. AreBlockers table forest t f found) same are) ∙ ap (λ q. exact_rule q t (accesses_now q call)) is
+  pub waits-for : (now : State) → s ≡ now → (t : ℕ) (call : Call) (stamp : ℕ) → stamp ≡ next_stamp s → (found : List ℕ) → AreBlockers table forest t (accesses_of cells stamp call) found → found ≡ exact_rule now t (accesses_now now call)
+  waits-for now is t call stamp next found are =
+      blocked t call (accesses_of cells stamp call) found (ap (λ n. accesses_of cells n call) next) are ∙ ap (λ q. exact_rule q t (accesses_now q call)) is
+
+  -- a call that was tried and made
+  pub tried-made : (now : State) → s ≡ now → (t : ℕ) (call : Call) → fate_of now t ≡ Some Live → (stamp : ℕ) → stamp ≡ next_stamp s → (cells' : Cells) (table' : LockTable) (lists' : Lists Logged) (made : Made) → IsMade cells cells' table table' lists lists' forest t stamp call made
+      → (j1 j' : Journaled) → j1 ≡ record j { room = j1.room } → j' ≡ with_call j1 t call made.kept made.accesses.items → IsCoreOf (state_of forest j') cells' forest table' lists' j' × IsAsked exact_rule now t call (Granted stamp made.reply) (state_of forest j')
+  tried-made now is t call live stamp next cells' table' lists' made as_made j1 j' reserved told =
+      let g = core-made t call (ap (λ (q : State). fate_of q t) is ∙ live) stamp next cells' table' lists' made as_made j1 j' reserved told in
+      (g.kept, asked-now now is t call stamp next made.reply made.kept as_made.twice cells' table' lists' j' g)
 
   pub core-waits : (t : ℕ) (call : Call) → fate_of s t ≡ Some Live → (j' : Journaled) → j' ≡ record j { asks = finite.insert j.asks t call } → IsCoreOf (state_of forest j') cells forest table lists j'
   core-waits t call live j' is =

@@ -8,6 +8,7 @@ pub mod Journals
 pub mod Laws
 pub mod Opens
 pub mod Makes
+pub mod Tries
 pub mod Kept
 pub mod Reports
 pub mod Taking

@@ -14,6 +14,7 @@ ghost use Rattle.ft_core.specs.declared.fault.Fault.TheVariants.{Memory as Memor
 ghost use Rattle.ft_core.specs.declared.request.Request.TheVariants.{Ask, Retry};
 ghost use Rattle.ft_core.specs.States.{fate_of, has_most_calls};
 ghost use Rattle.ft_core.specs.Makes.{IsMadeOn, IsUnmade};
+ghost use Rattle.ft_core.specs.Tries.{IsTried};
 ghost use Rattle.ft_core.specs.Steps.{IsStep, IsAsked, exact_rule, answer_with, outcome_answer};
 
 use crate::fault::Fault;
@@ -89,36 +90,35 @@ impl Core {
     {
         call_laws();
         lock_laws();
-        let stamp = self.journal.next_stamp();
-        let Looked { prepared, blockers } = look(
-            self.alloc,
-            &self.tree,
-            &self.locks,
-            &self.forest,
-            Asker { txn, stamp },
-            &call,
-        )?;
-        if !blockers.is_empty() {
-            drop(prepared);
-            self.journal.wait(txn, call)?;
-            let blockers = Sequence::from(blockers);
-            return Ok(Outcome::Waits { blockers });
-        }
         self.journal.reserve()?;
-        let Made {
-            reply,
-            kept,
-            accesses,
-        } = make(
+        let stamp = self.journal.next_stamp();
+        let tried = try_call(
             self.alloc,
             &mut self.tree,
             &mut self.locks,
             &mut self.logs,
-            Asker { txn, stamp },
-            prepared,
+            &self.forest,
+            txn,
+            stamp,
+            &call,
         )?;
-        self.journal.grant(txn, call, kept, accesses);
-        Ok(Outcome::Granted { stamp, reply })
+        match tried {
+            Tried::Made(
+                Made {
+                    reply,
+                    kept,
+                    accesses,
+                },
+            ) => {
+                self.journal.grant(txn, call, kept, accesses);
+                Ok(Outcome::Granted { stamp, reply })
+            }
+            Tried::Blocked(blockers) => {
+                self.journal.wait(txn, call)?;
+                let blockers = Sequence::from(blockers);
+                Ok(Outcome::Waits { blockers })
+            }
+        }
     }
 
     /// Makes the call that a transaction waits for, or answers whom it waits for.
@@ -137,32 +137,32 @@ impl Core {
         let Some(call) = self.journal.pending(txn) else {
             unreachable!();
         };
-        let Looked { prepared, blockers } = look(
-            self.alloc,
-            &self.tree,
-            &self.locks,
-            &self.forest,
-            Asker { txn, stamp },
-            call,
-        )?;
-        if !blockers.is_empty() {
-            let blockers = Sequence::from(blockers);
-            return Ok(Outcome::Waits { blockers });
-        }
-        let Made {
-            reply,
-            kept,
-            accesses,
-        } = make(
+        let tried = try_call(
             self.alloc,
             &mut self.tree,
             &mut self.locks,
             &mut self.logs,
-            Asker { txn, stamp },
-            prepared,
+            &self.forest,
+            txn,
+            stamp,
+            call,
         )?;
-        self.journal.grant_pending(txn, kept, accesses);
-        Ok(Outcome::Granted { stamp, reply })
+        match tried {
+            Tried::Made(
+                Made {
+                    reply,
+                    kept,
+                    accesses,
+                },
+            ) => {
+                self.journal.grant_pending(txn, kept, accesses);
+                Ok(Outcome::Granted { stamp, reply })
+            }
+            Tried::Blocked(blockers) => {
+                let blockers = Sequence::from(blockers);
+                Ok(Outcome::Waits { blockers })
+            }
+        }
     }
 }
 
@@ -202,10 +202,51 @@ pub(crate) fn look<'c>(
 
 /// The reply of a call that was made, twice, and its accesses.
 #[derive(Drop)]
-struct Made {
-    reply: Reply,
-    kept: Reply,
-    accesses: Vec<Access>,
+pub(crate) struct Made {
+    pub reply: Reply,
+    pub kept: Reply,
+    pub accesses: Vec<Access>,
+}
+
+/// What has come of a call that was tried.
+#[derive(Drop)]
+pub(crate) enum Tried {
+    /// It is made, and the asker has its locks.
+    Made(Made),
+    /// These are in the way of it, in rising order. Nothing has changed.
+    Blocked(Vec<TxnId>),
+}
+
+/// Makes a call where nobody is in the way of it. Where memory is wanting nothing has changed.
+fn try_call(
+    alloc: Global,
+    tree: &mut Tree,
+    locks: &mut Locks,
+    logs: &mut Logs,
+    forest: &Forest,
+    txn: TxnId,
+    stamp: u64,
+    call: &Call,
+) -> Result<Tried, Memory>
+    requires sound { AreSoundCells tree.old }
+    requires locks { is_opened locks.old txn ≡ true }
+    requires log { is_open logs.old txn ≡ true }
+    ensures tried { IfOk result (IsTried tree.old tree.new locks.old locks.new logs.old logs.new forest.now txn stamp call.now) }
+    ensures unmade { OnErr result (IsUnmade tree.old tree.new locks.old locks.new logs.old logs.new) }
+{
+    let Looked { prepared, blockers } = look(
+        alloc,
+        tree,
+        locks,
+        forest,
+        Asker { txn, stamp },
+        call,
+    )?;
+    if !blockers.is_empty() {
+        return Ok(Tried::Blocked(blockers));
+    }
+    let made = make(alloc, tree, locks, logs, Asker { txn, stamp }, prepared)?;
+    Ok(Tried::Made(made))
 }
 
 /// Makes a call on the tree, gives its asker its locks and keeps what takes it back. Where memory is wanting nothing has

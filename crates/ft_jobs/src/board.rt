@@ -21,7 +21,7 @@ struct Places {
 }
 
 // How far a job has come.
-#[derive(Clone, Copy, Debug)]
+#[derive(Clone, Copy)]
 enum Phase {
     // It has not come to its subjobs yet.
     Ahead,

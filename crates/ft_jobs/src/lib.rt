@@ -11,8 +11,6 @@ mod places;
 mod report;
 mod running;
 mod steps;
-#[cfg(test)]
-mod tests;
 
 pub use ft_plan::{Job, JobFault, JobName, LONGEST_PLAN, Plan, Step};
 pub use gate::{Gate, OpenGate};

@@ -125,7 +125,7 @@ fn opened(alloc: Global, steps: &[Step], calls: &[CallReport]) -> Result<Vec<u64
 }
 
 // How much calls are of what steps ask for.
-#[derive(Clone, Copy, Debug, PartialEq, Eq)]
+#[derive(Clone, Copy, PartialEq, Eq)]
 enum Extent {
     // All of it.
     Whole,

@@ -1,6 +1,6 @@
 -- What callers see of a grant.
 use Rattle.std.proofs.Common.{◌≡◌, ◌⊎◌, inl, inr, ℕ, Bool, true, false, not, ◌&&◌, ◌||◌, ◌==◌, List, [], ◌∷◌, is_some, refl, sym, ap, ◌∙◌}
-use Rattle.std.proofs.lemmas.Bool.{false≢true, eqb-true}
+use Rattle.std.proofs.lemmas.Bool.{false≢true, or_cases, or_left, or_right, eqb-true}
 use Rattle.std.specs.FinMap as finite
 use Rattle.ft_base.specs.Chains.{Lists}
 use Rattle.ft_tree.specs.declared.cell.Cell.{Cell}
@@ -52,17 +52,6 @@ absorb false false true false there = refl
 absorb false true false a there = refl
 absorb false false false a there = refl
 
-either : (a b : Bool) → (a || b) ≡ true → (a ≡ true) ⊎ (b ≡ true)
-either true b e = inl refl
-either false b e = inr e
-
-or_first : (a b : Bool) → a ≡ true → (a || b) ≡ true
-or_first a b e = ap (λ x. x || b) e
-
-or_second : (a b : Bool) → b ≡ true → (a || b) ≡ true
-or_second true b e = refl
-or_second false b e = e
-
 -- Places were made with their locks, and then those given that were lacking.
 pub given_after : (m k n : Cells) (txn : ℕ) (xs : List Access)
     → ((l : LockLine) → (has_line k l || is_given txn xs l) ≡ (has_line m l || is_given txn xs l))
@@ -72,7 +61,7 @@ pub given_after : (m k n : Cells) (txn : ℕ) (xs : List Access)
 given_after m k n txn xs made places lines l =
     lines l
     ∙ ap (λ b. has_line k l || b) (absorb (has_place k l.cell l.owner) (is_held l.kind) (l.owner == txn) (has_access xs l.cell l.mode)
-    (λ own at. places l.cell l.owner ∙ or_second (has_place m l.cell l.owner) ((l.owner == txn) && is_accessed xs l.cell) (λ i. own i && accessed_if xs l.cell l.mode at i)))
+    (λ own at. places l.cell l.owner ∙ or_right (has_place m l.cell l.owner) ((l.owner == txn) && is_accessed xs l.cell) (λ i. own i && accessed_if xs l.cell l.mode at i)))
     ∙ made l
 
 -- None was lacking.
@@ -96,17 +85,17 @@ module _ (m n : Cells) (old new : Lists Cell) (txn : ℕ) (xs : List Access) (is
   marked_still : (c : Cell) (u : ℕ) → is_marked_of (marks_at m c u) ≡ true → is_marked_of (marks_at n c u) ≡ true
   marked_still c u marked =
       let one = line_of_mark c u (marks_at m c u) marked in
-      mark_of_line (marks_at n c u) (line c u one.0 one.1) (granted_line (line c u one.0 one.1) ∙ or_first _ _ one.2)
+      mark_of_line (marks_at n c u) (line c u one.0 one.1) (granted_line (line c u one.0 one.1) ∙ or_left _ _ one.2)
 
   marked_now : (c : Cell) → is_accessed xs c ≡ true → is_marked_of (marks_at n c txn) ≡ true
   marked_now c accessed =
       let one = some_access xs c accessed in
-      mark_of_line (marks_at n c txn) (line c txn one.0 Held) (granted_line (line c txn one.0 Held) ∙ or_second (has_line m (line c txn one.0 Held)) _ (λ i. itself txn i && one.1 i))
+      mark_of_line (marks_at n c txn) (line c txn one.0 Held) (granted_line (line c txn one.0 Held) ∙ or_right (has_line m (line c txn one.0 Held)) _ (λ i. itself txn i && one.1 i))
 
   marked_from : (c : Cell) (u : ℕ) → is_marked_of (marks_at n c u) ≡ true → (is_marked_of (marks_at m c u) ≡ true) ⊎ ((u ≡ txn) × (is_accessed xs c ≡ true))
   marked_from c u marked =
       let one = line_of_mark c u (marks_at n c u) marked in
-      by_line one.0 one.1 (either _ _ (sym (granted_line (line c u one.0 one.1)) ∙ one.2))
+      by_line one.0 one.1 (or_cases _ _ (sym (granted_line (line c u one.0 one.1)) ∙ one.2))
     where
       parts : (a b d : Bool) → (a && b && d) ≡ true → (b ≡ true) × (d ≡ true)
       parts true true true e = (refl, refl)
@@ -122,11 +111,11 @@ module _ (m n : Cells) (old new : Lists Cell) (txn : ℕ) (xs : List Access) (is
   granted_marked : (c : Cell) → is_marked_at n c ≡ (is_marked_at m c || is_accessed xs c)
   granted_marked c = same_truth _ _
       (λ marked. let one = marked_one n c marked in back one.0 (marked_from c one.0 one.1))
-      (λ marked. forth (either (is_marked_at m c) (is_accessed xs c) marked))
+      (λ marked. forth (or_cases (is_marked_at m c) (is_accessed xs c) marked))
     where
       back : (u : ℕ) → (is_marked_of (marks_at m c u) ≡ true) ⊎ ((u ≡ txn) × (is_accessed xs c ≡ true)) → (is_marked_at m c || is_accessed xs c) ≡ true
-      back u (inl e) = or_first (is_marked_at m c) (is_accessed xs c) (marked_by m c u e)
-      back u (inr e) = or_second (is_marked_at m c) (is_accessed xs c) e.1
+      back u (inl e) = or_left (is_marked_at m c) (is_accessed xs c) (marked_by m c u e)
+      back u (inr e) = or_right (is_marked_at m c) (is_accessed xs c) e.1
 
       forth : (is_marked_at m c ≡ true) ⊎ (is_accessed xs c ≡ true) → is_marked_at n c ≡ true
       forth (inl e) = let one = marked_one m c e in marked_by n c one.0 (marked_still c one.0 one.1)
@@ -147,7 +136,7 @@ module _ (m n : Cells) (old new : Lists Cell) (txn : ℕ) (xs : List Access) (is
 
   pub granted_kept : IsKept n new
   granted_kept = record {
-    marked = λ c u is_real place. of_place c u is_real (either (has_place m c u) ((u == txn) && is_accessed xs c) (sym (granted_place c u) ∙ place));
+    marked = λ c u is_real place. of_place c u is_real (or_cases (has_place m c u) ((u == txn) && is_accessed xs c) (sym (granted_place c u) ∙ place));
     unmarked = λ c. same_truth (is_marked_of (marks_at n c let_go_owner)) false (λ marked. of_zero c (marked_from c let_go_owner marked)) (λ e. absurd (false≢true e));
     ready = still let_go_owner ∙ kept.ready;
   }
@@ -166,7 +155,7 @@ module _ (m n : Cells) (old new : Lists Cell) (txn : ℕ) (xs : List Access) (is
 
   pub granted : AreGranted (table_of m old) (table_of n new) txn xs
   granted = record {
-    lines = λ l. lines-seen n new l ∙ granted_line l ∙ ap (λ b. b || (is_held l.kind && (l.owner == txn) && has_access xs l.cell l.mode)) (sym (lines-seen m old l));
+    lines = λ l. lines-seen n new l ∙ granted_line l ∙ ap (λ b. b || is_given txn xs l) (sym (lines-seen m old l));
     let_go = λ c. let_go-seen n new c ∙ (λ i. granted_zero c i && not (granted_marked c i)) ∙ group (has_place m c let_go_owner) (is_marked_at m c) (is_accessed xs c)
         ∙ ap (λ b. b && not (is_accessed xs c)) (sym (let_go-seen m old c));
     opened = granted_opened;

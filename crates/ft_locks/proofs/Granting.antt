@@ -202,11 +202,6 @@ pub in_either : (g y b : Bool) → (g || y) ≡ true → (g ≡ true → b ≡ t
 in_either true y b e first second = first refl
 in_either false y b e first second = second e
 
-pub all_both : (a b : Bool) → (a && b) ≡ true → (a ≡ true) × (b ≡ true)
-all_both true true e = (refl, refl)
-all_both true false e = absurd (false≢true e)
-all_both false b e = absurd (false≢true e)
-
 pub or_with : (a b : Bool) → (a ≡ true) ⊎ (b ≡ true) → (a || b) ≡ true
 or_with true b e = refl
 or_with false b (inl e) = absurd (false≢true e)

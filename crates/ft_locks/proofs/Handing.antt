@@ -1,6 +1,6 @@
 -- What callers see after an owner has given its places to another.
 use Rattle.std.proofs.Common.{◌≡◌, ℕ, ◌⊎◌, inl, inr, Bool, true, false, cond, not, ◌&&◌, ◌||◌, ◌==◌, List, Option, Some, None, is_some, Result, Ok, Err, refl, sym, ap, subst, ◌∙◌}
-use Rattle.std.proofs.lemmas.Bool.{false≢true, eqb-true, eq-eqb}
+use Rattle.std.proofs.lemmas.Bool.{false≢true, and_parts, or_cases, or_left, or_right, eqb-true, eq-eqb}
 use Rattle.std.specs.Option.{option_map}
 use Rattle.std.specs.Result.{OnOk, OnErr}
 use Rattle.std.specs.Ordering.{nat_cmp, eq_by_cmp}
@@ -120,11 +120,7 @@ module _ (m n : Cells) (txn : ℕ) (is_txn : (txn == let_go_owner) ≡ false) (a
 
   -- whether somebody else has a lock
   released_marked : (c : Cell) → is_marked_at n c ≡ true → is_marked_at m c ≡ true
-  released_marked c marked = let one = marked_one n c marked in marked_by m c one.0 (second_of (not (one.0 == txn)) (is_marked_of (marks_at m c one.0)) (sym (released_marks c one.0) ∙ one.1))
-    where
-      second_of : (a b : Bool) → (a && b) ≡ true → b ≡ true
-      second_of true b e = e
-      second_of false b e = absurd (false≢true e)
+  released_marked c marked = let one = marked_one n c marked in marked_by m c one.0 (and_parts (not (one.0 == txn)) (is_marked_of (marks_at m c one.0)) (sym (released_marks c one.0) ∙ one.1)).1
 
   -- a cell that only this transaction had locked is let go
   pub released_let_go : (c : Cell) → (has_place n c let_go_owner && not (is_marked_at n c)) ≡ (has_place m c let_go_owner && not (is_marked_at m c) || (is_marked_at m c && not (is_marked_at n c)))
@@ -233,21 +229,6 @@ joined_mark to is_txn x y c u v mode kind =
     by_parts (Some x) (Some y) WriteMode Held = refl
     by_parts (Some x) (Some y) WriteMode Retained = refl
 
-or_first : (a b : Bool) → a ≡ true → (a || b) ≡ true
-or_first a b e = ap (λ x. x || b) e
-
-or_second : (a b : Bool) → b ≡ true → (a || b) ≡ true
-or_second true b e = refl
-or_second false b e = e
-
-either : (a b : Bool) → (a || b) ≡ true → (a ≡ true) ⊎ (b ≡ true)
-either true b e = inl refl
-either false b e = inr e
-
-and_second : (a b : Bool) → (a && b) ≡ true → b ≡ true
-and_second true b e = e
-and_second false b e = absurd (false≢true e)
-
 -- A child's locks are its parent's.
 module _ (m n : Cells) (child parent : ℕ) (is_child : (child == let_go_owner) ≡ false) (is_parent : (parent == let_go_owner) ≡ false) (apart : child ≡ parent → ⊥)
     (after : (c : Cell) (u : ℕ) → marks_at n c u ≡ after_hand child parent (marks_at m c) u) where
@@ -285,30 +266,30 @@ module _ (m n : Cells) (child parent : ℕ) (is_child : (child == let_go_owner) 
   of_parent c marked =
       let one = line_of_mark c parent (marks_at m c parent) marked in
       joined_marked c ∙ mark_of_line (joined_marks (marks_at m c parent) (option_map (passed_to parent) (marks_at m c child))) (line c parent one.0 one.1)
-      (joined_mark parent is_parent (marks_at m c parent) (marks_at m c child) c parent child one.0 one.1 ∙ or_first _ _ one.2)
+      (joined_mark parent is_parent (marks_at m c parent) (marks_at m c child) c parent child one.0 one.1 ∙ or_left _ _ one.2)
 
   of_child : (c : Cell) → is_marked_of (marks_at m c child) ≡ true → is_marked_of (marks_at n c parent) ≡ true
   of_child c marked =
       let one = line_of_mark c child (marks_at m c child) marked in
       joined_marked c ∙ mark_of_line (joined_marks (marks_at m c parent) (option_map (passed_to parent) (marks_at m c child))) (line c parent one.0 Retained)
       (joined_mark parent is_parent (marks_at m c parent) (marks_at m c child) c parent child one.0 Retained
-      ∙ or_second (has_mark_of (marks_at m c parent) (line c parent one.0 Retained)) _ (of_kind one.0 one.1 one.2))
+      ∙ or_right (has_mark_of (marks_at m c parent) (line c parent one.0 Retained)) _ (of_kind one.0 one.1 one.2))
     where
       of_kind : (mode : Mode) (kind : LockKind) → has_mark_of (marks_at m c child) (line c child mode kind) ≡ true
           → (has_mark_of (marks_at m c child) (line c child mode Held) || has_mark_of (marks_at m c child) (line c child mode Retained)) ≡ true
-      of_kind mode Held e = or_first _ _ e
-      of_kind mode Retained e = or_second (has_mark_of (marks_at m c child) (line c child mode Held)) _ e
+      of_kind mode Held e = or_left _ _ e
+      of_kind mode Retained e = or_right (has_mark_of (marks_at m c child) (line c child mode Held)) _ e
 
   from_either : (c : Cell) → is_marked_of (marks_at n c parent) ≡ true → is_marked_at m c ≡ true
   from_either c marked =
       let one = line_of_mark c parent (joined_marks (marks_at m c parent) (option_map (passed_to parent) (marks_at m c child))) (sym (joined_marked c) ∙ marked) in
-      of_one one.0 one.1 (either _ _ (sym (joined_mark parent is_parent (marks_at m c parent) (marks_at m c child) c parent child one.0 one.1) ∙ one.2))
+      of_one one.0 one.1 (or_cases _ _ (sym (joined_mark parent is_parent (marks_at m c parent) (marks_at m c child) c parent child one.0 one.1) ∙ one.2))
     where
       of_one : (mode : Mode) (kind : LockKind)
           → (has_mark_of (marks_at m c parent) (line c parent mode kind) ≡ true) ⊎ ((not (is_held kind) && (has_mark_of (marks_at m c child) (line c child mode Held) || has_mark_of (marks_at m c child) (line c child mode Retained))) ≡ true)
           → is_marked_at m c ≡ true
       of_one mode kind (inl e) = marked_by m c parent (mark_of_line (marks_at m c parent) (line c parent mode kind) e)
-      of_one mode kind (inr e) = of_two (either _ _ (and_second (not (is_held kind)) _ e))
+      of_one mode kind (inr e) = of_two (or_cases _ _ (and_parts (not (is_held kind)) _ e).1)
         where
           of_two : (has_mark_of (marks_at m c child) (line c child mode Held) ≡ true) ⊎ (has_mark_of (marks_at m c child) (line c child mode Retained) ≡ true) → is_marked_at m c ≡ true
           of_two (inl d) = marked_by m c child (mark_of_line (marks_at m c child) (line c child mode Held) d)

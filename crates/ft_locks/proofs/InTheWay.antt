@@ -1,6 +1,6 @@
 -- Who is noted as in the way.
 use Rattle.std.proofs.Common.{◌≡◌, ◌⊎◌, inl, inr, ◌<◌, ◌+◌, ℕ, Bool, true, false, cond, not, ◌&&◌, ◌||◌, ◌==◌, List, [], ◌∷◌, take, map, length, get_or, Option, Some, None, is_some, refl, sym, ap, ◌∙◌}
-use Rattle.std.proofs.lemmas.Bool.{false≢true, eqb-true}
+use Rattle.std.proofs.lemmas.Bool.{false≢true, or_cases, or_left, or_right, eqb-true}
 use Rattle.std.specs.List.{list_any}
 use Rattle.std.proofs.lemmas.List.{take_more}
 use Rattle.std.proofs.lemmas.List.Folds.{list_any-append}
@@ -190,10 +190,6 @@ way_of_mark x WriteMode ReadMode Retained has writes = ap (λ b. x.write_held ||
 way_of_mark x ReadMode WriteMode kind has writes = one_mark x ReadMode kind has
 way_of_mark x WriteMode WriteMode kind has writes = one_mark x WriteMode kind has
 
-either : (a b : Bool) → (a || b) ≡ true → (a ≡ true) ⊎ (b ≡ true)
-either true b e = inl refl
-either false b e = inr e
-
 both_of : (a b : Bool) → (a && b) ≡ true → (a ≡ true) × (b ≡ true)
 both_of true b e = (refl, e)
 both_of false b e = absurd (false≢true e)
@@ -213,7 +209,7 @@ pub record InWay (m : Cells) (a : Access) (u : ℕ) : Type 0 where
   pub there : way m cell a.mode u ≡ true
 
 blocks_in_way : (m : Cells) (a : Access) (u : ℕ) → blocks m a u ≡ true → InWay m a u
-blocks_in_way m a u e = by_part (either (way m a.cell a.mode u) (beside m a.cell a.mode u) e)
+blocks_in_way m a u e = by_part (or_cases (way m a.cell a.mode u) (beside m a.cell a.mode u) e)
   where
     by_kind : (k : Cell) → a.cell ≡ k → beside m k a.mode u ≡ true → InWay m a u
     by_kind (Entry d n) is e = record { cell = Names d; overlaps = ap (overlap (Names d)) is ∙ itself d; there = e }
@@ -254,24 +250,17 @@ overlap_is (Links i) k h = same (same_cell-is (Links i) k h)
 overlap_is (Bytes i) k h = same (same_cell-is (Bytes i) k h)
 overlap_is (Fd f) k h = same (same_cell-is (Fd f) k h)
 
-or_first : (a b : Bool) → a ≡ true → (a || b) ≡ true
-or_first a b e = ap (λ x. x || b) e
-
-or_second : (a b : Bool) → b ≡ true → (a || b) ≡ true
-or_second true b e = refl
-or_second false b e = e
-
 in_way_blocks : (m : Cells) (a : Access) (u : ℕ) → InWay m a u → blocks m a u ≡ true
 in_way_blocks m a u i = by_overlap (overlap_is i.cell a.cell i.overlaps)
   where
     by_overlap : Overlaps i.cell a.cell → blocks m a u ≡ true
-    by_overlap (same e) = or_first (way m a.cell a.mode u) (beside m a.cell a.mode u) (ap (λ c. way m c a.mode u) (sym e) ∙ i.there)
+    by_overlap (same e) = or_left (way m a.cell a.mode u) (beside m a.cell a.mode u) (ap (λ c. way m c a.mode u) (sym e) ∙ i.there)
     by_overlap (entry d n e k) =
         let here = ap (λ c. way m c a.mode u) (sym e) ∙ i.there in
-        or_second (way m a.cell a.mode u) (beside m a.cell a.mode u) (ap (λ c. beside m c a.mode u) k
+        or_right (way m a.cell a.mode u) (beside m a.cell a.mode u) (ap (λ c. beside m c a.mode u) k
         ∙ passes_at (λ c. is_entry_of d c && way m c a.mode u) (same_cell (Entry d n)) (Entry d n) (λ c t. same_cell-is (Entry d n) c t)
         (λ j. itself d j && here j) (finite.keys m) (among_keys m (Entry d n) (in_keys m (Entry d n) a.mode u here)))
-    by_overlap (names d n e k) = or_second (way m a.cell a.mode u) (beside m a.cell a.mode u) (ap (λ c. beside m c a.mode u) k ∙ ap (λ c. way m c a.mode u) (sym e) ∙ i.there)
+    by_overlap (names d n e k) = or_right (way m a.cell a.mode u) (beside m a.cell a.mode u) (ap (λ c. beside m c a.mode u) k ∙ ap (λ c. way m c a.mode u) (sym e) ∙ i.there)
 
 -- who is in the way owns a lock that conflicts
 conflicting : (m : Cells) (a : Access) (u : ℕ) → InWay m a u → (l : LockLine) × (has_line m l ≡ true) × (l.owner ≡ u) × (conflict (line_access l) a ≡ true)
@@ -295,12 +284,12 @@ in_way_of m a u l there owner conflicts =
 -- In a list of numbers.
 in_any : (y : ℕ) (ks : List ℕ) → In y ks → list_any (eq_by_cmp nat_cmp y) ks ≡ true
 in_any y [] h = elim h [ ]
-in_any y (k ∷ ks) (inl e) = or_first (eq_by_cmp nat_cmp y k) _ (ap (eq_by_cmp nat_cmp y) (sym e) ∙ (eq_by_cmp_equiv nat_cmp_total).refl y)
-in_any y (k ∷ ks) (inr e) = or_second (eq_by_cmp nat_cmp y k) _ (in_any y ks e)
+in_any y (k ∷ ks) (inl e) = or_left (eq_by_cmp nat_cmp y k) _ (ap (eq_by_cmp nat_cmp y) (sym e) ∙ (eq_by_cmp_equiv nat_cmp_total).refl y)
+in_any y (k ∷ ks) (inr e) = or_right (eq_by_cmp nat_cmp y k) _ (in_any y ks e)
 
 any_in : (y : ℕ) (ks : List ℕ) → list_any (eq_by_cmp nat_cmp y) ks ≡ true → In y ks
 any_in y [] e = absurd (false≢true e)
-any_in y (k ∷ ks) e = by_head (either (eq_by_cmp nat_cmp y k) (list_any (eq_by_cmp nat_cmp y) ks) e) (any_in y ks)
+any_in y (k ∷ ks) e = by_head (or_cases (eq_by_cmp nat_cmp y k) (list_any (eq_by_cmp nat_cmp y) ks) e) (any_in y ks)
   where
     by_head : (eq_by_cmp nat_cmp y k ≡ true) ⊎ (list_any (eq_by_cmp nat_cmp y) ks ≡ true) → (list_any (eq_by_cmp nat_cmp y) ks ≡ true → In y ks) → (y ≡ k) ⊎ In y ks
     by_head (inl h) more = inl (eqb-true y k (sym (unsigned_tied y k) ∙ h))
@@ -329,24 +318,24 @@ rising_keys (e ∷ es) h = let parts = first_of (below_all nat_cmp e.0 es) (fini
 module _ (t : LockTable) (m : Cells) (lists : Lists Cell) (is : table_of m lists ≡ t) where
   blocking_owns : (xs : List Access) (u : ℕ) → list_any (λ a. blocks m a u) xs ≡ true → OwnsConflict t xs u
   blocking_owns [] u e = absurd (false≢true e)
-  blocking_owns (a ∷ xs) u e = by_head (either (blocks m a u) (list_any (λ x. blocks m x u) xs) e) (blocking_owns xs u)
+  blocking_owns (a ∷ xs) u e = by_head (or_cases (blocks m a u) (list_any (λ x. blocks m x u) xs) e) (blocking_owns xs u)
     where
       by_head : (blocks m a u ≡ true) ⊎ (list_any (λ x. blocks m x u) xs ≡ true) → (list_any (λ x. blocks m x u) xs ≡ true → OwnsConflict t xs u) → OwnsConflict t (a ∷ xs) u
       by_head (inl h) more =
           let one = conflicting m a u (blocks_in_way m a u h) in
-          record { line = one.0; there = sym (ap (λ x. has_lock x one.0) is) ∙ lines-seen m lists one.0 ∙ one.1; owner = one.2; conflicts = or_first (conflict (line_access one.0) a) _ one.3 }
+          record { line = one.0; there = sym (ap (λ x. has_lock x one.0) is) ∙ lines-seen m lists one.0 ∙ one.1; owner = one.2; conflicts = or_left (conflict (line_access one.0) a) _ one.3 }
       by_head (inr h) more =
           let rest = more h in
-          record { line = rest.line; there = rest.there; owner = rest.owner; conflicts = or_second (conflict (line_access rest.line) a) _ rest.conflicts }
+          record { line = rest.line; there = rest.there; owner = rest.owner; conflicts = or_right (conflict (line_access rest.line) a) _ rest.conflicts }
 
   owns_blocking : (xs : List Access) (u : ℕ) (l : LockLine) → has_line m l ≡ true → l.owner ≡ u → list_any (λ a. conflict (line_access l) a) xs ≡ true → list_any (λ a. blocks m a u) xs ≡ true
   owns_blocking [] u l there owner e = absurd (false≢true e)
-  owns_blocking (a ∷ xs) u l there owner e = by_head (either (conflict (line_access l) a) (list_any (λ x. conflict (line_access l) x) xs) e) (owns_blocking xs u l there owner)
+  owns_blocking (a ∷ xs) u l there owner e = by_head (or_cases (conflict (line_access l) a) (list_any (λ x. conflict (line_access l) x) xs) e) (owns_blocking xs u l there owner)
     where
       by_head : (conflict (line_access l) a ≡ true) ⊎ (list_any (λ x. conflict (line_access l) x) xs ≡ true) → (list_any (λ x. conflict (line_access l) x) xs ≡ true → list_any (λ x. blocks m x u) xs ≡ true)
           → (blocks m a u || list_any (λ x. blocks m x u) xs) ≡ true
-      by_head (inl h) more = or_first (blocks m a u) _ (in_way_blocks m a u (in_way_of m a u l there owner h))
-      by_head (inr h) more = or_second (blocks m a u) _ (more h)
+      by_head (inl h) more = or_left (blocks m a u) _ (in_way_blocks m a u (in_way_of m a u l there owner h))
+      by_head (inr h) more = or_right (blocks m a u) _ (more h)
 
   -- those who are noted are the blockers
   pub are_blockers : (forest : Transactions) (txn : ℕ) (xs : List Access) (found : Found)

@@ -12,7 +12,7 @@ use std::alloc::Global;
 use std::marker::Model;
 
 /// An owner and its locks.
-#[derive(Clone, Copy, Debug, Default)]
+#[derive(Clone, Copy, Default)]
 pub(crate) struct Holding {
     pub(crate) owner: u64,
     pub(crate) marks: Marks,

@@ -5,7 +5,7 @@ use crate::line::LockKind;
 use ft_calls::Mode;
 
 /// The locks of one owner on one cell: of the four that there may be, those that it has.
-#[derive(Clone, Copy, Debug, Default, PartialEq, Eq)]
+#[derive(Clone, Copy, Default)]
 pub(crate) struct Marks {
     pub(crate) read_held: bool,
     pub(crate) read_retained: bool,

@@ -2,8 +2,6 @@
 #![tactic(auto)]
 
 mod running;
-#[cfg(test)]
-mod tests;
 mod text;
 
 pub use running::{RunFault, run_plan};

@@ -8,8 +8,6 @@ mod name;
 mod parsing;
 mod plan;
 mod rules;
-#[cfg(test)]
-mod tests;
 
 pub use fault::JobFault;
 pub use job::{Job, Step};

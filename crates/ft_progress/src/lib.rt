@@ -3,8 +3,6 @@
 
 mod progress;
 mod running;
-#[cfg(test)]
-mod tests;
 mod watch;
 
 pub use progress::Progress;

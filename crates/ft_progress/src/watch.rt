@@ -36,7 +36,7 @@ struct Noted {
 }
 
 // Where a job is.
-#[derive(Clone, Copy, Debug, PartialEq, Eq)]
+#[derive(Clone, Copy, PartialEq, Eq)]
 enum Place {
     // At no call.
     Elsewhere,

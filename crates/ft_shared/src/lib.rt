@@ -3,8 +3,6 @@
 
 mod manager;
 mod shared;
-#[cfg(test)]
-mod tests;
 
 pub use manager::Manager;
 pub use shared::{MOST_PAUSE, Refused, Shared};

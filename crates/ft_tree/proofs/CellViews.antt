@@ -11,7 +11,7 @@ use Rattle.std.specs.List.{filter_map}
 use Rattle.std.specs.FinMap.{FinMap, same_map, get, insert, empty, entries, get-empty, get-insert, len-empty, len-entries}
 use Rattle.std.proofs.lemmas.Map.Lookups.{exact_unsigned}
 use Rattle.ft_body.specs.Bytes.{BodyChange}
-use Rattle.ft_tree.specs.Cells.{Cells, FileCells, no_dir, no_file, dir_entry, dir_names, entry_of, names_of, bytes_of, put_file, filled, HasFilePlace}
+use Rattle.ft_tree.specs.Cells.{Cells, FileCells, no_dir, no_file, dir_entry, dir_names, entry_of, names_of, bytes_of, put_file, filled}
 use Rattle.ft_tree.proofs.MapViews.{insert-same}
 
 no_items : {A : Type 0} (xs : List A) → 0 ≡ length xs → xs ≡ []
@@ -56,13 +56,10 @@ put-twice old mid new d x y (Err memory) is put place =
 abbrev pub change : List ℕ → List ℕ → BodyChange
 change before after = record { before = before; after = after }
 
--- what is stored of a file that is set, and that it is stored
+-- what is stored of a file that is set
 get-put_file : (cells : Cells) (i : ℕ) (x : FileCells) → get (put_file cells i x).files i ≡ Some x
 get-put_file cells i x =
     get-insert nat_cmp_total cells.files i x i ∙ ap (λ b. cond b (Some x) (get cells.files i)) (unsigned_tied i i ∙ eq-eqb i i refl)
-
-pub stored-put_file : (cells now : Cells) (i : ℕ) (x : FileCells) → now ≡ put_file cells i x → HasFilePlace now i
-stored-put_file cells now i x is = subst IsSome (sym (ap (λ (c : Cells). get c.files i) is ∙ get-put_file cells i x)) refl
 
 -- the change of a stored file's bytes is that of the cells
 pub change-put : (cells now : Cells) (i : ℕ) (x y : FileCells) → cells ≡ now → Some x ≡ get cells.files i

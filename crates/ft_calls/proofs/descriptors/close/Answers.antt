@@ -1,9 +1,10 @@
 use Rattle.std.proofs.Common.{refl}
 use Rattle.ft_calls.specs.Descriptors.{any_open, close_open}
+use Rattle.ft_calls.specs.Intended.{intended}
 use Rattle.ft_calls.proofs.Looking.{comes_open}
 use Rattle.ft_calls.proofs.descriptors.close.Goals as goal
 
 pub returns-in-Some : goal.returns-in-Some
 returns-in-Some c =
-    comes_open c.args.look.now c.args.fd any_open (close_open c.args.fd) c.in_ok-description.field-0 c.in-Some.description c.open_file.new.self c.close_open.new.look c.close_open.result
+    comes_open c.args.look.now c.args.fd any_open (close_open c.args.fd) c.in_ok-description.field-0 c.in-Some.description c.open_file.new.self c.close_open.new.look (intended c.close_open.new.edits c.close_open.result)
     c.in_ok-description.ensures c.in-Some.is (refl) c.close_open.ensures

@@ -1,9 +1,10 @@
 use Rattle.std.proofs.Common.{rules}
 use Rattle.ft_calls.specs.Descriptors.{is_readable, read_open}
+use Rattle.ft_calls.specs.Intended.{intended}
 use Rattle.ft_calls.proofs.Looking.{comes_open}
 use Rattle.ft_calls.proofs.descriptors.read.Goals as goal
 
 pub returns-in-Some : goal.returns-in-Some
 returns-in-Some c =
-    comes_open c.args.look.now c.args.fd is_readable (read_open c.args.fd c.args.len) c.in_ok-description.field-0 c.in-Some.description c.open_file.new.self c.read_open.new.look c.read_open.result
+    comes_open c.args.look.now c.args.fd is_readable (read_open c.args.fd c.args.len) c.in_ok-description.field-0 c.in-Some.description c.open_file.new.self c.read_open.new.look (intended c.read_open.new.edits c.read_open.result)
     c.in_ok-description.ensures c.in-Some.is (search rules) c.read_open.ensures

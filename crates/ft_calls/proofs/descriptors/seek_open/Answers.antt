@@ -2,6 +2,7 @@ use Rattle.std.proofs.Common.{ℕ, subst, rules}
 use Rattle.std.proofs.lemmas.Int.{to_z-of_z}
 use mir.Syntax.{w64}
 use Rattle.ft_calls.specs.Comes.{Comes}
+use Rattle.ft_calls.specs.Intended.{intended}
 use Rattle.ft_tree.specs.Looks.{Looks, Answer}
 use Rattle.ft_calls.specs.Outcomes.{Outcome}
 use Rattle.ft_calls.specs.Descriptors.{seek_from, moved, sought}
@@ -11,5 +12,5 @@ use Rattle.ft_calls.proofs.descriptors.seek_open.Goals as goal
 pub returns : goal.returns
 returns c =
     let go : ℕ → Looks Outcome = λ from. Answer (sought c.args.fd c.args.description (moved from c.args.offset)) in
-    finds_then c.args.look.now (seek_from c.args.whence c.args.description) go c.in_ok-from.from c.seek_from.new.look c.sought.new.look c.sought.result c.in_ok-from.ensures.0 c.in_ok-from.ensures.1
-    (subst (λ z. Comes c.seek_from.new.look (Answer (sought c.args.fd c.args.description (moved c.in_ok-from.from z))) c.sought.new.look c.sought.result) (to_z-of_z w64 c.args.offset (search rules)) c.sought.ensures)
+    finds_then c.args.look.now (seek_from c.args.whence c.args.description) go c.in_ok-from.from c.seek_from.new.look c.sought.new.look (intended c.sought.new.edits c.sought.result) c.in_ok-from.ensures.0 c.in_ok-from.ensures.1
+    (subst (λ z. Comes c.seek_from.new.look (Answer (sought c.args.fd c.args.description (moved c.in_ok-from.from z))) c.sought.new.look (intended c.sought.new.edits c.sought.result)) (to_z-of_z w64 c.args.offset (search rules)) c.sought.ensures)

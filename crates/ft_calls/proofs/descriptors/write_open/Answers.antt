@@ -6,6 +6,7 @@ use Rattle.ft_calls.specs.declared.intent.Stop.{Stop}
 use Rattle.ft_calls.specs.Descriptors.{write_place, write_at, write_open}
 use Rattle.ft_calls.specs.Looking.{Looking}
 use Rattle.ft_calls.specs.Comes.{Comes}
+use Rattle.ft_calls.specs.Intended.{intended}
 use Rattle.ft_calls.proofs.Looking.{finds_then}
 use Rattle.ft_calls.proofs.descriptors.write_open.Goals as goal
 
@@ -16,6 +17,6 @@ some_bytes old new r fd (first ∷ more) o some h = h
 
 pub returns : goal.returns
 returns c =
-    some_bytes c.args.look.now c.write_at.new.look c.write_at.result c.args.fd c.args.bytes.now c.args.description (search rules)
-    (finds_then c.args.look.now (write_place c.args.description) (write_at c.args.fd c.args.description c.args.bytes.now) c.in_ok-place.place c.write_place.new.look c.write_at.new.look c.write_at.result
+    some_bytes c.args.look.now c.write_at.new.look (intended c.write_at.new.edits c.write_at.result) c.args.fd c.args.bytes.now c.args.description (search rules)
+    (finds_then c.args.look.now (write_place c.args.description) (write_at c.args.fd c.args.description c.args.bytes.now) c.in_ok-place.place c.write_place.new.look c.write_at.new.look (intended c.write_at.new.edits c.write_at.result)
     c.in_ok-place.ensures.0 c.in_ok-place.ensures.1 c.write_at.ensures)

@@ -1,6 +1,8 @@
+use Rattle.std.proofs.Common.{[]}
 use Rattle.std.proofs.lemmas.Result.{err_from_is_err_and}
 use Rattle.ft_path.specs.FilePath.{parts_of}
 use Rattle.ft_calls.specs.Dirs.{list_dir}
+use Rattle.ft_calls.specs.Intended.{intended}
 use Rattle.ft_calls.proofs.Looking.{comes_lost, comes_on}
 use Rattle.ft_calls.proofs.dirs.list.Goals as goal
 
@@ -11,4 +13,4 @@ returns-in_err-spot c =
 
 pub returns : goal.returns
 returns c =
-    (comes_on c.args.look.now (parts_of c.args.path.now) list_dir c.in_ok-parts.parts c.in_ok-parts.ensures c.walk.new.self c.in_ok-spot.spot c.in_ok-spot.ensures c.list_dir.new.look c.list_dir.result c.list_dir.ensures)
+    (comes_on c.args.look.now (parts_of c.args.path.now) list_dir c.in_ok-parts.parts c.in_ok-parts.ensures c.walk.new.self c.in_ok-spot.spot c.in_ok-spot.ensures c.list_dir.new.look (intended [] c.list_dir.result) c.list_dir.ensures)

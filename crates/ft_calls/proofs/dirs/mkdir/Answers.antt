@@ -1,6 +1,7 @@
 use Rattle.std.proofs.lemmas.Result.{err_from_is_err_and}
 use Rattle.ft_path.specs.FilePath.{parts_of}
 use Rattle.ft_calls.specs.Dirs.{make_dir}
+use Rattle.ft_calls.specs.Intended.{intended}
 use Rattle.ft_calls.proofs.Looking.{comes_lost, comes_on}
 use Rattle.ft_calls.proofs.dirs.mkdir.Goals as goal
 
@@ -10,4 +11,4 @@ returns-in_err-spot c =
     rw (p.1, p.2) (comes_lost c.args.look.now (parts_of c.args.path.now) (make_dir c.args.stamp) c.in_ok-parts.parts c.in_ok-parts.ensures c.walk.new.self _ c.in_err-spot.ensures)
 
 pub returns : goal.returns
-returns c = comes_on c.args.look.now (parts_of c.args.path.now) (make_dir c.args.stamp) c.in_ok-parts.parts c.in_ok-parts.ensures c.walk.new.self c.in_ok-spot.spot c.in_ok-spot.ensures c.make_dir.new.look c.make_dir.result c.make_dir.ensures
+returns c = comes_on c.args.look.now (parts_of c.args.path.now) (make_dir c.args.stamp) c.in_ok-parts.parts c.in_ok-parts.ensures c.walk.new.self c.in_ok-spot.spot c.in_ok-spot.ensures c.make_dir.new.look (intended c.make_dir.new.edits c.make_dir.result) c.make_dir.ensures

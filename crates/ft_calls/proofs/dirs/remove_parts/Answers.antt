@@ -2,6 +2,7 @@ use Rattle.std.proofs.Common.{◌≡◌, None, Ok, Err, refl, rules}
 use Rattle.std.proofs.lemmas.Result.{err_from_is_err_and}
 use Rattle.ft_calls.specs.Dirs.{remove_dir, last_fault}
 use Rattle.ft_calls.specs.Outcomes.{from_parts}
+use Rattle.ft_calls.specs.Intended.{intended}
 use Rattle.ft_calls.proofs.Looking.{comes_lost, comes_on, comes_past}
 use Rattle.ft_calls.proofs.dirs.remove_parts.Goals as goal
 use Rattle.ft_path.specs.FilePath.{last_of}
@@ -17,4 +18,4 @@ pub returns : goal.returns
 returns c =
     let fault = last_fault (last_of c.args.parts.now.names) in
     let clear : fault ≡ None = search rules in
-    (comes_past c.args.look.now fault (from_parts (Ok c.args.parts.now) remove_dir) clear c.remove_dir.new.look c.remove_dir.result (comes_on c.args.look.now (Ok c.args.parts.now) remove_dir c.args.parts.now refl c.walk.new.self c.in_ok-spot.spot c.in_ok-spot.ensures c.remove_dir.new.look c.remove_dir.result c.remove_dir.ensures))
+    (comes_past c.args.look.now fault (from_parts (Ok c.args.parts.now) remove_dir) clear c.remove_dir.new.look (intended c.remove_dir.new.edits c.remove_dir.result) (comes_on c.args.look.now (Ok c.args.parts.now) remove_dir c.args.parts.now refl c.walk.new.self c.in_ok-spot.spot c.in_ok-spot.ensures c.remove_dir.new.look (intended c.remove_dir.new.edits c.remove_dir.result) c.remove_dir.ensures))

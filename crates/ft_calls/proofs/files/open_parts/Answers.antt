@@ -7,6 +7,7 @@ use Rattle.ft_tree.specs.Walk.{Spot}
 use Rattle.ft_calls.specs.Outcomes.{Outcome, from_parts}
 use Rattle.ft_calls.specs.Files.{open_spot}
 use Rattle.ft_path.specs.declared.errno.Errno.TheVariants.{EINVAL}
+use Rattle.ft_calls.specs.Intended.{intended}
 use Rattle.ft_calls.proofs.Looking.{comes_lost, comes_on, comes_clear}
 use Rattle.ft_calls.proofs.files.open_parts.Goals as goal
 
@@ -23,4 +24,4 @@ returns c =
     let go : Spot → Looks Outcome = λ spot. Answer (open_spot c.args.stamp c.args.flags c.args.parts.now.trailing spot) in
     let fault = c.args.flags.trunc && not (can_write c.args.flags.access) in
     let clear : fault ≡ false = search rules in
-    (comes_clear c.args.look.now fault EINVAL (from_parts (Ok c.args.parts.now) go) clear c.open_spot.new.look c.open_spot.result (comes_on c.args.look.now (Ok c.args.parts.now) go c.args.parts.now refl c.walk.new.self c.in_ok-spot.spot c.in_ok-spot.ensures c.open_spot.new.look c.open_spot.result c.open_spot.ensures))
+    (comes_clear c.args.look.now fault EINVAL (from_parts (Ok c.args.parts.now) go) clear c.open_spot.new.look (intended c.open_spot.new.edits c.open_spot.result) (comes_on c.args.look.now (Ok c.args.parts.now) go c.args.parts.now refl c.walk.new.self c.in_ok-spot.spot c.in_ok-spot.ensures c.open_spot.new.look (intended c.open_spot.new.edits c.open_spot.result) c.open_spot.ensures))

@@ -1,6 +1,7 @@
 use Rattle.std.proofs.Common.{Ok, refl}
 use Rattle.std.proofs.lemmas.Result.{err_from_is_err_and}
 use Rattle.ft_calls.specs.Files.{truncate_spot}
+use Rattle.ft_calls.specs.Intended.{intended}
 use Rattle.ft_calls.proofs.Looking.{comes_lost, comes_on}
 use Rattle.ft_calls.proofs.files.truncate_to.Goals as goal
 
@@ -11,4 +12,4 @@ returns-in_err-spot c =
 
 pub returns : goal.returns
 returns c =
-    (comes_on c.args.look.now (Ok c.args.parts.now) (truncate_spot c.args.size) c.args.parts.now refl c.walk.new.self c.in_ok-spot.spot c.in_ok-spot.ensures c.truncate_spot.new.look c.truncate_spot.result c.truncate_spot.ensures)
+    (comes_on c.args.look.now (Ok c.args.parts.now) (truncate_spot c.args.size) c.args.parts.now refl c.walk.new.self c.in_ok-spot.spot c.in_ok-spot.ensures c.truncate_spot.new.look (intended c.truncate_spot.new.edits c.truncate_spot.result) c.truncate_spot.ensures)

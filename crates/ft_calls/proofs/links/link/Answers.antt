@@ -1,11 +1,12 @@
 use Rattle.std.proofs.Common.{Ok}
 use Rattle.ft_path.specs.FilePath.{parts_of}
 use Rattle.ft_calls.specs.Links.{link_parts}
+use Rattle.ft_calls.specs.Intended.{intended}
 use Rattle.ft_calls.proofs.Looking.{comes_text}
 use Rattle.ft_calls.proofs.links.link.Goals as goal
 
 pub returns : goal.returns
 returns c =
     let l = c.link_parts in
-    comes_text c.args.look.now (λ t. link_parts t (parts_of c.args.new.now)) (parts_of c.args.old.now) c.in_ok-from.from c.in_ok-from.ensures l.new.look l.result
-    (comes_text c.args.look.now (link_parts (Ok c.in_ok-from.from)) (parts_of c.args.new.now) c.in_ok-to.to c.in_ok-to.ensures l.new.look l.result l.ensures)
+    comes_text c.args.look.now (λ t. link_parts t (parts_of c.args.new.now)) (parts_of c.args.old.now) c.in_ok-from.from c.in_ok-from.ensures l.new.look (intended l.new.edits l.result)
+    (comes_text c.args.look.now (link_parts (Ok c.in_ok-from.from)) (parts_of c.args.new.now) c.in_ok-to.to c.in_ok-to.ensures l.new.look (intended l.new.edits l.result) l.ensures)

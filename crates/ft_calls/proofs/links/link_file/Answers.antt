@@ -1,6 +1,7 @@
 use Rattle.std.proofs.Common.{Ok, refl}
 use Rattle.std.proofs.lemmas.Result.{err_from_is_err_and}
 use Rattle.ft_calls.specs.Links.{link_new}
+use Rattle.ft_calls.specs.Intended.{intended}
 use Rattle.ft_calls.proofs.Looking.{comes_lost, comes_on}
 use Rattle.ft_calls.proofs.links.link_file.Goals as goal
 
@@ -11,4 +12,4 @@ returns-in_err-spot c =
 
 pub returns : goal.returns
 returns c =
-    comes_on c.args.look.now (Ok c.args.new.now) (link_new c.args.file c.args.new.now.trailing) c.args.new.now refl c.walk.new.self c.in_ok-spot.spot c.in_ok-spot.ensures c.link_new.new.look c.link_new.result c.link_new.ensures
+    comes_on c.args.look.now (Ok c.args.new.now) (link_new c.args.file c.args.new.now.trailing) c.args.new.now refl c.walk.new.self c.in_ok-spot.spot c.in_ok-spot.ensures c.link_new.new.look (intended c.link_new.new.edits c.link_new.result) c.link_new.ensures

@@ -1,6 +1,7 @@
 use Rattle.std.proofs.Common.{Ok, refl}
 use Rattle.std.proofs.lemmas.Result.{err_from_is_err_and}
 use Rattle.ft_calls.specs.Links.{link_old}
+use Rattle.ft_calls.specs.Intended.{intended}
 use Rattle.ft_calls.proofs.Looking.{comes_lost, comes_on}
 use Rattle.ft_calls.proofs.links.link_parts.Goals as goal
 
@@ -11,4 +12,4 @@ returns-in_err-spot c =
 
 pub returns : goal.returns
 returns c =
-    comes_on c.args.look.now (Ok c.args.old.now) (link_old c.args.new.now) c.args.old.now refl c.walk.new.self c.in_ok-spot.spot c.in_ok-spot.ensures c.link_old.new.look c.link_old.result c.link_old.ensures
+    comes_on c.args.look.now (Ok c.args.old.now) (link_old c.args.new.now) c.args.old.now refl c.walk.new.self c.in_ok-spot.spot c.in_ok-spot.ensures c.link_old.new.look (intended c.link_old.new.edits c.link_old.result) c.link_old.ensures

@@ -4,7 +4,7 @@ use Rattle.ft_tree.specs.Cells.{stored_dirs}
 use Rattle.ft_tree.specs.Looks.{Answer}
 use Rattle.ft_calls.specs.Links.{renamed, with_parent}
 use Rattle.ft_calls.proofs.Looking.{comes_met, comes_unmet}
-use Rattle.ft_calls.proofs.Moving.{comes-more}
+use Rattle.ft_calls.proofs.Moving.{comes-more, done}
 use Rattle.ft_calls.proofs.links.move_dir.Goals as goal
 
 pub returns-then-branch : goal.returns-then-branch
@@ -19,5 +19,5 @@ returns c =
     let parents = with_parent c.args.number r.dir r.into in
     let go = Answer (renamed r.dir r.name.now (DirNode c.args.number) r.into r.other.now parents) in
     let cells = c.climb.new.self.cells in
-    comes_unmet c.args.look.now (stored_dirs c.args.look.now.cells) c.args.number r.into go c.climb.new.self c.in_ok-climb.field-0 c.in_ok-climb.ensures c.if-branch.false c.climb.new.self (Ok c.in_ok-with_parent.field-0)
-    (comes-more cells c.in_ok-intent.intent c.in_ok-with_parent.field-0 (renamed r.dir r.name.now (DirNode c.args.number) r.into r.other.now []) parents c.in_ok-with_parent.ensures.told (c.in_ok-with_parent.ensures.edits cells) (c.in_ok-intent.ensures cells), refl)
+    comes_unmet c.args.look.now (stored_dirs c.args.look.now.cells) c.args.number r.into go c.climb.new.self c.in_ok-climb.field-0 c.in_ok-climb.ensures c.if-branch.false c.climb.new.self (Ok (done c.with_parent.new.edits))
+    (comes-more cells c.renamed.new.edits c.with_parent.new.edits (renamed r.dir r.name.now (DirNode c.args.number) r.into r.other.now []) parents (c.in_ok-with_parent.ensures cells) (c.in_ok-renamed.ensures cells), refl)

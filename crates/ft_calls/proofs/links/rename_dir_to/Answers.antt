@@ -5,6 +5,7 @@ use Rattle.ft_calls.specs.Links.{rename_dir}
 use Rattle.ft_tree.specs.Walk.{seen_at}
 use Rattle.ft_calls.specs.Looking.{Looking}
 use Rattle.ft_calls.specs.Comes.{Comes}
+use Rattle.ft_calls.specs.Intended.{intended}
 use Rattle.ft_calls.proofs.Looking.{comes_lost, comes_on}
 use Rattle.ft_calls.proofs.links.rename_dir_to.Goals as goal
 
@@ -15,5 +16,5 @@ returns-in_err-spot c =
 
 pub returns : goal.returns
 returns c =
-    comes_on c.args.look.now (Ok c.args.new.now) (rename_dir (stored_dirs c.args.look.now.cells) c.args.dir c.args.name.now c.args.number) c.args.new.now refl c.walk.new.self c.in_ok-spot.spot c.in_ok-spot.ensures c.rename_dir.new.look c.rename_dir.result
-    (subst (λ n. Comes c.walk.new.self (rename_dir n c.args.dir c.args.name.now c.args.number (seen_at c.in_ok-spot.spot)) c.rename_dir.new.look c.rename_dir.result) (ap (λ (l : Looking). stored_dirs l.cells) c.in_ok-spot.ensures.1) c.rename_dir.ensures)
+    comes_on c.args.look.now (Ok c.args.new.now) (rename_dir (stored_dirs c.args.look.now.cells) c.args.dir c.args.name.now c.args.number) c.args.new.now refl c.walk.new.self c.in_ok-spot.spot c.in_ok-spot.ensures c.rename_dir.new.look (intended c.rename_dir.new.edits c.rename_dir.result)
+    (subst (λ n. Comes c.walk.new.self (rename_dir n c.args.dir c.args.name.now c.args.number (seen_at c.in_ok-spot.spot)) c.rename_dir.new.look (intended c.rename_dir.new.edits c.rename_dir.result)) (ap (λ (l : Looking). stored_dirs l.cells) c.in_ok-spot.ensures.1) c.rename_dir.ensures)

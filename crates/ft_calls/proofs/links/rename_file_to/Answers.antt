@@ -1,6 +1,7 @@
 use Rattle.std.proofs.Common.{Ok, refl}
 use Rattle.std.proofs.lemmas.Result.{err_from_is_err_and}
 use Rattle.ft_calls.specs.Links.{rename_file}
+use Rattle.ft_calls.specs.Intended.{intended}
 use Rattle.ft_calls.proofs.Looking.{comes_lost, comes_on}
 use Rattle.ft_calls.proofs.links.rename_file_to.Goals as goal
 
@@ -11,4 +12,4 @@ returns-in_err-spot c =
 
 pub returns : goal.returns
 returns c =
-    comes_on c.args.look.now (Ok c.args.new.now) (rename_file c.args.dir c.args.name.now c.args.file c.args.new.now.trailing) c.args.new.now refl c.walk.new.self c.in_ok-spot.spot c.in_ok-spot.ensures c.rename_file.new.look c.rename_file.result c.rename_file.ensures
+    comes_on c.args.look.now (Ok c.args.new.now) (rename_file c.args.dir c.args.name.now c.args.file c.args.new.now.trailing) c.args.new.now refl c.walk.new.self c.in_ok-spot.spot c.in_ok-spot.ensures c.rename_file.new.look (intended c.rename_file.new.edits c.rename_file.result) c.rename_file.ensures

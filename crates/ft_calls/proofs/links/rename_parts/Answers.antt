@@ -7,6 +7,7 @@ use Rattle.ft_path.specs.FilePath.{last_of}
 use Rattle.ft_calls.specs.Links.{rename_fault, rename_old}
 use Rattle.ft_calls.specs.Looking.{Looking}
 use Rattle.ft_calls.specs.Comes.{Comes}
+use Rattle.ft_calls.specs.Intended.{intended}
 use Rattle.ft_calls.proofs.Looking.{comes_lost, comes_on, comes_past}
 use Rattle.ft_calls.proofs.links.rename_parts.Goals as goal
 
@@ -25,6 +26,6 @@ returns c =
     let go = rename_old n c.args.new.now in
     let fault = rename_fault (last_of c.args.old.now.names) (last_of c.args.new.now.names) in
     let clear : fault ≡ None = search rules in
-    comes_past c.args.look.now fault (from_parts (Ok c.args.old.now) go) clear on.new.look on.result
-    (comes_on c.args.look.now (Ok c.args.old.now) go c.args.old.now refl c.walk.new.self c.in_ok-spot.spot c.in_ok-spot.ensures on.new.look on.result
-    (subst (λ k. Comes c.walk.new.self (rename_old k c.args.new.now (seen_at c.in_ok-spot.spot)) on.new.look on.result) (ap (λ (l : Looking). stored_dirs l.cells) c.in_ok-spot.ensures.1) on.ensures))
+    comes_past c.args.look.now fault (from_parts (Ok c.args.old.now) go) clear on.new.look (intended on.new.edits on.result)
+    (comes_on c.args.look.now (Ok c.args.old.now) go c.args.old.now refl c.walk.new.self c.in_ok-spot.spot c.in_ok-spot.ensures on.new.look (intended on.new.edits on.result)
+    (subst (λ k. Comes c.walk.new.self (rename_old k c.args.new.now (seen_at c.in_ok-spot.spot)) on.new.look (intended on.new.edits on.result)) (ap (λ (l : Looking). stored_dirs l.cells) c.in_ok-spot.ensures.1) on.ensures))

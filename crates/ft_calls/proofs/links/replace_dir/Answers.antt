@@ -1,5 +1,6 @@
 use Rattle.ft_tree.specs.Cells.{stored_dirs}
 use Rattle.ft_calls.specs.Links.{replace_dir}
+use Rattle.ft_calls.specs.Intended.{intended}
 use Rattle.ft_calls.proofs.Looking.{comes_met, comes_unmet}
 use Rattle.ft_calls.proofs.links.replace_dir.Goals as goal
 
@@ -13,4 +14,4 @@ pub returns : goal.returns
 returns c =
     let r = c.args.renaming in
     let go = replace_dir r.dir r.name.now c.args.number r.into r.other.now c.args.replaced in
-    comes_unmet c.args.look.now (stored_dirs c.args.look.now.cells) c.args.number r.into go c.climb.new.self c.in_ok-climb.field-0 c.in_ok-climb.ensures c.if-branch.false c.replace_empty.new.look c.replace_empty.result c.replace_empty.ensures
+    comes_unmet c.args.look.now (stored_dirs c.args.look.now.cells) c.args.number r.into go c.climb.new.self c.in_ok-climb.field-0 c.in_ok-climb.ensures c.if-branch.false c.replace_empty.new.look (intended c.replace_empty.new.edits c.replace_empty.result) c.replace_empty.ensures

@@ -15,11 +15,10 @@ returns c =
     let r = c.args.renaming in
     let cells = c.args.look.now.cells in
     let gone = sets (cell.Parent c.args.replaced) None ∷ [] in
-    let first = c.in_ok-intent.intent in
+    let first = c.renamed.new.edits in
     let second = c.push.new.self in
     let bare : is_none_of (names_of cells c.args.replaced) ≡ true = search rules in
-    let told : second.told ≡ first.told = c.in_ok-push.ensures.told in
-    let edits : writes_of cells second.edits ≡ writes_of cells first.edits ++ gone = ap (writes_of cells) c.in_ok-push.ensures.edits ∙ writes_of-append cells first.edits (Parent c.args.replaced None ∷ []) in
-    let both = comes-more cells first second (renamed r.dir r.name.now (DirNode c.args.number) r.into r.other.now []) gone told edits (c.in_ok-intent.ensures cells) in
-    let all = comes-more cells second c.in_ok-with_parent.field-0 _ (with_parent c.args.number r.dir r.into) c.in_ok-with_parent.ensures.told (c.in_ok-with_parent.ensures.edits cells) both in
+    let edits : writes_of cells second ≡ writes_of cells first ++ gone = ap (writes_of cells) c.in_ok-push.ensures ∙ writes_of-append cells first (Parent c.args.replaced None ∷ []) in
+    let both = comes-more cells first second (renamed r.dir r.name.now (DirNode c.args.number) r.into r.other.now []) gone edits (c.in_ok-renamed.ensures cells) in
+    let all = comes-more cells second c.with_parent.new.edits _ (with_parent c.args.number r.dir r.into) (c.in_ok-with_parent.ensures cells) both in
     (all ∙ sym (bare-replaced r.dir r.name.now c.args.number r.into r.other.now c.args.replaced (names_of cells c.args.replaced) bare), c.in_ok-is_empty_dir.ensures.1)

@@ -13,11 +13,10 @@ pub returns : goal.returns
 returns c =
     let r = c.args.renaming in
     let cells = c.args.look.now.cells in
-    let first = c.in_ok-intent.intent in
+    let first = c.renamed.new.edits in
     let second = c.push.new.self in
     let left : c.saturating_sub.result ≡ links_of cells c.args.replaced - 1 = search rules in
-    let told : second.told ≡ first.told = c.in_ok-push.ensures.told in
-    let edits : writes_of cells second.edits ≡ writes_of cells first.edits ++ sets (cell.Links c.args.replaced) (links_of cells c.args.replaced - 1) ∷ [] =
-    ap (writes_of cells) c.in_ok-push.ensures.edits ∙ writes_of-append cells first.edits (Links c.args.replaced c.saturating_sub.result ∷ [])
-    ∙ ap (λ (n : ℕ). writes_of cells first.edits ++ sets (cell.Links c.args.replaced) n ∷ []) left in
-    (comes-more cells first second (renamed r.dir r.name.now (FileNode c.args.file) r.into r.other.now []) _ told edits (c.in_ok-intent.ensures cells), c.in_ok-links.ensures.1)
+    let edits : writes_of cells second ≡ writes_of cells first ++ sets (cell.Links c.args.replaced) (links_of cells c.args.replaced - 1) ∷ [] =
+    ap (writes_of cells) c.in_ok-push.ensures ∙ writes_of-append cells first (Links c.args.replaced c.saturating_sub.result ∷ [])
+    ∙ ap (λ (n : ℕ). writes_of cells first ++ sets (cell.Links c.args.replaced) n ∷ []) left in
+    (comes-more cells first second (renamed r.dir r.name.now (FileNode c.args.file) r.into r.other.now []) _ edits (c.in_ok-renamed.ensures cells), c.in_ok-links.ensures.1)

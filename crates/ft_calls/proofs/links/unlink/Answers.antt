@@ -1,6 +1,7 @@
 use Rattle.std.proofs.lemmas.Result.{err_from_is_err_and}
 use Rattle.ft_path.specs.FilePath.{parts_of}
 use Rattle.ft_calls.specs.Links.{unlink_spot}
+use Rattle.ft_calls.specs.Intended.{intended}
 use Rattle.ft_calls.proofs.Looking.{comes_lost, comes_on}
 use Rattle.ft_calls.proofs.links.unlink.Goals as goal
 
@@ -10,4 +11,4 @@ returns-in_err-spot c =
     rw (p.1, p.2) (comes_lost c.args.look.now (parts_of c.args.path.now) unlink_spot c.in_ok-parts.parts c.in_ok-parts.ensures c.walk.new.self _ c.in_err-spot.ensures)
 
 pub returns : goal.returns
-returns c = comes_on c.args.look.now (parts_of c.args.path.now) unlink_spot c.in_ok-parts.parts c.in_ok-parts.ensures c.walk.new.self c.in_ok-spot.spot c.in_ok-spot.ensures c.unlink_spot.new.look c.unlink_spot.result c.unlink_spot.ensures
+returns c = comes_on c.args.look.now (parts_of c.args.path.now) unlink_spot c.in_ok-parts.parts c.in_ok-parts.ensures c.walk.new.self c.in_ok-spot.spot c.in_ok-spot.ensures c.unlink_spot.new.look (intended c.unlink_spot.new.edits c.unlink_spot.result) c.unlink_spot.ensures

@@ -9,14 +9,14 @@ use Rattle.ft_calls.proofs.preparing.prepare.Goals as goal
 pub returns-clause-accesses : goal.returns-clause-accesses
 returns-clause-accesses c =
     c.in_ok-accesses.ensures.list
-    ∙ accesses-noted c.args.tree.now c.new-look.result c.intend_or_fail.new.look c.args.stamp c.args.call.now c.in_ok-intent.intent c.new-look.ensures c.in_ok-intent.ensures.outcome c.in_ok-intent.ensures.looks
+    ∙ accesses-noted c.args.tree.now c.new-look.result c.tell_or_fail.new.look c.args.stamp c.args.call.now (record { told = c.in_ok-told.told; edits = c.tell_or_fail.new.edits }) c.new-look.ensures c.in_ok-told.ensures.outcome c.in_ok-told.ensures.looks
 
 pub returns-clause-places : goal.returns-clause-places
 returns-clause-places c = λ sound.
-    edits-have-places c.args.tree.now c.args.stamp c.args.call.now sound c.in_ok-intent.intent
-    (subst (λ (l : Looking). outcome_of l.cells c.in_ok-intent.intent ≡ outcome l.cells c.args.stamp c.args.call.now) c.new-look.ensures c.in_ok-intent.ensures.outcome) c.in_ok-accesses.ensures.within
+    edits-have-places c.args.tree.now c.args.stamp c.args.call.now sound (record { told = c.in_ok-told.told; edits = c.tell_or_fail.new.edits })
+    (subst (λ (l : Looking). outcome_of l.cells (record { told = c.in_ok-told.told; edits = c.tell_or_fail.new.edits }) ≡ outcome l.cells c.args.stamp c.args.call.now) c.new-look.ensures c.in_ok-told.ensures.outcome) c.in_ok-accesses.ensures.within
 
 pub returns-clause-apart : goal.returns-clause-apart
 returns-clause-apart c = λ sound.
-    edits-are-apart c.args.tree.now c.args.stamp c.args.call.now sound c.in_ok-intent.intent
-    (subst (λ (l : Looking). outcome_of l.cells c.in_ok-intent.intent ≡ outcome l.cells c.args.stamp c.args.call.now) c.new-look.ensures c.in_ok-intent.ensures.outcome)
+    edits-are-apart c.args.tree.now c.args.stamp c.args.call.now sound (record { told = c.in_ok-told.told; edits = c.tell_or_fail.new.edits })
+    (subst (λ (l : Looking). outcome_of l.cells (record { told = c.in_ok-told.told; edits = c.tell_or_fail.new.edits }) ≡ outcome l.cells c.args.stamp c.args.call.now) c.new-look.ensures c.in_ok-told.ensures.outcome)

@@ -1,46 +1,55 @@
-use Rattle.std.proofs.Common.{◌==◌, refl, sym, ap, ◌∙◌}
-use Rattle.ft_calls.specs.Comes.{outcome_of}
-use Rattle.ft_core.specs.States.{State, fate_of, after_wait}
-use Rattle.ft_core.specs.Journals.{state_of}
-use Rattle.ft_core.proofs.Asks.{core-unmade, core-request, asked-now, waits-for, core-waits, empty, filled}
+use Rattle.std.proofs.Common.{◌≡◌, ◌+◌, Some, sym, ap, subst, ◌∙◌}
+use Rattle.ft_core.specs.States.{State, fate_of, has_most_calls, after_wait}
+use Rattle.ft_core.specs.Journals.{Journaled, is_full, state_of}
+use Rattle.ft_core.specs.Tries.{IsTried}
+use Rattle.ft_core.proofs.Asks.{full-same, core-unmade, tried-made, waits-for, core-waits}
 use Rattle.ft_core.proofs.manager.Core.request.Goals as goal
 
-pub invariant_of-self-then-not-is_empty : goal.invariant_of-self-then-not-is_empty
-invariant_of-self-then-not-is_empty c =
+pub invariant_of-self-in_err-tried : goal.invariant_of-self-in_err-tried
+invariant_of-self-in_err-tried c =
     let i = c.self.inside in
-    let live = ap (λ (q : State). fate_of q c.args.txn) c.self.view_is ∙ c.requires.live in
-    core-waits c.call_laws.ensures c.lock_laws.ensures i.tree i.forest i.locks i.logs i.journal c.self.invariant c.args.txn c.args.call live c.wait.new.self c.in_ok-wait.ensures.ok
+    core-unmade c.call_laws.ensures c.lock_laws.ensures i.tree i.forest i.locks i.logs i.journal c.self.invariant c.try_call.new.tree c.try_call.new.locks c.try_call.new.logs c.reserve.new.self c.in_err-tried.ensures.unmade c.reserve.ensures.same
 
-pub returns-then-not-is_empty-clause-asked : goal.returns-then-not-is_empty-clause-asked
-returns-then-not-is_empty-clause-asked c =
-    let i = c.self.inside in (
-      (λ none. filled c.in_ok-prepared.field-0.blockers.items (ap (λ n. n == 0) (sym c.in_ok-prepared.field-0.blockers.ok.0) ∙ sym c.is_empty.ensures ∙ c.if-not-is_empty.true) (sym c.from-blockers.ensures ∙ none)),
-      c.from-blockers.ensures ∙ waits-for c.call_laws.ensures c.lock_laws.ensures i.tree i.forest i.locks i.logs i.journal c.self.invariant c.args.self.now c.self.view_is c.args.txn c.args.call c.next_stamp-stamp.result c.next_stamp-stamp.ensures
-          c.in_ok-prepared.field-0.prepared.accesses.items c.in_ok-prepared.ensures.accesses c.in_ok-prepared.field-0.prepared.accesses.items c.in_ok-prepared.field-0.blockers.items refl c.in_ok-prepared.ensures.blockers,
-      ap (state_of i.forest) c.in_ok-wait.ensures.ok ∙ ap (λ (q : State). after_wait q c.args.txn c.args.call) c.self.view_is,
+pub grant-requires-clause-few : goal.grant-requires-clause-few
+grant-requires-clause-few c =
+    let i = c.self.inside in
+    ap is_full c.reserve.ensures.same ∙ full-same c.call_laws.ensures c.lock_laws.ensures i.tree i.forest i.locks i.logs i.journal c.self.invariant ∙ ap has_most_calls c.self.view_is ∙ c.requires.few
+
+pub invariant_of-self-in-Made : goal.invariant_of-self-in-Made
+invariant_of-self-in-Made c =
+    let i = c.self.inside in
+    (tried-made c.call_laws.ensures c.lock_laws.ensures i.tree i.forest i.locks i.logs i.journal c.self.invariant c.args.self.now c.self.view_is c.args.txn c.args.call c.requires.live c.next_stamp-stamp.result (c.next_stamp-stamp.ensures ∙ ap (λ (q : Journaled). q.last_stamp + 1) c.reserve.ensures.same)
+    c.try_call.new.tree c.try_call.new.locks c.try_call.new.logs c.in-Made.field-0 (subst (IsTried i.tree c.try_call.new.tree i.locks c.try_call.new.locks i.logs c.try_call.new.logs i.forest c.args.txn c.next_stamp-stamp.result c.args.call) c.in-Made.is c.in_ok-tried.ensures.tried)
+    c.reserve.new.self c.grant.new.self c.reserve.ensures.same c.grant.ensures).0
+
+pub returns-in-Made-clause-asked : goal.returns-in-Made-clause-asked
+returns-in-Made-clause-asked c =
+    let i = c.self.inside in
+    (tried-made c.call_laws.ensures c.lock_laws.ensures i.tree i.forest i.locks i.logs i.journal c.self.invariant c.args.self.now c.self.view_is c.args.txn c.args.call c.requires.live c.next_stamp-stamp.result (c.next_stamp-stamp.ensures ∙ ap (λ (q : Journaled). q.last_stamp + 1) c.reserve.ensures.same)
+    c.try_call.new.tree c.try_call.new.locks c.try_call.new.logs c.in-Made.field-0 (subst (IsTried i.tree c.try_call.new.tree i.locks c.try_call.new.locks i.logs c.try_call.new.logs i.forest c.args.txn c.next_stamp-stamp.result c.args.call) c.in-Made.is c.in_ok-tried.ensures.tried)
+    c.reserve.new.self c.grant.new.self c.reserve.ensures.same c.grant.ensures).1
+
+pub invariant_of-self-in_err-wait-in-Blocked : goal.invariant_of-self-in_err-wait-in-Blocked
+invariant_of-self-in_err-wait-in-Blocked c =
+    let i = c.self.inside in
+    let blocked = subst (IsTried i.tree c.try_call.new.tree i.locks c.try_call.new.locks i.logs c.try_call.new.logs i.forest c.args.txn c.next_stamp-stamp.result c.args.call) c.in-Blocked.is c.in_ok-tried.ensures.tried in
+    core-unmade c.call_laws.ensures c.lock_laws.ensures i.tree i.forest i.locks i.logs i.journal c.self.invariant c.try_call.new.tree c.try_call.new.locks c.try_call.new.logs c.wait.new.self blocked.unmade
+    (subst (λ (q : Journaled). q ≡ record i.journal { room = q.room }) (sym c.in_err-wait-in-Blocked.ensures.err) c.reserve.ensures.same)
+
+pub invariant_of-self-in-Blocked : goal.invariant_of-self-in-Blocked
+invariant_of-self-in-Blocked c =
+    let i = c.self.inside in
+    let blocked = subst (IsTried i.tree c.try_call.new.tree i.locks c.try_call.new.locks i.logs c.try_call.new.logs i.forest c.args.txn c.next_stamp-stamp.result c.args.call) c.in-Blocked.is c.in_ok-tried.ensures.tried in
+    core-waits c.call_laws.ensures c.lock_laws.ensures c.try_call.new.tree i.forest c.try_call.new.locks c.try_call.new.logs c.reserve.new.self
+    (core-unmade c.call_laws.ensures c.lock_laws.ensures i.tree i.forest i.locks i.logs i.journal c.self.invariant c.try_call.new.tree c.try_call.new.locks c.try_call.new.logs c.reserve.new.self blocked.unmade c.reserve.ensures.same)
+    c.args.txn c.args.call (ap (λ (q : Journaled). fate_of (state_of i.forest q) c.args.txn) c.reserve.ensures.same ∙ ap (λ (q : State). fate_of q c.args.txn) c.self.view_is ∙ c.requires.live)
+    c.wait.new.self c.in_ok-wait-in-Blocked.ensures.ok
+
+pub returns-in_ok-wait-in-Blocked-clause-asked : goal.returns-in_ok-wait-in-Blocked-clause-asked
+returns-in_ok-wait-in-Blocked-clause-asked c =
+    let i = c.self.inside in
+    let blocked = subst (IsTried i.tree c.try_call.new.tree i.locks c.try_call.new.locks i.logs c.try_call.new.logs i.forest c.args.txn c.next_stamp-stamp.result c.args.call) c.in-Blocked.is c.in_ok-tried.ensures.tried in (
+      (λ none. blocked.some (sym c.from-blockers.ensures ∙ none)),
+      c.from-blockers.ensures ∙ waits-for c.call_laws.ensures c.lock_laws.ensures i.tree i.forest i.locks i.logs i.journal c.self.invariant c.args.self.now c.self.view_is c.args.txn c.args.call c.next_stamp-stamp.result (c.next_stamp-stamp.ensures ∙ ap (λ (q : Journaled). q.last_stamp + 1) c.reserve.ensures.same) c.in-Blocked.blockers.items blocked.are,
+      ap (state_of i.forest) c.in_ok-wait-in-Blocked.ensures.ok ∙ ap (λ (q : State). after_wait q c.args.txn c.args.call) (ap (state_of i.forest) c.reserve.ensures.same ∙ c.self.view_is),
     )
-
-pub invariant_of-self-in_err-reply : goal.invariant_of-self-in_err-reply
-invariant_of-self-in_err-reply c =
-    let i = c.self.inside in
-    core-unmade c.call_laws.ensures c.lock_laws.ensures i.tree i.forest i.locks i.logs i.journal c.self.invariant c.make.new.tree c.make.new.locks c.make.new.logs c.reserve.new.self c.in_err-reply.ensures.unmade c.reserve.ensures.same
-
-pub invariant_of-self-2 : goal.invariant_of-self-2
-invariant_of-self-2 c =
-    let i = c.self.inside in
-    let live = ap (λ (q : State). fate_of q c.args.txn) c.self.view_is ∙ c.requires.live in
-    let none = empty c.in_ok-prepared.field-0.blockers.items (ap (λ n. n == 0) (sym c.in_ok-prepared.field-0.blockers.ok.0) ∙ sym c.is_empty.ensures ∙ c.if-not-is_empty.false) in
-    (core-request c.call_laws.ensures c.lock_laws.ensures i.tree i.forest i.locks i.logs i.journal c.self.invariant c.args.txn c.args.call live c.next_stamp-stamp.result c.next_stamp-stamp.ensures
-    c.in_ok-prepared.field-0.prepared.accesses.items c.in_ok-prepared.ensures.accesses (outcome_of i.tree c.in_ok-prepared.field-0.prepared.intent) c.in_ok-prepared.ensures.outcome c.in_ok-prepared.field-0.prepared.accesses.items c.in_ok-prepared.field-0.blockers.items refl c.in_ok-prepared.ensures.blockers none
-    c.in_ok-reply.field-0.kept c.in_ok-reply.ensures.reply c.in_ok-reply.field-0.accesses.items c.in_ok-reply.ensures.accesses c.make.new.tree c.make.new.locks c.make.new.logs c.in_ok-reply.ensures.made c.reserve.new.self c.grant.new.self c.reserve.ensures.same c.grant.ensures).kept
-
-pub returns-clause-asked : goal.returns-clause-asked
-returns-clause-asked c =
-    let i = c.self.inside in
-    let live = ap (λ (q : State). fate_of q c.args.txn) c.self.view_is ∙ c.requires.live in
-    let none = empty c.in_ok-prepared.field-0.blockers.items (ap (λ n. n == 0) (sym c.in_ok-prepared.field-0.blockers.ok.0) ∙ sym c.is_empty.ensures ∙ c.if-not-is_empty.false) in
-    asked-now c.call_laws.ensures c.lock_laws.ensures i.tree i.forest i.locks i.logs i.journal c.self.invariant c.args.self.now c.self.view_is c.args.txn c.args.call c.next_stamp-stamp.result c.next_stamp-stamp.ensures c.in_ok-reply.field-0.reply c.in_ok-reply.field-0.kept c.in_ok-reply.ensures.twice
-    c.make.new.tree c.make.new.locks c.make.new.logs c.grant.new.self
-    (core-request c.call_laws.ensures c.lock_laws.ensures i.tree i.forest i.locks i.logs i.journal c.self.invariant c.args.txn c.args.call live c.next_stamp-stamp.result c.next_stamp-stamp.ensures
-    c.in_ok-prepared.field-0.prepared.accesses.items c.in_ok-prepared.ensures.accesses (outcome_of i.tree c.in_ok-prepared.field-0.prepared.intent) c.in_ok-prepared.ensures.outcome c.in_ok-prepared.field-0.prepared.accesses.items c.in_ok-prepared.field-0.blockers.items refl c.in_ok-prepared.ensures.blockers none
-    c.in_ok-reply.field-0.kept c.in_ok-reply.ensures.reply c.in_ok-reply.field-0.accesses.items c.in_ok-reply.ensures.accesses c.make.new.tree c.make.new.locks c.make.new.logs c.in_ok-reply.ensures.made c.reserve.new.self c.grant.new.self c.reserve.ensures.same c.grant.ensures)

@@ -1,12 +1,12 @@
 use Rattle.std.proofs.Common.{◌≡◌, ◌==◌, ◌&&◌, ◌||◌, take, arith, ap, sym, ◌∙◌}
-use Rattle.std.proofs.lemmas.Bool.{eqb-true}
+use Rattle.std.proofs.lemmas.Bool.{and_parts, eqb-true}
 use Rattle.ft_tree.specs.CellOrder.{same_cell, same_cell-is}
 use Rattle.ft_locks.specs.declared.line.LockLine.{LockLine}
 use Rattle.ft_locks.specs.Locks.{is_held, same_mode, is_accessed}
 use Rattle.ft_locks.specs.Holdings.{has_place, is_given}
 use Rattle.ft_locks.specs.Seen.{has_line}
 use Rattle.ft_locks.proofs.CellViews.{turned_cell}
-use Rattle.ft_locks.proofs.Granting.{added_back, added_line, added_place, added_still, accessed_more, given_more, lines_kept, lines_made, line_there, in_either, in_place, all_both, or_with, place_kept, place_made, some-placed}
+use Rattle.ft_locks.proofs.Granting.{added_back, added_line, added_place, added_still, accessed_more, given_more, lines_kept, lines_made, line_there, in_either, in_place, or_with, place_kept, place_made, some-placed}
 use Rattle.ft_locks.proofs.holdings.Holdings.reserve.Goals as goal
 
 pub loop-access-preserved-in-Some : goal.loop-access-preserved-in-Some
@@ -22,7 +22,7 @@ loop-access-preserved-in-Some c =
           ∙ lines_kept (has_line c.loop-access.self.cells x) (given x) (has_line c.args.self.now.cells x) (next x) (c.loop-access.invariant.lines x)
           ∙ sym (ap (λ b. has_line c.args.self.now.cells x || b) (more x));
       all = λ has x is.
-          let both = all_both c.loop-access.has_all c.has-has_all.result has in
+          let both = and_parts c.loop-access.has_all c.has-has_all.result has in
           in_either (given x) (next x) (has_line c.loop-access.self.cells x) (sym (more x) ∙ is)
           (λ was. c.loop-access.invariant.all both.0 x was)
           (λ now. line_there c.loop-access.self.cells c.args.owner c.access-item.result c.in-Some.own own (sym c.has-has_all.ensures ∙ both.1) x now);

@@ -1,9 +1,9 @@
 // Plans run over a core behind a lock, and over managers that lie about it.
 ghost use Rattle.std.specs.Prelude.{◌≤◌};
 
-use crate::{End, Gate, JobFault, JobsOutcome, OpenGate, Plan, Report, run_jobs};
 use ft_calls::{Call, Reply};
 use ft_core::{Core, Fault, Outcome, TxnId};
+use ft_jobs::{End, Gate, JobFault, JobsOutcome, OpenGate, Plan, Report, run_jobs};
 use ft_path::Errno;
 use ft_shared::{Manager, Shared};
 use ft_tree::Kind;
@@ -142,7 +142,7 @@ fn crosses<R: Threads + Wait + Clock + Sync>(rt: &R, alloc: Global) -> Result<bo
 }
 
 /// What a manager does otherwise than it says.
-#[derive(Clone, Copy, Debug)]
+#[derive(Clone, Copy)]
 enum Lie {
     Nothing,
     /// It tells of a call that is done as one that failed.

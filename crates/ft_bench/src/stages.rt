@@ -1,4 +1,5 @@
 // What calls take through a core, in transactions.
+use crate::growth::directories;
 use anyhow::{Result, ensure};
 use ft_calls::Call;
 use ft_core::{Core, Outcome, TxnId};
@@ -75,34 +76,13 @@ fn granted(outcome: Outcome) -> Result<()> {
     Ok(())
 }
 
-/// Makes a directory.
-fn make(alloc: Global, core: &mut Core, txn: TxnId, text: &str) -> Result<()> {
-    let call = mkdir(alloc, text)?;
-    granted(core.ask(txn, call)?)
-}
-
-/// Makes directories with three components in a transaction, as many as `size`, and those above them: ten in each of the
-/// second level, and a hundred of these in each of the first.
+/// Makes directories in a transaction, as many as `size` with three components.
 fn fill(alloc: Global, core: &mut Core, txn: TxnId, size: u64) -> Result<()> {
     for index in 0..size {
-        let (first, second, third) = (index / 1000, index / 10 % 100, index % 10);
-        if index % 1000 == 0 {
-            make(alloc, core, txn, format!(in alloc; "/a{first}")?.as_str())?;
+        for text in directories(alloc, index)? {
+            let call = mkdir(alloc, text.as_str())?;
+            granted(core.ask(txn, call)?)?;
         }
-        if third == 0 {
-            make(
-                alloc,
-                core,
-                txn,
-                format!(in alloc; "/a{first}/b{second}")?.as_str(),
-            )?;
-        }
-        make(
-            alloc,
-            core,
-            txn,
-            format!(in alloc; "/a{first}/b{second}/c{third}")?.as_str(),
-        )?;
     }
     Ok(())
 }

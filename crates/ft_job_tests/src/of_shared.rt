@@ -1,9 +1,9 @@
 // Rows worked by hand, request by request through the lock; who waits for whom; threads that wait, and let others go on; what is
 // handed back.
-use crate::{Manager, Refused, Shared};
 use ft_calls::{Call, Reply};
 use ft_core::{Answer, Core, Fault, Outcome, Request, TxnId};
 use ft_path::FilePath;
+use ft_shared::{Manager, Refused, Shared};
 use ft_tree::AccessMode;
 use ft_waits::{Edge, EdgeKind, Verdict};
 use std::alloc::Global;

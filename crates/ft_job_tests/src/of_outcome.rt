@@ -1,8 +1,8 @@
 // What jobs came to, as text.
-use crate::OutcomeText;
 use ft_base::{Memory, Sequence};
 use ft_core::{Fault, TxnId};
 use ft_jobs::{End, Plan, Report};
+use ft_outcome::OutcomeText;
 use ft_tree::TreeRow;
 use std::alloc::{AllocError, Global};
 use std::test::Fail;

@@ -1,5 +1,5 @@
 // A worked plan, bytes that are none, and printed names.
-use crate::{JobFault, JobName, Plan};
+use ft_plan::{JobFault, JobName, Plan};
 use ft_words::Unread;
 use std::alloc::{AllocError, Global};
 use std::test::Fail;

@@ -4,9 +4,9 @@ use denote.Param.Send.{IsSync, sendable}
 use Rattle.std.proofs.Crossing.{crosses}
 use Rattle.ft_shared.specs.contracts.shared.Shared as Shared
 use Rattle.ft_shared.proofs.Crossing.{Core-send}
-use Rattle.ft_jobs.proofs.tests.Lie.TheSendSync as lie
-use Rattle.ft_jobs.specs.contracts.tests.Lying as Lying
-use Rattle.ft_jobs.proofs.tests.ends_under.Goals as goal
+use Rattle.ft_job_tests.proofs.of_jobs.Lie.TheSendSync as lie
+use Rattle.ft_job_tests.specs.contracts.of_jobs.Lying as Lying
+use Rattle.ft_job_tests.proofs.of_jobs.ends_under.Goals as goal
 
 -- a core behind a lock as a field of another type
 shared_field : IsSync (Struct (shape Shared.the_type))

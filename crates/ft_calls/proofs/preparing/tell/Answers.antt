@@ -1,0 +1,68 @@
+use Rattle.std.proofs.Common.{◌≡◌, ℕ, ℤ, List, [], Result, sym, ap, subst, ◌∙◌, rules}
+use Rattle.std.proofs.lemmas.Int.{to_z-of_z}
+use mir.Val.{SFits, of_z, to_z}
+use mir.Syntax.{w64}
+use Rattle.ft_tree.specs.Cells.{stored_dirs}
+use Rattle.ft_tree.specs.Looks.{Looks}
+use Rattle.ft_calls.specs.Outcomes.{Outcome}
+use Rattle.ft_calls.specs.declared.call.Call.{Call}
+use Rattle.ft_calls.specs.declared.call.Call.TheVariants.{Write, Pread, Pwrite, Lseek, Ftruncate}
+use Rattle.ft_calls.specs.declared.intent.Edit.{Edit}
+use Rattle.ft_calls.specs.declared.intent.Told.{Told}
+use Rattle.ft_calls.specs.declared.intent.Intent.{Intent}
+use Rattle.ft_calls.specs.declared.intent.Stop.{Stop}
+use Rattle.ft_calls.specs.Steps.{steps}
+use Rattle.ft_calls.specs.Looking.{Looking}
+use Rattle.ft_calls.specs.Comes.{Comes}
+use Rattle.ft_calls.specs.Intended.{intended}
+use Rattle.ft_calls.proofs.preparing.tell.Goals as goal
+
+-- what the call comes to that the pattern names
+named : (old : Looking) (k : ℕ) (call arm : Call) → call ≡ arm → (new : Looking) (r : Result Intent Stop) → Comes old (steps (stored_dirs old.cells) k arm) new r → Comes old (steps (stored_dirs old.cells) k call) new r
+named old k call arm is new r h = subst (λ (one : Call). Comes old (steps (stored_dirs old.cells) k one) new r) (sym is) h
+
+-- a call that only tells makes out no edit
+told_alone : (old new : Looking) (s : Looks Outcome) (edits : List Edit) (r : Result Told Stop) → edits ≡ [] → Comes old s new (intended [] r) → Comes old s new (intended edits r)
+told_alone old new s edits r none h = subst (λ es. Comes old s new (intended es r)) (sym none) h
+
+-- a signed number as it is passed
+passed : (z : ℤ) → SFits w64 z → z ≡ to_z w64 (of_z w64 z)
+passed z fits = sym (to_z-of_z w64 z fits)
+
+pub returns-in-Pread : goal.returns-in-Pread
+returns-in-Pread c =
+    told_alone c.args.look.now c.pread.new.look (steps (stored_dirs c.args.look.now.cells) c.args.stamp c.args.call.now) c.args.edits.now c.pread.result c.requires
+    (named c.args.look.now c.args.stamp _ _ (c.in-Pread.is ∙ ap (λ z. Pread c.in-Pread.fd z c.in-Pread.len) (passed c.in-Pread.off (search rules))) c.pread.new.look (intended [] c.pread.result) c.pread.ensures)
+
+pub returns-in-Stat : goal.returns-in-Stat
+returns-in-Stat c =
+    told_alone c.args.look.now c.stat.new.look (steps (stored_dirs c.args.look.now.cells) c.args.stamp c.args.call.now) c.args.edits.now c.stat.result c.requires
+    (named c.args.look.now c.args.stamp _ _ c.in-Stat.is c.stat.new.look (intended [] c.stat.result) c.stat.ensures)
+
+pub returns-in-Fstat : goal.returns-in-Fstat
+returns-in-Fstat c =
+    told_alone c.args.look.now c.fstat.new.look (steps (stored_dirs c.args.look.now.cells) c.args.stamp c.args.call.now) c.args.edits.now c.fstat.result c.requires
+    (named c.args.look.now c.args.stamp _ _ c.in-Fstat.is c.fstat.new.look (intended [] c.fstat.result) c.fstat.ensures)
+
+pub returns-in-List : goal.returns-in-List
+returns-in-List c =
+    told_alone c.args.look.now c.list.new.look (steps (stored_dirs c.args.look.now.cells) c.args.stamp c.args.call.now) c.args.edits.now c.list.result c.requires
+    (named c.args.look.now c.args.stamp _ _ c.in-List.is c.list.new.look (intended [] c.list.result) c.list.ensures)
+
+pub returns-in-Pwrite : goal.returns-in-Pwrite
+returns-in-Pwrite c =
+    named c.args.look.now c.args.stamp _ _
+    (c.in-Pwrite.is ∙ ap (λ z. Pwrite c.in-Pwrite.fd z c.in-Pwrite.bytes) (passed c.in-Pwrite.off (search rules)) ∙ ap (λ bytes. Pwrite c.in-Pwrite.fd (to_z w64 (of_z w64 c.in-Pwrite.off)) bytes) (sym c.as_slice-in-Pwrite.ensures))
+    c.pwrite.new.look (intended c.pwrite.new.edits c.pwrite.result) c.pwrite.ensures
+
+pub returns-in-Lseek : goal.returns-in-Lseek
+returns-in-Lseek c =
+    named c.args.look.now c.args.stamp _ _ (c.in-Lseek.is ∙ ap (Lseek c.in-Lseek.fd c.in-Lseek.whence) (passed c.in-Lseek.off (search rules))) c.lseek.new.look (intended c.lseek.new.edits c.lseek.result) c.lseek.ensures
+
+pub returns-in-Ftruncate : goal.returns-in-Ftruncate
+returns-in-Ftruncate c =
+    named c.args.look.now c.args.stamp _ _ (c.in-Ftruncate.is ∙ ap (Ftruncate c.in-Ftruncate.fd) (passed c.in-Ftruncate.len (search rules))) c.ftruncate.new.look (intended c.ftruncate.new.edits c.ftruncate.result) c.ftruncate.ensures
+
+pub returns-in-Write : goal.returns-in-Write
+returns-in-Write c =
+    named c.args.look.now c.args.stamp _ _ (c.in-Write.is ∙ ap (λ bytes. Write c.in-Write.fd bytes) (sym c.as_slice.ensures)) c.write.new.look (intended c.write.new.edits c.write.result) c.write.ensures

@@ -1,0 +1,14 @@
+//! Tests of the crates that run jobs, from the core behind a lock upwards, in one crate: a crate with tests is proved a second
+//! time with them.
+#![tactic(auto)]
+
+#[cfg(test)]
+mod of_jobs;
+#[cfg(test)]
+mod of_outcome;
+#[cfg(test)]
+mod of_plan;
+#[cfg(test)]
+mod of_progress;
+#[cfg(test)]
+mod of_shared;
