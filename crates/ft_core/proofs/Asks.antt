@@ -1,8 +1,7 @@
 -- Asking for a call.
-use Rattle.std.proofs.Common.{◌≡◌, ◌-◌, ◌||◌, ℕ, true, false, List, [], ◌∷◌, Some, nat_le, cond, ◌==◌, eqb-true, length, arith, refl, sym, ap, subst, ◌∙◌}
+use Rattle.std.proofs.Common.{◌≡◌, ◌-◌, ◌||◌, ℕ, List, [], Some, nat_le, cond, ◌==◌, eqb-true, length, arith, refl, sym, ap, subst, ◌∙◌}
 use Rattle.std.specs.FinMap as finite
 use Rattle.std.specs.Cmp.{nat_cmp_total, unsigned_tied}
-use Rattle.std.proofs.lemmas.Bool.{false≢true}
 use Rattle.ft_laws.proofs.Tests.{by_test}
 use Rattle.ft_base.specs.Chains.{Lists}
 use Rattle.ft_tree.specs.Cells.{Cells}
@@ -65,10 +64,6 @@ module _ (W : CallLaws) (K : LockLaws) (cells : Cells) (forest : Transactions) (
       (subst (λ (c : Cells). IsCoreOf s c forest table' lists' (record j { room = j'.room })) (sym un.cells)
       (subst (λ (l : LockTable). IsCoreOf s cells forest l lists' (record j { room = j'.room })) (sym un.locks) same))
 
-  -- there is room for more
-  pub core-roomier : (j' : Journaled) → j' ≡ record j { room = j'.room } → IsCoreOf (state_of forest j') cells forest table lists j'
-  core-roomier j' is = core-unmade cells table lists j' (record { cells = refl; locks = refl; listed = λ t. refl; open_still = λ t. refl }) is
-
   pub record IsGranted (t : ℕ) (call : Call) (reply : Reply) (cells' : Cells) (table' : LockTable) (lists' : Lists Logged) (j' : Journaled) : Type 0 where
     pub asked : IsAsked exact_rule s t call (Granted (next_stamp s) reply) (state_of forest j')
     pub kept : IsCoreOf (state_of forest j') cells' forest table' lists' j'
@@ -125,13 +120,6 @@ module _ (W : CallLaws) (K : LockLaws) (cells : Cells) (forest : Transactions) (
   core-waits t call live j' is =
       subst (λ (q : Journaled). IsCoreOf (state_of forest q) cells forest table lists q) (sym is)
       (core-asks s.base (history s) s.asks s.last_txn s.last_stamp cells forest table lists j core (finite.insert j.asks t call) (awaited s.base (history s) s.asks s.last_txn s.last_stamp cells forest table lists j core t call live) (record j { asks = finite.insert j.asks t call }) refl refl)
-
-pub empty : (xs : List ℕ) → (length xs == 0) ≡ true → xs ≡ []
-empty [] e = refl
-empty (x ∷ xs) e = let none : length (x ∷ xs) ≡ 0 = eqb-true (length (x ∷ xs)) 0 e in absurd (omega arith)
-
-pub filled : (xs : List ℕ) → (length xs == 0) ≡ false → xs ≡ [] → ⊥
-filled xs e none = false≢true (sym e ∙ ap (λ ys. length ys == 0) none)
 
 -- to wait for the call that one waits for changes nothing
 pub waits-again : (s : State) (t : ℕ) (call : Call) → finite.get s.asks t ≡ Some call → after_wait s t call ≡ s
