@@ -61,12 +61,16 @@ impl Growth {
     /// Makes the directory of this number, and those above it where it is the first in them.
     fn add(&mut self, index: u64) -> Result<()> {
         for text in directories(self.alloc, index)? {
-            let path = FilePath::new(self.alloc, text.as_bytes())?;
-            ensure!(
-                self.perform(&Call::Mkdir { path })? == Reply::Done,
-                "mkdir {text}"
-            );
+            self.make(text.as_str())?;
         }
+        Ok(())
+    }
+
+    /// Makes a directory.
+    fn make(&mut self, text: &str) -> Result<()> {
+        let path = FilePath::new(self.alloc, text.as_bytes())?;
+        let reply = self.perform(&Call::Mkdir { path })?;
+        ensure!(reply == Reply::Done, "mkdir {text}");
         Ok(())
     }
 

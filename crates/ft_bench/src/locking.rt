@@ -4,7 +4,7 @@ use ft_calls::{Access, Mode};
 use ft_forest::{Forest, TxnId};
 use ft_locks::Locks;
 use ft_path::{FilePath, Name};
-use ft_tree::Cell;
+use ft_tree::{Cell, EntryRef};
 use std::alloc::Global;
 use std::mem;
 
@@ -67,17 +67,17 @@ fn entry(alloc: Global, dir: u64, path: &str) -> Result<Cell> {
     let path = FilePath::new(alloc, path.as_bytes())?;
     let parts = path.parts(alloc)?;
     let name: &Name = parts.names.as_slice().first().context("a name")?;
-    Ok(Cell::Entry(dir, name.clone()?))
+    let entry = EntryRef { dir, name };
+    Ok(Cell::Entry(entry.to_entry()?))
 }
 
 /// Three accesses, as of a call that makes a file with this number.
 fn accesses_of(alloc: Global, file: u64) -> Result<[Access; 3]> {
+    let text = format!(in alloc; "/n{file}")?;
+    let cell = entry(alloc, 1, text.as_str())?;
     let mode = Mode::Write;
     Ok([
-        Access {
-            cell: entry(alloc, 1, format!(in alloc; "/n{file}")?.as_str())?,
-            mode,
-        },
+        Access { cell, mode },
         Access {
             cell: Cell::Links(file),
             mode,
@@ -96,7 +96,8 @@ fn fill(alloc: Global, table: &mut Table, asking: Asking, size: u64) -> Result<(
         if asking == Asking::Among {
             owner = table.begin()?;
         }
-        let cell = entry(alloc, 2, format!(in alloc; "/d{number}")?.as_str())?;
+        let text = format!(in alloc; "/d{number}")?;
+        let cell = entry(alloc, 2, text.as_str())?;
         let mode = Mode::Write;
         table.grant(owner, [Access { cell, mode }].as_slice())?;
     }
@@ -104,11 +105,8 @@ fn fill(alloc: Global, table: &mut Table, asking: Asking, size: u64) -> Result<(
 }
 
 /// Asks as often as `count` says, in a table of so many locks: how often nobody was in the way.
-pub fn run(alloc: Global, asking: Asking, count: u64, size: u64) -> Result<u64> {
-    let forest = Forest::new(alloc, 0);
-    let locks = Locks::new(alloc)?;
-    let mut table = Table { forest, locks };
-    fill(alloc, &mut table, asking, size)?;
+fn run_in(alloc: Global, table: &mut Table, asking: Asking, count: u64, size: u64) -> Result<u64> {
+    fill(alloc, table, asking, size)?;
     let asker = table.begin()?;
     let mut done: u64 = 0;
     for index in 0..count {
@@ -117,7 +115,16 @@ pub fn run(alloc: Global, asking: Asking, count: u64, size: u64) -> Result<u64> 
             done = done.wrapping_add(1);
         }
     }
+    Ok(done)
+}
+
+/// The same in a new table.
+pub fn run(alloc: Global, asking: Asking, count: u64, size: u64) -> Result<u64> {
+    let forest = Forest::new(alloc, 0);
+    let locks = Locks::new(alloc)?;
+    let mut table = Table { forest, locks };
+    let done = run_in(alloc, &mut table, asking, count, size);
     // To drop the table is no part of an ask.
     mem::forget(table);
-    Ok(done)
+    done
 }

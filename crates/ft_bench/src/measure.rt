@@ -61,19 +61,31 @@ impl Measure {
 
 /// Does a measure as often as `count` says, over a tree of this size, each time at another
 /// directory: how often it went well.
-pub fn run(alloc: Global, measure: Measure, count: u64, size: u64) -> Result<u64> {
-    let mut growth = Growth::new(alloc, size)?;
-    let fd = open_file(alloc, &mut growth)?;
+fn run_on(
+    alloc: Global,
+    growth: &mut Growth,
+    measure: Measure,
+    count: u64,
+    size: u64,
+) -> Result<u64> {
+    let fd = open_file(alloc, growth)?;
     let mut done: u64 = 0;
     for index in 0..count {
         let call = call_at(alloc, measure, index, size)?;
-        if measure.take(&mut growth, fd, &call)? {
+        if measure.take(growth, fd, &call)? {
             done = done.wrapping_add(1);
         }
     }
+    Ok(done)
+}
+
+/// The same over a new tree.
+pub fn run(alloc: Global, measure: Measure, count: u64, size: u64) -> Result<u64> {
+    let mut growth = Growth::new(alloc, size)?;
+    let done = run_on(alloc, &mut growth, measure, count, size);
     // To drop the tree is no part of a call.
     mem::forget(growth);
-    Ok(done)
+    done
 }
 
 /// The descriptor of a new file.

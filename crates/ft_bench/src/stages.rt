@@ -42,16 +42,15 @@ impl Stage {
     fn take(self, alloc: Global, core: &mut Core, txn: TxnId, index: u64) -> Result<()> {
         match self {
             Stage::Call => {
-                let _ = mkdir(alloc, format!(in alloc; "/a0/b0/n{index}")?.as_str())?;
+                let _ = mkdir_beside(alloc, index)?;
                 Ok(())
             }
             Stage::Ask | Stage::Crowd | Stage::Whole => {
-                let call = mkdir(alloc, format!(in alloc; "/a0/b0/n{index}")?.as_str())?;
-                granted(core.ask(txn, call)?)
+                ask(core, txn, mkdir_beside(alloc, index)?)
             }
             Stage::Look => {
                 let path = FilePath::new(alloc, b"/a0/b0/c0".as_slice())?;
-                granted(core.ask(txn, Call::Stat { path })?)
+                ask(core, txn, Call::Stat { path })
             }
             Stage::Empty => {
                 let child = core.sub(txn)?;
@@ -67,8 +66,15 @@ fn mkdir(alloc: Global, text: &str) -> Result<Call> {
     Ok(Call::Mkdir { path })
 }
 
-/// Whether nobody was in the way.
-fn granted(outcome: Outcome) -> Result<()> {
+/// The call that makes a directory of this number beside the first ones.
+fn mkdir_beside(alloc: Global, index: u64) -> Result<Call> {
+    let text = format!(in alloc; "/a0/b0/n{index}")?;
+    mkdir(alloc, text.as_str())
+}
+
+/// Makes a call that nobody is in the way of.
+fn ask(core: &mut Core, txn: TxnId, call: Call) -> Result<()> {
+    let outcome = core.ask(txn, call)?;
     ensure!(
         matches!(outcome, Outcome::Granted { .. }),
         "a call that waits"
@@ -80,8 +86,7 @@ fn granted(outcome: Outcome) -> Result<()> {
 fn fill(alloc: Global, core: &mut Core, txn: TxnId, size: u64) -> Result<()> {
     for index in 0..size {
         for text in directories(alloc, index)? {
-            let call = mkdir(alloc, text.as_str())?;
-            granted(core.ask(txn, call)?)?;
+            ask(core, txn, mkdir(alloc, text.as_str())?)?;
         }
     }
     Ok(())
@@ -95,22 +100,28 @@ fn crowd(core: &mut Core, count: u64) -> Result<()> {
     Ok(())
 }
 
-/// Does a stage as often as `count` says, in a transaction that has made directories, as many as `size`.
-pub fn run(alloc: Global, stage: Stage, count: u64, size: u64) -> Result<u64> {
-    let mut core = Core::new(alloc)?;
+/// Does a stage as often as `count` says, in a transaction of a core that has made directories, as many as `size`.
+fn run_in(alloc: Global, core: &mut Core, stage: Stage, count: u64, size: u64) -> Result<u64> {
     if stage == Stage::Crowd {
-        crowd(&mut core, 10_000)?;
+        crowd(core, 10_000)?;
     }
     let txn = core.begin()?;
-    fill(alloc, &mut core, txn, size)?;
+    fill(alloc, core, txn, size)?;
     for index in 0..count {
-        stage.take(alloc, &mut core, txn, index)?;
+        stage.take(alloc, core, txn, index)?;
     }
     if stage == Stage::Whole {
         core.commit(txn)?;
         let _ = core.sweep();
     }
+    Ok(count)
+}
+
+/// The same in a new core.
+pub fn run(alloc: Global, stage: Stage, count: u64, size: u64) -> Result<u64> {
+    let mut core = Core::new(alloc)?;
+    let done = run_in(alloc, &mut core, stage, count, size);
     // To drop the core is no part of an ask.
     mem::forget(core);
-    Ok(count)
+    done
 }

@@ -6,6 +6,7 @@ use Rattle.std.specs.FinMap.{empty, entries, entries_sorted}
 use Rattle.std.specs.FinMap.Entries.{same_entries}
 use Rattle.std.proofs.lemmas.Map.Lookups.{exact_bytes}
 use Rattle.ft_laws.specs.Lists.{In}
+use Rattle.ft_tree.specs.Entries.{entry_at}
 use Rattle.ft_tree.specs.declared.node.Node.{Node}
 use Rattle.ft_tree.specs.declared.cell.Cell.{Cell}
 use Rattle.ft_tree.specs.declared.cell.Cell.TheVariants.{Entry, Names, Parent, Links, Bytes, Fd}
@@ -38,8 +39,8 @@ names-alike x y same =
 
 -- where all that a cell covers holds the same, the cell shows the same
 pub view-covered : (s t : Cells) (c : Cell) → ((x : Cell) → covers c x ≡ true → held s x ≡ held t x) → view_of s c ≡ view_of t c
-view-covered s t (Entry d name) same = same (Entry d name) (same_cell-refl (Entry d name))
-view-covered s t (Names d) same = names-alike (dir_of s d) (dir_of t d) (λ name. same (Entry d name) (eq-eqb d d refl))
+view-covered s t (Entry entry) same = same (Entry entry) (same_cell-refl (Entry entry))
+view-covered s t (Names d) same = names-alike (dir_of s d) (dir_of t d) (λ name. same (Entry (entry_at d name)) (eq-eqb d d refl))
 view-covered s t (Parent d) same = same (Parent d) (same_cell-refl (Parent d))
 view-covered s t (Links i) same = same (Links i) (same_cell-refl (Links i))
 view-covered s t (Bytes i) same = same (Bytes i) (same_cell-refl (Bytes i))
@@ -59,7 +60,7 @@ same_back old new same = record { values = λ c. sym (same.values c) }
 -- they are a tree alike
 pub same_tree : (old new : Cells) → SameValues old new → IsTree (entry_of old) (parent_of old) → IsTree (entry_of new) (parent_of new)
 same_tree old new same tree =
-    let entries : entry_of old ≡ entry_of new = λ i d name. sym (same.values (Entry d name)) i in
+    let entries : entry_of old ≡ entry_of new = λ i d name. sym (same.values (Entry (entry_at d name))) i in
     let parents : parent_of old ≡ parent_of new = λ i d. sym (same.values (Parent d)) i in
     subst (λ (f : ℕ → List ℕ → Option Node). IsTree f (parent_of new)) entries (subst (λ (f : ℕ → Option ℕ). IsTree (entry_of old) f) parents tree)
 
@@ -72,7 +73,7 @@ pub same_after : (ws : List Write) (old new : Cells) → SameValues old new → 
 same_after ws old new same = record { values = values }
   where
     values : (c : Cell) → held (put_all new ws) c ≡ held (put_all old ws) c
-    values (Entry d name) = ap (λ f. f d name) (entry-put_all ws new ∙ (λ i. entry_after (λ e other. same.values (Entry e other) i) ws) ∙ sym (entry-put_all ws old))
+    values (Entry entry) = ap (λ f. f entry.dir entry.name) (entry-put_all ws new ∙ (λ i. entry_after (λ e other. same.values (Entry (entry_at e other)) i) ws) ∙ sym (entry-put_all ws old))
     values (Names d) = refl
     values (Parent d) = ap (λ f. f d) (parent-put_all ws new ∙ (λ i. parent_after (λ e. same.values (Parent e) i) ws) ∙ sym (parent-put_all ws old))
     values (Links n) = ap (λ f. f n) (links-put_all ws new ∙ (λ i. links_after (λ e. same.values (Links e) i) ws) ∙ sym (links-put_all ws old))

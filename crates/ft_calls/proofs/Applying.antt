@@ -3,6 +3,7 @@ use Rattle.std.proofs.Common.{◌≡◌, ◌≢◌, ℕ, Bool, true, false, cond
 use Rattle.std.specs.Prelude.{◌==◌}
 use Rattle.std.proofs.lemmas.Bool.{false_from_ne_true}
 use Rattle.std.proofs.lemmas.Option.{none-some, same_Some}
+use Rattle.ft_tree.specs.Entries.{entry_at}
 use Rattle.ft_tree.specs.declared.cell.Cell.{Cell}
 use Rattle.ft_tree.specs.declared.cell.Cell.TheVariants as cell
 use Rattle.ft_tree.specs.declared.node.Node.{Node}
@@ -38,9 +39,9 @@ module _ (cells : Cells) (s : AreSoundCells cells) where
   at_hangs d h = dir_place-hangs cells s d h
 
   -- entries that lead to different things are different cells
-  other_entry : (d : ℕ) (name : List ℕ) (e : ℕ) (other : List ℕ) → (entry_of cells d name ≡ entry_of cells e other → ⊥) → same_cell (cell.Entry e other) (cell.Entry d name) ≡ false
+  other_entry : (d : ℕ) (name : List ℕ) (e : ℕ) (other : List ℕ) → (entry_of cells d name ≡ entry_of cells e other → ⊥) → same_cell (cell.Entry (entry_at e other)) (cell.Entry (entry_at d name)) ≡ false
   other_entry d name e other differ =
-      false_from_ne_true _ (λ is. let same = same_cell-is (cell.Entry e other) (cell.Entry d name) is in
+      false_from_ne_true _ (λ is. let same = same_cell-is (cell.Entry (entry_at e other)) (cell.Entry (entry_at d name)) is in
       differ (λ i. entry_of cells (cell_number (sym same i)) (cell_name (sym same i))))
 
   files-put : (k : ℕ) (t : Cells) (ws : List Write) → ((i : ℕ) → Named cells i → HasFilePlace t i) → AreFileWrites cells k ws → CanPutAll t ws
@@ -72,36 +73,36 @@ module _ (cells : Cells) (s : AreSoundCells cells) where
   change-made k reads _ (links_file i d name named hangs empty) = record { places = (at_hangs d hangs, (tt, tt)); apart = ((refl, tt), (tt, tt)) }
   change-made k reads _ (unlinks d name i is) = record { places = (tt, (at_entry d name (FileNode i) is, tt)); apart = ((refl, tt), (tt, tt)) }
   change-made k reads _ (moves_file d name i e other is hangs empty) = record {
-    places = (at_hangs e hangs, (dir_place-put_all (sets (cell.Entry e other) (Some (FileNode i)) ∷ []) cells d (at_entry d name (FileNode i) is), tt));
+    places = (at_hangs e hangs, (dir_place-put_all (sets (cell.Entry (entry_at e other)) (Some (FileNode i)) ∷ []) cells d (at_entry d name (FileNode i) is), tt));
     apart = ((other_entry d name e other (λ same. none-some (FileNode i) (sym (sym is ∙ same ∙ empty))), tt), (tt, tt));
   }
   change-made k reads _ (replaces_file d name i e other j is was apart) = record {
-    places = (at_entry e other (FileNode j) was, (dir_place-put_all (sets (cell.Entry e other) (Some (FileNode i)) ∷ []) cells d (at_entry d name (FileNode i) is), (tt, tt)));
+    places = (at_entry e other (FileNode j) was, (dir_place-put_all (sets (cell.Entry (entry_at e other)) (Some (FileNode i)) ∷ []) cells d (at_entry d name (FileNode i) is), (tt, tt)));
     apart = ((other_entry d name e other (λ same. apart (ap number_of (same_Some (FileNode i) (FileNode j) (sym is ∙ same ∙ was)))), (refl, tt)), ((refl, tt), (tt, tt)));
   }
   change-made k reads _ (moves_dir d name i e other is hangs clear empty) = by_parent (d == e)
     where
-      by_parent : (b : Bool) → CanBeMade cells (sets (cell.Entry e other) (Some (DirNode i)) ∷ sets (cell.Entry d name) None ∷ cond b [] (sets (cell.Parent i) (Some e) ∷ []))
+      by_parent : (b : Bool) → CanBeMade cells (sets (cell.Entry (entry_at e other)) (Some (DirNode i)) ∷ sets (cell.Entry (entry_at d name)) None ∷ cond b [] (sets (cell.Parent i) (Some e) ∷ []))
       by_parent true = record {
-        places = (at_hangs e hangs, (dir_place-put_all (sets (cell.Entry e other) (Some (DirNode i)) ∷ []) cells d (at_entry d name (DirNode i) is), tt));
+        places = (at_hangs e hangs, (dir_place-put_all (sets (cell.Entry (entry_at e other)) (Some (DirNode i)) ∷ []) cells d (at_entry d name (DirNode i) is), tt));
         apart = ((other_entry d name e other (λ same. none-some (DirNode i) (sym (sym is ∙ same ∙ empty))), tt), (tt, tt));
       }
       by_parent false = record {
-        places = (at_hangs e hangs, (dir_place-put_all (sets (cell.Entry e other) (Some (DirNode i)) ∷ []) cells d (at_entry d name (DirNode i) is), (tt, tt)));
+        places = (at_hangs e hangs, (dir_place-put_all (sets (cell.Entry (entry_at e other)) (Some (DirNode i)) ∷ []) cells d (at_entry d name (DirNode i) is), (tt, tt)));
         apart = ((other_entry d name e other (λ same. none-some (DirNode i) (sym (sym is ∙ same ∙ empty))), (refl, tt)), ((refl, tt), (tt, tt)));
       }
   change-made k reads _ (replaces_dir d name i e other j is was apart clear bare) = by_parent (d == e)
     where
-      differ : same_cell (cell.Entry e other) (cell.Entry d name) ≡ false
+      differ : same_cell (cell.Entry (entry_at e other)) (cell.Entry (entry_at d name)) ≡ false
       differ = other_entry d name e other (λ same. apart (ap number_of (same_Some (DirNode i) (DirNode j) (sym is ∙ same ∙ was))))
 
-      by_parent : (b : Bool) → CanBeMade cells (sets (cell.Entry e other) (Some (DirNode i)) ∷ sets (cell.Entry d name) None ∷ sets (cell.Parent j) None ∷ cond b [] (sets (cell.Parent i) (Some e) ∷ []))
+      by_parent : (b : Bool) → CanBeMade cells (sets (cell.Entry (entry_at e other)) (Some (DirNode i)) ∷ sets (cell.Entry (entry_at d name)) None ∷ sets (cell.Parent j) None ∷ cond b [] (sets (cell.Parent i) (Some e) ∷ []))
       by_parent true = record {
-        places = (at_entry e other (DirNode j) was, (dir_place-put_all (sets (cell.Entry e other) (Some (DirNode i)) ∷ []) cells d (at_entry d name (DirNode i) is), (tt, tt)));
+        places = (at_entry e other (DirNode j) was, (dir_place-put_all (sets (cell.Entry (entry_at e other)) (Some (DirNode i)) ∷ []) cells d (at_entry d name (DirNode i) is), (tt, tt)));
         apart = ((differ, (refl, tt)), ((refl, tt), (tt, tt)));
       }
       by_parent false = record {
-        places = (at_entry e other (DirNode j) was, (dir_place-put_all (sets (cell.Entry e other) (Some (DirNode i)) ∷ []) cells d (at_entry d name (DirNode i) is), (tt, (tt, tt))));
+        places = (at_entry e other (DirNode j) was, (dir_place-put_all (sets (cell.Entry (entry_at e other)) (Some (DirNode i)) ∷ []) cells d (at_entry d name (DirNode i) is), (tt, (tt, tt))));
         apart = ((differ, (refl, (refl, tt))), ((refl, (refl, tt)), ((other_parents i j apart, tt), (tt, tt))));
       }
   change-made k reads _ (on_files reply ws each apart acts lists) = record { places = files-put k cells ws (λ i named. (named-file cells s i named).0) each; apart = apart }
@@ -112,7 +113,7 @@ call-made cells k call s = change-made cells s k (is_read call) (outcome cells k
 -- So the edits that mean these writes can be made.
 
 write-same : (s t : Cells) (e : Edit) → held s (edit_cell e) ≡ held t (edit_cell e) → write_of s e ≡ write_of t e
-write-same s t (Entry d name to) h = refl
+write-same s t (Entry entry to) h = refl
 write-same s t (Parent d to) h = refl
 write-same s t (Links i to) h = refl
 write-same s t (Overwrite i at bytes) h = ap (λ (was : List ℕ). sets (cell.Bytes i) (written was at (fitting bytes.now at))) h
@@ -128,7 +129,7 @@ edits-apart cells [] h = tt
 edits-apart cells (e ∷ es) h = (other-edits cells (edit_cell e) es (subst (λ c. IsOtherThan c (writes_of cells es)) (write-cell cells e) h.0), edits-apart cells es h.1)
 
 can-edit : (s old : Cells) (e : Edit) → CanPut s (write_of old e) → IsWithin e → CanEdit s e
-can-edit s old (Entry d name to) can within = can
+can-edit s old (Entry entry to) can within = can
 can-edit s old (Parent d to) can within = tt
 can-edit s old (Links i to) can within = tt
 can-edit s old (Overwrite i at bytes) can within = (can, within)

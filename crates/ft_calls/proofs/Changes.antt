@@ -8,6 +8,7 @@ use Rattle.ft_path.specs.declared.errno.Errno.{Errno}
 use Rattle.ft_path.specs.declared.errno.Errno.TheVariants.{EINVAL, EEXIST, EISDIR, ENOENT, ENOTDIR, EBADF, EFBIG, EMLINK, EOVERFLOW}
 use Rattle.ft_path.specs.declared.path.Parts.{Parts}
 use Rattle.ft_path.specs.FilePath.{last_of, parts_of}
+use Rattle.ft_tree.specs.Entries.{entry_at}
 use Rattle.ft_tree.specs.declared.node.Node.{Node}
 use Rattle.ft_tree.specs.declared.node.Node.TheVariants.{Dir as DirNode, File as FileNode}
 use Rattle.ft_tree.specs.declared.open_file.OpenFile.{OpenFile}
@@ -40,11 +41,11 @@ use Rattle.ft_calls.proofs.Walked.{IsSpot, EndsWell, walk-ends}
 
 -- a directory k was made
 abbrev pub made : ℕ → ℕ → List ℕ → Outcome
-made k d name = record { reply = Done; writes = sets (cell.Parent k) (Some d) ∷ sets (cell.Entry d name) (Some (DirNode k)) ∷ [] }
+made k d name = record { reply = Done; writes = sets (cell.Parent k) (Some d) ∷ sets (cell.Entry (entry_at d name)) (Some (DirNode k)) ∷ [] }
 
 -- a directory i was removed
 abbrev pub removed : ℕ → List ℕ → ℕ → Outcome
-removed d name i = record { reply = Done; writes = sets (cell.Parent i) None ∷ sets (cell.Entry d name) None ∷ [] }
+removed d name i = record { reply = Done; writes = sets (cell.Parent i) None ∷ sets (cell.Entry (entry_at d name)) None ∷ [] }
 
 module _ (cells : Cells) where
   -- the bytes of a file that is named, or a description: an open one, or a new one of number k
@@ -62,19 +63,19 @@ module _ (cells : Cells) where
     no_change : (reply : Reply) → Change k reads (told reply)
     makes : (d : ℕ) (name : List ℕ) → Hangs (parent_of cells) d → entry_of cells d name ≡ None → Change k reads (made k d name)
     removes : (d : ℕ) (name : List ℕ) (i : ℕ) → entry_of cells d name ≡ Some (DirNode i) → names_of cells i ≡ [] → Change k reads (removed d name i)
-    creates_file : (flags : OpenFlags) (d : ℕ) (name : List ℕ) → Hangs (parent_of cells) d → entry_of cells d name ≡ None → Change k reads (creates k flags d name)
+    creates_file : (flags : OpenFlags) (d : ℕ) (name : List ℕ) → Hangs (parent_of cells) d → entry_of cells d name ≡ None → Change k reads (creates k flags (entry_at d name))
     -- file i gets another entry
-    links_file : (i : ℕ) (d : ℕ) (name : List ℕ) → Named cells i → Hangs (parent_of cells) d → entry_of cells d name ≡ None → Change k reads (linked i d name (links_of cells i))
+    links_file : (i : ℕ) (d : ℕ) (name : List ℕ) → Named cells i → Hangs (parent_of cells) d → entry_of cells d name ≡ None → Change k reads (linked i (entry_at d name) (links_of cells i))
     -- or loses one
-    unlinks : (d : ℕ) (name : List ℕ) (i : ℕ) → entry_of cells d name ≡ Some (FileNode i) → Change k reads (unlinked d name i (links_of cells i))
+    unlinks : (d : ℕ) (name : List ℕ) (i : ℕ) → entry_of cells d name ≡ Some (FileNode i) → Change k reads (unlinked (entry_at d name) i (links_of cells i))
     -- an entry is moved to another place: that of nothing, of a file, or of an empty directory
-    moves_file : (d : ℕ) (name : List ℕ) (i e : ℕ) (other : List ℕ) → entry_of cells d name ≡ Some (FileNode i) → Hangs (parent_of cells) e → entry_of cells e other ≡ None → Change k reads (renamed d name (FileNode i) e other [])
+    moves_file : (d : ℕ) (name : List ℕ) (i e : ℕ) (other : List ℕ) → entry_of cells d name ≡ Some (FileNode i) → Hangs (parent_of cells) e → entry_of cells e other ≡ None → Change k reads (renamed (entry_at d name) (FileNode i) (entry_at e other) [])
     replaces_file : (d : ℕ) (name : List ℕ) (i e : ℕ) (other : List ℕ) (j : ℕ) → entry_of cells d name ≡ Some (FileNode i) → entry_of cells e other ≡ Some (FileNode j) → i ≢ j
-        → Change k reads (renamed d name (FileNode i) e other (sets (cell.Links j) (links_of cells j - 1) ∷ []))
+        → Change k reads (renamed (entry_at d name) (FileNode i) (entry_at e other) (sets (cell.Links j) (links_of cells j - 1) ∷ []))
     moves_dir : (d : ℕ) (name : List ℕ) (i e : ℕ) (other : List ℕ) → entry_of cells d name ≡ Some (DirNode i) → Hangs (parent_of cells) e → Avoids (parent_of cells) i e → entry_of cells e other ≡ None
-        → Change k reads (renamed d name (DirNode i) e other (with_parent i d e))
+        → Change k reads (renamed (entry_at d name) (DirNode i) (entry_at e other) (with_parent i d e))
     replaces_dir : (d : ℕ) (name : List ℕ) (i e : ℕ) (other : List ℕ) (j : ℕ) → entry_of cells d name ≡ Some (DirNode i) → entry_of cells e other ≡ Some (DirNode j) → i ≢ j → Avoids (parent_of cells) i e
-        → names_of cells j ≡ [] → Change k reads (renamed d name (DirNode i) e other (sets (cell.Parent j) None ∷ with_parent i d e))
+        → names_of cells j ≡ [] → Change k reads (renamed (entry_at d name) (DirNode i) (entry_at e other) (sets (cell.Parent j) None ∷ with_parent i d e))
     on_files : (reply : Reply) (ws : List Write) → AreFileWrites k ws → AreApart ws → (OnlyTells reply → ⊥) → (IsList reply → reads ≡ true) → Change k reads (record { reply = reply; writes = ws })
 
   module _ (k : ℕ) (reads : Bool) where
@@ -98,33 +99,33 @@ module _ (cells : Cells) where
 
     -- mkdir makes a directory, or changes nothing
     make_dir-changes : (spot : Spot) → IsSpot cells spot → ComesTo (make_dir k spot)
-    make_dir-changes (AtName d name None) h = makes d name h.0 (sym h.1)
-    make_dir-changes (AtName d name (Some x)) h = no_change _
+    make_dir-changes (AtName entry None) h = makes entry.dir entry.name h.0 (sym h.1)
+    make_dir-changes (AtName entry (Some x)) h = no_change _
     make_dir-changes (Itself d) h = no_change _
 
     -- rmdir removes an empty directory, or changes nothing
     remove_dir-changes : (spot : Spot) → IsSpot cells spot → ComesTo (remove_dir spot)
-    remove_dir-changes (AtName d name None) h = no_change _
-    remove_dir-changes (AtName d name (Some (FileNode i))) h = no_change _
+    remove_dir-changes (AtName entry None) h = no_change _
+    remove_dir-changes (AtName entry (Some (FileNode i))) h = no_change _
     remove_dir-changes (Itself d) h = no_change _
-    remove_dir-changes (AtName d name (Some (DirNode i))) h = by_names (names_of cells i) refl
+    remove_dir-changes (AtName entry (Some (DirNode i))) h = by_names (names_of cells i) refl
       where
-        by_names : (names : List (List ℕ × Node)) → names_of cells i ≡ names → Change k reads (if_empty d name i names)
-        by_names [] is = removes d name i (sym h.1) is
+        by_names : (names : List (List ℕ × Node)) → names_of cells i ≡ names → Change k reads (if_empty entry i names)
+        by_names [] is = removes entry.dir entry.name i (sym h.1) is
         by_names (e ∷ es) is = no_change _
 
     -- list changes nothing
     list_dir-changes : (spot : Spot) → IsSpot cells spot → ComesTo (list_dir spot)
-    list_dir-changes (AtName d name None) h = no_change _
-    list_dir-changes (AtName d name (Some (FileNode i))) h = no_change _
-    list_dir-changes (AtName d name (Some (DirNode i))) h = no_change _
+    list_dir-changes (AtName entry None) h = no_change _
+    list_dir-changes (AtName entry (Some (FileNode i))) h = no_change _
+    list_dir-changes (AtName entry (Some (DirNode i))) h = no_change _
     list_dir-changes (Itself d) h = no_change _
 
     -- nor does stat
     stat_spot-changes : (spot : Spot) → IsSpot cells spot → ComesTo (stat_spot spot)
-    stat_spot-changes (AtName d name None) h = no_change _
-    stat_spot-changes (AtName d name (Some (FileNode i))) h = no_change _
-    stat_spot-changes (AtName d name (Some (DirNode i))) h = no_change _
+    stat_spot-changes (AtName entry None) h = no_change _
+    stat_spot-changes (AtName entry (Some (FileNode i))) h = no_change _
+    stat_spot-changes (AtName entry (Some (DirNode i))) h = no_change _
     stat_spot-changes (Itself d) h = no_change _
 
     -- to open a file that is there sets a new description, and may cut the file
@@ -145,15 +146,15 @@ module _ (cells : Cells) where
 
     -- open makes a file, opens one, or changes nothing
     open_spot-changes : (flags : OpenFlags) (trailing : Bool) (spot : Spot) → IsSpot cells spot → Change k reads (open_spot k flags trailing spot)
-    open_spot-changes flags trailing (AtName d name None) h =
-        elim (flags.create && not trailing) as (λ b. Change k reads (cond b (creates k flags d name) (failed ENOENT))) [
-          | true ↦ creates_file flags d name h.0 (sym h.1)
+    open_spot-changes flags trailing (AtName entry None) h =
+        elim (flags.create && not trailing) as (λ b. Change k reads (cond b (creates k flags entry) (failed ENOENT))) [
+          | true ↦ creates_file flags entry.dir entry.name h.0 (sym h.1)
           | false ↦ no_change _
         ]
-    open_spot-changes flags trailing (AtName d name (Some x)) h =
+    open_spot-changes flags trailing (AtName entry (Some x)) h =
         elim (is_exclusive flags) as (λ b. Change k reads (cond b (failed EEXIST) (open_node k flags x))) [
           | true ↦ no_change _
-          | false ↦ open_node-changes flags d name x h.1
+          | false ↦ open_node-changes flags entry.dir entry.name x h.1
         ]
     open_spot-changes flags trailing (Itself d) h = elim (is_exclusive flags) as (λ b. Change k reads (cond b (failed EEXIST) (failed EISDIR))) [ true ↦ no_change _ | false ↦ no_change _ ]
 
@@ -204,24 +205,24 @@ module _ (cells : Cells) where
     cut_file-changes i size named = on_files Done _ (sets_bytes i _ named, tt) (tt, tt) (λ x. x) (λ x. absurd x)
 
     truncate_spot-changes : (size : ℕ) (spot : Spot) → IsSpot cells spot → ComesTo (truncate_spot size spot)
-    truncate_spot-changes size (AtName d name None) h = no_change _
-    truncate_spot-changes size (AtName d name (Some (DirNode i))) h = no_change _
-    truncate_spot-changes size (AtName d name (Some (FileNode i))) h = cut_file-changes i size (by_entry d name i (sym h.1))
+    truncate_spot-changes size (AtName entry None) h = no_change _
+    truncate_spot-changes size (AtName entry (Some (DirNode i))) h = no_change _
+    truncate_spot-changes size (AtName entry (Some (FileNode i))) h = cut_file-changes i size (by_entry entry.dir entry.name i (sym h.1))
     truncate_spot-changes size (Itself d) h = no_change _
 
     -- link gives a file another entry
     link_new-changes : (i : ℕ) → Named cells i → (trailing : Bool) (spot : Spot) → IsSpot cells spot → ComesTo (link_new i trailing spot)
-    link_new-changes i named trailing (AtName d name None) h =
+    link_new-changes i named trailing (AtName entry None) h =
         either-changes trailing (Answer (failed ENOENT)) _ (no_change _)
-        (elim (nat_lt (links_of cells i) MOST_LINKS) as (λ b. Change k reads (cond b (linked i d name (links_of cells i)) (failed EMLINK))) [ true ↦ links_file i d name named h.0 (sym h.1) | false ↦ no_change _ ])
-    link_new-changes i named trailing (AtName d name (Some x)) h = no_change _
+        (elim (nat_lt (links_of cells i) MOST_LINKS) as (λ b. Change k reads (cond b (linked i entry (links_of cells i)) (failed EMLINK))) [ true ↦ links_file i entry.dir entry.name named h.0 (sym h.1) | false ↦ no_change _ ])
+    link_new-changes i named trailing (AtName entry (Some x)) h = no_change _
     link_new-changes i named trailing (Itself d) h = no_change _
 
     -- unlink takes an entry of a file away
     unlink_spot-changes : (spot : Spot) → IsSpot cells spot → ComesTo (unlink_spot spot)
-    unlink_spot-changes (AtName d name None) h = no_change _
-    unlink_spot-changes (AtName d name (Some (DirNode i))) h = no_change _
-    unlink_spot-changes (AtName d name (Some (FileNode i))) h = unlinks d name i (sym h.1)
+    unlink_spot-changes (AtName entry None) h = no_change _
+    unlink_spot-changes (AtName entry (Some (DirNode i))) h = no_change _
+    unlink_spot-changes (AtName entry (Some (FileNode i))) h = unlinks entry.dir entry.name i (sym h.1)
     unlink_spot-changes (Itself d) h = no_change _
 
     -- what is renamed to itself stays, and else the new entry named another
@@ -233,15 +234,15 @@ module _ (cells : Cells) where
         by_number false is = each (λ same. false≢true (sym is ∙ eq-eqb i j same))
 
     -- rename moves the entry of a file
-    rename_file-changes : (d : ℕ) (name : List ℕ) (i : ℕ) → entry_of cells d name ≡ Some (FileNode i) → (trailing : Bool) (spot : Spot) → IsSpot cells spot → ComesTo (rename_file d name i trailing spot)
-    rename_file-changes d name i is trailing (AtName e other None) h =
-        elim trailing as (λ b. Change k reads (cond b (failed ENOTDIR) (renamed d name (FileNode i) e other []))) [
+    rename_file-changes : (d : ℕ) (name : List ℕ) (i : ℕ) → entry_of cells d name ≡ Some (FileNode i) → (trailing : Bool) (spot : Spot) → IsSpot cells spot → ComesTo (rename_file (entry_at d name) i trailing spot)
+    rename_file-changes d name i is trailing (AtName entry None) h =
+        elim trailing as (λ b. Change k reads (cond b (failed ENOTDIR) (renamed (entry_at d name) (FileNode i) entry []))) [
           | true ↦ no_change _
-          | false ↦ moves_file d name i e other is h.0 (sym h.1)
+          | false ↦ moves_file d name i entry.dir entry.name is h.0 (sym h.1)
         ]
-    rename_file-changes d name i is trailing (AtName e other (Some (FileNode j))) h =
-        unless_same-changes i j (replace_file d name i e other j) (λ apart. replaces_file d name i e other j is (sym h.1) apart)
-    rename_file-changes d name i is trailing (AtName e other (Some (DirNode j))) h = no_change _
+    rename_file-changes d name i is trailing (AtName entry (Some (FileNode j))) h =
+        unless_same-changes i j (replace_file (entry_at d name) i entry j) (λ apart. replaces_file d name i entry.dir entry.name j is (sym h.1) apart)
+    rename_file-changes d name i is trailing (AtName entry (Some (DirNode j))) h = no_change _
     rename_file-changes d name i is trailing (Itself e) h = no_change _
 
     module _ (sound : AreSoundCells cells) where
@@ -277,9 +278,9 @@ module _ (cells : Cells) where
 
       -- link, with two paths
       link_old-changes : (new : Parts) (spot : Spot) → IsSpot cells spot → ComesTo (link_old new spot)
-      link_old-changes new (AtName d name None) h = no_change _
-      link_old-changes new (AtName d name (Some (DirNode i))) h = no_change _
-      link_old-changes new (AtName d name (Some (FileNode i))) h = from_parts-changes (link_new i new.trailing) (link_new-changes i (by_entry d name i (sym h.1)) new.trailing) (Ok new)
+      link_old-changes new (AtName entry None) h = no_change _
+      link_old-changes new (AtName entry (Some (DirNode i))) h = no_change _
+      link_old-changes new (AtName entry (Some (FileNode i))) h = from_parts-changes (link_new i new.trailing) (link_new-changes i (by_entry entry.dir entry.name i (sym h.1)) new.trailing) (Ok new)
       link_old-changes new (Itself d) h = no_change _
 
       link_parts-changes : (old new : Result Parts Errno) → ComesTo (link_parts old new)
@@ -298,24 +299,24 @@ module _ (cells : Cells) where
             by_met false met = each (climb-avoids cells sound.tree n i e h (enough e h) other met)
 
         -- rename moves the entry of a directory
-        rename_dir-changes : (d : ℕ) (name : List ℕ) (i : ℕ) → entry_of cells d name ≡ Some (DirNode i) → (spot : Spot) → IsSpot cells spot → ComesTo (rename_dir n d name i spot)
-        rename_dir-changes d name i is (AtName e other None) h =
-            unless_below-changes i e (not_under (parent_of cells) sound.tree.top i d (sound.tree.leads d name i is)) h.0 _ (λ clear. moves_dir d name i e other is h.0 clear (sym h.1))
-        rename_dir-changes d name i is (AtName e other (Some (FileNode j))) h = no_change _
-        rename_dir-changes d name i is (AtName e other (Some (DirNode j))) h =
-            unless_same-changes i j (unless_below n i e (replace_dir d name i e other j))
-            (λ apart. unless_below-changes i e (not_under (parent_of cells) sound.tree.top i d (sound.tree.leads d name i is)) h.0 (replace_dir d name i e other j) (λ clear. by_names apart clear (names_of cells j) refl))
+        rename_dir-changes : (d : ℕ) (name : List ℕ) (i : ℕ) → entry_of cells d name ≡ Some (DirNode i) → (spot : Spot) → IsSpot cells spot → ComesTo (rename_dir n (entry_at d name) i spot)
+        rename_dir-changes d name i is (AtName entry None) h =
+            unless_below-changes i entry.dir (not_under (parent_of cells) sound.tree.top i d (sound.tree.leads d name i is)) h.0 _ (λ clear. moves_dir d name i entry.dir entry.name is h.0 clear (sym h.1))
+        rename_dir-changes d name i is (AtName entry (Some (FileNode j))) h = no_change _
+        rename_dir-changes d name i is (AtName entry (Some (DirNode j))) h =
+            unless_same-changes i j (unless_below n i entry.dir (replace_dir (entry_at d name) i entry j))
+            (λ apart. unless_below-changes i entry.dir (not_under (parent_of cells) sound.tree.top i d (sound.tree.leads d name i is)) h.0 (replace_dir (entry_at d name) i entry j) (λ clear. by_names apart clear (names_of cells j) refl))
           where
-            by_names : i ≢ j → Avoids (parent_of cells) i e → (names : List (List ℕ × Node)) → names_of cells j ≡ names → Change k reads (if_bare d name i e other j names)
-            by_names apart clear [] bare = replaces_dir d name i e other j is (sym h.1) apart clear bare
+            by_names : i ≢ j → Avoids (parent_of cells) i entry.dir → (names : List (List ℕ × Node)) → names_of cells j ≡ names → Change k reads (if_bare (entry_at d name) i entry j names)
+            by_names apart clear [] bare = replaces_dir d name i entry.dir entry.name j is (sym h.1) apart clear bare
             by_names apart clear (x ∷ xs) bare = no_change _
         rename_dir-changes d name i is (Itself e) h = no_change _
 
         -- rename, with two paths
         rename_old-changes : (new : Parts) (spot : Spot) → IsSpot cells spot → ComesTo (rename_old n new spot)
-        rename_old-changes new (AtName d name None) h = no_change _
-        rename_old-changes new (AtName d name (Some (FileNode i))) h = from_parts-changes (rename_file d name i new.trailing) (rename_file-changes d name i (sym h.1) new.trailing) (Ok new)
-        rename_old-changes new (AtName d name (Some (DirNode i))) h = from_parts-changes (rename_dir n d name i) (rename_dir-changes d name i (sym h.1)) (Ok new)
+        rename_old-changes new (AtName entry None) h = no_change _
+        rename_old-changes new (AtName entry (Some (FileNode i))) h = from_parts-changes (rename_file entry i new.trailing) (rename_file-changes entry.dir entry.name i (sym h.1) new.trailing) (Ok new)
+        rename_old-changes new (AtName entry (Some (DirNode i))) h = from_parts-changes (rename_dir n entry i) (rename_dir-changes entry.dir entry.name i (sym h.1)) (Ok new)
         rename_old-changes new (Itself d) h = no_change _
 
         -- with the faults of the last components

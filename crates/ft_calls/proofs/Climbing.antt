@@ -10,6 +10,7 @@ use Rattle.ft_path.specs.declared.path.Parts.{Parts}
 use Rattle.ft_path.specs.declared.errno.Errno.{Errno}
 use Rattle.ft_path.specs.declared.errno.Errno.TheVariants.{EINVAL}
 use Rattle.ft_path.specs.FilePath.{last_of, parts_of}
+use Rattle.ft_tree.specs.Entries.{entry_at}
 use Rattle.ft_tree.specs.declared.node.Node.TheVariants.{Dir as DirNode, File as FileNode}
 use Rattle.ft_tree.specs.declared.cell.Cell.{Cell}
 use Rattle.ft_tree.specs.declared.cell.Cell.TheVariants.{Parent}
@@ -175,18 +176,18 @@ module _ (cells : Cells) where
           then-alike (climb m i e) (climb n i e) next next (climb-any m n i e h (enough e h) (more e h)) (refl, refl)
 
       -- and so is what a directory comes to
-      rename_dir-alike : (d : ℕ) (name : List ℕ) (i : ℕ) (spot : Spot) → IsSpot cells spot → Alike cells (rename_dir m d name i spot) (rename_dir n d name i spot)
-      rename_dir-alike d name i (Named e other None) h = unless_below-alike i e h.0 (Answer (renamed d name (DirNode i) e other (with_parent i d e)))
-      rename_dir-alike d name i (Named e other (Some (FileNode j))) h = (refl, refl)
-      rename_dir-alike d name i (Named e other (Some (DirNode j))) h =
-          either-alike (i == j) (Answer (told Done)) (Answer (told Done)) _ _ (refl, refl) (unless_below-alike i e h.0 (replace_dir d name i e other j))
+      rename_dir-alike : (d : ℕ) (name : List ℕ) (i : ℕ) (spot : Spot) → IsSpot cells spot → Alike cells (rename_dir m (entry_at d name) i spot) (rename_dir n (entry_at d name) i spot)
+      rename_dir-alike d name i (Named entry None) h = unless_below-alike i entry.dir h.0 (Answer (renamed (entry_at d name) (DirNode i) entry (with_parent i d entry.dir)))
+      rename_dir-alike d name i (Named entry (Some (FileNode j))) h = (refl, refl)
+      rename_dir-alike d name i (Named entry (Some (DirNode j))) h =
+          either-alike (i == j) (Answer (told Done)) (Answer (told Done)) _ _ (refl, refl) (unless_below-alike i entry.dir h.0 (replace_dir (entry_at d name) i entry j))
       rename_dir-alike d name i (Itself e) h = (refl, refl)
 
       -- whatever the old path names
       rename_old-alike : (new : Parts) (spot : Spot) → IsSpot cells spot → Alike cells (rename_old m new spot) (rename_old n new spot)
-      rename_old-alike new (Named d name None) h = (refl, refl)
-      rename_old-alike new (Named d name (Some (FileNode i))) h = (refl, refl)
-      rename_old-alike new (Named d name (Some (DirNode i))) h = from_parts-alike (rename_dir m d name i) (rename_dir n d name i) (rename_dir-alike d name i) (Ok new)
+      rename_old-alike new (Named entry None) h = (refl, refl)
+      rename_old-alike new (Named entry (Some (FileNode i))) h = (refl, refl)
+      rename_old-alike new (Named entry (Some (DirNode i))) h = from_parts-alike (rename_dir m entry i) (rename_dir n entry i) (rename_dir-alike entry.dir entry.name i) (Ok new)
       rename_old-alike new (Itself d) h = (refl, refl)
 
       -- with the faults of both paths

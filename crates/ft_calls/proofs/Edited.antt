@@ -14,7 +14,7 @@ use Rattle.ft_calls.proofs.Held.{put-kept}
 
 -- an edit writes its cell
 pub write-cell : (s : Cells) (e : Edit) → written_cell (write_of s e) ≡ edit_cell e
-write-cell s (Entry d name to) = refl
+write-cell s (Entry entry to) = refl
 write-cell s (Parent d to) = refl
 write-cell s (Links i to) = refl
 write-cell s (Overwrite i at bytes) = refl

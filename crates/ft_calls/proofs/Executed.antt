@@ -10,6 +10,7 @@ use Rattle.std.specs.List.{list_any}
 use Rattle.std.specs.Option.{option_map}
 use Rattle.std.specs.FinMap.{FinMap, get, contains_key, insert, entries, entries_sorted, is_sorted, get-insert, get-retain_keys, get-from_entries, from_sorted, get-from_sorted, entries-from_sorted, same_map}
 use Rattle.std.specs.FinMap.Entries.{below_all}
+use Rattle.ft_tree.specs.Entries.{entry_at}
 use Rattle.ft_tree.specs.declared.node.Node.TheVariants.{Dir as DirNode, File as FileNode}
 use Rattle.ft_tree.specs.declared.open_file.OpenFile.{OpenFile}
 use Rattle.ft_tree.specs.Cells.{Cells, FileCells, parent_of, links_of, bytes_of, body_in, open_of, put_links, put_bytes, is_of_file, is_open, has_file, HasDirPlace}
@@ -103,7 +104,7 @@ module _ (cells : Cells) (sound : AreSoundCells cells) (p : PlainTree) (alike : 
 
   tidy-left : without_dead_files p ≡ tidy cells
   tidy-left =
-      same_plain (without_dead_files p) (tidy cells) (λ d name. ap (λ m. get m (d, name)) (sym alike.edges)) (λ d. ap (λ s. contains_key s d) (sym alike.dirs)) files-left (λ f. ap (λ m. get m f) (sym alike.opens))
+      same_plain (without_dead_files p) (tidy cells) (λ d name. ap (λ m. get m (entry_at d name)) (sym alike.edges)) (λ d. ap (λ s. contains_key s d) (sym alike.dirs)) files-left (λ f. ap (λ m. get m f) (sym alike.opens))
 
 -- the plain tree of sound cells has their files
 own-files : (cells : Cells) → AreSoundCells cells → HasFiles cells (tidy cells)
@@ -161,7 +162,7 @@ module _ (cells : Cells) (sound : AreSoundCells cells) where
   -- A file k that is made.
   module _ (k : ℕ) (free : IsFree cells k) (flags : OpenFlags) (d : ℕ) (name : List ℕ) where
     abbrev created : List Write
-    created = (creates k flags d name).writes
+    created = (creates k flags (entry_at d name)).writes
 
     was_there : (i : ℕ) → i ≢ k → has_file (put_all cells created) i ≡ true → has_file cells i ≡ true
     was_there i other there =
@@ -266,21 +267,21 @@ change-files cells sound k free reads _ new (makes d name hangs empty) = own-fil
 change-files cells sound k free reads _ new (removes d name i is bare) = own-files (put_all cells (removed d name i).writes) new
 change-files cells sound k free reads _ new (creates_file flags d name hangs empty) = created-files cells sound k free flags d name
 change-files cells sound k free reads _ new (links_file i d name named hangs empty) =
-    let ws = (linked i d name (links_of cells i)).writes in kept-files cells sound ws new refl refl refl (same-no_dirs cells sound ws refl) (named-linked cells sound i (suc (links_of cells i)) named)
+    let ws = (linked i (entry_at d name) (links_of cells i)).writes in kept-files cells sound ws new refl refl refl (same-no_dirs cells sound ws refl) (named-linked cells sound i (suc (links_of cells i)) named)
 change-files cells sound k free reads _ new (unlinks d name i is) =
-    let ws = (unlinked d name i (links_of cells i)).writes in kept-files cells sound ws new refl refl refl (same-no_dirs cells sound ws refl) (named-linked cells sound i (links_of cells i - 1) (by_entry d name i is))
+    let ws = (unlinked (entry_at d name) i (links_of cells i)).writes in kept-files cells sound ws new refl refl refl (same-no_dirs cells sound ws refl) (named-linked cells sound i (links_of cells i - 1) (by_entry d name i is))
 change-files cells sound k free reads _ new (moves_file d name i e other is hangs empty) =
-    let ws = (renamed d name (FileNode i) e other []).writes in kept-files cells sound ws new refl refl refl (same-no_dirs cells sound ws refl) (λ n. links-there cells sound n _ refl)
+    let ws = (renamed (entry_at d name) (FileNode i) (entry_at e other) []).writes in kept-files cells sound ws new refl refl refl (same-no_dirs cells sound ws refl) (λ n. links-there cells sound n _ refl)
 change-files cells sound k free reads _ new (replaces_file d name i e other j is was apart) =
-    let ws = (renamed d name (FileNode i) e other (sets (cell.Links j) (links_of cells j - 1) ∷ [])).writes in
+    let ws = (renamed (entry_at d name) (FileNode i) (entry_at e other) (sets (cell.Links j) (links_of cells j - 1) ∷ [])).writes in
     kept-files cells sound ws new refl refl refl (same-no_dirs cells sound ws refl) (named-linked cells sound j (links_of cells j - 1) (by_entry e other j was))
 change-files cells sound k free reads _ new (moves_dir d name i e other is hangs clear empty) =
-    let writes : List Write → List Write = λ more. (renamed d name (DirNode i) e other more).writes in
+    let writes : List Write → List Write = λ more. (renamed (entry_at d name) (DirNode i) (entry_at e other) more).writes in
     kept-files cells sound (writes (with_parent i d e)) new (kept-hung i d e (λ more. (put_all_plain (tidy cells) (writes more)).files) refl) (kept-hung i d e (λ more. bytes_after (bytes_of cells) (writes more)) refl)
     (kept-hung i d e (λ more. open_after (open_of cells) (writes more)) refl) (no_dir-dir_moved cells sound d name i e other is clear empty)
     (λ n. links-there cells sound n _ (ap (λ f. f n) (kept-hung i d e (λ more. links_after (links_of cells) (writes more)) refl)))
 change-files cells sound k free reads _ new (replaces_dir d name i e other j is was apart clear bare) =
-    let writes : List Write → List Write = λ more. (renamed d name (DirNode i) e other (sets (cell.Parent j) None ∷ more)).writes in
+    let writes : List Write → List Write = λ more. (renamed (entry_at d name) (DirNode i) (entry_at e other) (sets (cell.Parent j) None ∷ more)).writes in
     kept-files cells sound (writes (with_parent i d e)) new (kept-hung i d e (λ more. (put_all_plain (tidy cells) (writes more)).files) refl) (kept-hung i d e (λ more. bytes_after (bytes_of cells) (writes more)) refl)
     (kept-hung i d e (λ more. open_after (open_of cells) (writes more)) refl) (no_dir-dir_replaced cells sound d name i e other j is was apart clear bare)
     (λ n. links-there cells sound n _ (ap (λ f. f n) (kept-hung i d e (λ more. links_after (links_of cells) (writes more)) refl)))

@@ -9,6 +9,7 @@ use Rattle.ft_body.specs.declared.TheConstants.{SIZE_LIMIT}
 use Rattle.ft_path.specs.declared.errno.Errno.{Errno}
 use Rattle.ft_path.specs.declared.errno.Errno.TheVariants.{ENOENT, EEXIST, EISDIR, EINVAL, EBADF, EFBIG, EOVERFLOW}
 use Rattle.ft_path.specs.declared.path.Parts.{Parts}
+use Rattle.ft_tree.specs.Entries.{entry_at}
 use Rattle.ft_tree.specs.declared.cell.Cell.{Cell}
 use Rattle.ft_tree.specs.declared.cell.Cell.TheVariants.{Names, Bytes, Fd}
 use Rattle.ft_tree.specs.declared.node.Node.{Node}
@@ -101,33 +102,33 @@ module _ (cells : Cells) (k : ℕ) (seen : List Cell) where
       (λ all. spot-goes go each (answer way (view_of cells)) (walk-finds cells seen parts.names parts.trailing all))
 
   -- a file that an entry names is come upon
-  pub by_entry : (d : ℕ) (name : List ℕ) (i : ℕ) → IsFound cells seen (AtName d name (Some (FileNode i))) → Upon cells k seen i
+  pub by_entry : (d : ℕ) (name : List ℕ) (i : ℕ) → IsFound cells seen (AtName (entry_at d name) (Some (FileNode i))) → Upon cells k seen i
   by_entry d name i h = inr (sees_entry d name i h.0 h.1)
 
   -- Directories, which are of no file.
 
   -- to make a directory sets an entry that led to nothing
   pub make_dir-goes : (spot : Spot) → IsFound cells seen spot → GoesUpon (make_dir k spot)
-  make_dir-goes (AtName d name None) h = λ all. (tt, (upon_parent k (Some d), (fills cells k seen _ d name None (Some (DirNode k)) h.1 (λ i. refl) no_name, tt)))
-  make_dir-goes (AtName d name (Some x)) h = no_change
+  make_dir-goes (AtName entry None) h = λ all. (tt, (upon_parent k (Some entry.dir), (fills cells k seen _ entry.dir entry.name None (Some (DirNode k)) h.1 (λ i. refl) no_name, tt)))
+  make_dir-goes (AtName entry (Some x)) h = no_change
   make_dir-goes (Itself d) h = no_change
 
   -- to remove one empties an entry of a directory
   remove_dir-goes : (spot : Spot) → IsFound cells seen spot → GoesUpon (remove_dir spot)
-  remove_dir-goes (AtName d name None) h = no_change
-  remove_dir-goes (AtName d name (Some (FileNode i))) h = no_change
+  remove_dir-goes (AtName entry None) h = no_change
+  remove_dir-goes (AtName entry (Some (FileNode i))) h = no_change
   remove_dir-goes (Itself d) h = no_change
-  remove_dir-goes (AtName d name (Some (DirNode i))) h = λ all. ((of_none (Names i) refl, tt), by_names (names_of cells i))
+  remove_dir-goes (AtName entry (Some (DirNode i))) h = λ all. ((of_none (Names i) refl, tt), by_names (names_of cells i))
     where
-      by_names : (names : List (List ℕ × Node)) → AreUpon cells k seen (if_empty d name i names).writes
-      by_names [] = (upon_parent i None, (fills cells k seen _ d name (Some (DirNode i)) None h.1 (λ j. refl) no_name, tt))
+      by_names : (names : List (List ℕ × Node)) → AreUpon cells k seen (if_empty entry i names).writes
+      by_names [] = (upon_parent i None, (fills cells k seen _ entry.dir entry.name (Some (DirNode i)) None h.1 (λ j. refl) no_name, tt))
       by_names (e ∷ es) = tt
 
   -- the names of a directory are of no file
   pub list_dir-goes : (spot : Spot) → IsFound cells seen spot → GoesUpon (list_dir spot)
-  list_dir-goes (AtName d name None) h = no_change
-  list_dir-goes (AtName d name (Some (FileNode i))) h = no_change
-  list_dir-goes (AtName d name (Some (DirNode i))) h = λ all. ((of_none (Names i) refl, tt), tt)
+  list_dir-goes (AtName entry None) h = no_change
+  list_dir-goes (AtName entry (Some (FileNode i))) h = no_change
+  list_dir-goes (AtName entry (Some (DirNode i))) h = λ all. ((of_none (Names i) refl, tt), tt)
   list_dir-goes (Itself d) h = λ all. ((of_none (Names d) refl, tt), tt)
 
   -- with the faults of the last component
@@ -143,9 +144,9 @@ module _ (cells : Cells) (k : ℕ) (seen : List Cell) where
 
   -- those of the file to which the path leads
   pub stat_spot-goes : (spot : Spot) → IsFound cells seen spot → GoesUpon (stat_spot spot)
-  stat_spot-goes (AtName d name None) h = no_change
-  stat_spot-goes (AtName d name (Some (DirNode i))) h = no_change
-  stat_spot-goes (AtName d name (Some (FileNode i))) h = file_info-goes i (by_entry d name i h)
+  stat_spot-goes (AtName entry None) h = no_change
+  stat_spot-goes (AtName entry (Some (DirNode i))) h = no_change
+  stat_spot-goes (AtName entry (Some (FileNode i))) h = file_info-goes i (by_entry entry.dir entry.name i h)
   stat_spot-goes (Itself d) h = no_change
 
   -- the bytes of a file are set
@@ -154,9 +155,9 @@ module _ (cells : Cells) (k : ℕ) (seen : List Cell) where
 
   -- those of the file to which the path leads
   truncate_spot-goes : (size : ℕ) (spot : Spot) → IsFound cells seen spot → GoesUpon (truncate_spot size spot)
-  truncate_spot-goes size (AtName d name None) h = no_change
-  truncate_spot-goes size (AtName d name (Some (DirNode i))) h = no_change
-  truncate_spot-goes size (AtName d name (Some (FileNode i))) h = cut_file-goes i size (by_entry d name i h)
+  truncate_spot-goes size (AtName entry None) h = no_change
+  truncate_spot-goes size (AtName entry (Some (DirNode i))) h = no_change
+  truncate_spot-goes size (AtName entry (Some (FileNode i))) h = cut_file-goes i size (by_entry entry.dir entry.name i h)
   truncate_spot-goes size (Itself d) h = no_change
 
   -- with the faults of the length
@@ -168,9 +169,9 @@ module _ (cells : Cells) (k : ℕ) (seen : List Cell) where
   -- the descriptor k was not open, and a file that is made has the number k
   module _ (none : open_of cells k ≡ None) where
     -- a file that is made is the call's own
-    creates-upon : (flags : OpenFlags) (d : ℕ) (name : List ℕ) → entry_of cells d name ≡ None → AreUpon cells k seen (creates k flags d name).writes
+    creates-upon : (flags : OpenFlags) (d : ℕ) (name : List ℕ) → entry_of cells d name ≡ None → AreUpon cells k seen (creates k flags (entry_at d name)).writes
     creates-upon flags d name empty =
-        let all = (creates k flags d name).writes in
+        let all = (creates k flags (entry_at d name)).writes in
         let opened = opens_new cells k seen all k (description flags k) none (inl refl) in
         let entered = fills cells k seen all d name None (Some (FileNode k)) empty (λ i. refl) (of_same (Upon cells k seen) k (inl refl)) in
         (upon_links k 1 (inl refl), (upon_bytes k [] (inl refl), (opened, (entered, tt))))
@@ -184,21 +185,21 @@ module _ (cells : Cells) (k : ℕ) (seen : List Cell) where
         cut false = tt
 
     -- that to which the path leads
-    open_node-upon : (flags : OpenFlags) (d : ℕ) (name : List ℕ) (x : Node) → IsFound cells seen (AtName d name (Some x)) → AreUpon cells k seen (open_node k flags x).writes
+    open_node-upon : (flags : OpenFlags) (d : ℕ) (name : List ℕ) (x : Node) → IsFound cells seen (AtName (entry_at d name) (Some x)) → AreUpon cells k seen (open_node k flags x).writes
     open_node-upon flags d name (DirNode i) h = tt
     open_node-upon flags d name (FileNode i) h = opens-upon flags i (by_entry d name i h)
 
     -- it is made, or opened, or neither
     open_spot-upon : (flags : OpenFlags) (trailing : Bool) (spot : Spot) → IsFound cells seen spot → AreUpon cells k seen (open_spot k flags trailing spot).writes
-    open_spot-upon flags trailing (AtName d name None) h =
-        elim (flags.create && not trailing) as (λ b. AreUpon cells k seen (cond b (creates k flags d name) (failed ENOENT)).writes) [
-          | true ↦ creates-upon flags d name h.1
+    open_spot-upon flags trailing (AtName entry None) h =
+        elim (flags.create && not trailing) as (λ b. AreUpon cells k seen (cond b (creates k flags entry) (failed ENOENT)).writes) [
+          | true ↦ creates-upon flags entry.dir entry.name h.1
           | false ↦ tt
         ]
-    open_spot-upon flags trailing (AtName d name (Some x)) h =
+    open_spot-upon flags trailing (AtName entry (Some x)) h =
         elim (is_exclusive flags) as (λ b. AreUpon cells k seen (cond b (failed EEXIST) (open_node k flags x)).writes) [
           | true ↦ tt
-          | false ↦ open_node-upon flags d name x h
+          | false ↦ open_node-upon flags entry.dir entry.name x h
         ]
     open_spot-upon flags trailing (Itself d) h = elim (is_exclusive flags) as (λ b. AreUpon cells k seen (cond b (failed EEXIST) (failed EISDIR)).writes) [ true ↦ tt | false ↦ tt ]
 

@@ -4,6 +4,7 @@ use Rattle.std.specs.Prelude.{◌==◌}
 use Rattle.std.proofs.lemmas.Bool.{false≢true}
 use Rattle.std.specs.Option.{option_map_or}
 use Rattle.std.specs.FinMap.{get}
+use Rattle.ft_tree.specs.Entries.{entry_at}
 use Rattle.ft_tree.specs.declared.node.Node.{Node}
 use Rattle.ft_tree.specs.declared.open_file.OpenFile.{OpenFile}
 use Rattle.ft_tree.specs.declared.cell.Cell.{Cell}
@@ -27,7 +28,7 @@ pub no_open : {cells : Cells} {k : ℕ} → IsFree cells k → open_of cells k �
 no_open {k = k} free = (free.unused (Fd k)).0 refl
 
 pub no_entry : {cells : Cells} {k : ℕ} → IsFree cells k → (d : ℕ) (name : List ℕ) (x : Node) → entry_of cells d name ≡ Some x → number_of x ≢ k
-no_entry free d name = free.unused (Entry d name)
+no_entry free d name = free.unused (Entry (entry_at d name))
 
 pub no_file : {cells : Cells} {k : ℕ} → IsFree cells k → (f : ℕ) (o : OpenFile) → open_of cells f ≡ Some o → o.file ≢ k
 no_file free f = (free.unused (Fd f)).1
@@ -38,7 +39,7 @@ pub made_free : (cells : Cells) (k : ℕ) → 2 ≤ k → parent_of cells k ≡ 
 made_free cells k above parent links bytes opens entries files = record { above_root = above; unused = unused }
   where
     unused : (c : Cell) → SaysNothingOf k c (held cells c)
-    unused (Entry d name) = entries d name
+    unused (Entry entry) = entries entry.dir entry.name
     unused (Names d) = tt
     unused (Parent d) = λ at. ap (parent_of cells) at ∙ parent
     unused (Links i) = λ at. ap (links_of cells) at ∙ links

@@ -4,6 +4,7 @@ use Rattle.std.specs.Prelude.{◌==◌}
 use Rattle.std.proofs.lemmas.Bool.{false≢true, and_parts, and_from, false_from_ne_true}
 use Rattle.std.specs.Cmp.{eq_by_cmp_equiv}
 use Rattle.std.specs.Cmp.Lexicographic.{pointwise, bytes_decides}
+use Rattle.ft_tree.specs.Entries.{entry_at}
 use Rattle.ft_tree.specs.declared.cell.Cell.{Cell}
 use Rattle.ft_tree.specs.declared.cell.Cell.TheVariants.{Entry, Names, Parent, Links, Bytes, Fd}
 use Rattle.ft_tree.specs.CellOrder.{cell_cmp_total, same_cell}
@@ -24,11 +25,11 @@ other_cell x y h is = false≢true (sym h ∙ subst (λ z. same_cell x z ≡ tru
 place-same : (d : ℕ) (name : List ℕ) → is_place d name d name ≡ true
 place-same d name = and_from (d == d) (pointwise nat_eq name name) (eq-eqb d d refl) ((bytes_decides name name).1 refl)
 
-pub place-other : (d : ℕ) (name : List ℕ) (e : ℕ) (other : List ℕ) → same_cell (Entry d name) (Entry e other) ≡ false → is_place d name e other ≡ false
+pub place-other : (d : ℕ) (name : List ℕ) (e : ℕ) (other : List ℕ) → same_cell (Entry (entry_at d name)) (Entry (entry_at e other)) ≡ false → is_place d name e other ≡ false
 place-other d name e other h =
     false_from_ne_true (is_place d name e other)
     (λ is. let parts = and_parts (e == d) (pointwise nat_eq other name) is in
-    other_cell (Entry d name) (Entry e other) h (ap₂ Entry (sym (eqb-true e d parts.0)) (sym ((bytes_decides other name).0 parts.1))))
+    other_cell (Entry (entry_at d name)) (Entry (entry_at e other)) h (ap₂ (λ n m. Entry (entry_at n m)) (sym (eqb-true e d parts.0)) (sym ((bytes_decides other name).0 parts.1))))
 
 -- a value that is set is there, and no other
 pub value-same : {A : Type 0} (f : ℕ → A) (i : ℕ) (x : A) → with_value f i x i ≡ x
@@ -39,7 +40,7 @@ value-other f i x j other = ap (λ b. cond b x (f j)) (ne_eqb j i other)
 
 -- to set a cell sets it
 pub cell_written : (s : Cells) (x : Cell) (v : Holds x) → held (set_cell s x v) x ≡ v
-cell_written s (Entry d name) v = entry-put_entry s d name v d name ∙ ap (λ b. cond b v (entry_of s d name)) (place-same d name)
+cell_written s (Entry entry) v = entry-put_entry s entry.dir entry.name v entry.dir entry.name ∙ ap (λ b. cond b v (entry_of s entry.dir entry.name)) (place-same entry.dir entry.name)
 cell_written s (Names d) v = refl
 cell_written s (Parent d) v = parent-put_parent s d v d ∙ value-same (parent_of s) d v
 cell_written s (Links i) v = links-put_links s i v i ∙ value-same (links_of s) i v
@@ -48,9 +49,9 @@ cell_written s (Fd f) v = open-put_open s f v f ∙ value-same (open_of s) f v
 
 -- and no other
 pub cell_kept : (s : Cells) (x : Cell) (v : Holds x) (y : Cell) → same_cell x y ≡ false → held (set_cell s x v) y ≡ held s y
-cell_kept s (Entry d name) v (Entry e other) h = entry-put_entry s d name v e other ∙ ap (λ b. cond b v (entry_of s e other)) (place-other d name e other h)
-cell_kept s (Entry d name) v (Parent e) h = parent-put_entry s d name v e
-cell_kept s (Parent d) v (Entry e other) h = entry-put_parent s d v e other
+cell_kept s (Entry entry) v (Entry other) h = entry-put_entry s entry.dir entry.name v other.dir other.name ∙ ap (λ b. cond b v (entry_of s other.dir other.name)) (place-other entry.dir entry.name other.dir other.name h)
+cell_kept s (Entry entry) v (Parent e) h = parent-put_entry s entry.dir entry.name v e
+cell_kept s (Parent d) v (Entry entry) h = entry-put_parent s d v entry.dir entry.name
 cell_kept s (Parent d) v (Parent e) h = parent-put_parent s d v e ∙ value-other (parent_of s) d v e (λ is. other_cell (Parent d) (Parent e) h (ap Parent (sym is)))
 cell_kept s (Links i) v (Links j) h = links-put_links s i v j ∙ value-other (links_of s) i v j (λ is. other_cell (Links i) (Links j) h (ap Links (sym is)))
 cell_kept s (Links i) v (Bytes j) h = bytes-put_links s i v j

@@ -4,6 +4,7 @@ use Rattle.std.specs.Prelude.{◌==◌, nat_lt}
 use Rattle.std.specs.Option.{option_map}
 use Rattle.std.specs.FinMap.{get, empty, contains_key}
 use Rattle.std.proofs.lemmas.Bool.{false≢true}
+use Rattle.ft_tree.specs.Entries.{entry_at}
 use Rattle.ft_tree.specs.declared.cell.Cell.TheVariants.{Entry, Parent, Links, Bytes, Fd}
 use Rattle.ft_tree.specs.Nodes.{number_of}
 use Rattle.ft_tree.specs.Cells.{Cells, links_of, bytes_of, has_file, is_open}
@@ -19,8 +20,8 @@ use Rattle.ft_calls.specs.RunLaws.{HidingLaw}
 
 module _ (hidden : ℕ → Bool) (r s : Cells) (rs : AreSoundCells r) (ss : AreSoundCells s) (h : Hides posix_calls hidden r s) where
   -- the entries and directories are the same
-  edges : (d : ℕ) (name : List ℕ) → get (tidy s).edges (d, name) ≡ get (tidy r).edges (d, name)
-  edges d name = get-tidy s d name ∙ ap (option_map number_of) (sym (h.others (Entry d name) refl)) ∙ sym (get-tidy r d name)
+  edges : (d : ℕ) (name : List ℕ) → get (tidy s).edges (entry_at d name) ≡ get (tidy r).edges (entry_at d name)
+  edges d name = get-tidy s d name ∙ ap (option_map number_of) (sym (h.others (Entry (entry_at d name)) refl)) ∙ sym (get-tidy r d name)
 
   dirs : (d : ℕ) → contains_key (tidy s).dirs d ≡ contains_key (tidy r).dirs d
   dirs d = contains-parent s ss.root_is d ∙ ap (λ o. (d == 1) || is_some o) (sym (h.others (Parent d) refl)) ∙ sym (contains-parent r rs.root_is d)

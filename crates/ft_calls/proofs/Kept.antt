@@ -3,6 +3,7 @@ use Rattle.std.proofs.Common.{◌≡◌, ◌≢◌, ◌+◌, ℕ, Bool, true, fa
 use Rattle.std.specs.Prelude.{◌==◌}
 use Rattle.std.proofs.lemmas.Option.{same_Some}
 use Rattle.std.proofs.Math.Bool.{or-true}
+use Rattle.ft_tree.specs.Entries.{entry_at}
 use Rattle.ft_tree.specs.declared.node.Node.{Node}
 use Rattle.ft_tree.specs.declared.node.Node.TheVariants.{Dir as DirNode, File as FileNode}
 use Rattle.ft_tree.specs.declared.open_file.OpenFile.{OpenFile}
@@ -61,7 +62,7 @@ module _ (cells : Cells) (sound : AreSoundCells cells) (k : ℕ) (free : IsFree 
 -- It makes the file k, with a description.
 module _ (cells : Cells) (sound : AreSoundCells cells) (k : ℕ) (free : IsFree cells k) (flags : OpenFlags) (d : ℕ) (name : List ℕ) (hangs : Hangs (parent_of cells) d) (empty : entry_of cells d name ≡ None) where
   abbrev created_writes : List Write
-  created_writes = (creates k flags d name).writes
+  created_writes = (creates k flags (entry_at d name)).writes
 
   not_root : k ≢ 1
   not_root = above-not_root k free.above_root
@@ -83,7 +84,7 @@ module _ (cells : Cells) (sound : AreSoundCells cells) (k : ℕ) (free : IsFree 
 
   place-created : HasFilePlace (put_all cells created_writes) k
   place-created =
-      file_place-put_all (sets (cell.Bytes k) [] ∷ sets (cell.Fd k) (Some (description flags k)) ∷ sets (cell.Entry d name) (Some (FileNode k)) ∷ []) (put_links cells k 1) k (file_place-set cells k (record { links = 1; bytes = bytes_of cells k }))
+      file_place-put_all (sets (cell.Bytes k) [] ∷ sets (cell.Fd k) (Some (description flags k)) ∷ sets (cell.Entry (entry_at d name)) (Some (FileNode k)) ∷ []) (put_links cells k 1) k (file_place-set cells k (record { links = 1; bytes = bytes_of cells k }))
 
   -- each description is the new one, or an old one
   opens-created : (P : ℕ → Type 0) → P k → ((f : ℕ) (o : OpenFile) → open_of cells f ≡ Some o → P o.file) → (f : ℕ) (o : OpenFile) → with_value (open_of cells) k (Some (description flags k)) f ≡ Some o → P o.file

@@ -6,9 +6,10 @@ use Rattle.std.specs.Cmp.{both_ways}
 use Rattle.std.specs.Option.{option_map}
 use Rattle.std.specs.FinMap.{get, contains_key, retain_keys, get-retain_keys}
 use Rattle.std.proofs.lemmas.Map.Lookups.{exact_unsigned}
-use Rattle.ft_laws.specs.Lists.{Each, In}
+use Rattle.ft_tree.specs.declared.entry.Entry.{Entry as DirEntry}
+use Rattle.ft_laws.specs.Lists.{In}
 use Rattle.ft_laws.specs.Laws.{Lawful, Knows, TouchesFile, LeavesName, Hides, is_hidden}
-use Rattle.ft_laws.specs.Effects.{Access as PlaceAccess, Write as CellWrite, SetsCells, EffectLaws, is_written, write_all, touch, change}
+use Rattle.ft_laws.specs.Effects.{Access as PlaceAccess, SetsCells, EffectLaws, is_written, write_all, touch, change}
 use Rattle.ft_laws.specs.Runs.{Exchange, Deletion, MayGoFirst, MayBeSorted}
 use Rattle.ft_laws.specs.Hiding.{RunAlike, StaysHidden, HidesMore, NotOwn}
 use Rattle.ft_laws.specs.Tidying.{TidyingLaw}
@@ -20,6 +21,7 @@ use Rattle.ft_laws.proofs.Exchanging as exchanging
 use Rattle.ft_laws.proofs.Deleting as deleting
 use Rattle.ft_laws.proofs.Hiding as hiding
 use Rattle.ft_laws.proofs.Forgetting as forgetting
+use Rattle.ft_tree.specs.Entries.{entry_at}
 use Rattle.ft_tree.specs.declared.node.Node.{Node}
 use Rattle.ft_tree.specs.declared.node.Node.TheVariants.{Dir as DirNode, File as FileNode}
 use Rattle.ft_tree.specs.declared.cell.Cell.{Cell}
@@ -28,7 +30,7 @@ use Rattle.ft_tree.specs.declared.open_file.OpenFile.{OpenFile}
 use Rattle.ft_tree.specs.CellOrder.{cell_number, same_cell, overlap, same_cell-is}
 use Rattle.ft_tree.specs.Nodes.{number_of}
 use Rattle.ft_tree.specs.Cells.{Cells, FileCells, no_file, file_of as file_cells, stored_dirs, entry_of, links_of, bytes_of, open_of}
-use Rattle.ft_tree.specs.Plain.{EdgeKey, view_in, links_in}
+use Rattle.ft_tree.specs.Plain.{view_in, links_in}
 use Rattle.ft_tree.specs.Tidy.{tidy}
 use Rattle.ft_tree.specs.Views.{view_of}
 use Rattle.ft_tree.specs.Sound.{AreSoundCells, IsFree, SameValues}
@@ -59,7 +61,7 @@ sets = record { same_is = same_cell-is; cell_written = cell_written; cell_kept =
 
 -- a place covers the cell that it is
 pub covers-refl : (x : Cell) → covers x x ≡ true
-covers-refl (Entry d name) = same_cell-refl (Entry d name)
+covers-refl (Entry entry) = same_cell-refl (Entry entry)
 covers-refl (Names d) = same_cell-refl (Names d)
 covers-refl (Parent d) = same_cell-refl (Parent d)
 covers-refl (Links i) = same_cell-refl (Links i)
@@ -68,16 +70,16 @@ covers-refl (Fd f) = same_cell-refl (Fd f)
 
 -- p is the names of a directory, and x an entry of it
 abbrev pub IsOfNames : Cell → Cell → Type 0
-IsOfNames p x = (d : ℕ) × (name : List ℕ) × (p ≡ Names d) × (x ≡ Entry d name)
+IsOfNames p x = (d : ℕ) × (name : List ℕ) × (p ≡ Names d) × (x ≡ Entry (entry_at d name))
 
 -- what a place covers is the cell that it is, or an entry where it is the names of a directory
 pub covers-cases : (p x : Cell) → covers p x ≡ true → (p ≡ x) ⊎ IsOfNames p x
-covers-cases (Names d) (Entry e name) h = inr (d, name, refl, ap (λ n. Entry n name) (sym (eqb-true d e h)))
+covers-cases (Names d) (Entry entry) h = inr (d, entry.name, refl, ap (λ n. Entry (entry_at n entry.name)) (sym (eqb-true d entry.dir h)))
 covers-cases p x h = inl (same_cell-is p x h)
 
 -- a cell overlaps itself
 overlap-refl : (x : Cell) → overlap x x ≡ true
-overlap-refl (Entry d name) = same_cell-refl (Entry d name)
+overlap-refl (Entry entry) = same_cell-refl (Entry entry)
 overlap-refl (Names d) = same_cell-refl (Names d)
 overlap-refl (Parent d) = same_cell-refl (Parent d)
 overlap-refl (Links i) = same_cell-refl (Links i)
@@ -96,8 +98,8 @@ overlaps p q x h k = by_cover (covers-cases p x h) (covers-cases q x k)
 
 -- overlapping is symmetric
 turned : (p q : Cell) → overlap p q ≡ true → overlap q p ≡ true
-turned (Entry d name) (Names e) h = eq-eqb e d (sym (eqb-true d e h))
-turned (Names d) (Entry e name) h = eq-eqb e d (sym (eqb-true d e h))
+turned (Entry entry) (Names e) h = eq-eqb e entry.dir (sym (eqb-true entry.dir e h))
+turned (Names d) (Entry entry) h = eq-eqb entry.dir d (sym (eqb-true d entry.dir h))
 turned p q h = subst (λ c. overlap c p ≡ true) (same_cell-is p q h) (overlap-refl p)
 
 overlap_sym : (p q : Cell) → overlap p q ≡ overlap q p
@@ -196,7 +198,7 @@ module _ (s : Cells) (a : Stamped) where
   known i (inr sees) = inr (seen i sees)
     where
       seen : (i : ℕ) → Sees s (looked s a.stamp a.call) i → (y : Cell) × (touch posix (does s a).accesses y ≡ true) × (names_file y (held s y) i ≡ true)
-      seen _ (sees_entry d name i at is) = (Entry d name, looked-touched (Entry d name) (Entry d name) at (covers-refl (Entry d name)), ap (λ o. node_names o i) is ∙ eq-eqb i i refl)
+      seen _ (sees_entry d name i at is) = (Entry (entry_at d name), looked-touched (Entry (entry_at d name)) (Entry (entry_at d name)) at (covers-refl (Entry (entry_at d name))), ap (λ o. node_names o i) is ∙ eq-eqb i i refl)
       seen _ (sees_open f o at is) = (Fd f, looked-touched (Fd f) (Fd f) at (covers-refl (Fd f)), ap (λ p. description_names p o.file) is ∙ eq-eqb o.file o.file refl)
 
   module _ (upon : CallUpon s a.stamp (looked s a.stamp a.call) writes) where
@@ -231,7 +233,7 @@ module _ (s : Cells) (a : Stamped) where
 
 -- the cells of a file name no file
 nameless : (x : Cell) (v : Holds x) (i j : ℕ) → file_of x ≡ Some i → names_file x v j ≡ false
-nameless (Entry d name) v i j h = absurd (none-some i h)
+nameless (Entry entry) v i j h = absurd (none-some i h)
 nameless (Names d) v i j h = refl
 nameless (Parent d) v i j h = refl
 nameless (Links n) v i j h = refl
@@ -240,7 +242,7 @@ nameless (Fd f) v i j h = absurd (none-some i h)
 
 -- nothing is stored of a free number
 pub own_blank : (s : Cells) (k : ℕ) → IsFree s k → (x : Cell) → file_of x ≡ Some k → held s x ≡ blank x
-own_blank s k free (Entry d name) h = absurd (none-some k h)
+own_blank s k free (Entry entry) h = absurd (none-some k h)
 own_blank s k free (Names d) h = refl
 own_blank s k free (Parent d) h = absurd (none-some k h)
 own_blank s k free (Links i) h = ap (links_of s) (same_Some i k h) ∙ (no_links free)
@@ -275,7 +277,7 @@ module _ (hidden : ℕ → Bool) where
     hides_ready : (k : ℕ) → IsFree r k → IsFree s k
     hides_ready k free = made_free s k free.above_root
         (still_blank (Parent k) (no_parent free)) (still_blank (Links k) (no_links free)) (still_blank (Bytes k) (no_bytes free)) (still_blank (Fd k) (no_open free))
-        (λ d name x h. no_entry free d name x (hides.others (Entry d name) refl ∙ h)) (λ f o h. names_no_file free f o (hides.others (Fd f) refl ∙ h))
+        (λ d name x h. no_entry free d name x (hides.others (Entry (entry_at d name)) refl ∙ h)) (λ f o h. names_no_file free f o (hides.others (Fd f) refl ∙ h))
 
     module _ (p : Cells) (sound : AreSoundCells p) (same : SameValues p r) where
       -- the values that are left are those of the cells without the hidden files
@@ -283,7 +285,7 @@ module _ (hidden : ℕ → Bool) where
       same-without = record { values = values }
         where
           values : (c : Cell) → held s c ≡ held (without p) c
-          values (Entry d name) = sym (hides.others (Entry d name) refl) ∙ same.values (Entry d name)
+          values (Entry entry) = sym (hides.others (Entry entry) refl) ∙ same.values (Entry entry)
           values (Names d) = refl
           values (Parent d) = sym (hides.others (Parent d) refl) ∙ same.values (Parent d)
           values (Links i) = by_test (hidden i)
@@ -297,7 +299,7 @@ module _ (hidden : ℕ → Bool) where
       -- no entry names a hidden file
       not_named : (i d : ℕ) (name : List ℕ) → hidden i ≡ true → entry_of p d name ≡ Some (FileNode i) → ⊥
       not_named i d name k is =
-          false≢true (sym (hides.unnamed (Entry d name) i k) ∙ ap (λ o. node_names o i) (same-without.values (Entry d name) ∙ is) ∙ eq-eqb i i refl)
+          false≢true (sym (hides.unnamed (Entry (entry_at d name)) i k) ∙ ap (λ o. node_names o i) (same-without.values (Entry (entry_at d name)) ∙ is) ∙ eq-eqb i i refl)
 
       -- and no description has one open
       not_open : (f : ℕ) (o : OpenFile) → open_of p f ≡ Some o → hidden o.file ≡ false
@@ -309,14 +311,14 @@ module _ (hidden : ℕ → Bool) where
       none_shown : (i : ℕ) → hidden i ≡ true → view_in (tidy p) (Links i) ≡ 0
       none_shown i k = by_dir (contains_key (tidy p).dirs i) refl
         where
-          by_entry : (e : EdgeKey) → contains_key (tidy p).dirs i ≡ false → (o : Option Node) → entry_of p e.0 e.1 ≡ o → option_map number_of o ≡ Some i → ⊥
+          by_entry : (e : DirEntry) → contains_key (tidy p).dirs i ≡ false → (o : Option Node) → entry_of p e.dir e.name ≡ o → option_map number_of o ≡ Some i → ⊥
           by_entry e file None at h = none-some i h
-          by_entry e file (Some (DirNode j)) at h = false≢true (sym file ∙ contains-under p sound i e.0 (sound.tree.leads e.0 e.1 i (at ∙ ap (λ n. Some (DirNode n)) (same_Some j i h))))
-          by_entry e file (Some (FileNode j)) at h = not_named i e.0 e.1 k (at ∙ ap (λ n. Some (FileNode n)) (same_Some j i h))
+          by_entry e file (Some (DirNode j)) at h = false≢true (sym file ∙ contains-under p sound i e.dir (sound.tree.leads e.dir e.name i (at ∙ ap (λ n. Some (DirNode n)) (same_Some j i h))))
+          by_entry e file (Some (FileNode j)) at h = not_named i e.dir e.name k (at ∙ ap (λ n. Some (FileNode n)) (same_Some j i h))
 
           by_dir : (b : Bool) → contains_key (tidy p).dirs i ≡ b → cond b 0 (links_in (tidy p) i) ≡ 0
           by_dir true is = refl
-          by_dir false is = count-none (tidy p).edges i (λ e h. by_entry e is (entry_of p e.0 e.1) refl (sym (get-tidy p e.0 e.1) ∙ h))
+          by_dir false is = count-none (tidy p).edges i (λ e h. by_entry e is (entry_of p e.dir e.name) refl (sym (get-tidy p e.dir e.name) ∙ h))
 
       -- so what is left is sound
       pub sound-without : AreSoundCells (without p)

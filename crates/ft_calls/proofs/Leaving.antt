@@ -11,12 +11,13 @@ use Rattle.ft_laws.specs.Lists.{Each}
 use Rattle.ft_laws.specs.Laws.{Lawful}
 use Rattle.ft_laws.specs.Effects.{Access as PlaceAccess, is_written, touch}
 use Rattle.ft_laws.proofs.Tests.{by_test}
+use Rattle.ft_tree.specs.Entries.{entry_at}
 use Rattle.ft_tree.specs.declared.node.Node.{Node}
 use Rattle.ft_tree.specs.declared.cell.Cell.{Cell}
 use Rattle.ft_tree.specs.declared.cell.Cell.TheVariants.{Entry, Names, Parent, Links, Bytes, Fd}
 use Rattle.ft_tree.specs.declared.open_file.OpenFile.{OpenFile}
 use Rattle.ft_tree.specs.CellOrder.{same_cell, same_cell-is}
-use Rattle.ft_tree.specs.Cells.{Cells, DirCells, FileCells, no_dir, no_file, dir_of, entry_of, links_of, open_of, is_there, is_open, has_file, put_dir_entry, put_dir_parent, put_entry, put_file}
+use Rattle.ft_tree.specs.Cells.{Cells, DirCells, FileCells, no_dir, no_file, dir_of, links_of, is_there, is_open, has_file, put_dir_entry, put_dir_parent, put_entry, put_file}
 use Rattle.ft_tree.specs.Held.{Holds, held, set_cell}
 use Rattle.ft_tree.specs.Sound.{AreSoundCells, IsFree}
 use Rattle.ft_tree.specs.Sweep.{is_useless, at_place}
@@ -42,7 +43,7 @@ or_more false b c d f g h = or_right c d (g h)
 
 -- one of a place's cells is among more, where it is among fewer
 pub at_place-more : (p q : Cell → Bool) → ((x : Cell) → p x ≡ true → q x ≡ true) → (c : Cell) → at_place p c ≡ true → at_place q c ≡ true
-at_place-more p q more (Entry d name) h = more (Entry d name) h
+at_place-more p q more (Entry entry) h = more (Entry entry) h
 at_place-more p q more (Names d) h = or_more (p (Names d)) (p (Parent d)) (q (Names d)) (q (Parent d)) (more (Names d)) (more (Parent d)) h
 at_place-more p q more (Parent d) h = or_more (p (Names d)) (p (Parent d)) (q (Names d)) (q (Parent d)) (more (Names d)) (more (Parent d)) h
 at_place-more p q more (Links i) h = or_more (p (Links i)) (p (Bytes i)) (q (Links i)) (q (Bytes i)) (more (Links i)) (more (Bytes i)) h
@@ -51,7 +52,7 @@ at_place-more p q more (Fd f) h = more (Fd f) h
 
 -- the links and the bytes of a file have one place
 of-place : (p : Cell → Bool) (x : Cell) (i : ℕ) → file_of x ≡ Some i → p x ≡ true → at_place p (Links i) ≡ true
-of-place p (Entry d name) i e h = absurd (none-some i e)
+of-place p (Entry entry) i e h = absurd (none-some i e)
 of-place p (Names d) i e h = absurd (none-some i e)
 of-place p (Parent d) i e h = absurd (none-some i e)
 of-place p (Links k) i e h = or_left (p (Links i)) (p (Bytes i)) (subst (λ n. p (Links n) ≡ true) (same_Some k i e) h)
@@ -59,7 +60,7 @@ of-place p (Bytes k) i e h = or_right (p (Links i)) (p (Bytes i)) (subst (λ n. 
 of-place p (Fd f) i e h = absurd (none-some i e)
 
 at-place : (p : Cell → Bool) (c : Cell) (i : ℕ) → file_of c ≡ Some i → at_place p (Links i) ≡ true → at_place p c ≡ true
-at-place p (Entry d name) i e h = absurd (none-some i e)
+at-place p (Entry entry) i e h = absurd (none-some i e)
 at-place p (Names d) i e h = absurd (none-some i e)
 at-place p (Parent d) i e h = absurd (none-some i e)
 at-place p (Links k) i e h = subst (λ n. at_place p (Links n) ≡ true) (sym (same_Some k i e)) h
@@ -71,7 +72,7 @@ same-place p x c i e f h = at-place p c i f (of-place p x i e h)
 
 -- a file whose place is of no use is not there
 pub dead-file : (s : Cells) (c : Cell) (i : ℕ) → file_of c ≡ Some i → is_useless s c ≡ true → has_file s i ≡ false
-dead-file s (Entry d name) i e h = absurd (none-some i e)
+dead-file s (Entry entry) i e h = absurd (none-some i e)
 dead-file s (Names d) i e h = absurd (none-some i e)
 dead-file s (Parent d) i e h = absurd (none-some i e)
 dead-file s (Links k) i e h = subst (λ n. has_file s n ≡ false) (same_Some k i e) (not-true (has_file s k) (and_parts (contains_key s.files k) (not (has_file s k)) h).1)
@@ -99,30 +100,30 @@ entry_place-put s d name to e other = read-put_dir (λ (x : DirCells). contains_
     by_dir false is = refl
 
 -- stays where the entry is not set
-entry_place-kept : (s : Cells) (c : Cell) (v : Holds c) (e : ℕ) (other : List ℕ) → same_cell c (Entry e other) ≡ false → contains_key (dir_of (set_cell s c v) e).entries other ≡ contains_key (dir_of s e).entries other
-entry_place-kept s (Entry d name) v e other apart = entry_place-put s d name v e other ∙ ap (λ b. cond b true (contains_key (dir_of s e).entries other)) (place-other d name e other apart)
+entry_place-kept : (s : Cells) (c : Cell) (v : Holds c) (e : ℕ) (other : List ℕ) → same_cell c (Entry (entry_at e other)) ≡ false → contains_key (dir_of (set_cell s c v) e).entries other ≡ contains_key (dir_of s e).entries other
+entry_place-kept s (Entry entry) v e other apart = entry_place-put s entry.dir entry.name v e other ∙ ap (λ b. cond b true (contains_key (dir_of s e).entries other)) (place-other entry.dir entry.name e other apart)
 entry_place-kept s (Names d) v e other apart = refl
 entry_place-kept s (Parent d) v e other apart = read-kept (λ (x : DirCells). contains_key x.entries other) s d (put_dir_parent (dir_of s d) v) e refl
 entry_place-kept s (Links i) v e other apart = refl
 entry_place-kept s (Bytes i) v e other apart = refl
 entry_place-kept s (Fd f) v e other apart = refl
 
-entry-kept : (s : Cells) (c : Cell) (v : Holds c) (e : ℕ) (other : List ℕ) → same_cell c (Entry e other) ≡ false → is_useless (set_cell s c v) (Entry e other) ≡ is_useless s (Entry e other)
-entry-kept s c v e other apart = λ i. entry_place-kept s c v e other apart i && is_none (cell_kept s c v (Entry e other) apart i)
+entry-kept : (s : Cells) (c : Cell) (v : Holds c) (e : ℕ) (other : List ℕ) → same_cell c (Entry (entry_at e other)) ≡ false → is_useless (set_cell s c v) (Entry (entry_at e other)) ≡ is_useless s (Entry (entry_at e other))
+entry-kept s c v e other apart = λ i. entry_place-kept s c v e other apart i && is_none (cell_kept s c v (Entry (entry_at e other)) apart i)
 
 -- the place of a directory: that of an entry makes it one that is not empty
 abbrev useless_dir : ℕ → Option DirCells → Bool
 useless_dir d o = is_some o && not (option_map_or (is_there d) o false) && (len (unwrap_or o no_dir).entries == 0)
 
 dir-before : (s : Cells) (c : Cell) (v : Holds c) (d : ℕ) → same_cell c (Parent d) ≡ false → is_useless (set_cell s c v) (Parent d) ≡ true → is_useless s (Parent d) ≡ true
-dir-before s (Entry e name) v d apart h =
-    let x : DirCells = put_dir_entry (dir_of s e) name v in
-    let set = get-insert nat_cmp_total s.directories e x d in
-    by_test (eq_by_cmp nat_cmp d e)
+dir-before s (Entry entry) v d apart h =
+    let x : DirCells = put_dir_entry (dir_of s entry.dir) entry.name v in
+    let set = get-insert nat_cmp_total s.directories entry.dir x d in
+    by_test (eq_by_cmp nat_cmp d entry.dir)
     (λ t.
     let at : useless_dir d (Some x) ≡ true = sym (ap (λ (o : Option DirCells). useless_dir d o) (set ∙ ap (λ b. cond b (Some x) (get s.directories d)) t)) ∙ h in
-    let places = (dir_of s e).entries in
-    absurd (false≢true (sym (ap (λ n. n == 0) (len-insert nat_list_cmp_total places name v) ∙ some_len nat_list_cmp_total places name (contains_key places name) refl)
+    let places = (dir_of s entry.dir).entries in
+    absurd (false≢true (sym (ap (λ n. n == 0) (len-insert nat_list_cmp_total places entry.name v) ∙ some_len nat_list_cmp_total places entry.name (contains_key places entry.name) refl)
     ∙ (and_parts (true && not (is_there d x)) (len x.entries == 0) at).1)))
     (λ f. sym (ap (λ (o : Option DirCells). useless_dir d o) (set ∙ ap (λ b. cond b (Some x) (get s.directories d)) f)) ∙ h)
 dir-before s (Names e) v d apart h = h
@@ -136,7 +137,7 @@ dir-before s (Fd f) v d apart h = h
 
 -- the place of a descriptor
 fd-kept : (s : Cells) (c : Cell) (v : Holds c) (f : ℕ) → same_cell c (Fd f) ≡ false → is_useless (set_cell s c v) (Fd f) ≡ is_useless s (Fd f)
-fd-kept s (Entry d name) v f apart = refl
+fd-kept s (Entry entry) v f apart = refl
 fd-kept s (Names d) v f apart = refl
 fd-kept s (Parent d) v f apart = refl
 fd-kept s (Links i) v f apart = refl
@@ -150,7 +151,7 @@ put-kept : (s : Cells) (j : ℕ) (x : FileCells) (i : ℕ) → i ≢ j → get (
 put-kept s j x i ne = get-insert nat_cmp_total s.files j x i ∙ ap (λ b. cond b (Some x) (get s.files i)) (unsigned_tied i j ∙ ne_eqb i j ne)
 
 file-kept : (s : Cells) (c : Cell) (v : Holds c) (i : ℕ) → at_place (same_cell c) (Links i) ≡ false → get (set_cell s c v).files i ≡ get s.files i
-file-kept s (Entry d name) v i apart = refl
+file-kept s (Entry entry) v i apart = refl
 file-kept s (Names d) v i apart = refl
 file-kept s (Parent d) v i apart = refl
 file-kept s (Links j) v i apart =
@@ -161,7 +162,7 @@ file-kept s (Fd f) v i apart = refl
 
 -- what is not a file's
 one-before : (s : Cells) (c : Cell) (v : Holds c) (q : Cell) → file_of q ≡ None → at_place (same_cell c) q ≡ false → is_useless (set_cell s c v) q ≡ true → is_useless s q ≡ true
-one-before s c v (Entry e other) plain apart h = sym (entry-kept s c v e other apart) ∙ h
+one-before s c v (Entry entry) plain apart h = sym (entry-kept s c v entry.dir entry.name apart) ∙ h
 one-before s c v (Names d) plain apart h = dir-before s c v d (none-right (same_cell c (Names d)) (same_cell c (Parent d)) apart) h
 one-before s c v (Parent d) plain apart h = dir-before s c v d (none-right (same_cell c (Names d)) (same_cell c (Parent d)) apart) h
 one-before s c v (Links i) plain apart h = absurd (none-some i (sym plain))
@@ -221,7 +222,7 @@ left-other s ws c plain h = elim (all-before ws s c plain h) [
 ]
 
 pub leaving : LeavingLaw
-leaving s ws (Entry d name) h = left-other s ws (Entry d name) refl h
+leaving s ws (Entry entry) h = left-other s ws (Entry entry) refl h
 leaving s ws (Names d) h = left-other s ws (Names d) refl h
 leaving s ws (Parent d) h = left-other s ws (Parent d) refl h
 leaving s ws (Links i) h = left-file s ws (Links i) i refl h

@@ -4,6 +4,7 @@ use Rattle.std.specs.Prelude.{◌==◌}
 use Rattle.std.proofs.lemmas.Bool.{false≢true}
 use Rattle.std.proofs.lemmas.Option.{same_Some}
 use Rattle.std.specs.Option.{option_map}
+use Rattle.ft_tree.specs.Entries.{entry_at}
 use Rattle.ft_tree.specs.declared.node.Node.{Node}
 use Rattle.ft_tree.specs.declared.node.Node.TheVariants.{File as FileNode}
 use Rattle.ft_tree.specs.declared.cell.Cell.TheVariants.{Links}
@@ -49,7 +50,7 @@ module _ (cells : Cells) (sound : AreSoundCells cells) where
   named-file _ (by_open f o is) = sound.opens f o is
   named-file _ (by_entry d name i is) =
       let no_dir = sound.tree.apart d name i is in
-      (file_place-linked cells i (λ none. count-some (tidy cells).edges (d, name) i (get-tidy cells d name ∙ ap (option_map number_of) is) (sym (links-counted i no_dir) ∙ none)), no_dir)
+      (file_place-linked cells i (λ none. count-some (tidy cells).edges (entry_at d name) i (get-tidy cells d name ∙ ap (option_map number_of) is) (sym (links-counted i no_dir) ∙ none)), no_dir)
 
   -- what is left by writes is sound, if it is a tree with the links and files that belong to it
   pub sound-after : (ws : List Write) → IsTree (entry_after (entry_of cells) ws) (parent_after (parent_of cells) ws)

@@ -7,6 +7,7 @@ use Rattle.ft_path.specs.declared.errno.Errno.{Errno}
 use Rattle.ft_path.specs.declared.errno.Errno.TheVariants.{ENOENT, EINVAL, EBADF, EFBIG}
 use Rattle.ft_path.specs.declared.path.Parts.{Parts}
 use Rattle.ft_path.specs.FilePath.{last_of, parts_of}
+use Rattle.ft_tree.specs.Entries.{entry_at}
 use Rattle.ft_tree.specs.declared.cell.Cell.{Cell}
 use Rattle.ft_tree.specs.declared.cell.Cell.TheVariants.{Entry, Names, Parent, Links, Bytes, Fd}
 use Rattle.ft_tree.specs.declared.node.Node.TheVariants.{Dir as DirNode, File as FileNode}
@@ -35,7 +36,7 @@ use Rattle.ft_calls.proofs.Walked.{IsSpot, EndsWell, walk-ends}
 module _ (cells : Cells) where
   -- the plain tree shows the cell as the stored cells do: of bytes it has those of files that are named alone
   abbrev pub IsShown : Cell → Type 0
-  IsShown (Entry d name) = Unit {0}
+  IsShown (Entry entry) = Unit {0}
   IsShown (Names d) = Unit {0}
   IsShown (Parent d) = Unit {0}
   IsShown (Links i) = Unit {0}
@@ -77,12 +78,12 @@ module _ (cells : Cells) where
   inner-shown : (d : ℕ) (name : List ℕ) → LooksWell (inner d name)
   inner-shown d name =
       either-shown (is_dot name) (Answer (Ok d)) _ tt
-      (either-shown (is_dot_dot name) (then (up d) (λ p. Answer (Ok p))) (Look (Entry d name) (λ x. Answer (passed x))) (then-shown (up d) (λ p. Answer (Ok p)) (up-shown d) tt) (tt, tt))
+      (either-shown (is_dot_dot name) (then (up d) (λ p. Answer (Ok p))) (Look (Entry (entry_at d name)) (λ x. Answer (passed x))) (then-shown (up d) (λ p. Answer (Ok p)) (up-shown d) tt) (tt, tt))
 
   last-shown : (d : ℕ) (name : List ℕ) (trailing : Bool) → LooksWell (last d name trailing)
   last-shown d name trailing =
       either-shown (is_dot name) (Answer (Ok (Itself d))) _ tt
-      (either-shown (is_dot_dot name) (then (up d) (λ p. Answer (Ok (Itself p)))) (Look (Entry d name) (λ x. Answer (reached d name trailing x))) (then-shown (up d) (λ p. Answer (Ok (Itself p))) (up-shown d) tt) (tt, tt))
+      (either-shown (is_dot_dot name) (then (up d) (λ p. Answer (Ok (Itself p)))) (Look (Entry (entry_at d name)) (λ x. Answer (reached d name trailing x))) (then-shown (up d) (λ p. Answer (Ok (Itself p))) (up-shown d) tt) (tt, tt))
 
   walk_from-shown : (names : List (List ℕ)) (d : ℕ) (name : List ℕ) (trailing : Bool) → LooksWell (walk_from d name names trailing)
   walk_from-shown [] d name trailing = last-shown d name trailing
@@ -107,55 +108,55 @@ module _ (cells : Cells) where
   -- A call looks at a file only that its path leads to, or its descriptor.
 
   remove_dir-shown : (spot : Spot) → IsSpot cells spot → LooksWell (remove_dir spot)
-  remove_dir-shown (AtName d name None) h = tt
-  remove_dir-shown (AtName d name (Some (DirNode i))) h = (tt, tt)
-  remove_dir-shown (AtName d name (Some (FileNode i))) h = tt
+  remove_dir-shown (AtName entry None) h = tt
+  remove_dir-shown (AtName entry (Some (DirNode i))) h = (tt, tt)
+  remove_dir-shown (AtName entry (Some (FileNode i))) h = tt
   remove_dir-shown (Itself d) h = tt
 
   make_dir-shown : (k : ℕ) (spot : Spot) → IsSpot cells spot → LooksWell (make_dir k spot)
-  make_dir-shown k (AtName d name None) h = tt
-  make_dir-shown k (AtName d name (Some x)) h = tt
+  make_dir-shown k (AtName entry None) h = tt
+  make_dir-shown k (AtName entry (Some x)) h = tt
   make_dir-shown k (Itself d) h = tt
 
   list_dir-shown : (spot : Spot) → IsSpot cells spot → LooksWell (list_dir spot)
-  list_dir-shown (AtName d name None) h = tt
-  list_dir-shown (AtName d name (Some (DirNode i))) h = (tt, tt)
-  list_dir-shown (AtName d name (Some (FileNode i))) h = tt
+  list_dir-shown (AtName entry None) h = tt
+  list_dir-shown (AtName entry (Some (DirNode i))) h = (tt, tt)
+  list_dir-shown (AtName entry (Some (FileNode i))) h = tt
   list_dir-shown (Itself d) h = (tt, tt)
 
   truncate_spot-shown : (size : ℕ) (spot : Spot) → IsSpot cells spot → LooksWell (truncate_spot size spot)
-  truncate_spot-shown size (AtName d name None) h = tt
-  truncate_spot-shown size (AtName d name (Some (DirNode i))) h = tt
-  truncate_spot-shown size (AtName d name (Some (FileNode i))) h = (by_entry d name i (sym h.1), tt)
+  truncate_spot-shown size (AtName entry None) h = tt
+  truncate_spot-shown size (AtName entry (Some (DirNode i))) h = tt
+  truncate_spot-shown size (AtName entry (Some (FileNode i))) h = (by_entry entry.dir entry.name i (sym h.1), tt)
   truncate_spot-shown size (Itself d) h = tt
 
   stat_spot-shown : (spot : Spot) → IsSpot cells spot → LooksWell (stat_spot spot)
-  stat_spot-shown (AtName d name None) h = tt
-  stat_spot-shown (AtName d name (Some (DirNode i))) h = tt
-  stat_spot-shown (AtName d name (Some (FileNode i))) h = (tt, (by_entry d name i (sym h.1), tt))
+  stat_spot-shown (AtName entry None) h = tt
+  stat_spot-shown (AtName entry (Some (DirNode i))) h = tt
+  stat_spot-shown (AtName entry (Some (FileNode i))) h = (tt, (by_entry entry.dir entry.name i (sym h.1), tt))
   stat_spot-shown (Itself d) h = tt
 
   link_new-shown : (i : ℕ) (trailing : Bool) (spot : Spot) → IsSpot cells spot → LooksWell (link_new i trailing spot)
-  link_new-shown i trailing (AtName d name None) h = either-shown trailing (Answer (failed ENOENT)) _ tt (tt, tt)
-  link_new-shown i trailing (AtName d name (Some x)) h = tt
+  link_new-shown i trailing (AtName entry None) h = either-shown trailing (Answer (failed ENOENT)) _ tt (tt, tt)
+  link_new-shown i trailing (AtName entry (Some x)) h = tt
   link_new-shown i trailing (Itself d) h = tt
 
   unlink_spot-shown : (spot : Spot) → IsSpot cells spot → LooksWell (unlink_spot spot)
-  unlink_spot-shown (AtName d name None) h = tt
-  unlink_spot-shown (AtName d name (Some (DirNode i))) h = tt
-  unlink_spot-shown (AtName d name (Some (FileNode i))) h = (tt, tt)
+  unlink_spot-shown (AtName entry None) h = tt
+  unlink_spot-shown (AtName entry (Some (DirNode i))) h = tt
+  unlink_spot-shown (AtName entry (Some (FileNode i))) h = (tt, tt)
   unlink_spot-shown (Itself d) h = tt
 
-  rename_file-shown : (d : ℕ) (name : List ℕ) (i : ℕ) (trailing : Bool) (spot : Spot) → IsSpot cells spot → LooksWell (rename_file d name i trailing spot)
-  rename_file-shown d name i trailing (AtName e other None) h = tt
-  rename_file-shown d name i trailing (AtName e other (Some (DirNode j))) h = tt
-  rename_file-shown d name i trailing (AtName e other (Some (FileNode j))) h = either-shown (i == j) (Answer (told Done)) _ tt (tt, tt)
+  rename_file-shown : (d : ℕ) (name : List ℕ) (i : ℕ) (trailing : Bool) (spot : Spot) → IsSpot cells spot → LooksWell (rename_file (entry_at d name) i trailing spot)
+  rename_file-shown d name i trailing (AtName entry None) h = tt
+  rename_file-shown d name i trailing (AtName entry (Some (DirNode j))) h = tt
+  rename_file-shown d name i trailing (AtName entry (Some (FileNode j))) h = either-shown (i == j) (Answer (told Done)) _ tt (tt, tt)
   rename_file-shown d name i trailing (Itself e) h = tt
 
-  rename_dir-shown : (n d : ℕ) (name : List ℕ) (i : ℕ) (spot : Spot) → IsSpot cells spot → LooksWell (rename_dir n d name i spot)
-  rename_dir-shown n d name i (AtName e other None) h = unless_below-shown n i e _ tt
-  rename_dir-shown n d name i (AtName e other (Some (DirNode j))) h = either-shown (i == j) (Answer (told Done)) _ tt (unless_below-shown n i e (replace_dir d name i e other j) (tt, tt))
-  rename_dir-shown n d name i (AtName e other (Some (FileNode j))) h = tt
+  rename_dir-shown : (n d : ℕ) (name : List ℕ) (i : ℕ) (spot : Spot) → IsSpot cells spot → LooksWell (rename_dir n (entry_at d name) i spot)
+  rename_dir-shown n d name i (AtName entry None) h = unless_below-shown n i entry.dir _ tt
+  rename_dir-shown n d name i (AtName entry (Some (DirNode j))) h = either-shown (i == j) (Answer (told Done)) _ tt (unless_below-shown n i entry.dir (replace_dir (entry_at d name) i entry j) (tt, tt))
+  rename_dir-shown n d name i (AtName entry (Some (FileNode j))) h = tt
   rename_dir-shown n d name i (Itself e) h = tt
 
   with_open-shown : (fd : ℕ) (fits : OpenFile → Bool) (go : OpenFile → Looks Outcome) → ((o : OpenFile) → Named cells o.file → LooksWell (go o)) → LooksWell (with_open fd fits go)
@@ -212,9 +213,9 @@ module _ (cells : Cells) where
     -- A path leads on from where another one led.
 
     link_old-shown : (new : Parts) (spot : Spot) → IsSpot cells spot → LooksWell (link_old new spot)
-    link_old-shown new (AtName d name None) h = tt
-    link_old-shown new (AtName d name (Some (DirNode i))) h = tt
-    link_old-shown new (AtName d name (Some (FileNode i))) h = from_parts-shown (link_new i new.trailing) (link_new-shown i new.trailing) (Ok new)
+    link_old-shown new (AtName entry None) h = tt
+    link_old-shown new (AtName entry (Some (DirNode i))) h = tt
+    link_old-shown new (AtName entry (Some (FileNode i))) h = from_parts-shown (link_new i new.trailing) (link_new-shown i new.trailing) (Ok new)
     link_old-shown new (Itself d) h = tt
 
     link_parts-shown : (old new : Result Parts Errno) → LooksWell (link_parts old new)
@@ -223,9 +224,9 @@ module _ (cells : Cells) where
     link_parts-shown (Ok old) (Ok new) = from_parts-shown (link_old new) (link_old-shown new) (Ok old)
 
     rename_old-shown : (n : ℕ) (new : Parts) (spot : Spot) → IsSpot cells spot → LooksWell (rename_old n new spot)
-    rename_old-shown n new (AtName d name None) h = tt
-    rename_old-shown n new (AtName d name (Some (DirNode i))) h = from_parts-shown (rename_dir n d name i) (rename_dir-shown n d name i) (Ok new)
-    rename_old-shown n new (AtName d name (Some (FileNode i))) h = from_parts-shown (rename_file d name i new.trailing) (rename_file-shown d name i new.trailing) (Ok new)
+    rename_old-shown n new (AtName entry None) h = tt
+    rename_old-shown n new (AtName entry (Some (DirNode i))) h = from_parts-shown (rename_dir n entry i) (rename_dir-shown n entry.dir entry.name i) (Ok new)
+    rename_old-shown n new (AtName entry (Some (FileNode i))) h = from_parts-shown (rename_file entry i new.trailing) (rename_file-shown entry.dir entry.name i new.trailing) (Ok new)
     rename_old-shown n new (Itself d) h = tt
 
     rename_parts-shown : (n : ℕ) (old new : Result Parts Errno) → LooksWell (rename_parts n old new)

@@ -1,5 +1,5 @@
 -- A call that leaves the name of its own file writes a cell of this file: else the file would have no place.
-use Rattle.std.proofs.Common.{◌≡◌, inl, inr, ℕ, Bool, true, false, cond, not, ◌==◌, Option, Some, None, IsSome, eqb-true, eq-eqb, ne_eqb, refl, sym, ap, subst, ◌∙◌}
+use Rattle.std.proofs.Common.{◌≡◌, inl, inr, ℕ, true, false, cond, not, ◌==◌, Option, Some, None, IsSome, eqb-true, eq-eqb, ne_eqb, refl, sym, ap, subst, ◌∙◌}
 use Rattle.std.proofs.lemmas.Bool.{false≢true, or_cases}
 use Rattle.std.specs.FinMap.{get}
 use Rattle.ft_laws.specs.Laws.{Hides, holds}
@@ -10,13 +10,12 @@ use Rattle.ft_tree.specs.declared.cell.Cell.{Cell}
 use Rattle.ft_tree.specs.declared.cell.Cell.TheVariants.{Entry, Names, Parent, Links, Bytes, Fd}
 use Rattle.ft_tree.specs.declared.open_file.OpenFile.{OpenFile}
 use Rattle.ft_tree.specs.Cells.{Cells, entry_of, open_of, HasFilePlace}
-use Rattle.ft_tree.specs.Held.{held, blank}
+use Rattle.ft_tree.specs.Held.{held}
 use Rattle.ft_tree.specs.Sweep.{at_place}
-use Rattle.ft_tree.specs.Sound.{AreSoundCells, IsFree}
+use Rattle.ft_tree.specs.Sound.{IsFree}
 use Rattle.ft_calls.specs.Outcomes.{Outcome}
 use Rattle.ft_calls.specs.Stored.{outcome, after}
 use Rattle.ft_calls.specs.Laws.{SoundnessLaw}
-use Rattle.ft_calls.specs.RunLaws.{writes_cell}
 use Rattle.ft_calls.specs.Posix.{Stamped, HasSoundValues, file_of, node_names, description_names, names_file, does, posix, posix_calls}
 use Rattle.ft_calls.specs.Leaving.{MakingLaw}
 use Rattle.ft_calls.proofs.Alike.{same_back, same_free, does-same}
@@ -29,12 +28,12 @@ use Rattle.ft_calls.proofs.Nameless.{named}
 
 -- nothing names a number that is free
 unnamed : (s : Cells) (k : ℕ) → IsFree s k → (x : Cell) → names_file x (held s x) k ≡ false
-unnamed s k free (Entry d name) = by_node (entry_of s d name) refl
+unnamed s k free (Entry entry) = by_node (entry_of s entry.dir entry.name) refl
   where
-    by_node : (o : Option Node) → entry_of s d name ≡ o → node_names o k ≡ false
+    by_node : (o : Option Node) → entry_of s entry.dir entry.name ≡ o → node_names o k ≡ false
     by_node None is = refl
     by_node (Some (DirNode j)) is = refl
-    by_node (Some (FileNode j)) is = ne_eqb j k (no_entry free d name (FileNode j) is)
+    by_node (Some (FileNode j)) is = ne_eqb j k (no_entry free entry.dir entry.name (FileNode j) is)
 unnamed s k free (Names d) = refl
 unnamed s k free (Parent d) = refl
 unnamed s k free (Links i) = refl

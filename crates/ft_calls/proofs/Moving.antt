@@ -1,6 +1,7 @@
 -- What a renaming that changes a parent comes to.
 use Rattle.std.proofs.Common.{◌≡◌, ℕ, true, List, [], ◌∷◌, ◌++◌, refl, ap, ◌∙◌}
 use Rattle.std.proofs.lemmas.Bool.{false≢true}
+use Rattle.ft_tree.specs.declared.entry.Entry.{Entry}
 use Rattle.ft_tree.specs.declared.node.Node.{Node}
 use Rattle.ft_tree.specs.Cells.{Cells}
 use Rattle.ft_calls.specs.declared.intent.Edit.{Edit}
@@ -28,6 +29,6 @@ writes_of-append cells [] fs = refl
 writes_of-append cells (e ∷ es) fs = ap (λ ws. write_of cells e ∷ ws) (writes_of-append cells es fs)
 
 -- an empty directory is replaced
-pub bare-replaced : (d : ℕ) (name : List ℕ) (i e : ℕ) (other : List ℕ) (j : ℕ) (names : List (List ℕ × Node)) → is_none_of names ≡ true → if_bare d name i e other j names ≡ if_bare d name i e other j []
-bare-replaced d name i e other j [] is = refl
-bare-replaced d name i e other j (x ∷ xs) is = absurd (false≢true is)
+pub bare-replaced : (old : Entry) (moved : ℕ) (new : Entry) (replaced : ℕ) (names : List (List ℕ × Node)) → is_none_of names ≡ true → if_bare old moved new replaced names ≡ if_bare old moved new replaced []
+bare-replaced old moved new replaced [] is = refl
+bare-replaced old moved new replaced (x ∷ xs) is = absurd (false≢true is)

@@ -1,5 +1,5 @@
 -- Nothing names a file that is not there.
-use Rattle.std.proofs.Common.{◌≡◌, ℕ, false, true, Option, Some, None, eqb-true, refl, sym, ap, subst, ◌∙◌}
+use Rattle.std.proofs.Common.{◌≡◌, ℕ, false, true, Option, Some, None, eqb-true, refl, sym, subst, ◌∙◌}
 use Rattle.std.proofs.lemmas.Bool.{false≢true}
 use Rattle.ft_laws.proofs.Tests.{by_test}
 use Rattle.ft_tree.specs.declared.cell.Cell.{Cell}
@@ -7,21 +7,20 @@ use Rattle.ft_tree.specs.declared.cell.Cell.TheVariants.{Entry, Names, Parent, L
 use Rattle.ft_tree.specs.declared.node.Node.{Node}
 use Rattle.ft_tree.specs.declared.node.Node.TheVariants.{Dir as DirNode, File as FileNode}
 use Rattle.ft_tree.specs.declared.open_file.OpenFile.{OpenFile}
-use Rattle.ft_tree.specs.Cells.{Cells, entry_of, open_of, has_file}
+use Rattle.ft_tree.specs.Cells.{Cells, entry_of, open_of}
 use Rattle.ft_tree.specs.Held.{held}
-use Rattle.ft_tree.specs.Sound.{AreSoundCells}
 use Rattle.ft_calls.specs.Posix.{node_names, description_names, names_file}
 use Rattle.ft_calls.specs.RunLaws.{NamelessLaw}
 use Rattle.ft_calls.proofs.Named.{Named, by_entry, by_open}
 use Rattle.ft_calls.proofs.Shown.{named-there}
 
 pub named : (cells : Cells) (i : ℕ) (c : Cell) → names_file c (held cells c) i ≡ true → Named cells i
-named cells i (Entry d name) e = by_node (entry_of cells d name) refl e
+named cells i (Entry entry) e = by_node (entry_of cells entry.dir entry.name) refl e
   where
-    by_node : (o : Option Node) → entry_of cells d name ≡ o → node_names o i ≡ true → Named cells i
+    by_node : (o : Option Node) → entry_of cells entry.dir entry.name ≡ o → node_names o i ≡ true → Named cells i
     by_node None is e = absurd (false≢true e)
     by_node (Some (DirNode j)) is e = absurd (false≢true e)
-    by_node (Some (FileNode j)) is e = subst (Named cells) (eqb-true j i e) (by_entry d name j is)
+    by_node (Some (FileNode j)) is e = subst (Named cells) (eqb-true j i e) (by_entry entry.dir entry.name j is)
 named cells i (Names d) e = absurd (false≢true e)
 named cells i (Parent d) e = absurd (false≢true e)
 named cells i (Links j) e = absurd (false≢true e)

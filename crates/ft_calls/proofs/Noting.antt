@@ -25,7 +25,7 @@ with_accesses-split (Look c next) m v = with_accesses-split (next (v c)) (finite
 
 with_edits-writes : (cells : Cells) (es : List Edit) (m : Modes) → with_edits m es ≡ with_writes m (writes_of cells es)
 with_edits-writes cells [] m = refl
-with_edits-writes cells (Entry d name to ∷ es) m = with_edits-writes cells es _
+with_edits-writes cells (Entry entry to ∷ es) m = with_edits-writes cells es _
 with_edits-writes cells (Parent d to ∷ es) m = with_edits-writes cells es _
 with_edits-writes cells (Links i to ∷ es) m = with_edits-writes cells es _
 with_edits-writes cells (Overwrite i at bytes ∷ es) m = with_edits-writes cells es _

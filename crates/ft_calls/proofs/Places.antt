@@ -5,13 +5,13 @@ use Rattle.std.proofs.lemmas.Bool.{false≢true}
 use Rattle.std.specs.Ordering.{nat_cmp, is_eq, eq_by_cmp}
 use Rattle.std.specs.Cmp.{nat_cmp_total, unsigned_tied, tied_itself}
 use Rattle.std.specs.Cmp.Lexicographic.{slice_cmp, nat_list_cmp_total}
-use Rattle.std.specs.Option.{option_flatten, option_map}
+use Rattle.std.specs.Option.{option_map}
 use Rattle.std.specs.FinMap.{get, get-insert, get-empty}
 use Rattle.ft_tree.specs.declared.node.Node.{Node}
 use Rattle.ft_tree.specs.declared.cell.Cell.{Cell}
 use Rattle.ft_tree.specs.declared.cell.Cell.TheVariants.{Entry, Names, Parent, Links, Bytes, Fd}
 use Rattle.ft_tree.specs.declared.open_file.OpenFile.{OpenFile}
-use Rattle.ft_tree.specs.Cells.{Cells, DirCells, FileCells, no_dir, no_file, dir_of, parent_of, links_of, bytes_of, body_in, open_of, HasDirPlace, HasPlace, HasEntryPlace, HasFilePlace, HasOpenPlace, put_dir, put_dir_entry, put_dir_parent, put_file, put_entry, put_parent, put_links, put_bytes, put_open}
+use Rattle.ft_tree.specs.Cells.{Cells, DirCells, FileCells, no_dir, no_file, dir_of, parent_of, links_of, bytes_of, body_in, HasDirPlace, HasPlace, HasEntryPlace, HasFilePlace, HasOpenPlace, put_dir, put_dir_entry, put_dir_parent, put_file, put_entry, put_parent, put_open}
 use Rattle.ft_tree.specs.Sound.{Hangs, the_root, under, AreSoundCells}
 use Rattle.ft_tree.specs.Held.{Holds, set_cell}
 use Rattle.ft_calls.specs.Outcomes.{Write}
@@ -122,7 +122,7 @@ entry_place-set cells d name to =
 -- A place that was there is there after a list of writes.
 
 pub dir_place-set_cell : (cells : Cells) (c : Cell) (to : Holds c) (e : ℕ) → HasDirPlace cells e → HasDirPlace (set_cell cells c to) e
-dir_place-set_cell cells (Entry d name) to e h = dir_place-put_dir cells d (put_dir_entry (dir_of cells d) name to) e h
+dir_place-set_cell cells (Entry entry) to e h = dir_place-put_dir cells entry.dir (put_dir_entry (dir_of cells entry.dir) entry.name to) e h
 dir_place-set_cell cells (Names d) to e h = h
 dir_place-set_cell cells (Parent d) to e h = dir_place-put_dir cells d (put_dir_parent (dir_of cells d) to) e h
 dir_place-set_cell cells (Links i) to e h = h
@@ -134,7 +134,7 @@ dir_place-put_all [] cells e h = h
 dir_place-put_all (w ∷ ws) cells e h = dir_place-put_all ws (set_cell cells w.cell w.value) e (dir_place-set_cell cells w.cell w.value e h)
 
 entry_place-set_cell : (cells : Cells) (c : Cell) (to : Holds c) (e : ℕ) (other : List ℕ) → HasEntryPlace cells e other → HasEntryPlace (set_cell cells c to) e other
-entry_place-set_cell cells (Entry d name) to e other h = entry_place-put_entry cells d name to e other h
+entry_place-set_cell cells (Entry entry) to e other h = entry_place-put_entry cells entry.dir entry.name to e other h
 entry_place-set_cell cells (Names d) to e other h = h
 entry_place-set_cell cells (Parent d) to e other h = entry_place-put_parent cells d to e other h
 entry_place-set_cell cells (Links i) to e other h = h
@@ -146,7 +146,7 @@ entry_place-put_all [] cells e other h = h
 entry_place-put_all (w ∷ ws) cells e other h = entry_place-put_all ws (set_cell cells w.cell w.value) e other (entry_place-set_cell cells w.cell w.value e other h)
 
 file_place-set_cell : (cells : Cells) (c : Cell) (to : Holds c) (j : ℕ) → HasFilePlace cells j → HasFilePlace (set_cell cells c to) j
-file_place-set_cell cells (Entry d name) to j h = h
+file_place-set_cell cells (Entry entry) to j h = h
 file_place-set_cell cells (Names d) to j h = h
 file_place-set_cell cells (Parent d) to j h = h
 file_place-set_cell cells (Links i) to j h = file_place-put_file cells i (record { links = to; bytes = bytes_of cells i }) j h
@@ -158,7 +158,7 @@ file_place-put_all [] cells j h = h
 file_place-put_all (w ∷ ws) cells j h = file_place-put_all ws (set_cell cells w.cell w.value) j (file_place-set_cell cells w.cell w.value j h)
 
 open_place-set_cell : (cells : Cells) (c : Cell) (to : Holds c) (g : ℕ) → HasOpenPlace cells g → HasOpenPlace (set_cell cells c to) g
-open_place-set_cell cells (Entry d name) to g h = h
+open_place-set_cell cells (Entry entry) to g h = h
 open_place-set_cell cells (Names d) to g h = h
 open_place-set_cell cells (Parent d) to g h = h
 open_place-set_cell cells (Links i) to g h = h

@@ -1,20 +1,16 @@
 -- To set a cell and then tidy is to tidy and then set it in the plain tree; but files that nothing names any more are still in the plain tree then.
-use Rattle.std.proofs.Common.{◌≡◌, ℕ, Bool, true, false, cond, not, ◌&&◌, ◌||◌, List, [], ◌∷◌, Option, Some, None, is_some, Ordering, eqb-true, refl, sym, ap, ◌∙◌}
+use Rattle.std.proofs.Common.{◌≡◌, ℕ, Bool, true, false, cond, not, ◌&&◌, ◌||◌, List, [], ◌∷◌, Option, Some, None, is_some, eqb-true, refl, sym, ap, ◌∙◌}
 use Rattle.std.specs.Prelude.{◌==◌}
-use Rattle.std.proofs.lemmas.Bool.{false≢true}
 use Rattle.std.proofs.lemmas.Map.Lookups.{exact_unsigned}
 use Rattle.std.proofs.Math.Bool.{or-true}
-use Rattle.std.specs.declared.cmp.Ordering.TheVariants.{Less, Equal, Greater}
-use Rattle.std.specs.Ordering.{nat_cmp, is_eq, eq_by_cmp, ordering_then}
+use Rattle.std.specs.Ordering.{nat_cmp, eq_by_cmp}
 use Rattle.std.specs.Cmp.{nat_cmp_total, unsigned_tied}
-use Rattle.std.specs.Cmp.Lexicographic.{slice_cmp, texts_ties}
-use Rattle.std.specs.Option.{option_map}
 use Rattle.std.specs.FinMap.{FinMap, get, contains_key, insert, remove, get-insert, get-remove, same_map}
+use Rattle.ft_tree.specs.Entries.{entry_at}
 use Rattle.ft_tree.specs.declared.node.Node.{Node}
 use Rattle.ft_tree.specs.declared.open_file.OpenFile.{OpenFile}
-use Rattle.ft_tree.specs.Nodes.{number_of}
-use Rattle.ft_tree.specs.Cells.{Cells, entry_of, parent_of, put_entry, put_parent, put_open, HasDirPlace}
-use Rattle.ft_tree.specs.Plain.{PlainTree, edge_cmp, NumberSet}
+use Rattle.ft_tree.specs.Cells.{Cells, parent_of, put_entry, put_parent, put_open, HasDirPlace}
+use Rattle.ft_tree.specs.Plain.{PlainTree, NumberSet}
 use Rattle.ft_tree.specs.Tidy.{tidy}
 use Rattle.ft_tree.specs.declared.cell.Cell.{Cell}
 use Rattle.ft_tree.specs.declared.cell.Cell.TheVariants as cell
@@ -23,8 +19,9 @@ use Rattle.ft_calls.specs.Outcomes.{Write}
 use Rattle.ft_calls.specs.Stored.{put, put_all}
 use Rattle.ft_calls.specs.Exec.{set_edge, set_dir, set_open, set_plain, put_plain, put_all_plain}
 use Rattle.ft_calls.proofs.Places.{dir_place-set_cell}
-use Rattle.ft_calls.proofs.Puts.{is_place, with_value, entry-put_entry, parent-put_entry, entry-put_parent, parent-put_parent, open-put_open}
-use Rattle.ft_calls.proofs.Tidied.{edge_total, edge_exact, number-cond, get-tidy, get-opens, contains-parent}
+use Rattle.ft_calls.proofs.Puts.{with_value, parent-put_entry, entry-put_parent, parent-put_parent, open-put_open}
+use Rattle.ft_calls.proofs.Drawn.{edges-same, edges-put_entry}
+use Rattle.ft_calls.proofs.Tidied.{same_unit, get-opens, contains-parent}
 
 -- plain trees with the same edges, directories and descriptions; of the files nothing is said
 pub record AreAlike (p q : PlainTree) : Type 0 where
@@ -32,30 +29,7 @@ pub record AreAlike (p q : PlainTree) : Type 0 where
   pub dirs : p.dirs ≡ q.dirs
   pub opens : p.opens ≡ q.opens
 
--- Edges.
-
--- edges tie where their places are the same
-edge_tied : (d e : ℕ) (name other : List ℕ) → eq_by_cmp edge_cmp (e, other) (d, name) ≡ is_place d name e other
-edge_tied d e name other = by_number (nat_cmp e d) ∙ (λ i. unsigned_tied e d i && sym (texts_ties other name) i)
-  where
-    by_number : (r : Ordering) → is_eq (ordering_then r (slice_cmp nat_cmp other name)) ≡ (is_eq r && is_eq (slice_cmp nat_cmp other name))
-    by_number Less = refl
-    by_number Equal = refl
-    by_number Greater = refl
-
--- the edges after one was drawn, or taken away
-get-set_edge : (m : FinMap edge_cmp ℕ) (d : ℕ) (name : List ℕ) (to : Option Node) (e : ℕ) (other : List ℕ) → get (set_edge m (d, name) to) (e, other) ≡ cond (is_place d name e other) (option_map number_of to) (get m (e, other))
-get-set_edge m d name None e other = get-remove edge_total m (d, name) (e, other) ∙ ap (λ b. cond b None (get m (e, other))) (edge_tied d e name other)
-get-set_edge m d name (Some x) e other = get-insert edge_total m (d, name) (number_of x) (e, other) ∙ ap (λ b. cond b (Some (number_of x)) (get m (e, other))) (edge_tied d e name other)
-
 -- Directories.
-
--- members of sets have no value to differ in
-same_unit : (a b : Option (Unit {0})) → is_some a ≡ is_some b → a ≡ b
-same_unit None None h = refl
-same_unit None (Some x) h = absurd (false≢true h)
-same_unit (Some x) None h = absurd (false≢true (sym h))
-same_unit (Some x) (Some y) h = refl
 
 -- sets with the same members are one
 same_set : (s t : NumberSet) → ((d : ℕ) → contains_key s d ≡ contains_key t d) → s ≡ t
@@ -112,19 +86,10 @@ get-set_open m f (Some o) g = get-insert nat_cmp_total m f o g ∙ ap (λ b. con
 root-set : (cells : Cells) (c : Cell) (to : Holds c) → HasDirPlace cells 1 → HasDirPlace (set_cell cells c to) 1
 root-set cells c to root = dir_place-set_cell cells c to 1 root
 
--- an entry that is set is an edge
-edges-put_entry : (cells : Cells) (d : ℕ) (name : List ℕ) (to : Option Node) → (tidy (put_entry cells d name to)).edges ≡ set_edge (tidy cells).edges (d, name) to
-edges-put_entry cells d name to = same_map edge_total edge_exact _ _ (λ q. at q.0 q.1)
-  where
-    at : (e : ℕ) (other : List ℕ) → get (tidy (put_entry cells d name to)).edges (e, other) ≡ get (set_edge (tidy cells).edges (d, name) to) (e, other)
-    at e other =
-        get-tidy (put_entry cells d name to) e other ∙ ap (option_map number_of) (entry-put_entry cells d name to e other) ∙ number-cond (is_place d name e other) to (entry_of cells e other)
-        ∙ sym (get-set_edge (tidy cells).edges d name to e other ∙ ap (cond (is_place d name e other) (option_map number_of to)) (get-tidy cells e other))
-
--- and changes no directory
+-- an entry that is set changes no directory
 dirs-put_entry : (cells : Cells) (d : ℕ) (name : List ℕ) (to : Option Node) → HasDirPlace cells 1 → (tidy (put_entry cells d name to)).dirs ≡ (tidy cells).dirs
 dirs-put_entry cells d name to root =
-    same_set _ _ (λ e. contains-parent (put_entry cells d name to) (root-set cells (cell.Entry d name) to root) e ∙ ap (λ o. (e == 1) || is_some o) (parent-put_entry cells d name to e) ∙ sym (contains-parent cells root e))
+    same_set _ _ (λ e. contains-parent (put_entry cells d name to) (root-set cells (cell.Entry (entry_at d name)) to root) e ∙ ap (λ o. (e == 1) || is_some o) (parent-put_entry cells d name to e) ∙ sym (contains-parent cells root e))
 
 -- a parent that is set is a directory
 dirs-put_parent : (cells : Cells) (d : ℕ) (p : Option ℕ) → HasDirPlace cells 1 → (tidy (put_parent cells d p)).dirs ≡ set_dir (tidy cells).dirs d p
@@ -134,8 +99,7 @@ dirs-put_parent cells d p root =
 
 -- and changes no edge
 edges-put_parent : (cells : Cells) (d : ℕ) (p : Option ℕ) → (tidy (put_parent cells d p)).edges ≡ (tidy cells).edges
-edges-put_parent cells d p =
-    same_map edge_total edge_exact _ _ (λ q. get-tidy (put_parent cells d p) q.0 q.1 ∙ ap (option_map number_of) (entry-put_parent cells d p q.0 q.1) ∙ sym (get-tidy cells q.0 q.1))
+edges-put_parent cells d p = edges-same cells (put_parent cells d p) (λ i e other. entry-put_parent cells d p e other i)
 
 -- a description that is set is one
 opens-put_open : (cells : Cells) (f : ℕ) (to : Option OpenFile) → (tidy (put_open cells f to)).opens ≡ set_open (tidy cells).opens f to
@@ -145,9 +109,9 @@ opens-put_open cells f to =
 
 -- one cell
 alike-set : (cells : Cells) (p : PlainTree) (c : Cell) (to : Holds c) → HasDirPlace cells 1 → AreAlike (tidy cells) p → AreAlike (tidy (set_cell cells c to)) (set_plain p c to)
-alike-set cells p (cell.Entry d name) to root h = record {
-  edges = edges-put_entry cells d name to ∙ ap (λ m. set_edge m (d, name) to) h.edges;
-  dirs = dirs-put_entry cells d name to root ∙ h.dirs;
+alike-set cells p (cell.Entry entry) to root h = record {
+  edges = edges-put_entry cells entry.dir entry.name to ∙ ap (λ m. set_edge m entry to) h.edges;
+  dirs = dirs-put_entry cells entry.dir entry.name to root ∙ h.dirs;
   opens = h.opens;
 }
 alike-set cells p (cell.Names d) to root h = h

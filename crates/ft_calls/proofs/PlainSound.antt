@@ -6,11 +6,13 @@ use Rattle.std.proofs.lemmas.Option.{same_Some}
 use Rattle.std.proofs.Math.Bool.{or-true}
 use Rattle.std.specs.Option.{option_map}
 use Rattle.std.specs.FinMap.{get, contains_key}
+use Rattle.ft_tree.specs.Entries.{entry_at}
+use Rattle.ft_tree.specs.declared.entry.Entry.{Entry as DirEntry}
 use Rattle.ft_tree.specs.declared.node.Node.{Node}
 use Rattle.ft_tree.specs.declared.node.Node.TheVariants.{Dir as DirNode}
 use Rattle.ft_tree.specs.Nodes.{number_of}
 use Rattle.ft_tree.specs.Cells.{Cells, entry_of, parent_of, links_of, is_open, has_file}
-use Rattle.ft_tree.specs.Plain.{EdgeKey, parent_in, links_in}
+use Rattle.ft_tree.specs.Plain.{parent_in, links_in}
 use Rattle.ft_tree.specs.Tidy.{tidy}
 use Rattle.ft_tree.specs.Sound.{Hangs, the_root, under, AreSoundCells}
 use Rattle.ft_calls.specs.Laws.{PlainSoundnessLaw}
@@ -21,7 +23,7 @@ use Rattle.ft_calls.proofs.Parents.{contains-root, contains-under, contains-hang
 
 module _ (cells : Cells) (sound : AreSoundCells cells) where
   -- an edge is an entry
-  pub edge-entry : (d : ℕ) (name : List ℕ) (i : ℕ) → get (tidy cells).edges (d, name) ≡ Some i → (x : Node) × (entry_of cells d name ≡ Some x) × (number_of x ≡ i)
+  pub edge-entry : (d : ℕ) (name : List ℕ) (i : ℕ) → get (tidy cells).edges (entry_at d name) ≡ Some i → (x : Node) × (entry_of cells d name ≡ Some x) × (number_of x ≡ i)
   edge-entry d name i h = by_entry (entry_of cells d name) refl (sym (get-tidy cells d name) ∙ h)
     where
       by_entry : (o : Option Node) → entry_of cells d name ≡ o → option_map number_of o ≡ Some i → (x : Node) × (entry_of cells d name ≡ Some x) × (number_of x ≡ i)
@@ -33,7 +35,7 @@ module _ (cells : Cells) (sound : AreSoundCells cells) where
   links-no_dir i h = sound.links i ∙ ap (λ b. cond b 0 (links_in (tidy cells) i)) h
 
   -- what an edge leads to, where it is no directory, is there as a file
-  pub file-edge : (e : EdgeKey) (i : ℕ) → contains_key (tidy cells).dirs i ≡ false → get (tidy cells).edges e ≡ Some i → has_file cells i ≡ true
+  pub file-edge : (e : DirEntry) (i : ℕ) → contains_key (tidy cells).dirs i ≡ false → get (tidy cells).edges e ≡ Some i → has_file cells i ≡ true
   file-edge e i none h =
       let linked : links_of cells i ≢ 0 = λ is. count-some (tidy cells).edges e i h (sym (links-no_dir i none) ∙ is) in
       ap (λ b. b || is_open cells.opens i) (lt-ltb 0 (links_of cells i) (omega arith))
@@ -49,11 +51,11 @@ module _ (cells : Cells) (sound : AreSoundCells cells) where
       by_open false is = is
 
   -- no edge leads to the root
-  no_edge_up : (e : EdgeKey) → get (tidy cells).edges e ≢ Some 1
-  no_edge_up e h = let leads = sound.tree.leads e.0 e.1 1 (entry-edge cells sound e.0 e.1 1 (contains-root cells sound) h) in false≢true (ap is_some (sym sound.tree.top ∙ leads))
+  no_edge_up : (e : DirEntry) → get (tidy cells).edges e ≢ Some 1
+  no_edge_up e h = let leads = sound.tree.leads e.dir e.name 1 (entry-edge cells sound e.dir e.name 1 (contains-root cells sound) h) in false≢true (ap is_some (sym sound.tree.top ∙ leads))
 
   -- an edge leads to a directory or a file
-  leads_to : (e : EdgeKey) (i : ℕ) → get (tidy cells).edges e ≡ Some i → (contains_key (tidy cells).dirs i || contains_key (tidy cells).files i) ≡ true
+  leads_to : (e : DirEntry) (i : ℕ) → get (tidy cells).edges e ≡ Some i → (contains_key (tidy cells).dirs i || contains_key (tidy cells).files i) ≡ true
   leads_to e i h = by_dir (contains_key (tidy cells).dirs i) refl
     where
       by_dir : (b : Bool) → contains_key (tidy cells).dirs i ≡ b → (b || contains_key (tidy cells).files i) ≡ true
@@ -61,21 +63,21 @@ module _ (cells : Cells) (sound : AreSoundCells cells) where
       by_dir false is = contains-files cells sound i ∙ file-edge e i is h
 
   -- a directory has an edge
-  stands_in : (i : ℕ) → contains_key (tidy cells).dirs i ≡ true → i ≢ 1 → (e : EdgeKey) × (get (tidy cells).edges e ≡ Some i)
+  stands_in : (i : ℕ) → contains_key (tidy cells).dirs i ≡ true → i ≢ 1 → (e : DirEntry) × (get (tidy cells).edges e ≡ Some i)
   stands_in i dir other = by_hanging i (hangs-contains cells sound i dir) other
     where
-      by_hanging : (i : ℕ) → Hangs (parent_of cells) i → i ≢ 1 → (e : EdgeKey) × (get (tidy cells).edges e ≡ Some i)
+      by_hanging : (i : ℕ) → Hangs (parent_of cells) i → i ≢ 1 → (e : DirEntry) × (get (tidy cells).edges e ≡ Some i)
       by_hanging _ the_root other = absurd (other refl)
-      by_hanging _ (under d p h up) other = let place = sound.tree.stands d p h in ((p, place.0), get-tidy cells p place.0 ∙ ap (option_map number_of) place.1)
+      by_hanging _ (under d p h up) other = let place = sound.tree.stands d p h in (entry_at p place.0, get-tidy cells p place.0 ∙ ap (option_map number_of) place.1)
 
   -- and one alone
-  one_edge : (i : ℕ) → contains_key (tidy cells).dirs i ≡ true → (e f : EdgeKey) → get (tidy cells).edges e ≡ Some i → get (tidy cells).edges f ≡ Some i → e ≡ f
+  one_edge : (i : ℕ) → contains_key (tidy cells).dirs i ≡ true → (e f : DirEntry) → get (tidy cells).edges e ≡ Some i → get (tidy cells).edges f ≡ Some i → e ≡ f
   one_edge i dir e f h g =
-      let at_e = entry-edge cells sound e.0 e.1 i dir h in
-      let at_f = entry-edge cells sound f.0 f.1 i dir g in
-      let same : f.0 ≡ e.0 = same_Some _ _ (sym (sound.tree.leads f.0 f.1 i at_f) ∙ sound.tree.leads e.0 e.1 i at_e) in
-      let names : e.1 ≡ f.1 = sound.tree.once e.0 e.1 f.1 i at_e (subst (λ d. entry_of cells d f.1 ≡ Some (DirNode i)) same at_f) in
-      λ x. (sym same x, names x)
+      let at_e = entry-edge cells sound e.dir e.name i dir h in
+      let at_f = entry-edge cells sound f.dir f.name i dir g in
+      let same : f.dir ≡ e.dir = same_Some _ _ (sym (sound.tree.leads f.dir f.name i at_f) ∙ sound.tree.leads e.dir e.name i at_e) in
+      let names : e.name ≡ f.name = sound.tree.once e.dir e.name f.name i at_e (subst (λ d. entry_of cells d f.name ≡ Some (DirNode i)) same at_f) in
+      λ x. entry_at (sym same x) (names x)
 
   -- the parents that are found lead up to the root
   found_up : (d : ℕ) → Hangs (parent_of cells) d → Hangs (parent_in (tidy cells)) d
@@ -87,7 +89,7 @@ pub plain_soundness : PlainSoundnessLaw
 plain_soundness cells sound = record {
   root = contains-root cells sound;
   top = no_edge_up cells sound;
-  starts = λ e i h. let x = edge-entry cells sound e.0 e.1 i h in contains-hangs cells sound e.0 (sound.tree.starts e.0 e.1 x.0 x.1);
+  starts = λ e i h. let x = edge-entry cells sound e.dir e.name i h in contains-hangs cells sound e.dir (sound.tree.starts e.dir e.name x.0 x.1);
   leads = leads_to cells sound;
   apart = λ i dir. contains-files cells sound i ∙ dir-no_file cells sound i dir;
   stands = stands_in cells sound;

@@ -129,7 +129,7 @@ open-put_open cells f to g =
 -- The values after a list of writes.
 
 abbrev pub entry_set : (ℕ → List ℕ → Option Node) → (c : Cell) → Holds c → ℕ → List ℕ → Option Node
-entry_set entry (Entry d name) to = with_entry entry d name to
+entry_set entry (Entry other) to = with_entry entry other.dir other.name to
 entry_set entry (Names d) to = entry
 entry_set entry (Parent d) to = entry
 entry_set entry (Links i) to = entry
@@ -141,7 +141,7 @@ entry_after entry [] = entry
 entry_after entry (w ∷ ws) = entry_after (entry_set entry w.cell w.value) ws
 
 abbrev pub parent_set : (ℕ → Option ℕ) → (c : Cell) → Holds c → ℕ → Option ℕ
-parent_set parent (Entry d name) to = parent
+parent_set parent (Entry entry) to = parent
 parent_set parent (Names d) to = parent
 parent_set parent (Parent d) to = with_parent parent d to
 parent_set parent (Links i) to = parent
@@ -153,7 +153,7 @@ parent_after parent [] = parent
 parent_after parent (w ∷ ws) = parent_after (parent_set parent w.cell w.value) ws
 
 abbrev pub links_set : (ℕ → ℕ) → (c : Cell) → Holds c → ℕ → ℕ
-links_set links (Entry d name) to = links
+links_set links (Entry entry) to = links
 links_set links (Names d) to = links
 links_set links (Parent d) to = links
 links_set links (Links i) to = with_value links i to
@@ -165,7 +165,7 @@ links_after links [] = links
 links_after links (w ∷ ws) = links_after (links_set links w.cell w.value) ws
 
 abbrev pub bytes_set : (ℕ → List ℕ) → (c : Cell) → Holds c → ℕ → List ℕ
-bytes_set bytes (Entry d name) to = bytes
+bytes_set bytes (Entry entry) to = bytes
 bytes_set bytes (Names d) to = bytes
 bytes_set bytes (Parent d) to = bytes
 bytes_set bytes (Links i) to = bytes
@@ -177,7 +177,7 @@ bytes_after bytes [] = bytes
 bytes_after bytes (w ∷ ws) = bytes_after (bytes_set bytes w.cell w.value) ws
 
 abbrev pub open_set : (ℕ → Option OpenFile) → (c : Cell) → Holds c → ℕ → Option OpenFile
-open_set opens (Entry d name) to = opens
+open_set opens (Entry entry) to = opens
 open_set opens (Names d) to = opens
 open_set opens (Parent d) to = opens
 open_set opens (Links i) to = opens
@@ -189,7 +189,7 @@ open_after opens [] = opens
 open_after opens (w ∷ ws) = open_after (open_set opens w.cell w.value) ws
 
 entry-set_cell : (cells : Cells) (c : Cell) (to : Holds c) → entry_of (set_cell cells c to) ≡ entry_set (entry_of cells) c to
-entry-set_cell cells (Entry d name) to = λ i e other. entry-put_entry cells d name to e other i
+entry-set_cell cells (Entry entry) to = λ i e other. entry-put_entry cells entry.dir entry.name to e other i
 entry-set_cell cells (Names d) to = refl
 entry-set_cell cells (Parent d) to = λ i e other. entry-put_parent cells d to e other i
 entry-set_cell cells (Links i) to = refl
@@ -201,7 +201,7 @@ entry-put_all [] cells = refl
 entry-put_all (w ∷ ws) cells = entry-put_all ws (set_cell cells w.cell w.value) ∙ ap (λ f. entry_after f ws) (entry-set_cell cells w.cell w.value)
 
 parent-set_cell : (cells : Cells) (c : Cell) (to : Holds c) → parent_of (set_cell cells c to) ≡ parent_set (parent_of cells) c to
-parent-set_cell cells (Entry d name) to = λ i e. parent-put_entry cells d name to e i
+parent-set_cell cells (Entry entry) to = λ i e. parent-put_entry cells entry.dir entry.name to e i
 parent-set_cell cells (Names d) to = refl
 parent-set_cell cells (Parent d) to = λ i e. parent-put_parent cells d to e i
 parent-set_cell cells (Links i) to = refl
@@ -213,7 +213,7 @@ parent-put_all [] cells = refl
 parent-put_all (w ∷ ws) cells = parent-put_all ws (set_cell cells w.cell w.value) ∙ ap (λ f. parent_after f ws) (parent-set_cell cells w.cell w.value)
 
 links-set_cell : (cells : Cells) (c : Cell) (to : Holds c) → links_of (set_cell cells c to) ≡ links_set (links_of cells) c to
-links-set_cell cells (Entry d name) to = refl
+links-set_cell cells (Entry entry) to = refl
 links-set_cell cells (Names d) to = refl
 links-set_cell cells (Parent d) to = refl
 links-set_cell cells (Links i) to = λ n j. links-put_links cells i to j n
@@ -225,7 +225,7 @@ links-put_all [] cells = refl
 links-put_all (w ∷ ws) cells = links-put_all ws (set_cell cells w.cell w.value) ∙ ap (λ f. links_after f ws) (links-set_cell cells w.cell w.value)
 
 bytes-set_cell : (cells : Cells) (c : Cell) (to : Holds c) → bytes_of (set_cell cells c to) ≡ bytes_set (bytes_of cells) c to
-bytes-set_cell cells (Entry d name) to = refl
+bytes-set_cell cells (Entry entry) to = refl
 bytes-set_cell cells (Names d) to = refl
 bytes-set_cell cells (Parent d) to = refl
 bytes-set_cell cells (Links i) to = λ n j. bytes-put_links cells i to j n
@@ -237,7 +237,7 @@ bytes-put_all [] cells = refl
 bytes-put_all (w ∷ ws) cells = bytes-put_all ws (set_cell cells w.cell w.value) ∙ ap (λ f. bytes_after f ws) (bytes-set_cell cells w.cell w.value)
 
 open-set_cell : (cells : Cells) (c : Cell) (to : Holds c) → open_of (set_cell cells c to) ≡ open_set (open_of cells) c to
-open-set_cell cells (Entry d name) to = refl
+open-set_cell cells (Entry entry) to = refl
 open-set_cell cells (Names d) to = refl
 open-set_cell cells (Parent d) to = refl
 open-set_cell cells (Links i) to = refl

@@ -4,11 +4,13 @@ use Rattle.std.specs.Prelude.{◌==◌}
 use Rattle.std.proofs.lemmas.Option.{none-some, same_Some}
 use Rattle.std.proofs.Math.Bool.{or-true}
 use Rattle.std.specs.Option.{option_map}
+use Rattle.ft_tree.specs.declared.entry.Entry.{Entry as DirEntry}
+use Rattle.ft_tree.specs.Entries.{entry_at}
 use Rattle.ft_tree.specs.declared.node.Node.{Node}
 use Rattle.ft_tree.specs.declared.node.Node.TheVariants.{Dir as DirNode}
 use Rattle.ft_tree.specs.Nodes.{number_of}
 use Rattle.ft_tree.specs.Cells.{Cells, dir_of, entry_of, parent_of, links_of, bytes_of, open_of, names_of}
-use Rattle.ft_tree.specs.Plain.{EdgeKey, links_in}
+use Rattle.ft_tree.specs.Plain.{links_in}
 use Rattle.ft_tree.specs.Tidy.{tidy}
 use Rattle.ft_tree.specs.Sound.{IsNoDir, AreSoundCells, IsFree}
 use Rattle.ft_tree.specs.declared.cell.Cell.TheVariants as cell
@@ -42,11 +44,11 @@ module _ (cells : Cells) (sound : AreSoundCells cells) (d : ℕ) (name : List �
   count-gone : links_in (tidy (put_all cells removed_writes)) i ≡ 0
   count-gone =
       count-none (tidy (put_all cells removed_writes)).edges i
-      (λ e h. by_entry_of e (with_entry (entry_of cells) d name None e.0 e.1) refl (sym (get-tidy (put_all cells removed_writes) e.0 e.1 ∙ ap (λ f. option_map number_of (f e.0 e.1)) (entry-put_all removed_writes cells)) ∙ h))
+      (λ e h. by_entry_of e (with_entry (entry_of cells) d name None e.dir e.name) refl (sym (get-tidy (put_all cells removed_writes) e.dir e.name ∙ ap (λ f. option_map number_of (f e.dir e.name)) (entry-put_all removed_writes cells)) ∙ h))
     where
-      by_entry_of : (e : EdgeKey) (o : Option Node) → with_entry (entry_of cells) d name None e.0 e.1 ≡ o → option_map number_of o ≡ Some i → ⊥
+      by_entry_of : (e : DirEntry) (o : Option Node) → with_entry (entry_of cells) d name None e.dir e.name ≡ o → option_map number_of o ≡ Some i → ⊥
       by_entry_of e None at h = none-some i h
-      by_entry_of e (Some x) at h = none_left (entry_of cells) (parent_of cells) sound.tree d name i is no_entry e.0 e.1 x at (same_Some (number_of x) i h)
+      by_entry_of e (Some x) at h = none_left (entry_of cells) (parent_of cells) sound.tree d name i is no_entry e.dir e.name x at (same_Some (number_of x) i h)
 
   -- and the edges to others stay
   count-left : (j : ℕ) → j ≢ i → links_in (tidy (put_all cells removed_writes)) j ≡ links_in (tidy cells) j
@@ -118,7 +120,7 @@ no_dir-moves_dir old new d name i e other m sound clear =
 -- A directory is moved to an empty place.
 module _ (cells : Cells) (sound : AreSoundCells cells) (d : ℕ) (name : List ℕ) (i e : ℕ) (other : List ℕ) (is : entry_of cells d name ≡ Some (DirNode i)) (clear : Avoids (parent_of cells) i e) (empty : entry_of cells e other ≡ None) where
   abbrev moved_writes : List Write
-  moved_writes = (renamed d name (DirNode i) e other (steps.with_parent i d e)).writes
+  moved_writes = (renamed (entry_at d name) (DirNode i) (entry_at e other) (steps.with_parent i d e)).writes
 
   dir_moved : Moves cells (put_all cells moved_writes) d name (DirNode i) e other (with_parent (parent_of cells) i (Some e))
   dir_moved = record {
@@ -146,7 +148,7 @@ module _ (cells : Cells) (sound : AreSoundCells cells) (d : ℕ) (name : List �
 module _ (cells : Cells) (sound : AreSoundCells cells) (d : ℕ) (name : List ℕ) (i e : ℕ) (other : List ℕ) (j : ℕ) (is : entry_of cells d name ≡ Some (DirNode i)) (filled : entry_of cells e other ≡ Some (DirNode j)) (differ : i ≢ j)
     (clear : Avoids (parent_of cells) i e) (bare : names_of cells j ≡ []) where
   abbrev replaced_writes : List Write
-  replaced_writes = (renamed d name (DirNode i) e other (sets (cell.Parent j) None ∷ steps.with_parent i d e)).writes
+  replaced_writes = (renamed (entry_at d name) (DirNode i) (entry_at e other) (sets (cell.Parent j) None ∷ steps.with_parent i d e)).writes
 
   abbrev gone_writes : List Write
   gone_writes = (removed e other j).writes

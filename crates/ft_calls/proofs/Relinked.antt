@@ -4,6 +4,7 @@ use Rattle.std.specs.Prelude.{◌==◌, ◌-◌}
 use Rattle.std.proofs.lemmas.Bool.{false≢true}
 use Rattle.std.proofs.lemmas.Option.{none-some, same_Some}
 use Rattle.std.specs.FinMap.{contains_key}
+use Rattle.ft_tree.specs.Entries.{entry_at}
 use Rattle.ft_tree.specs.declared.node.Node.{Node}
 use Rattle.ft_tree.specs.declared.node.Node.TheVariants.{File as FileNode}
 use Rattle.ft_tree.specs.Nodes.{number_of}
@@ -41,7 +42,7 @@ count-fewer i n m links sum same = let one = one_own i in omega arith
 -- A file that is named gets another entry.
 module _ (cells : Cells) (sound : AreSoundCells cells) (i : ℕ) (d : ℕ) (name : List ℕ) (named : Named cells i) (hangs : Hangs (parent_of cells) d) (empty : entry_of cells d name ≡ None) where
   abbrev linked_writes : List Write
-  linked_writes = (linked i d name (links_of cells i)).writes
+  linked_writes = (linked i (entry_at d name) (links_of cells i)).writes
 
   file : IsFile cells (parent_of cells) i
   file = named-file cells sound i named
@@ -73,7 +74,7 @@ module _ (cells : Cells) (sound : AreSoundCells cells) (i : ℕ) (d : ℕ) (name
 -- A file loses one.
 module _ (cells : Cells) (sound : AreSoundCells cells) (d : ℕ) (name : List ℕ) (i : ℕ) (is : entry_of cells d name ≡ Some (FileNode i)) where
   abbrev unlinked_writes : List Write
-  unlinked_writes = (unlinked d name i (links_of cells i)).writes
+  unlinked_writes = (unlinked (entry_at d name) i (links_of cells i)).writes
 
   count-unlinked : (n : ℕ) → cond (i == n) 1 0 + links_in (tidy (put_all cells unlinked_writes)) n ≡ links_in (tidy cells) n
   count-unlinked = count-erased cells (put_all cells unlinked_writes) d name (FileNode i) (entry-put_all unlinked_writes cells) is
@@ -169,7 +170,7 @@ free-moves_file old new d name i e other m = free-moves old new d name (FileNode
 -- A file is moved to an empty place.
 module _ (cells : Cells) (sound : AreSoundCells cells) (d : ℕ) (name : List ℕ) (i e : ℕ) (other : List ℕ) (is : entry_of cells d name ≡ Some (FileNode i)) (hangs : Hangs (parent_of cells) e) (empty : entry_of cells e other ≡ None) where
   abbrev moved_writes : List Write
-  moved_writes = (renamed d name (FileNode i) e other []).writes
+  moved_writes = (renamed (entry_at d name) (FileNode i) (entry_at e other) []).writes
 
   file_moved : Moves cells (put_all cells moved_writes) d name (FileNode i) e other (parent_of cells)
   file_moved = record {
@@ -208,10 +209,10 @@ module _ (cells gone : Cells) (d : ℕ) (name : List ℕ) (x : Node) (e : ℕ) (
 -- A file is moved to the place of another one.
 module _ (cells : Cells) (sound : AreSoundCells cells) (d : ℕ) (name : List ℕ) (i e : ℕ) (other : List ℕ) (j : ℕ) (is : entry_of cells d name ≡ Some (FileNode i)) (filled : entry_of cells e other ≡ Some (FileNode j)) (differ : i ≢ j) where
   abbrev replaced_writes : List Write
-  replaced_writes = (renamed d name (FileNode i) e other (sets (cell.Links j) (links_of cells j - 1) ∷ [])).writes
+  replaced_writes = (renamed (entry_at d name) (FileNode i) (entry_at e other) (sets (cell.Links j) (links_of cells j - 1) ∷ [])).writes
 
   abbrev gone_writes : List Write
-  gone_writes = (unlinked e other j (links_of cells j)).writes
+  gone_writes = (unlinked (entry_at e other) j (links_of cells j)).writes
 
   -- the other one loses its entry before
   abbrev gone : Cells

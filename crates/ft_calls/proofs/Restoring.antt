@@ -84,11 +84,11 @@ module _ (s : Cells) where
   -- what stands in a place that is there
 
   again : (c : Cell) (v was : Holds c) → place_at s c ≡ Some was → set_cell (set_cell s c v) c was ≡ s
-  again (Entry d name) v was is =
-      let y : DirCells = put_dir_entry (dir_of s d) name v in
-      let there = stored_dir d (dir_place-entry s d name (subst IsSome (sym is) refl)) in
-      ap (λ z. put_dir (put_dir s d y) d (put_dir_entry z name was)) (own_dir d y)
-      ∙ same_dir d y there.0 there.1 (put_dir_entry y name was) (ap (λ m. record { parent = (dir_of s d).parent; entries = m }) (put_back nat_list_cmp_total exact_bytes (dir_of s d).entries name v was is))
+  again (Entry entry) v was is =
+      let y : DirCells = put_dir_entry (dir_of s entry.dir) entry.name v in
+      let there = stored_dir entry.dir (dir_place-entry s entry.dir entry.name (subst IsSome (sym is) refl)) in
+      ap (λ z. put_dir (put_dir s entry.dir y) entry.dir (put_dir_entry z entry.name was)) (own_dir entry.dir y)
+      ∙ same_dir entry.dir y there.0 there.1 (put_dir_entry y entry.name was) (ap (λ m. record { parent = (dir_of s entry.dir).parent; entries = m }) (put_back nat_list_cmp_total exact_bytes (dir_of s entry.dir).entries entry.name v was is))
   again (Names d) v was is = refl
   again (Parent d) v was is = by_place (get s.directories d) refl is
     where
@@ -120,11 +120,11 @@ module _ (s : Cells) where
   -- a place that is new
 
   new : (c : Cell) (v : Holds c) → CanSet s c → place_at s c ≡ None → without_place (set_cell s c v) c ≡ s
-  new (Entry d name) v can is =
-      let y : DirCells = put_dir_entry (dir_of s d) name v in
-      let there = stored_dir d can in
-      ap (λ o. option_map_or (λ z. put_dir (put_dir s d y) d (without_dir_place z name)) o (put_dir s d y)) (own s.directories d y)
-      ∙ same_dir d y there.0 there.1 (without_dir_place y name) (ap (λ m. record { parent = (dir_of s d).parent; entries = m }) (take_out nat_list_cmp_total exact_bytes (dir_of s d).entries name v is))
+  new (Entry entry) v can is =
+      let y : DirCells = put_dir_entry (dir_of s entry.dir) entry.name v in
+      let there = stored_dir entry.dir can in
+      ap (λ o. option_map_or (λ z. put_dir (put_dir s entry.dir y) entry.dir (without_dir_place z entry.name)) o (put_dir s entry.dir y)) (own s.directories entry.dir y)
+      ∙ same_dir entry.dir y there.0 there.1 (without_dir_place y entry.name) (ap (λ m. record { parent = (dir_of s entry.dir).parent; entries = m }) (take_out nat_list_cmp_total exact_bytes (dir_of s entry.dir).entries entry.name v is))
   new (Names d) v can is = refl
   new (Parent d) v can is = ap with_dirs (take_out nat_cmp_total exact_unsigned s.directories d _ (none-mapped (λ (x : DirCells). x.parent) (get s.directories d) is))
   new (Links i) v can is = ap with_files (take_out nat_cmp_total exact_unsigned s.files i _ (none-mapped (λ (x : FileCells). x.links) (get s.files i) is))

@@ -1,5 +1,5 @@
 -- The names of a directory are never set.
-use Rattle.std.proofs.Common.{◌≡◌, ℕ, zero, suc, Bool, true, false, cond, not, ◌&&◌, ◌||◌, ℤ, pos, negsuc, nat_le, List, [], ◌∷◌, map, inl, inr, Option, Some, None, Result, Ok, Err, sym, subst}
+use Rattle.std.proofs.Common.{◌≡◌, ℕ, Bool, true, false, cond, not, ◌&&◌, ◌||◌, ℤ, nat_le, List, [], ◌∷◌, map, inl, inr, Option, Some, None, Result, Ok, Err, sym, subst}
 use Rattle.std.specs.Prelude.{◌==◌, nat_lt}
 use Rattle.ft_laws.specs.Lists.{Each, In}
 use Rattle.ft_body.specs.declared.TheConstants.{SIZE_LIMIT}
@@ -7,6 +7,7 @@ use Rattle.ft_body.specs.Bytes.{fitting}
 use Rattle.ft_path.specs.declared.errno.Errno.{Errno}
 use Rattle.ft_path.specs.declared.path.Parts.{Parts}
 use Rattle.ft_path.specs.FilePath.{parts_of, last_of}
+use Rattle.ft_tree.specs.Entries.{entry_at}
 use Rattle.ft_tree.specs.declared.cell.Cell.{Cell}
 use Rattle.ft_tree.specs.declared.cell.Cell.TheVariants.{Entry, Names, Parent, Links, Bytes, Fd}
 use Rattle.ft_tree.specs.declared.node.Node.{Node}
@@ -19,19 +20,18 @@ use Rattle.ft_calls.specs.declared.TheConstants.{MOST_LINKS, LAST_OFFSET}
 use Rattle.ft_calls.specs.declared.call.Call.{Call}
 use Rattle.ft_calls.specs.declared.call.Call.TheVariants.{Mkdir, Rmdir, List as ListDir, Open, Close, Read, Write as WriteCall, Pread, Pwrite, Lseek, Truncate, Ftruncate, Stat, Fstat, Link, Unlink, Rename}
 use Rattle.ft_calls.specs.declared.call.OpenFlags.{OpenFlags}
-use Rattle.ft_calls.specs.declared.call.Reply.TheVariants.{Done}
 use Rattle.ft_calls.specs.declared.call.Whence.{Whence}
-use Rattle.ft_calls.specs.Outcomes.{Write, Outcome, failed, told, from_parts, unless}
+use Rattle.ft_calls.specs.Outcomes.{Write, Outcome, failed, from_parts, unless}
 use Rattle.ft_calls.specs.Accesses.{written_cell}
 use Rattle.ft_calls.specs.Dirs.{make_dir, if_empty, remove_dir, last_fault, remove_parts, list_dir}
-use Rattle.ft_calls.specs.Files.{creates, opens, open_node, is_exclusive, open_spot, open_parts, to_size, cut_file, truncate_spot, truncate_parts, stat_spot}
+use Rattle.ft_calls.specs.Files.{open_node, is_exclusive, open_spot, open_parts, to_size, cut_file, truncate_spot, truncate_parts, stat_spot}
 use Rattle.ft_calls.specs.Descriptors.{on_open, with_open, any_open, is_readable, is_writable, close_open, read_open, not_negative, pread_at, pread_open, write_place, write_at, has_written, write_open, has_pwritten, pwrite_at, pwrite_open, seek_from, moved, sought, seek_open, ftruncate_open, fstat_open}
-use Rattle.ft_calls.specs.Links.{linked, link_at, link_new, link_old, link_parts, unlink_spot, rename_fault, climb, unless_below, renamed, with_parent, replace_file, if_bare, replace_dir, rename_file, rename_dir, rename_old, rename_parts}
+use Rattle.ft_calls.specs.Links.{link_at, link_new, link_old, link_parts, unlink_spot, rename_fault, climb, unless_below, with_parent, replace_file, if_bare, replace_dir, rename_file, rename_dir, rename_old, rename_parts}
 use Rattle.ft_calls.specs.Steps.{steps}
 
 -- a cell that calls may set
 abbrev IsSettable : Cell → Type 0
-IsSettable (Entry d name) = Unit {0}
+IsSettable (Entry entry) = Unit {0}
 IsSettable (Names d) = ⊥
 IsSettable (Parent d) = Unit {0}
 IsSettable (Links i) = Unit {0}
@@ -78,18 +78,18 @@ unless-sets (Some e) go h v = tt
 -- Directories.
 
 make_dir-sets : (stamp : ℕ) (spot : Spot) → Sets (make_dir stamp spot)
-make_dir-sets stamp (Named dir name None) v = (tt, (tt, tt))
-make_dir-sets stamp (Named dir name (Some x)) v = tt
+make_dir-sets stamp (Named entry None) v = (tt, (tt, tt))
+make_dir-sets stamp (Named entry (Some x)) v = tt
 make_dir-sets stamp (Itself dir) v = tt
 
-if_empty-sets : (dir : ℕ) (name : List ℕ) (number : ℕ) (names : List (List ℕ × Node)) → AreSettable (if_empty dir name number names).writes
+if_empty-sets : (dir : ℕ) (name : List ℕ) (number : ℕ) (names : List (List ℕ × Node)) → AreSettable (if_empty (entry_at dir name) number names).writes
 if_empty-sets dir name number [] = (tt, (tt, tt))
 if_empty-sets dir name number (e ∷ es) = tt
 
 remove_dir-sets : (spot : Spot) → Sets (remove_dir spot)
-remove_dir-sets (Named dir name None) v = tt
-remove_dir-sets (Named dir name (Some (FileNode number))) v = tt
-remove_dir-sets (Named dir name (Some (DirNode number))) v = if_empty-sets dir name number (v (Names number))
+remove_dir-sets (Named entry None) v = tt
+remove_dir-sets (Named entry (Some (FileNode number))) v = tt
+remove_dir-sets (Named entry (Some (DirNode number))) v = if_empty-sets entry.dir entry.name number (v (Names number))
 remove_dir-sets (Itself dir) v = tt
 
 remove_parts-sets : (r : Result Parts Errno) → Sets (remove_parts r)
@@ -97,9 +97,9 @@ remove_parts-sets (Err e) v = tt
 remove_parts-sets (Ok parts) v = unless-sets (last_fault (last_of parts.names)) (from_parts (Ok parts) remove_dir) (from_parts-sets (Ok parts) remove_dir remove_dir-sets) v
 
 list_dir-sets : (spot : Spot) → Sets (list_dir spot)
-list_dir-sets (Named dir name None) v = tt
-list_dir-sets (Named dir name (Some (FileNode number))) v = tt
-list_dir-sets (Named dir name (Some (DirNode number))) v = tt
+list_dir-sets (Named entry None) v = tt
+list_dir-sets (Named entry (Some (FileNode number))) v = tt
+list_dir-sets (Named entry (Some (DirNode number))) v = tt
 list_dir-sets (Itself dir) v = tt
 
 -- Files.
@@ -109,8 +109,8 @@ open_node-sets stamp flags (DirNode file) = tt
 open_node-sets stamp flags (FileNode file) = (tt, one-list flags.trunc _ _ (tt, tt) tt)
 
 open_spot-sets : (stamp : ℕ) (flags : OpenFlags) (trailing : Bool) (spot : Spot) → AreSettable (open_spot stamp flags trailing spot).writes
-open_spot-sets stamp flags trailing (Named dir name None) = one-outcome (flags.create && not trailing) _ _ (tt, (tt, (tt, (tt, tt)))) tt
-open_spot-sets stamp flags trailing (Named dir name (Some x)) = one-outcome (is_exclusive flags) _ _ tt (open_node-sets stamp flags x)
+open_spot-sets stamp flags trailing (Named entry None) = one-outcome (flags.create && not trailing) _ _ (tt, (tt, (tt, (tt, tt)))) tt
+open_spot-sets stamp flags trailing (Named entry (Some x)) = one-outcome (is_exclusive flags) _ _ tt (open_node-sets stamp flags x)
 open_spot-sets stamp flags trailing (Itself dir) = one-outcome (is_exclusive flags) _ _ tt tt
 
 open_parts-sets : (stamp : ℕ) (flags : OpenFlags) (r : Result Parts Errno) → Sets (open_parts stamp flags r)
@@ -120,9 +120,9 @@ open_parts-sets stamp flags (Ok parts) v =
     one-of (flags.trunc && not (can_write flags.access)) _ (from_parts (Ok parts) go) (λ v. tt) (from_parts-sets (Ok parts) go (λ spot v. open_spot-sets stamp flags parts.trailing spot)) v
 
 truncate_spot-sets : (size : ℕ) (spot : Spot) → Sets (truncate_spot size spot)
-truncate_spot-sets size (Named dir name None) v = tt
-truncate_spot-sets size (Named dir name (Some (DirNode file))) v = tt
-truncate_spot-sets size (Named dir name (Some (FileNode file))) v = (tt, tt)
+truncate_spot-sets size (Named entry None) v = tt
+truncate_spot-sets size (Named entry (Some (DirNode file))) v = tt
+truncate_spot-sets size (Named entry (Some (FileNode file))) v = (tt, tt)
 truncate_spot-sets size (Itself dir) v = tt
 
 truncate_parts-sets : (len : ℤ) (r : Result Parts Errno) → Sets (truncate_parts len r)
@@ -130,9 +130,9 @@ truncate_parts-sets len (Err e) v = tt
 truncate_parts-sets len (Ok parts) v = or_else-sets (λ size. from_parts (Ok parts) (truncate_spot size)) (λ size. from_parts-sets (Ok parts) (truncate_spot size) (truncate_spot-sets size)) (to_size len) v
 
 stat_spot-sets : (spot : Spot) → Sets (stat_spot spot)
-stat_spot-sets (Named dir name None) v = tt
-stat_spot-sets (Named dir name (Some (DirNode file))) v = tt
-stat_spot-sets (Named dir name (Some (FileNode file))) v = tt
+stat_spot-sets (Named entry None) v = tt
+stat_spot-sets (Named entry (Some (DirNode file))) v = tt
+stat_spot-sets (Named entry (Some (FileNode file))) v = tt
 stat_spot-sets (Itself dir) v = tt
 
 -- Descriptors.
@@ -165,15 +165,15 @@ seek_open-sets fd whence off o = then-sets (seek_from whence o) (λ from. Answer
 -- Links.
 
 link_new-sets : (file : ℕ) (trailing : Bool) (spot : Spot) → Sets (link_new file trailing spot)
-link_new-sets file trailing (Named dir name None) v =
-    one-of trailing _ (Look (Links file) (λ links. Answer (link_at file dir name links))) (λ v. tt) (λ v. one-outcome (nat_lt (v (Links file)) MOST_LINKS) _ _ (tt, (tt, tt)) tt) v
-link_new-sets file trailing (Named dir name (Some x)) v = tt
+link_new-sets file trailing (Named entry None) v =
+    one-of trailing _ (Look (Links file) (λ links. Answer (link_at file entry links))) (λ v. tt) (λ v. one-outcome (nat_lt (v (Links file)) MOST_LINKS) _ _ (tt, (tt, tt)) tt) v
+link_new-sets file trailing (Named entry (Some x)) v = tt
 link_new-sets file trailing (Itself dir) v = tt
 
 link_old-sets : (new : Parts) (spot : Spot) → Sets (link_old new spot)
-link_old-sets new (Named dir name None) v = tt
-link_old-sets new (Named dir name (Some (DirNode file))) v = tt
-link_old-sets new (Named dir name (Some (FileNode file))) v = from_parts-sets (Ok new) (link_new file new.trailing) (link_new-sets file new.trailing) v
+link_old-sets new (Named entry None) v = tt
+link_old-sets new (Named entry (Some (DirNode file))) v = tt
+link_old-sets new (Named entry (Some (FileNode file))) v = from_parts-sets (Ok new) (link_new file new.trailing) (link_new-sets file new.trailing) v
 link_old-sets new (Itself dir) v = tt
 
 link_parts-sets : (old new : Result Parts Errno) → Sets (link_parts old new)
@@ -182,9 +182,9 @@ link_parts-sets (Ok old) (Err e) v = tt
 link_parts-sets (Ok old) (Ok new) v = from_parts-sets (Ok old) (link_old new) (link_old-sets new) v
 
 unlink_spot-sets : (spot : Spot) → Sets (unlink_spot spot)
-unlink_spot-sets (Named dir name None) v = tt
-unlink_spot-sets (Named dir name (Some (DirNode file))) v = tt
-unlink_spot-sets (Named dir name (Some (FileNode file))) v = (tt, (tt, tt))
+unlink_spot-sets (Named entry None) v = tt
+unlink_spot-sets (Named entry (Some (DirNode file))) v = tt
+unlink_spot-sets (Named entry (Some (FileNode file))) v = (tt, (tt, tt))
 unlink_spot-sets (Itself dir) v = tt
 
 with_parent-sets : (moved dir into : ℕ) → AreSettable (with_parent moved dir into)
@@ -193,29 +193,29 @@ with_parent-sets moved dir into = one-list (dir == into) _ _ tt (tt, tt)
 unless_below-sets : (most moved into : ℕ) (go : Looks Outcome) → Sets go → Sets (unless_below most moved into go)
 unless_below-sets most moved into go h = then-sets (climb most moved into) (λ met. cond met (Answer (failed _)) go) (λ met. one-of met _ go (λ v. tt) h)
 
-rename_file-sets : (dir : ℕ) (name : List ℕ) (moved : ℕ) (trailing : Bool) (spot : Spot) → Sets (rename_file dir name moved trailing spot)
-rename_file-sets dir name moved trailing (Named into other None) v = one-outcome trailing _ _ tt (tt, (tt, tt))
-rename_file-sets dir name moved trailing (Named into other (Some (FileNode replaced))) v =
-    one-of (moved == replaced) _ (replace_file dir name moved into other replaced) (λ v. tt) (λ v. (tt, (tt, (tt, tt)))) v
-rename_file-sets dir name moved trailing (Named into other (Some (DirNode replaced))) v = tt
+rename_file-sets : (dir : ℕ) (name : List ℕ) (moved : ℕ) (trailing : Bool) (spot : Spot) → Sets (rename_file (entry_at dir name) moved trailing spot)
+rename_file-sets dir name moved trailing (Named entry None) v = one-outcome trailing _ _ tt (tt, (tt, tt))
+rename_file-sets dir name moved trailing (Named entry (Some (FileNode replaced))) v =
+    one-of (moved == replaced) _ (replace_file (entry_at dir name) moved entry replaced) (λ v. tt) (λ v. (tt, (tt, (tt, tt)))) v
+rename_file-sets dir name moved trailing (Named entry (Some (DirNode replaced))) v = tt
 rename_file-sets dir name moved trailing (Itself into) v = tt
 
-if_bare-sets : (dir : ℕ) (name : List ℕ) (moved into : ℕ) (other : List ℕ) (replaced : ℕ) (names : List (List ℕ × Node)) → AreSettable (if_bare dir name moved into other replaced names).writes
+if_bare-sets : (dir : ℕ) (name : List ℕ) (moved into : ℕ) (other : List ℕ) (replaced : ℕ) (names : List (List ℕ × Node)) → AreSettable (if_bare (entry_at dir name) moved (entry_at into other) replaced names).writes
 if_bare-sets dir name moved into other replaced [] = (tt, (tt, (tt, with_parent-sets moved dir into)))
 if_bare-sets dir name moved into other replaced (e ∷ es) = tt
 
-rename_dir-sets : (most dir : ℕ) (name : List ℕ) (moved : ℕ) (spot : Spot) → Sets (rename_dir most dir name moved spot)
-rename_dir-sets most dir name moved (Named into other None) v = unless_below-sets most moved into _ (λ v. (tt, (tt, with_parent-sets moved dir into))) v
-rename_dir-sets most dir name moved (Named into other (Some (FileNode replaced))) v = tt
-rename_dir-sets most dir name moved (Named into other (Some (DirNode replaced))) v =
-    let go = replace_dir dir name moved into other replaced in
-    one-of (moved == replaced) _ (unless_below most moved into go) (λ v. tt) (unless_below-sets most moved into go (λ v. if_bare-sets dir name moved into other replaced (v (Names replaced)))) v
+rename_dir-sets : (most dir : ℕ) (name : List ℕ) (moved : ℕ) (spot : Spot) → Sets (rename_dir most (entry_at dir name) moved spot)
+rename_dir-sets most dir name moved (Named entry None) v = unless_below-sets most moved entry.dir _ (λ v. (tt, (tt, with_parent-sets moved dir entry.dir))) v
+rename_dir-sets most dir name moved (Named entry (Some (FileNode replaced))) v = tt
+rename_dir-sets most dir name moved (Named entry (Some (DirNode replaced))) v =
+    let go = replace_dir (entry_at dir name) moved entry replaced in
+    one-of (moved == replaced) _ (unless_below most moved entry.dir go) (λ v. tt) (unless_below-sets most moved entry.dir go (λ v. if_bare-sets dir name moved entry.dir entry.name replaced (v (Names replaced)))) v
 rename_dir-sets most dir name moved (Itself into) v = tt
 
 rename_old-sets : (most : ℕ) (new : Parts) (spot : Spot) → Sets (rename_old most new spot)
-rename_old-sets most new (Named dir name None) v = tt
-rename_old-sets most new (Named dir name (Some (FileNode moved))) v = from_parts-sets (Ok new) (rename_file dir name moved new.trailing) (rename_file-sets dir name moved new.trailing) v
-rename_old-sets most new (Named dir name (Some (DirNode moved))) v = from_parts-sets (Ok new) (rename_dir most dir name moved) (rename_dir-sets most dir name moved) v
+rename_old-sets most new (Named entry None) v = tt
+rename_old-sets most new (Named entry (Some (FileNode moved))) v = from_parts-sets (Ok new) (rename_file entry moved new.trailing) (rename_file-sets entry.dir entry.name moved new.trailing) v
+rename_old-sets most new (Named entry (Some (DirNode moved))) v = from_parts-sets (Ok new) (rename_dir most entry moved) (rename_dir-sets most entry.dir entry.name moved) v
 rename_old-sets most new (Itself dir) v = tt
 
 rename_parts-sets : (most : ℕ) (old new : Result Parts Errno) → Sets (rename_parts most old new)

@@ -3,6 +3,7 @@ use Rattle.std.proofs.Common.{◌≡◌, ℕ, ◌||◌, List, Option, is_some, r
 use Rattle.std.specs.Prelude.{◌==◌}
 use Rattle.std.specs.Option.{option_map}
 use Rattle.std.specs.FinMap.{empty}
+use Rattle.ft_tree.specs.Entries.{entry_at}
 use Rattle.ft_tree.specs.declared.node.Node.{Node}
 use Rattle.ft_tree.specs.declared.cell.Cell.TheVariants.{Entry, Parent, Links, Fd}
 use Rattle.ft_tree.specs.Nodes.{number_of}
@@ -22,10 +23,10 @@ placed s values places =
     let w = values.with_places in
     let ws = values.sound in
     let same = values.same in
-    let entries : entry_of w ≡ entry_of s = λ i d name. sym (same.values (Entry d name)) i in
+    let entries : entry_of w ≡ entry_of s = λ i d name. sym (same.values (Entry (entry_at d name))) i in
     let parents : parent_of w ≡ parent_of s = λ i d. sym (same.values (Parent d)) i in
     let one : frame w ≡ frame s = same_plain (frame w) (frame s)
-    (λ d name. get-tidy w d name ∙ ap (option_map number_of) (sym (same.values (Entry d name))) ∙ sym (get-tidy s d name))
+    (λ d name. get-tidy w d name ∙ ap (option_map number_of) (sym (same.values (Entry (entry_at d name)))) ∙ sym (get-tidy s d name))
     (λ d. contains-parent w ws.root_is d ∙ ap (λ o. (d == 1) || is_some o) (sym (same.values (Parent d))) ∙ sym (contains-parent s places.root d)) (λ i. refl) (λ f. refl) in
     record {
       root_is = places.root;

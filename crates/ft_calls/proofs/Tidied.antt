@@ -4,18 +4,20 @@ use Rattle.std.specs.Prelude.{T, ◌==◌, nat_lt}
 use Rattle.std.proofs.lemmas.Bool.{false≢true, ltb-true}
 use Rattle.std.specs.declared.cmp.Ordering.TheVariants.{Less, Equal, Greater}
 use Rattle.std.specs.Ordering.{nat_cmp, is_eq, eq_by_cmp, ordering_then}
-use Rattle.std.specs.Cmp.{IsTotalOrder, nat_cmp_total, on_total, then_total}
+use Rattle.std.specs.Cmp.{IsTotalOrder, nat_cmp_total}
 use Rattle.std.specs.Cmp.Lexicographic.{slice_cmp, nat_list_cmp_total}
 use Rattle.std.specs.List.{filter_map}
 use Rattle.std.specs.Option.{option_flatten, option_map, option_map_or, option_or}
 use Rattle.std.specs.FinMap.{find, get, contains_key, entries, entries_sorted, get-entries, get-empty, is_sorted, get-from_entries, same_map}
 use Rattle.std.specs.FinMap.Entries.{below_all}
-use Rattle.std.proofs.lemmas.Map.Lookups.{CmpEqualImpliesEq, exact_pairs, exact_unsigned, exact_bytes}
+use Rattle.std.proofs.lemmas.Map.Lookups.{exact_unsigned}
+use Rattle.ft_tree.specs.Entries.{entry_at, entry_cmp, entry_cmp_total, entry_cmp_exact}
+use Rattle.ft_tree.specs.declared.entry.Entry.{Entry as DirEntry}
 use Rattle.ft_tree.specs.declared.node.Node.{Node}
 use Rattle.ft_tree.specs.Nodes.{number_of}
 use Rattle.ft_tree.specs.declared.open_file.OpenFile.{OpenFile}
 use Rattle.ft_tree.specs.Cells.{Cells, DirCells, FileCells, Opens, no_dir, no_file, dir_names, dir_entry, filled, entry_of, parent_of, links_of, bytes_of, body_in, open_of, is_there, has_dir, is_open, has_file, HasDirPlace, HasFilePlace}
-use Rattle.ft_tree.specs.Plain.{EdgeKey, edge_cmp, PlainTree}
+use Rattle.ft_tree.specs.Plain.{PlainTree}
 use Rattle.ft_tree.specs.Tidy.{tidy, edges_at, edges_from, member, dirs_from, is_named, files_from, opens_from}
 use Rattle.ft_tree.specs.Sound.{AreSoundCells}
 use Rattle.ft_calls.proofs.Conjunction.{first, second}
@@ -23,12 +25,6 @@ use Rattle.ft_calls.proofs.Listed.{lesser}
 use Rattle.ft_calls.proofs.Places.{file_place-linked, body-place}
 use Rattle.ft_calls.proofs.Opens.{named-open}
 use Rattle.ft_calls.proofs.Free.{has_dir-parent}
-
-pub edge_total : IsTotalOrder edge_cmp
-edge_total = then_total (on_total (λ (e : EdgeKey). e.0) nat_cmp_total) (on_total (λ (e : EdgeKey). e.1) nat_list_cmp_total)
-
-pub edge_exact : CmpEqualImpliesEq edge_cmp
-edge_exact = exact_pairs nat_cmp (slice_cmp nat_cmp) exact_unsigned exact_bytes
 
 -- what tests as equal is Equal
 tied_from : (r : Ordering) → is_eq r ≡ true → r ≡ Equal
@@ -78,8 +74,8 @@ pub dir_names-find : (name : List ℕ) (x : DirCells) → find (slice_cmp nat_cm
 dir_names-find name x = filled-find name (entries x.entries) (entries_sorted x.entries) ∙ ap option_flatten (sym (get-entries x.entries name))
 
 -- the edges that the names of a directory make
-abbrev pub edges_named : ℕ → List (List ℕ × Node) → List (EdgeKey × ℕ)
-edges_named d names = map (λ x. ((d, x.0), number_of x.1)) names
+abbrev pub edges_named : ℕ → List (List ℕ × Node) → List (DirEntry × ℕ)
+edges_named d names = map (λ x. (entry_at d x.0, number_of x.1)) names
 
 -- the number of what is chosen
 pub number-cond : (b : Bool) (x y : Option Node) → option_map number_of (cond b x y) ≡ cond b (option_map number_of x) (option_map number_of y)
@@ -87,10 +83,10 @@ number-cond true x y = refl
 number-cond false x y = refl
 
 -- what is found among them
-pub edges_named-find : (e d : ℕ) (name : List ℕ) (names : List (List ℕ × Node)) → find edge_cmp (d, name) (edges_named e names) ≡ cond (eq_by_cmp nat_cmp d e) (option_map number_of (find (slice_cmp nat_cmp) name names)) None
+pub edges_named-find : (e d : ℕ) (name : List ℕ) (names : List (List ℕ × Node)) → find entry_cmp (entry_at d name) (edges_named e names) ≡ cond (eq_by_cmp nat_cmp d e) (option_map number_of (find (slice_cmp nat_cmp) name names)) None
 edges_named-find e d name [] = elim (eq_by_cmp nat_cmp d e) as (λ b. ◌≡◌ {A = Option ℕ} None (cond b None None)) [ true ↦ refl | false ↦ refl ]
 edges_named-find e d name (x ∷ names) =
-    ap (cond (eq_by_cmp edge_cmp (d, name) (e, x.0)) (Some (number_of x.1))) (edges_named-find e d name names)
+    ap (cond (eq_by_cmp entry_cmp (entry_at d name) (entry_at e x.0)) (Some (number_of x.1))) (edges_named-find e d name names)
     ∙ elim (nat_cmp d e) as (λ r. cond (is_eq (ordering_then r (slice_cmp nat_cmp name x.0))) (Some (number_of x.1)) (cond (is_eq r) (option_map number_of (find (slice_cmp nat_cmp) name names)) None)
     ≡ cond (is_eq r) (option_map number_of (cond (eq_by_cmp (slice_cmp nat_cmp) name x.0) (Some x.1) (find (slice_cmp nat_cmp) name names))) None) [
       | Less ↦ refl
@@ -99,10 +95,10 @@ edges_named-find e d name (x ∷ names) =
     ]
 
 -- what is found among the edges of all directories
-edges_from-find : (d : ℕ) (name : List ℕ) (es : List (ℕ × DirCells)) → T (is_sorted nat_cmp es) → find edge_cmp (d, name) (edges_from es) ≡ option_map number_of (dir_entry (unwrap_or (find nat_cmp d es) no_dir) name)
+edges_from-find : (d : ℕ) (name : List ℕ) (es : List (ℕ × DirCells)) → T (is_sorted nat_cmp es) → find entry_cmp (entry_at d name) (edges_from es) ≡ option_map number_of (dir_entry (unwrap_or (find nat_cmp d es) no_dir) name)
 edges_from-find d name [] h = ap (option_map number_of) (sym (entry-no_dir name))
 edges_from-find d name (e ∷ es) h =
-    find-append edge_cmp edge_total (d, name) (edges_at e) (edges_from es)
+    find-append entry_cmp entry_cmp_total (entry_at d name) (edges_at e) (edges_from es)
     ∙ (λ i. option_or ((edges_named-find e.0 d name (dir_names e.1) ∙ ap (λ x. cond (eq_by_cmp nat_cmp d e.0) (option_map number_of x) None) (dir_names-find name e.1)) i) (edges_from-find d name es (second _ _ h) i))
     ∙ by_tie (eq_by_cmp nat_cmp d e.0) refl
   where
@@ -115,9 +111,9 @@ edges_from-find d name (e ∷ es) h =
     by_tie false is = refl
 
 -- an edge of the plain tree is an entry
-pub get-tidy : (cells : Cells) (d : ℕ) (name : List ℕ) → get (tidy cells).edges (d, name) ≡ option_map number_of (entry_of cells d name)
+pub get-tidy : (cells : Cells) (d : ℕ) (name : List ℕ) → get (tidy cells).edges (entry_at d name) ≡ option_map number_of (entry_of cells d name)
 get-tidy cells d name =
-    get-from_entries edge_total (edges_from (entries cells.directories)) (d, name) ∙ edges_from-find d name (entries cells.directories) (entries_sorted cells.directories)
+    get-from_entries entry_cmp_total (edges_from (entries cells.directories)) (entry_at d name) ∙ edges_from-find d name (entries cells.directories) (entries_sorted cells.directories)
     ∙ ap (λ o. option_map number_of (dir_entry (unwrap_or o no_dir) name)) (sym (get-entries cells.directories d))
 
 -- The directories.
@@ -229,17 +225,17 @@ get-opens cells f =
     get-from_entries nat_cmp_total (opens_from (entries cells.opens)) f ∙ opens_from-find f (entries cells.opens) (entries_sorted cells.opens) ∙ ap option_flatten (sym (get-entries cells.opens f))
 
 -- members of sets have no value to differ in
-same_unit : (a b : Option (Unit {0})) → is_some a ≡ is_some b → a ≡ b
+pub same_unit : (a b : Option (Unit {0})) → is_some a ≡ is_some b → a ≡ b
 same_unit None None h = refl
 same_unit None (Some x) h = absurd (false≢true h)
 same_unit (Some x) None h = absurd (false≢true (sym h))
 same_unit (Some x) (Some y) h = refl
 
 -- plain trees with the same edges, directories, files and descriptions are one
-pub same_plain : (p q : PlainTree) → ((d : ℕ) (name : List ℕ) → get p.edges (d, name) ≡ get q.edges (d, name)) → ((d : ℕ) → contains_key p.dirs d ≡ contains_key q.dirs d)
+pub same_plain : (p q : PlainTree) → ((d : ℕ) (name : List ℕ) → get p.edges (entry_at d name) ≡ get q.edges (entry_at d name)) → ((d : ℕ) → contains_key p.dirs d ≡ contains_key q.dirs d)
     → ((i : ℕ) → get p.files i ≡ get q.files i) → ((f : ℕ) → get p.opens f ≡ get q.opens f) → p ≡ q
 same_plain p q same_edges same_dirs same_files same_opens =
-    let edges = same_map edge_total edge_exact p.edges q.edges (λ e. same_edges e.0 e.1) in
+    let edges = same_map entry_cmp_total entry_cmp_exact p.edges q.edges (λ e. same_edges e.dir e.name) in
     let dirs = same_map nat_cmp_total exact_unsigned p.dirs q.dirs (λ d. same_unit _ _ (same_dirs d)) in
     let files = same_map nat_cmp_total exact_unsigned p.files q.files same_files in
     let opens = same_map nat_cmp_total exact_unsigned p.opens q.opens same_opens in

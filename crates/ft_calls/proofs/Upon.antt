@@ -1,6 +1,7 @@
 -- What a call comes upon: the files that it may touch, and the names that it writes or takes away.
 use Rattle.std.proofs.Common.{◌≡◌, ◌⊎◌, ℕ, true, false, List, map, Some}
 use Rattle.ft_laws.specs.Lists.{Each, In}
+use Rattle.ft_tree.specs.Entries.{entry_at}
 use Rattle.ft_tree.specs.declared.cell.Cell.{Cell}
 use Rattle.ft_tree.specs.declared.cell.Cell.TheVariants.{Entry, Links, Fd}
 use Rattle.ft_tree.specs.declared.node.Node.TheVariants.{File as FileNode}
@@ -19,7 +20,7 @@ use Rattle.ft_calls.specs.Posix.{file_of, names_file}
 
 -- an entry or a description among those that are seen names file i
 pub data Sees (cells : Cells) (seen : List Cell) : ℕ → Type 0 where
-  sees_entry : (d : ℕ) (name : List ℕ) (i : ℕ) → In (Entry d name) seen → entry_of cells d name ≡ Some (FileNode i) → Sees cells seen i
+  sees_entry : (d : ℕ) (name : List ℕ) (i : ℕ) → In (Entry (entry_at d name)) seen → entry_of cells d name ≡ Some (FileNode i) → Sees cells seen i
   sees_open : (f : ℕ) (o : OpenFile) → In (Fd f) seen → open_of cells f ≡ Some o → Sees cells seen o.file
 
 -- the call with stamp k comes upon file i: it makes it, or sees its name

@@ -2,6 +2,7 @@
 use Rattle.std.proofs.Common.{◌≡◌, ℕ, Bool, true, false, cond, ◌||◌, List, Option, Some, None, is_some, refl, sym, ap, subst, ◌∙◌}
 use Rattle.std.specs.Prelude.{◌==◌, nat_lt}
 use Rattle.std.specs.Option.{option_map}
+use Rattle.ft_tree.specs.Entries.{entry_at}
 use Rattle.ft_tree.specs.declared.node.Node.{Node}
 use Rattle.ft_tree.specs.declared.cell.Cell.TheVariants.{Entry, Parent, Links, Bytes, Fd}
 use Rattle.ft_tree.specs.Nodes.{number_of}
@@ -32,14 +33,14 @@ module _ (old new : Cells) (sound : AreSoundCells old) (keeps : KeepsValues old 
 
   one_plain : tidy new ≡ tidy old
   one_plain = same_plain (tidy new) (tidy old)
-      (λ d name. get-tidy new d name ∙ ap (option_map number_of) (keeps.values (Entry d name)) ∙ sym (get-tidy old d name))
+      (λ d name. get-tidy new d name ∙ ap (option_map number_of) (keeps.values (Entry (entry_at d name))) ∙ sym (get-tidy old d name))
       (λ d. contains-parent new (keeps.places (Parent 1) sound.root_is) d ∙ ap (λ o. (d == 1) || is_some o) (keeps.values (Parent d)) ∙ sym (contains-parent old sound.root_is d))
       (λ i. get-files new i ∙ ap (λ b. cond b (body_in new i) None) (same_file i) ∙ same_bytes i ∙ sym (get-files old i))
       (λ f. get-opens new f ∙ keeps.values (Fd f) ∙ sym (get-opens old f))
 
   still_sound : AreSoundCells new
   still_sound =
-      let entries : entry_of new ≡ entry_of old = λ i d name. keeps.values (Entry d name) i in
+      let entries : entry_of new ≡ entry_of old = λ i d name. keeps.values (Entry (entry_at d name)) i in
       let parents : parent_of new ≡ parent_of old = λ i d. keeps.values (Parent d) i in
       record {
         root_is = keeps.places (Parent 1) sound.root_is;

@@ -4,6 +4,7 @@ use Rattle.std.specs.Prelude.{◌==◌}
 use Rattle.std.proofs.lemmas.Bool.{false≢true}
 use Rattle.ft_path.specs.Name.{is_dot, is_dot_dot}
 use Rattle.ft_path.specs.declared.errno.Errno.{Errno}
+use Rattle.ft_tree.specs.Entries.{entry_at}
 use Rattle.ft_tree.specs.declared.cell.Cell.TheVariants.{Entry, Parent}
 use Rattle.ft_tree.specs.declared.node.Node.{Node}
 use Rattle.ft_tree.specs.declared.node.Node.TheVariants.{Dir as DirNode, File as FileNode}
@@ -16,7 +17,7 @@ use Rattle.ft_tree.specs.Sound.{Hangs, the_root, under, IsTree}
 module _ (cells : Cells) where
   -- a spot as a walk finds it: its directory is in the tree, and a name leads to its entry there
   abbrev pub IsSpot : Spot → Type 0
-  IsSpot (Named d name x) = Hangs (parent_of cells) d × (x ≡ entry_of cells d name)
+  IsSpot (Named entry x) = Hangs (parent_of cells) entry.dir × (x ≡ entry_of cells entry.dir entry.name)
   IsSpot (Itself d) = Hangs (parent_of cells) d
 
   -- what a walk answers is such a spot, or an error
@@ -48,9 +49,9 @@ module _ (cells : Cells) where
     -- a component that is not the last leads to a directory of the tree
     inner-goes : (d : ℕ) (name : List ℕ) → Hangs (parent_of cells) d → GoesWell (answer (inner d name) (view_of cells))
     inner-goes d name h =
-        elim (is_dot name) as (λ b. GoesWell (answer (cond b (Answer (Ok d)) (cond (is_dot_dot name) (then (up d) (λ p. Answer (Ok p))) (Look (Entry d name) (λ x. Answer (passed x))))) (view_of cells))) [
+        elim (is_dot name) as (λ b. GoesWell (answer (cond b (Answer (Ok d)) (cond (is_dot_dot name) (then (up d) (λ p. Answer (Ok p))) (Look (Entry (entry_at d name)) (λ x. Answer (passed x))))) (view_of cells))) [
           | true ↦ h
-          | false ↦ elim (is_dot_dot name) as (λ b. GoesWell (answer (cond b (then (up d) (λ p. Answer (Ok p))) (Look (Entry d name) (λ x. Answer (passed x)))) (view_of cells))) [
+          | false ↦ elim (is_dot_dot name) as (λ b. GoesWell (answer (cond b (then (up d) (λ p. Answer (Ok p))) (Look (Entry (entry_at d name)) (λ x. Answer (passed x)))) (view_of cells))) [
             | true ↦ subst GoesWell (sym (answer-then (up d) (λ p. Answer (Ok p)) (view_of cells))) (up-hangs d h)
             | false ↦ passed-goes d name (entry_of cells d name) refl h
           ]
@@ -66,9 +67,9 @@ module _ (cells : Cells) where
     -- the last component ends in the tree
     last-ends : (d : ℕ) (name : List ℕ) (trailing : Bool) → Hangs (parent_of cells) d → EndsWell (answer (last d name trailing) (view_of cells))
     last-ends d name trailing h =
-        elim (is_dot name) as (λ b. EndsWell (answer (cond b (Answer (Ok (Itself d))) (cond (is_dot_dot name) (then (up d) (λ p. Answer (Ok (Itself p)))) (Look (Entry d name) (λ x. Answer (reached d name trailing x))))) (view_of cells))) [
+        elim (is_dot name) as (λ b. EndsWell (answer (cond b (Answer (Ok (Itself d))) (cond (is_dot_dot name) (then (up d) (λ p. Answer (Ok (Itself p)))) (Look (Entry (entry_at d name)) (λ x. Answer (reached d name trailing x))))) (view_of cells))) [
           | true ↦ h
-          | false ↦ elim (is_dot_dot name) as (λ b. EndsWell (answer (cond b (then (up d) (λ p. Answer (Ok (Itself p)))) (Look (Entry d name) (λ x. Answer (reached d name trailing x)))) (view_of cells))) [
+          | false ↦ elim (is_dot_dot name) as (λ b. EndsWell (answer (cond b (then (up d) (λ p. Answer (Ok (Itself p)))) (Look (Entry (entry_at d name)) (λ x. Answer (reached d name trailing x)))) (view_of cells))) [
             | true ↦ subst EndsWell (sym (answer-then (up d) (λ p. Answer (Ok (Itself p))) (view_of cells))) (up-hangs d h)
             | false ↦ reached-ends d name trailing _ refl h
           ]

@@ -4,6 +4,7 @@ use Rattle.std.specs.Prelude.{◌==◌}
 use Rattle.ft_laws.specs.Lists.{Each, In}
 use Rattle.ft_path.specs.Name.{is_dot, is_dot_dot}
 use Rattle.ft_path.specs.declared.errno.Errno.{Errno}
+use Rattle.ft_tree.specs.Entries.{entry_at}
 use Rattle.ft_tree.specs.declared.cell.Cell.{Cell}
 use Rattle.ft_tree.specs.declared.cell.Cell.TheVariants.{Entry, Parent}
 use Rattle.ft_tree.specs.declared.node.Node.{Node}
@@ -48,13 +49,13 @@ module _ (cells : Cells) where
   inner-meets : (d : ℕ) (name : List ℕ) → MeetsNone (inner d name)
   inner-meets d name =
       either-meets (is_dot name) (Answer (Ok d)) _ tt
-      (either-meets (is_dot_dot name) (then (up d) (λ p. Answer (Ok p))) (Look (Entry d name) (λ x. Answer (passed x))) (then-meets (up d) (λ p. Answer (Ok p)) (up-meets d) (λ p. tt)) (refl, tt))
+      (either-meets (is_dot_dot name) (then (up d) (λ p. Answer (Ok p))) (Look (Entry (entry_at d name)) (λ x. Answer (passed x))) (then-meets (up d) (λ p. Answer (Ok p)) (up-meets d) (λ p. tt)) (refl, tt))
 
   -- and so does the last
   last-meets : (d : ℕ) (name : List ℕ) (trailing : Bool) → MeetsNone (last d name trailing)
   last-meets d name trailing =
       either-meets (is_dot name) (Answer (Ok (Itself d))) _ tt
-      (either-meets (is_dot_dot name) (then (up d) (λ p. Answer (Ok (Itself p)))) (Look (Entry d name) (λ x. Answer (reached d name trailing x))) (then-meets (up d) (λ p. Answer (Ok (Itself p))) (up-meets d) (λ p. tt)) (refl, tt))
+      (either-meets (is_dot_dot name) (then (up d) (λ p. Answer (Ok (Itself p)))) (Look (Entry (entry_at d name)) (λ x. Answer (reached d name trailing x))) (then-meets (up d) (λ p. Answer (Ok (Itself p))) (up-meets d) (λ p. tt)) (refl, tt))
 
   -- and so does each behind it
   walk_from-meets : (names : List (List ℕ)) (d : ℕ) (name : List ℕ) (trailing : Bool) → MeetsNone (walk_from d name names trailing)
@@ -78,7 +79,7 @@ module _ (cells : Cells) where
   module _ (seen : List Cell) where
     -- a spot whose entry is seen, with what it leads to
     abbrev pub IsFound : Spot → Type 0
-    IsFound (AtName d name x) = In (Entry d name) seen × (entry_of cells d name ≡ x)
+    IsFound (AtName entry x) = In (Entry entry) seen × (entry_of cells entry.dir entry.name ≡ x)
     IsFound (Itself d) = Unit {0}
 
     -- such a spot, or an error
@@ -106,7 +107,7 @@ module _ (cells : Cells) where
     or_else-finds go each (Err e) = λ all. tt
 
     -- what a last name leads to
-    reached-found : (d : ℕ) (name : List ℕ) (trailing : Bool) (x : Option Node) → In (Entry d name) seen → entry_of cells d name ≡ x → EndsFound (reached d name trailing x)
+    reached-found : (d : ℕ) (name : List ℕ) (trailing : Bool) (x : Option Node) → In (Entry (entry_at d name)) seen → entry_of cells d name ≡ x → EndsFound (reached d name trailing x)
     reached-found d name true None at is = (at, is)
     reached-found d name true (Some (DirNode i)) at is = (at, is)
     reached-found d name true (Some (FileNode i)) at is = tt
@@ -116,7 +117,7 @@ module _ (cells : Cells) where
     last-finds : (d : ℕ) (name : List ℕ) (trailing : Bool) → Finds (last d name trailing)
     last-finds d name trailing =
         either-finds (is_dot name) (Answer (Ok (Itself d))) _ (λ all. tt)
-        (either-finds (is_dot_dot name) (then (up d) (λ p. Answer (Ok (Itself p)))) (Look (Entry d name) (λ x. Answer (reached d name trailing x)))
+        (either-finds (is_dot_dot name) (then (up d) (λ p. Answer (Ok (Itself p)))) (Look (Entry (entry_at d name)) (λ x. Answer (reached d name trailing x)))
         (then-finds (up d) (λ p. Answer (Ok (Itself p))) (λ p all. tt)) (λ all. reached-found d name trailing (entry_of cells d name) all.0 refl))
 
     -- behind the other ones

@@ -5,6 +5,7 @@ use Rattle.std.proofs.lemmas.Bool.{false≢true}
 use Rattle.std.proofs.lemmas.Option.{none-some, same_Some}
 use Rattle.ft_laws.specs.Lists.{Each, In}
 use Rattle.ft_laws.proofs.Lists.{Each-at}
+use Rattle.ft_tree.specs.Entries.{entry_at}
 use Rattle.ft_tree.specs.declared.cell.Cell.{Cell}
 use Rattle.ft_tree.specs.declared.cell.Cell.TheVariants.{Entry, Names, Parent, Links, Bytes, Fd}
 use Rattle.ft_tree.specs.declared.node.Node.{Node}
@@ -28,13 +29,13 @@ Empties x i w = (written_cell w ≡ x) × (names_file w.cell w.value i ≡ false
 
 -- an entry that names file i before a cell is set, and not after it, is that cell
 entry-lost : (cells : Cells) (c : Cell) (to : Holds c) (e : ℕ) (other : List ℕ) (i : ℕ) → node_names (entry_of cells e other) i ≡ true → node_names (entry_of (set_cell cells c to) e other) i ≡ false
-    → Empties (Entry e other) i (sets c to)
-entry-lost cells (Entry d name) to e other i was gone = by_place (is_place d name e other) refl (sym (ap (λ x. node_names x i) (entry-put_entry cells d name to e other)) ∙ gone)
+    → Empties (Entry (entry_at e other)) i (sets c to)
+entry-lost cells (Entry entry) to e other i was gone = by_place (is_place entry.dir entry.name e other) refl (sym (ap (λ x. node_names x i) (entry-put_entry cells entry.dir entry.name to e other)) ∙ gone)
   where
-    by_place : (b : Bool) → is_place d name e other ≡ b → node_names (cond b to (entry_of cells e other)) i ≡ false → Empties (Entry e other) i (sets (Entry d name) to)
+    by_place : (b : Bool) → is_place entry.dir entry.name e other ≡ b → node_names (cond b to (entry_of cells e other)) i ≡ false → Empties (Entry (entry_at e other)) i (sets (Entry entry) to)
     by_place true is gone =
-        let at = same_place d e name other is in
-        let here : Entry e other ≡ Entry d name = λ x. Entry (at.0 x) (at.1 x) in
+        let at = same_place entry.dir e entry.name other is in
+        let here : Entry (entry_at e other) ≡ Entry entry = λ x. Entry (entry_at (at.0 x) (at.1 x)) in
         (sym here, gone)
     by_place false is gone = absurd (false≢true (sym gone ∙ was))
 entry-lost cells (Names d) to e other i was gone = absurd (false≢true (sym gone ∙ was))
@@ -45,7 +46,7 @@ entry-lost cells (Fd f) to e other i was gone = absurd (false≢true (sym gone �
 
 -- and so is a description
 open-lost : (cells : Cells) (c : Cell) (to : Holds c) (g i : ℕ) → description_names (open_of cells g) i ≡ true → description_names (open_of (set_cell cells c to) g) i ≡ false → Empties (Fd g) i (sets c to)
-open-lost cells (Entry d name) to g i was gone = absurd (false≢true (sym gone ∙ was))
+open-lost cells (Entry entry) to g i was gone = absurd (false≢true (sym gone ∙ was))
 open-lost cells (Names d) to g i was gone = absurd (false≢true (sym gone ∙ was))
 open-lost cells (Parent d) p g i was gone = absurd (false≢true (sym gone ∙ was))
 open-lost cells (Links j) links g i was gone = absurd (false≢true (sym gone ∙ was))
@@ -58,7 +59,7 @@ open-lost cells (Fd f) to g i was gone = by_number (g == f) refl (sym (ap (λ x.
 
 -- a cell that names a file before a write, and not after it, is set by it
 one-lost : (cells : Cells) (w : Write) (x : Cell) (i : ℕ) → names_file x (held cells x) i ≡ true → names_file x (held (put cells w) x) i ≡ false → Empties x i w
-one-lost cells w (Entry e other) i was gone = entry-lost cells w.cell w.value e other i was gone
+one-lost cells w (Entry entry) i was gone = entry-lost cells w.cell w.value entry.dir entry.name i was gone
 one-lost cells w (Names d) i was gone = absurd (false≢true was)
 one-lost cells w (Parent d) i was gone = absurd (false≢true was)
 one-lost cells w (Links j) i was gone = absurd (false≢true was)
@@ -89,12 +90,12 @@ module _ (cells : Cells) where
 
   -- a file that is moved is named by its new entry
   pub moved-left : (d : ℕ) (name : List ℕ) (i e : ℕ) (other : List ℕ) (more : List Write) → is_place d name e other ≡ false → ((entry : ℕ → List ℕ → Option Node) → entry_after entry more ≡ entry)
-      → IsLeft cells (renamed d name (FileNode i) e other more).writes i
+      → IsLeft cells (renamed (entry_at d name) (FileNode i) (entry_at e other) more).writes i
   moved-left d name i e other more apart keeps =
-      let ws = (renamed d name (FileNode i) e other more).writes in
+      let ws = (renamed (entry_at d name) (FileNode i) (entry_at e other) more).writes in
       let moved : ℕ → List ℕ → Option Node = with_entry (with_entry (entry_of cells) e other (Some (FileNode i))) d name None in
       let here : moved e other ≡ Some (FileNode i) = λ x. cond (apart x) None (cond (own_place e other x) (Some (FileNode i)) (entry_of cells e other)) in
-      (Entry e other, inl refl, ap (λ f. node_names (f e other) i) (entry-put_all ws cells ∙ keeps moved) ∙ ap (λ o. node_names o i) here ∙ eq-eqb i i refl)
+      (Entry (entry_at e other), inl refl, ap (λ f. node_names (f e other) i) (entry-put_all ws cells ∙ keeps moved) ∙ ap (λ o. node_names o i) here ∙ eq-eqb i i refl)
 
 module _ (cells : Cells) (k : ℕ) (seen : List Cell) where
   -- a name of the file may go: its links are looked at, or the name is left in another cell
@@ -104,7 +105,7 @@ module _ (cells : Cells) (k : ℕ) (seen : List Cell) where
   -- one of all writes of a call: the file of its cell is come upon, and so is one that it names, and one that its cell named before may go
   pub data IsUpon (all : List Write) : Write → Type 0 where
     upon_entry : (d : ℕ) (name : List ℕ) (to : Option Node) → ((i : ℕ) → node_names to i ≡ true → Upon cells k seen i)
-        → ((i : ℕ) → node_names (entry_of cells d name) i ≡ true → node_names to i ≡ false → MayGo all i) → IsUpon all (sets (Entry d name) to)
+        → ((i : ℕ) → node_names (entry_of cells d name) i ≡ true → node_names to i ≡ false → MayGo all i) → IsUpon all (sets (Entry (entry_at d name)) to)
     upon_parent : (d : ℕ) (p : Option ℕ) → IsUpon all (sets (Parent d) p)
     upon_links : (i links : ℕ) → Upon cells k seen i → IsUpon all (sets (Links i) links)
     upon_bytes : (i : ℕ) (bytes : List ℕ) → Upon cells k seen i → IsUpon all (sets (Bytes i) bytes)
@@ -147,12 +148,12 @@ module _ (cells : Cells) (k : ℕ) (seen : List Cell) where
 
   -- an entry that named no file
   pub fills : (all : List Write) (d : ℕ) (name : List ℕ) (x to : Option Node) → entry_of cells d name ≡ x → ((i : ℕ) → node_names x i ≡ false) → ((i : ℕ) → node_names to i ≡ true → Upon cells k seen i)
-      → IsUpon all (sets (Entry d name) to)
+      → IsUpon all (sets (Entry (entry_at d name)) to)
   fills all d name x to is none names = upon_entry d name to names (λ i was gone. absurd (false≢true (sym (none i) ∙ sym (ap (λ o. node_names o i) is) ∙ was)))
 
   -- an entry of a file that may go
   pub frees : (all : List Write) (d : ℕ) (name : List ℕ) (j : ℕ) (to : Option Node) → entry_of cells d name ≡ Some (FileNode j) → MayGo all j → ((i : ℕ) → node_names to i ≡ true → Upon cells k seen i)
-      → IsUpon all (sets (Entry d name) to)
+      → IsUpon all (sets (Entry (entry_at d name)) to)
   frees all d name j to is may names = upon_entry d name to names (λ i was gone. of_same (MayGo all) j may i (sym (ap (λ o. node_names o i) is) ∙ was))
 
   -- a descriptor that was not open

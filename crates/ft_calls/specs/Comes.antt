@@ -32,7 +32,7 @@ reply_of cells (BytesOf file at len) = reply.Bytes (bytes_at (bytes_of cells fil
 
 -- the cell that is edited, with its new value
 abbrev pub write_of : Cells → Edit → Write
-write_of cells (Entry d name to) = sets (cell.Entry d name) to
+write_of cells (Entry entry to) = sets (cell.Entry entry) to
 write_of cells (Parent d to) = sets (cell.Parent d) to
 write_of cells (Links i to) = sets (cell.Links i) to
 write_of cells (Overwrite i at bytes) = sets (cell.Bytes i) (written (bytes_of cells i) at (fitting bytes.now at))

@@ -6,6 +6,7 @@ use Rattle.ft_path.specs.declared.path.LastName.TheVariants.{Absent, Dot, DotDot
 use Rattle.ft_path.specs.declared.path.Parts.{Parts}
 use Rattle.ft_path.specs.declared.errno.Errno.{Errno}
 use Rattle.ft_path.specs.declared.errno.Errno.TheVariants.{ENOENT, ENOTDIR, EEXIST, EINVAL, EBUSY, ENOTEMPTY}
+use Rattle.ft_tree.specs.declared.entry.Entry.{Entry as DirEntry}
 use Rattle.ft_tree.specs.declared.cell.Cell.TheVariants.{Entry, Names, Parent}
 use Rattle.ft_tree.specs.declared.node.Node.{Node}
 use Rattle.ft_tree.specs.declared.node.Node.TheVariants.{Dir as DirNode, File as FileNode}
@@ -17,19 +18,19 @@ use Rattle.ft_calls.specs.Outcomes.{sets, Outcome, failed, told, from_parts, unl
 
 -- mkdir (POSIX.1-2017, System Interfaces, mkdir): the directory gets the call's stamp as its number
 abbrev pub make_dir : ℕ → Spot → Looks Outcome
-make_dir stamp (Named dir name None) = Answer (record { reply = Done; writes = sets (Parent stamp) (Some dir) ∷ sets (Entry dir name) (Some (DirNode stamp)) ∷ [] })
-make_dir stamp (Named dir name (Some x)) = Answer (failed EEXIST)
+make_dir stamp (Named entry None) = Answer (record { reply = Done; writes = sets (Parent stamp) (Some entry.dir) ∷ sets (Entry entry) (Some (DirNode stamp)) ∷ [] })
+make_dir stamp (Named entry (Some x)) = Answer (failed EEXIST)
 make_dir stamp (Itself dir) = Answer (failed EEXIST)
 
 -- rmdir (POSIX.1-2017, System Interfaces, rmdir)
-abbrev pub if_empty : ℕ → List ℕ → ℕ → List (List ℕ × Node) → Outcome
-if_empty dir name number [] = record { reply = Done; writes = sets (Parent number) None ∷ sets (Entry dir name) None ∷ [] }
-if_empty dir name number (e ∷ es) = failed ENOTEMPTY
+abbrev pub if_empty : DirEntry → ℕ → List (List ℕ × Node) → Outcome
+if_empty entry number [] = record { reply = Done; writes = sets (Parent number) None ∷ sets (Entry entry) None ∷ [] }
+if_empty entry number (name ∷ names) = failed ENOTEMPTY
 
 abbrev pub remove_dir : Spot → Looks Outcome
-remove_dir (Named dir name None) = Answer (failed ENOENT)
-remove_dir (Named dir name (Some (FileNode number))) = Answer (failed ENOTDIR)
-remove_dir (Named dir name (Some (DirNode number))) = Look (Names number) (λ names. Answer (if_empty dir name number names))
+remove_dir (Named entry None) = Answer (failed ENOENT)
+remove_dir (Named entry (Some (FileNode number))) = Answer (failed ENOTDIR)
+remove_dir (Named entry (Some (DirNode number))) = Look (Names number) (λ names. Answer (if_empty entry number names))
 remove_dir (Itself dir) = Answer (failed EBUSY)
 
 -- what is wrong with the last component of the path of a directory to be removed, before any look-up: the root is busy, `.` is invalid, and `..` is not empty
@@ -48,7 +49,7 @@ abbrev pub list_names : ℕ → Looks Outcome
 list_names dir = Look (Names dir) (λ names. Answer (told (NamesReply (with_kinds names))))
 
 abbrev pub list_dir : Spot → Looks Outcome
-list_dir (Named dir name None) = Answer (failed ENOENT)
-list_dir (Named dir name (Some (FileNode number))) = Answer (failed ENOTDIR)
-list_dir (Named dir name (Some (DirNode number))) = list_names number
+list_dir (Named entry None) = Answer (failed ENOENT)
+list_dir (Named entry (Some (FileNode number))) = Answer (failed ENOTDIR)
+list_dir (Named entry (Some (DirNode number))) = list_names number
 list_dir (Itself dir) = list_names dir

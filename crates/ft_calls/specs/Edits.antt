@@ -19,7 +19,7 @@ use Rattle.ft_calls.specs.Comes.{write_of, writes_of}
 
 -- the cell that is edited
 abbrev pub edit_cell : Edit → Cell
-edit_cell (Entry d name to) = cell.Entry d name
+edit_cell (Entry entry to) = cell.Entry entry
 edit_cell (Parent d to) = cell.Parent d
 edit_cell (Links i to) = cell.Links i
 edit_cell (Overwrite i at bytes) = cell.Bytes i
@@ -48,7 +48,7 @@ edited cells (e ∷ es) = edited (put cells (write_of cells e)) es
 
 -- an edit can be made, if there is memory
 abbrev pub CanEdit : Cells → Edit → Type 0
-CanEdit cells (Entry d name to) = HasDirPlace cells d
+CanEdit cells (Entry entry to) = HasDirPlace cells entry.dir
 CanEdit cells (Parent d to) = Unit {0}
 CanEdit cells (Links i to) = Unit {0}
 CanEdit cells (Overwrite i at bytes) = HasFilePlace cells i × (at ≤ SIZE_LIMIT)

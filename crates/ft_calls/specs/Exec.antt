@@ -3,6 +3,8 @@ use Rattle.std.specs.Prelude.{ℕ, Bool, cond, ◌==◌, ◌||◌, List, [], ◌
 use Rattle.std.specs.List.{list_any}
 use Rattle.std.specs.Ordering.{nat_cmp}
 use Rattle.std.specs.FinMap as finite
+use Rattle.ft_tree.specs.declared.entry.Entry.{Entry as DirEntry}
+use Rattle.ft_tree.specs.Entries.{entry_cmp}
 use Rattle.ft_tree.specs.declared.node.Node.{Node}
 use Rattle.ft_tree.specs.declared.open_file.OpenFile.{OpenFile}
 use Rattle.ft_tree.specs.Nodes.{number_of}
@@ -10,14 +12,14 @@ use Rattle.ft_tree.specs.declared.cell.Cell.{Cell}
 use Rattle.ft_tree.specs.declared.cell.Cell.TheVariants.{Entry, Names, Parent, Links, Bytes, Fd}
 use Rattle.ft_tree.specs.Held.{Holds}
 use Rattle.ft_tree.specs.Looks.{answer}
-use Rattle.ft_tree.specs.Plain.{PlainTree, EdgeKey, edge_cmp, NumberSet, view_in}
+use Rattle.ft_tree.specs.Plain.{PlainTree, NumberSet, view_in}
 use Rattle.ft_calls.specs.declared.call.Call.{Call}
 use Rattle.ft_calls.specs.declared.call.Reply.{Reply}
 use Rattle.ft_calls.specs.Outcomes.{Write}
 use Rattle.ft_calls.specs.Steps.{steps}
 
 -- an edge is drawn, or taken away
-abbrev pub set_edge : finite.FinMap edge_cmp ℕ → EdgeKey → Option Node → finite.FinMap edge_cmp ℕ
+abbrev pub set_edge : finite.FinMap entry_cmp ℕ → DirEntry → Option Node → finite.FinMap entry_cmp ℕ
 set_edge edges e (Some x) = finite.insert edges e (number_of x)
 set_edge edges e None = finite.remove edges e
 
@@ -32,7 +34,7 @@ set_open opens f None = finite.remove opens f
 
 -- links are not kept: they are the count of the edges
 abbrev pub set_plain : PlainTree → (c : Cell) → Holds c → PlainTree
-set_plain p (Entry d name) to = record p { edges = set_edge p.edges (d, name) to }
+set_plain p (Entry entry) to = record p { edges = set_edge p.edges entry to }
 set_plain p (Names d) to = p
 set_plain p (Parent d) parent = record p { dirs = set_dir p.dirs d parent }
 set_plain p (Links i) links = p

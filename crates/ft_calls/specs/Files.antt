@@ -1,10 +1,11 @@
 -- What the calls on files look at, and what they come to.
-use Rattle.std.specs.Prelude.{ℕ, Bool, cond, not, ◌&&◌, nat_le, ℤ, pos, negsuc, length, List, [], ◌∷◌, Some, None, Result, Ok, Err}
+use Rattle.std.specs.Prelude.{ℕ, Bool, cond, not, ◌&&◌, nat_le, ℤ, pos, negsuc, length, [], ◌∷◌, Some, None, Result, Ok, Err}
 use Rattle.ft_body.specs.declared.TheConstants.{SIZE_LIMIT}
 use Rattle.ft_body.specs.Bytes.{resized}
 use Rattle.ft_path.specs.declared.path.Parts.{Parts}
 use Rattle.ft_path.specs.declared.errno.Errno.{Errno}
 use Rattle.ft_path.specs.declared.errno.Errno.TheVariants.{ENOENT, EEXIST, EINVAL, EISDIR, EFBIG}
+use Rattle.ft_tree.specs.declared.entry.Entry.{Entry as DirEntry}
 use Rattle.ft_tree.specs.declared.cell.Cell.TheVariants.{Entry, Links, Bytes, Fd}
 use Rattle.ft_tree.specs.declared.node.Kind.TheVariants.{Dir as DirKind, File as FileKind}
 use Rattle.ft_tree.specs.declared.node.Node.{Node}
@@ -24,10 +25,10 @@ abbrev pub description : OpenFlags → ℕ → OpenFile
 description flags file = record { file = file; access = flags.access; append = flags.append; offset = 0 }
 
 -- the descriptor gets the call's stamp as its number, and so does a file that is made
-abbrev pub creates : ℕ → OpenFlags → ℕ → List ℕ → Outcome
-creates stamp flags dir name = record {
+abbrev pub creates : ℕ → OpenFlags → DirEntry → Outcome
+creates stamp flags entry = record {
   reply = Number stamp;
-  writes = sets (Links stamp) 1 ∷ sets (Bytes stamp) [] ∷ sets (Fd stamp) (Some (description flags stamp)) ∷ sets (Entry dir name) (Some (FileNode stamp)) ∷ [];
+  writes = sets (Links stamp) 1 ∷ sets (Bytes stamp) [] ∷ sets (Fd stamp) (Some (description flags stamp)) ∷ sets (Entry entry) (Some (FileNode stamp)) ∷ [];
 }
 
 -- an existing file is cut to nothing, where that is asked
@@ -46,8 +47,8 @@ abbrev pub is_exclusive : OpenFlags → Bool
 is_exclusive flags = flags.create && flags.excl
 
 abbrev pub open_spot : ℕ → OpenFlags → Bool → Spot → Outcome
-open_spot stamp flags trailing (Named dir name None) = cond (flags.create && not trailing) (creates stamp flags dir name) (failed ENOENT)
-open_spot stamp flags trailing (Named dir name (Some x)) = cond (is_exclusive flags) (failed EEXIST) (open_node stamp flags x)
+open_spot stamp flags trailing (Named entry None) = cond (flags.create && not trailing) (creates stamp flags entry) (failed ENOENT)
+open_spot stamp flags trailing (Named entry (Some x)) = cond (is_exclusive flags) (failed EEXIST) (open_node stamp flags x)
 open_spot stamp flags trailing (Itself dir) = cond (is_exclusive flags) (failed EEXIST) (failed EISDIR)
 
 abbrev pub open_parts : ℕ → OpenFlags → Result Parts Errno → Looks Outcome
@@ -69,9 +70,9 @@ abbrev pub cut_file : ℕ → ℕ → Looks Outcome
 cut_file file size = Look (Bytes file) (λ bytes. Answer (record { reply = Done; writes = sets (Bytes file) (resized bytes size) ∷ [] }))
 
 abbrev pub truncate_spot : ℕ → Spot → Looks Outcome
-truncate_spot size (Named dir name None) = Answer (failed ENOENT)
-truncate_spot size (Named dir name (Some (DirNode file))) = Answer (failed EISDIR)
-truncate_spot size (Named dir name (Some (FileNode file))) = cut_file file size
+truncate_spot size (Named entry None) = Answer (failed ENOENT)
+truncate_spot size (Named entry (Some (DirNode file))) = Answer (failed EISDIR)
+truncate_spot size (Named entry (Some (FileNode file))) = cut_file file size
 truncate_spot size (Itself dir) = Answer (failed EISDIR)
 
 abbrev pub truncate_parts : ℤ → Result Parts Errno → Looks Outcome
@@ -87,7 +88,7 @@ abbrev pub file_info : ℕ → Looks Outcome
 file_info file = Look (Links file) (λ links. Look (Bytes file) (λ bytes. Answer (told (Info FileKind file links (length bytes)))))
 
 abbrev pub stat_spot : Spot → Looks Outcome
-stat_spot (Named dir name None) = Answer (failed ENOENT)
-stat_spot (Named dir name (Some (DirNode file))) = Answer (dir_info file)
-stat_spot (Named dir name (Some (FileNode file))) = file_info file
+stat_spot (Named entry None) = Answer (failed ENOENT)
+stat_spot (Named entry (Some (DirNode file))) = Answer (dir_info file)
+stat_spot (Named entry (Some (FileNode file))) = file_info file
 stat_spot (Itself dir) = Answer (dir_info dir)

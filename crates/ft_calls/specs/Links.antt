@@ -6,6 +6,7 @@ use Rattle.ft_path.specs.declared.path.LastName.TheVariants.{Absent, Dot, DotDot
 use Rattle.ft_path.specs.declared.path.Parts.{Parts}
 use Rattle.ft_path.specs.declared.errno.Errno.{Errno}
 use Rattle.ft_path.specs.declared.errno.Errno.TheVariants.{ENOENT, ENOTDIR, EEXIST, EISDIR, ENOTEMPTY, EINVAL, EPERM, EBUSY, EMLINK}
+use Rattle.ft_tree.specs.declared.entry.Entry.{Entry as DirEntry}
 use Rattle.ft_tree.specs.declared.cell.Cell.TheVariants.{Entry, Names, Parent, Links}
 use Rattle.ft_tree.specs.declared.node.Node.{Node}
 use Rattle.ft_tree.specs.declared.node.Node.TheVariants.{Dir as DirNode, File as FileNode}
@@ -18,21 +19,21 @@ use Rattle.ft_calls.specs.Outcomes.{Write, sets, Outcome, failed, told, from_par
 -- link (POSIX.1-2017, System Interfaces, link)
 
 -- a file has one more entry
-abbrev pub linked : ℕ → ℕ → List ℕ → ℕ → Outcome
-linked file dir name links = record { reply = Done; writes = sets (Entry dir name) (Some (FileNode file)) ∷ sets (Links file) (suc links) ∷ [] }
+abbrev pub linked : ℕ → DirEntry → ℕ → Outcome
+linked file new links = record { reply = Done; writes = sets (Entry new) (Some (FileNode file)) ∷ sets (Links file) (suc links) ∷ [] }
 
-abbrev pub link_at : ℕ → ℕ → List ℕ → ℕ → Outcome
-link_at file dir name links = cond (nat_lt links MOST_LINKS) (linked file dir name links) (failed EMLINK)
+abbrev pub link_at : ℕ → DirEntry → ℕ → Outcome
+link_at file new links = cond (nat_lt links MOST_LINKS) (linked file new links) (failed EMLINK)
 
 abbrev pub link_new : ℕ → Bool → Spot → Looks Outcome
-link_new file trailing (Named dir name None) = cond trailing (Answer (failed ENOENT)) (Look (Links file) (λ links. Answer (link_at file dir name links)))
-link_new file trailing (Named dir name (Some x)) = Answer (failed EEXIST)
+link_new file trailing (Named new None) = cond trailing (Answer (failed ENOENT)) (Look (Links file) (λ links. Answer (link_at file new links)))
+link_new file trailing (Named new (Some x)) = Answer (failed EEXIST)
 link_new file trailing (Itself dir) = Answer (failed EEXIST)
 
 abbrev pub link_old : Parts → Spot → Looks Outcome
-link_old new (Named dir name None) = Answer (failed ENOENT)
-link_old new (Named dir name (Some (DirNode file))) = Answer (failed EPERM)
-link_old new (Named dir name (Some (FileNode file))) = from_parts (Ok new) (link_new file new.trailing)
+link_old new (Named old None) = Answer (failed ENOENT)
+link_old new (Named old (Some (DirNode file))) = Answer (failed EPERM)
+link_old new (Named old (Some (FileNode file))) = from_parts (Ok new) (link_new file new.trailing)
 link_old new (Itself dir) = Answer (failed EPERM)
 
 abbrev pub link_parts : Result Parts Errno → Result Parts Errno → Looks Outcome
@@ -43,13 +44,13 @@ link_parts (Ok old) (Ok new) = from_parts (Ok old) (link_old new)
 -- unlink (POSIX.1-2017, System Interfaces, unlink)
 
 -- a file has one entry less
-abbrev pub unlinked : ℕ → List ℕ → ℕ → ℕ → Outcome
-unlinked dir name file links = record { reply = Done; writes = sets (Links file) (links - 1) ∷ sets (Entry dir name) None ∷ [] }
+abbrev pub unlinked : DirEntry → ℕ → ℕ → Outcome
+unlinked entry file links = record { reply = Done; writes = sets (Links file) (links - 1) ∷ sets (Entry entry) None ∷ [] }
 
 abbrev pub unlink_spot : Spot → Looks Outcome
-unlink_spot (Named dir name None) = Answer (failed ENOENT)
-unlink_spot (Named dir name (Some (DirNode file))) = Answer (failed EPERM)
-unlink_spot (Named dir name (Some (FileNode file))) = Look (Links file) (λ links. Answer (unlinked dir name file links))
+unlink_spot (Named entry None) = Answer (failed ENOENT)
+unlink_spot (Named entry (Some (DirNode file))) = Answer (failed EPERM)
+unlink_spot (Named entry (Some (FileNode file))) = Look (Links file) (λ links. Answer (unlinked entry file links))
 unlink_spot (Itself dir) = Answer (failed EPERM)
 
 -- rename (POSIX.1-2017, System Interfaces, rename)
@@ -79,43 +80,43 @@ climb (suc most) moved dir = cond (dir == moved) (Answer true) (cond (dir == 1) 
 abbrev pub unless_below : ℕ → ℕ → ℕ → Looks Outcome → Looks Outcome
 unless_below most moved into go = then (climb most moved into) (λ met. cond met (Answer (failed EINVAL)) go)
 
--- the old entry goes, and the new one, in the directory `into`, names what it named
-abbrev pub renamed : ℕ → List ℕ → Node → ℕ → List ℕ → List Write → Outcome
-renamed dir name node into other more = record { reply = Done; writes = sets (Entry into other) (Some node) ∷ sets (Entry dir name) None ∷ more }
+-- the old entry goes, and the new one names what it named
+abbrev pub renamed : DirEntry → Node → DirEntry → List Write → Outcome
+renamed old node new more = record { reply = Done; writes = sets (Entry new) (Some node) ∷ sets (Entry old) None ∷ more }
 
 -- a directory has another parent where another one holds it
 abbrev pub with_parent : ℕ → ℕ → ℕ → List Write
 with_parent moved dir into = cond (dir == into) [] (sets (Parent moved) (Some into) ∷ [])
 
 -- what the new entry named before has one entry less, or is gone
-abbrev pub replace_file : ℕ → List ℕ → ℕ → ℕ → List ℕ → ℕ → Looks Outcome
-replace_file dir name moved into other replaced = Look (Links replaced) (λ links. Answer (renamed dir name (FileNode moved) into other (sets (Links replaced) (links - 1) ∷ [])))
+abbrev pub replace_file : DirEntry → ℕ → DirEntry → ℕ → Looks Outcome
+replace_file old moved new replaced = Look (Links replaced) (λ links. Answer (renamed old (FileNode moved) new (sets (Links replaced) (links - 1) ∷ [])))
 
-abbrev pub if_bare : ℕ → List ℕ → ℕ → ℕ → List ℕ → ℕ → List (List ℕ × Node) → Outcome
-if_bare dir name moved into other replaced [] = renamed dir name (DirNode moved) into other (sets (Parent replaced) None ∷ with_parent moved dir into)
-if_bare dir name moved into other replaced (entry ∷ entries) = failed ENOTEMPTY
+abbrev pub if_bare : DirEntry → ℕ → DirEntry → ℕ → List (List ℕ × Node) → Outcome
+if_bare old moved new replaced [] = renamed old (DirNode moved) new (sets (Parent replaced) None ∷ with_parent moved old.dir new.dir)
+if_bare old moved new replaced (name ∷ names) = failed ENOTEMPTY
 
-abbrev pub replace_dir : ℕ → List ℕ → ℕ → ℕ → List ℕ → ℕ → Looks Outcome
-replace_dir dir name moved into other replaced = Look (Names replaced) (λ names. Answer (if_bare dir name moved into other replaced names))
+abbrev pub replace_dir : DirEntry → ℕ → DirEntry → ℕ → Looks Outcome
+replace_dir old moved new replaced = Look (Names replaced) (λ names. Answer (if_bare old moved new replaced names))
 
 -- a file, to where the new path leads; the root and dots were refused before
-abbrev pub rename_file : ℕ → List ℕ → ℕ → Bool → Spot → Looks Outcome
-rename_file dir name moved trailing (Named into other None) = Answer (cond trailing (failed ENOTDIR) (renamed dir name (FileNode moved) into other []))
-rename_file dir name moved trailing (Named into other (Some (FileNode replaced))) = cond (moved == replaced) (Answer (told Done)) (replace_file dir name moved into other replaced)
-rename_file dir name moved trailing (Named into other (Some (DirNode replaced))) = Answer (failed EISDIR)
-rename_file dir name moved trailing (Itself into) = Answer (failed EBUSY)
+abbrev pub rename_file : DirEntry → ℕ → Bool → Spot → Looks Outcome
+rename_file old moved trailing (Named new None) = Answer (cond trailing (failed ENOTDIR) (renamed old (FileNode moved) new []))
+rename_file old moved trailing (Named new (Some (FileNode replaced))) = cond (moved == replaced) (Answer (told Done)) (replace_file old moved new replaced)
+rename_file old moved trailing (Named new (Some (DirNode replaced))) = Answer (failed EISDIR)
+rename_file old moved trailing (Itself into) = Answer (failed EBUSY)
 
 -- a directory
-abbrev pub rename_dir : ℕ → ℕ → List ℕ → ℕ → Spot → Looks Outcome
-rename_dir most dir name moved (Named into other None) = unless_below most moved into (Answer (renamed dir name (DirNode moved) into other (with_parent moved dir into)))
-rename_dir most dir name moved (Named into other (Some (FileNode replaced))) = Answer (failed ENOTDIR)
-rename_dir most dir name moved (Named into other (Some (DirNode replaced))) = cond (moved == replaced) (Answer (told Done)) (unless_below most moved into (replace_dir dir name moved into other replaced))
-rename_dir most dir name moved (Itself into) = Answer (failed EBUSY)
+abbrev pub rename_dir : ℕ → DirEntry → ℕ → Spot → Looks Outcome
+rename_dir most old moved (Named new None) = unless_below most moved new.dir (Answer (renamed old (DirNode moved) new (with_parent moved old.dir new.dir)))
+rename_dir most old moved (Named new (Some (FileNode replaced))) = Answer (failed ENOTDIR)
+rename_dir most old moved (Named new (Some (DirNode replaced))) = cond (moved == replaced) (Answer (told Done)) (unless_below most moved new.dir (replace_dir old moved new replaced))
+rename_dir most old moved (Itself into) = Answer (failed EBUSY)
 
 abbrev pub rename_old : ℕ → Parts → Spot → Looks Outcome
-rename_old most new (Named dir name None) = Answer (failed ENOENT)
-rename_old most new (Named dir name (Some (FileNode moved))) = from_parts (Ok new) (rename_file dir name moved new.trailing)
-rename_old most new (Named dir name (Some (DirNode moved))) = from_parts (Ok new) (rename_dir most dir name moved)
+rename_old most new (Named old None) = Answer (failed ENOENT)
+rename_old most new (Named old (Some (FileNode moved))) = from_parts (Ok new) (rename_file old moved new.trailing)
+rename_old most new (Named old (Some (DirNode moved))) = from_parts (Ok new) (rename_dir most old moved)
 rename_old most new (Itself dir) = Answer (failed EBUSY)
 
 abbrev pub rename_parts : ℕ → Result Parts Errno → Result Parts Errno → Looks Outcome

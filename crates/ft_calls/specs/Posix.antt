@@ -19,7 +19,7 @@ use Rattle.ft_calls.specs.Accesses.{is_write, accesses_of}
 
 -- an access to the names of a directory is one to each of its entries
 abbrev pub covers : Cell → Cell → Bool
-covers (Names d) (Entry e name) = d == e
+covers (Names d) (Entry entry) = d == entry.dir
 covers x y = same_cell x y
 
 -- a call with its stamp
@@ -38,7 +38,7 @@ pub record HasSoundValues (cells : Cells) : Type 0 where
 
 -- the file to which a cell belongs
 abbrev pub file_of : Cell → Option ℕ
-file_of (Entry d name) = None
+file_of (Entry entry) = None
 file_of (Names d) = None
 file_of (Parent d) = None
 file_of (Links i) = Some i
@@ -56,7 +56,7 @@ description_names (Some o) i = o.file == i
 
 -- an entry names its file, and a description the file that it has open
 abbrev pub names_file : (c : Cell) → Holds c → ℕ → Bool
-names_file (Entry d name) to i = node_names to i
+names_file (Entry entry) to i = node_names to i
 names_file (Names d) to i = false
 names_file (Parent d) to i = false
 names_file (Links j) to i = false

@@ -6,7 +6,7 @@ use Rattle.ft_calls.specs.declared.intent.Edit.TheVariants.{Entry, Parent, Links
 
 -- bytes and sizes that are edited are within the limit
 abbrev pub IsWithin : Edit → Type 0
-IsWithin (Entry d name to) = Unit {0}
+IsWithin (Entry entry to) = Unit {0}
 IsWithin (Parent d to) = Unit {0}
 IsWithin (Links i to) = Unit {0}
 IsWithin (Overwrite i at bytes) = at ≤ SIZE_LIMIT

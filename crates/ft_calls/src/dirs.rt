@@ -1,6 +1,7 @@
 // What the calls on directories come to.
 ghost use Rattle.std.specs.Prelude.{◌≡◌, [], Ok, Some};
 ghost use Rattle.ft_path.specs.FilePath.{parts_of};
+ghost use Rattle.ft_tree.specs.Entries.{entry_in};
 ghost use Rattle.ft_tree.specs.declared.node.Node.TheVariants.{Dir as DirNode};
 ghost use Rattle.ft_tree.specs.Walk.{Named, seen_at};
 ghost use Rattle.ft_calls.specs.Outcomes.{from_parts};
@@ -10,8 +11,8 @@ ghost use Rattle.ft_calls.specs.Intended.{intended};
 
 use crate::intent::{Edit, Edits, Stop, Told};
 use crate::look::{Look, text_parts};
-use ft_path::{Errno, FilePath, LastName, Name, Parts};
-use ft_tree::{Node, Spot};
+use ft_path::{Errno, FilePath, LastName, Parts};
+use ft_tree::{EntryRef, Node, Spot};
 use std::alloc::Global;
 
 /// Makes a directory, which gets the stamp as its number.
@@ -40,21 +41,15 @@ fn make_dir(
     requires { edits.old ≡ [] }
     ensures { Comes look.old (make_dir stamp (seen_at spot.entry)) look.new (intended edits.new result) }
 {
-    let Spot::Named {
-        dir,
-        name,
-        node: None,
-    } = spot
-    else {
+    let Spot::Named { entry, node: None } = spot else {
         return Err(Stop::Errno(Errno::EEXIST));
     };
     edits.push(Edit::Parent {
         dir: stamp,
-        to: Some(dir),
+        to: Some(entry.dir),
     })?;
     edits.push(Edit::Entry {
-        dir,
-        name: name.try_clone()?,
+        entry: entry.to_entry()?,
         to: Some(Node::Dir(stamp)),
     })?;
     Ok(Told::Done)
@@ -111,10 +106,9 @@ fn remove_dir(look: &mut Look<'_>, edits: &mut Edits<'_>, spot: Spot<'_>) -> Res
             ..
         } => Err(Stop::Errno(Errno::ENOTDIR)),
         Spot::Named {
-            dir,
-            name,
+            entry,
             node: Some(Node::Dir(number)),
-        } => remove_bare(look, edits, dir, name, number),
+        } => remove_bare(look, edits, entry, number),
     }
 }
 
@@ -122,12 +116,11 @@ fn remove_dir(look: &mut Look<'_>, edits: &mut Edits<'_>, spot: Spot<'_>) -> Res
 fn remove_bare(
     look: &mut Look<'_>,
     edits: &mut Edits<'_>,
-    dir: u64,
-    name: &Name,
+    entry: EntryRef<'_>,
     number: u64,
 ) -> Result<Told, Stop>
     requires { edits.old ≡ [] }
-    ensures { Comes look.old (remove_dir (Named dir name.now (Some (DirNode number)))) look.new (intended edits.new result) }
+    ensures { Comes look.old (remove_dir (Named (entry_in entry.entry) (Some (DirNode number)))) look.new (intended edits.new result) }
 {
     if !look.is_empty_dir(number)? {
         return Err(Stop::Errno(Errno::ENOTEMPTY));
@@ -137,8 +130,7 @@ fn remove_bare(
         to: None,
     })?;
     edits.push(Edit::Entry {
-        dir,
-        name: name.try_clone()?,
+        entry: entry.to_entry()?,
         to: None,
     })?;
     Ok(Told::Done)

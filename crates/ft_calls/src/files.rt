@@ -64,11 +64,7 @@ fn open_spot(
     ensures { Comes look.old (Answer (open_spot stamp flags trailing (seen_at spot.entry))) look.new (intended edits.new result) }
 {
     match spot {
-        Spot::Named {
-            dir,
-            name,
-            node: None,
-        } => {
+        Spot::Named { entry, node: None } => {
             if !flags.create || trailing {
                 return Err(Stop::Errno(Errno::ENOENT));
             }
@@ -82,8 +78,7 @@ fn open_spot(
                 to: Some(flags.description(stamp)),
             })?;
             edits.push(Edit::Entry {
-                dir,
-                name: name.try_clone()?,
+                entry: entry.to_entry()?,
                 to: Some(Node::File(stamp)),
             })?;
             Ok(Told::Number(stamp))

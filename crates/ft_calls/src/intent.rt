@@ -5,8 +5,8 @@ ghost use Rattle.ft_calls.specs.Within.{IsWithin, AreWithin};
 use crate::bytes::read_bytes;
 use crate::call::Reply;
 use ft_base::{Few, Memory};
-use ft_path::{Errno, Name};
-use ft_tree::{Kind, Node, OpenFile, Tree};
+use ft_path::Errno;
+use ft_tree::{Entry, Kind, Node, OpenFile, Tree};
 use std::alloc::Global;
 use std::marker::Model;
 
@@ -44,38 +44,18 @@ impl From<Errno> for Stop {
 /// One cell that is to get a new value. Bytes to be written are borrowed from the call.
 #[derive(Drop)]
 pub enum Edit<'c> {
-    /// What a name leads to in a directory.
-    Entry {
-        dir: u64,
-        name: Name,
-        to: Option<Node>,
-    },
+    /// What an entry leads to.
+    Entry { entry: Entry, to: Option<Node> },
     /// The directory that has a directory's entry.
-    Parent {
-        dir: u64,
-        to: Option<u64>,
-    },
+    Parent { dir: u64, to: Option<u64> },
     /// How many entries name a file.
-    Links {
-        file: u64,
-        to: u64,
-    },
+    Links { file: u64, to: u64 },
     /// Bytes of a file, those that have room from an offset on.
-    Overwrite {
-        file: u64,
-        at: u64,
-        bytes: &'c [u8],
-    },
+    Overwrite { file: u64, at: u64, bytes: &'c [u8] },
     /// The size of a file.
-    Resize {
-        file: u64,
-        size: u64,
-    },
+    Resize { file: u64, size: u64 },
     /// The open file description of a descriptor.
-    Open {
-        fd: u64,
-        to: Option<OpenFile>,
-    },
+    Open { fd: u64, to: Option<OpenFile> },
 }
 
 /// The edits of a call.

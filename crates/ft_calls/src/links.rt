@@ -1,12 +1,13 @@
 // What link, unlink and rename come to.
 ghost use Rattle.std.specs.Prelude.{◌≡◌, [], ◌++◌, Ok, OnOk};
 ghost use Rattle.ft_path.specs.FilePath.{parts_of};
+ghost use Rattle.ft_tree.specs.Entries.{entry_in};
 ghost use Rattle.ft_tree.specs.declared.node.Node.TheVariants.{Dir as DirNode};
 ghost use Rattle.ft_tree.specs.Cells.{Cells, stored_dirs};
 ghost use Rattle.ft_tree.specs.Looks.{Answer};
 ghost use Rattle.ft_tree.specs.Walk.{seen_at};
 ghost use Rattle.ft_calls.specs.Outcomes.{from_parts};
-ghost use Rattle.ft_calls.specs.Links.{link_at, link_new, link_old, link_parts, unlink_spot, rename_fault, renamed, with_parent, unless_below, replace_file, replace_dir, rename_file, rename_dir, rename_old, rename_parts};
+ghost use Rattle.ft_calls.specs.Links.{link_new, link_old, link_parts, unlink_spot, rename_fault, renamed, with_parent, unless_below, replace_file, replace_dir, rename_file, rename_dir, rename_old, rename_parts};
 ghost use Rattle.ft_calls.specs.declared.intent.Told.TheVariants.{Done};
 ghost use Rattle.ft_calls.specs.Comes.{writes_of, outcome_of, Comes};
 ghost use Rattle.ft_calls.specs.Intended.{intended};
@@ -15,8 +16,8 @@ use crate::MOST_LINKS;
 use crate::intent::{Edit, Edits, Stop, Told};
 use crate::look::{Look, text_parts};
 use ft_base::Memory;
-use ft_path::{Errno, FilePath, LastName, Name, Parts};
-use ft_tree::{Node, Spot};
+use ft_path::{Errno, FilePath, LastName, Parts};
+use ft_tree::{EntryRef, Node, Spot};
 use std::alloc::Global;
 
 /// Removes an entry of a file.
@@ -42,8 +43,7 @@ fn unlink_spot(look: &mut Look<'_>, edits: &mut Edits<'_>, spot: Spot<'_>) -> Re
     match spot {
         Spot::Named { node: None, .. } => Err(Stop::Errno(Errno::ENOENT)),
         Spot::Named {
-            dir,
-            name,
+            entry,
             node: Some(Node::File(file)),
         } => {
             let links = look.links(file)?;
@@ -52,8 +52,7 @@ fn unlink_spot(look: &mut Look<'_>, edits: &mut Edits<'_>, spot: Spot<'_>) -> Re
                 to: links.saturating_sub(1),
             })?;
             edits.push(Edit::Entry {
-                dir,
-                name: name.try_clone()?,
+                entry: entry.to_entry()?,
                 to: None,
             })?;
             Ok(Told::Done)
@@ -137,12 +136,7 @@ fn link_new(
     requires { edits.old ≡ [] }
     ensures { Comes look.old (link_new file trailing (seen_at spot.entry)) look.new (intended edits.new result) }
 {
-    let Spot::Named {
-        dir,
-        name,
-        node: None,
-    } = spot
-    else {
+    let Spot::Named { entry, node: None } = spot else {
         return Err(Stop::Errno(Errno::EEXIST));
     };
     if trailing {
@@ -153,8 +147,7 @@ fn link_new(
         return Err(Stop::Errno(Errno::EMLINK));
     }
     edits.push(Edit::Entry {
-        dir,
-        name: name.try_clone()?,
+        entry: entry.to_entry()?,
         to: Some(Node::File(file)),
     })?;
     edits.push(Edit::Links {
@@ -162,15 +155,6 @@ fn link_new(
         to: links + 1,
     })?;
     Ok(Told::Done)
-}
-
-/// An entry that is to go, and the one that is to name what it names.
-#[derive(Clone, Copy)]
-struct Renaming<'a> {
-    dir: u64,
-    name: &'a Name,
-    into: u64,
-    other: &'a Name,
 }
 
 /// Gives a file or a directory another name.
@@ -233,15 +217,13 @@ fn rename_old(
         Spot::Itself(_) => Err(Stop::Errno(Errno::EBUSY)),
         Spot::Named { node: None, .. } => Err(Stop::Errno(Errno::ENOENT)),
         Spot::Named {
-            dir,
-            name,
+            entry,
             node: Some(Node::File(file)),
-        } => { rename_file_to(look, edits, dir, name, file, new) }
+        } => rename_file_to(look, edits, entry, file, new),
         Spot::Named {
-            dir,
-            name,
+            entry,
             node: Some(Node::Dir(number)),
-        } => { rename_dir_to(look, edits, dir, name, number, new) }
+        } => rename_dir_to(look, edits, entry, number, new),
     }
 }
 
@@ -249,53 +231,40 @@ fn rename_old(
 fn rename_file_to(
     look: &mut Look<'_>,
     edits: &mut Edits<'_>,
-    dir: u64,
-    name: &Name,
+    old: EntryRef<'_>,
     file: u64,
     new: &Parts,
 ) -> Result<Told, Stop>
     requires { edits.old ≡ [] }
-    ensures { Comes look.old (from_parts (Ok new.now) (rename_file dir name.now file new.now.trailing)) look.new (intended edits.new result) }
+    ensures { Comes look.old (from_parts (Ok new.now) (rename_file (entry_in old.entry) file new.now.trailing)) look.new (intended edits.new result) }
 {
     let spot = look.walk(new)?;
-    rename_file(look, edits, dir, name, file, new.trailing, spot)
+    rename_file(look, edits, old, file, new.trailing, spot)
 }
 
 /// Moves the entry of a file to where a walk ended.
 fn rename_file(
     look: &mut Look<'_>,
     edits: &mut Edits<'_>,
-    dir: u64,
-    name: &Name,
+    old: EntryRef<'_>,
     file: u64,
     trailing: bool,
     spot: Spot<'_>,
 ) -> Result<Told, Stop>
     requires { edits.old ≡ [] }
-    ensures { Comes look.old (rename_file dir name.now file trailing (seen_at spot.entry)) look.new (intended edits.new result) }
+    ensures { Comes look.old (rename_file (entry_in old.entry) file trailing (seen_at spot.entry)) look.new (intended edits.new result) }
 {
-    let Spot::Named {
-        dir: into,
-        name: other,
-        node,
-    } = spot
-    else {
+    let Spot::Named { entry: new, node } = spot else {
         return Err(Stop::Errno(Errno::EBUSY));
-    };
-    let renaming = Renaming {
-        dir,
-        name,
-        into,
-        other,
     };
     match node {
         None if trailing => Err(Stop::Errno(Errno::ENOTDIR)),
         None => {
-            renamed(edits, renaming, Node::File(file))?;
+            renamed(edits, old, Node::File(file), new)?;
             Ok(Told::Done)
         }
         Some(Node::File(replaced)) if replaced == file => Ok(Told::Done),
-        Some(Node::File(replaced)) => replace_file(look, edits, renaming, file, replaced),
+        Some(Node::File(replaced)) => replace_file(look, edits, old, file, new, replaced),
         Some(Node::Dir(_)) => Err(Stop::Errno(Errno::EISDIR)),
     }
 }
@@ -304,15 +273,16 @@ fn rename_file(
 fn replace_file(
     look: &mut Look<'_>,
     edits: &mut Edits<'_>,
-    renaming: Renaming<'_>,
+    old: EntryRef<'_>,
     file: u64,
+    new: EntryRef<'_>,
     replaced: u64,
 ) -> Result<Told, Stop>
     requires { edits.old ≡ [] }
-    ensures { Comes look.old (replace_file renaming.entry.dir renaming.entry.name.now file renaming.entry.into renaming.entry.other.now replaced) look.new (intended edits.new result) }
+    ensures { Comes look.old (replace_file (entry_in old.entry) file (entry_in new.entry) replaced) look.new (intended edits.new result) }
 {
     let links = look.links(replaced)?;
-    renamed(edits, renaming, Node::File(file))?;
+    renamed(edits, old, Node::File(file), new)?;
     edits.push(Edit::Links {
         file: replaced,
         to: links.saturating_sub(1),
@@ -324,48 +294,35 @@ fn replace_file(
 fn rename_dir_to(
     look: &mut Look<'_>,
     edits: &mut Edits<'_>,
-    dir: u64,
-    name: &Name,
+    old: EntryRef<'_>,
     number: u64,
     new: &Parts,
 ) -> Result<Told, Stop>
     requires { edits.old ≡ [] }
-    ensures { Comes look.old (from_parts (Ok new.now) (rename_dir (stored_dirs look.old.cells) dir name.now number)) look.new (intended edits.new result) }
+    ensures { Comes look.old (from_parts (Ok new.now) (rename_dir (stored_dirs look.old.cells) (entry_in old.entry) number)) look.new (intended edits.new result) }
 {
     let spot = look.walk(new)?;
-    rename_dir(look, edits, dir, name, number, spot)
+    rename_dir(look, edits, old, number, spot)
 }
 
 /// Moves the entry of a directory to where a walk ended.
 fn rename_dir(
     look: &mut Look<'_>,
     edits: &mut Edits<'_>,
-    dir: u64,
-    name: &Name,
+    old: EntryRef<'_>,
     number: u64,
     spot: Spot<'_>,
 ) -> Result<Told, Stop>
     requires { edits.old ≡ [] }
-    ensures { Comes look.old (rename_dir (stored_dirs look.old.cells) dir name.now number (seen_at spot.entry)) look.new (intended edits.new result) }
+    ensures { Comes look.old (rename_dir (stored_dirs look.old.cells) (entry_in old.entry) number (seen_at spot.entry)) look.new (intended edits.new result) }
 {
-    let Spot::Named {
-        dir: into,
-        name: other,
-        node,
-    } = spot
-    else {
+    let Spot::Named { entry: new, node } = spot else {
         return Err(Stop::Errno(Errno::EBUSY));
     };
-    let renaming = Renaming {
-        dir,
-        name,
-        into,
-        other,
-    };
     match node {
-        None => move_dir(look, edits, number, renaming),
+        None => move_dir(look, edits, old, number, new),
         Some(Node::Dir(replaced)) if replaced == number => Ok(Told::Done),
-        Some(Node::Dir(replaced)) => replace_dir(look, edits, number, renaming, replaced),
+        Some(Node::Dir(replaced)) => replace_dir(look, edits, old, number, new, replaced),
         Some(Node::File(_)) => Err(Stop::Errno(Errno::ENOTDIR)),
     }
 }
@@ -375,17 +332,18 @@ fn rename_dir(
 fn move_dir(
     look: &mut Look<'_>,
     edits: &mut Edits<'_>,
+    old: EntryRef<'_>,
     number: u64,
-    renaming: Renaming<'_>,
+    new: EntryRef<'_>,
 ) -> Result<Told, Stop>
     requires { edits.old ≡ [] }
-    ensures { Comes look.old (unless_below (stored_dirs look.old.cells) number renaming.entry.into (Answer (renamed renaming.entry.dir renaming.entry.name.now (DirNode number) renaming.entry.into renaming.entry.other.now (with_parent number renaming.entry.dir renaming.entry.into)))) look.new (intended edits.new result) }
+    ensures { Comes look.old (unless_below (stored_dirs look.old.cells) number new.entry.dir (Answer (renamed (entry_in old.entry) (DirNode number) (entry_in new.entry) (with_parent number old.entry.dir new.entry.dir)))) look.new (intended edits.new result) }
 {
-    if look.climb(number, renaming.into)? {
+    if look.climb(number, new.dir)? {
         return Err(Stop::Errno(Errno::EINVAL));
     }
-    renamed(edits, renaming, Node::Dir(number))?;
-    with_parent(edits, number, renaming)?;
+    renamed(edits, old, Node::Dir(number), new)?;
+    with_parent(edits, number, old.dir, new.dir)?;
     Ok(Told::Done)
 }
 
@@ -394,70 +352,75 @@ fn move_dir(
 fn replace_dir(
     look: &mut Look<'_>,
     edits: &mut Edits<'_>,
+    old: EntryRef<'_>,
     number: u64,
-    renaming: Renaming<'_>,
+    new: EntryRef<'_>,
     replaced: u64,
 ) -> Result<Told, Stop>
     requires { edits.old ≡ [] }
-    ensures { Comes look.old (unless_below (stored_dirs look.old.cells) number renaming.entry.into (replace_dir renaming.entry.dir renaming.entry.name.now number renaming.entry.into renaming.entry.other.now replaced)) look.new (intended edits.new result) }
+    ensures { Comes look.old (unless_below (stored_dirs look.old.cells) number new.entry.dir (replace_dir (entry_in old.entry) number (entry_in new.entry) replaced)) look.new (intended edits.new result) }
 {
-    if look.climb(number, renaming.into)? {
+    if look.climb(number, new.dir)? {
         return Err(Stop::Errno(Errno::EINVAL));
     }
-    replace_empty(look, edits, number, renaming, replaced)
+    replace_empty(look, edits, old, number, new, replaced)
 }
 
 /// Moves the entry of a directory to that of an empty one, which is gone then.
 fn replace_empty(
     look: &mut Look<'_>,
     edits: &mut Edits<'_>,
+    old: EntryRef<'_>,
     number: u64,
-    renaming: Renaming<'_>,
+    new: EntryRef<'_>,
     replaced: u64,
 ) -> Result<Told, Stop>
     requires { edits.old ≡ [] }
-    ensures { Comes look.old (replace_dir renaming.entry.dir renaming.entry.name.now number renaming.entry.into renaming.entry.other.now replaced) look.new (intended edits.new result) }
+    ensures { Comes look.old (replace_dir (entry_in old.entry) number (entry_in new.entry) replaced) look.new (intended edits.new result) }
 {
     if !look.is_empty_dir(replaced)? {
         return Err(Stop::Errno(Errno::ENOTEMPTY));
     }
-    renamed(edits, renaming, Node::Dir(number))?;
+    renamed(edits, old, Node::Dir(number), new)?;
     edits.push(Edit::Parent {
         dir: replaced,
         to: None,
     })?;
-    with_parent(edits, number, renaming)?;
+    with_parent(edits, number, old.dir, new.dir)?;
     Ok(Told::Done)
 }
 
 /// The new entry names what the old one named, and that one is gone.
-fn renamed(edits: &mut Edits<'_>, renaming: Renaming<'_>, node: Node) -> Result<(), Memory>
+fn renamed(
+    edits: &mut Edits<'_>,
+    old: EntryRef<'_>,
+    node: Node,
+    new: EntryRef<'_>,
+) -> Result<(), Memory>
     requires { edits.old ≡ [] }
-    ensures { (cells : Cells) → OnOk result (outcome_of cells (record { told = Done; edits = edits.new }) ≡ renamed renaming.entry.dir renaming.entry.name.now node renaming.entry.into renaming.entry.other.now []) }
+    ensures { (cells : Cells) → OnOk result (outcome_of cells (record { told = Done; edits = edits.new }) ≡ renamed (entry_in old.entry) node (entry_in new.entry) []) }
 {
     edits.push(Edit::Entry {
-        dir: renaming.into,
-        name: renaming.other.try_clone()?,
+        entry: new.to_entry()?,
         to: Some(node),
     })?;
     edits.push(Edit::Entry {
-        dir: renaming.dir,
-        name: renaming.name.try_clone()?,
+        entry: old.to_entry()?,
         to: None,
     })?;
     Ok(())
 }
 
 /// A directory has another parent where another one holds it.
-fn with_parent(edits: &mut Edits<'_>, number: u64, renaming: Renaming<'_>) -> Result<(), Memory>
-    ensures { (cells : Cells) → OnOk result (writes_of cells edits.new ≡ writes_of cells edits.old ++ with_parent number renaming.entry.dir renaming.entry.into) }
+fn with_parent(edits: &mut Edits<'_>, number: u64, dir: u64, into: u64) -> Result<(), Memory>
+    ensures { (cells : Cells) → OnOk result (writes_of cells edits.new ≡ writes_of cells edits.old ++ with_parent number dir into) }
 {
-    if renaming.dir == renaming.into {
+    if dir == into {
         return Ok(());
     }
     edits.push(Edit::Parent {
         dir: number,
-        to: Some(renaming.into),
+        to: Some(into),
     })?;
     Ok(())
 }

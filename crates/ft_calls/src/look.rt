@@ -6,8 +6,6 @@ ghost use Rattle.ft_body.specs.declared.TheConstants.{SIZE_LIMIT};
 ghost use Rattle.ft_path.specs.FilePath.{parts_of};
 ghost use Rattle.ft_tree.specs.declared.cell.Cell.TheVariants.{Links, Names, Fd};
 ghost use Rattle.ft_tree.specs.Cells.{stored_dirs};
-ghost use Rattle.ft_tree.specs.Looks.{answer};
-ghost use Rattle.ft_tree.specs.Views.{view_of};
 ghost use Rattle.ft_tree.specs.Walk.{walk};
 ghost use Rattle.ft_calls.specs.Links.{climb};
 ghost use Rattle.ft_calls.specs.declared.call.Mode.TheVariants.{Write as WriteMode};
@@ -23,7 +21,7 @@ use crate::intent::{Edit, Edits, Stop};
 use crate::touched::Touched;
 use ft_base::Memory;
 use ft_path::{FilePath, Name, Parts, PartsFault};
-use ft_tree::{Cell, Node, OpenFile, ROOT, Reader, Spot, Tree, walk};
+use ft_tree::{Cell, EntryRef, Node, OpenFile, ROOT, Reader, Spot, Tree, walk};
 use std::alloc::Global;
 use std::marker::Model;
 
@@ -157,7 +155,7 @@ impl<'t> Reader for Look<'t> {
     ghost stays = { λ _ _. refl };
 
     fn entry(&mut self, dir: u64, name: &Name) -> Result<Option<Node>, Memory> {
-        self.touched.read_entry(dir, name)?;
+        self.touched.read_entry(EntryRef { dir, name })?;
         Ok(self.tree.entry(dir, name))
     }
 
@@ -193,7 +191,7 @@ fn note_edit(touched: &mut Touched, edit: &Edit<'_>) -> Result<(), Memory>
     ensures { OnOk result (touched.new ≡ finite.insert touched.old (edit_cell edit.now) WriteMode) }
 {
     match edit {
-        Edit::Entry { dir, name, .. } => touched.write_entry(*dir, name),
+        Edit::Entry { entry, .. } => touched.write_entry(entry.as_ref()),
         Edit::Parent { dir, .. } => touched.write(Cell::Parent(*dir)),
         Edit::Links { file, .. } => touched.write(Cell::Links(*file)),
         Edit::Overwrite { file, .. } | Edit::Resize { file, .. } => {

@@ -1,14 +1,14 @@
 // The cells that a call touches, as they are found out.
-ghost use Rattle.std.specs.Prelude.{◌≡◌, IfOk, OnOk};
+ghost use Rattle.std.specs.Prelude.{◌≡◌, OnOk};
 ghost use Rattle.std.specs.FinMap as finite;
+ghost use Rattle.ft_tree.specs.Entries.{entry_in};
 ghost use Rattle.ft_tree.specs.declared.cell.Cell.TheVariants.{Entry};
 ghost use Rattle.ft_calls.specs.declared.call.Mode.TheVariants.{Read as ReadMode, Write as WriteMode};
 ghost use Rattle.ft_calls.specs.Accesses.{listed, place_in, is_noted};
 
 use crate::call::{Access, Mode};
 use ft_base::Memory;
-use ft_path::Name;
-use ft_tree::Cell;
+use ft_tree::{Cell, EntryRef};
 use std::alloc::Global;
 use std::cmp::Ordering;
 use std::marker::Model;
@@ -56,10 +56,10 @@ impl Touched {
     }
 
     /// Notes that an entry is looked at.
-    pub(crate) fn read_entry(&mut self, dir: u64, name: &Name) -> Result<(), Memory>
-        ensures { OnOk result (self.new ≡ finite.insert self.old (Entry dir name.now) ReadMode) }
+    pub(crate) fn read_entry(&mut self, entry: EntryRef<'_>) -> Result<(), Memory>
+        ensures { OnOk result (self.new ≡ finite.insert self.old (Entry (entry_in entry.entry)) ReadMode) }
     {
-        self.note_entry(dir, name, Mode::Read)
+        self.note_entry(entry, Mode::Read)
     }
 
     /// Notes that a cell is given a value.
@@ -70,10 +70,10 @@ impl Touched {
     }
 
     /// Notes that an entry is given a value.
-    pub(crate) fn write_entry(&mut self, dir: u64, name: &Name) -> Result<(), Memory>
-        ensures { OnOk result (self.new ≡ finite.insert self.old (Entry dir name.now) WriteMode) }
+    pub(crate) fn write_entry(&mut self, entry: EntryRef<'_>) -> Result<(), Memory>
+        ensures { OnOk result (self.new ≡ finite.insert self.old (Entry (entry_in entry.entry)) WriteMode) }
     {
-        self.note_entry(dir, name, Mode::Write)
+        self.note_entry(entry, Mode::Write)
     }
 
     /// The accesses, in the order of their cells. Takes no memory.
@@ -98,15 +98,15 @@ impl Touched {
     }
 
     /// Notes how an entry is touched. Its name is copied only where it was not noted yet.
-    fn note_entry(&mut self, dir: u64, name: &Name, mode: Mode) -> Result<(), Memory>
-        ensures { OnOk result (self.new ≡ finite.insert self.old (Entry dir name.now) mode) }
+    fn note_entry(&mut self, entry: EntryRef<'_>, mode: Mode) -> Result<(), Memory>
+        ensures { OnOk result (self.new ≡ finite.insert self.old (Entry (entry_in entry.entry)) mode) }
     {
-        let (at, is_noted) = place_of_entry(self.list.as_slice(), dir, name);
+        let (at, is_noted) = place_of_entry(self.list.as_slice(), entry);
         if is_noted {
             self.list[at].mode = mode;
             return Ok(());
         }
-        let cell = Cell::Entry(dir, name.try_clone()?);
+        let cell = Cell::Entry(entry.to_entry()?);
         self.list.insert(at, Access { cell, mode })?;
         Ok(())
     }
@@ -129,13 +129,13 @@ fn place_of(list: &[Access], cell: &Cell) -> (usize, bool)
 }
 
 /// The same of an entry's cell.
-fn place_of_entry(list: &[Access], dir: u64, name: &Name) -> (usize, bool)
-    ensures place { result.0 ≡ place_in (Entry dir name.now) list.now }
-    ensures noted { result.1 ≡ is_noted (Entry dir name.now) list.now }
+fn place_of_entry(list: &[Access], entry: EntryRef<'_>) -> (usize, bool)
+    ensures place { result.0 ≡ place_in (Entry (entry_in entry.entry)) list.now }
+    ensures noted { result.1 ≡ is_noted (Entry (entry_in entry.entry)) list.now }
 {
     let mut at = 0;
     for access in list {
-        match access.cell.cmp_entry(dir, name) {
+        match access.cell.cmp_entry(entry) {
             Ordering::Less => return (at, false),
             Ordering::Equal => return (at, true),
             Ordering::Greater => at += 1,

@@ -47,7 +47,7 @@ two_rest false false c d h f = h
 
 -- what is known of a place, and locked at none of its cells, was let go
 let-go-rest : (t : LockTable) (c : Cell) → at_place (is_known t) c ≡ true → at_place (is_locked t) c ≡ false → at_place (is_let_go t) c ≡ true
-let-go-rest t (Entry d name) h f = one_rest (is_locked t (Entry d name)) (is_let_go t (Entry d name)) h f
+let-go-rest t (Entry entry) h f = one_rest (is_locked t (Entry entry)) (is_let_go t (Entry entry)) h f
 let-go-rest t (Names d) h f = two_rest (is_locked t (Names d)) (is_locked t (Parent d)) (is_let_go t (Names d)) (is_let_go t (Parent d)) h f
 let-go-rest t (Parent d) h f = two_rest (is_locked t (Names d)) (is_locked t (Parent d)) (is_let_go t (Names d)) (is_let_go t (Parent d)) h f
 let-go-rest t (Links i) h f = two_rest (is_locked t (Links i)) (is_locked t (Bytes i)) (is_let_go t (Links i)) (is_let_go t (Bytes i)) h f
@@ -95,9 +95,9 @@ no-file : (i : ℕ) → is_useless fresh_cells (Links i) ≡ false
 no-file i = ap (λ (o : Option FileCells). is_some o && not (has_file fresh_cells i)) (finite.get-empty {X = FileCells} nat_cmp i)
 
 fresh-none : (c : Cell) → is_useless fresh_cells c ≡ false
-fresh-none (Entry d name) =
-    ap (λ (x : DirCells). finite.contains_key x.entries name && is_none (option_flatten (finite.get x.entries name))) (fresh-dir d)
-    ∙ ap (λ (o : Option (Option Node)). is_some o && is_none (option_flatten o)) (finite.get-empty {X = Option Node} (slice_cmp nat_cmp) name)
+fresh-none (Entry entry) =
+    ap (λ (x : DirCells). finite.contains_key x.entries entry.name && is_none (option_flatten (finite.get x.entries entry.name))) (fresh-dir entry.dir)
+    ∙ ap (λ (o : Option (Option Node)). is_some o && is_none (option_flatten o)) (finite.get-empty {X = Option Node} (slice_cmp nat_cmp) entry.name)
 fresh-none (Names d) = no-directory d
 fresh-none (Parent d) = no-directory d
 fresh-none (Links i) = no-file i
@@ -156,7 +156,7 @@ pub swept-accounted : (t t' : LockTable) (cells : Cells) → t'.lines ≡ t.line
 swept-accounted t t' cells same none c spare = absurd (false≢true (sym (none c) ∙ ap (λ s. is_spare (λ x. list_any (λ (l : LockLine). same_cell l.cell x) (set.items s)) cells c) (sym same) ∙ spare))
 
 none-locked : (p : Cell → Bool) → ((c : Cell) → p c ≡ false) → (c : Cell) → at_place p c ≡ false
-none-locked p none (Entry d name) = none (Entry d name)
+none-locked p none (Entry entry) = none (Entry entry)
 none-locked p none (Names d) = λ i. none (Names d) i || none (Parent d) i
 none-locked p none (Parent d) = λ i. none (Names d) i || none (Parent d) i
 none-locked p none (Links i) = λ j. none (Links i) j || none (Bytes i) j

@@ -20,6 +20,7 @@ mod Commits
 mod Undoes
 mod Aborts
 mod Children
+mod Surveys
 mod Alone
 mod Ended
 mod Families

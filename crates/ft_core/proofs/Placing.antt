@@ -1,5 +1,5 @@
 -- Places stay where cells are written, and what takes writes back has its places.
-use Rattle.std.proofs.Common.{◌≡◌, ℕ, List, [], ◌∷◌, Option, Some, None, map, refl, sym, ap, subst, ◌∙◌}
+use Rattle.std.proofs.Common.{◌≡◌, ℕ, List, [], ◌∷◌, Option, Some, None, map, refl, sym, subst, ◌∙◌}
 use Rattle.ft_laws.specs.Lists.{Each}
 use Rattle.ft_laws.specs.Effects.{Has, before, write_all}
 use Rattle.ft_laws.proofs.Lists.{Each-from, Each-at}
@@ -45,7 +45,7 @@ module _ (cells now : Cells) (named : (f : ℕ) (o : OpenFile) → open_of cells
   of-description f (Some o) is = named f o is
 
   of-cell : (c : Cell) → file_is_stored now c (held cells c)
-  of-cell (Entry d name) = tt
+  of-cell (Entry entry) = tt
   of-cell (Names d) = tt
   of-cell (Parent d) = tt
   of-cell (Links i) = tt
@@ -59,7 +59,7 @@ module _ (cells now : Cells) (named : (f : ℕ) (o : OpenFile) → open_of cells
 -- what has its places keeps them
 module _ (cells now : Cells) (stay : (x : Cell) → IsStored cells x → IsStored now x) where
   file-stays : (c : Cell) (v : Holds c) → file_is_stored cells c v → file_is_stored now c v
-  file-stays (Entry d name) v h = tt
+  file-stays (Entry entry) v h = tt
   file-stays (Names d) v h = tt
   file-stays (Parent d) v h = tt
   file-stays (Links i) v h = tt

@@ -32,7 +32,7 @@ abbrev pub StayPlaces : Cells → Cells → Type 0
 StayPlaces old new = (c : Cell) → IsStored old c → IsStored new c
 
 file-stays : (old new : Cells) → StayPlaces old new → (c : Cell) (v : Holds c) → file_is_stored old c v → file_is_stored new c v
-file-stays old new stay (Entry d name) v h = tt
+file-stays old new stay (Entry entry) v h = tt
 file-stays old new stay (Names d) v h = tt
 file-stays old new stay (Parent d) v h = tt
 file-stays old new stay (Links i) v h = tt
@@ -54,7 +54,7 @@ module _ (setting : SettingLaw) where
 
   -- a description is there that was, or the one that is set
   opens-set : (cells : Cells) (c : Cell) (v : Holds c) → file_is_stored cells c v → ((f : ℕ) (o : OpenFile) → open_of cells f ≡ Some o → HasFilePlace cells o.file) → (f : ℕ) (o : OpenFile) → open_of (set_cell cells c v) f ≡ Some o → HasFilePlace cells o.file
-  opens-set cells (Entry d name) v h opens f o is = opens f o (sym (setting.kept cells (Entry d name) v (Fd f) refl) ∙ is)
+  opens-set cells (Entry entry) v h opens f o is = opens f o (sym (setting.kept cells (Entry entry) v (Fd f) refl) ∙ is)
   opens-set cells (Names d) v h opens f o is = opens f o is
   opens-set cells (Parent d) v h opens f o is = opens f o (sym (setting.kept cells (Parent d) v (Fd f) refl) ∙ is)
   opens-set cells (Links i) v h opens f o is = opens f o (sym (setting.kept cells (Links i) v (Fd f) refl) ∙ is)

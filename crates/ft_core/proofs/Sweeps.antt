@@ -42,7 +42,7 @@ use Rattle.ft_core.proofs.Written.{written-changes, set-once}
 -- The cells of a file.
 
 file-cell : (P : Cell → Type 0) (i : ℕ) → P (Links i) → P (Bytes i) → (x : Cell) → file_of x ≡ Some i → P x
-file-cell P i links bytes (Entry d name) e = absurd (none_some i e)
+file-cell P i links bytes (Entry entry) e = absurd (none_some i e)
 file-cell P i links bytes (Names d) e = absurd (none_some i e)
 file-cell P i links bytes (Parent d) e = absurd (none_some i e)
 file-cell P i links bytes (Links j) e = subst (λ k. P (Links k)) (sym (same_some j i e)) links
@@ -138,7 +138,7 @@ module _ (W : CallLaws) (K : LockLaws) (base : Base) (h : History) (asks : Asks)
       (λ seen. no-links (links_of cells i) _ (swept.files i (gone-of i seen unseen)).dead)
 
   others : (x : Cell) → is_hidden posix_calls more x ≡ false → held new x ≡ held cells x
-  others (Entry d name) k = swept.entries d name
+  others (Entry entry) k = swept.entries entry.dir entry.name
   others (Names d) k = refl
   others (Parent d) k = swept.parents d
   others (Links i) k = swept.links i
@@ -146,7 +146,7 @@ module _ (W : CallLaws) (K : LockLaws) (base : Base) (h : History) (asks : Asks)
   others (Fd f) k = swept.opens f
 
   blanked : (x : Cell) → is_hidden posix_calls more x ≡ true → held new x ≡ blank x
-  blanked (Entry d name) k = absurd (false≢true k)
+  blanked (Entry entry) k = absurd (false≢true k)
   blanked (Names d) k = absurd (false≢true k)
   blanked (Parent d) k = absurd (false≢true k)
   blanked (Links i) k = links-gone i k
@@ -204,7 +204,7 @@ module _ (W : CallLaws) (K : LockLaws) (base : Base) (h : History) (asks : Asks)
         ap (λ v. names_file w.cell v k) value ∙ at.1 t owned.1 w.cell changes
 
     file-kept : (c : Cell) (v : Holds c) → ((k : ℕ) → gone k ≡ true → names_file c v k ≡ false) → file_is_stored cells c v → file_is_stored new c v
-    file-kept (Entry d name) v none stored = tt
+    file-kept (Entry entry) v none stored = tt
     file-kept (Names d) v none stored = tt
     file-kept (Parent d) v none stored = tt
     file-kept (Links n) v none stored = tt

@@ -1,10 +1,9 @@
 -- What takes a call back is of cells that the call wrote, of each one once.
-use Rattle.std.proofs.Common.{◌≡◌, ◌&&◌, Bool, true, false, List, [], ◌∷◌, inl, inr, map, refl, sym, ap, subst, ◌∙◌}
+use Rattle.std.proofs.Common.{◌≡◌, ◌&&◌, true, false, List, [], ◌∷◌, inl, inr, refl, sym, ap, subst, ◌∙◌}
 use Rattle.std.proofs.lemmas.Bool.{and_parts, or_cases, or_left, or_right}
 use Rattle.std.specs.Cmp.{eq_by_cmp_equiv}
-use Rattle.ft_laws.specs.Lists.{Each, Pairs, In, any}
+use Rattle.ft_laws.specs.Lists.{Each, Pairs, In}
 use Rattle.ft_laws.specs.Effects.{Access as PlaceAccess, before, write_all, change}
-use Rattle.ft_laws.proofs.Lists.{Each-map, Each-at}
 use Rattle.ft_tree.specs.declared.cell.Cell.{Cell}
 use Rattle.ft_tree.specs.declared.cell.Cell.TheVariants.{Entry, Names, Parent, Links, Bytes, Fd}
 use Rattle.ft_tree.specs.CellOrder.{cell_cmp_total, same_cell, same_cell-is}
@@ -48,7 +47,7 @@ of-written s f ws noted apart e accesses first last = record {
 -- A cell that is written is changed, as calls in the abstract have it.
 
 covers-itself : (x : Cell) → covers x x ≡ true
-covers-itself (Entry d name) = itself (Entry d name)
+covers-itself (Entry entry) = itself (Entry entry)
 covers-itself (Names d) = itself (Names d)
 covers-itself (Parent d) = itself (Parent d)
 covers-itself (Links i) = itself (Links i)

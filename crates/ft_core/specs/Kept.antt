@@ -79,7 +79,7 @@ Change = CellWrite Cell Holds
 
 -- the file of a description that comes back is stored
 abbrev pub file_is_stored : (cells : Cells) (c : Cell) → Holds c → Type 0
-file_is_stored cells (EntryCell d name) to = Unit {0}
+file_is_stored cells (EntryCell entry) to = Unit {0}
 file_is_stored cells (NamesCell d) to = Unit {0}
 file_is_stored cells (ParentCell d) to = Unit {0}
 file_is_stored cells (LinksCell i) to = Unit {0}

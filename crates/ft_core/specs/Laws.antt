@@ -7,7 +7,7 @@ use Rattle.ft_calls.specs.Leaving.{LeavingLaw, UselessLaw, MakingLaw}
 use Rattle.ft_calls.specs.RunLaws.{PlainAccessesLaw, HidingLaw, RunLaw, PlacedLaw, WritesLaw, NamelessLaw}
 use Rattle.ft_calls.specs.Posix.{posix_calls}
 use Rattle.ft_locks.specs.Knowing.{KnownLaw}
-use Rattle.ft_locks.specs.Law.{FirstLaw, OwnerLaw, BeginLaw, GrantLaw, UndoLaw, CommitLaw, AbortLaw, ReleaseLaw, BlockLaw, CoverLaw, LockedLaw}
+use Rattle.ft_locks.specs.Law.{FirstLaw, OwnerLaw, BeginLaw, GrantLaw, UndoLaw, CommitLaw, AbortLaw, ReleaseLaw, BlockLaw, AloneLaw, CoverLaw, LockedLaw}
 
 pub record CallLaws : Type 0 where
   pub lawful : Lawful posix_calls
@@ -34,6 +34,7 @@ pub record LockLaws : Type 0 where
   pub abort : AbortLaw
   pub release : ReleaseLaw
   pub block : BlockLaw
+  pub alone : AloneLaw
   pub cover : CoverLaw
   pub locked : LockedLaw
   pub live : OwnerLaw

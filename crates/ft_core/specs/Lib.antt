@@ -6,6 +6,7 @@ pub mod Steps
 pub mod Promises
 pub mod Journals
 pub mod Laws
+pub mod Surveys
 pub mod Opens
 pub mod Makes
 pub mod Tries

@@ -1,20 +1,20 @@
 // Asking for calls, and making them.
-ghost use Rattle.std.specs.Prelude.{◌≡◌, [], true, false, Some, None, IfOk, IfErr, OnOk, OnErr, IsSome};
+ghost use Rattle.std.specs.Prelude.{◌≡◌, ◌≤◌, take, length, [], true, false, Some, IfOk, IfErr, OnOk, OnErr, IsSome};
 ghost use Rattle.std.specs.FinMap as finite;
 ghost use Rattle.ft_tree.specs.Sound.{AreSoundCells};
 ghost use Rattle.ft_calls.specs.declared.call.Call.{Call as CallOf};
-ghost use Rattle.ft_calls.specs.Accesses.{accesses_of};
 ghost use Rattle.ft_calls.specs.Comes.{outcome_of};
 ghost use Rattle.ft_calls.specs.Edits.{CanEditAll, Apart};
 ghost use Rattle.ft_calls.specs.Stored.{outcome};
 ghost use Rattle.ft_undo.specs.Logs.{is_open};
-ghost use Rattle.ft_locks.specs.Locks.{is_opened, AreBlockers};
+ghost use Rattle.ft_locks.specs.Locks.{is_opened, AreBlockers, AreGranted};
 ghost use Rattle.ft_history.specs.History.Fate.{Live};
 ghost use Rattle.ft_core.specs.declared.fault.Fault.TheVariants.{Memory as MemoryFault};
 ghost use Rattle.ft_core.specs.declared.request.Request.TheVariants.{Ask, Retry};
 ghost use Rattle.ft_core.specs.States.{fate_of, has_most_calls};
 ghost use Rattle.ft_core.specs.Makes.{IsMadeOn, IsUnmade};
 ghost use Rattle.ft_core.specs.Tries.{IsTried};
+ghost use Rattle.ft_core.specs.Surveys.{IsAloneIfChildless};
 ghost use Rattle.ft_core.specs.Steps.{IsStep, IsAsked, exact_rule, answer_with, outcome_answer};
 
 use crate::fault::Fault;
@@ -24,7 +24,7 @@ use crate::request::Outcome;
 use ft_base::{Memory, Sequence};
 use ft_calls::{Access, Call, Prepared, Reply, prepare};
 use ft_forest::{Forest, TxnId};
-use ft_locks::Locks;
+use ft_locks::{Locks, Survey};
 use ft_tree::Tree;
 use ft_undo::{Logged, Logs, apply};
 use std::alloc::{AllocFailed, Global};
@@ -173,31 +173,25 @@ pub(crate) struct Asker {
     pub stamp: u64,
 }
 
-/// A call that was looked at, with those who are in the way of it, in rising order.
-#[derive(Drop)]
-pub(crate) struct Looked<'c> {
-    pub prepared: Prepared<'c>,
-    pub blockers: Vec<TxnId>,
-}
-
-/// Looks at a call once: what it comes to, and who is in the way of it.
-pub(crate) fn look<'c>(
-    alloc: Global,
-    tree: &Tree,
+/// Who is in the way of a call with these accesses, and for how many of them, from the first on, the
+/// asker holds the locks already. Where it has live children they may share its cells, and then none
+/// is told to be held.
+pub(crate) fn survey(
     locks: &Locks,
     forest: &Forest,
-    asker: Asker,
-    call: &'c Call,
-) -> Result<Looked<'c>, Memory>
-    ensures accesses { IfOk result (λ looked. looked.prepared.accesses.items ≡ accesses_of tree.now asker.stamp call.now) }
-    ensures outcome { IfOk result (λ looked. outcome_of tree.now looked.prepared.intent ≡ outcome tree.now asker.stamp call.now) }
-    ensures places { AreSoundCells tree.now → IfOk result (λ looked. CanEditAll tree.now looked.prepared.intent.edits) }
-    ensures apart { AreSoundCells tree.now → IfOk result (λ looked. Apart looked.prepared.intent.edits) }
-    ensures blockers { IfOk result (λ looked. AreBlockers locks.now forest.now asker.txn looked.prepared.accesses.items looked.blockers.items) }
+    txn: TxnId,
+    accesses: &[Access],
+) -> Result<Survey, Memory>
+    requires { IsAloneIfChildless locks.now forest.now txn }
+    ensures blockers { IfOk result (λ survey. AreBlockers locks.now forest.now txn accesses.now survey.blockers.items) }
+    ensures within { IfOk result (λ survey. survey.held ≤ length accesses.now) }
+    ensures held { IfOk result (λ survey. AreGranted locks.now locks.now txn (take survey.held accesses.now)) }
 {
-    let prepared = prepare(alloc, tree, asker.stamp, call)?;
-    let blockers = locks.blockers(forest, asker.txn, prepared.accesses.as_slice())?;
-    Ok(Looked { prepared, blockers })
+    if forest.live_children(txn) != 0 {
+        let blockers = locks.blockers(forest, txn, accesses)?;
+        return Ok(Survey { blockers, held: 0 });
+    }
+    locks.survey(forest, txn, accesses)
 }
 
 /// The reply of a call that was made, twice, and its accesses.
@@ -231,26 +225,29 @@ fn try_call(
     requires sound { AreSoundCells tree.old }
     requires locks { is_opened locks.old txn ≡ true }
     requires log { is_open logs.old txn ≡ true }
+    requires alone { IsAloneIfChildless locks.old forest.now txn }
     ensures tried { IfOk result (IsTried tree.old tree.new locks.old locks.new logs.old logs.new forest.now txn stamp call.now) }
     ensures unmade { OnErr result (IsUnmade tree.old tree.new locks.old locks.new logs.old logs.new) }
 {
-    let Looked { prepared, blockers } = look(
-        alloc,
-        tree,
-        locks,
-        forest,
-        Asker { txn, stamp },
-        call,
-    )?;
+    let prepared = prepare(alloc, tree, stamp, call)?;
+    let Survey { blockers, held } = survey(locks, forest, txn, prepared.accesses.as_slice())?;
     if !blockers.is_empty() {
         return Ok(Tried::Blocked(blockers));
     }
-    let made = make(alloc, tree, locks, logs, Asker { txn, stamp }, prepared)?;
+    let made = make(
+        alloc,
+        tree,
+        locks,
+        logs,
+        Asker { txn, stamp },
+        prepared,
+        held,
+    )?;
     Ok(Tried::Made(made))
 }
 
-/// Makes a call on the tree, gives its asker its locks and keeps what takes it back. Where memory is wanting nothing has
-/// changed.
+/// Makes a call on the tree, gives its asker its locks, of which it holds those of so many accesses, from the first on,
+/// already, and keeps what takes it back. Where memory is wanting nothing has changed.
 fn make(
     alloc: Global,
     tree: &mut Tree,
@@ -258,11 +255,14 @@ fn make(
     logs: &mut Logs,
     asker: Asker,
     prepared: Prepared<'_>,
+    held: usize,
 ) -> Result<Made, Memory>
     requires places { CanEditAll tree.old prepared.intent.edits }
     requires apart { Apart prepared.intent.edits }
     requires locks { is_opened locks.old asker.txn ≡ true }
     requires log { is_open logs.old asker.txn ≡ true }
+    requires within { held ≤ length prepared.accesses.items }
+    requires held { AreGranted locks.old locks.old asker.txn (take held prepared.accesses.items) }
     ensures twice { IfOk result (λ made. made.reply ≡ made.kept) }
     ensures reply { IfOk result (λ made. made.kept ≡ (outcome_of tree.old prepared.entry.intent).reply) }
     ensures accesses { IfOk result (λ made. made.accesses.items ≡ prepared.entry.accesses.items) }
@@ -278,7 +278,8 @@ fn make(
         value.take_back(tree);
         return Err(Memory);
     }
-    if locks.grant(asker.txn, accesses.as_slice()).is_err() {
+    let wanted = &accesses.as_slice()[held..];
+    if locks.grant(asker.txn, wanted).is_err() {
         if let Some(Logged { stamp: _, undo }) = logs.take_last(asker.txn.0) {
             undo.take_back(tree);
         }

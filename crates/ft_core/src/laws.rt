@@ -6,8 +6,9 @@ use ft_calls::laws::{
     soundness, tidying, useless, writes,
 };
 use ft_locks::laws::{
-    locks_aborted, locks_begun, locks_block, locks_committed, locks_cover, locks_granted,
-    locks_known, locks_live, locks_lock, locks_released, locks_undone, no_locks_at_first,
+    locks_aborted, locks_alone, locks_begun, locks_block, locks_committed, locks_cover,
+    locks_granted, locks_known, locks_live, locks_lock, locks_released, locks_undone,
+    no_locks_at_first,
 };
 
 /// The laws of the calls.
@@ -42,6 +43,7 @@ pub(crate) fn lock_laws()
     locks_aborted();
     locks_released();
     locks_block();
+    locks_alone();
     locks_cover();
     locks_lock();
     locks_live();

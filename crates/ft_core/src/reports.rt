@@ -4,14 +4,14 @@ ghost use Rattle.std.specs.FinMap as finite;
 ghost use Rattle.ft_core.specs.declared.fault.Fault.TheVariants.{Memory as MemoryFault};
 ghost use Rattle.ft_core.specs.Reports.{AreLockLines, blockers_now, waits_from, waits, as_wait, AreLiveChildren, with_parents};
 
-use crate::asking::{Asker, Looked, look};
+use crate::asking::survey;
 use crate::fault::Fault;
 use crate::laws::{call_laws, lock_laws};
 use crate::manager::Core;
 use ft_base::{Memory, Table};
-use ft_calls::Call;
+use ft_calls::{Call, accesses};
 use ft_forest::{Forest, TxnId};
-use ft_locks::LockLine;
+use ft_locks::{LockLine, Survey};
 
 /// A transaction that waits for a call, with those that are in the way of it.
 #[derive(Debug, Drop)]
@@ -72,15 +72,8 @@ impl Core {
         call_laws();
         lock_laws();
         let stamp = self.journal.next_stamp();
-        let asker = Asker { txn, stamp };
-        let Looked { blockers, .. } = look(
-            self.alloc,
-            &self.tree,
-            &self.locks,
-            &self.forest,
-            asker,
-            call,
-        )?;
+        let touched = accesses(self.alloc, &self.tree, stamp, call)?;
+        let Survey { blockers, .. } = survey(&self.locks, &self.forest, txn, touched.as_slice())?;
         Ok(blockers)
     }
 }

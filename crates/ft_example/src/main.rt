@@ -11,7 +11,12 @@ use steps::make_file;
 
 fn main(rt: HostRuntime) -> Result<()> {
     let mut core = Core::new(rt.alloc())?;
-    let calls = run_job(rt.alloc(), &mut core)?;
+    tell_of_job(&rt, &mut core)
+}
+
+/// Runs the job, and prints what came of it.
+fn tell_of_job(rt: &HostRuntime, core: &mut Core) -> Result<()> {
+    let calls = run_job(rt.alloc(), core)?;
     println!(rt; "the first step failed, and {calls} calls were taken back")?;
     let rows = core.tree().rows()?;
     println!(rt; "{}", TreeText(rows.as_slice()))?;

@@ -296,7 +296,7 @@ module _ (C : Calls) (L : Lawful C) (base : Base C) where
         passing-In (λ y. is_child C h t y && is_live (fate C base.transaction h y)) x (begun C h) (sound.numbers_all x l.since l.begun)
         (and_from (is_child C h t x) (is_live (fate C base.transaction h x)) (is_some (parent C h x) t up) (ap is_live live))
 
-    childless : (t : ℕ) → live_children C base.transaction h t ≡ [] → (x : ℕ) → IsLive C base.transaction h x → parent C h x ≡ Some t → ⊥
+    pub childless : (t : ℕ) → live_children C base.transaction h t ≡ [] → (x : ℕ) → IsLive C base.transaction h x → parent C h x ≡ Some t → ⊥
     childless t none x live up = subst (In x) none (child_listed t x live up)
 
     -- where t has no live child, the lists below it are empty

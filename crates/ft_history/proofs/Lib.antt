@@ -22,3 +22,4 @@ pub mod Growing
 pub mod Targets
 pub mod Sweeping
 pub mod Losing
+pub mod Sharing

@@ -20,7 +20,7 @@ use Rattle.ft_history.proofs.Legal.{sound_all}
 use Rattle.ft_history.proofs.Living.{lived}
 
 -- an owner after an abort
-ended_from : (above : ℕ → ℕ → Bool) (t : ℕ) (o : Option ℕ) (y : ℕ) → ended above t o ≡ Some y → (o ≡ Some y) × (above t y ≡ false)
+pub ended_from : (above : ℕ → ℕ → Bool) (t : ℕ) (o : Option ℕ) (y : ℕ) → ended above t o ≡ Some y → (o ≡ Some y) × (above t y ≡ false)
 ended_from above t None y h = absurd (none_some y h)
 ended_from above t (Some x) y h = by_test (above t x)
     (λ k. absurd (none_some y (sym (ap (λ b. cond b None (Some x)) k) ∙ h)))

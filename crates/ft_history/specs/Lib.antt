@@ -12,3 +12,4 @@ pub mod Promises
 pub mod Serial
 pub mod Example
 pub mod Without
+pub mod Sharing

@@ -14,6 +14,7 @@ ghost use Rattle.ft_history.specs.History.{standing};
 ghost use Rattle.ft_history.specs.Legal.{Legal};
 ghost use Rattle.ft_history.specs.Promises.{AbortAlone, AbortCount, AbortKeeps, AbortOrder, AskKeeps, BeginKeeps, Blockers, CheckpointKeeps, CommitKeeps, ExactLedger, FateRules, Headline, JustMade, LiveChildren, LiveOwners, LockRules, LogOrder, NewestFirst, Numbered, Ownership, SubCommits, SweepKeeps, TargetByStamps, UndoKeeps};
 ghost use Rattle.ft_history.specs.Serial.{CommittedGrows, Serial, SerialOrder};
+ghost use Rattle.ft_history.specs.Sharing.{Sharing};
 ghost use Rattle.ft_history.specs.Without.{AbortLeavesDescendants, AbortOldestFirst, AbortOwnAlone, AbortRising, CommitInFront, LocksLetGo, RevertOverChild, SerialReversed, SweepLocked, UndoOverChild, UndoPastCommit, WeakOwnership};
 ghost use Rattle.ft_laws.specs.Tiny.{tiny_calls};
 ghost use Rattle.ft_laws.specs.Tiny.Cell.{Entry};
@@ -51,6 +52,12 @@ pub fn fate_rules()
 /// What each event does to the locks, held and retained: Moss's rules of grant, inheritance and abort.
 pub fn lock_rules()
     ensures { LockRules tiny_calls }
+{}
+
+/// Of two owners of conflicting locks one is at or above the other, so one without a live child shares
+/// them with its ancestors alone.
+pub fn lock_sharing()
+    ensures { Sharing tiny_calls }
 {}
 
 /// The blockers of a call, each once and in the order of their numbers, are all who own a conflicting

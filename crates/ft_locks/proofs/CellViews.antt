@@ -7,6 +7,7 @@ use Rattle.std.specs.FinMap as finite
 use Rattle.std.specs.Map.{lookup, keys_of}
 use Rattle.std.specs.List.{list_any}
 use Rattle.std.proofs.lemmas.Map.Made.{is_some-lookup}
+use Rattle.ft_tree.specs.Entries.{entry_at}
 use Rattle.ft_tree.specs.declared.cell.Cell.{Cell}
 use Rattle.ft_tree.specs.declared.cell.Cell.TheVariants.{Entry}
 use Rattle.ft_tree.specs.CellOrder.{cell_cmp, cell_cmp_total, same_cell, same_cell-is}
@@ -65,20 +66,20 @@ some_out false o = refl
 
 -- the names stay those of the entries
 pub indexed-put : (es fs : Entries) (names new : EntryNames) (k : Cell) (v : Owners) → IsIndexed es names
-    → ((d : ℕ) (n : List ℕ) → has_name new d n ≡ (same_cell (Entry d n) k || has_name names d n))
+    → ((d : ℕ) (n : List ℕ) → has_name new d n ≡ (same_cell (Entry (entry_at d n)) k || has_name names d n))
     → ((q : Cell) → found fs q ≡ cond (same_cell k q) (Some v) (found es q)) → IsIndexed fs new
 indexed-put es fs names new k v was named h d n =
-    named d n ∙ ap (λ b. same_cell (Entry d n) k || b) (was d n)
-    ∙ ap (λ b. b || is_some (found es (Entry d n))) (turned_cell (Entry d n) k)
-    ∙ sym (ap is_some (h (Entry d n)) ∙ some_put (same_cell k (Entry d n)) v (found es (Entry d n)))
+    named d n ∙ ap (λ b. same_cell (Entry (entry_at d n)) k || b) (was d n)
+    ∙ ap (λ b. b || is_some (found es (Entry (entry_at d n)))) (turned_cell (Entry (entry_at d n)) k)
+    ∙ sym (ap is_some (h (Entry (entry_at d n))) ∙ some_put (same_cell k (Entry (entry_at d n))) v (found es (Entry (entry_at d n))))
 
 pub indexed-left_out : (es fs : Entries) (names new : EntryNames) (k : Cell) → IsIndexed es names
-    → ((d : ℕ) (n : List ℕ) → has_name new d n ≡ (not (same_cell (Entry d n) k) && has_name names d n))
+    → ((d : ℕ) (n : List ℕ) → has_name new d n ≡ (not (same_cell (Entry (entry_at d n)) k) && has_name names d n))
     → ((q : Cell) → found fs q ≡ cond (same_cell k q) None (found es q)) → IsIndexed fs new
 indexed-left_out es fs names new k was named h d n =
-    named d n ∙ ap (λ b. not (same_cell (Entry d n) k) && b) (was d n)
-    ∙ ap (λ b. not b && is_some (found es (Entry d n))) (turned_cell (Entry d n) k)
-    ∙ sym (ap is_some (h (Entry d n)) ∙ some_out (same_cell k (Entry d n)) (found es (Entry d n)))
+    named d n ∙ ap (λ b. not (same_cell (Entry (entry_at d n)) k) && b) (was d n)
+    ∙ ap (λ b. not b && is_some (found es (Entry (entry_at d n)))) (turned_cell (Entry (entry_at d n)) k)
+    ∙ sym (ap is_some (h (Entry (entry_at d n))) ∙ some_out (same_cell k (Entry (entry_at d n))) (found es (Entry (entry_at d n))))
 
 in_and_out : (b c : Bool) → (b ≡ true → c ≡ false) → (not b && (b || c)) ≡ c
 in_and_out true c gone = sym (gone refl)
@@ -86,20 +87,20 @@ in_and_out false c gone = refl
 
 -- a name that was noted for nothing is forgotten
 pub indexed-back : (es fs : Entries) (m : Cells) (names noted new : EntryNames) (k : Cell) → seen_cells es ≡ m → finite.get m k ≡ None → fs ≡ es → IsIndexed es names
-    → ((d : ℕ) (n : List ℕ) → has_name noted d n ≡ (same_cell (Entry d n) k || has_name names d n))
-    → ((d : ℕ) (n : List ℕ) → has_name new d n ≡ (not (same_cell (Entry d n) k) && has_name noted d n))
+    → ((d : ℕ) (n : List ℕ) → has_name noted d n ≡ (same_cell (Entry (entry_at d n)) k || has_name names d n))
+    → ((d : ℕ) (n : List ℕ) → has_name new d n ≡ (not (same_cell (Entry (entry_at d n)) k) && has_name noted d n))
     → IsIndexed fs new
 indexed-back es fs m names noted new k is absent same was put out d n =
-    out d n ∙ ap (λ b. not (same_cell (Entry d n) k) && b) (put d n ∙ ap (λ b. same_cell (Entry d n) k || b) (was d n))
-    ∙ in_and_out (same_cell (Entry d n) k) (is_some (found es (Entry d n)))
-    (λ tied. ap (λ q. is_some (found es q)) (same_cell-is (Entry d n) k tied) ∙ ap is_some (found-seen es m k is ∙ absent))
-    ∙ sym (ap (λ l. is_some (found l (Entry d n))) same)
+    out d n ∙ ap (λ b. not (same_cell (Entry (entry_at d n)) k) && b) (put d n ∙ ap (λ b. same_cell (Entry (entry_at d n)) k || b) (was d n))
+    ∙ in_and_out (same_cell (Entry (entry_at d n)) k) (is_some (found es (Entry (entry_at d n))))
+    (λ tied. ap (λ q. is_some (found es q)) (same_cell-is (Entry (entry_at d n)) k tied) ∙ ap is_some (found-seen es m k is ∙ absent))
+    ∙ sym (ap (λ l. is_some (found l (Entry (entry_at d n)))) same)
 
 -- entries of the same cells
 pub indexed-keys : (es fs : Entries) (names : EntryNames) → keys_of fs ≡ keys_of es → IsIndexed es names → IsIndexed fs names
 indexed-keys es fs names same was d n =
-    was d n ∙ is_some-lookup (same_cell (Entry d n)) es ∙ sym (is_some-lookup (same_cell (Entry d n)) fs ∙ ap (λ ks. list_any (same_cell (Entry d n)) ks) same)
+    was d n ∙ is_some-lookup (same_cell (Entry (entry_at d n))) es ∙ sym (is_some-lookup (same_cell (Entry (entry_at d n))) fs ∙ ap (λ ks. list_any (same_cell (Entry (entry_at d n))) ks) same)
 
 pub indexed-none : (es : Entries) (names : EntryNames) → es ≡ [] → names ≡ finite.empty → IsIndexed es names
 indexed-none es names none empty d n =
-    ap (λ m. has_name m d n) empty ∙ ap (λ o. is_among o n) (finite.get-empty nat_cmp d) ∙ sym (ap (λ l. is_some (found l (Entry d n))) none)
+    ap (λ m. has_name m d n) empty ∙ ap (λ o. is_among o n) (finite.get-empty nat_cmp d) ∙ sym (ap (λ l. is_some (found l (Entry (entry_at d n)))) none)

@@ -1,5 +1,5 @@
 -- The lock table follows the locks of the history.
-use Rattle.std.proofs.Common.{◌≡◌, ℕ, Bool, true, false, cond, not, ◌&&◌, ◌||◌, ◌==◌, List, [], ◌∷◌, Some, map, refl, sym, ap, subst, ◌∙◌}
+use Rattle.std.proofs.Common.{◌≡◌, ℕ, Bool, true, false, cond, not, ◌&&◌, ◌||◌, ◌==◌, List, [], ◌∷◌, Option, Some, map, refl, sym, ap, subst, ◌∙◌}
 use Rattle.std.proofs.lemmas.Bool.{false≢true, and_parts, and_from, or_left, or_right}
 use Rattle.std.specs.List.{list_any}
 use Rattle.std.specs.FinSet as set
@@ -17,6 +17,7 @@ use Rattle.ft_history.proofs.Words.{rising_one, not_true, none_some}
 use Rattle.ft_history.proofs.Owning.{any_one, one_any, owning, owns_one, one_owns}
 use Rattle.ft_history.proofs.Promises.{live_owners}
 use Rattle.ft_history.proofs.Locks as theory
+use Rattle.ft_history.proofs.Sharing.{sharing, conflict_back}
 use Rattle.ft_tree.specs.declared.cell.Cell.{Cell}
 use Rattle.ft_tree.specs.declared.cell.Cell.TheVariants.{Entry, Names, Parent, Links, Bytes, Fd}
 use Rattle.ft_tree.specs.CellOrder.{cell_cmp_total, same_cell, same_cell-is}
@@ -31,7 +32,7 @@ use Rattle.ft_locks.specs.declared.line.LockKind.TheVariants.{Held, Retained}
 use Rattle.ft_locks.specs.declared.line.LockLine.{LockLine}
 use Rattle.ft_locks.specs.Locks.{LockTable, is_locked, line_cmp, has_lock, is_held, same_mode, has_access, line_access, OwnsConflict}
 use Rattle.ft_locks.proofs.Tables.{cell_locked}
-use Rattle.ft_locks.specs.Law.{History, is_mode, is_of, is_lock, AreLocksOf, FirstLaw, OwnerLaw, BeginLaw, GrantLaw, UndoLaw, CommitLaw, AbortLaw, ReleaseLaw, BlockLaw, CoverLaw}
+use Rattle.ft_locks.specs.Law.{History, is_mode, is_of, is_lock, AreLocksOf, FirstLaw, OwnerLaw, BeginLaw, GrantLaw, UndoLaw, CommitLaw, AbortLaw, ReleaseLaw, BlockLaw, AloneLaw, CoverLaw}
 
 -- What is of a cell in a mode.
 
@@ -251,18 +252,38 @@ module _ (L : Lawful posix_calls) where
       let both = and_parts (owns_lock posix_calls h y (λ g. posix_calls.conflict g f)) (not (over posix_calls h y txn)) ((rule.exact y).0 i) in
       are.all y (in_table h t locks asked y both.0) (over_is y ∙ not_true (over posix_calls h y txn) both.1))
 
+  pub alone_law : AloneLaw
+  alone_law base sound h t locks legal forest parents txn none own other mine owner there conflicts =
+      ap (λ (up : ℕ → Option ℕ). above up other.owner txn) (λ i x. parents x i)
+      ∙ (sharing posix_calls L base sound h legal).alone txn other.owner none (record {
+        one = is_of own;
+        other = is_of other;
+        conflicts = λ f g p q.
+            let one = any_one (λ a. same_cell a.place own.cell && is_mode own.mode a.writes) f p in
+            let two = any_one (λ a. same_cell a.place other.cell && is_mode other.mode a.writes) g q in
+            let a : PlaceAccess Cell = one.0 in
+            let b : PlaceAccess Cell = two.0 in
+            let own_is = and_parts (same_cell a.place own.cell) (is_mode own.mode a.writes) one.2 in
+            let other_is = and_parts (same_cell b.place other.cell) (is_mode other.mode b.writes) two.2 in
+            conflict_back posix_calls L g f (one_any (λ y. any (places_conflict posix y) f) b g two.1 (one_any (places_conflict posix b) a f one.1
+            (sym (λ i. places_conflict posix (record { place = sym (same_cell-is b.place other.cell other_is.0) i; writes = mode_writes other.mode b.writes other_is.1 i }) (record { place = sym (same_cell-is a.place own.cell own_is.0) i; writes = mode_writes own.mode a.writes own_is.1 i }))
+            ∙ conflicts)));
+        first = subst (λ u. owns_lock posix_calls h u (is_of own) ≡ true) owner (lock_owned h t locks [] own.owner own (sym (locks own) ∙ mine));
+        second = lock_owned h t locks [] other.owner other (sym (locks other) ∙ there);
+      })
+
 -- A cell that a call touches is that of one of its accesses, where it is a file's.
 place_is : (c : Cell) (file : ℕ) → file_of c ≡ Some file → (place : Cell) → covers place c ≡ same_cell place c
-place_is (Entry d name) file is place = absurd (none_some file is)
+place_is (Entry entry) file is place = absurd (none_some file is)
 place_is (Names d) file is place = absurd (none_some file is)
 place_is (Parent d) file is place = absurd (none_some file is)
-place_is (Links i) file is (Entry d name) = refl
+place_is (Links i) file is (Entry entry) = refl
 place_is (Links i) file is (Names d) = refl
 place_is (Links i) file is (Parent d) = refl
 place_is (Links i) file is (Links j) = refl
 place_is (Links i) file is (Bytes j) = refl
 place_is (Links i) file is (Fd f) = refl
-place_is (Bytes i) file is (Entry d name) = refl
+place_is (Bytes i) file is (Entry entry) = refl
 place_is (Bytes i) file is (Names d) = refl
 place_is (Bytes i) file is (Parent d) = refl
 place_is (Bytes i) file is (Links j) = refl

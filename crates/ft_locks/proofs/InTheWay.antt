@@ -16,6 +16,7 @@ use Rattle.std.specs.BTreeMap.{is_at}
 use Rattle.std.specs.BTreeSet as ordered
 use Rattle.std.specs.BTreeSet.{BTreeSet}
 use Rattle.std.specs.FinMap as finite
+use Rattle.ft_tree.specs.Entries.{entry_at}
 use Rattle.ft_tree.specs.declared.cell.Cell.{Cell}
 use Rattle.ft_tree.specs.declared.cell.Cell.TheVariants.{Entry, Names, Parent, Links, Bytes, Fd}
 use Rattle.ft_tree.specs.CellOrder.{cell_cmp_total, same_cell, same_cell-is, overlap}
@@ -141,11 +142,11 @@ among_keys m c e = sym (finite.contains_key-keys m c) ∙ e
 in_keys : (m : Cells) (c : Cell) (mode : Mode) (u : ℕ) → way m c mode u ≡ true → is_some (finite.get m c) ≡ true
 in_keys m c mode u e = finite.contains_key-keys m c ∙ cell_among m c u (place_in_way (marks_at m c u) mode e)
 
-entry_is : (m : Cells) (d : ℕ) (mode : Mode) (u : ℕ) (c : Cell) → (is_entry_of d c && way m c mode u) ≡ true → (n : List ℕ) × (c ≡ Entry d n) × (way m c mode u ≡ true)
-entry_is m d mode u (Entry e n) both = by_dir (d == e) refl (way m (Entry e n) mode u) refl both
+entry_is : (m : Cells) (d : ℕ) (mode : Mode) (u : ℕ) (c : Cell) → (is_entry_of d c && way m c mode u) ≡ true → (n : List ℕ) × (c ≡ Entry (entry_at d n)) × (way m c mode u ≡ true)
+entry_is m d mode u (Entry entry) both = by_dir (d == entry.dir) refl (way m (Entry entry) mode u) refl both
   where
-    by_dir : (a : Bool) → (d == e) ≡ a → (b : Bool) → way m (Entry e n) mode u ≡ b → (a && b) ≡ true → (k : List ℕ) × (Entry e n ≡ Entry d k) × (way m (Entry e n) mode u ≡ true)
-    by_dir true h b w both = (n, ap (λ x. Entry x n) (sym (eqb-true d e h)), w ∙ both)
+    by_dir : (a : Bool) → (d == entry.dir) ≡ a → (b : Bool) → way m (Entry entry) mode u ≡ b → (a && b) ≡ true → (k : List ℕ) × (Entry entry ≡ Entry (entry_at d k)) × (way m (Entry entry) mode u ≡ true)
+    by_dir true h b w both = (entry.name, ap (λ x. Entry (entry_at x entry.name)) (sym (eqb-true d entry.dir h)), w ∙ both)
     by_dir false h b w both = absurd (false≢true both)
 entry_is m d mode u (Names e) both = absurd (false≢true both)
 entry_is m d mode u (Parent e) both = absurd (false≢true both)
@@ -153,25 +154,25 @@ entry_is m d mode u (Links i) both = absurd (false≢true both)
 entry_is m d mode u (Bytes i) both = absurd (false≢true both)
 entry_is m d mode u (Fd f) both = absurd (false≢true both)
 
-pub no_names : (m : Cells) (d : ℕ) → ((n : List ℕ) → false ≡ is_some (finite.get m (Entry d n))) → (mode : Mode) (u : ℕ) → beside m (Names d) mode u ≡ false
+pub no_names : (m : Cells) (d : ℕ) → ((n : List ℕ) → false ≡ is_some (finite.get m (Entry (entry_at d n)))) → (mode : Mode) (u : ℕ) → beside m (Names d) mode u ≡ false
 no_names m d none mode u = same_truth (beside m (Names d) mode u) false (λ e.
     let one = some_one (λ c. is_entry_of d c && way m c mode u) (finite.keys m) e in
     let entry = entry_is m d mode u one.0 one.1 in
-    none entry.0 ∙ in_keys m (Entry d entry.0) mode u (ap (λ c. way m c mode u) (sym entry.1) ∙ entry.2)) (λ e. absurd (false≢true e))
+    none entry.0 ∙ in_keys m (Entry (entry_at d entry.0)) mode u (ap (λ c. way m c mode u) (sym entry.1) ∙ entry.2)) (λ e. absurd (false≢true e))
 
-pub names_are : (m : Cells) (d : ℕ) (names : BTreeSet (List ℕ)) → ((n : List ℕ) → ordered.contains (slice_cmp nat_cmp) names n ≡ is_some (finite.get m (Entry d n))) → (mode : Mode) (u : ℕ)
-    → list_any (λ n. way m (Entry d n) mode u) names.keys ≡ beside m (Names d) mode u
+pub names_are : (m : Cells) (d : ℕ) (names : BTreeSet (List ℕ)) → ((n : List ℕ) → ordered.contains (slice_cmp nat_cmp) names n ≡ is_some (finite.get m (Entry (entry_at d n)))) → (mode : Mode) (u : ℕ)
+    → list_any (λ n. way m (Entry (entry_at d n)) mode u) names.keys ≡ beside m (Names d) mode u
 names_are m d names are mode u = same_truth _ _
     (λ e.
-    let one = some_one (λ n. way m (Entry d n) mode u) names.keys e in
-    passes_at (λ c. is_entry_of d c && way m c mode u) (same_cell (Entry d one.0)) (Entry d one.0) (λ c t. same_cell-is (Entry d one.0) c t)
-    (λ j. itself d j && one.1 j) (finite.keys m) (among_keys m (Entry d one.0) (in_keys m (Entry d one.0) mode u one.1)))
+    let one = some_one (λ n. way m (Entry (entry_at d n)) mode u) names.keys e in
+    passes_at (λ c. is_entry_of d c && way m c mode u) (same_cell (Entry (entry_at d one.0))) (Entry (entry_at d one.0)) (λ c t. same_cell-is (Entry (entry_at d one.0)) c t)
+    (λ j. itself d j && one.1 j) (finite.keys m) (among_keys m (Entry (entry_at d one.0)) (in_keys m (Entry (entry_at d one.0)) mode u one.1)))
     (λ e.
     let one = some_one (λ c. is_entry_of d c && way m c mode u) (finite.keys m) e in
     let entry = entry_is m d mode u one.0 one.1 in
     let here = ap (λ c. way m c mode u) (sym entry.1) ∙ entry.2 in
-    passes_at (λ n. way m (Entry d n) mode u) (is_at (slice_cmp nat_cmp entry.0)) entry.0 (λ k t. name_exact entry.0 k t) here names.keys
-    (are entry.0 ∙ in_keys m (Entry d entry.0) mode u here))
+    passes_at (λ n. way m (Entry (entry_at d n)) mode u) (is_at (slice_cmp nat_cmp entry.0)) entry.0 (λ k t. name_exact entry.0 k t) here names.keys
+    (are entry.0 ∙ in_keys m (Entry (entry_at d entry.0)) mode u here))
 
 -- Who is in the way owns a conflicting lock.
 marks_in_way : (x : Marks) (mode : Mode) → are_in_the_way x mode ≡ true → (m : Mode) × (kind : LockKind) × (has_mark x m kind ≡ true) × ((is_write m || is_write mode) ≡ true)
@@ -195,7 +196,7 @@ both_of true b e = (refl, e)
 both_of false b e = absurd (false≢true e)
 
 overlaps_itself : (c : Cell) → overlap c c ≡ true
-overlaps_itself (Entry d n) = (eq_by_cmp_equiv cell_cmp_total).refl (Entry d n)
+overlaps_itself (Entry entry) = (eq_by_cmp_equiv cell_cmp_total).refl (Entry entry)
 overlaps_itself (Names d) = (eq_by_cmp_equiv cell_cmp_total).refl (Names d)
 overlaps_itself (Parent d) = (eq_by_cmp_equiv cell_cmp_total).refl (Parent d)
 overlaps_itself (Links i) = (eq_by_cmp_equiv cell_cmp_total).refl (Links i)
@@ -208,15 +209,15 @@ pub record InWay (m : Cells) (a : Access) (u : ℕ) : Type 0 where
   pub overlaps : overlap cell a.cell ≡ true
   pub there : way m cell a.mode u ≡ true
 
-blocks_in_way : (m : Cells) (a : Access) (u : ℕ) → blocks m a u ≡ true → InWay m a u
+pub blocks_in_way : (m : Cells) (a : Access) (u : ℕ) → blocks m a u ≡ true → InWay m a u
 blocks_in_way m a u e = by_part (or_cases (way m a.cell a.mode u) (beside m a.cell a.mode u) e)
   where
     by_kind : (k : Cell) → a.cell ≡ k → beside m k a.mode u ≡ true → InWay m a u
-    by_kind (Entry d n) is e = record { cell = Names d; overlaps = ap (overlap (Names d)) is ∙ itself d; there = e }
+    by_kind (Entry entry) is e = record { cell = Names entry.dir; overlaps = ap (overlap (Names entry.dir)) is ∙ itself entry.dir; there = e }
     by_kind (Names d) is e =
         let one = some_one (λ c. is_entry_of d c && way m c a.mode u) (finite.keys m) e in
         let entry = entry_is m d a.mode u one.0 one.1 in
-        record { cell = Entry d entry.0; overlaps = ap (overlap (Entry d entry.0)) is ∙ itself d; there = ap (λ c. way m c a.mode u) (sym entry.1) ∙ entry.2 }
+        record { cell = Entry (entry_at d entry.0); overlaps = ap (overlap (Entry (entry_at d entry.0))) is ∙ itself d; there = ap (λ c. way m c a.mode u) (sym entry.1) ∙ entry.2 }
     by_kind (Parent d) is e = absurd (false≢true e)
     by_kind (Links i) is e = absurd (false≢true e)
     by_kind (Bytes i) is e = absurd (false≢true e)
@@ -229,17 +230,17 @@ blocks_in_way m a u e = by_part (or_cases (way m a.cell a.mode u) (beside m a.ce
 -- the ways in which two cells overlap
 data Overlaps (c k : Cell) : Type 0 where
   same : c ≡ k → Overlaps c k
-  entry : (d : ℕ) (n : List ℕ) → c ≡ Entry d n → k ≡ Names d → Overlaps c k
-  names : (d : ℕ) (n : List ℕ) → c ≡ Names d → k ≡ Entry d n → Overlaps c k
+  in_dir : (d : ℕ) (n : List ℕ) → c ≡ Entry (entry_at d n) → k ≡ Names d → Overlaps c k
+  has_in : (d : ℕ) (n : List ℕ) → c ≡ Names d → k ≡ Entry (entry_at d n) → Overlaps c k
 
 overlap_is : (c k : Cell) → overlap c k ≡ true → Overlaps c k
-overlap_is (Entry d n) (Names e) h = entry d n refl (ap (λ x. Names x) (sym (eqb-true d e h)))
-overlap_is (Entry d n) (Entry e k) h = same (same_cell-is (Entry d n) (Entry e k) h)
-overlap_is (Entry d n) (Parent e) h = same (same_cell-is (Entry d n) (Parent e) h)
-overlap_is (Entry d n) (Links i) h = same (same_cell-is (Entry d n) (Links i) h)
-overlap_is (Entry d n) (Bytes i) h = same (same_cell-is (Entry d n) (Bytes i) h)
-overlap_is (Entry d n) (Fd f) h = same (same_cell-is (Entry d n) (Fd f) h)
-overlap_is (Names d) (Entry e n) h = names d n refl (ap (λ x. Entry x n) (sym (eqb-true d e h)))
+overlap_is (Entry entry) (Names e) h = in_dir entry.dir entry.name refl (ap (λ x. Names x) (sym (eqb-true entry.dir e h)))
+overlap_is (Entry entry) (Entry other) h = same (same_cell-is (Entry entry) (Entry other) h)
+overlap_is (Entry entry) (Parent e) h = same (same_cell-is (Entry entry) (Parent e) h)
+overlap_is (Entry entry) (Links i) h = same (same_cell-is (Entry entry) (Links i) h)
+overlap_is (Entry entry) (Bytes i) h = same (same_cell-is (Entry entry) (Bytes i) h)
+overlap_is (Entry entry) (Fd f) h = same (same_cell-is (Entry entry) (Fd f) h)
+overlap_is (Names d) (Entry entry) h = has_in d entry.name refl (ap (λ x. Entry (entry_at x entry.name)) (sym (eqb-true d entry.dir h)))
 overlap_is (Names d) (Names e) h = same (same_cell-is (Names d) (Names e) h)
 overlap_is (Names d) (Parent e) h = same (same_cell-is (Names d) (Parent e) h)
 overlap_is (Names d) (Links i) h = same (same_cell-is (Names d) (Links i) h)
@@ -255,15 +256,15 @@ in_way_blocks m a u i = by_overlap (overlap_is i.cell a.cell i.overlaps)
   where
     by_overlap : Overlaps i.cell a.cell → blocks m a u ≡ true
     by_overlap (same e) = or_left (way m a.cell a.mode u) (beside m a.cell a.mode u) (ap (λ c. way m c a.mode u) (sym e) ∙ i.there)
-    by_overlap (entry d n e k) =
+    by_overlap (in_dir d n e k) =
         let here = ap (λ c. way m c a.mode u) (sym e) ∙ i.there in
         or_right (way m a.cell a.mode u) (beside m a.cell a.mode u) (ap (λ c. beside m c a.mode u) k
-        ∙ passes_at (λ c. is_entry_of d c && way m c a.mode u) (same_cell (Entry d n)) (Entry d n) (λ c t. same_cell-is (Entry d n) c t)
-        (λ j. itself d j && here j) (finite.keys m) (among_keys m (Entry d n) (in_keys m (Entry d n) a.mode u here)))
-    by_overlap (names d n e k) = or_right (way m a.cell a.mode u) (beside m a.cell a.mode u) (ap (λ c. beside m c a.mode u) k ∙ ap (λ c. way m c a.mode u) (sym e) ∙ i.there)
+        ∙ passes_at (λ c. is_entry_of d c && way m c a.mode u) (same_cell (Entry (entry_at d n))) (Entry (entry_at d n)) (λ c t. same_cell-is (Entry (entry_at d n)) c t)
+        (λ j. itself d j && here j) (finite.keys m) (among_keys m (Entry (entry_at d n)) (in_keys m (Entry (entry_at d n)) a.mode u here)))
+    by_overlap (has_in d n e k) = or_right (way m a.cell a.mode u) (beside m a.cell a.mode u) (ap (λ c. beside m c a.mode u) k ∙ ap (λ c. way m c a.mode u) (sym e) ∙ i.there)
 
 -- who is in the way owns a lock that conflicts
-conflicting : (m : Cells) (a : Access) (u : ℕ) → InWay m a u → (l : LockLine) × (has_line m l ≡ true) × (l.owner ≡ u) × (conflict (line_access l) a ≡ true)
+pub conflicting : (m : Cells) (a : Access) (u : ℕ) → InWay m a u → (l : LockLine) × (has_line m l ≡ true) × (l.owner ≡ u) × (conflict (line_access l) a ≡ true)
 conflicting m a u i = by_marks (marks_at m i.cell u) refl i.there
   where
     by_marks : (o : Option Marks) → marks_at m i.cell u ≡ o → is_in_way o a.mode ≡ true → (l : LockLine) × (has_line m l ≡ true) × (l.owner ≡ u) × (conflict (line_access l) a ≡ true)

@@ -10,6 +10,7 @@ pub mod Sweeping
 pub mod Granting
 pub mod Granted
 pub mod InTheWay
+pub mod Surveys
 pub mod Following
 pub mod Listed
 pub mod Knowing

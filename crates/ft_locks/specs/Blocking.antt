@@ -31,7 +31,7 @@ abbrev pub is_listed_in_way : List Holding → Mode → ℕ → Bool
 is_listed_in_way list mode u = list_any (λ h. (h.owner == u) && are_in_the_way h.marks mode) list
 
 abbrev pub is_entry_of : ℕ → Cell → Bool
-is_entry_of d (Entry e name) = d == e
+is_entry_of d (Entry entry) = d == entry.dir
 is_entry_of d (Names e) = false
 is_entry_of d (Parent e) = false
 is_entry_of d (Links i) = false
@@ -40,7 +40,7 @@ is_entry_of d (Fd f) = false
 
 -- the same on the cells that overlap this one besides itself
 abbrev pub beside : Cells → Cell → Mode → ℕ → Bool
-beside m (Entry d name) mode u = way m (Names d) mode u
+beside m (Entry entry) mode u = way m (Names entry.dir) mode u
 beside m (Names d) mode u = list_any (λ c. is_entry_of d c && way m c mode u) (finite.keys m)
 beside m (Parent d) mode u = false
 beside m (Links i) mode u = false

@@ -7,6 +7,7 @@ use Rattle.std.specs.BTreeSet.{BTreeSet}
 use Rattle.std.specs.Coded.{Coded}
 use Rattle.std.specs.FinMap as finite
 use Rattle.std.specs.Map.{lookup}
+use Rattle.ft_tree.specs.Entries.{entry_at}
 use Rattle.ft_tree.specs.declared.cell.Cell.{Cell}
 use Rattle.ft_tree.specs.declared.cell.Cell.TheVariants.{Entry}
 use Rattle.ft_tree.specs.contracts.cell.Cell as cell
@@ -35,7 +36,7 @@ has_name m dir name = is_among (finite.get m dir) name
 
 -- the names of a directory's entries are those of the entries in the table
 abbrev pub IsIndexed : List (Cell × Owners) → EntryNames → Type 0
-IsIndexed entries names = (dir : ℕ) (name : List ℕ) → has_name names dir name ≡ is_some (lookup (eq_by_cmp cell_cmp (Entry dir name)) entries)
+IsIndexed entries names = (dir : ℕ) (name : List ℕ) → has_name names dir name ≡ is_some (lookup (eq_by_cmp cell_cmp (Entry (entry_at dir name))) entries)
 
 -- what an owner has on a cell, if it has a place there
 abbrev pub marks_at : Cells → Cell → ℕ → Option Marks

@@ -9,13 +9,14 @@ use Rattle.ft_calls.specs.declared.call.Mode.{Mode}
 use Rattle.ft_calls.specs.declared.call.Mode.TheVariants.{Read as ReadMode, Write as WriteMode}
 use Rattle.ft_calls.specs.declared.call.Access.{Access}
 use Rattle.ft_calls.specs.Posix.{as_place, file_of, posix_calls}
-use Rattle.ft_history.specs.History.{Base, Event, parent, over, IsLive}
+use Rattle.ft_history.specs.History.{Base, Event, parent, over, IsLive, live_children}
 use Rattle.ft_history.specs.History.Event.{Begin, Call, Undo, Commit, Abort}
 use Rattle.ft_history.specs.Locks.{holds_lock, retains_lock, owns_lock, blockers_of}
 use Rattle.ft_history.specs.Legal.{Legal}
 use Rattle.ft_forest.specs.Transactions.{Transactions, parent_in}
 use Rattle.ft_locks.specs.declared.line.LockLine.{LockLine}
 use Rattle.ft_locks.specs.Locks.{LockTable, no_locks, has_lock, is_locked, is_held, AreGranted, AreInherited, AreReleased, AreBlockers}
+use Rattle.ft_locks.specs.Surveys.{HasItsCellsAlone}
 
 -- what has happened to the tree
 abbrev pub History : Type 0
@@ -84,6 +85,10 @@ ReleaseLaw = (old mid new : LockTable) (gone : ℕ → Bool) (txn : ℕ) → Are
 abbrev pub BlockLaw : Type 0
 BlockLaw = OfLocks (λ base h t. Legal posix_calls base h → (forest : Transactions) → ((x : ℕ) → parent_in forest x ≡ parent posix_calls h x) → (txn : ℕ) (accesses : List Access) (ys : List ℕ)
     → AreBlockers t forest txn accesses ys → ys ≡ blockers_of posix_calls h txn (map as_place accesses))
+
+-- A transaction without live children shares what it has locked with its ancestors alone.
+abbrev pub AloneLaw : Type 0
+AloneLaw = OfLocks (λ base h t. Legal posix_calls base h → (forest : Transactions) → ((x : ℕ) → parent_in forest x ≡ parent posix_calls h x) → (txn : ℕ) → live_children posix_calls base.transaction h txn ≡ [] → HasItsCellsAlone t forest txn)
 
 -- A file's cell on which the table has no lock is touched by none of the history.
 abbrev pub CoverLaw : Type 0

@@ -8,5 +8,6 @@ pub mod Locks
 pub mod Seen
 pub mod Blocking
 pub mod Listing
+pub mod Surveys
 pub mod Law
 pub mod Knowing

@@ -43,3 +43,8 @@ is_marked_of (Some marks) = is_marked marks
 abbrev pub are_in_the_way : Marks → Mode → Bool
 are_in_the_way m ReadMode = m.write_held || m.write_retained
 are_in_the_way m WriteMode = is_marked m
+
+-- one of them is for such an access, or for more (Moss: to write is to read too)
+abbrev pub cover : Marks → Mode → Bool
+cover m ReadMode = is_marked m
+cover m WriteMode = m.write_held || m.write_retained

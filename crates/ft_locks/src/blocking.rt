@@ -1,16 +1,19 @@
 // Who is in the way of an access.
-ghost use Rattle.std.specs.Prelude.{◌≡◌, ◌&&◌, ◌||◌, not, ℕ, OnOk, IfOk};
+ghost use Rattle.std.specs.Prelude.{◌≡◌, ◌&&◌, ◌||◌, not, ℕ, true, [], ◌∷◌, OnOk, IfOk};
 ghost use Rattle.std.specs.FinMap as finite;
 ghost use Rattle.ft_tree.specs.declared.cell.Cell.TheVariants.{Names};
 ghost use Rattle.ft_forest.specs.Transactions.{over_in};
 ghost use Rattle.ft_locks.specs.Blocking.{AreNoted, way, is_listed_in_way, beside, blocks};
+ghost use Rattle.ft_locks.specs.Seen.{has_line};
+ghost use Rattle.ft_locks.specs.Surveys.{KeepOthersOut, HoldsAll};
 
 use crate::holders::Holding;
 use crate::holdings::Holdings;
+use crate::line::LockKind;
 use ft_base::{Memory, Table};
 use ft_calls::{Access, Mode};
 use ft_forest::{Forest, TxnId};
-use ft_tree::Cell;
+use ft_tree::{Cell, Entry};
 use std::alloc::Global;
 
 /// Notes each owner in a list whose locks conflict with such an access, and that is neither the
@@ -68,13 +71,35 @@ fn note_entries(
         return Ok(());
     };
     for name in names {
-        let cell = Cell::Entry(dir, name.clone()?);
+        let name = name.clone()?;
+        let cell = Cell::Entry(Entry { dir, name });
         note_cell(holdings, found, forest, txn, &cell, mode)?;
     }
     Ok(())
 }
 
-/// The same of the cells that overlap the access's.
+/// The same of the cells that overlap the access's, besides itself.
+fn note_beside(
+    holdings: &Holdings,
+    found: &mut Table<()>,
+    forest: &Forest,
+    txn: TxnId,
+    access: &Access,
+) -> Result<(), Memory>
+    ensures { OnOk result (AreNoted found.old found.new (λ u. not (over_in forest.now u txn) && beside holdings.now.cells access.now.cell access.now.mode u)) }
+{
+    let mode = access.mode;
+    match &access.cell {
+        Cell::Entry(entry) => {
+            let names = Cell::Names(entry.dir);
+            note_cell(holdings, found, forest, txn, &names, mode)
+        }
+        Cell::Names(dir) => note_entries(holdings, found, forest, txn, *dir, mode),
+        Cell::Parent(_) | Cell::Links(_) | Cell::Bytes(_) | Cell::Fd(_) => Ok(()),
+    }
+}
+
+/// The same of all cells that overlap the access's.
 pub(crate) fn note_access(
     holdings: &Holdings,
     found: &mut Table<()>,
@@ -84,13 +109,34 @@ pub(crate) fn note_access(
 ) -> Result<(), Memory>
     ensures { OnOk result (AreNoted found.old found.new (λ u. not (over_in forest.now u txn) && blocks holdings.now.cells access.now u)) }
 {
+    note_cell(holdings, found, forest, txn, &access.cell, access.mode)?;
+    note_beside(holdings, found, forest, txn, access)
+}
+
+/// The same, and whether the asker holds the lock of the access, by one look at its cell: where a
+/// lock of the asker's own covers the access, only ancestors have a lock that conflicts with it.
+pub(crate) fn survey_access(
+    holdings: &Holdings,
+    found: &mut Table<()>,
+    forest: &Forest,
+    txn: TxnId,
+    access: &Access,
+) -> Result<bool, Memory>
+    requires { KeepOthersOut (has_line holdings.now.cells) forest.now txn }
+    ensures noted { OnOk result (AreNoted found.old found.new (λ u. not (over_in forest.now u txn) && blocks holdings.now.cells access.now u)) }
+    ensures held { IfOk result (λ is_held. is_held ≡ true → HoldsAll holdings.now.cells txn (access.now ∷ [])) }
+{
     let mode = access.mode;
-    note_cell(holdings, found, forest, txn, &access.cell, mode)?;
-    match &access.cell {
-        Cell::Entry(dir, _) => note_cell(holdings, found, forest, txn, &Cell::Names(*dir), mode),
-        Cell::Names(dir) => note_entries(holdings, found, forest, txn, *dir, mode),
-        Cell::Parent(_) | Cell::Links(_) | Cell::Bytes(_) | Cell::Fd(_) => Ok(()),
+    if let Some(holders) = holdings.holders(&access.cell) {
+        if let Some(own) = holders.get(txn.0) {
+            if own.cover(mode) {
+                return Ok(own.has(mode, LockKind::Held));
+            }
+        }
+        note_list(found, forest, txn, holders.as_slice(), mode)?;
     }
+    note_beside(holdings, found, forest, txn, access)?;
+    Ok(false)
 }
 
 /// The owners noted, in rising order.

@@ -3,6 +3,7 @@ ghost use Rattle.std.specs.Prelude.{◌≡◌, ◌≢◌, ℕ, cond, false, List
 ghost use Rattle.std.specs.Option.{option_map, option_copied, option_copied_mut};
 ghost use Rattle.std.specs.FinMap as finite;
 ghost use Rattle.std.specs.Borrow.{sem};
+ghost use Rattle.ft_tree.specs.Entries.{entry_at};
 ghost use Rattle.ft_tree.specs.declared.cell.Cell.TheVariants.{Entry};
 ghost use Rattle.ft_tree.specs.declared.cell.Cell.{Cell};
 ghost use Rattle.ft_tree.specs.CellOrder.{same_cell};
@@ -84,7 +85,7 @@ impl LockedCells {
 
     /// The names of a directory's entries that are in the table.
     pub(crate) fn names_of(&self, dir: u64) -> Option<&BTreeSet<Name>>
-        ensures { (name : List ℕ) → is_among (option_copied result) name ≡ finite.contains_key self.now (Entry dir name) }
+        ensures { (name : List ℕ) → is_among (option_copied result) name ≡ finite.contains_key self.now (Entry (entry_at dir name)) }
     {
         let _cells = &self.cells;
         self.names.of(dir)

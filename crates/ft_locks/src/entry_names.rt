@@ -4,13 +4,14 @@ ghost use Rattle.std.specs.Option.{option_copied};
 ghost use Rattle.std.specs.Ordering.{nat_cmp, eq_by_cmp};
 ghost use Rattle.std.specs.Cmp.Lexicographic.{slice_cmp};
 ghost use Rattle.std.specs.FinMap as finite;
-ghost use Rattle.ft_tree.specs.declared.cell.Cell.TheVariants.{Entry};
+ghost use Rattle.ft_tree.specs.Entries.{entry_at};
+ghost use Rattle.ft_tree.specs.declared.cell.Cell.TheVariants.{Entry as EntryCell};
 ghost use Rattle.ft_tree.specs.CellOrder.{same_cell};
 ghost use Rattle.ft_locks.specs.Cells.{has_name};
 
 use ft_base::{Memory, Table};
 use ft_path::Name;
-use ft_tree::Cell;
+use ft_tree::{Cell, Entry};
 use std::alloc::Global;
 use std::collections::BTreeSet;
 
@@ -44,54 +45,54 @@ impl EntryNames {
 
     /// Adds the name of a cell that is an entry; another has none. Want of memory changes nothing.
     pub(crate) fn note(&mut self, cell: &Cell) -> Result<(), Memory>
-        ensures ok { OnOk result ((d : ℕ) (n : List ℕ) → has_name self.new.names d n ≡ (same_cell (Entry d n) cell.now || has_name self.old.names d n)) }
+        ensures ok { OnOk result ((d : ℕ) (n : List ℕ) → has_name self.new.names d n ≡ (same_cell (EntryCell (entry_at d n)) cell.now || has_name self.old.names d n)) }
         ensures err { OnErr result ((d : ℕ) (n : List ℕ) → has_name self.new.names d n ≡ has_name self.old.names d n) }
     {
         match cell {
-            Cell::Entry(dir, name) => self.add(*dir, name),
+            Cell::Entry(entry) => self.add(entry),
             _ => Ok(()),
         }
     }
 
     /// Takes out the name of a cell that is an entry. Takes no memory.
     pub(crate) fn forget(&mut self, cell: &Cell)
-        ensures { (d : ℕ) (n : List ℕ) → has_name self.new.names d n ≡ (not (same_cell (Entry d n) cell.now) && has_name self.old.names d n) }
+        ensures { (d : ℕ) (n : List ℕ) → has_name self.new.names d n ≡ (not (same_cell (EntryCell (entry_at d n)) cell.now) && has_name self.old.names d n) }
     {
-        if let Cell::Entry(dir, name) = cell {
-            self.remove(*dir, name);
+        if let Cell::Entry(entry) = cell {
+            self.remove(entry);
         }
     }
 
-    /// Adds a name of a directory. Want of memory changes nothing.
-    fn add(&mut self, dir: u64, name: &Name) -> Result<(), Memory>
-        ensures ok { OnOk result ((d : ℕ) (n : List ℕ) → has_name self.new.names d n ≡ ((d == dir) && eq_by_cmp (slice_cmp nat_cmp) n name.now || has_name self.old.names d n)) }
+    /// Adds the name of an entry. Want of memory changes nothing.
+    fn add(&mut self, entry: &Entry) -> Result<(), Memory>
+        ensures ok { OnOk result ((d : ℕ) (n : List ℕ) → has_name self.new.names d n ≡ ((d == entry.now.dir) && eq_by_cmp (slice_cmp nat_cmp) n entry.now.name || has_name self.old.names d n)) }
         ensures err { OnErr result ((d : ℕ) (n : List ℕ) → has_name self.new.names d n ≡ has_name self.old.names d n) }
     {
-        let name = name.try_clone()?;
-        match self.names.get_mut(dir) {
+        let name = entry.name.try_clone()?;
+        match self.names.get_mut(entry.dir) {
             Some(names) => {
                 names.insert(name)?;
             }
             None => {
                 let mut names = BTreeSet::new(self.alloc);
                 names.insert(name)?;
-                self.names.insert(dir, names)?;
+                self.names.insert(entry.dir, names)?;
             }
         }
         Ok(())
     }
 
-    /// Takes a name of a directory out. Takes no memory.
-    fn remove(&mut self, dir: u64, name: &Name)
-        ensures { (d : ℕ) (n : List ℕ) → has_name self.new.names d n ≡ (not ((d == dir) && eq_by_cmp (slice_cmp nat_cmp) n name.now) && has_name self.old.names d n) }
+    /// Takes the name of an entry out. Takes no memory.
+    fn remove(&mut self, entry: &Entry)
+        ensures { (d : ℕ) (n : List ℕ) → has_name self.new.names d n ≡ (not ((d == entry.now.dir) && eq_by_cmp (slice_cmp nat_cmp) n entry.now.name) && has_name self.old.names d n) }
     {
-        let Some(names) = self.names.get_mut(dir) else {
+        let Some(names) = self.names.get_mut(entry.dir) else {
             return;
         };
-        names.remove(name);
+        names.remove(&entry.name);
         let is_last = names.is_empty();
         if is_last {
-            self.names.remove(dir);
+            self.names.remove(entry.dir);
         }
     }
 }

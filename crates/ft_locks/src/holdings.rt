@@ -1,8 +1,9 @@
 // The places of owners on cells, found both by cell and by owner.
-ghost use Rattle.std.specs.Prelude.{◌≡◌, ◌≢◌, ◌+◌, ℕ, cond, true, false, not, List, [], ◌∷◌, drop, length, None, Some, IsSome, IsTrue, is_some, IfSome, IfNone, OnSome, IfOk, OnOk, OnErr};
+ghost use Rattle.std.specs.Prelude.{◌≡◌, ◌≢◌, ◌+◌, ℕ, cond, true, false, List, [], ◌∷◌, drop, length, None, Some, IsSome, IsTrue, IfSome, IfNone, OnSome, IfOk, OnOk, OnErr};
 ghost use Rattle.std.specs.Option.{option_map, option_copied};
 ghost use Rattle.std.specs.FinMap as finite;
 ghost use Rattle.ft_base.specs.Chains.{list_in, IsOpen};
+ghost use Rattle.ft_tree.specs.Entries.{entry_at};
 ghost use Rattle.ft_tree.specs.declared.cell.Cell.{Cell};
 ghost use Rattle.ft_tree.specs.declared.cell.Cell.TheVariants.{Entry};
 ghost use Rattle.ft_locks.specs.Marks.{with_marks};
@@ -111,7 +112,7 @@ impl Holdings {
 
     /// The names of a directory's entries on which anybody has a place.
     pub(crate) fn names_of(&self, dir: u64) -> Option<&BTreeSet<Name>>
-        ensures { (name : List ℕ) → is_among (option_copied result) name ≡ finite.contains_key self.now.cells (Entry dir name) }
+        ensures { (name : List ℕ) → is_among (option_copied result) name ≡ finite.contains_key self.now.cells (Entry (entry_at dir name)) }
     {
         self.cells.names_of(dir)
     }

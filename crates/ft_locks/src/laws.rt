@@ -1,5 +1,5 @@
 // How the lock table follows a history: each is the contract of a function that does nothing.
-ghost use Rattle.ft_locks.specs.Law.{FirstLaw, OwnerLaw, BeginLaw, GrantLaw, UndoLaw, CommitLaw, AbortLaw, ReleaseLaw, BlockLaw, CoverLaw, LockedLaw};
+ghost use Rattle.ft_locks.specs.Law.{FirstLaw, OwnerLaw, BeginLaw, GrantLaw, UndoLaw, CommitLaw, AbortLaw, ReleaseLaw, BlockLaw, AloneLaw, CoverLaw, LockedLaw};
 ghost use Rattle.ft_locks.specs.Knowing.{KnownLaw};
 
 use ft_calls::laws::lawful;
@@ -60,6 +60,13 @@ pub fn locks_released()
 /// Who is in the way by the table is in the way by the history.
 pub fn locks_block()
     ensures { BlockLaw }
+{
+    lawful();
+}
+
+/// A transaction without live children shares what it has locked with its ancestors alone.
+pub fn locks_alone()
+    ensures { AloneLaw }
 {
     lawful();
 }

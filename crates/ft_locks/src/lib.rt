@@ -16,4 +16,4 @@ mod locks;
 mod marks;
 
 pub use line::{LockKind, LockLine};
-pub use locks::Locks;
+pub use locks::{Locks, Survey};

@@ -1,9 +1,10 @@
 // The lock table.
-ghost use Rattle.std.specs.Prelude.{◌≡◌, ◌≢◌, ◌<◌, ℕ, true, OnOk, OnErr, IfOk, IfSome, IfNone};
+ghost use Rattle.std.specs.Prelude.{◌≡◌, ◌≢◌, ◌<◌, ◌≤◌, ℕ, take, length, true, OnOk, OnErr, IfOk, IfSome, IfNone};
 ghost use Rattle.std.specs.FinSet as set;
-ghost use Rattle.ft_locks.specs.Locks.{no_locks, has_lock, is_locked, is_let_go, is_opened, AreBlockers, AreGranted, AreInherited, AreListed, AreReleased};
+ghost use Rattle.ft_locks.specs.Locks.{no_locks, is_locked, is_let_go, is_opened, AreBlockers, AreGranted, AreInherited, AreListed, AreReleased};
+ghost use Rattle.ft_locks.specs.Surveys.{HasItsCellsAlone};
 
-use crate::blocking::{note_access, noted};
+use crate::blocking::{note_access, noted, survey_access};
 use crate::cells::LET_GO;
 use crate::holdings::{Dropped, Holdings};
 use crate::line::LockLine;
@@ -24,6 +25,15 @@ use std::marker::Model;
 pub struct Locks {
     alloc: Global,
     holdings: Holdings,
+}
+
+/// What one look at the cells of a call tells.
+#[derive(Drop)]
+pub struct Survey {
+    /// Who is in the way of it, in rising order and each once.
+    pub blockers: Vec<TxnId>,
+    /// How many of its accesses, from the first on, need no grant: the asker holds their locks.
+    pub held: usize,
 }
 
 impl Model for Locks {
@@ -82,6 +92,31 @@ impl Locks {
             note_access(&self.holdings, &mut found, forest, txn, access)?;
         }
         noted(self.alloc, &found)
+    }
+
+    /// Who is in the way of a call with these accesses, and for how many of them, from the first on,
+    /// the asker holds the locks already.
+    ///
+    /// A cell on which a lock of the asker's own covers the access is looked at once, and not those
+    /// that overlap it: nobody but an ancestor has a lock there that conflicts.
+    pub fn survey(&self, forest: &Forest, txn: TxnId, accesses: &[Access]) -> Result<Survey, Memory>
+        requires { HasItsCellsAlone self.now forest.now txn }
+        ensures blockers { IfOk result (λ survey. AreBlockers self.now forest.now txn accesses.now survey.blockers.items) }
+        ensures within { IfOk result (λ survey. survey.held ≤ length accesses.now) }
+        ensures held { IfOk result (λ survey. AreGranted self.now self.now txn (take survey.held accesses.now)) }
+    {
+        let mut found = Table::new(self.alloc);
+        let mut held = 0;
+        let mut has_all = true;
+        for access in accesses {
+            let is_held = survey_access(&self.holdings, &mut found, forest, txn, access)?;
+            has_all &= is_held;
+            if has_all {
+                held += 1;
+            }
+        }
+        let blockers = noted(self.alloc, &found)?;
+        Ok(Survey { blockers, held })
     }
 
     /// Gives a transaction the locks of these accesses, which it holds from then on. Want of memory

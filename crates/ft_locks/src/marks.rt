@@ -14,7 +14,7 @@ pub(crate) struct Marks {
 }
 
 impl Marks {
-    ghost use Rattle.ft_locks.specs.Marks.{no_marks, held_in, with_marks, passed_on, has_mark, is_marked, are_in_the_way};
+    ghost use Rattle.ft_locks.specs.Marks.{no_marks, held_in, with_marks, passed_on, has_mark, is_marked, are_in_the_way, cover};
 
     /// No lock.
     pub(crate) fn none() -> Marks
@@ -88,6 +88,16 @@ impl Marks {
         match mode {
             Mode::Read => self.write_held || self.write_retained,
             Mode::Write => self.is_some(),
+        }
+    }
+
+    /// Whether one of them is for such an access, or for more: who may write may read too.
+    pub(crate) fn cover(self, mode: Mode) -> bool
+        ensures { result ≡ cover self mode }
+    {
+        match mode {
+            Mode::Read => self.is_some(),
+            Mode::Write => self.write_held || self.write_retained,
         }
     }
 }

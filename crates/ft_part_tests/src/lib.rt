@@ -2,6 +2,8 @@
 #![tactic(auto)]
 
 #[cfg(test)]
+mod cells;
+#[cfg(test)]
 mod of_base;
 #[cfg(test)]
 mod of_body;
@@ -18,4 +20,6 @@ mod of_tree;
 #[cfg(test)]
 mod of_undo;
 #[cfg(test)]
-mod texts;
+mod rising;
+#[cfg(test)]
+mod trial;

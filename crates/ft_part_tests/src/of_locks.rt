@@ -1,18 +1,15 @@
 // Worked rows, as far as they speak of locks, and each call on its happy path.
+use crate::cells::entry_of;
 use ft_calls::{Access, Mode};
 use ft_forest::{Forest, TxnId};
 use ft_locks::{LockKind, Locks};
-use ft_path::{FilePath, Name};
 use ft_tree::{Cell, Keeps};
 use std::alloc::Global;
 use std::test::Fail;
 
 // The entry of a directory that has the first name of a path.
 fn entry(alloc: Global, dir: u64, path: &[u8]) -> Result<Cell, Fail> {
-    let path = FilePath::new(alloc, path)?;
-    let parts = path.parts(alloc)?;
-    let name: &Name = parts.names.as_slice().first().ok_or("a name")?;
-    Ok(Cell::Entry(dir, name.clone()?))
+    Ok(Cell::Entry(entry_of(alloc, dir, path)?))
 }
 
 fn list_accesses(list: &mut Vec<Access>, accesses: &[(&Cell, Mode)]) -> Result<(), Fail> {

@@ -1,5 +1,6 @@
 // Each call on its happy path, the limits, and what no clause says: printed text.
 // What has a destructor is held by the test alone; helpers take it by reference.
+use crate::rising::are_rising;
 use ft_base::Memory;
 use ft_path::{Errno, FilePath, LastName, Name, Names, Parts, PartsFault, PathFault};
 use std::alloc::{AllocError, Global};
@@ -70,15 +71,9 @@ fn texts_are_refused(rt: HostRuntime) -> Result<(), Fail> {
 #[test]
 fn names_are_ordered_by_bytes(rt: HostRuntime) -> Result<(), Fail> {
     let rising = parts_of(rt.alloc(), b"./../B/a/ab/b/\xff".as_slice())?;
-    assert!(rt; are_rising(rising.names.as_slice()));
+    let names = rising.names.as_slice();
+    assert!(rt; names.len() == 7 && are_rising(names));
     Ok(())
-}
-
-fn are_rising(names: &[Name]) -> bool {
-    names.len() == 7
-        && names.iter().zip(names.iter().skip(1)).all(|(low, high)| low < high
-            && low.cmp(high).is_lt()
-            && low != high)
 }
 
 #[test]

@@ -4,9 +4,13 @@ ghost use Rattle.std.specs.Prelude.{IfOk, OnOk};
 ghost use Rattle.ft_path.specs.Name.{IsName};
 ghost use Rattle.ft_tree.specs.Cells.{HasFilePlace};
 
+use crate::cells::entry_of;
+use crate::rising::are_rising;
 use ft_base::Memory;
 use ft_path::{Errno, FilePath, Name};
-use ft_tree::{AccessMode, Cell, Found, Kind, Node, OpenFile, ROOT, Spot, Tree, TreeRow, walk};
+use ft_tree::{
+    AccessMode, Cell, Entry, Found, Kind, Node, OpenFile, ROOT, Spot, Tree, TreeRow, walk,
+};
 use std::alloc::Global;
 use std::process::Abort;
 use std::test::Fail;
@@ -32,7 +36,8 @@ fn put(
 {
     let parent = tree.parent(dir);
     tree.set_parent(dir, parent)?;
-    tree.set_entry(dir, Name::from_bytes(alloc, name)?, to)?;
+    let name = Name::from_bytes(alloc, name)?;
+    tree.set_entry(Entry { dir, name }, to)?;
     Ok(())
 }
 
@@ -124,7 +129,7 @@ fn are_rows(rows: &[TreeRow], wanted: &[Row]) -> bool {
 fn row_of<'a>(row: &'a TreeRow) -> Row<'a> {
     match row {
         TreeRow::Dir { number } => Row::Dir(*number),
-        TreeRow::Edge { dir, name, number } => Row::Edge(*dir, name.as_bytes(), *number),
+        TreeRow::Edge { entry, number } => Row::Edge(entry.dir, entry.name.as_bytes(), *number),
         TreeRow::File {
             number,
             size,
@@ -313,11 +318,10 @@ fn ends_at_b(tree: &Tree, names: &[Name]) -> bool {
     match end {
         Ok(
             Spot::Named {
-                dir: 2,
-                name,
+                entry,
                 node: Some(Node::Dir(3)),
             },
-        ) => { name.as_bytes() == b"b".as_slice() }
+        ) => { entry.dir == 2 && entry.name.as_bytes() == b"b".as_slice() }
         _ => false,
     }
 }
@@ -496,17 +500,25 @@ fn cells_are_in_the_order_of_locks(rt: HostRuntime) -> Result<(), Fail> {
     Ok(())
 }
 
-fn rising_cells(alloc: Global) -> Result<Vec<Cell>, Memory> {
+fn rising_cells(alloc: Global) -> Result<Vec<Cell>, Fail> {
     let mut cells = Vec::new(alloc);
     push_entries(alloc, &mut cells)?;
     push_others(&mut cells)?;
     Ok(cells)
 }
 
-fn push_entries(alloc: Global, cells: &mut Vec<Cell>) -> Result<(), Memory> {
-    cells.push(Cell::Entry(1, Name::from_bytes(alloc, b"b".as_slice())?))?;
-    cells.push(Cell::Entry(2, Name::from_bytes(alloc, b"a".as_slice())?))?;
-    cells.push(Cell::Entry(2, Name::from_bytes(alloc, b"aa".as_slice())?))?;
+fn push_entries(alloc: Global, cells: &mut Vec<Cell>) -> Result<(), Fail> {
+    cells.push(Cell::Entry(entry_of(alloc, 1, b"b")?))?;
+    cells.push(Cell::Entry(entry_of(alloc, 2, b"a")?))?;
+    cells.push(Cell::Entry(entry_of(alloc, 2, b"aa")?))?;
+    Ok(())
+}
+
+#[test]
+fn entries_are_copied(rt: HostRuntime) -> Result<(), Fail> {
+    let entry = entry_of(rt.alloc(), 3, b"b")?;
+    assert!(rt; entry.clone()? == entry);
+    assert!(rt; entry.as_ref().to_entry()? == entry);
     Ok(())
 }
 
@@ -522,11 +534,4 @@ fn push_others(cells: &mut Vec<Cell>) -> Result<(), Memory> {
     cells.push(Cell::Fd(1))?;
     cells.push(Cell::Fd(7))?;
     Ok(())
-}
-
-fn are_rising(cells: &[Cell]) -> bool {
-    cells
-        .iter()
-        .zip(cells.iter().skip(1))
-        .all(|(low, high)| low < high)
 }

@@ -19,7 +19,7 @@ use Rattle.ft_script.specs.Texts.{txn_list}
 -- ---- the locks
 
 abbrev pub cell_text : Cell → List ℕ
-cell_text (Entry dir name) = codes "entry " ++ decimal dir ++ codes " " ++ coded name
+cell_text (Entry entry) = codes "entry " ++ decimal entry.dir ++ codes " " ++ coded entry.name
 cell_text (Names dir) = codes "names " ++ decimal dir
 cell_text (Parent dir) = codes "parent " ++ decimal dir
 cell_text (Links file) = codes "links " ++ decimal file

@@ -5,7 +5,7 @@ ghost use Rattle.ft_script.specs.Reports.{locks_text, lock_text, cell_text, mode
 
 use ft_calls::Mode;
 use ft_locks::{LockKind, LockLine};
-use ft_tree::Cell;
+use ft_tree::{Cell, Entry};
 use ft_words::Coded;
 use std::fmt;
 
@@ -65,7 +65,9 @@ impl fmt::Display for CellText<'_> {
 
     fn fmt<W: fmt::Write>(&self, f: &mut fmt::Formatter<W>) -> fmt::Result {
         match self.0 {
-            Cell::Entry(dir, name) => write!(f, "entry {dir} {}", Coded(name.as_bytes())),
+            Cell::Entry(Entry { dir, name }) => {
+                write!(f, "entry {dir} {}", Coded(name.as_bytes()))
+            }
             Cell::Names(dir) => write!(f, "names {dir}"),
             Cell::Parent(dir) => write!(f, "parent {dir}"),
             Cell::Links(file) => write!(f, "links {file}"),

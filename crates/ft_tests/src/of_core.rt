@@ -282,7 +282,7 @@ fn are_locks(lines: &[LockLine], txn: u64, kind: LockKind) -> bool {
     match lines {
         [entry, parent] => {
             let is_entry = match &entry.cell {
-                Cell::Entry(1, name) => name.as_bytes() == b"a".as_slice(),
+                Cell::Entry(entry) => entry.dir == 1 && entry.name.as_bytes() == b"a".as_slice(),
                 _ => false,
             };
             all && is_entry && parent.cell == Cell::Parent(2)

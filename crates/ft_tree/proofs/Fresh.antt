@@ -14,7 +14,9 @@ use Rattle.ft_tree.specs.declared.cell.Cell.TheVariants.{Entry, Names, Parent, L
 use Rattle.ft_tree.specs.Nodes.{number_of}
 use Rattle.ft_tree.specs.Cells.{DirCells, FileCells, no_dir, no_file, dir_of, file_of, dir_entry, entry_of, parent_of, links_of, open_of, filled, fresh_cells}
 use Rattle.ft_tree.specs.Held.{held}
-use Rattle.ft_tree.specs.Plain.{EdgeKey, edge_cmp, view_in}
+use Rattle.ft_tree.specs.declared.entry.Entry.{Entry as DirEntry}
+use Rattle.ft_tree.specs.Entries.{entry_at, entry_cmp}
+use Rattle.ft_tree.specs.Plain.{view_in}
 use Rattle.ft_tree.specs.Tidy.{tidy, edges_from}
 use Rattle.ft_tree.specs.Sound.{AreSoundCells, SaysNothingOf, IsFree}
 use Rattle.ft_tree.proofs.CellViews.{entries-empty}
@@ -43,14 +45,14 @@ fresh-open f = ap option_flatten (get-empty {X = Option OpenFile} nat_cmp f)
 fresh-edges : edges_from (entries fresh_cells.directories) ≡ []
 fresh-edges =
     ap edges_from (entries-insert nat_cmp_total empty 1 no_dir ∙ ap (put nat_cmp 1 no_dir) (entries-empty nat_cmp DirCells))
-    ∙ ap (λ places. map (λ (x : List ℕ × Node). ((1, x.0), number_of x.1)) (filter_map filled places) ++ []) (entries-empty (slice_cmp nat_cmp) (Option Node))
+    ∙ ap (λ places. map (λ (x : List ℕ × Node). (entry_at 1 x.0, number_of x.1)) (filter_map filled places) ++ []) (entries-empty (slice_cmp nat_cmp) (Option Node))
 
 -- the edges to a number, in a list of edges
-abbrev edges_to : ℕ → List (EdgeKey × ℕ) → ℕ
-edges_to i es = length (filter (λ e. e.1 == i) (entries (from_entries {R = edge_cmp} es)))
+abbrev edges_to : ℕ → List (DirEntry × ℕ) → ℕ
+edges_to i es = length (filter (λ e. e.1 == i) (entries (from_entries {R = entry_cmp} es)))
 
 fresh-edges_to : (i : ℕ) → edges_to i (edges_from (entries fresh_cells.directories)) ≡ 0
-fresh-edges_to i = ap (edges_to i) fresh-edges ∙ ap (λ es. length (filter (λ (e : EdgeKey × ℕ). e.1 == i) es)) (entries-empty edge_cmp ℕ)
+fresh-edges_to i = ap (edges_to i) fresh-edges ∙ ap (λ es. length (filter (λ (e : DirEntry × ℕ). e.1 == i) es)) (entries-empty entry_cmp ℕ)
 
 fresh-links : (i : ℕ) → links_of fresh_cells i ≡ view_in (tidy fresh_cells) (Links i)
 fresh-links i =
@@ -81,7 +83,7 @@ fresh-sound = record {
 }
 
 fresh-unused : (k : ℕ) (c : Cell) → SaysNothingOf k c (held fresh_cells c)
-fresh-unused k (Entry d name) = λ x is. absurd (no_value _ _ (fresh-entry d name) is)
+fresh-unused k (Entry entry) = λ x is. absurd (no_value _ _ (fresh-entry entry.dir entry.name) is)
 fresh-unused k (Names d) = tt
 fresh-unused k (Parent d) = λ at. fresh-parent d
 fresh-unused k (Links i) = λ at. ap (λ (x : FileCells). x.links) (fresh-file i)

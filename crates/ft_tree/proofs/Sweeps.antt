@@ -8,6 +8,7 @@ use Rattle.std.specs.Option.{option_map_or}
 use Rattle.std.specs.FinMap.{FinMap, get, insert, remove, entries, len, contains_key, get-empty, len-remove}
 use Rattle.std.specs.FinSet as set
 use Rattle.std.proofs.lemmas.Map.Lookups.{exact_unsigned}
+use Rattle.ft_tree.specs.Entries.{entry_at}
 use Rattle.ft_tree.specs.declared.node.Node.{Node}
 use Rattle.ft_tree.specs.declared.cell.Cell.{Cell}
 use Rattle.ft_tree.specs.declared.cell.Cell.TheVariants.{Entry, Names, Parent, Links, Bytes, Fd}
@@ -35,15 +36,15 @@ module _ (kept : Cell → Bool) where
       (λ f. subst P (sym (ap (λ b. cond b (without_place cells c) cells) f)) (stays f))
 
   -- the place of an entry is in a stored directory
-  by_entry : (P : Cells → Type 0) (cells : Cells) (d : ℕ) (name : List ℕ) → is_spare kept cells (Entry d name) ≡ true
-      → ((x : DirCells) → get cells.directories d ≡ Some x → P (without_place cells (Entry d name))) → P (without_place cells (Entry d name))
+  by_entry : (P : Cells → Type 0) (cells : Cells) (d : ℕ) (name : List ℕ) → is_spare kept cells (Entry (entry_at d name)) ≡ true
+      → ((x : DirCells) → get cells.directories d ≡ Some x → P (without_place cells (Entry (entry_at d name)))) → P (without_place cells (Entry (entry_at d name)))
   by_entry P cells d name spare there = by_option (get cells.directories d)
-      (λ n. unlike (both-left (contains_key (dir_of cells d).entries name) _ (both-left _ (not (kept (Entry d name))) spare))
+      (λ n. unlike (both-left (contains_key (dir_of cells d).entries name) _ (both-left _ (not (kept (Entry (entry_at d name)))) spare))
       (ap (λ o. is_some (get (unwrap_or o no_dir).entries name)) n ∙ ap is_some (get-empty (slice_cmp nat_cmp) name)))
       there
 
   entry-out : (P : Cells → Type 0) (cells : Cells) (d : ℕ) (name : List ℕ) (x : DirCells) → get cells.directories d ≡ Some x
-      → P (put_dir cells d (without_dir_place x name)) → P (without_place cells (Entry d name))
+      → P (put_dir cells d (without_dir_place x name)) → P (without_place cells (Entry (entry_at d name)))
   entry-out P cells d name x is p =
       subst (λ o. P (option_map_or (λ y. put_dir cells d (without_dir_place y name)) o cells)) (sym is) p
 
@@ -57,8 +58,8 @@ module _ (kept : Cell → Bool) where
     dir-swept : (d : ℕ) → IsSwept kept cells (drop_spare kept cells (Parent d))
     dir-swept d = by_spare (IsSwept kept cells) cells (Parent d) (swept-dir kept cells d) (λ n. swept-none kept cells)
 
-    entry-swept : (d : ℕ) (name : List ℕ) → IsSwept kept cells (drop_spare kept cells (Entry d name))
-    entry-swept d name = by_spare (IsSwept kept cells) cells (Entry d name)
+    entry-swept : (d : ℕ) (name : List ℕ) → IsSwept kept cells (drop_spare kept cells (Entry (entry_at d name)))
+    entry-swept d name = by_spare (IsSwept kept cells) cells (Entry (entry_at d name))
         (λ t. by_entry (IsSwept kept cells) cells d name t (λ x is. entry-out (IsSwept kept cells) cells d name x is (swept-entry kept cells d name x is t)))
         (λ n. swept-none kept cells)
 
@@ -71,9 +72,9 @@ module _ (kept : Cell → Bool) where
     dir-gone : (d : ℕ) → is_spare kept (drop_spare kept cells (Parent d)) (Parent d) ≡ false
     dir-gone d = by_spare (λ new. is_spare kept new (Parent d) ≡ false) cells (Parent d) (gone-dir kept cells d) (λ n. n)
 
-    entry-gone : (d : ℕ) (name : List ℕ) → is_spare kept (drop_spare kept cells (Entry d name)) (Entry d name) ≡ false
-    entry-gone d name = by_spare (λ new. is_spare kept new (Entry d name) ≡ false) cells (Entry d name)
-        (λ t. by_entry (λ new. is_spare kept new (Entry d name) ≡ false) cells d name t (λ x is. entry-out (λ new. is_spare kept new (Entry d name) ≡ false) cells d name x is (gone-entry kept cells d name x is t)))
+    entry-gone : (d : ℕ) (name : List ℕ) → is_spare kept (drop_spare kept cells (Entry (entry_at d name))) (Entry (entry_at d name)) ≡ false
+    entry-gone d name = by_spare (λ new. is_spare kept new (Entry (entry_at d name)) ≡ false) cells (Entry (entry_at d name))
+        (λ t. by_entry (λ new. is_spare kept new (Entry (entry_at d name)) ≡ false) cells d name t (λ x is. entry-out (λ new. is_spare kept new (Entry (entry_at d name)) ≡ false) cells d name x is (gone-entry kept cells d name x is t)))
         (λ n. n)
 
     file-dirs : (i e : ℕ) → dir_of (drop_spare kept cells (Links i)) e ≡ dir_of cells e
@@ -85,8 +86,8 @@ module _ (kept : Cell → Bool) where
     dir-dirs : (d e : ℕ) → dir_of (drop_spare kept cells (Parent d)) e ≡ dir_of cells e
     dir-dirs d e = by_spare (λ new. dir_of new e ≡ dir_of cells e) cells (Parent d) (λ t. dir-same kept cells d t e) (λ n. refl)
 
-    entry-dirs : (d : ℕ) (name : List ℕ) (e : ℕ) → eq_by_cmp nat_cmp e d ≡ false → dir_of (drop_spare kept cells (Entry d name)) e ≡ dir_of cells e
-    entry-dirs d name e other = by_spare (λ new. dir_of new e ≡ dir_of cells e) cells (Entry d name)
+    entry-dirs : (d : ℕ) (name : List ℕ) (e : ℕ) → eq_by_cmp nat_cmp e d ≡ false → dir_of (drop_spare kept cells (Entry (entry_at d name))) e ≡ dir_of cells e
+    entry-dirs d name e other = by_spare (λ new. dir_of new e ≡ dir_of cells e) cells (Entry (entry_at d name))
         (λ t. by_entry (λ new. dir_of new e ≡ dir_of cells e) cells d name t (λ x is. entry-out (λ new. dir_of new e ≡ dir_of cells e) cells d name x is (dir-other kept cells d name x is t e other)))
         (λ n. refl)
 
@@ -99,15 +100,15 @@ module _ (kept : Cell → Bool) where
     dir-tidy : (d : ℕ) → tidy (drop_spare kept cells (Parent d)) ≡ tidy cells
     dir-tidy d = by_spare (λ new. tidy new ≡ tidy cells) cells (Parent d) (tidy-dir kept cells d) (λ n. refl)
 
-    entry-tidy : (d : ℕ) (name : List ℕ) → tidy (drop_spare kept cells (Entry d name)) ≡ tidy cells
-    entry-tidy d name = by_spare (λ new. tidy new ≡ tidy cells) cells (Entry d name)
+    entry-tidy : (d : ℕ) (name : List ℕ) → tidy (drop_spare kept cells (Entry (entry_at d name))) ≡ tidy cells
+    entry-tidy d name = by_spare (λ new. tidy new ≡ tidy cells) cells (Entry (entry_at d name))
         (λ t. by_entry (λ new. tidy new ≡ tidy cells) cells d name t (λ x is. entry-out (λ new. tidy new ≡ tidy cells) cells d name x is (tidy-entry kept cells d name x is t)))
         (λ n. refl)
 
   -- One cell.
 
   pub at-swept : (cells : Cells) (c : Cell) → IsSwept kept cells (swept_at kept cells c)
-  at-swept cells (Entry d name) = swept-then kept cells (drop_spare kept cells (Entry d name)) _ (entry-swept cells d name) (dir-swept (drop_spare kept cells (Entry d name)) d)
+  at-swept cells (Entry entry) = swept-then kept cells (drop_spare kept cells (Entry entry)) _ (entry-swept cells entry.dir entry.name) (dir-swept (drop_spare kept cells (Entry entry)) entry.dir)
   at-swept cells (Names d) = dir-swept cells d
   at-swept cells (Parent d) = dir-swept cells d
   at-swept cells (Links i) = file-swept cells i
@@ -115,7 +116,7 @@ module _ (kept : Cell → Bool) where
   at-swept cells (Fd f) = fd-swept cells f
 
   pub at-tidy : (cells : Cells) (c : Cell) → tidy (swept_at kept cells c) ≡ tidy cells
-  at-tidy cells (Entry d name) = dir-tidy (drop_spare kept cells (Entry d name)) d ∙ entry-tidy cells d name
+  at-tidy cells (Entry entry) = dir-tidy (drop_spare kept cells (Entry entry)) entry.dir ∙ entry-tidy cells entry.dir entry.name
   at-tidy cells (Names d) = dir-tidy cells d
   at-tidy cells (Parent d) = dir-tidy cells d
   at-tidy cells (Links i) = file-tidy cells i
@@ -127,20 +128,20 @@ module _ (kept : Cell → Bool) where
   dir-back cells d q s = spare-before kept cells _ (dir-swept cells d) q (same_dirs kept cells (drop_spare kept cells (Parent d)) (dir-dirs cells d) q) s
 
   dir-other_back : (cells : Cells) (d : ℕ) (name : List ℕ) (e : ℕ)
-      → is_spare kept (swept_at kept cells (Entry d name)) (Parent e) ≡ true → is_spare kept cells (Parent e) ≡ true
+      → is_spare kept (swept_at kept cells (Entry (entry_at d name))) (Parent e) ≡ true → is_spare kept cells (Parent e) ≡ true
   dir-other_back cells d name e s =
-      let mid = drop_spare kept cells (Entry d name) in
+      let mid = drop_spare kept cells (Entry (entry_at d name)) in
       by_test (eq_by_cmp nat_cmp e d)
       (λ t. unlike (ap (λ x. is_spare kept (drop_spare kept mid (Parent d)) (Parent x)) (sym (tied-is exact_unsigned e d t)) ∙ s) (dir-gone mid d))
       (λ f. spare-before kept cells mid (entry-swept cells d name) (Parent e) (entry-dirs cells d name e f) (dir-back mid d (Parent e) s))
 
-  entry-back : (cells : Cells) (d : ℕ) (name : List ℕ) (q : Cell) → is_spare kept (swept_at kept cells (Entry d name)) q ≡ true → is_spare kept cells q ≡ true
-  entry-back cells d name (Entry e m) s = spare-before kept cells _ (entry-swept cells d name) (Entry e m) tt (dir-back (drop_spare kept cells (Entry d name)) d (Entry e m) s)
+  entry-back : (cells : Cells) (d : ℕ) (name : List ℕ) (q : Cell) → is_spare kept (swept_at kept cells (Entry (entry_at d name))) q ≡ true → is_spare kept cells q ≡ true
+  entry-back cells d name (Entry entry) s = spare-before kept cells _ (entry-swept cells d name) (Entry entry) tt (dir-back (drop_spare kept cells (Entry (entry_at d name))) d (Entry entry) s)
   entry-back cells d name (Names e) s = dir-other_back cells d name e s
   entry-back cells d name (Parent e) s = dir-other_back cells d name e s
-  entry-back cells d name (Links i) s = spare-before kept cells _ (entry-swept cells d name) (Links i) tt (dir-back (drop_spare kept cells (Entry d name)) d (Links i) s)
-  entry-back cells d name (Bytes i) s = spare-before kept cells _ (entry-swept cells d name) (Bytes i) tt (dir-back (drop_spare kept cells (Entry d name)) d (Bytes i) s)
-  entry-back cells d name (Fd f) s = spare-before kept cells _ (entry-swept cells d name) (Fd f) tt (dir-back (drop_spare kept cells (Entry d name)) d (Fd f) s)
+  entry-back cells d name (Links i) s = spare-before kept cells _ (entry-swept cells d name) (Links i) tt (dir-back (drop_spare kept cells (Entry (entry_at d name))) d (Links i) s)
+  entry-back cells d name (Bytes i) s = spare-before kept cells _ (entry-swept cells d name) (Bytes i) tt (dir-back (drop_spare kept cells (Entry (entry_at d name))) d (Bytes i) s)
+  entry-back cells d name (Fd f) s = spare-before kept cells _ (entry-swept cells d name) (Fd f) tt (dir-back (drop_spare kept cells (Entry (entry_at d name))) d (Fd f) s)
 
   file-back : (cells : Cells) (i : ℕ) (q : Cell) → is_spare kept (drop_spare kept cells (Links i)) q ≡ true → is_spare kept cells q ≡ true
   file-back cells i q s = spare-before kept cells _ (file-swept cells i) q (same_dirs kept cells (drop_spare kept cells (Links i)) (file-dirs cells i) q) s
@@ -150,21 +151,21 @@ module _ (kept : Cell → Bool) where
 
   -- nothing to drop comes
   pub at-back : (cells : Cells) (c q : Cell) → is_spare kept (swept_at kept cells c) q ≡ true → is_spare kept cells q ≡ true
-  at-back cells (Entry d name) q s = entry-back cells d name q s
+  at-back cells (Entry entry) q s = entry-back cells entry.dir entry.name q s
   at-back cells (Names d) q s = dir-back cells d q s
   at-back cells (Parent d) q s = dir-back cells d q s
   at-back cells (Links i) q s = file-back cells i q s
   at-back cells (Bytes i) q s = file-back cells i q s
   at-back cells (Fd f) q s = fd-back cells f q s
 
-  entry-at : (cells : Cells) (d : ℕ) (name : List ℕ) → is_spare kept (swept_at kept cells (Entry d name)) (Entry d name) ≡ false
-  entry-at cells d name = by_test (is_spare kept (swept_at kept cells (Entry d name)) (Entry d name))
-      (λ t. unlike (dir-back (drop_spare kept cells (Entry d name)) d (Entry d name) t) (entry-gone cells d name))
+  entry-at : (cells : Cells) (d : ℕ) (name : List ℕ) → is_spare kept (swept_at kept cells (Entry (entry_at d name))) (Entry (entry_at d name)) ≡ false
+  entry-at cells d name = by_test (is_spare kept (swept_at kept cells (Entry (entry_at d name))) (Entry (entry_at d name)))
+      (λ t. unlike (dir-back (drop_spare kept cells (Entry (entry_at d name))) d (Entry (entry_at d name)) t) (entry-gone cells d name))
       (λ f. f)
 
   -- and at the cell nothing is left to drop
   pub at-gone : (cells : Cells) (c : Cell) → is_spare kept (swept_at kept cells c) c ≡ false
-  at-gone cells (Entry d name) = entry-at cells d name
+  at-gone cells (Entry entry) = entry-at cells entry.dir entry.name
   at-gone cells (Names d) = dir-gone cells d
   at-gone cells (Parent d) = dir-gone cells d
   at-gone cells (Links i) = file-gone cells i
@@ -209,7 +210,7 @@ module _ (kept : Cell → Bool) where
   one-of false b l r h = r h
 
   clean-place : (first : LetGo) (old now : Cells) → IsSweeping first set.empty old now → (c : Cell) → at_place (set.contains first) c ≡ true → is_spare kept now c ≡ false
-  clean-place first old now h (Entry d name) was = clean first old now h (Entry d name) was
+  clean-place first old now h (Entry entry) was = clean first old now h (Entry entry) was
   clean-place first old now h (Names d) was = one-of (set.contains first (Names d)) (set.contains first (Parent d)) (clean first old now h (Names d)) (clean first old now h (Parent d)) was
   clean-place first old now h (Parent d) was = one-of (set.contains first (Names d)) (set.contains first (Parent d)) (clean first old now h (Names d)) (clean first old now h (Parent d)) was
   clean-place first old now h (Links i) was = one-of (set.contains first (Links i)) (set.contains first (Bytes i)) (clean first old now h (Links i)) (clean first old now h (Bytes i)) was
@@ -327,9 +328,9 @@ module _ (kept : Cell → Bool) where
         ∙ ap (λ n. (1 + n) + weight nat_cmp_total exact_unsigned weight_of (entries (remove cells.directories d))) none
         ∙ ap (λ n. 1 + n) (sym (dirs-weight (entries (remove cells.directories d))))))
 
-    entry-count : (d : ℕ) (name : List ℕ) (x : DirCells) → get cells.directories d ≡ Some x → is_spare kept cells (Entry d name) ≡ true → places_in cells ≡ 1 + places_in (put_dir cells d (without_dir_place x name))
+    entry-count : (d : ℕ) (name : List ℕ) (x : DirCells) → get cells.directories d ≡ Some x → is_spare kept cells (Entry (entry_at d name)) ≡ true → places_in cells ≡ 1 + places_in (put_dir cells d (without_dir_place x name))
     entry-count d name x is t =
-        let there : contains_key x.entries name ≡ true = ap (λ o. contains_key (unwrap_or o no_dir).entries name) (sym is) ∙ both-left (contains_key (dir_of cells d).entries name) _ (both-left _ (not (kept (Entry d name))) t) in
+        let there : contains_key x.entries name ≡ true = ap (λ o. contains_key (unwrap_or o no_dir).entries name) (sym is) ∙ both-left (contains_key (dir_of cells d).entries name) _ (both-left _ (not (kept (Entry (entry_at d name)))) t) in
         let less = without_dir_place x name in
         dirs-out (places_of_dirs (entries cells.directories)) (places_of_dirs (entries (insert cells.directories d less))) (len cells.files) (len cells.opens)
         (dirs-weight (entries cells.directories)
@@ -355,15 +356,15 @@ module _ (kept : Cell → Bool) where
     drop-dir : (d : ℕ) → places_in cells ≡ one_if (is_spare kept cells (Parent d)) + places_in (drop_spare kept cells (Parent d))
     drop-dir d = counted-drop (Parent d) (dir-count d)
 
-    drop-entry : (d : ℕ) (name : List ℕ) → places_in cells ≡ one_if (is_spare kept cells (Entry d name)) + places_in (drop_spare kept cells (Entry d name))
-    drop-entry d name = counted-drop (Entry d name)
+    drop-entry : (d : ℕ) (name : List ℕ) → places_in cells ≡ one_if (is_spare kept cells (Entry (entry_at d name))) + places_in (drop_spare kept cells (Entry (entry_at d name)))
+    drop-entry d name = counted-drop (Entry (entry_at d name))
         (λ t. by_entry kept (λ new. places_in cells ≡ 1 + places_in new) cells d name t (λ x is. entry-out kept (λ new. places_in cells ≡ 1 + places_in new) cells d name x is (entry-count d name x is t)))
 
   two : (a b c d e : ℕ) → a ≡ b + c → c ≡ d + e → a ≡ (b + d) + e
   two a b c d e h g = omega arith
 
   pub at-count : (cells : Cells) (c : Cell) → places_in cells ≡ dropped_at kept cells c + places_in (swept_at kept cells c)
-  at-count cells (Entry d name) = two (places_in cells) (one_if (is_spare kept cells (Entry d name))) (places_in (drop_spare kept cells (Entry d name))) _ _ (drop-entry cells d name) (drop-dir (drop_spare kept cells (Entry d name)) d)
+  at-count cells (Entry entry) = two (places_in cells) (one_if (is_spare kept cells (Entry entry))) (places_in (drop_spare kept cells (Entry entry))) _ _ (drop-entry cells entry.dir entry.name) (drop-dir (drop_spare kept cells (Entry entry)) entry.dir)
   at-count cells (Names d) = drop-dir cells d
   at-count cells (Parent d) = drop-dir cells d
   at-count cells (Links i) = drop-file cells i

@@ -7,6 +7,7 @@ use Rattle.std.specs.Cmp.Lexicographic.{slice_cmp, nat_list_cmp_total}
 use Rattle.std.specs.Option.{option_flatten, option_map_or}
 use Rattle.std.specs.FinMap.{get, remove, empty, len, contains_key, get-remove, get-insert, empty_of_len}
 use Rattle.std.proofs.lemmas.Map.Lookups.{exact_unsigned, exact_bytes}
+use Rattle.ft_tree.specs.Entries.{entry_at}
 use Rattle.ft_tree.specs.declared.node.Node.{Node}
 use Rattle.ft_tree.specs.declared.open_file.OpenFile.{OpenFile}
 use Rattle.ft_tree.specs.declared.cell.Cell.{Cell}
@@ -55,7 +56,7 @@ module _ (kept : Cell → Bool) where
 
   -- the directory of a cell, where it is one's, is the same
   abbrev pub SameDir : Cells → Cells → Cell → Type 0
-  SameDir old new (Entry d name) = Unit {0}
+  SameDir old new (Entry entry) = Unit {0}
   SameDir old new (Names d) = dir_of new d ≡ dir_of old d
   SameDir old new (Parent d) = dir_of new d ≡ dir_of old d
   SameDir old new (Links i) = Unit {0}
@@ -63,7 +64,7 @@ module _ (kept : Cell → Bool) where
   SameDir old new (Fd f) = Unit {0}
 
   pub same_dirs : (old new : Cells) → ((d : ℕ) → dir_of new d ≡ dir_of old d) → (c : Cell) → SameDir old new c
-  same_dirs old new same (Entry d name) = tt
+  same_dirs old new same (Entry entry) = tt
   same_dirs old new same (Names d) = same d
   same_dirs old new same (Parent d) = same d
   same_dirs old new same (Links i) = tt
@@ -79,7 +80,7 @@ module _ (kept : Cell → Bool) where
   file-before old new h i u = both-of _ _ (h.none_new (Links i) (both-left _ _ u)) (ap not (sym (h.named i)) ∙ both-right _ _ u)
 
   useless-before : (old new : Cells) → IsSwept kept old new → (c : Cell) → SameDir old new c → is_useless new c ≡ true → is_useless old c ≡ true
-  useless-before old new h (Entry d name) same u = both-of _ _ (h.none_new (Entry d name) (both-left _ _ u)) (ap is_none (sym (h.entries d name)) ∙ both-right _ _ u)
+  useless-before old new h (Entry entry) same u = both-of _ _ (h.none_new (Entry entry) (both-left _ _ u)) (ap is_none (sym (h.entries entry.dir entry.name)) ∙ both-right _ _ u)
   useless-before old new h (Names d) same u = dir-before old new h d same u
   useless-before old new h (Parent d) same u = dir-before old new h d same u
   useless-before old new h (Links i) same u = file-before old new h i u
@@ -130,7 +131,7 @@ module _ (kept : Cell → Bool) where
         (λ f. subst IsSome (file-there j f) s)
 
     file-kept : (c : Cell) → kept c ≡ true → IsStored cells c → IsStored no_file_left c
-    file-kept (Entry d name) k s = s
+    file-kept (Entry entry) k s = s
     file-kept (Names d) k s = s
     file-kept (Parent d) k s = s
     file-kept (Links j) k s = stays-links j k s
@@ -138,7 +139,7 @@ module _ (kept : Cell → Bool) where
     file-kept (Fd f) k s = s
 
     file-none_new : (c : Cell) → IsStored no_file_left c → IsStored cells c
-    file-none_new (Entry d name) s = s
+    file-none_new (Entry entry) s = s
     file-none_new (Names d) s = s
     file-none_new (Parent d) s = s
     file-none_new (Links j) s = file-was j s
@@ -189,7 +190,7 @@ module _ (kept : Cell → Bool) where
     fd-there j n = get-remove nat_cmp_total cells.opens f j ∙ ap (λ b. cond b None (get cells.opens j)) n
 
     fd-kept : (c : Cell) → kept c ≡ true → IsStored cells c → IsStored no_fd_left c
-    fd-kept (Entry d name) k s = s
+    fd-kept (Entry entry) k s = s
     fd-kept (Names d) k s = s
     fd-kept (Parent d) k s = s
     fd-kept (Links j) k s = s
@@ -199,7 +200,7 @@ module _ (kept : Cell → Bool) where
         (λ n. subst IsSome (sym (fd-there j n)) s)
 
     fd-none_new : (c : Cell) → IsStored no_fd_left c → IsStored cells c
-    fd-none_new (Entry d name) s = s
+    fd-none_new (Entry entry) s = s
     fd-none_new (Names d) s = s
     fd-none_new (Parent d) s = s
     fd-none_new (Links j) s = s
@@ -268,7 +269,7 @@ module _ (kept : Cell → Bool) where
         (λ f. subst IsSome (dir-there e f) s)
 
     dir-kept : (c : Cell) → kept c ≡ true → IsStored cells c → IsStored no_dir_left c
-    dir-kept (Entry e name) k s = subst (λ (x : DirCells). IsSome (get x.entries name)) (sym (dir-same e)) s
+    dir-kept (Entry entry) k s = subst (λ (x : DirCells). IsSome (get x.entries entry.name)) (sym (dir-same entry.dir)) s
     dir-kept (Names e) k s = dir-stays e (λ t. unlike k (ap (λ x. kept (Names x)) (tied-is exact_unsigned e d t) ∙ none-left _ _ free-dir)) s
     dir-kept (Parent e) k s = dir-stays e (λ t. unlike k (ap (λ x. kept (Parent x)) (tied-is exact_unsigned e d t) ∙ none-right _ _ free-dir)) s
     dir-kept (Links j) k s = s
@@ -276,7 +277,7 @@ module _ (kept : Cell → Bool) where
     dir-kept (Fd f) k s = s
 
     dir-none_new : (c : Cell) → IsStored no_dir_left c → IsStored cells c
-    dir-none_new (Entry e name) s = subst (λ (x : DirCells). IsSome (get x.entries name)) (dir-same e) s
+    dir-none_new (Entry entry) s = subst (λ (x : DirCells). IsSome (get x.entries entry.name)) (dir-same entry.dir) s
     dir-none_new (Names e) s = dir-was e s
     dir-none_new (Parent e) s = dir-was e s
     dir-none_new (Links j) s = s
@@ -303,14 +304,14 @@ module _ (kept : Cell → Bool) where
     gone-dir = ap (λ o. (is_some o && not (has_dir no_dir_left d) && (len (dir_of no_dir_left d).entries == 0)) && not (at_place kept (Parent d))) (dir-here d (tied-itself nat_cmp_total d))
 
   -- An entry.
-  module _ (cells : Cells) (d : ℕ) (name : List ℕ) (x : DirCells) (is : get cells.directories d ≡ Some x) (spare : is_spare kept cells (Entry d name) ≡ true) where
+  module _ (cells : Cells) (d : ℕ) (name : List ℕ) (x : DirCells) (is : get cells.directories d ≡ Some x) (spare : is_spare kept cells (Entry (entry_at d name)) ≡ true) where
     abbrev less : DirCells
     less = without_dir_place x name
 
     abbrev no_entry_left : Cells
     no_entry_left = put_dir cells d less
 
-    free-entry : kept (Entry d name) ≡ false
+    free-entry : kept (Entry (entry_at d name)) ≡ false
     free-entry = not-true _ (both-right _ _ spare)
 
     is_dir : dir_of cells d ≡ x
@@ -357,14 +358,14 @@ module _ (kept : Cell → Bool) where
         (λ t. ap is_some (at-here e t) ∙ sym (ap is_some (was-here e t)))
         (λ f. ap is_some (at-there e f))
 
-    entry-stays : (e : ℕ) (m : List ℕ) → kept (Entry e m) ≡ true → IsStored cells (Entry e m) → IsStored no_entry_left (Entry e m)
+    entry-stays : (e : ℕ) (m : List ℕ) → kept (Entry (entry_at e m)) ≡ true → IsStored cells (Entry (entry_at e m)) → IsStored no_entry_left (Entry (entry_at e m))
     entry-stays e m k s = by_test (eq_by_cmp nat_cmp e d)
         (λ t. by_test (eq_by_cmp (slice_cmp nat_cmp) m name)
-        (λ u. unlike k (ap (λ y. kept (Entry y m)) (tied-is exact_unsigned e d t) ∙ ap (λ y. kept (Entry d y)) (tied-is exact_bytes m name u) ∙ free-entry))
+        (λ u. unlike k (ap (λ y. kept (Entry (entry_at y m))) (tied-is exact_unsigned e d t) ∙ ap (λ y. kept (Entry (entry_at d y))) (tied-is exact_bytes m name u) ∙ free-entry))
         (λ v. subst (λ o. IsSome (get (unwrap_or o no_dir).entries m)) (sym (at-here e t)) (subst IsSome (sym (less-there m v)) (subst (λ o. IsSome (get (unwrap_or o no_dir).entries m)) (was-here e t) s))))
         (λ f. subst (λ o. IsSome (get (unwrap_or o no_dir).entries m)) (sym (at-there e f)) s)
 
-    entry-was : (e : ℕ) (m : List ℕ) → IsStored no_entry_left (Entry e m) → IsStored cells (Entry e m)
+    entry-was : (e : ℕ) (m : List ℕ) → IsStored no_entry_left (Entry (entry_at e m)) → IsStored cells (Entry (entry_at e m))
     entry-was e m s = by_test (eq_by_cmp nat_cmp e d)
         (λ t. by_test (eq_by_cmp (slice_cmp nat_cmp) m name)
         (λ u. unlike (sym (ap is_some (less-here m u)) ∙ subst (λ o. IsSome (get (unwrap_or o no_dir).entries m)) (at-here e t) s) refl)
@@ -372,7 +373,7 @@ module _ (kept : Cell → Bool) where
         (λ f. subst (λ o. IsSome (get (unwrap_or o no_dir).entries m)) (at-there e f) s)
 
     entry-kept : (c : Cell) → kept c ≡ true → IsStored cells c → IsStored no_entry_left c
-    entry-kept (Entry e m) k s = entry-stays e m k s
+    entry-kept (Entry entry) k s = entry-stays entry.dir entry.name k s
     entry-kept (Names e) k s = dir-place e ∙ s
     entry-kept (Parent e) k s = dir-place e ∙ s
     entry-kept (Links j) k s = s
@@ -380,7 +381,7 @@ module _ (kept : Cell → Bool) where
     entry-kept (Fd f) k s = s
 
     entry-none_new : (c : Cell) → IsStored no_entry_left c → IsStored cells c
-    entry-none_new (Entry e m) s = entry-was e m s
+    entry-none_new (Entry entry) s = entry-was entry.dir entry.name s
     entry-none_new (Names e) s = sym (dir-place e) ∙ s
     entry-none_new (Parent e) s = sym (dir-place e) ∙ s
     entry-none_new (Links j) s = s
@@ -405,8 +406,8 @@ module _ (kept : Cell → Bool) where
       none_new = entry-none_new;
     }
 
-    pub gone-entry : is_spare kept no_entry_left (Entry d name) ≡ false
+    pub gone-entry : is_spare kept no_entry_left (Entry (entry_at d name)) ≡ false
     gone-entry =
         let none : is_some (get (dir_of no_entry_left d).entries name) ≡ false =
         ap (λ o. is_some (get (unwrap_or o no_dir).entries name)) (at-here d (tied-itself nat_cmp_total d)) ∙ ap is_some (less-here name (tied-itself nat_list_cmp_total name)) in
-        ap (λ b. (b && is_none (entry_of no_entry_left d name)) && not (kept (Entry d name))) none
+        ap (λ b. (b && is_none (entry_of no_entry_left d name)) && not (kept (Entry (entry_at d name)))) none

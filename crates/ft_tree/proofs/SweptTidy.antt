@@ -8,6 +8,7 @@ use Rattle.std.specs.List.{filter_map}
 use Rattle.std.specs.FinMap.{get, remove, insert, entries, from_entries, contains_key}
 use Rattle.std.proofs.lemmas.Bool.{false≢true}
 use Rattle.std.proofs.lemmas.Map.Lookups.{exact_unsigned, exact_bytes}
+use Rattle.ft_tree.specs.Entries.{entry_at}
 use Rattle.ft_tree.specs.declared.node.Node.{Node}
 use Rattle.ft_tree.specs.declared.open_file.OpenFile.{OpenFile}
 use Rattle.ft_tree.specs.declared.cell.Cell.{Cell}
@@ -15,7 +16,7 @@ use Rattle.ft_tree.specs.declared.cell.Cell.TheVariants.{Entry, Parent, Links, F
 use Rattle.ft_tree.specs.Nodes.{number_of}
 use Rattle.ft_tree.specs.Cells.{Cells, DirCells, FileCells, Opens, no_dir, no_file, dir_of, dir_names, filled, is_there, has_file, is_open, without_dir_place, put_dir}
 use Rattle.ft_tree.specs.Held.{without_place}
-use Rattle.ft_tree.specs.Plain.{EdgeKey}
+use Rattle.ft_tree.specs.declared.entry.Entry.{Entry as DirEntry}
 use Rattle.ft_tree.specs.Tidy.{tidy, edges_at, edges_from, member, dirs_from, is_named, files_from, opens_from}
 use Rattle.ft_tree.specs.Sweep.{at_place, is_spare}
 use Rattle.ft_tree.proofs.CellViews.{entries-empty}
@@ -26,7 +27,7 @@ use Rattle.ft_tree.proofs.Swept.{bare, not_there}
 
 -- The lists as they are gathered, entry by entry.
 
-abbrev edges_of : ℕ × DirCells → List (EdgeKey × ℕ) → List (EdgeKey × ℕ)
+abbrev edges_of : ℕ × DirCells → List (DirEntry × ℕ) → List (DirEntry × ℕ)
 edges_of e r = edges_at e ++ r
 
 edges-gather : (es : List (ℕ × DirCells)) → edges_from es ≡ gather nat_cmp_total exact_unsigned edges_of [] es
@@ -127,7 +128,7 @@ module _ (kept : Cell → Bool) (cells : Cells) where
       let away : is_there d x ≡ false = ap (λ o. option_map_or (is_there d) o false) (sym is) ∙ not_there kept cells d spare in
       let edges : edges_from (entries (remove cells.directories d)) ≡ edges_from (entries cells.directories) =
       edges-gather (entries (remove cells.directories d))
-      ∙ gather-remove nat_cmp_total exact_unsigned edges_of [] cells.directories d x (tied-itself nat_cmp_total d) is (λ r. ap (λ ns. map (λ (y : List ℕ × Node). ((d, y.0), number_of y.1)) ns ++ r) nameless)
+      ∙ gather-remove nat_cmp_total exact_unsigned edges_of [] cells.directories d x (tied-itself nat_cmp_total d) is (λ r. ap (λ ns. map (λ (y : List ℕ × Node). (entry_at d y.0, number_of y.1)) ns ++ r) nameless)
       ∙ sym (edges-gather (entries cells.directories)) in
       let dirs : dirs_from (entries (remove cells.directories d)) ≡ dirs_from (entries cells.directories) =
       dirs-gather (entries (remove cells.directories d))
@@ -135,15 +136,15 @@ module _ (kept : Cell → Bool) (cells : Cells) where
       ∙ sym (dirs-gather (entries cells.directories)) in
       λ k. record { edges = from_entries (edges k); dirs = from_entries (dirs k); files = (tidy cells).files; opens = (tidy cells).opens })
 
-  pub tidy-entry : (d : ℕ) (name : List ℕ) (x : DirCells) → get cells.directories d ≡ Some x → is_spare kept cells (Entry d name) ≡ true → tidy (put_dir cells d (without_dir_place x name)) ≡ tidy cells
+  pub tidy-entry : (d : ℕ) (name : List ℕ) (x : DirCells) → get cells.directories d ≡ Some x → is_spare kept cells (Entry (entry_at d name)) ≡ true → tidy (put_dir cells d (without_dir_place x name)) ≡ tidy cells
   tidy-entry d name x is spare =
       let place : get x.entries name ≡ Some None =
-      ap (λ o. get (unwrap_or o no_dir).entries name) (sym is) ∙ empty_in (get (dir_of cells d).entries name) (both-left _ (not (kept (Entry d name))) spare) in
+      ap (λ o. get (unwrap_or o no_dir).entries name) (sym is) ∙ empty_in (get (dir_of cells d).entries name) (both-left _ (not (kept (Entry (entry_at d name)))) spare) in
       let less = without_dir_place x name in
       let edges : edges_from (entries (insert cells.directories d less)) ≡ edges_from (entries cells.directories) =
       edges-gather (entries (insert cells.directories d less))
       ∙ gather-insert nat_cmp_total exact_unsigned edges_of [] cells.directories d less (λ r.
-      ap (λ o. part nat_cmp_total exact_unsigned edges_of [] d o r) is ∙ ap (λ ns. map (λ (y : List ℕ × Node). ((d, y.0), number_of y.1)) ns ++ r) (sym (names-without x name place)))
+      ap (λ o. part nat_cmp_total exact_unsigned edges_of [] d o r) is ∙ ap (λ ns. map (λ (y : List ℕ × Node). (entry_at d y.0, number_of y.1)) ns ++ r) (sym (names-without x name place)))
       ∙ sym (edges-gather (entries cells.directories)) in
       let dirs : dirs_from (entries (insert cells.directories d less)) ≡ dirs_from (entries cells.directories) =
       dirs-gather (entries (insert cells.directories d less))

@@ -6,12 +6,13 @@ use Rattle.std.specs.Ordering.{nat_cmp, is_eq, ordering_then}
 use Rattle.std.specs.Cmp.{IsTotalOrder, Equal-is, nat_cmp_total, on_total, then_total}
 use Rattle.std.specs.Cmp.Lexicographic.{slice_cmp, nat_list_cmp_total}
 use Rattle.std.proofs.lemmas.Map.Lookups.{CmpEqualImpliesEq, exact_unsigned, exact_bytes, exact_pairs}
+use Rattle.ft_tree.specs.Entries.{entry_at}
 use Rattle.ft_tree.specs.declared.cell.Cell.{Cell}
 use Rattle.ft_tree.specs.declared.cell.Cell.TheVariants.{Entry, Names, Parent, Links, Bytes, Fd}
 
 -- the kind of a cell: entries first, and descriptors last
 abbrev pub cell_rank : Cell → ℕ
-cell_rank (Entry d name) = 0
+cell_rank (Entry entry) = 0
 cell_rank (Names d) = 1
 cell_rank (Parent d) = 2
 cell_rank (Links i) = 3
@@ -19,7 +20,7 @@ cell_rank (Bytes i) = 4
 cell_rank (Fd f) = 5
 
 abbrev pub cell_number : Cell → ℕ
-cell_number (Entry d name) = d
+cell_number (Entry entry) = entry.dir
 cell_number (Names d) = d
 cell_number (Parent d) = d
 cell_number (Links i) = i
@@ -27,7 +28,7 @@ cell_number (Bytes i) = i
 cell_number (Fd f) = f
 
 abbrev pub cell_name : Cell → List ℕ
-cell_name (Entry d name) = name
+cell_name (Entry entry) = entry.name
 cell_name (Names d) = []
 cell_name (Parent d) = []
 cell_name (Links i) = []
@@ -43,8 +44,8 @@ same_cell x y = is_eq (cell_cmp x y)
 
 -- cells overlap where they are the same, or where one is the names of a directory and the other an entry of it
 abbrev pub overlap : Cell → Cell → Bool
-overlap (Entry d name) (Names e) = d == e
-overlap (Names d) (Entry e name) = d == e
+overlap (Entry entry) (Names e) = entry.dir == e
+overlap (Names d) (Entry entry) = d == entry.dir
 overlap x y = same_cell x y
 
 pub cell_cmp_total : IsTotalOrder cell_cmp
@@ -52,7 +53,7 @@ cell_cmp_total = then_total (on_total cell_rank nat_cmp_total) (then_total (on_t
 
 -- the cell of a kind, with a number and a name
 abbrev cell_at : ℕ → ℕ → List ℕ → Cell
-cell_at zero n name = Entry n name
+cell_at zero n name = Entry (entry_at n name)
 cell_at (suc zero) n name = Names n
 cell_at (suc (suc zero)) n name = Parent n
 cell_at (suc (suc (suc zero))) n name = Links n
@@ -60,7 +61,7 @@ cell_at (suc (suc (suc (suc zero)))) n name = Bytes n
 cell_at (suc (suc (suc (suc (suc rank))))) n name = Fd n
 
 cell_again : (x : Cell) → cell_at (cell_rank x) (cell_number x) (cell_name x) ≡ x
-cell_again (Entry d name) = refl
+cell_again (Entry entry) = refl
 cell_again (Names d) = refl
 cell_again (Parent d) = refl
 cell_again (Links i) = refl

@@ -10,7 +10,7 @@ use Rattle.ft_tree.specs.Cells.{Cells, DirCells, FileCells, dir_of, put_dir, wit
 
 -- what a cell holds by itself; the names of a directory are read off its entries
 abbrev pub Holds : Cell → Type 0
-Holds (Entry d name) = Option Node
+Holds (Entry entry) = Option Node
 Holds (Names d) = Unit {0}
 Holds (Parent d) = Option ℕ
 Holds (Links i) = ℕ
@@ -18,7 +18,7 @@ Holds (Bytes i) = List ℕ
 Holds (Fd f) = Option OpenFile
 
 abbrev pub held : Cells → (c : Cell) → Holds c
-held cells (Entry d name) = entry_of cells d name
+held cells (Entry entry) = entry_of cells entry.dir entry.name
 held cells (Names d) = tt
 held cells (Parent d) = parent_of cells d
 held cells (Links i) = links_of cells i
@@ -27,7 +27,7 @@ held cells (Fd f) = open_of cells f
 
 -- what a cell holds where nothing is stored
 abbrev pub blank : (c : Cell) → Holds c
-blank (Entry d name) = None
+blank (Entry entry) = None
 blank (Names d) = tt
 blank (Parent d) = None
 blank (Links i) = 0
@@ -36,7 +36,7 @@ blank (Fd f) = None
 
 -- the cells with one of them set; the names of a directory are never set
 abbrev pub set_cell : Cells → (c : Cell) → Holds c → Cells
-set_cell cells (Entry d name) to = put_entry cells d name to
+set_cell cells (Entry entry) to = put_entry cells entry.dir entry.name to
 set_cell cells (Names d) to = cells
 set_cell cells (Parent d) to = put_parent cells d to
 set_cell cells (Links i) to = put_links cells i to
@@ -45,7 +45,7 @@ set_cell cells (Fd f) to = put_open cells f to
 
 -- what stands in the place of a cell, where that is there
 abbrev pub place_at : Cells → (c : Cell) → Option (Holds c)
-place_at cells (Entry d name) = map.get (dir_of cells d).entries name
+place_at cells (Entry entry) = map.get (dir_of cells entry.dir).entries entry.name
 place_at cells (Names d) = option_map (λ x. tt) (map.get cells.directories d)
 place_at cells (Parent d) = option_map (λ (x : DirCells). x.parent) (map.get cells.directories d)
 place_at cells (Links i) = option_map (λ (x : FileCells). x.links) (map.get cells.files i)
@@ -54,7 +54,7 @@ place_at cells (Fd f) = map.get cells.opens f
 
 -- the cells without the place of one of them, and without all that stands in it; the names of a directory have none
 abbrev pub without_place : Cells → Cell → Cells
-without_place cells (Entry d name) = option_map_or (λ x. put_dir cells d (without_dir_place x name)) (map.get cells.directories d) cells
+without_place cells (Entry entry) = option_map_or (λ x. put_dir cells entry.dir (without_dir_place x entry.name)) (map.get cells.directories entry.dir) cells
 without_place cells (Names d) = cells
 without_place cells (Parent d) = record cells { directories = map.remove cells.directories d }
 without_place cells (Links i) = record cells { files = map.remove cells.files i }
@@ -63,7 +63,7 @@ without_place cells (Fd f) = record cells { opens = map.remove cells.opens f }
 
 -- the place of a cell is there, so that it can be set without memory
 abbrev pub IsStored : Cells → Cell → Type 0
-IsStored cells (Entry d name) = HasEntryPlace cells d name
+IsStored cells (Entry entry) = HasEntryPlace cells entry.dir entry.name
 IsStored cells (Names d) = HasDirPlace cells d
 IsStored cells (Parent d) = HasDirPlace cells d
 IsStored cells (Links i) = HasFilePlace cells i
@@ -72,7 +72,7 @@ IsStored cells (Fd f) = HasOpenPlace cells f
 
 -- a cell can be set where there is memory: an entry where its directory is stored, and bytes where their file is
 abbrev pub CanSet : Cells → Cell → Type 0
-CanSet cells (Entry d name) = HasDirPlace cells d
+CanSet cells (Entry entry) = HasDirPlace cells entry.dir
 CanSet cells (Names d) = HasDirPlace cells d
 CanSet cells (Parent d) = Unit {0}
 CanSet cells (Links i) = Unit {0}

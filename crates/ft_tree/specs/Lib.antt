@@ -1,5 +1,6 @@
 pub mod Nodes
 pub mod Modes
+pub mod Entries
 pub mod CellOrder
 pub mod Cells
 pub mod Held

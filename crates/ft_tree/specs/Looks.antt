@@ -8,7 +8,7 @@ use Rattle.ft_tree.specs.declared.open_file.OpenFile.{OpenFile}
 
 -- what a cell shows
 abbrev pub Shows : Cell → Type 0
-Shows (Entry d name) = Option Node
+Shows (Entry entry) = Option Node
 Shows (Names d) = List (List ℕ × Node)
 Shows (Parent d) = Option ℕ
 Shows (Links i) = ℕ

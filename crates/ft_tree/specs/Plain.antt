@@ -1,8 +1,6 @@
 -- The plain tree: edges, directories, files and open file descriptions, with nothing kept beside them (POSIX.1-2017, Base Definitions, 3 and 4.13).
 use Rattle.std.specs.Prelude.{ℕ, cond, ◌==◌, List, [], map, filter, length, Option, None, unwrap_or}
-use Rattle.std.specs.declared.cmp.Ordering.{Ordering}
-use Rattle.std.specs.Ordering.{nat_cmp, ordering_then}
-use Rattle.std.specs.Cmp.Lexicographic.{slice_cmp}
+use Rattle.std.specs.Ordering.{nat_cmp}
 use Rattle.std.specs.List.{find}
 use Rattle.std.specs.Option.{option_map}
 use Rattle.std.specs.FinMap as finite
@@ -10,23 +8,16 @@ use Rattle.ft_tree.specs.declared.node.Node.{Node}
 use Rattle.ft_tree.specs.declared.node.Node.TheVariants.{Dir as DirNode, File as FileNode}
 use Rattle.ft_tree.specs.declared.open_file.OpenFile.{OpenFile}
 use Rattle.ft_tree.specs.declared.cell.Cell.TheVariants.{Entry, Names, Parent, Links, Bytes, Fd}
+use Rattle.ft_tree.specs.Entries.{entry_cmp}
 use Rattle.ft_tree.specs.Looks.{View}
-
--- a name in a directory
-abbrev pub EdgeKey : Type 0
-EdgeKey = ℕ × List ℕ
-
--- by directory, and then by name
-abbrev pub edge_cmp : EdgeKey → EdgeKey → Ordering
-edge_cmp x y = ordering_then (nat_cmp x.0 y.0) (slice_cmp nat_cmp x.1 y.1)
 
 -- a set of numbers
 abbrev pub NumberSet : Type 0
 NumberSet = finite.FinMap nat_cmp (Unit {0})
 
 pub record PlainTree : Type 0 where
-  -- what number each name in each directory leads to
-  pub edges : finite.FinMap edge_cmp ℕ
+  -- what number each entry leads to
+  pub edges : finite.FinMap entry_cmp ℕ
   -- the numbers that are directories
   pub dirs : NumberSet
   -- the bytes of each file
@@ -36,14 +27,14 @@ pub record PlainTree : Type 0 where
 
 -- the directory whose edge leads to a number
 abbrev pub parent_in : PlainTree → ℕ → Option ℕ
-parent_in p i = option_map (λ e. e.0.0) (find (λ e. e.1 == i) (finite.entries p.edges))
+parent_in p i = option_map (λ e. e.0.dir) (find (λ e. e.1 == i) (finite.entries p.edges))
 
 abbrev pub node_in : PlainTree → ℕ → Node
 node_in p i = cond (finite.contains_key p.dirs i) (DirNode i) (FileNode i)
 
 -- all names of a directory, in their order, with what they lead to
 abbrev pub names_in : PlainTree → ℕ → List (List ℕ × Node)
-names_in p d = map (λ e. (e.0.1, node_in p e.1)) (finite.entries (finite.retain_keys p.edges (λ e. e.0 == d)))
+names_in p d = map (λ e. (e.0.name, node_in p e.1)) (finite.entries (finite.retain_keys p.edges (λ e. e.dir == d)))
 
 -- how many edges lead to a number
 abbrev pub links_in : PlainTree → ℕ → ℕ
@@ -51,7 +42,7 @@ links_in p i = length (filter (λ e. e.1 == i) (finite.entries p.edges))
 
 -- what a plain tree shows; only a directory has a parent, and only a file has links
 abbrev pub view_in : PlainTree → View
-view_in p (Entry d name) = option_map (node_in p) (finite.get p.edges (d, name))
+view_in p (Entry entry) = option_map (node_in p) (finite.get p.edges entry)
 view_in p (Names d) = names_in p d
 view_in p (Parent d) = cond (finite.contains_key p.dirs d) (parent_in p d) None
 view_in p (Links i) = cond (finite.contains_key p.dirs i) 0 (links_in p i)

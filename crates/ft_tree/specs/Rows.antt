@@ -1,22 +1,24 @@
 -- What a tree holds, row by row.
 use Rattle.std.specs.Prelude.{ℕ, List, ◌++◌, map, length}
 use Rattle.std.specs.FinMap as finite
+use Rattle.ft_tree.specs.Entries.{entry_at}
+use Rattle.ft_tree.specs.declared.entry.Entry.{Entry}
 use Rattle.ft_tree.specs.declared.node.Node.{Node}
 use Rattle.ft_tree.specs.declared.row.TreeRow.{TreeRow}
 use Rattle.ft_tree.specs.declared.open_file.OpenFile.{OpenFile}
 use Rattle.ft_tree.specs.declared.row.TreeRow.TheVariants.{Dir as DirRow, Edge as EdgeRow, File as FileRow, Fd as FdRow}
 use Rattle.ft_tree.specs.Nodes.{number_of}
-use Rattle.ft_tree.specs.Plain.{PlainTree, EdgeKey}
+use Rattle.ft_tree.specs.Plain.{PlainTree}
 
 abbrev pub dir_rows : List (ℕ × Unit {0}) → List TreeRow
 dir_rows dirs = map (λ e. DirRow e.0) dirs
 
-abbrev pub edge_rows : List (EdgeKey × ℕ) → List TreeRow
-edge_rows edges = map (λ e. EdgeRow e.0.0 e.0.1 e.1) edges
+abbrev pub edge_rows : List (Entry × ℕ) → List TreeRow
+edge_rows edges = map (λ e. EdgeRow e.0 e.1) edges
 
 -- the rows of the names of one directory
 abbrev pub named_rows : ℕ → List (List ℕ × Node) → List TreeRow
-named_rows d names = map (λ e. EdgeRow d e.0 (number_of e.1)) names
+named_rows d names = map (λ e. EdgeRow (entry_at d e.0) (number_of e.1)) names
 
 abbrev pub file_rows : List (ℕ × List ℕ) → List TreeRow
 file_rows files = map (λ e. FileRow e.0 (length e.1) e.1) files

@@ -3,13 +3,14 @@ use Rattle.std.specs.Prelude.{◌≡◌, ◌≢◌, ◌≤◌, ℕ, true, false,
 use Rattle.std.specs.FinMap as finite
 use Rattle.ft_tree.specs.declared.node.Node.{Node}
 use Rattle.ft_tree.specs.declared.node.Node.TheVariants.{Dir as DirNode, File as FileNode}
+use Rattle.ft_tree.specs.declared.entry.Entry.{Entry as DirEntry}
 use Rattle.ft_tree.specs.declared.cell.Cell.{Cell}
 use Rattle.ft_tree.specs.declared.cell.Cell.TheVariants.{Entry, Names, Parent, Links, Bytes, Fd}
 use Rattle.ft_tree.specs.declared.open_file.OpenFile.{OpenFile}
 use Rattle.ft_tree.specs.Nodes.{number_of}
 use Rattle.ft_tree.specs.Cells.{Cells, entry_of, parent_of, links_of, open_of, HasDirPlace, HasFilePlace}
 use Rattle.ft_tree.specs.Held.{Holds, held, IsStored}
-use Rattle.ft_tree.specs.Plain.{PlainTree, EdgeKey, parent_in, view_in}
+use Rattle.ft_tree.specs.Plain.{PlainTree, parent_in, view_in}
 use Rattle.ft_tree.specs.Tidy.{tidy}
 
 -- The parents of a directory lead up to the root; so it is not below itself.
@@ -21,15 +22,15 @@ pub data Hangs (parent : ℕ → Option ℕ) : ℕ → Type 0 where
 pub record IsSoundTree (p : PlainTree) : Type 0 where
   -- the root is a directory, and no edge leads to it
   pub root : finite.contains_key p.dirs 1 ≡ true
-  pub top : (e : EdgeKey) → finite.get p.edges e ≢ Some 1
+  pub top : (e : DirEntry) → finite.get p.edges e ≢ Some 1
   -- an edge starts in a directory, and leads to a directory or a file
-  pub starts : (e : EdgeKey) (i : ℕ) → finite.get p.edges e ≡ Some i → finite.contains_key p.dirs e.0 ≡ true
-  pub leads : (e : EdgeKey) (i : ℕ) → finite.get p.edges e ≡ Some i → (finite.contains_key p.dirs i || finite.contains_key p.files i) ≡ true
+  pub starts : (e : DirEntry) (i : ℕ) → finite.get p.edges e ≡ Some i → finite.contains_key p.dirs e.dir ≡ true
+  pub leads : (e : DirEntry) (i : ℕ) → finite.get p.edges e ≡ Some i → (finite.contains_key p.dirs i || finite.contains_key p.files i) ≡ true
   -- no number is both
   pub apart : (i : ℕ) → finite.contains_key p.dirs i ≡ true → finite.contains_key p.files i ≡ false
   -- every directory but the root has exactly one edge
-  pub stands : (i : ℕ) → finite.contains_key p.dirs i ≡ true → i ≢ 1 → (e : EdgeKey) × (finite.get p.edges e ≡ Some i)
-  pub once : (i : ℕ) → finite.contains_key p.dirs i ≡ true → (e f : EdgeKey) → finite.get p.edges e ≡ Some i → finite.get p.edges f ≡ Some i → e ≡ f
+  pub stands : (i : ℕ) → finite.contains_key p.dirs i ≡ true → i ≢ 1 → (e : DirEntry) × (finite.get p.edges e ≡ Some i)
+  pub once : (i : ℕ) → finite.contains_key p.dirs i ≡ true → (e f : DirEntry) → finite.get p.edges e ≡ Some i → finite.get p.edges f ≡ Some i → e ≡ f
   -- none is below itself
   pub hangs : (d : ℕ) → finite.contains_key p.dirs d ≡ true → Hangs (parent_in p) d
   -- every description names a file
@@ -63,7 +64,7 @@ pub record AreSoundCells (cells : Cells) : Type 0 where
 
 -- what a cell holds says nothing of number k: no entry and no description names it, and nothing is stored of it
 abbrev pub SaysNothingOf : ℕ → (c : Cell) → Holds c → Type 0
-SaysNothingOf k (Entry d name) to = (x : Node) → to ≡ Some x → number_of x ≢ k
+SaysNothingOf k (Entry entry) to = (x : Node) → to ≡ Some x → number_of x ≢ k
 SaysNothingOf k (Names d) to = Unit {0}
 SaysNothingOf k (Parent d) to = d ≡ k → to ≡ None
 SaysNothingOf k (Links i) to = i ≡ k → to ≡ 0

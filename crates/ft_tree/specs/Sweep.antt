@@ -10,7 +10,7 @@ use Rattle.ft_tree.specs.Held.{IsStored, without_place}
 
 -- the place of a cell is there and of no use: there is no entry or description in it, its directory is not there and has no place of an entry, or nothing names its file (POSIX.1-2017, System Interfaces, unlink, rmdir and close)
 abbrev pub is_useless : Cells → Cell → Bool
-is_useless cells (Entry d name) = map.contains_key (dir_of cells d).entries name && is_none (entry_of cells d name)
+is_useless cells (Entry entry) = map.contains_key (dir_of cells entry.dir).entries entry.name && is_none (entry_of cells entry.dir entry.name)
 is_useless cells (Names d) = map.contains_key cells.directories d && not (has_dir cells d) && (map.len (dir_of cells d).entries == 0)
 is_useless cells (Parent d) = map.contains_key cells.directories d && not (has_dir cells d) && (map.len (dir_of cells d).entries == 0)
 is_useless cells (Links i) = map.contains_key cells.files i && not (has_file cells i)
@@ -19,7 +19,7 @@ is_useless cells (Fd f) = map.contains_key cells.opens f && is_none (open_of cel
 
 -- one of the cells that have their place with this one is among these: the names of a directory and its parent have one place, and so have the links and the bytes of a file
 abbrev pub at_place : (Cell → Bool) → Cell → Bool
-at_place among (Entry d name) = among (Entry d name)
+at_place among (Entry entry) = among (Entry entry)
 at_place among (Names d) = among (Names d) || among (Parent d)
 at_place among (Parent d) = among (Names d) || among (Parent d)
 at_place among (Links i) = among (Links i) || among (Bytes i)
@@ -39,7 +39,7 @@ drop_spare kept cells c = cond (is_spare kept cells c) (without_place cells c) c
 
 -- what is to be dropped at a cell; a directory whose last place of an entry goes may go with it
 abbrev pub swept_at : (Cell → Bool) → Cells → Cell → Cells
-swept_at kept cells (Entry d name) = drop_spare kept (drop_spare kept cells (Entry d name)) (Parent d)
+swept_at kept cells (Entry entry) = drop_spare kept (drop_spare kept cells (Entry entry)) (Parent entry.dir)
 swept_at kept cells (Names d) = drop_spare kept cells (Parent d)
 swept_at kept cells (Parent d) = drop_spare kept cells (Parent d)
 swept_at kept cells (Links i) = drop_spare kept cells (Links i)
@@ -48,7 +48,7 @@ swept_at kept cells (Fd f) = drop_spare kept cells (Fd f)
 
 -- how many places a cell takes with it: that of an entry may take that of its directory
 abbrev pub dropped_at : (Cell → Bool) → Cells → Cell → ℕ
-dropped_at kept cells (Entry d name) = one_if (is_spare kept cells (Entry d name)) + one_if (is_spare kept (drop_spare kept cells (Entry d name)) (Parent d))
+dropped_at kept cells (Entry entry) = one_if (is_spare kept cells (Entry entry)) + one_if (is_spare kept (drop_spare kept cells (Entry entry)) (Parent entry.dir))
 dropped_at kept cells (Names d) = one_if (is_spare kept cells (Parent d))
 dropped_at kept cells (Parent d) = one_if (is_spare kept cells (Parent d))
 dropped_at kept cells (Links i) = one_if (is_spare kept cells (Links i))

@@ -3,16 +3,18 @@ use Rattle.std.specs.Prelude.{ℕ, Bool, ◌||◌, nat_lt, List, [], ◌∷◌, 
 use Rattle.std.specs.List.{filter_map}
 use Rattle.std.specs.Option.{option_map}
 use Rattle.std.specs.FinMap as finite
+use Rattle.ft_tree.specs.declared.entry.Entry.{Entry}
+use Rattle.ft_tree.specs.Entries.{entry_at}
 use Rattle.ft_tree.specs.Nodes.{number_of}
 use Rattle.ft_tree.specs.declared.open_file.OpenFile.{OpenFile}
 use Rattle.ft_tree.specs.Cells.{Cells, DirCells, FileCells, Opens, dir_names, is_there, is_open}
-use Rattle.ft_tree.specs.Plain.{PlainTree, EdgeKey}
+use Rattle.ft_tree.specs.Plain.{PlainTree}
 
 -- the edges that start in one directory
-abbrev pub edges_at : ℕ × DirCells → List (EdgeKey × ℕ)
-edges_at e = map (λ x. ((e.0, x.0), number_of x.1)) (dir_names e.1)
+abbrev pub edges_at : ℕ × DirCells → List (Entry × ℕ)
+edges_at e = map (λ x. (entry_at e.0 x.0, number_of x.1)) (dir_names e.1)
 
-abbrev pub edges_from : List (ℕ × DirCells) → List (EdgeKey × ℕ)
+abbrev pub edges_from : List (ℕ × DirCells) → List (Entry × ℕ)
 edges_from [] = []
 edges_from (e ∷ es) = edges_at e ++ edges_from es
 

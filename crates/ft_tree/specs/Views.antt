@@ -4,7 +4,7 @@ use Rattle.ft_tree.specs.Cells.{Cells, entry_of, names_of, parent_of, links_of, 
 use Rattle.ft_tree.specs.Looks.{View}
 
 abbrev pub view_of : Cells → View
-view_of cells (Entry d name) = entry_of cells d name
+view_of cells (Entry entry) = entry_of cells entry.dir entry.name
 view_of cells (Names d) = names_of cells d
 view_of cells (Parent d) = parent_of cells d
 view_of cells (Links i) = links_of cells i

@@ -4,6 +4,8 @@ use Rattle.std.specs.Option.{option_map}
 use Rattle.ft_path.specs.Name.{is_dot, is_dot_dot}
 use Rattle.ft_path.specs.declared.errno.Errno.{Errno}
 use Rattle.ft_path.specs.declared.errno.Errno.TheVariants.{ENOENT, ENOTDIR}
+use Rattle.ft_tree.specs.Entries.{entry_at, entry_in}
+use Rattle.ft_tree.specs.declared.entry.Entry.{Entry as DirEntry}
 use Rattle.ft_tree.specs.declared.node.Found.{Found}
 use Rattle.ft_tree.specs.declared.node.Found.TheVariants.{Place, Whole}
 use Rattle.ft_tree.specs.declared.node.Node.{Node}
@@ -14,9 +16,9 @@ use Rattle.ft_tree.specs.declared.cell.Cell.TheVariants.{Entry, Parent}
 use Rattle.ft_tree.specs.Nodes.{number_of}
 use Rattle.ft_tree.specs.Looks.{Looks, Answer, Look, then, or_else}
 
--- where a walk ends: at a name in a directory, with what it leads to, or at a directory itself
+-- where a walk ends: at an entry, with what it leads to, or at a directory itself
 pub data Spot : Type 0 where
-  Named : ℕ → List ℕ → Option Node → Spot
+  Named : DirEntry → Option Node → Spot
   Itself : ℕ → Spot
 
 -- the parent of a directory; the root's is the root
@@ -31,16 +33,16 @@ passed (Some (FileNode i)) = Err ENOTDIR
 
 -- a component that is not the last
 abbrev pub inner : ℕ → List ℕ → Looks (Result ℕ Errno)
-inner dir name = cond (is_dot name) (Answer (Ok dir)) (cond (is_dot_dot name) (then (up dir) (λ p. Answer (Ok p))) (Look (Entry dir name) (λ x. Answer (passed x))))
+inner dir name = cond (is_dot name) (Answer (Ok dir)) (cond (is_dot_dot name) (then (up dir) (λ p. Answer (Ok p))) (Look (Entry (entry_at dir name)) (λ x. Answer (passed x))))
 
 -- what a last name leads to: a file with a slash behind it is a fault
 abbrev pub reached : ℕ → List ℕ → Bool → Option Node → Result Spot Errno
 reached dir name true (Some (FileNode i)) = Err ENOTDIR
-reached dir name trailing x = Ok (Named dir name x)
+reached dir name trailing x = Ok (Named (entry_at dir name) x)
 
 -- the last component
 abbrev pub last : ℕ → List ℕ → Bool → Looks (Result Spot Errno)
-last dir name trailing = cond (is_dot name) (Answer (Ok (Itself dir))) (cond (is_dot_dot name) (then (up dir) (λ p. Answer (Ok (Itself p)))) (Look (Entry dir name) (λ x. Answer (reached dir name trailing x))))
+last dir name trailing = cond (is_dot name) (Answer (Ok (Itself dir))) (cond (is_dot_dot name) (then (up dir) (λ p. Answer (Ok (Itself p)))) (Look (Entry (entry_at dir name)) (λ x. Answer (reached dir name trailing x))))
 
 -- from a directory on: a component, and those behind it
 abbrev pub walk_from : ℕ → List ℕ → List (List ℕ) → Bool → Looks (Result Spot Errno)
@@ -53,7 +55,7 @@ walk [] trailing = Answer (Ok (Itself 1))
 walk (name ∷ names) trailing = walk_from 1 name names trailing
 
 abbrev pub found_at : Spot → Found
-found_at (Named dir name x) = Place dir (option_map number_of x)
+found_at (Named entry x) = Place entry.dir (option_map number_of x)
 found_at (Itself dir) = Whole dir
 
 -- what `lookup` tells of the end of a walk
@@ -62,7 +64,7 @@ found (Ok spot) = Ok (found_at spot)
 found (Err e) = Err e
 
 abbrev pub seen_at : Seen → Spot
-seen_at (SeenNamed dir name x) = Named dir name.now x
+seen_at (SeenNamed entry x) = Named (entry_in entry) x
 seen_at (SeenItself dir) = Itself dir
 
 -- what `walk` answers, with the name that it borrows

@@ -3,9 +3,10 @@ ghost use Rattle.std.proofs.Common.{ap};
 ghost use Rattle.std.specs.Hash as fed;
 ghost use Rattle.std.specs.Ordering.{eq_by_cmp};
 ghost use Rattle.std.specs.Cmp.{eq_by_cmp_equiv, partial_equiv_from_equiv, partial_order_from_total};
+ghost use Rattle.ft_tree.specs.Entries.{entry_in};
 ghost use Rattle.ft_tree.specs.CellOrder.{cell_cmp, cell_cmp_total, cell_rank, cell_number, cell_name, same_cell-is};
 
-use ft_path::Name;
+use crate::entry::{Entry, EntryRef};
 use std::alloc::AllocError;
 use std::cmp::Ordering;
 use std::hash::{Hash, Hasher};
@@ -17,8 +18,8 @@ use std::hash::{Hash, Hasher};
 /// here, then by its number, and then by its name. A rule of this project.
 #[derive(Debug, Drop)]
 pub enum Cell {
-    /// What a name leads to in the directory of this number, if it is an entry.
-    Entry(u64, Name),
+    /// What a name leads to in a directory, if it is an entry.
+    Entry(Entry),
     /// All names of a directory with what they lead to. It is read, and never written as a whole.
     Names(u64),
     /// The directory that has a directory's entry: its parent. The root has none.
@@ -32,15 +33,15 @@ pub enum Cell {
 }
 
 impl Cell {
-    ghost use Rattle.ft_tree.specs.declared.cell.Cell.TheVariants.{Entry};
+    ghost use Rattle.ft_tree.specs.declared.cell.Cell.TheVariants.{Entry as EntryCell};
 
-    /// How the entry of a name in a directory stands to this cell, in the order of cells.
-    pub fn cmp_entry(&self, dir: u64, name: &Name) -> Ordering
-        ensures { result ≡ cell_cmp (Entry dir name.now) self.now }
+    /// How the cell of an entry stands to this cell, in the order of cells.
+    pub fn cmp_entry(&self, entry: EntryRef<'_>) -> Ordering
+        ensures { result ≡ cell_cmp (EntryCell (entry_in entry.entry)) self.now }
     {
         match self {
-            Cell::Entry(number, own) => match dir.cmp(number) {
-                Ordering::Equal => name.cmp(own),
+            Cell::Entry(own) => match entry.dir.cmp(&own.dir) {
+                Ordering::Equal => entry.name.cmp(&own.name),
                 order => order,
             },
             _ => Ordering::Less,
@@ -66,8 +67,8 @@ impl Cell {
         ensures { result ≡ cell_number self.now }
     {
         match self {
-            Cell::Entry(number, _)
-            | Cell::Names(number)
+            Cell::Entry(entry) => entry.dir,
+            Cell::Names(number)
             | Cell::Parent(number)
             | Cell::Links(number)
             | Cell::Bytes(number)
@@ -80,7 +81,7 @@ impl Cell {
         ensures { result.now ≡ cell_name self.now }
     {
         match self {
-            Cell::Entry(_, name) => name.as_bytes(),
+            Cell::Entry(entry) => entry.name.as_bytes(),
             _ => &[],
         }
     }
@@ -94,7 +95,7 @@ impl PartialEq for Cell {
     fn eq(&self, other: &Cell) -> bool {
         match self {
             // This is how tables look for entries; most names differ in how they begin, as one number.
-            Cell::Entry(dir, name) => other.cmp_entry(*dir, name).is_eq(),
+            Cell::Entry(entry) => other.cmp_entry(entry.as_ref()).is_eq(),
             _ => self.cmp(other).is_eq(),
         }
     }
@@ -139,7 +140,7 @@ impl Clone for Cell {
 
     fn clone(&self) -> Result<Cell, AllocError> {
         Ok(match self {
-            Cell::Entry(dir, name) => Cell::Entry(*dir, name.clone()?),
+            Cell::Entry(entry) => Cell::Entry(entry.clone()?),
             Cell::Names(dir) => Cell::Names(*dir),
             Cell::Parent(dir) => Cell::Parent(*dir),
             Cell::Links(file) => Cell::Links(*file),

@@ -1,5 +1,5 @@
 // One directory: the directory that has its entry, and the places of its entries.
-ghost use Rattle.std.specs.Prelude.{◌≡◌, ◌↔◌, [], ◌++◌, ◌==◌, ◌&&◌, IsTrue, IsOk, is_some, is_none, IsSome, IfOk, OnOk, OnErr, Option};
+ghost use Rattle.std.specs.Prelude.{◌≡◌, ◌↔◌, [], ◌++◌, ◌==◌, ◌&&◌, IsTrue, IsOk, is_some, is_none, IfOk, OnOk, OnErr, Option};
 ghost use Rattle.std.specs.List.{list_all, filter_map};
 ghost use Rattle.std.specs.Ordering.{nat_cmp};
 ghost use Rattle.std.specs.Cmp.Lexicographic.{slice_cmp};
@@ -10,6 +10,7 @@ ghost use Rattle.ft_tree.specs.Rows.{named_rows};
 ghost use Rattle.std.specs.Option.{option_flatten};
 ghost use Rattle.ft_tree.specs.Cells.{DirCells, coded_dir_cells, dir_entry, put_dir_entry, put_dir_parent, without_dir_place, HasPlace, filled, dir_names};
 
+use crate::entry::EntryRef;
 use crate::node::{Kind, Node};
 use crate::row::TreeRow;
 use ft_base::Memory;
@@ -181,8 +182,7 @@ fn push_places(
     for (name, place) in places {
         if let Some(node) = place {
             rows.push(TreeRow::Edge {
-                dir,
-                name: name.clone()?,
+                entry: EntryRef { dir, name }.to_entry()?,
                 number: node.number(),
             })?;
         }

@@ -10,6 +10,7 @@
 mod cell;
 mod descriptions;
 mod directory;
+mod entry;
 mod file;
 mod keeps;
 mod node;
@@ -19,6 +20,7 @@ mod row;
 mod tree;
 
 pub use cell::Cell;
+pub use entry::{Entry, EntryRef};
 pub use keeps::Keeps;
 pub use node::{Found, Kind, Node, Spot};
 pub use open_file::{AccessMode, OpenFile};

@@ -1,4 +1,4 @@
-use ft_path::Name;
+use crate::entry::EntryRef;
 
 /// What a number stands for. It never changes.
 #[derive(Clone, Copy, Debug, PartialEq, Eq)]
@@ -45,11 +45,10 @@ impl Node {
 /// Where a walk ends (POSIX.1-2017, Base Definitions, 4.13 Pathname Resolution).
 #[derive(Clone, Copy, Debug)]
 pub enum Spot<'a> {
-    /// At a last name that is neither `.` nor `..`, in the directory `dir`; it leads to `node`, or
-    /// is no entry there.
+    /// At a last name that is neither `.` nor `..`, with its directory; it leads to `node`, or is no
+    /// entry there.
     Named {
-        dir: u64,
-        name: &'a Name,
+        entry: EntryRef<'a>,
         node: Option<Node>,
     },
     /// At the directory of this number, with no entry of its own in the path: at the root, where a

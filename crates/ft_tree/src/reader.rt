@@ -1,11 +1,13 @@
 // Where a path leads, whoever reads the tree.
 ghost use Rattle.std.specs.Prelude.{◌≡◌, IfOk, OnOk, OnErr};
+ghost use Rattle.ft_tree.specs.Entries.{entry_at};
 ghost use Rattle.ft_tree.specs.declared.cell.Cell.TheVariants.{Entry, Parent};
 ghost use Rattle.ft_tree.specs.Cells.{entry_of, parent_of};
 ghost use Rattle.ft_tree.specs.Looks.{answer, looked_at, all_noted};
 ghost use Rattle.ft_tree.specs.Views.{view_of};
 ghost use Rattle.ft_tree.specs.Walk.{up, inner, last, walk, seen};
 
+use crate::entry::EntryRef;
 use crate::node::{Node, Spot};
 use crate::tree::ROOT;
 use ft_path::{Errno, Name};
@@ -27,7 +29,7 @@ pub trait Reader {
     /// What a name leads to in a directory.
     fn entry(&mut self, dir: u64, name: &Name) -> Result<Option<Node>, Self::Want>
         ensures node { IfOk result (λ node. node ≡ entry_of (cells self.old) dir name.now) }
-        ensures noted { OnOk result (self.new ≡ noted self.old (Entry dir name.now)) }
+        ensures noted { OnOk result (self.new ≡ noted self.old (Entry (entry_at dir name.now))) }
         ensures wanting { OnErr result (cells self.new ≡ cells self.old) };
 
     /// The directory that has a directory's entry.
@@ -117,6 +119,9 @@ fn last<'a, R: Reader>(
     }
     Ok(match reader.entry(dir, name)? {
         Some(Node::File(_)) if trailing => Err(Errno::ENOTDIR),
-        node => Ok(Spot::Named { dir, name, node }),
+        node => {
+            let entry = EntryRef { dir, name };
+            Ok(Spot::Named { entry, node })
+        }
     })
 }

@@ -1,18 +1,16 @@
 // The rows of a tree: what it holds, line by line.
-ghost use Rattle.std.specs.Prelude.{◌≡◌, ◌++◌, map, OnOk};
-ghost use Rattle.std.specs.List.{filter_map};
+ghost use Rattle.std.specs.Prelude.{◌≡◌, ◌++◌, OnOk};
 ghost use Rattle.std.specs.FinMap as finite;
-ghost use Rattle.ft_tree.specs.Cells.{dir_names, filled};
-ghost use Rattle.ft_tree.specs.Rows.{dir_rows, edge_rows, named_rows, file_rows, open_rows};
+ghost use Rattle.ft_tree.specs.Rows.{dir_rows, edge_rows, file_rows, open_rows};
 ghost use Rattle.ft_tree.specs.Tidy.{dirs_from, edges_from, files_from, opens_from};
 
 use crate::descriptions::Descriptions;
 use crate::directory::Directory;
+use crate::entry::Entry;
 use crate::file::File;
 use crate::open_file::{AccessMode, OpenFile};
 use crate::tree::ROOT;
 use ft_base::{Memory, Sequence, Table};
-use ft_path::Name;
 use std::alloc::Global;
 
 /// One line of what a tree holds. The form is this project's own.
@@ -22,10 +20,9 @@ pub enum TreeRow {
     Dir {
         number: u64,
     },
-    /// An entry: a name in the directory `dir`, and the number that it leads to.
+    /// An entry of a directory, and the number that it leads to.
     Edge {
-        dir: u64,
-        name: Name,
+        entry: Entry,
         number: u64,
     },
     /// A file that is there, one that an entry or a description names: its size and its bytes.

@@ -8,8 +8,8 @@ ghost use Rattle.ft_tree.specs.Views.{view_of};
 ghost use Rattle.ft_tree.specs.Walk.{walk, found};
 ghost use Rattle.ft_body.specs.declared.TheConstants.{SIZE_LIMIT};
 ghost use Rattle.ft_body.specs.Bytes.{fitting, written, resized};
-ghost use Rattle.ft_tree.specs.Cells.{DirCells, entry_of, names_of, parent_of, links_of, bytes_of, body_in, open_of, kind_of, has_dir, has_file, put_entry, put_parent, put_links, put_bytes, put_open, stored_dirs, HasEntryPlace, HasDirPlace, HasFilePlace, HasOpenPlace, fresh_cells};
-ghost use Rattle.ft_tree.specs.declared.cell.Cell.TheVariants.{Entry, Parent, Links, Fd};
+ghost use Rattle.ft_tree.specs.Cells.{entry_of, names_of, parent_of, links_of, bytes_of, body_in, open_of, kind_of, has_dir, has_file, put_entry, put_parent, put_links, put_bytes, put_open, stored_dirs, HasEntryPlace, HasDirPlace, HasFilePlace, HasOpenPlace, fresh_cells};
+ghost use Rattle.ft_tree.specs.declared.cell.Cell.TheVariants.{Entry as EntryCell, Parent, Links, Fd};
 ghost use Rattle.ft_tree.specs.Held.{place_at, without_place};
 ghost use Rattle.ft_tree.specs.Rows.{rows_of};
 ghost use Rattle.ft_tree.specs.Tidy.{tidy};
@@ -20,6 +20,7 @@ ghost use Rattle.ft_tree.specs.Sweep.{is_useless, is_spare, one_if, at_place, dr
 use crate::cell::Cell;
 use crate::descriptions::Descriptions;
 use crate::directory::Directory;
+use crate::entry::Entry;
 use crate::file::File;
 use crate::keeps::Keeps;
 use crate::node::{Found, Kind, Node, Spot};
@@ -177,24 +178,24 @@ impl Tree {
         }
     }
 
-    /// Sets what a name leads to in a directory, or that it is no entry. The directory has to be
-    /// stored, and no other cell changes: that the tree stays one is the caller's part. Answers what
-    /// stood in the entry's place, or nothing where that is new.
+    /// Sets what an entry leads to, or that it is none. Its directory has to be stored, and no other
+    /// cell changes: that the tree stays one is the caller's part. Answers what stood in the entry's
+    /// place, or nothing where that is new.
     ///
     /// Only a place that is new can want memory, and then nothing has changed. An entry that is
     /// emptied leaves its place, so that it can be set again without memory.
     pub fn set_entry(
         &mut self,
-        dir: u64,
-        name: Name,
+        entry: Entry,
         to: Option<Node>,
     ) -> Result<Option<Option<Node>>, Memory>
-        requires { HasDirPlace self.old dir }
-        ensures was { IfOk result (λ was. was ≡ place_at self.old (Entry dir name)) }
-        ensures ok { OnOk result (self.new ≡ put_entry self.old dir name to) }
+        requires { HasDirPlace self.old entry.dir }
+        ensures was { IfOk result (λ was. was ≡ place_at self.old (EntryCell entry)) }
+        ensures ok { OnOk result (self.new ≡ put_entry self.old entry.dir entry.name to) }
         ensures err { OnErr result (self.new ≡ self.old) }
-        ensures place { HasEntryPlace self.old dir name → IsOk result }
+        ensures place { HasEntryPlace self.old entry.dir entry.name → IsOk result }
     {
+        let Entry { dir, name } = entry;
         match self.directories.get_mut(dir) {
             Some(directory) => directory.set_entry(name, to),
             None => unreachable!(),
@@ -326,9 +327,9 @@ impl Tree {
         ensures { self.new ≡ without_place self.old cell.now }
     {
         match cell {
-            Cell::Entry(dir, name) => {
-                if let Some(directory) = self.directories.get_mut(*dir) {
-                    directory.drop_place(name);
+            Cell::Entry(entry) => {
+                if let Some(directory) = self.directories.get_mut(entry.dir) {
+                    directory.drop_place(&entry.name);
                 }
             }
             Cell::Names(_) => {}
@@ -378,9 +379,9 @@ impl Tree {
         ensures count { result ≡ dropped_at (K.kept keeps.now) self.old cell.now }
     {
         match cell {
-            Cell::Entry(dir, _) => {
+            Cell::Entry(entry) => {
                 let dropped = self.drop_spare(keeps, cell);
-                dropped + self.drop_spare(keeps, &Cell::Parent(*dir))
+                dropped + self.drop_spare(keeps, &Cell::Parent(entry.dir))
             }
             Cell::Names(dir) => self.drop_spare(keeps, &Cell::Parent(*dir)),
             _ => self.drop_spare(keeps, cell),
@@ -405,7 +406,7 @@ impl Tree {
         ensures { result ≡ is_useless self.now cell.now }
     {
         match cell {
-            Cell::Entry(dir, name) => self.is_empty_entry(*dir, name),
+            Cell::Entry(entry) => self.is_empty_entry(entry),
             Cell::Names(dir) => self.is_bare_dir(*dir),
             Cell::Parent(dir) => self.is_bare_dir(*dir),
             Cell::Links(file) => self.is_dead_file(*file),
@@ -414,12 +415,12 @@ impl Tree {
         }
     }
 
-    /// Whether a name has a place in a directory, and is no entry of it.
-    fn is_empty_entry(&self, dir: u64, name: &Name) -> bool
-        ensures { result ≡ is_useless self.now (Entry dir name.now) }
+    /// Whether an entry has a place, and is none.
+    fn is_empty_entry(&self, entry: &Entry) -> bool
+        ensures { result ≡ is_useless self.now (EntryCell entry.now) }
     {
-        match self.directories.get(dir) {
-            Some(directory) => directory.has_empty(name),
+        match self.directories.get(entry.dir) {
+            Some(directory) => directory.has_empty(&entry.name),
             None => false,
         }
     }
@@ -458,8 +459,8 @@ impl Tree {
         let mut tree = self;
         let Ok(end) = walk(&mut tree, parts.names.as_slice(), parts.trailing);
         match end {
-            Ok(Spot::Named { dir, node, .. }) => Ok(Found::Place {
-                dir,
+            Ok(Spot::Named { entry, node }) => Ok(Found::Place {
+                dir: entry.dir,
                 number: node.map(Node::number),
             }),
             Ok(Spot::Itself(number)) => Ok(Found::Whole { number }),
@@ -522,7 +523,7 @@ fn keeps_place<K: Keeps>(keeps: &K, cell: &Cell) -> bool
     ensures { result ≡ at_place (K.kept keeps.now) cell.now }
 {
     match cell {
-        Cell::Entry(_, _) => keeps.keeps(cell),
+        Cell::Entry(_) => keeps.keeps(cell),
         Cell::Names(dir) => keeps.keeps(cell) || keeps.keeps(&Cell::Parent(*dir)),
         Cell::Parent(dir) => keeps.keeps(&Cell::Names(*dir)) || keeps.keeps(cell),
         Cell::Links(file) => keeps.keeps(cell) || keeps.keeps(&Cell::Bytes(*file)),

@@ -25,7 +25,7 @@ use Rattle.ft_undo.specs.Undone.{back_of, backs_of, given_back, CanGiveBack, Can
 
 -- what takes an edit back gives its cell the value that it had
 abbrev pub was_in : Cells → Edit → Write
-was_in s (Entry d name to) = sets (cell.Entry d name) (entry_of s d name)
+was_in s (Entry entry to) = sets (cell.Entry entry) (entry_of s entry.dir entry.name)
 was_in s (Parent d to) = sets (cell.Parent d) (parent_of s d)
 was_in s (Links i to) = sets (cell.Links i) (links_of s i)
 was_in s (Overwrite i at bytes) = sets (cell.Bytes i) (bytes_of s i)
@@ -41,7 +41,7 @@ links-place None = refl
 links-place (Some x) = refl
 
 pub back-was : (s : Cells) (e : Edit) → given_back (back_of s e) ≡ was_in s e
-back-was s (Entry d name to) = refl
+back-was s (Entry entry to) = refl
 back-was s (Parent d to) = ap (sets (cell.Parent d)) (parent-place (get s.directories d))
 back-was s (Links i to) = ap (sets (cell.Links i)) (links-place (get s.files i))
 back-was s (Overwrite i at bytes) = refl
@@ -49,7 +49,7 @@ back-was s (Resize i size) = refl
 back-was s (Open f to) = refl
 
 back-cell : (s : Cells) (e : Edit) → written_cell (given_back (back_of s e)) ≡ edit_cell e
-back-cell s (Entry d name to) = refl
+back-cell s (Entry entry to) = refl
 back-cell s (Parent d to) = refl
 back-cell s (Links i to) = refl
 back-cell s (Overwrite i at bytes) = refl
@@ -58,7 +58,7 @@ back-cell s (Open f to) = refl
 
 -- the value that a cell had depends on it alone
 was-same : (s t : Cells) (e : Edit) → held s (edit_cell e) ≡ held t (edit_cell e) → was_in s e ≡ was_in t e
-was-same s t (Entry d name to) h = ap (sets (cell.Entry d name)) h
+was-same s t (Entry entry to) h = ap (sets (cell.Entry entry)) h
 was-same s t (Parent d to) h = ap (sets (cell.Parent d)) h
 was-same s t (Links i to) h = ap (sets (cell.Links i)) h
 was-same s t (Overwrite i at bytes) h = ap (sets (cell.Bytes i)) h
@@ -72,7 +72,7 @@ same-on s (e ∷ es) = (refl, same-on s es)
 
 -- an edit writes its cell
 write-cell : (s : Cells) (e : Edit) → written_cell (write_of s e) ≡ edit_cell e
-write-cell s (Entry d name to) = refl
+write-cell s (Entry entry to) = refl
 write-cell s (Parent d to) = refl
 write-cell s (Links i to) = refl
 write-cell s (Overwrite i at bytes) = refl
@@ -93,7 +93,7 @@ module _ (editing : EditingLaw) where
 
 -- the values from before, as calls in the abstract have them
 was-before : (cells : Cells) (e : Edit) → was_in cells e ≡ sets (write_of cells e).cell (held cells (write_of cells e).cell)
-was-before cells (Entry d name to) = refl
+was-before cells (Entry entry to) = refl
 was-before cells (Parent d to) = refl
 was-before cells (Links i to) = refl
 was-before cells (Overwrite i at bytes) = refl
@@ -130,7 +130,7 @@ module _ (setting : SettingLaw) where
 
   -- what can be taken back can be so when another cell is set
   give-put : (t : Cells) (w : Write) (s : Cells) (e : Edit) → same_cell (written_cell w) (edit_cell e) ≡ false → CanGiveBack t (back_of s e) → CanGiveBack (put t w) (back_of s e)
-  give-put t w s (Entry d name to) h can = (stays t w (cell.Entry d name) can.0, stays t w (cell.Parent d) can.1)
+  give-put t w s (Entry entry to) h can = (stays t w (cell.Entry entry) can.0, stays t w (cell.Parent entry.dir) can.1)
   give-put t w s (Parent d to) h can = stays t w (cell.Parent d) can
   give-put t w s (Links i to) h can = stays t w (cell.Links i) can
   give-put t w s (Overwrite i at bytes) h can = (stays t w (cell.Bytes i) can.0, put-kept t w (cell.Bytes i) h ∙ can.1)
@@ -139,7 +139,7 @@ module _ (setting : SettingLaw) where
 
   -- an edit that was made can be taken back
   pub give-edited : (s : Cells) (e : Edit) → CanEdit s e → CanGiveBack (put s (write_of s e)) (back_of s e)
-  give-edited s (Entry d name to) can = (setting.stored s (cell.Entry d name) to can, setting.stays s (cell.Entry d name) to (cell.Parent d) can)
+  give-edited s (Entry entry to) can = (setting.stored s (cell.Entry entry) to can, setting.stays s (cell.Entry entry) to (cell.Parent entry.dir) can)
   give-edited s (Parent d to) can = setting.stored s (cell.Parent d) to tt
   give-edited s (Links i to) can = setting.stored s (cell.Links i) to tt
   give-edited s (Overwrite i at bytes) can = (setting.stored s (cell.Bytes i) _ can.0, setting.written s (cell.Bytes i) _)
@@ -148,7 +148,7 @@ module _ (setting : SettingLaw) where
 
   -- what was edited has its place
   stored-edit : (s : Cells) (e : Edit) → CanEdit s e → IsStored (put s (write_of s e)) (edit_cell e)
-  stored-edit s (Entry d name to) can = setting.stored s (cell.Entry d name) to can
+  stored-edit s (Entry entry to) can = setting.stored s (cell.Entry entry) to can
   stored-edit s (Parent d to) can = setting.stored s (cell.Parent d) to tt
   stored-edit s (Links i to) can = setting.stored s (cell.Links i) to tt
   stored-edit s (Overwrite i at bytes) can = setting.stored s (cell.Bytes i) _ can.0
@@ -182,7 +182,7 @@ module _ (setting : SettingLaw) where
 
   -- a cell that has its place, and what an edit left in it
   give-left : (t s : Cells) (e : Edit) → IsStored t (edit_cell e) → held t (edit_cell e) ≡ held (put s (write_of s e)) (edit_cell e) → CanGiveBack t (back_of s e)
-  give-left t s (Entry d name to) stored h = (stored, setting.within t d name stored)
+  give-left t s (Entry entry to) stored h = (stored, setting.within t entry.dir entry.name stored)
   give-left t s (Parent d to) stored h = stored
   give-left t s (Links i to) stored h = stored
   give-left t s (Overwrite i at bytes) stored h = (stored, h ∙ setting.written s (cell.Bytes i) _)
@@ -199,11 +199,11 @@ module _ (setting : SettingLaw) (restoring : RestoringLaw) where
 
   -- an edit that was made and is taken back
   pub restore-edit : (s : Cells) (e : Edit) → CanEdit s e → restore (put s (write_of s e)) (back_of s e) ≡ s
-  restore-edit s (Entry d name to) can = by_place (place_at s (cell.Entry d name)) refl
+  restore-edit s (Entry entry to) can = by_place (place_at s (cell.Entry entry)) refl
     where
-      by_place : (p : Option (Holds (cell.Entry d name))) → place_at s (cell.Entry d name) ≡ p → restore (put s (sets (cell.Entry d name) to)) (back.Entry d name p) ≡ s
-      by_place None is = restoring.new s (cell.Entry d name) to can is
-      by_place (Some was) is = restoring.again s (cell.Entry d name) to was is
+      by_place : (p : Option (Holds (cell.Entry entry))) → place_at s (cell.Entry entry) ≡ p → restore (put s (sets (cell.Entry entry) to)) (back.Entry entry p) ≡ s
+      by_place None is = restoring.new s (cell.Entry entry) to can is
+      by_place (Some was) is = restoring.again s (cell.Entry entry) to was is
   restore-edit s (Parent d to) can = by_place (place_at s (cell.Parent d)) refl
     where
       by_place : (p : Option (Option ℕ)) → place_at s (cell.Parent d) ≡ p → restore (put s (sets (cell.Parent d) to)) (back.Parent d p) ≡ s

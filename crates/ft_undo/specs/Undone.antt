@@ -18,7 +18,7 @@ use Rattle.ft_undo.specs.declared.undo.Back.TheVariants as back
 
 -- what takes an edit back: the cell, and what stood in its place
 abbrev pub back_of : Cells → Edit → Back
-back_of cells (Entry d name to) = back.Entry d name (place_at cells (cell.Entry d name))
+back_of cells (Entry entry to) = back.Entry entry (place_at cells (cell.Entry entry))
 back_of cells (Parent d to) = back.Parent d (place_at cells (cell.Parent d))
 back_of cells (Links i to) = back.Links i (place_at cells (cell.Links i))
 back_of cells (Overwrite i at bytes) = back.Bytes i (record { before = bytes_of cells i; after = written (bytes_of cells i) at (fitting bytes.now at) })
@@ -31,7 +31,7 @@ backs_of cells (e ∷ es) = back_of cells e ∷ backs_of (put cells (write_of ce
 
 -- the write that takes an edit back; a place that was new is left empty
 abbrev pub given_back : Back → Write
-given_back (back.Entry d name was) = sets (cell.Entry d name) (option_flatten was)
+given_back (back.Entry entry was) = sets (cell.Entry entry) (option_flatten was)
 given_back (back.Parent d was) = sets (cell.Parent d) (option_flatten was)
 given_back (back.Links i was) = sets (cell.Links i) (unwrap_or was 0)
 given_back (back.Bytes i change) = sets (cell.Bytes i) change.before
@@ -39,7 +39,7 @@ given_back (back.Open f was) = sets (cell.Fd f) (option_flatten was)
 
 -- the cell has its place, and a file's bytes are as the change left them
 abbrev pub CanGiveBack : Cells → Back → Type 0
-CanGiveBack cells (back.Entry d name was) = HasEntryPlace cells d name × HasDirPlace cells d
+CanGiveBack cells (back.Entry entry was) = HasEntryPlace cells entry.dir entry.name × HasDirPlace cells entry.dir
 CanGiveBack cells (back.Parent d was) = HasDirPlace cells d
 CanGiveBack cells (back.Links i was) = HasFilePlace cells i
 CanGiveBack cells (back.Bytes i change) = HasFilePlace cells i × (bytes_of cells i ≡ change.after)
@@ -51,8 +51,8 @@ CanGiveAllBack cells (b ∷ bs) = CanGiveBack cells b × CanGiveAllBack (put cel
 
 -- An edit that was the last one is taken back as if it had never been: a place that was new goes too.
 abbrev pub restore : Cells → Back → Cells
-restore cells (back.Entry d name None) = without_place cells (cell.Entry d name)
-restore cells (back.Entry d name (Some was)) = put_entry cells d name was
+restore cells (back.Entry entry None) = without_place cells (cell.Entry entry)
+restore cells (back.Entry entry (Some was)) = put_entry cells entry.dir entry.name was
 restore cells (back.Parent d None) = without_place cells (cell.Parent d)
 restore cells (back.Parent d (Some was)) = put_parent cells d was
 restore cells (back.Links i None) = without_place cells (cell.Links i)

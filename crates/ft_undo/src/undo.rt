@@ -13,18 +13,16 @@ use ft_base::{Few, Memory};
 use ft_body::BodyUndo;
 use ft_calls::laws::{editing, restoring, setting};
 use ft_calls::{Edit, Edits, Intent};
-use ft_path::Name;
-use ft_tree::{Cell, Node, OpenFile, Tree};
+use ft_tree::{Cell, Entry, Node, OpenFile, Tree};
 use std::alloc::Global;
 use std::marker::Model;
 
 /// A cell that was set, with what stood in its place before, or nothing where the place was new.
 #[derive(Drop)]
 pub enum Back {
-    /// What a name led to in a directory.
+    /// What an entry led to.
     Entry {
-        dir: u64,
-        name: Name,
+        entry: Entry,
         was: Option<Option<Node>>,
     },
     /// The directory that had a directory's entry.
@@ -168,10 +166,10 @@ fn set(tree: &mut Tree, edit: Edit<'_>) -> Result<Back, Memory>
 {
     setting();
     match edit {
-        Edit::Entry { dir, name, to } => {
-            let place = name.try_clone()?;
-            let was = tree.set_entry(dir, place, to)?;
-            Ok(Back::Entry { dir, name, was })
+        Edit::Entry { entry, to } => {
+            let place = entry.clone()?;
+            let was = tree.set_entry(place, to)?;
+            Ok(Back::Entry { entry, was })
         }
         Edit::Parent { dir, to } => {
             let was = tree.set_parent(dir, to)?;
@@ -202,7 +200,7 @@ fn give_back(tree: &mut Tree, back: Back)
     ensures { tree.new ≡ put tree.old (given_back back) }
 {
     let is_refused = match back {
-        Back::Entry { dir, name, was } => tree.set_entry(dir, name, was.flatten()).is_err(),
+        Back::Entry { entry, was } => tree.set_entry(entry, was.flatten()).is_err(),
         Back::Parent { dir, was } => tree.set_parent(dir, was.flatten()).is_err(),
         Back::Links { file, was } => tree.set_links(file, was.unwrap_or(0)).is_err(),
         Back::Bytes { file, undo } => {
@@ -222,9 +220,9 @@ fn restore(tree: &mut Tree, back: Back)
     ensures { tree.new ≡ restore tree.old back }
 {
     match back {
-        Back::Entry { dir, name, was } => match was {
-            None => tree.drop_place(&Cell::Entry(dir, name)),
-            Some(_) => give_back(tree, Back::Entry { dir, name, was }),
+        Back::Entry { entry, was } => match was {
+            None => tree.drop_place(&Cell::Entry(entry)),
+            Some(_) => give_back(tree, Back::Entry { entry, was }),
         },
         Back::Parent { dir, was } => match was {
             None => tree.drop_place(&Cell::Parent(dir)),

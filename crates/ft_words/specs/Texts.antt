@@ -64,7 +64,7 @@ flag_text false letter = []
 
 abbrev pub row_text : TreeRow → List ℕ
 row_text (rows.Dir number) = codes "dir " ++ decimal number
-row_text (rows.Edge dir name number) = codes "edge " ++ decimal dir ++ codes " " ++ coded name ++ codes " " ++ decimal number
+row_text (rows.Edge entry number) = codes "edge " ++ decimal entry.dir ++ codes " " ++ coded entry.name ++ codes " " ++ decimal number
 row_text (rows.File number size bytes) = codes "file " ++ decimal number ++ codes " " ++ decimal size ++ data_text bytes
 row_text (rows.Fd fd file access append offset) = codes "fd " ++ decimal fd ++ codes " " ++ decimal file ++ codes " " ++ access_text access ++ flag_text append (codes "a") ++ codes " " ++ decimal offset
 

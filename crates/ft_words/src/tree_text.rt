@@ -3,7 +3,7 @@ ghost use Rattle.std.specs.Prelude.{◌≡◌, ◌++◌, Some};
 ghost use Rattle.ft_words.specs.Texts.{tree_text, row_text, lines_text, access_text, flag_text};
 
 use crate::text::{Coded, Data};
-use ft_tree::{AccessMode, TreeRow};
+use ft_tree::{AccessMode, Entry, TreeRow};
 use std::fmt;
 
 /// The rows of a tree.
@@ -43,9 +43,10 @@ impl fmt::Display for RowText<'_> {
     fn fmt<W: fmt::Write>(&self, f: &mut fmt::Formatter<W>) -> fmt::Result {
         match self.0 {
             TreeRow::Dir { number } => write!(f, "dir {number}"),
-            TreeRow::Edge { dir, name, number } => {
-                write!(f, "edge {dir} {} {number}", Coded(name.as_bytes()))
-            }
+            TreeRow::Edge {
+                entry: Entry { dir, name },
+                number,
+            } => { write!(f, "edge {dir} {} {number}", Coded(name.as_bytes())) }
             TreeRow::File {
                 number,
                 size,

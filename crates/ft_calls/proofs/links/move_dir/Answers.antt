@@ -1,4 +1,5 @@
 use Rattle.std.proofs.Common.{[], Ok, refl}
+use Rattle.ft_tree.specs.Entries.{entry_in}
 use Rattle.ft_tree.specs.declared.node.Node.TheVariants.{Dir as DirNode}
 use Rattle.ft_tree.specs.Cells.{stored_dirs}
 use Rattle.ft_tree.specs.Looks.{Answer}
@@ -9,15 +10,17 @@ use Rattle.ft_calls.proofs.links.move_dir.Goals as goal
 
 pub returns-then-branch : goal.returns-then-branch
 returns-then-branch c =
-    let r = c.args.renaming in
-    let go = Answer (renamed r.dir r.name.now (DirNode c.args.number) r.into r.other.now (with_parent c.args.number r.dir r.into)) in
-    comes_met c.args.look.now (stored_dirs c.args.look.now.cells) c.args.number r.into go c.climb.new.self c.in_ok-climb.field-0 c.in_ok-climb.ensures c.if-branch.true
+    let old = entry_in c.args.old in
+    let new = entry_in c.args.new in
+    let go = Answer (renamed old (DirNode c.args.number) new (with_parent c.args.number old.dir new.dir)) in
+    comes_met c.args.look.now (stored_dirs c.args.look.now.cells) c.args.number new.dir go c.climb.new.self c.in_ok-climb.field-0 c.in_ok-climb.ensures c.if-branch.true
 
 pub returns : goal.returns
 returns c =
-    let r = c.args.renaming in
-    let parents = with_parent c.args.number r.dir r.into in
-    let go = Answer (renamed r.dir r.name.now (DirNode c.args.number) r.into r.other.now parents) in
+    let old = entry_in c.args.old in
+    let new = entry_in c.args.new in
+    let parents = with_parent c.args.number old.dir new.dir in
+    let go = Answer (renamed old (DirNode c.args.number) new parents) in
     let cells = c.climb.new.self.cells in
-    comes_unmet c.args.look.now (stored_dirs c.args.look.now.cells) c.args.number r.into go c.climb.new.self c.in_ok-climb.field-0 c.in_ok-climb.ensures c.if-branch.false c.climb.new.self (Ok (done c.with_parent.new.edits))
-    (comes-more cells c.renamed.new.edits c.with_parent.new.edits (renamed r.dir r.name.now (DirNode c.args.number) r.into r.other.now []) parents (c.in_ok-with_parent.ensures cells) (c.in_ok-renamed.ensures cells), refl)
+    comes_unmet c.args.look.now (stored_dirs c.args.look.now.cells) c.args.number new.dir go c.climb.new.self c.in_ok-climb.field-0 c.in_ok-climb.ensures c.if-branch.false c.climb.new.self (Ok (done c.with_parent.new.edits))
+    (comes-more cells c.renamed.new.edits c.with_parent.new.edits (renamed old (DirNode c.args.number) new []) parents (c.in_ok-with_parent.ensures cells) (c.in_ok-renamed.ensures cells), refl)

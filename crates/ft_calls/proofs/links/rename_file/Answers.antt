@@ -1,5 +1,7 @@
-use Rattle.std.proofs.Common.{◌≡◌, ℕ, Bool, false, List, [], Option, None, Result, Ok, cond, refl, sym, subst, rules}
+use Rattle.std.proofs.Common.{◌≡◌, ℕ, Bool, false, [], None, Result, Ok, cond, refl, sym, subst, rules}
 use Rattle.ft_path.specs.declared.errno.Errno.TheVariants.{ENOTDIR}
+use Rattle.ft_tree.specs.declared.entry.Entry.{Entry as DirEntry}
+use Rattle.ft_tree.specs.Entries.{entry_in}
 use Rattle.ft_tree.specs.declared.node.Node.TheVariants.{File as FileNode}
 use Rattle.ft_tree.specs.Looks.{Answer}
 use Rattle.ft_tree.specs.Walk.{Spot, Named, seen_at}
@@ -13,13 +15,13 @@ use Rattle.ft_calls.proofs.Moving.{done}
 use Rattle.ft_calls.proofs.links.rename_file.Goals as goal
 
 -- the new name is not there
-onto_none : (old : Looking) (dir : ℕ) (name : List ℕ) (file : ℕ) (trailing : Bool) (spot : Spot) (into : ℕ) (other : List ℕ) (r : Result Intent Stop)
-    → spot ≡ Named into other None → trailing ≡ false → Comes old (Answer (renamed dir name (FileNode file) into other [])) old r → Comes old (rename_file dir name file trailing spot) old r
-onto_none old dir name file trailing spot into other r is without h =
-    subst (λ s. Comes old (rename_file dir name file trailing s) old r) (sym is)
-    (subst (λ b. Comes old (Answer (cond b (failed ENOTDIR) (renamed dir name (FileNode file) into other []))) old r) (sym without) h)
+onto_none : (look : Looking) (old : DirEntry) (file : ℕ) (trailing : Bool) (spot : Spot) (new : DirEntry) (r : Result Intent Stop)
+    → spot ≡ Named new None → trailing ≡ false → Comes look (Answer (renamed old (FileNode file) new [])) look r → Comes look (rename_file old file trailing spot) look r
+onto_none look old file trailing spot new r is without h =
+    subst (λ s. Comes look (rename_file old file trailing s) look r) (sym is)
+    (subst (λ b. Comes look (Answer (cond b (failed ENOTDIR) (renamed old (FileNode file) new []))) look r) (sym without) h)
 
 pub returns-in_ok-renamed-in-None-2 : goal.returns-in_ok-renamed-in-None-2
 returns-in_ok-renamed-in-None-2 c =
-    onto_none c.args.look.now c.args.dir c.args.name.now c.args.file c.args.trailing (seen_at c.args.spot) c.in-Named.into c.in-Named.other.now (Ok (done c.renamed.new.edits)) (search rules) (search rules)
+    onto_none c.args.look.now (entry_in c.args.old) c.args.file c.args.trailing (seen_at c.args.spot) (entry_in c.in-Named.new) (Ok (done c.renamed.new.edits)) (search rules) (search rules)
     (c.in_ok-renamed-in-None-2.ensures c.args.look.now.cells, refl)

@@ -1,4 +1,5 @@
 use Rattle.std.proofs.Common.{◌≡◌, true, None, [], ◌∷◌, ◌++◌, sym, ap, ◌∙◌, rules}
+use Rattle.ft_tree.specs.Entries.{entry_in}
 use Rattle.ft_tree.specs.declared.node.Node.TheVariants.{Dir as DirNode}
 use Rattle.ft_tree.specs.Cells.{names_of}
 use Rattle.ft_tree.specs.declared.cell.Cell.TheVariants as cell
@@ -12,13 +13,14 @@ use Rattle.ft_calls.proofs.links.replace_empty.Goals as goal
 
 pub returns : goal.returns
 returns c =
-    let r = c.args.renaming in
+    let old = entry_in c.args.old in
+    let new = entry_in c.args.new in
     let cells = c.args.look.now.cells in
     let gone = sets (cell.Parent c.args.replaced) None ∷ [] in
     let first = c.renamed.new.edits in
     let second = c.push.new.self in
     let bare : is_none_of (names_of cells c.args.replaced) ≡ true = search rules in
     let edits : writes_of cells second ≡ writes_of cells first ++ gone = ap (writes_of cells) c.in_ok-push.ensures ∙ writes_of-append cells first (Parent c.args.replaced None ∷ []) in
-    let both = comes-more cells first second (renamed r.dir r.name.now (DirNode c.args.number) r.into r.other.now []) gone edits (c.in_ok-renamed.ensures cells) in
-    let all = comes-more cells second c.with_parent.new.edits _ (with_parent c.args.number r.dir r.into) (c.in_ok-with_parent.ensures cells) both in
-    (all ∙ sym (bare-replaced r.dir r.name.now c.args.number r.into r.other.now c.args.replaced (names_of cells c.args.replaced) bare), c.in_ok-is_empty_dir.ensures.1)
+    let both = comes-more cells first second (renamed old (DirNode c.args.number) new []) gone edits (c.in_ok-renamed.ensures cells) in
+    let all = comes-more cells second c.with_parent.new.edits _ (with_parent c.args.number old.dir new.dir) (c.in_ok-with_parent.ensures cells) both in
+    (all ∙ sym (bare-replaced old c.args.number new c.args.replaced (names_of cells c.args.replaced) bare), c.in_ok-is_empty_dir.ensures.1)

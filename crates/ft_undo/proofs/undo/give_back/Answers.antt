@@ -16,7 +16,7 @@ returns c =
     let cells = c.args.tree.now in
     let new = c.match-back.tree in
     elim c.match-back.branch [
-      | in-Entry w ↦ let made : new ≡ put_entry cells w.in-Entry.dir w.in-Entry.name (option_flatten w.in-Entry.was) = search rules in puts cells new c.args.back _ w.in-Entry.is made
+      | in-Entry w ↦ let made : new ≡ put_entry cells w.in-Entry.entry.dir w.in-Entry.entry.name (option_flatten w.in-Entry.was) = search rules in puts cells new c.args.back _ w.in-Entry.is made
       | in-Parent w ↦ let made : new ≡ put_parent cells w.in-Parent.dir (option_flatten w.in-Parent.was) = search rules in puts cells new c.args.back _ w.in-Parent.is made
       | in-Links w ↦ let made : new ≡ put_links cells w.in-Links.file (unwrap_or w.in-Links.was 0) = search rules in puts cells new c.args.back _ w.in-Links.is made
       | in-Bytes w ↦ let made : new ≡ put_bytes cells w.in-Bytes.file w.in-Bytes.undo.before = search rules in puts cells new c.args.back _ w.in-Bytes.is made

@@ -33,7 +33,7 @@ puts cells new edit made is set = set ∙ sym (ap (λ (e : Edit). put cells (wri
 
 pub returns-in_ok-was-in-Entry-clause-after : goal.returns-in_ok-was-in-Entry-clause-after
 returns-in_ok-was-in-Entry-clause-after c =
-    let set : c.set_entry.new.self ≡ put_entry c.args.tree.now c.in-Entry.dir c.in-Entry.name c.in-Entry.to = search rules in puts c.args.tree.now _ c.args.edit _ c.in-Entry.is set
+    let set : c.set_entry.new.self ≡ put_entry c.args.tree.now c.in-Entry.entry.dir c.in-Entry.entry.name c.in-Entry.to = search rules in puts c.args.tree.now _ c.args.edit _ c.in-Entry.is set
 
 pub returns-in_ok-was-in-Parent-clause-after : goal.returns-in_ok-was-in-Parent-clause-after
 returns-in_ok-was-in-Parent-clause-after c = puts c.args.tree.now _ c.args.edit _ c.in-Parent.is c.in_ok-was-in-Parent.ensures.ok

@@ -1,13 +1,21 @@
 use Rattle.std.proofs.Common.{◌≡◌, ◌∙◌, ap, subst}
 use Rattle.ft_calls.specs.Accesses.{accesses_of}
+use Rattle.ft_core.specs.States.{State, history}
 use Rattle.ft_core.specs.Journals.{state_of}
 use Rattle.ft_core.specs.Reports.{blockers_now}
 use Rattle.ft_core.proofs.Reporting.{blocked_now}
+use Rattle.ft_core.proofs.Surveys.{alone-there}
 use Rattle.ft_core.proofs.manager.Core.blockers_now.Goals as goal
+
+pub survey-requires : goal.survey-requires
+survey-requires c =
+    let i = c.self.inside in
+    let s : State = state_of i.forest i.journal in
+    alone-there c.call_laws.ensures c.lock_laws.ensures s.base (history s) s.asks s.last_txn s.last_stamp i.tree i.forest i.locks i.logs i.journal c.self.invariant c.args.txn
 
 pub returns : goal.returns
 returns c =
     let i = c.self.inside in
     subst (λ s. c.in_ok-blockers.field-0.blockers.items ≡ blockers_now s c.args.txn c.args.call.now) c.self.view_is
-    (blocked_now (state_of i.forest i.journal) i.tree i.forest i.locks i.logs i.journal c.self.invariant c.call_laws.ensures c.lock_laws.ensures c.args.txn c.args.call.now c.in_ok-blockers.field-0.prepared.accesses.items
-    c.in_ok-blockers.field-0.blockers.items (c.in_ok-blockers.ensures.accesses ∙ ap (λ n. accesses_of i.tree n c.args.call.now) c.next_stamp-stamp.ensures) c.in_ok-blockers.ensures.blockers)
+    (blocked_now (state_of i.forest i.journal) i.tree i.forest i.locks i.logs i.journal c.self.invariant c.call_laws.ensures c.lock_laws.ensures c.args.txn c.args.call.now c.as_slice.result.now
+    c.in_ok-blockers.field-0.blockers.items (c.as_slice.ensures.value ∙ c.in_ok-touched.ensures ∙ ap (λ n. accesses_of i.tree n c.args.call.now) c.next_stamp-stamp.ensures) c.in_ok-blockers.ensures.blockers)

@@ -1,10 +1,17 @@
 use Rattle.std.proofs.Common.{◌≡◌, ◌+◌, Some, sym, ap, subst, ◌∙◌}
 use Rattle.std.specs.FinMap as finite
-use Rattle.ft_core.specs.States.{State, fate_of, has_most_calls}
+use Rattle.ft_core.specs.States.{State, history, has_most_calls}
 use Rattle.ft_core.specs.Journals.{Journaled, is_full, state_of}
 use Rattle.ft_core.specs.Tries.{IsTried}
 use Rattle.ft_core.proofs.Asks.{full-same, core-unmade, tried-made, waits-for, waits-again}
+use Rattle.ft_core.proofs.Surveys.{alone-there}
 use Rattle.ft_core.proofs.manager.Core.request_again.Goals as goal
+
+pub try_call-requires-clause-alone : goal.try_call-requires-clause-alone
+try_call-requires-clause-alone c =
+    let i = c.self.inside in
+    let s : State = state_of i.forest i.journal in
+    alone-there c.call_laws.ensures c.lock_laws.ensures s.base (history s) s.asks s.last_txn s.last_stamp i.tree i.forest i.locks i.logs i.journal c.self.invariant c.args.txn
 
 pub invariant_of-self-in_err-tried : goal.invariant_of-self-in_err-tried
 invariant_of-self-in_err-tried c =

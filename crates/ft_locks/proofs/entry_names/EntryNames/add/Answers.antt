@@ -10,16 +10,16 @@ use Rattle.ft_locks.proofs.entry_names.EntryNames.add.Goals as goal
 
 pub returns-in_err-insert-in-Some-clause-err : goal.returns-in_err-insert-in-Some-clause-err
 returns-in_err-insert-in-Some-clause-err c =
-    on_any c.from_residual-in_err-insert-in-Some.result _ (names_kept c.args.self.now.names c.args.dir (Some c.in-Some.names.now) c.insert.new.self c.in-Some.ensures.value (λ n. ap (λ ks. list_any (is_at (slice_cmp nat_cmp n)) ks) c.in_err-insert-in-Some.ensures.err))
+    on_any c.from_residual-in_err-insert-in-Some.result _ (names_kept c.args.self.now.names c.args.entry.now.dir (Some c.in-Some.names.now) c.insert.new.self c.in-Some.ensures.value (λ n. ap (λ ks. list_any (is_at (slice_cmp nat_cmp n)) ks) c.in_err-insert-in-Some.ensures.err))
 
 pub returns-in_ok-insert-in-Some-clause-ok : goal.returns-in_ok-insert-in-Some-clause-ok
 returns-in_ok-insert-in-Some-clause-ok c =
-    name_added c.args.self.now.names c.args.dir (Some c.in-Some.names.now) c.insert.new.self c.args.name.now c.in-Some.ensures.value
+    name_added c.args.self.now.names c.args.entry.now.dir (Some c.in-Some.names.now) c.insert.new.self c.args.entry.now.name c.in-Some.ensures.value
     (λ n. c.in_ok-insert-in-Some.ensures.updates.0 n ∙ ap (λ k. cond (same_name k n) true (ordered.contains (slice_cmp nat_cmp) c.in-Some.names.now n)) c.in_ok-name.ensures.name)
 
 pub returns-in_ok-insert-in-None-2-clause-ok : goal.returns-in_ok-insert-in-None-2-clause-ok
 returns-in_ok-insert-in-None-2-clause-ok c = λ d n.
     ap (λ m. has_name m d n) c.in_ok-insert-in-None-2.ensures.ok
-    ∙ name_added c.args.self.now.names c.args.dir None c.insert-in-None.new.self c.args.name.now c.in-None.ensures.value
+    ∙ name_added c.args.self.now.names c.args.entry.now.dir None c.insert-in-None.new.self c.args.entry.now.name c.in-None.ensures.value
     (λ x. c.in_ok-insert-in-None.ensures.updates.0 x ∙ ap (λ k. cond (same_name k x) true (ordered.contains (slice_cmp nat_cmp) c.new-names.result x)) c.in_ok-name.ensures.name
-    ∙ ap (cond (same_name c.args.name.now x) true) (none_among c.new-names.result c.new-names.ensures.empty x)) d n
+    ∙ ap (cond (same_name c.args.entry.now.name x) true) (none_among c.new-names.result c.new-names.ensures.empty x)) d n

@@ -6,9 +6,9 @@ use Rattle.ft_locks.proofs.entry_names.EntryNames.remove.Goals as goal
 pub returns-then-is_last : goal.returns-then-is_last
 returns-then-is_last c = λ d n.
     ap (λ m. has_name m d n) c.remove-then-is_last.ensures.after
-    ∙ names_dropped c.args.self.now.names c.args.dir c.remove.new.self (no_keys c.remove.new.self.keys (c.if-is_last.ensures.0 refl)) d n
-    ∙ name_removed c.args.self.now.names c.args.dir (Some c.in-Some.names.now) c.remove.new.self c.args.name.now c.in-Some.ensures.value (λ x. c.remove.ensures.updates.0 x) d n
+    ∙ names_dropped c.args.self.now.names c.args.entry.now.dir c.remove.new.self (no_keys c.remove.new.self.keys (c.if-is_last.ensures.0 refl)) d n
+    ∙ name_removed c.args.self.now.names c.args.entry.now.dir (Some c.in-Some.names.now) c.remove.new.self c.args.entry.now.name c.in-Some.ensures.value (λ x. c.remove.ensures.updates.0 x) d n
 
 pub returns-else-is_last : goal.returns-else-is_last
 returns-else-is_last c = λ d n.
-    name_removed c.args.self.now.names c.args.dir (Some c.in-Some.names.now) c.remove.new.self c.args.name.now c.in-Some.ensures.value (λ x. c.remove.ensures.updates.0 x) d n
+    name_removed c.args.self.now.names c.args.entry.now.dir (Some c.in-Some.names.now) c.remove.new.self c.args.entry.now.name c.in-Some.ensures.value (λ x. c.remove.ensures.updates.0 x) d n

@@ -8,6 +8,6 @@ use Rattle.ft_tree.proofs.tree.Tree.is_empty_entry.Goals as goal
 -- there is no such directory
 pub returns-in-None : goal.returns-in-None
 returns-in-None c =
-    sym (ap (λ o. is_some o && is_none (dir_entry no_dir c.args.name.now)) (get-empty (slice_cmp nat_cmp) c.args.name.now))
-    ∙ ap (λ o. contains_key (unwrap_or o no_dir).entries c.args.name.now && is_none (dir_entry (unwrap_or o no_dir) c.args.name.now)) c.in-None.ensures
-    ∙ ap (λ (cells : Cells). contains_key (dir_of cells c.args.dir).entries c.args.name.now && is_none (entry_of cells c.args.dir c.args.name.now)) c.self.view_is
+    sym (ap (λ o. is_some o && is_none (dir_entry no_dir c.args.entry.now.name)) (get-empty (slice_cmp nat_cmp) c.args.entry.now.name))
+    ∙ ap (λ o. contains_key (unwrap_or o no_dir).entries c.args.entry.now.name && is_none (dir_entry (unwrap_or o no_dir) c.args.entry.now.name)) c.in-None.ensures
+    ∙ ap (λ (cells : Cells). contains_key (dir_of cells c.args.entry.now.dir).entries c.args.entry.now.name && is_none (entry_of cells c.args.entry.now.dir c.args.entry.now.name)) c.self.view_is

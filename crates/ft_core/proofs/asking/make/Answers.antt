@@ -1,0 +1,29 @@
+use Rattle.std.proofs.Common.{◌-◌, length, drop, arith, ap, subst, ◌∙◌}
+use Rattle.std.specs.Prelude.{slice_range}
+use Rattle.std.proofs.lemmas.List.{take_all, length-drop}
+use Rattle.ft_base.specs.Chains.{list_in}
+use Rattle.ft_history.specs.Logs.{pushed}
+use Rattle.ft_locks.specs.Locks.{AreGranted}
+use Rattle.ft_undo.specs.Logs.{AreLists}
+use Rattle.ft_core.specs.declared.asking.Asker.{Asker}
+use Rattle.ft_core.proofs.Surveys.{granted-rest, on-ok}
+use Rattle.ft_core.proofs.asking.make.Goals as goal
+
+pub returns-clause-made : goal.returns-clause-made
+returns-clause-made c =
+    let xs = c.args.prepared.accesses.items in
+    let k = c.args.held in
+    let ys = c.as_slice.result.now in
+    let size = length-drop k ys in
+    let granted = on-ok c.grant.result (AreGranted c.args.locks.now c.grant.new.self c.args.asker.txn (slice_range ys k (length ys))) c.if-is_err.ensures.value c.grant.ensures.ok in
+    record {
+      cells = c.in_ok-undo.ensures.made;
+      undo = c.in_ok-undo.undo;
+      left = c.in_ok-undo.ensures.left;
+      inverse = c.in_ok-undo.ensures.inverse;
+      may = c.in_ok-undo.ensures.may_revert;
+      granted = granted-rest c.args.locks.now c.grant.new.self c.args.asker.txn xs k c.requires.held
+          (subst (AreGranted c.args.locks.now c.grant.new.self c.args.asker.txn) (take_all (length ys - k) (drop k ys) (omega (arith, size)) ∙ ap (drop k) c.as_slice.ensures.value) granted);
+      listed = subst (λ (a : Asker). AreLists c.push.new.self (pushed (list_in c.args.logs.now) a.txn (record { stamp = a.stamp; undo = c.in_ok-undo.undo }))) c.asker.view_is c.in_default.ensures.lists;
+      open_still = c.push.ensures.opened;
+    }

@@ -1,0 +1,9 @@
+-- When one look at the locks is enough.
+use Rattle.std.specs.Prelude.{ℕ}
+use Rattle.ft_forest.specs.Transactions.{Transactions, IsLiveChild}
+use Rattle.ft_locks.specs.Locks.{LockTable}
+use Rattle.ft_locks.specs.Surveys.{HasItsCellsAlone}
+
+-- Where it has no live child, a transaction shares what it has locked with its ancestors alone.
+abbrev pub IsAloneIfChildless : LockTable → Transactions → ℕ → Type 0
+IsAloneIfChildless table forest txn = ((x : ℕ) → IsLiveChild forest txn x → ⊥) → HasItsCellsAlone table forest txn

@@ -1,0 +1,7 @@
+use Rattle.ft_laws.specs.Tiny.{tiny_calls}
+use Rattle.ft_laws.proofs.Tiny.{tiny_lawful}
+use Rattle.ft_history.proofs.Sharing.{sharing as law}
+use Rattle.ft_history.proofs.lock_sharing.Goals as goal
+
+pub returns : goal.returns
+returns c = law tiny_calls tiny_lawful
