@@ -5,3 +5,4 @@ pub mod Clones
 pub mod ChainShape
 pub mod ChainMoves
 pub mod ChainCalls
+pub mod ChainWalks

@@ -98,3 +98,7 @@ module _ {T : Type 0} where
 
   abbrev pub AreChained : (ℕ → Option (Node T)) → AllEnds → Type 0
   AreChained at ends = (chain : ℕ → List (ℕ × T)) × AreChainedBy at ends chain
+
+  -- from this key on there are nodes that lead to each other, each once
+  abbrev pub LeadsOn : (ℕ → Option (Node T)) → Option ℕ → Type 0
+  LeadsOn at key = (ps : List (ℕ × T)) × (key ≡ head_key ps) × Linked at ps × Single ps

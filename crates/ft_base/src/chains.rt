@@ -6,6 +6,7 @@ ghost use Rattle.ft_base.specs.Chains.{list_in, IsOpen, moved, spliced};
 use crate::memory::Memory;
 use crate::node::{Ends, Node, first_key, from_node, last_key_or, set_next};
 use crate::table::Table;
+use crate::values::Values;
 use slab::Slab;
 use std::alloc::{AllocFailed, Global};
 use std::marker::Model;
@@ -81,6 +82,20 @@ impl<T> Chains<T> {
         let ends = (*self.ends.get(owner)?)?;
         let node = self.nodes.get(ends.first)?;
         Some(&node.value)
+    }
+
+    /// The values of a list, the newest first; of an owner that is not open, none.
+    pub fn values(&self, owner: u64) -> Values<'_, T>
+        ensures { result ≡ list_in self.now owner }
+    {
+        let at = match self.ends.get(owner) {
+            Some(ends) => first_key(*ends),
+            None => None,
+        };
+        Values {
+            nodes: &self.nodes,
+            at,
+        }
     }
 
     /// Whether a list is empty, as that of an owner that is not open.

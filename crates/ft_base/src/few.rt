@@ -5,11 +5,20 @@ use std::alloc::{AllocFailed, Global};
 use std::marker::Model;
 
 /// A list of values, which clauses see as a list. Up to two of them take no memory.
-#[derive(Drop)]
 pub struct Few<T> {
     first: Option<T>,
     second: Option<T>,
     more: Vec<T>,
+}
+
+impl<T: Drop> Drop for Few<T> {
+    fn drop(self) {
+        let Few {
+            first: _,
+            second: _,
+            more: _,
+        } = self;
+    }
 }
 
 impl<T> Model for Few<T> {

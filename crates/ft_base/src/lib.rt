@@ -8,9 +8,11 @@ mod memory;
 mod node;
 mod sequence;
 mod table;
+mod values;
 
 pub use chains::Chains;
 pub use few::Few;
 pub use memory::Memory;
 pub use sequence::Sequence;
 pub use table::Table;
+pub use values::Values;

@@ -1,5 +1,6 @@
 // A tree that grows by calls.
-use anyhow::{Context, Result, ensure};
+use crate::failed::{Failed, check};
+use crate::paths::Place;
 use ft_calls::{Call, Prepared, Reply, prepare};
 use ft_path::FilePath;
 use ft_tree::Tree;
@@ -29,73 +30,73 @@ impl Model for Growth {
     ghost invariant = { λ a. AreSoundCells a.tree × ((k : ℕ) → a.next ≤ k → IsFree a.tree k) };
 }
 
-/// The path with three components of this number, behind those of the directories above it where it is the first in them:
-/// ten in each of the second level, and a hundred of these in each of the first.
-pub fn directories(alloc: Global, index: u64) -> Result<Vec<String>> {
-    let (first, second, third) = (index / 1000, index / 10 % 100, index % 10);
-    let mut paths = Vec::new(alloc);
-    if index % 1000 == 0 {
-        paths.push(format!(in alloc; "/a{first}")?)?;
-    }
-    if third == 0 {
-        paths.push(format!(in alloc; "/a{first}/b{second}")?)?;
-    }
-    paths.push(format!(in alloc; "/a{first}/b{second}/c{third}")?)?;
-    Ok(paths)
+/// Whether a call has done what it was asked for.
+fn is_done(reply: &Reply) -> bool {
+    matches!(reply, Reply::Done)
 }
 
 impl Growth {
     /// A tree of directories, as many as `size` with three components.
-    pub fn new(alloc: Global, size: u64) -> Result<Growth> {
+    pub fn new(alloc: Global, size: u64) -> Result<Growth, Failed> {
         let mut growth = Growth {
             alloc,
             tree: Tree::new(alloc)?,
             next: 2,
         };
-        for index in 0..size {
-            growth.add(index)?;
-        }
+        growth.fill(size)?;
         Ok(growth)
     }
 
-    /// Makes the directory of this number, and those above it where it is the first in them.
-    fn add(&mut self, index: u64) -> Result<()> {
-        for text in directories(self.alloc, index)? {
-            self.make(text.as_str())?;
+    fn fill(&mut self, size: u64) -> Result<(), Failed> {
+        for index in 0..size {
+            self.add(Place::of(index))?;
         }
         Ok(())
     }
 
-    /// Makes a directory.
-    fn make(&mut self, text: &str) -> Result<()> {
-        let path = FilePath::new(self.alloc, text.as_bytes())?;
-        let reply = self.perform(&Call::Mkdir { path })?;
-        ensure!(reply == Reply::Done, "mkdir {text}");
+    /// Makes a directory, and those above it where it is the first in them.
+    fn add(&mut self, place: Place) -> Result<(), Failed> {
+        for level in place.new_levels() {
+            let path = place.path(self.alloc, *level)?;
+            check(self.makes(path)?)?;
+        }
         Ok(())
     }
 
+    /// Makes a directory, and says whether it was made.
+    fn makes(&mut self, path: FilePath) -> Result<bool, Failed> {
+        let call = Call::Mkdir { path };
+        self.does(&call)
+    }
+
     /// Makes a call, and answers its reply.
-    pub fn perform(&mut self, call: &Call) -> Result<Reply> {
+    pub fn perform(&mut self, call: &Call) -> Result<Reply, Failed> {
         let stamp = self.next;
-        let next = stamp.checked_add(1).context("no more stamps")?;
+        let next = stamp.checked_add(1).ok_or(Failed::Call)?;
         let (reply, _undo) = perform(self.alloc, &mut self.tree, stamp, call)?;
         self.next = next;
         Ok(reply)
     }
 
+    /// Makes a call, and says whether it has done what it was asked for.
+    pub fn does(&mut self, call: &Call) -> Result<bool, Failed> {
+        let reply = self.perform(call)?;
+        Ok(is_done(&reply))
+    }
+
     /// How many accesses a call has, which is looked at and not made.
-    pub fn accesses(&self, call: &Call) -> Result<usize> {
+    pub fn accesses(&self, call: &Call) -> Result<usize, Failed> {
         let Prepared { accesses, .. } = prepare(self.alloc, &self.tree, self.next, call)?;
         Ok(accesses.len())
     }
 
-    /// Makes a call on a copy, and takes it back there where that is asked for.
-    pub fn perform_on_copy(&self, call: &Call, is_taken_back: bool) -> Result<Reply> {
+    /// Makes a call on a copy, and takes it back there where that is asked for. Says whether it has done what it was asked for.
+    pub fn does_on_copy(&self, call: &Call, is_taken_back: bool) -> Result<bool, Failed> {
         let mut copy = self.tree.copy()?;
         let (reply, undo) = perform(self.alloc, &mut copy, self.next, call)?;
         if is_taken_back {
             revert(&mut copy, undo);
         }
-        Ok(reply)
+        Ok(is_done(&reply))
     }
 }

@@ -1,15 +1,16 @@
 // The asks of one transaction, in a table with the locks of others.
-use anyhow::{Context, Result, ensure};
+use crate::failed::{Failed, check};
+use crate::paths::path;
 use ft_calls::{Access, Mode};
 use ft_forest::{Forest, TxnId};
 use ft_locks::Locks;
-use ft_path::{FilePath, Name};
+use ft_path::FilePath;
 use ft_tree::{Cell, EntryRef};
 use std::alloc::Global;
 use std::mem;
 
 /// What is done again and again in a table of locks.
-#[derive(Clone, Copy, Debug, PartialEq, Eq)]
+#[derive(Clone, Copy, PartialEq, Eq)]
 pub enum Asking {
     /// Three accesses are made, and nothing is asked: what the others take beside their asks.
     Accesses,
@@ -39,20 +40,43 @@ struct Table {
 }
 
 impl Table {
-    fn begin(&mut self) -> Result<TxnId> {
+    fn begin(&mut self) -> Result<TxnId, Failed> {
         let txn = self.forest.begin()?;
         self.locks.open(txn)?;
         Ok(txn)
     }
 
-    fn grant(&mut self, txn: TxnId, accesses: &[Access]) -> Result<()> {
-        ensure!(self.locks.is_open(txn), "a transaction that is not open");
+    fn grant(&mut self, txn: TxnId, accesses: &[Access]) -> Result<(), Failed> {
+        check(self.locks.is_open(txn))?;
         self.locks.grant(txn, accesses)?;
         Ok(())
     }
 
+    /// Gives a transaction the lock of the entry with this number.
+    fn lock_entry(&mut self, alloc: Global, txn: TxnId, number: u64) -> Result<(), Failed> {
+        let cell = entry(alloc, 2, "/d", number)?;
+        let mode = Mode::Write;
+        self.grant(txn, [Access { cell, mode }].as_slice())
+    }
+
+    /// Makes the accesses of a file with this number, and asks for them where that is measured. Says whether nobody was in
+    /// the way.
+    fn take(
+        &mut self,
+        alloc: Global,
+        asking: Asking,
+        asker: TxnId,
+        file: u64,
+    ) -> Result<bool, Failed> {
+        let accesses = accesses_of(alloc, file)?;
+        if asking == Asking::Accesses {
+            return Ok(true);
+        }
+        self.ask(asker, accesses.as_slice())
+    }
+
     /// Asks who is in the way, and grants what is asked for where nobody is.
-    fn ask(&mut self, txn: TxnId, accesses: &[Access]) -> Result<bool> {
+    fn ask(&mut self, txn: TxnId, accesses: &[Access]) -> Result<bool, Failed> {
         let blockers = self.locks.blockers(&self.forest, txn, accesses)?;
         let is_granted = blockers.is_empty();
         if is_granted {
@@ -62,22 +86,30 @@ impl Table {
     }
 }
 
+/// The entry of a directory whose name is this text and a number.
+fn entry(alloc: Global, dir: u64, text: &str, number: u64) -> Result<Cell, Failed> {
+    let text = format!(in alloc; "{text}{number}")?;
+    let path = path(alloc, text.as_bytes())?;
+    first_in(alloc, dir, &path)
+}
+
 /// The entry of a directory that has the first name of a path.
-fn entry(alloc: Global, dir: u64, path: &str) -> Result<Cell> {
-    let path = FilePath::new(alloc, path.as_bytes())?;
+fn first_in(alloc: Global, dir: u64, path: &FilePath) -> Result<Cell, Failed> {
     let parts = path.parts(alloc)?;
-    let name: &Name = parts.names.as_slice().first().context("a name")?;
-    let entry = EntryRef { dir, name };
-    Ok(Cell::Entry(entry.to_entry()?))
+    match parts.names.as_slice().first() {
+        Some(name) => Ok(Cell::Entry(EntryRef { dir, name }.to_entry()?)),
+        None => Err(Failed::Call),
+    }
 }
 
 /// Three accesses, as of a call that makes a file with this number.
-fn accesses_of(alloc: Global, file: u64) -> Result<[Access; 3]> {
-    let text = format!(in alloc; "/n{file}")?;
-    let cell = entry(alloc, 1, text.as_str())?;
+fn accesses_of(alloc: Global, file: u64) -> Result<[Access; 3], Failed> {
     let mode = Mode::Write;
     Ok([
-        Access { cell, mode },
+        Access {
+            cell: entry(alloc, 1, "/n", file)?,
+            mode,
+        },
         Access {
             cell: Cell::Links(file),
             mode,
@@ -90,28 +122,30 @@ fn accesses_of(alloc: Global, file: u64) -> Result<[Access; 3]> {
 }
 
 /// Gives locks, as many as `size`: all to one transaction, or each to one of its own.
-fn fill(alloc: Global, table: &mut Table, asking: Asking, size: u64) -> Result<()> {
+fn fill(alloc: Global, table: &mut Table, asking: Asking, size: u64) -> Result<(), Failed> {
     let mut owner = table.begin()?;
     for number in 0..size {
         if asking == Asking::Among {
             owner = table.begin()?;
         }
-        let text = format!(in alloc; "/d{number}")?;
-        let cell = entry(alloc, 2, text.as_str())?;
-        let mode = Mode::Write;
-        table.grant(owner, [Access { cell, mode }].as_slice())?;
+        table.lock_entry(alloc, owner, number)?;
     }
     Ok(())
 }
 
 /// Asks as often as `count` says, in a table of so many locks: how often nobody was in the way.
-fn run_in(alloc: Global, table: &mut Table, asking: Asking, count: u64, size: u64) -> Result<u64> {
+fn run_in(
+    alloc: Global,
+    table: &mut Table,
+    asking: Asking,
+    count: u64,
+    size: u64,
+) -> Result<u64, Failed> {
     fill(alloc, table, asking, size)?;
     let asker = table.begin()?;
     let mut done: u64 = 0;
     for index in 0..count {
-        let accesses = accesses_of(alloc, index)?;
-        if asking == Asking::Accesses || table.ask(asker, accesses.as_slice())? {
+        if table.take(alloc, asking, asker, index)? {
             done = done.wrapping_add(1);
         }
     }
@@ -119,7 +153,7 @@ fn run_in(alloc: Global, table: &mut Table, asking: Asking, count: u64, size: u6
 }
 
 /// The same in a new table.
-pub fn run(alloc: Global, asking: Asking, count: u64, size: u64) -> Result<u64> {
+pub fn run(alloc: Global, asking: Asking, count: u64, size: u64) -> Result<u64, Failed> {
     let forest = Forest::new(alloc, 0);
     let locks = Locks::new(alloc)?;
     let mut table = Table { forest, locks };

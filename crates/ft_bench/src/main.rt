@@ -3,32 +3,62 @@
 //! instructions: what one call takes is the difference between two runs that differ in COUNT.
 #![tactic(auto)]
 
+mod failed;
 mod growth;
 mod locking;
 mod measure;
+mod paths;
 mod stages;
 
-use anyhow::{Context, Result};
+use failed::Failed;
 use locking::Asking;
 use measure::Measure;
 use stages::Stage;
+use std::alloc::Global;
 use std::env;
+use std::process::ExitCode;
 
-fn main(rt: HostRuntime) -> Result<()> {
-    let words: Vec<String> = env::args(&rt)?.skip(1).collect(rt.alloc())?;
-    let [what, count, size] = words.as_slice() else {
-        anyhow::bail!("usage: ft_bench WHAT COUNT SIZE");
-    };
-    let count = count.parse::<u64>().context("reading COUNT")?;
-    let size = size.parse::<u64>().context("reading SIZE")?;
-    let done = match (Asking::named(what.as_str()), Stage::named(what.as_str())) {
-        (Some(asking), _) => locking::run(rt.alloc(), asking, count, size)?,
-        (_, Some(stage)) => stages::run(rt.alloc(), stage, count, size)?,
-        _ => {
-            let measure = Measure::named(what.as_str()).context("no such measure")?;
-            measure::run(rt.alloc(), measure, count, size)?
+fn main(rt: HostRuntime) -> ExitCode {
+    match measured(&rt) {
+        Ok(()) => ExitCode::from(0),
+        Err(failed) => {
+            let _ = rt.eprint(failed.text());
+            ExitCode::from(1)
         }
+    }
+}
+
+/// Does what the words after the program's name ask for, and prints how often it went well.
+fn measured(rt: &HostRuntime) -> Result<(), Failed> {
+    let words = words_given(rt)?;
+    let [what, count, size] = words.as_slice() else {
+        return Err(Failed::Usage);
     };
-    println!(rt; "{what} {count} {size}: {done}")?;
+    let (count, size) = (number(count.as_str())?, number(size.as_str())?);
+    let done = run(rt.alloc(), what.as_str(), count, size)?;
+    let _ = println!(rt; "{what} {count} {size}: {done}");
     Ok(())
+}
+
+/// The words after the program's name.
+fn words_given(rt: &HostRuntime) -> Result<Vec<String>, Failed> {
+    match env::args(rt) {
+        Ok(words) => Ok(words.skip(1).collect(rt.alloc())?),
+        Err(_) => Err(Failed::Memory),
+    }
+}
+
+fn number(word: &str) -> Result<u64, Failed> {
+    word.parse::<u64>().ok().ok_or(Failed::Usage)
+}
+
+fn run(alloc: Global, what: &str, count: u64, size: u64) -> Result<u64, Failed> {
+    if let Some(asking) = Asking::named(what) {
+        return locking::run(alloc, asking, count, size);
+    }
+    if let Some(stage) = Stage::named(what) {
+        return stages::run(alloc, stage, count, size);
+    }
+    let measure = Measure::named(what).ok_or(Failed::Usage)?;
+    measure::run(alloc, measure, count, size)
 }

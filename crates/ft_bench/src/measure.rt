@@ -1,6 +1,7 @@
-// What is measured.
+// What is measured of calls on a tree.
+use crate::failed::Failed;
 use crate::growth::Growth;
-use anyhow::Result;
+use crate::paths::{Level, Place, path};
 use ft_calls::{Call, Reply, Whence};
 use ft_path::FilePath;
 use ft_tree::AccessMode;
@@ -8,7 +9,7 @@ use std::alloc::Global;
 use std::mem;
 
 /// What is done again and again.
-#[derive(Clone, Copy, Debug, PartialEq, Eq)]
+#[derive(Clone, Copy, PartialEq, Eq)]
 pub enum Measure {
     /// The path of a call is made, and no call: what the others take beside their calls.
     Text,
@@ -41,38 +42,84 @@ impl Measure {
         }
     }
 
-    /// Does it once, and answers whether that went well.
-    fn take(self, growth: &mut Growth, fd: u64, call: &Call) -> Result<bool> {
-        Ok(match self {
-            Measure::Text => true,
-            Measure::Stat => growth.accesses(call)? == 3,
-            Measure::Mkdir => growth.perform(call)? == Reply::Done,
-            Measure::Refused => growth.perform(call)? != Reply::Done,
-            Measure::Lseek => {
-                let off = 1;
-                let whence = Whence::Set;
-                growth.perform(&Call::Lseek { fd, whence, off })? == Reply::Number(1)
-            }
-            Measure::Copy => growth.perform_on_copy(call, false)? == Reply::Done,
-            Measure::Revert => growth.perform_on_copy(call, true)? == Reply::Done,
-        })
+    /// The path of one of the directories, or of a new one beside it.
+    fn path(self, alloc: Global, place: Place, index: u64) -> Result<FilePath, Failed> {
+        let level = match self {
+            Measure::Stat | Measure::Refused => Level::Third,
+            _ => Level::Beside(index),
+        };
+        place.path(alloc, level)
+    }
+
+    /// Does it once with a path, and answers whether that went well.
+    fn take_at(self, growth: &mut Growth, fd: u64, path: FilePath) -> Result<bool, Failed> {
+        let call = match self {
+            Measure::Stat => Call::Stat { path },
+            _ => Call::Mkdir { path },
+        };
+        self.take(growth, fd, &call)
+    }
+
+    fn take(self, growth: &mut Growth, fd: u64, call: &Call) -> Result<bool, Failed> {
+        match self {
+            Measure::Text => Ok(true),
+            Measure::Stat => Ok(growth.accesses(call)? == 3),
+            Measure::Mkdir => growth.does(call),
+            Measure::Refused => Ok(!growth.does(call)?),
+            Measure::Lseek => Ok(seek(growth, fd)? == 1),
+            Measure::Copy => growth.does_on_copy(call, false),
+            Measure::Revert => growth.does_on_copy(call, true),
+        }
     }
 }
 
-/// Does a measure as often as `count` says, over a tree of this size, each time at another
-/// directory: how often it went well.
+/// Sets the offset of an open file to 1, and answers it.
+fn seek(growth: &mut Growth, fd: u64) -> Result<u64, Failed> {
+    let call = Call::Lseek {
+        fd,
+        whence: Whence::Set,
+        off: 1,
+    };
+    number(growth, &call)
+}
+
+/// Makes the file `/f`, and answers its descriptor.
+fn open(alloc: Global, growth: &mut Growth) -> Result<u64, Failed> {
+    let path = path(alloc, b"/f".as_slice())?;
+    let call = Call::Open {
+        path,
+        access: AccessMode::ReadWrite,
+        create: true,
+        excl: false,
+        trunc: false,
+        append: false,
+    };
+    number(growth, &call)
+}
+
+/// The number that a call answers.
+fn number(growth: &mut Growth, call: &Call) -> Result<u64, Failed> {
+    match growth.perform(call)? {
+        Reply::Number(number) => Ok(number),
+        _ => Err(Failed::Call),
+    }
+}
+
+/// Does a measure as often as `count` says, over a tree of this size, each time at another directory: how often it went
+/// well.
 fn run_on(
     alloc: Global,
     growth: &mut Growth,
     measure: Measure,
     count: u64,
     size: u64,
-) -> Result<u64> {
-    let fd = open_file(alloc, growth)?;
+) -> Result<u64, Failed> {
+    let fd = open(alloc, growth)?;
     let mut done: u64 = 0;
     for index in 0..count {
-        let call = call_at(alloc, measure, index, size)?;
-        if measure.take(growth, fd, &call)? {
+        let at = index.wrapping_mul(7919).checked_rem(size).unwrap_or(0);
+        let path = measure.path(alloc, Place::of(at), index)?;
+        if measure.take_at(growth, fd, path)? {
             done = done.wrapping_add(1);
         }
     }
@@ -80,41 +127,10 @@ fn run_on(
 }
 
 /// The same over a new tree.
-pub fn run(alloc: Global, measure: Measure, count: u64, size: u64) -> Result<u64> {
+pub fn run(alloc: Global, measure: Measure, count: u64, size: u64) -> Result<u64, Failed> {
     let mut growth = Growth::new(alloc, size)?;
     let done = run_on(alloc, &mut growth, measure, count, size);
     // To drop the tree is no part of a call.
     mem::forget(growth);
     done
-}
-
-/// The descriptor of a new file.
-fn open_file(alloc: Global, growth: &mut Growth) -> Result<u64> {
-    let open = Call::Open {
-        path: FilePath::new(alloc, b"/f".as_slice())?,
-        access: AccessMode::ReadWrite,
-        create: true,
-        excl: false,
-        trunc: false,
-        append: false,
-    };
-    match growth.perform(&open)? {
-        Reply::Number(fd) => Ok(fd),
-        _ => anyhow::bail!("open /f"),
-    }
-}
-
-/// The call of a measure on one of the directories, or on a new one beside it.
-fn call_at(alloc: Global, measure: Measure, index: u64, size: u64) -> Result<Call> {
-    let at = index.wrapping_mul(7919).checked_rem(size).unwrap_or(0);
-    let (first, second, third) = (at / 1000, at / 10 % 100, at % 10);
-    let text = match measure {
-        Measure::Stat | Measure::Refused => format!(in alloc; "/a{first}/b{second}/c{third}")?,
-        _ => format!(in alloc; "/a{first}/b{second}/n{index}")?,
-    };
-    let path = FilePath::new(alloc, text.as_bytes())?;
-    Ok(match measure {
-        Measure::Stat => Call::Stat { path },
-        _ => Call::Mkdir { path },
-    })
 }

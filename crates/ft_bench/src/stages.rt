@@ -1,14 +1,13 @@
 // What calls take through a core, in transactions.
-use crate::growth::directories;
-use anyhow::{Result, ensure};
+use crate::failed::{Failed, check};
+use crate::paths::{Level, Place, path};
 use ft_calls::Call;
 use ft_core::{Core, Outcome, TxnId};
-use ft_path::FilePath;
 use std::alloc::Global;
 use std::mem;
 
 /// What is asked again and again, in a transaction that has made many directories.
-#[derive(Clone, Copy, Debug, PartialEq, Eq)]
+#[derive(Clone, Copy, PartialEq, Eq)]
 pub enum Stage {
     /// A call is made, and not asked for: what the others take beside their asks.
     Call,
@@ -39,61 +38,52 @@ impl Stage {
     }
 
     /// Does it once.
-    fn take(self, alloc: Global, core: &mut Core, txn: TxnId, index: u64) -> Result<()> {
+    fn take(self, alloc: Global, core: &mut Core, txn: TxnId, index: u64) -> Result<(), Failed> {
+        let place = Place::of(0);
         match self {
-            Stage::Call => {
-                let _ = mkdir_beside(alloc, index)?;
-                Ok(())
-            }
+            Stage::Call => place.path(alloc, Level::Beside(index)).map(drop),
             Stage::Ask | Stage::Crowd | Stage::Whole => {
-                ask(core, txn, mkdir_beside(alloc, index)?)
+                let path = place.path(alloc, Level::Beside(index))?;
+                ask(core, txn, Call::Mkdir { path })
             }
             Stage::Look => {
-                let path = FilePath::new(alloc, b"/a0/b0/c0".as_slice())?;
+                let path = path(alloc, b"/a0/b0/c0".as_slice())?;
                 ask(core, txn, Call::Stat { path })
             }
             Stage::Empty => {
                 let child = core.sub(txn)?;
-                Ok(core.commit(child)?)
+                core.commit(child)?;
+                Ok(())
             }
         }
     }
 }
 
-/// The call that makes a directory.
-fn mkdir(alloc: Global, text: &str) -> Result<Call> {
-    let path = FilePath::new(alloc, text.as_bytes())?;
-    Ok(Call::Mkdir { path })
-}
-
-/// The call that makes a directory of this number beside the first ones.
-fn mkdir_beside(alloc: Global, index: u64) -> Result<Call> {
-    let text = format!(in alloc; "/a0/b0/n{index}")?;
-    mkdir(alloc, text.as_str())
-}
-
 /// Makes a call that nobody is in the way of.
-fn ask(core: &mut Core, txn: TxnId, call: Call) -> Result<()> {
+fn ask(core: &mut Core, txn: TxnId, call: Call) -> Result<(), Failed> {
     let outcome = core.ask(txn, call)?;
-    ensure!(
-        matches!(outcome, Outcome::Granted { .. }),
-        "a call that waits"
-    );
-    Ok(())
+    check(matches!(outcome, Outcome::Granted { .. }))
 }
 
 /// Makes directories in a transaction, as many as `size` with three components.
-fn fill(alloc: Global, core: &mut Core, txn: TxnId, size: u64) -> Result<()> {
+fn fill(alloc: Global, core: &mut Core, txn: TxnId, size: u64) -> Result<(), Failed> {
     for index in 0..size {
-        for text in directories(alloc, index)? {
-            ask(core, txn, mkdir(alloc, text.as_str())?)?;
-        }
+        add(alloc, core, txn, Place::of(index))?;
+    }
+    Ok(())
+}
+
+/// Makes a directory, and those above it where it is the first in them.
+fn add(alloc: Global, core: &mut Core, txn: TxnId, place: Place) -> Result<(), Failed> {
+    for level in place.new_levels() {
+        let path = place.path(alloc, *level)?;
+        ask(core, txn, Call::Mkdir { path })?;
     }
     Ok(())
 }
 
 /// Begins as many transactions at the top.
-fn crowd(core: &mut Core, count: u64) -> Result<()> {
+fn crowd(core: &mut Core, count: u64) -> Result<(), Failed> {
     for _ in 0..count {
         core.begin()?;
     }
@@ -101,7 +91,13 @@ fn crowd(core: &mut Core, count: u64) -> Result<()> {
 }
 
 /// Does a stage as often as `count` says, in a transaction of a core that has made directories, as many as `size`.
-fn run_in(alloc: Global, core: &mut Core, stage: Stage, count: u64, size: u64) -> Result<u64> {
+fn run_in(
+    alloc: Global,
+    core: &mut Core,
+    stage: Stage,
+    count: u64,
+    size: u64,
+) -> Result<u64, Failed> {
     if stage == Stage::Crowd {
         crowd(core, 10_000)?;
     }
@@ -118,7 +114,7 @@ fn run_in(alloc: Global, core: &mut Core, stage: Stage, count: u64, size: u64) -
 }
 
 /// The same in a new core.
-pub fn run(alloc: Global, stage: Stage, count: u64, size: u64) -> Result<u64> {
+pub fn run(alloc: Global, stage: Stage, count: u64, size: u64) -> Result<u64, Failed> {
     let mut core = Core::new(alloc)?;
     let done = run_in(alloc, &mut core, stage, count, size);
     // To drop the core is no part of an ask.

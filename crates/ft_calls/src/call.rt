@@ -12,7 +12,7 @@ use std::alloc::Global;
 /// with the fault of its look-up: ENOENT for a directory on the way that is missing, and ENOTDIR
 /// for a file on the way or before a trailing slash. The errors of each call are in the order in
 /// which they are tested.
-#[derive(Debug, PartialEq, Eq, Drop)]
+#[derive(Debug, PartialEq, Eq)]
 pub enum Call {
     /// Makes a directory without entries, whose number is the call's stamp, and answers `Done`
     /// (POSIX.1-2017, System Interfaces, mkdir).
@@ -181,6 +181,49 @@ pub enum Call {
     },
 }
 
+impl Drop for Call {
+    fn drop(self) {
+        match self {
+            Call::Mkdir { path: _ }
+            | Call::Rmdir { path: _ }
+            | Call::List { path: _ }
+            | Call::Open {
+                path: _,
+                access: _,
+                create: _,
+                excl: _,
+                trunc: _,
+                append: _,
+            }
+            | Call::Close { fd: _ }
+            | Call::Read { fd: _, len: _ }
+            | Call::Write { fd: _, bytes: _ }
+            | Call::Pread {
+                fd: _,
+                off: _,
+                len: _,
+            }
+            | Call::Pwrite {
+                fd: _,
+                off: _,
+                bytes: _,
+            }
+            | Call::Lseek {
+                fd: _,
+                whence: _,
+                off: _,
+            }
+            | Call::Truncate { len: _, path: _ }
+            | Call::Ftruncate { fd: _, len: _ }
+            | Call::Stat { path: _ }
+            | Call::Fstat { fd: _ }
+            | Call::Link { old: _, new: _ }
+            | Call::Unlink { path: _ }
+            | Call::Rename { old: _, new: _ } => {}
+        }
+    }
+}
+
 /// From where an offset counts (POSIX.1-2017, Base Definitions, unistd.h: SEEK_SET, SEEK_CUR and
 /// SEEK_END).
 #[derive(Clone, Copy, Debug, PartialEq, Eq)]
@@ -299,7 +342,7 @@ fn copy_names(alloc: Global, names: &[(Name, Kind)]) -> Result<Reply, Memory>
 
 /// How an access goes about its cell. Two accesses conflict where their cells overlap and one of
 /// them writes.
-#[derive(Clone, Copy, Debug, PartialEq, Eq, PartialOrd, Ord)]
+#[derive(Clone, Copy, Debug, PartialEq, Eq)]
 pub enum Mode {
     /// The cell is looked at.
     Read,
@@ -307,9 +350,8 @@ pub enum Mode {
     Write,
 }
 
-/// A cell that a call reads or writes. Accesses are in the order of their cells, and Read stands
-/// before Write.
-#[derive(Debug, PartialEq, Eq, PartialOrd, Ord, Drop)]
+/// A cell that a call reads or writes.
+#[derive(Debug, PartialEq, Eq, Drop)]
 pub struct Access {
     pub cell: Cell,
     pub mode: Mode,

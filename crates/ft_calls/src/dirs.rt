@@ -48,10 +48,7 @@ fn make_dir(
         dir: stamp,
         to: Some(entry.dir),
     })?;
-    edits.push(Edit::Entry {
-        entry: entry.to_entry()?,
-        to: Some(Node::Dir(stamp)),
-    })?;
+    edits.push_entry(entry, Some(Node::Dir(stamp)))?;
     Ok(Told::Done)
 }
 
@@ -129,10 +126,7 @@ fn remove_bare(
         dir: number,
         to: None,
     })?;
-    edits.push(Edit::Entry {
-        entry: entry.to_entry()?,
-        to: None,
-    })?;
+    edits.push_entry(entry, None)?;
     Ok(Told::Done)
 }
 

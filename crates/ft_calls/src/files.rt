@@ -1,9 +1,10 @@
 // What open, truncate and stat come to.
-ghost use Rattle.std.specs.Prelude.{◌≡◌, ◌≤◌, [], Ok};
+ghost use Rattle.std.specs.Prelude.{◌≡◌, ◌≤◌, [], Ok, None};
 ghost use Rattle.ft_body.specs.declared.TheConstants.{SIZE_LIMIT};
 ghost use Rattle.ft_path.specs.FilePath.{parts_of};
+ghost use Rattle.ft_tree.specs.Entries.{entry_in};
 ghost use Rattle.ft_tree.specs.Looks.{Answer};
-ghost use Rattle.ft_tree.specs.Walk.{seen_at};
+ghost use Rattle.ft_tree.specs.Walk.{Named, seen_at};
 ghost use Rattle.ft_calls.specs.Outcomes.{from_parts};
 ghost use Rattle.ft_calls.specs.Files.{open_node, open_spot, open_parts, cut_file, truncate_spot, truncate_parts, file_info, stat_spot};
 ghost use Rattle.ft_calls.specs.Comes.{Comes};
@@ -14,7 +15,7 @@ use crate::call::OpenFlags;
 use crate::intent::{Edit, Edits, Stop, Told};
 use crate::look::{Look, text_parts};
 use ft_path::{Errno, FilePath, Parts};
-use ft_tree::{Kind, Node, Spot};
+use ft_tree::{EntryRef, Kind, Node, Spot};
 use std::alloc::Global;
 
 /// Opens a file, and makes it where that is asked. What is new gets the stamp as its number.
@@ -64,32 +65,44 @@ fn open_spot(
     ensures { Comes look.old (Answer (open_spot stamp flags trailing (seen_at spot.entry))) look.new (intended edits.new result) }
 {
     match spot {
-        Spot::Named { entry, node: None } => {
-            if !flags.create || trailing {
-                return Err(Stop::Errno(Errno::ENOENT));
-            }
-            edits.push(Edit::Links { file: stamp, to: 1 })?;
-            edits.push(Edit::Resize {
-                file: stamp,
-                size: 0,
-            })?;
-            edits.push(Edit::Open {
-                fd: stamp,
-                to: Some(flags.description(stamp)),
-            })?;
-            edits.push(Edit::Entry {
-                entry: entry.to_entry()?,
-                to: Some(Node::File(stamp)),
-            })?;
-            Ok(Told::Number(stamp))
-        }
-        _ if flags.is_exclusive() => Err(Stop::Errno(Errno::EEXIST)),
+        Spot::Named { entry, node: None } => open_missing(
+            look, edits, stamp, flags, trailing, entry,
+        ),
         Spot::Named {
             node: Some(node),
             ..
-        } => open_node(look, edits, stamp, flags, node),
-        Spot::Itself(_) => Err(Stop::Errno(Errno::EISDIR)),
+        } if !flags.is_exclusive() => open_node(look, edits, stamp, flags, node),
+        Spot::Itself(_) if !flags.is_exclusive() => Err(Stop::Errno(Errno::EISDIR)),
+        Spot::Named { node: Some(_), .. } | Spot::Itself(_) => Err(Stop::Errno(Errno::EEXIST)),
     }
+}
+
+/// Opens a file that is not there: it is made, empty, where that is asked.
+fn open_missing(
+    look: &mut Look<'_>,
+    edits: &mut Edits<'_>,
+    stamp: u64,
+    flags: OpenFlags,
+    trailing: bool,
+    entry: EntryRef<'_>,
+) -> Result<Told, Stop>
+    requires { edits.old ≡ [] }
+    ensures { Comes look.old (Answer (open_spot stamp flags trailing (Named (entry_in entry.entry) None))) look.new (intended edits.new result) }
+{
+    if !flags.create || trailing {
+        return Err(Stop::Errno(Errno::ENOENT));
+    }
+    edits.push(Edit::Links { file: stamp, to: 1 })?;
+    edits.push(Edit::Resize {
+        file: stamp,
+        size: 0,
+    })?;
+    edits.push(Edit::Open {
+        fd: stamp,
+        to: Some(flags.description(stamp)),
+    })?;
+    edits.push_entry(entry, Some(Node::File(stamp)))?;
+    Ok(Told::Number(stamp))
 }
 
 /// Opens what an entry leads to.

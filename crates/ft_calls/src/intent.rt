@@ -1,17 +1,18 @@
 // What a call comes to, before it is made.
 ghost use Rattle.std.specs.Prelude.{◌≡◌, [], ◌∷◌, ◌++◌, OnOk};
+ghost use Rattle.ft_tree.specs.Entries.{entry_in};
 ghost use Rattle.ft_calls.specs.Within.{IsWithin, AreWithin};
 
 use crate::bytes::read_bytes;
 use crate::call::Reply;
 use ft_base::{Few, Memory};
 use ft_path::Errno;
-use ft_tree::{Entry, Kind, Node, OpenFile, Tree};
+use ft_tree::{Entry, EntryRef, Kind, Node, OpenFile, Tree};
 use std::alloc::Global;
 use std::marker::Model;
 
 /// Why a call comes to no intent.
-#[derive(Clone, Copy, Debug, PartialEq, Eq)]
+#[derive(Clone, Copy)]
 pub(crate) enum Stop {
     /// There was no memory.
     Memory,
@@ -111,10 +112,18 @@ impl<'c> Edits<'c> {
         self.items.push(edit)?;
         Ok(())
     }
+
+    /// The same, of what an entry leads to.
+    pub(crate) fn push_entry(&mut self, entry: EntryRef<'_>, to: Option<Node>) -> Result<(), Memory>
+        ensures { OnOk result (self.new ≡ self.old ++ Edit.Entry (entry_in entry.entry) to ∷ []) }
+    {
+        let entry = entry.to_entry()?;
+        self.push(Edit::Entry { entry, to })
+    }
 }
 
 /// What a call answers when it is made. A list is told only by where it is.
-#[derive(Clone, Copy, Debug, PartialEq, Eq)]
+#[derive(Clone, Copy, Debug)]
 pub enum Told {
     /// What was asked is done.
     Done,

@@ -51,10 +51,7 @@ fn unlink_spot(look: &mut Look<'_>, edits: &mut Edits<'_>, spot: Spot<'_>) -> Re
                 file,
                 to: links.saturating_sub(1),
             })?;
-            edits.push(Edit::Entry {
-                entry: entry.to_entry()?,
-                to: None,
-            })?;
+            edits.push_entry(entry, None)?;
             Ok(Told::Done)
         }
         _ => Err(Stop::Errno(Errno::EPERM)),
@@ -146,10 +143,7 @@ fn link_new(
     if links >= MOST_LINKS {
         return Err(Stop::Errno(Errno::EMLINK));
     }
-    edits.push(Edit::Entry {
-        entry: entry.to_entry()?,
-        to: Some(Node::File(file)),
-    })?;
+    edits.push_entry(entry, Some(Node::File(file)))?;
     edits.push(Edit::Links {
         file,
         to: links + 1,
@@ -400,14 +394,8 @@ fn renamed(
     requires { edits.old ≡ [] }
     ensures { (cells : Cells) → OnOk result (outcome_of cells (record { told = Done; edits = edits.new }) ≡ renamed (entry_in old.entry) node (entry_in new.entry) []) }
 {
-    edits.push(Edit::Entry {
-        entry: new.to_entry()?,
-        to: Some(node),
-    })?;
-    edits.push(Edit::Entry {
-        entry: old.to_entry()?,
-        to: None,
-    })?;
+    edits.push_entry(new, Some(node))?;
+    edits.push_entry(old, None)?;
     Ok(())
 }
 

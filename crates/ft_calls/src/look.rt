@@ -122,7 +122,6 @@ impl<'t> Look<'t> {
     }
 
     /// The accesses of a call that looked so, and that makes these edits.
-    #[tactic(auto, using(crate::proofs::Noting::parts_noted))]
     pub(crate) fn into_accesses(self, edits: &Edits<'_>) -> Result<Vec<Access>, Memory>
         ensures list { IfOk result (λ list. list.items ≡ listed (with_edits self.entry.modes edits.now)) }
         ensures within { AreWithin edits.now }
@@ -131,12 +130,7 @@ impl<'t> Look<'t> {
             tree: _,
             mut touched,
         } = self;
-        let items = edits.as_items();
-        note_if(&mut touched, items.first())?;
-        note_if(&mut touched, items.second())?;
-        for edit in items.others() {
-            note_edit(&mut touched, edit)?;
-        }
+        note_edits(&mut touched, edits)?;
         Ok(touched.into_accesses())
     }
 }
@@ -174,6 +168,21 @@ pub(crate) fn text_parts(alloc: Global, path: &FilePath) -> Result<Parts, Stop>
         Err(PartsFault::Errno(errno)) => Err(Stop::Errno(errno)),
         Err(PartsFault::Memory) => Err(Stop::Memory),
     }
+}
+
+/// Notes the cells that are edited.
+#[tactic(auto, using(crate::proofs::Noting::parts_noted))]
+fn note_edits(touched: &mut Touched, edits: &Edits<'_>) -> Result<(), Memory>
+    ensures noted { OnOk result (touched.new ≡ with_edits touched.old edits.now) }
+    ensures within { AreWithin edits.now }
+{
+    let items = edits.as_items();
+    note_if(touched, items.first())?;
+    note_if(touched, items.second())?;
+    for edit in items.others() {
+        note_edit(touched, edit)?;
+    }
+    Ok(())
 }
 
 /// Notes the cell that is edited, where there is an edit.

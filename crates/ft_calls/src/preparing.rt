@@ -20,6 +20,7 @@ use crate::look::Look;
 use ft_base::Memory;
 use ft_tree::Tree;
 use std::alloc::Global;
+use std::mem;
 
 /// A call that was looked at and is not made yet: what it touches, and what it comes to.
 #[derive(Drop)]
@@ -63,7 +64,7 @@ fn tell_or_fail<'c>(
     match tell(alloc, look, edits, stamp, call) {
         Ok(told) => Ok(told),
         Err(Stop::Errno(errno)) => {
-            *edits = Edits::new(alloc);
+            drop(mem::replace(edits, Edits::new(alloc)));
             Ok(Told::Failed(errno))
         }
         Err(Stop::Memory) => Err(Memory),
@@ -125,6 +126,7 @@ fn tell<'c>(
 pub fn accesses(alloc: Global, tree: &Tree, stamp: u64, call: &Call) -> Result<Vec<Access>, Memory>
     ensures { IfOk result (λ list. list.items ≡ accesses_of tree.now stamp call.now) }
 {
-    let Prepared { accesses, .. } = prepare(alloc, tree, stamp, call)?;
+    let Prepared { accesses, intent } = prepare(alloc, tree, stamp, call)?;
+    drop(intent);
     Ok(accesses)
 }

@@ -1,5 +1,5 @@
 -- Places stay where cells are written, and what takes writes back has its places.
-use Rattle.std.proofs.Common.{◌≡◌, ℕ, List, [], ◌∷◌, Option, Some, None, map, refl, sym, subst, ◌∙◌}
+use Rattle.std.proofs.Common.{◌≡◌, ℕ, List, [], ◌∷◌, Option, Some, None, map, refl, sym, subst}
 use Rattle.ft_laws.specs.Lists.{Each}
 use Rattle.ft_laws.specs.Effects.{Has, before, write_all}
 use Rattle.ft_laws.proofs.Lists.{Each-from, Each-at}

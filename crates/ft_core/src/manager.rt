@@ -31,7 +31,6 @@ use std::snapshot::Snapshot;
 ///
 /// Clauses see its state: the base, what has happened since, the pending asks and the last numbers. Its tree is that of
 /// its state: what a plain tree holds after the standing calls alone, in the order of their stamps.
-#[derive(Drop)]
 pub struct Core {
     pub(crate) alloc: Global,
     pub(crate) journal: Journal,
@@ -39,6 +38,19 @@ pub struct Core {
     pub(crate) forest: Forest,
     pub(crate) locks: Locks,
     pub(crate) logs: Logs,
+}
+
+impl Drop for Core {
+    fn drop(self) {
+        let Core {
+            alloc: _,
+            journal: _,
+            tree: _,
+            forest: _,
+            locks: _,
+            logs: _,
+        } = self;
+    }
 }
 
 impl Model for Core {

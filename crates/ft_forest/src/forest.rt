@@ -25,10 +25,18 @@ use std::marker::Model;
 ///
 /// Their numbers go on from the base's last one. A call takes the same time however many transactions there are,
 /// except where it says so.
-#[derive(Drop)]
 pub struct Forest {
     base: u64,
     records: Records,
+}
+
+impl Drop for Forest {
+    fn drop(self) {
+        let Forest {
+            base: _,
+            records: _,
+        } = self;
+    }
 }
 
 impl Model for Forest {

@@ -21,46 +21,22 @@ pub fn asked(alloc: Global, step: &Step, descriptors: &[u64]) -> Result<Option<C
 }
 
 // Puts the descriptor that a step opened in the place of its number.
-fn on_opened(call: Call, descriptors: &[u64]) -> Call
+fn on_opened(mut call: Call, descriptors: &[u64]) -> Call
     ensures { result ≡ on_opened descriptors.now call }
 {
     let ds = descriptors;
-    match call {
-        Call::Close { fd } => Call::Close {
-            fd: opened_at(ds, fd),
-        },
-        Call::Read { fd, len } => Call::Read {
-            fd: opened_at(ds, fd),
-            len,
-        },
-        Call::Write { fd, bytes } => Call::Write {
-            fd: opened_at(ds, fd),
-            bytes,
-        },
-        Call::Pread { fd, off, len } => Call::Pread {
-            fd: opened_at(ds, fd),
-            off,
-            len,
-        },
-        Call::Pwrite { fd, off, bytes } => Call::Pwrite {
-            fd: opened_at(ds, fd),
-            off,
-            bytes,
-        },
-        Call::Lseek { fd, whence, off } => Call::Lseek {
-            fd: opened_at(ds, fd),
-            whence,
-            off,
-        },
-        Call::Ftruncate { fd, len } => Call::Ftruncate {
-            fd: opened_at(ds, fd),
-            len,
-        },
-        Call::Fstat { fd } => Call::Fstat {
-            fd: opened_at(ds, fd),
-        },
-        call => call,
+    match &mut call {
+        Call::Close { fd } => *fd = opened_at(ds, *fd),
+        Call::Read { fd, .. } => *fd = opened_at(ds, *fd),
+        Call::Write { fd, .. } => *fd = opened_at(ds, *fd),
+        Call::Pread { fd, .. } => *fd = opened_at(ds, *fd),
+        Call::Pwrite { fd, .. } => *fd = opened_at(ds, *fd),
+        Call::Lseek { fd, .. } => *fd = opened_at(ds, *fd),
+        Call::Ftruncate { fd, .. } => *fd = opened_at(ds, *fd),
+        Call::Fstat { fd } => *fd = opened_at(ds, *fd),
+        _ => {}
     }
+    call
 }
 
 // What the step of this number opened. The first has the number 1.

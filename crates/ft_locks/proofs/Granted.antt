@@ -1,7 +1,6 @@
 -- What callers see of a grant.
 use Rattle.std.proofs.Common.{◌≡◌, ◌⊎◌, inl, inr, ℕ, Bool, true, false, not, ◌&&◌, ◌||◌, ◌==◌, List, [], ◌∷◌, is_some, refl, sym, ap, ◌∙◌}
 use Rattle.std.proofs.lemmas.Bool.{false≢true, or_cases, or_left, or_right, eqb-true}
-use Rattle.std.specs.FinMap as finite
 use Rattle.ft_base.specs.Chains.{Lists}
 use Rattle.ft_tree.specs.declared.cell.Cell.{Cell}
 use Rattle.ft_tree.specs.CellOrder.{same_cell}
@@ -9,7 +8,7 @@ use Rattle.ft_calls.specs.declared.call.Mode.{Mode}
 use Rattle.ft_calls.specs.declared.call.Mode.TheVariants.{Read as ReadMode, Write as WriteMode}
 use Rattle.ft_calls.specs.declared.call.Access.{Access}
 use Rattle.ft_locks.specs.declared.line.LockKind.{LockKind}
-use Rattle.ft_locks.specs.declared.line.LockKind.TheVariants.{Held, Retained}
+use Rattle.ft_locks.specs.declared.line.LockKind.TheVariants.{Held}
 use Rattle.ft_locks.specs.declared.line.LockLine.{LockLine}
 use Rattle.ft_locks.specs.Marks.{is_marked_of}
 use Rattle.ft_locks.specs.Cells.{Cells, marks_at, let_go_owner}

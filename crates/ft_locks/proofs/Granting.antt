@@ -1,5 +1,5 @@
 -- Places that are made for a grant, taken back, or given its locks.
-use Rattle.std.proofs.Common.{◌≡◌, ◌⊎◌, inl, inr, ◌<◌, ◌+◌, ◌-◌, ℕ, suc, Bool, true, false, cond, ◌&&◌, ◌||◌, ◌==◌, List, [], ◌∷◌, take, drop, length, get_or, Option, Some, None, is_some, unwrap_or, refl, sym, ap, ◌∙◌, arith, add-one}
+use Rattle.std.proofs.Common.{◌≡◌, ◌⊎◌, inl, inr, ◌<◌, ◌+◌, ◌-◌, ℕ, suc, Bool, true, false, cond, ◌&&◌, ◌||◌, ◌==◌, List, [], ◌∷◌, take, drop, length, get_or, Option, Some, None, is_some, refl, sym, ap, ◌∙◌, arith, add-one}
 use Rattle.std.proofs.lemmas.Bool.{false≢true, eqb-true}
 use Rattle.std.specs.List.{list_any}
 use Rattle.std.proofs.lemmas.List.{take_more}
@@ -17,7 +17,7 @@ use Rattle.ft_locks.specs.declared.line.LockKind.TheVariants.{Held, Retained}
 use Rattle.ft_locks.specs.declared.line.LockLine.{LockLine}
 use Rattle.ft_locks.specs.declared.marks.Marks.{Marks}
 use Rattle.ft_locks.specs.declared.holdings.Dropped.{Dropped}
-use Rattle.ft_locks.specs.Marks.{no_marks, held_in, with_marks, has_mark}
+use Rattle.ft_locks.specs.Marks.{held_in, with_marks, has_mark}
 use Rattle.ft_locks.specs.Cells.{Cells, marks_at, is_at}
 use Rattle.ft_locks.specs.Holdings.{Held as Places, has_place, AreOpenStill, after_back, is_given}
 use Rattle.ft_locks.specs.Locks.{is_held, same_mode, is_accessed, has_access}

@@ -1,5 +1,5 @@
 -- A list of holdings in which no owner stands twice: what stands in its middle decides what it has for one owner.
-use Rattle.std.proofs.Common.{◌≡◌, ℕ, suc, ◌<◌, Bool, true, false, cond, ◌&&◌, ◌||◌, List, [], ◌∷◌, ◌++◌, Option, Some, None, refl, sym, ap, subst, ◌∙◌, set, take, drop, length, get_or, is_some, IsSome, unwrap_or, ◌==◌, arith}
+use Rattle.std.proofs.Common.{◌≡◌, ℕ, suc, ◌<◌, Bool, true, false, cond, not, ◌&&◌, ◌||◌, List, [], ◌∷◌, ◌++◌, Option, Some, None, refl, sym, ap, subst, ◌∙◌, set, take, drop, length, get_or, is_some, IsSome, unwrap_or, ◌==◌}
 use Rattle.std.proofs.lemmas.Bool.{false≢true}
 use Rattle.std.specs.Ordering.{nat_cmp, eq_by_cmp}
 use Rattle.std.specs.Cmp.{nat_cmp_total, nat_eq_equiv, eq_by_cmp_equiv, unsigned_tied, Equal-is}
@@ -276,17 +276,46 @@ not_there o none some = absurd (false≢true (sym (ap is_some none) ∙ some))
 pub never_missing : {P : Type 0} (m : Owners) (list ys : List Holding) (q : ℕ) → seen list ≡ m → None ≡ place_in ys q → ys ≡ list → IsSome (finite.get m q) → P
 never_missing m list ys q is e same = not_there (finite.get m q) (nothing_found m list ys q is e same)
 
-pub none_when_empty : (m : Owners) (list : List Holding) (b : Bool) → seen list ≡ m → b ≡ (length list == 0) → b ≡ true → m ≡ finite.empty
-none_when_empty m [] b is e is_true = sym is
-none_when_empty m (h ∷ more) b is e is_true = absurd (false≢true (sym (never_zero (length more)) ∙ sym e ∙ is_true))
-  where
-    never_zero : (n : ℕ) → (suc n == 0) ≡ false
-    never_zero n = grind arith
+pub turned : (b : Bool) {x : Bool} → not b ≡ x → b ≡ not x
+turned true e = ap not e
+turned false e = ap not e
 
-pub some_unless_empty : (m : Owners) (list : List Holding) (b : Bool) → seen list ≡ m → b ≡ (length list == 0) → b ≡ false → (owner : ℕ) × IsSome (finite.get m owner)
-some_unless_empty m [] b is e is_false = absurd (false≢true (sym is_false ∙ e))
-some_unless_empty m (h ∷ more) b is e is_false =
-    (h.owner, ap is_some (get-list m (h ∷ more) is h.owner ∙ ap (λ c. cond c (Some h.marks) (marks_in more h.owner)) ((eq_by_cmp_equiv nat_cmp_total).refl h.owner)))
+-- where nobody else stands in the list, nobody is left without the owner
+pub others_missing : (m : Owners) (list : List Holding) (q : ℕ) → seen list ≡ m → list_any (λ h. not (h.owner == q)) list ≡ false → (u : ℕ) → finite.get (finite.remove m q) u ≡ None
+others_missing m list q is none u =
+    finite.get-remove nat_cmp_total m q u ∙ ap (cond (ties u q) None) (get-list m list is u) ∙ by_list list none
+  where
+    twice : (b : Bool) (x : Marks) (o : Option Marks) → cond b None o ≡ None → cond b None (cond b (Some x) o) ≡ None
+    twice true x o e = refl
+    twice false x o e = e
+
+    by_list : (l : List Holding) → list_any (λ h. not (h.owner == q)) l ≡ false → cond (ties u q) None (marks_in l u) ≡ None
+    by_list [] e = none_either (ties u q) None
+    by_list (h ∷ more) e = by_test (h.owner == q) refl e (λ rest. by_list more rest)
+      where
+        by_test : (b : Bool) → (h.owner == q) ≡ b → (not b || list_any (λ h. not (h.owner == q)) more) ≡ false
+            → (list_any (λ h. not (h.owner == q)) more ≡ false → cond (ties u q) None (marks_in more u) ≡ None) → cond (ties u q) None (marks_in (h ∷ more) u) ≡ None
+        by_test true same e rest = ap (λ v. cond (ties u q) None (cond (ties u v) (Some h.marks) (marks_in more u))) (eqb-true h.owner q same) ∙ twice (ties u q) h.marks (marks_in more u) (rest e)
+        by_test false same e rest = absurd (false≢true (sym e))
+
+pub others_found : (m : Owners) (list : List Holding) (q : ℕ) → seen list ≡ m → list_any (λ h. not (h.owner == q)) list ≡ true → (u : ℕ) × IsSome (finite.get (finite.remove m q) u)
+others_found m list q is some =
+    let found = by_list list some in
+    (found.0, ap is_some (finite.get-remove nat_cmp_total m q found.0 ∙ ap (cond (ties found.0 q) None) (get-list m list is found.0) ∙ ap (λ b. cond b None (marks_in list found.0)) found.1) ∙ found.2)
+  where
+    either : (b : Bool) (x : Marks) (o : Option Marks) → is_some o ≡ true → is_some (cond b (Some x) o) ≡ true
+    either true x o e = refl
+    either false x o e = e
+
+    by_list : (l : List Holding) → list_any (λ h. not (h.owner == q)) l ≡ true → (u : ℕ) × (ties u q ≡ false) × (is_some (marks_in l u) ≡ true)
+    by_list [] e = absurd (false≢true e)
+    by_list (h ∷ more) e = by_test (h.owner == q) refl e (λ rest. by_list more rest)
+      where
+        by_test : (b : Bool) → (h.owner == q) ≡ b → (not b || list_any (λ h. not (h.owner == q)) more) ≡ true
+            → (list_any (λ h. not (h.owner == q)) more ≡ true → (u : ℕ) × (ties u q ≡ false) × (is_some (marks_in more u) ≡ true))
+            → (u : ℕ) × (ties u q ≡ false) × (is_some (marks_in (h ∷ more) u) ≡ true)
+        by_test true same e more_some = let rest = more_some e in (rest.0, rest.1, either (ties rest.0 h.owner) h.marks (marks_in more rest.0) rest.2)
+        by_test false same e more_some = (h.owner, unsigned_tied h.owner q ∙ same, ap (λ b. is_some (cond b (Some h.marks) (marks_in more h.owner))) ((eq_by_cmp_equiv nat_cmp_total).refl h.owner))
 
 -- a place whose marks grow, and another that goes
 pub handed-marked : (m : Owners) (from to : ℕ) (marks : Marks) → (from ≡ to → ⊥) → IsSome (finite.get m to) → finite.remove (marked m to marks) from ≡ handed m from to marks

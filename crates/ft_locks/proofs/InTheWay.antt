@@ -5,16 +5,13 @@ use Rattle.std.specs.List.{list_any}
 use Rattle.std.proofs.lemmas.List.{take_more}
 use Rattle.std.proofs.lemmas.List.Folds.{list_any-append}
 use Rattle.std.specs.Ordering.{nat_cmp, eq_by_cmp, is_lt}
-use Rattle.std.specs.Prelude.{T}
+use Rattle.std.specs.Prelude.{T, nat_eq}
 use Rattle.std.specs.declared.cmp.Ordering.{Ordering}
 use Rattle.std.specs.declared.cmp.Ordering.TheVariants.{Less, Equal, Greater}
 use Rattle.std.specs.FinMap.Entries.{below_all}
-use Rattle.std.specs.Cmp.{nat_cmp_total, nat_eq_equiv, unsigned_tied, eq_by_cmp_equiv, Equal-is, ranked}
-use Rattle.std.specs.Cmp.Lexicographic.{slice_cmp}
-use Rattle.std.proofs.lemmas.Map.Lookups.{exact_bytes}
-use Rattle.std.specs.BTreeMap.{is_at}
-use Rattle.std.specs.BTreeSet as ordered
-use Rattle.std.specs.BTreeSet.{BTreeSet}
+use Rattle.std.specs.Cmp.{nat_cmp_total, nat_eq_equiv, unsigned_tied, eq_by_cmp_equiv, ranked}
+use Rattle.std.specs.Cmp.Lexicographic.{pointwise, bytes_decides}
+use Rattle.std.specs.HashSet as hashed
 use Rattle.std.specs.FinMap as finite
 use Rattle.ft_tree.specs.Entries.{entry_at}
 use Rattle.ft_tree.specs.declared.cell.Cell.{Cell}
@@ -38,7 +35,7 @@ use Rattle.ft_locks.specs.declared.line.LockLine.{LockLine}
 use Rattle.ft_locks.specs.Locks.{LockTable, has_lock, line_access, OwnsConflict, AreBlockers}
 use Rattle.ft_locks.specs.Seen.{has_mark_of, has_line, table_of}
 use Rattle.ft_locks.specs.Holders.{marks_in, AreApart}
-use Rattle.ft_locks.specs.Cells.{Cells, marks_at}
+use Rattle.ft_locks.specs.Cells.{Cells, NameSet, marks_at}
 use Rattle.ft_locks.specs.Blocking.{Found, is_in_way, way, is_listed_in_way, is_entry_of, beside, blocks}
 use Rattle.ft_locks.proofs.HolderLists.{blank, owner_passes}
 
@@ -133,8 +130,8 @@ passes_at {A = A} p same x exact h (y ∷ ys) e = by_head (same y) refl e (passe
     by_head true t e more = ap (λ b. b || list_any p ys) (ap p (sym (exact y t)) ∙ h)
     by_head false t e more = ap (λ b. p y || b) (more e) ∙ or-true (p y)
 
-name_exact : (n k : List ℕ) → is_at (slice_cmp nat_cmp n) k ≡ true → n ≡ k
-name_exact n k e = exact_bytes n k ((Equal-is (slice_cmp nat_cmp n k)).0 e)
+name_exact : (n k : List ℕ) → pointwise nat_eq n k ≡ true → n ≡ k
+name_exact n k e = (bytes_decides n k).0 e
 
 among_keys : (m : Cells) (c : Cell) → is_some (finite.get m c) ≡ true → list_any (same_cell c) (finite.keys m) ≡ true
 among_keys m c e = sym (finite.contains_key-keys m c) ∙ e
@@ -160,7 +157,7 @@ no_names m d none mode u = same_truth (beside m (Names d) mode u) false (λ e.
     let entry = entry_is m d mode u one.0 one.1 in
     none entry.0 ∙ in_keys m (Entry (entry_at d entry.0)) mode u (ap (λ c. way m c mode u) (sym entry.1) ∙ entry.2)) (λ e. absurd (false≢true e))
 
-pub names_are : (m : Cells) (d : ℕ) (names : BTreeSet (List ℕ)) → ((n : List ℕ) → ordered.contains (slice_cmp nat_cmp) names n ≡ is_some (finite.get m (Entry (entry_at d n)))) → (mode : Mode) (u : ℕ)
+pub names_are : (m : Cells) (d : ℕ) (names : NameSet) → ((n : List ℕ) → hashed.contains (pointwise nat_eq) names n ≡ is_some (finite.get m (Entry (entry_at d n)))) → (mode : Mode) (u : ℕ)
     → list_any (λ n. way m (Entry (entry_at d n)) mode u) names.keys ≡ beside m (Names d) mode u
 names_are m d names are mode u = same_truth _ _
     (λ e.
@@ -171,7 +168,7 @@ names_are m d names are mode u = same_truth _ _
     let one = some_one (λ c. is_entry_of d c && way m c mode u) (finite.keys m) e in
     let entry = entry_is m d mode u one.0 one.1 in
     let here = ap (λ c. way m c mode u) (sym entry.1) ∙ entry.2 in
-    passes_at (λ n. way m (Entry (entry_at d n)) mode u) (is_at (slice_cmp nat_cmp entry.0)) entry.0 (λ k t. name_exact entry.0 k t) here names.keys
+    passes_at (λ n. way m (Entry (entry_at d n)) mode u) (pointwise nat_eq entry.0) entry.0 (λ k t. name_exact entry.0 k t) here names.keys
     (are entry.0 ∙ in_keys m (Entry (entry_at d entry.0)) mode u here))
 
 -- Who is in the way owns a conflicting lock.

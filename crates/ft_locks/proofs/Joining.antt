@@ -353,3 +353,20 @@ ok_if (Err e) P fine p = absurd (false≢true (sym fine))
 pub err_if : {X E : Type 0} (r : Result X E) (P : Type 0) → is_err r ≡ true → OnErr r P → P
 err_if (Ok x) P failed p = absurd (false≢true failed)
 err_if (Err e) P failed p = p
+
+pub none_had : (had : Option Marks) → is_some had ≡ false → had ≡ None
+none_had None e = refl
+none_had (Some x) e = absurd (false≢true (sym e))
+
+-- a place that was made and taken out again leaves the places as they were
+pub placed_back : (m new back : Cells) (k : Cell) (owner : ℕ) (marks : Marks) → marks_at m k owner ≡ None
+    → ((c : Cell) (u : ℕ) → marks_at new c u ≡ cond (is_at k owner c u) (Some marks) (marks_at m c u))
+    → ((c : Cell) (u : ℕ) → marks_at back c u ≡ cond (is_at k owner c u) None (marks_at new c u))
+    → (c : Cell) (u : ℕ) → marks_at back c u ≡ marks_at m c u
+placed_back m new back k owner marks absent put out c u =
+    out c u ∙ ap (cond (is_at k owner c u) None) (put c u) ∙ by_tests (same_cell c k) (u == owner) (λ d e. (λ i. marks_at m (same_cell-is c k d i) (eqb-true u owner e i)) ∙ absent)
+  where
+    by_tests : (s a : Bool) → (s ≡ true → a ≡ true → marks_at m c u ≡ None) → cond (s && a) None (cond (s && a) (Some marks) (marks_at m c u)) ≡ marks_at m c u
+    by_tests true true none = sym (none refl refl)
+    by_tests true false none = refl
+    by_tests false a none = refl

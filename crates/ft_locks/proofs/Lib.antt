@@ -4,6 +4,7 @@ pub mod CellViews
 pub mod Loans
 pub mod Places
 pub mod Joining
+pub mod Whole
 pub mod Tables
 pub mod Handing
 pub mod Sweeping

@@ -1,26 +1,22 @@
 -- The names of entries after one set of them has changed.
 use Rattle.std.proofs.Common.{◌≡◌, ℕ, Bool, true, false, cond, not, ◌&&◌, ◌||◌, ◌==◌, List, [], ◌∷◌, Option, Some, None, refl, sym, ap, length, arith, ◌∙◌, Result, Ok, Err}
+use Rattle.std.specs.Prelude.{nat_eq}
 use Rattle.std.specs.List.{list_any}
 use Rattle.std.specs.Option.{IfNone}
-use Rattle.std.specs.Result.{OnOk, OnErr}
+use Rattle.std.specs.Result.{OnOk, OnErr, IfOk}
 use Rattle.std.specs.Ordering.{nat_cmp, eq_by_cmp}
 use Rattle.std.specs.Cmp.{nat_cmp_total, eq_by_cmp_equiv, unsigned_tied, Equal-is}
-use Rattle.std.specs.Cmp.Lexicographic.{slice_cmp, nat_list_cmp_total}
-use Rattle.std.specs.BTreeMap.{is_at}
-use Rattle.std.specs.BTreeSet as ordered
-use Rattle.std.specs.BTreeSet.{BTreeSet}
+use Rattle.std.specs.Cmp.Lexicographic.{slice_cmp, pointwise, nat_list_cmp_total}
+use Rattle.std.specs.HashSet as hashed
 use Rattle.std.specs.FinMap as finite
-use Rattle.ft_locks.specs.Cells.{EntryNames, is_among, has_name}
-
-abbrev pub Names : Type 0
-Names = BTreeSet (List ℕ)
+use Rattle.ft_locks.specs.Cells.{NameSet, EntryNames, is_among, has_name}
 
 abbrev pub same_name : List ℕ → List ℕ → Bool
 same_name = eq_by_cmp (slice_cmp nat_cmp)
 
 -- the names of one directory are others now, and f tells what has become of each
-pub names_put : (m : EntryNames) (dir : ℕ) (old : Option Names) (new : Names) (f : List ℕ → Bool → Bool)
-    → old ≡ finite.get m dir → ((n : List ℕ) → ordered.contains (slice_cmp nat_cmp) new n ≡ f n (is_among old n))
+pub names_put : (m : EntryNames) (dir : ℕ) (old : Option NameSet) (new : NameSet) (f : List ℕ → Bool → Bool)
+    → old ≡ finite.get m dir → ((n : List ℕ) → hashed.contains (pointwise nat_eq) new n ≡ f n (is_among old n))
     → (d : ℕ) (n : List ℕ) → has_name (finite.insert m dir new) d n ≡ cond (d == dir) (f n (has_name m d n)) (has_name m d n)
 names_put m dir old new f was is d n =
     ap (λ o. is_among o n) (finite.get-insert nat_cmp_total m dir new d) ∙ by_dir (eq_by_cmp nat_cmp d dir) refl
@@ -57,37 +53,37 @@ put_false true c = refl
 put_false false c = refl
 
 -- a name is added to a directory's names
-pub name_added : (m : EntryNames) (dir : ℕ) (old : Option Names) (new : Names) (name : List ℕ)
-    → old ≡ finite.get m dir → ((n : List ℕ) → ordered.contains (slice_cmp nat_cmp) new n ≡ cond (same_name name n) true (is_among old n))
+pub name_added : (m : EntryNames) (dir : ℕ) (old : Option NameSet) (new : NameSet) (name : List ℕ)
+    → old ≡ finite.get m dir → ((n : List ℕ) → hashed.contains (pointwise nat_eq) new n ≡ cond (same_name name n) true (is_among old n))
     → (d : ℕ) (n : List ℕ) → has_name (finite.insert m dir new) d n ≡ ((d == dir) && same_name n name || has_name m d n)
 name_added m dir old new name was is d n =
     names_put m dir old new (λ x b. same_name x name || b) was (λ x. is x ∙ put_true (same_name name x) (is_among old x) ∙ ap (λ e. e || is_among old x) (turned x name)) d n
     ∙ one_more (d == dir) (same_name n name) (has_name m d n)
 
 -- and one is taken out
-pub name_removed : (m : EntryNames) (dir : ℕ) (old : Option Names) (new : Names) (name : List ℕ)
-    → old ≡ finite.get m dir → ((n : List ℕ) → ordered.contains (slice_cmp nat_cmp) new n ≡ cond (same_name name n) false (is_among old n))
+pub name_removed : (m : EntryNames) (dir : ℕ) (old : Option NameSet) (new : NameSet) (name : List ℕ)
+    → old ≡ finite.get m dir → ((n : List ℕ) → hashed.contains (pointwise nat_eq) new n ≡ cond (same_name name n) false (is_among old n))
     → (d : ℕ) (n : List ℕ) → has_name (finite.insert m dir new) d n ≡ (not ((d == dir) && same_name n name) && has_name m d n)
 name_removed m dir old new name was is d n =
     names_put m dir old new (λ x b. not (same_name x name) && b) was (λ x. is x ∙ put_false (same_name name x) (is_among old x) ∙ ap (λ e. not e && is_among old x) (turned x name)) d n
     ∙ one_less (d == dir) (same_name n name) (has_name m d n)
 
 -- the same names as before
-pub names_kept : (m : EntryNames) (dir : ℕ) (old : Option Names) (new : Names)
-    → old ≡ finite.get m dir → ((n : List ℕ) → ordered.contains (slice_cmp nat_cmp) new n ≡ is_among old n)
+pub names_kept : (m : EntryNames) (dir : ℕ) (old : Option NameSet) (new : NameSet)
+    → old ≡ finite.get m dir → ((n : List ℕ) → hashed.contains (pointwise nat_eq) new n ≡ is_among old n)
     → (d : ℕ) (n : List ℕ) → has_name (finite.insert m dir new) d n ≡ has_name m d n
 names_kept m dir old new was is d n = names_put m dir old new (λ x b. b) was is d n ∙ no_change (d == dir) (has_name m d n)
 
 -- no name is among none
-pub none_among : (s : Names) → s.keys ≡ [] → (n : List ℕ) → ordered.contains (slice_cmp nat_cmp) s n ≡ false
-none_among s none n = ap (λ ks. list_any (is_at (slice_cmp nat_cmp n)) ks) none
+pub none_among : (s : NameSet) → s.keys ≡ [] → (n : List ℕ) → hashed.contains (pointwise nat_eq) s n ≡ false
+none_among s none n = ap (λ ks. list_any (pointwise nat_eq n) ks) none
 
 pub no_keys : (ks : List (List ℕ)) → length ks ≡ 0 → ks ≡ []
 no_keys [] e = refl
 no_keys (k ∷ ks) e = absurd (omega arith)
 
 -- a directory without names is left out
-pub names_dropped : (m : EntryNames) (dir : ℕ) (new : Names) → new.keys ≡ []
+pub names_dropped : (m : EntryNames) (dir : ℕ) (new : NameSet) → new.keys ≡ []
     → (d : ℕ) (n : List ℕ) → has_name (finite.remove (finite.insert m dir new) dir) d n ≡ has_name (finite.insert m dir new) d n
 names_dropped m dir new none d n =
     ap (λ o. is_among o n) (finite.get-remove nat_cmp_total (finite.insert m dir new) dir d) ∙ by_dir (eq_by_cmp nat_cmp d dir) refl
@@ -134,3 +130,7 @@ err_then (Err e) P Q f p = f p
 pub none_any : {X : Type 0} (r : Option X) (P : Type 0) → P → IfNone r P
 none_any None P p = p
 none_any (Some x) P p = tt
+
+pub if_ok_then : {X E : Type 0} (r : Result X E) (P Q : X → Type 0) → ((x : X) → P x → Q x) → IfOk r P → IfOk r Q
+if_ok_then (Ok x) P Q f p = f x p
+if_ok_then (Err e) P Q f p = tt

@@ -136,15 +136,20 @@ unchanged_at m k owner f gone none c u = by_cell (same_cell c k) refl
     by_cell false e = sym (ap (λ b. cond (b && (u == owner)) (f (marks_at m c u)) (marks_at m c u)) e)
 
 -- a cell whose last owner goes leaves the table
-pub taken_out : (m : Cells) (k : Cell) (o : Owners) → o ≡ finite.empty → (c : Cell) (u : ℕ) → marks_at (finite.remove (finite.insert m k o) k) c u ≡ marks_at (finite.insert m k o) c u
-taken_out m k o none c u =
-    marks-remove (finite.insert m k o) k c u ∙ by_cell (same_cell c k) refl
+pub last_out : (m : Cells) (k : Cell) (o : Owners) (owner : ℕ) → Some o ≡ finite.get m k → ((u : ℕ) → finite.get (finite.remove o owner) u ≡ None)
+    → (c : Cell) (u : ℕ) → marks_at (finite.remove m k) c u ≡ cond (is_at k owner c u) None (marks_at m c u)
+last_out m k o owner there alone c u = marks-remove m k c u ∙ by_cell (same_cell c k) refl
   where
-    by_cell : (b : Bool) → same_cell c k ≡ b → cond (same_cell c k) None (marks_at (finite.insert m k o) c u) ≡ marks_at (finite.insert m k o) c u
+    by_cell : (b : Bool) → same_cell c k ≡ b → cond (same_cell c k) None (marks_at m c u) ≡ cond (is_at k owner c u) None (marks_at m c u)
     by_cell true e =
-        ap (λ b. cond b None (marks_at (finite.insert m k o) c u)) e
-        ∙ sym (marks-insert m k o c u ∙ ap (λ b. cond b (finite.get o u) (marks_at m c u)) e ∙ ap (λ n. finite.get n u) none ∙ finite.get-empty nat_cmp u)
-    by_cell false e = ap (λ b. cond b None (marks_at (finite.insert m k o) c u)) e
+        ap (λ b. cond b None (marks_at m c u)) e
+        ∙ sym (ap (λ b. cond (b && (u == owner)) None (marks_at m c u)) e
+        ∙ ap (cond (u == owner) None) (ap (λ d. marks_at m d u) (same_cell-is c k e) ∙ sym (marks-found m k o there u))
+        ∙ sym (got-removed o owner u) ∙ alone u)
+    by_cell false e = ap (λ b. cond b None (marks_at m c u)) e ∙ sym (ap (λ b. cond (b && (u == owner)) None (marks_at m c u)) e)
+
+pub last_gone : (m : Cells) (k : Cell) (u : ℕ) → marks_at (finite.remove m k) k u ≡ None
+last_gone m k u = marks-remove m k k u ∙ ap (λ b. cond b None (marks_at m k u)) ((eq_by_cmp_equiv cell_cmp_total).refl k)
 
 pub at_itself : (m : Cells) (k : Cell) (o : Owners) (u : ℕ) → marks_at (finite.insert m k o) k u ≡ finite.get o u
 at_itself m k o u = marks-insert m k o k u ∙ ap (λ b. cond b (finite.get o u) (marks_at m k u)) ((eq_by_cmp_equiv cell_cmp_total).refl k)

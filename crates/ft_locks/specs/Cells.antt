@@ -1,9 +1,10 @@
 -- The locked cells, and the names of those that are entries.
-use Rattle.std.specs.Prelude.{◌≡◌, ℕ, Bool, false, ◌==◌, ◌&&◌, cond, List, Option, Some, None, is_some, unwrap_or, option_map}
+use Rattle.std.specs.Prelude.{◌≡◌, ℕ, nat_eq, Bool, false, ◌==◌, ◌&&◌, cond, List, Option, Some, None, is_some, unwrap_or, option_map}
 use Rattle.std.specs.Ordering.{nat_cmp, eq_by_cmp}
-use Rattle.std.specs.Cmp.Lexicographic.{slice_cmp}
-use Rattle.std.specs.BTreeSet as ordered
-use Rattle.std.specs.BTreeSet.{BTreeSet}
+use Rattle.std.specs.Cmp.Lexicographic.{pointwise}
+use Rattle.std.specs.HashSet as hashed
+use Rattle.std.specs.HashSet.{HashSet}
+use Rattle.std.proofs.Common.{BuildHasherDefault, FoldHasher}
 use Rattle.std.specs.Coded.{Coded}
 use Rattle.std.specs.FinMap as finite
 use Rattle.std.specs.Map.{lookup}
@@ -23,13 +24,17 @@ Cells = finite.FinMap cell_cmp Owners
 abbrev pub coded_cells : Coded Cells
 coded_cells = finite.code cell.the_row.coded coded_owners
 
+-- the names of one directory's entries, hashed
+abbrev pub NameSet : Type 0
+NameSet = HashSet (List ℕ) (BuildHasherDefault FoldHasher)
+
 -- for each directory the names of its entries
 abbrev pub EntryNames : Type 0
-EntryNames = finite.FinMap nat_cmp (BTreeSet (List ℕ))
+EntryNames = finite.FinMap nat_cmp NameSet
 
-abbrev pub is_among : Option (BTreeSet (List ℕ)) → List ℕ → Bool
+abbrev pub is_among : Option NameSet → List ℕ → Bool
 is_among None name = false
-is_among (Some names) name = ordered.contains (slice_cmp nat_cmp) names name
+is_among (Some names) name = hashed.contains (pointwise nat_eq) names name
 
 abbrev pub has_name : EntryNames → ℕ → List ℕ → Bool
 has_name m dir name = is_among (finite.get m dir) name

@@ -1,5 +1,5 @@
 // The cells on which anybody has a place, hashed.
-ghost use Rattle.std.specs.Prelude.{◌≡◌, ◌≢◌, ℕ, cond, false, List, None, Some, IsSome, IsTrue, is_some, OnOk, OnErr};
+ghost use Rattle.std.specs.Prelude.{◌≡◌, ◌≢◌, ℕ, cond, false, List, None, Some, IsSome, IsTrue, is_some, OnOk, OnErr, IfOk};
 ghost use Rattle.std.specs.Option.{option_map, option_copied, option_copied_mut};
 ghost use Rattle.std.specs.FinMap as finite;
 ghost use Rattle.std.specs.Borrow.{sem};
@@ -21,7 +21,7 @@ use ft_base::Memory;
 use ft_path::Name;
 use ft_tree::Cell;
 use std::alloc::{AllocFailed, Global};
-use std::collections::{BTreeSet, HashMap};
+use std::collections::{HashMap, HashSet};
 use std::marker::Model;
 
 /// For each cell in the table its holders.
@@ -84,7 +84,7 @@ impl LockedCells {
     }
 
     /// The names of a directory's entries that are in the table.
-    pub(crate) fn names_of(&self, dir: u64) -> Option<&BTreeSet<Name>>
+    pub(crate) fn names_of(&self, dir: u64) -> Option<&HashSet<Name>>
         ensures { (name : List ℕ) → is_among (option_copied result) name ≡ finite.contains_key self.now (Entry (entry_at dir name)) }
     {
         let _cells = &self.cells;
@@ -98,18 +98,26 @@ impl LockedCells {
         list_cells(lines, &self.cells)
     }
 
-    /// Gives an owner a place on a cell, with these locks. Want of memory changes nothing.
-    pub(crate) fn add(&mut self, cell: &Cell, owner: u64, marks: Marks) -> Result<(), Memory>
-        requires { marks_at self.old cell.now owner ≡ None }
-        ensures ok { OnOk result ((c : Cell) (u : ℕ) → marks_at self.new c u ≡ cond (is_at cell.now owner c u) (Some marks) (marks_at self.old c u)) }
+    /// Gives an owner a place on a cell, with these locks, where it has none; where it has one,
+    /// answers its locks. Want of memory changes nothing.
+    pub(crate) fn place(
+        &mut self,
+        cell: &Cell,
+        owner: u64,
+        marks: Marks,
+    ) -> Result<Option<Marks>, Memory>
+        ensures had { IfOk result (λ had. had ≡ marks_at self.old cell.now owner) }
+        ensures placed { IfOk result (λ had. had ≡ None → (c : Cell) (u : ℕ) → marks_at self.new c u ≡ cond (is_at cell.now owner c u) (Some marks) (marks_at self.old c u)) }
+        ensures kept { IfOk result (λ had. IsSome had → self.new ≡ self.old) }
         ensures err { OnErr result (self.new ≡ self.old) }
     {
         if let Some(holders) = self.get_mut(cell) {
-            return holders.add(owner, marks);
+            return holders.place(owner, marks);
         }
         let mut holders = Holders::new(self.alloc);
         holders.add(owner, marks)?;
-        self.insert(cell.clone()?, holders)
+        self.insert(cell.clone()?, holders)?;
+        Ok(None)
     }
 
     /// Gives an owner that has a place on a cell these locks beside its own. Takes no memory.
@@ -144,12 +152,12 @@ impl LockedCells {
         let Some(holders) = self.get_mut(cell) else {
             return true;
         };
-        holders.remove(owner);
-        let is_free = holders.is_empty();
-        if is_free {
+        if holders.is_last(owner) {
             self.remove(cell);
+            return true;
         }
-        is_free
+        holders.remove(owner);
+        false
     }
 
     /// The holders of a cell, to be written. Takes no memory.

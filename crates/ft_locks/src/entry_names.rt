@@ -13,16 +13,16 @@ use ft_base::{Memory, Table};
 use ft_path::Name;
 use ft_tree::{Cell, Entry};
 use std::alloc::Global;
-use std::collections::BTreeSet;
+use std::collections::HashSet;
 
 /// For each directory that has entries in the table, their names.
 ///
-/// To add or take out a name takes time logarithmic in the number of names in the directory, which
-/// is found by a hash.
+/// To add or take out a name takes the time to hash it and the directory's number, however many names
+/// there are.
 #[derive(Drop)]
 pub(crate) struct EntryNames {
     alloc: Global,
-    pub(crate) names: Table<BTreeSet<Name>>,
+    pub(crate) names: Table<HashSet<Name>>,
 }
 
 impl EntryNames {
@@ -37,7 +37,7 @@ impl EntryNames {
     }
 
     /// The names in a directory, if there are any.
-    pub(crate) fn of(&self, dir: u64) -> Option<&BTreeSet<Name>>
+    pub(crate) fn of(&self, dir: u64) -> Option<&HashSet<Name>>
         ensures { option_copied result ≡ finite.get self.now.names dir }
     {
         self.names.get(dir)
@@ -74,7 +74,7 @@ impl EntryNames {
                 names.insert(name)?;
             }
             None => {
-                let mut names = BTreeSet::new(self.alloc);
+                let mut names = HashSet::new(self.alloc);
                 names.insert(name)?;
                 self.names.insert(entry.dir, names)?;
             }

@@ -1,5 +1,5 @@
 // Who has locks on one cell: a small list by owner.
-ghost use Rattle.std.specs.Prelude.{◌≡◌, ◌≢◌, ℕ, true, false, OnOk, OnErr, IsSome, IsTrue};
+ghost use Rattle.std.specs.Prelude.{◌≡◌, ◌≢◌, ◌==◌, not, ℕ, true, false, None, OnOk, OnErr, IfOk, IsSome, IsTrue};
 ghost use Rattle.std.specs.FinMap as finite;
 ghost use Rattle.std.specs.List.{list_any};
 ghost use Rattle.ft_locks.specs.Marks.{is_marked, is_marked_of};
@@ -53,6 +53,13 @@ fn is_any_marked(list: &[Holding]) -> bool
     list.iter().any(|holding| holding.marks.is_some())
 }
 
+/// Whether somebody else than an owner stands in a list.
+fn has_others(list: &[Holding], owner: u64) -> bool
+    ensures { result ≡ list_any (λ h. not (h.owner == owner)) list.now }
+{
+    list.iter().any(|holding| holding.owner != owner)
+}
+
 impl Holders {
     ghost use Rattle.ft_locks.specs.Holders.{as_entries, AreApart, marked, handed};
 
@@ -82,12 +89,12 @@ impl Holders {
         self.list.as_slice()
     }
 
-    /// Whether nobody has a place.
-    pub(crate) fn is_empty(&self) -> bool
-        ensures none { IsTrue result → self.now ≡ finite.empty }
-        ensures some { result ≡ false → (owner : ℕ) × IsSome (finite.get self.now owner) }
+    /// Whether nobody has a place, or this owner alone.
+    pub(crate) fn is_last(&self, owner: u64) -> bool
+        ensures none { IsTrue result → (u : ℕ) → finite.get (finite.remove self.now owner) u ≡ None }
+        ensures some { result ≡ false → (u : ℕ) × IsSome (finite.get (finite.remove self.now owner) u) }
     {
-        self.list.as_slice().is_empty()
+        !has_others(self.list.as_slice(), owner)
     }
 
     /// Whether somebody has a lock.
@@ -106,6 +113,21 @@ impl Holders {
     {
         self.list.push(Holding { owner, marks })?;
         Ok(())
+    }
+
+    /// Gives an owner a place, with these locks, where it has none; where it has one, answers its
+    /// locks. Want of memory changes nothing.
+    pub(crate) fn place(&mut self, owner: u64, marks: Marks) -> Result<Option<Marks>, Memory>
+        ensures had { IfOk result (λ had. had ≡ finite.get self.old owner) }
+        ensures placed { IfOk result (λ had. had ≡ None → self.new ≡ finite.insert self.old owner marks) }
+        ensures kept { IfOk result (λ had. IsSome had → self.new ≡ self.old) }
+        ensures err { OnErr result (self.new ≡ self.old) }
+    {
+        let had = self.get(owner);
+        if had.is_none() {
+            self.add(owner, marks)?;
+        }
+        Ok(had)
     }
 
     /// Gives an owner that has a place these locks beside its own. Takes no memory.

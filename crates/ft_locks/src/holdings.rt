@@ -5,21 +5,23 @@ ghost use Rattle.std.specs.FinMap as finite;
 ghost use Rattle.ft_base.specs.Chains.{list_in, IsOpen};
 ghost use Rattle.ft_tree.specs.Entries.{entry_at};
 ghost use Rattle.ft_tree.specs.declared.cell.Cell.{Cell};
+ghost use Rattle.ft_tree.specs.CellOrder.{same_cell};
+ghost use Rattle.std.specs.List.{list_any};
 ghost use Rattle.ft_tree.specs.declared.cell.Cell.TheVariants.{Entry};
 ghost use Rattle.ft_locks.specs.Marks.{with_marks};
 ghost use Rattle.ft_locks.specs.Cells.{is_among, is_at, marks_at, after_hand};
-ghost use Rattle.ft_locks.specs.Holdings.{AreOpenStill, popped};
+ghost use Rattle.ft_locks.specs.Holdings.{AreOpenStill, AreSingle, has_place, popped};
 
 use crate::cells::LockedCells;
 use crate::holders::Holders;
 use crate::line::{LockKind, LockLine};
 use crate::marks::Marks;
-use ft_base::{Chains, Memory};
+use ft_base::{Chains, Memory, Values};
 use ft_calls::Access;
 use ft_path::Name;
 use ft_tree::Cell;
 use std::alloc::Global;
-use std::collections::BTreeSet;
+use std::collections::HashSet;
 use std::marker::Model;
 
 /// Which owner has a place on which cell, and with which locks.
@@ -53,6 +55,16 @@ pub(crate) struct Dropped {
     pub(crate) is_free: bool,
 }
 
+/// Puts a clone of a cell in front of an owner's list. Want of memory changes nothing.
+fn push_clone(chains: &mut Chains<Cell>, owner: u64, cell: &Cell) -> Result<(), Memory>
+    requires { IsOpen chains.old owner }
+    ensures ok { OnOk result (chains.new ≡ finite.insert chains.old owner (cell.now ∷ list_in chains.old owner)) }
+    ensures err { OnErr result (chains.new ≡ chains.old) }
+{
+    chains.push_front(owner, cell.clone()?)?;
+    Ok(())
+}
+
 /// Takes the newest cell of an owner from its list, where there is one.
 fn discard_front(chains: &mut Chains<Cell>, owner: u64)
     ensures { chains.new ≡ popped chains.old owner }
@@ -60,12 +72,24 @@ fn discard_front(chains: &mut Chains<Cell>, owner: u64)
     let _ = chains.pop_front(owner);
 }
 
+/// Gives the places of an owner to another, on these cells, on which it has all its places.
+fn hand_all(cells: &mut LockedCells, listed: Values<'_, Cell>, from: u64, to: u64)
+    requires single { AreSingle listed }
+    requires listed { (c : Cell) → list_any (same_cell c) listed ≡ has_place cells.old c from }
+    requires apart { from ≢ to }
+    ensures { (c : Cell) (u : ℕ) → marks_at cells.new c u ≡ after_hand from to (marks_at cells.old c) u }
+{
+    for cell in listed {
+        cells.hand_over(cell, from, to);
+    }
+}
+
 impl Holdings {
     ghost use Rattle.std.specs.Prelude.{◌==◌, ◌&&◌, ◌||◌};
     ghost use Rattle.ft_locks.specs.Locks.{is_held, is_accessed, has_access};
     ghost use Rattle.ft_locks.specs.Listing.{AreAdded};
     ghost use Rattle.ft_locks.specs.Seen.{has_line};
-    ghost use Rattle.ft_locks.specs.Holdings.{has_place, after_back, is_given};
+    ghost use Rattle.ft_locks.specs.Holdings.{after_back, is_given};
 
     /// No owner and no place. Takes no memory.
     pub(crate) fn new(alloc: Global) -> Holdings
@@ -111,7 +135,7 @@ impl Holdings {
     }
 
     /// The names of a directory's entries on which anybody has a place.
-    pub(crate) fn names_of(&self, dir: u64) -> Option<&BTreeSet<Name>>
+    pub(crate) fn names_of(&self, dir: u64) -> Option<&HashSet<Name>>
         ensures { (name : List ℕ) → is_among (option_copied result) name ≡ finite.contains_key self.now.cells (Entry (entry_at dir name)) }
     {
         self.cells.names_of(dir)
@@ -124,21 +148,31 @@ impl Holdings {
         self.cells.list(lines)
     }
 
-    /// Gives an owner a place on a cell, with these locks, in front of its others. Want of memory
-    /// changes nothing.
-    pub(crate) fn add(&mut self, owner: u64, cell: &Cell, marks: Marks) -> Result<(), Memory>
-        requires open { IsOpen self.old.lists owner }
-        requires absent { marks_at self.old.cells cell.now owner ≡ None }
-        ensures ok { OnOk result ((c : Cell) (u : ℕ) → marks_at self.new.cells c u ≡ cond (is_at cell.now owner c u) (Some marks) (marks_at self.old.cells c u)) }
-        ensures list { OnOk result (self.new.lists ≡ finite.insert self.old.lists owner (cell.now ∷ list_in self.old.lists owner)) }
-        ensures err { OnErr result (self.new ≡ self.old) }
+    /// Gives an owner a place on a cell, with these locks, in front of its others, where it has none;
+    /// where it has one, answers its locks. Want of memory changes nothing.
+    pub(crate) fn place(
+        &mut self,
+        owner: u64,
+        cell: &Cell,
+        marks: Marks,
+    ) -> Result<Option<Marks>, Memory>
+        requires { IsOpen self.old.lists owner }
+        ensures had { IfOk result (λ had. had ≡ marks_at self.old.cells cell.now owner) }
+        ensures placed { IfOk result (λ had. had ≡ None → (c : Cell) (u : ℕ) → marks_at self.new.cells c u ≡ cond (is_at cell.now owner c u) (Some marks) (marks_at self.old.cells c u)) }
+        ensures list { IfOk result (λ had. had ≡ None → self.new.lists ≡ finite.insert self.old.lists owner (cell.now ∷ list_in self.old.lists owner)) }
+        ensures kept { IfOk result (λ had. IsSome had → self.new ≡ self.old) }
+        ensures err { OnErr result ((c : Cell) (u : ℕ) → marks_at self.new.cells c u ≡ marks_at self.old.cells c u) }
+        ensures lists { OnErr result (self.new.lists ≡ self.old.lists) }
     {
-        self.chains.push_front(owner, cell.clone()?)?;
-        let added = self.cells.add(cell, owner, marks);
-        if added.is_err() {
-            discard_front(&mut self.chains, owner);
+        let had = self.cells.place(cell, owner, marks)?;
+        if had.is_some() {
+            return Ok(had);
         }
-        added
+        if let Err(refused) = push_clone(&mut self.chains, owner, cell) {
+            self.cells.take_out(cell, owner);
+            return Err(refused);
+        }
+        Ok(None)
     }
 
     /// Gives an owner that has a place on a cell these locks beside its own. Takes no memory.
@@ -187,22 +221,36 @@ impl Holdings {
         true
     }
 
-    /// Gives each place of an owner to another. Takes no memory.
+    /// Gives each place of an owner to another that has none, which takes its whole list. Takes no
+    /// memory.
+    fn hand_whole(&mut self, from: u64, to: u64)
+        requires there { IsOpen self.old.lists from }
+        requires open { IsOpen self.old.lists to }
+        requires none { list_in self.old.lists to ≡ [] }
+        requires apart { from ≢ to }
+        ensures marks { (c : Cell) (u : ℕ) → marks_at self.new.cells c u ≡ after_hand from to (marks_at self.old.cells c) u }
+        ensures list { list_in self.new.lists from ≡ [] }
+        ensures still { AreOpenStill self.old.lists self.new.lists }
+    {
+        hand_all(&mut self.cells, self.chains.values(from), from, to);
+        self.chains.splice(from, to);
+    }
+
+    /// Gives each place of an owner to another. Takes no memory, and where that one has none yet, no
+    /// look at the lists of the owners for each place.
     pub(crate) fn hand_over(&mut self, from: u64, to: u64)
+        requires there { IsOpen self.old.lists from }
         requires open { IsOpen self.old.lists to }
         requires apart { from ≢ to }
         ensures marks { (c : Cell) (u : ℕ) → marks_at self.new.cells c u ≡ after_hand from to (marks_at self.old.cells c) u }
         ensures list { list_in self.new.lists from ≡ [] }
         ensures still { AreOpenStill self.old.lists self.new.lists }
     {
+        if self.chains.is_empty(to) {
+            self.hand_whole(from, to);
+            return;
+        }
         while self.hand_front(from, to) {}
-    }
-
-    /// The locks of an owner on a cell, if it has a place there.
-    pub(crate) fn marks(&self, owner: u64, cell: &Cell) -> Option<Marks>
-        ensures { result ≡ marks_at self.now.cells cell.now owner }
-    {
-        self.holders(cell)?.get(owner)
     }
 
     /// Takes out so many of an owner's newest places, as far as it has them. Takes no memory.
@@ -230,13 +278,16 @@ impl Holdings {
         let mut has_all = true;
         let mut made = 0;
         for access in accesses {
-            if let Some(own) = self.marks(owner, &access.cell) {
+            let had = match self.place(owner, &access.cell, Marks::held(access.mode)) {
+                Ok(had) => had,
+                Err(refused) => {
+                    self.take_back(owner, made);
+                    return Err(refused);
+                }
+            };
+            if let Some(own) = had {
                 has_all &= own.has(access.mode, LockKind::Held);
                 continue;
-            }
-            if let Err(refused) = self.add(owner, &access.cell, Marks::held(access.mode)) {
-                self.take_back(owner, made);
-                return Err(refused);
             }
             made += 1;
         }

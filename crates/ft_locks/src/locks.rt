@@ -21,10 +21,18 @@ use std::marker::Model;
 /// It is seen as the set of its locks in their order (`LockLine`), with the cells that were let go
 /// and the transactions that are open. To look at a cell takes the time to hash it; what is done to
 /// one transaction takes the time of its own locks, however many others there are.
-#[derive(Drop)]
 pub struct Locks {
     alloc: Global,
     holdings: Holdings,
+}
+
+impl Drop for Locks {
+    fn drop(self) {
+        let Locks {
+            alloc: _,
+            holdings: _,
+        } = self;
+    }
 }
 
 /// What one look at the cells of a call tells.

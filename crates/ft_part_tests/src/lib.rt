@@ -1,8 +1,7 @@
-//! Tests of the crates below the core, in one crate: a crate with tests is proved a second time with them.
+//! Tests of the crates below the core, in one crate: a crate with tests is proved a second time with them. What the program's
+//! case files call is tested by these.
 #![tactic(auto)]
 
-#[cfg(test)]
-mod cells;
 #[cfg(test)]
 mod of_base;
 #[cfg(test)]
@@ -19,7 +18,3 @@ mod of_path;
 mod of_tree;
 #[cfg(test)]
 mod of_undo;
-#[cfg(test)]
-mod rising;
-#[cfg(test)]
-mod trial;

@@ -1,14 +1,12 @@
-// What `perform` answers and does, and what `revert` takes back, by worked rows; copies of replies; the order of accesses. Call by
-// call they are played by case files.
+// What `perform` answers and does, what `revert` takes back on a copy, and which cells are touched, by worked rows. Call by call they are
+// played by case files.
 ghost use Rattle.std.specs.Prelude.{◌≢◌, ◌≤◌, ℕ, OnOk};
 ghost use Rattle.ft_tree.specs.Sound.{AreSoundCells, IsFree};
 
-use crate::cells::{AccessRef, CellRef, accesses_of, are_accesses, are_names, name_of};
-use crate::rising::are_rising;
 use ft_base::Memory;
-use ft_calls::{Access, Call, MOST_LINKS, Mode, Prepared, Reply, accesses, prepare};
-use ft_path::{Errno, FilePath, Name};
-use ft_tree::{AccessMode, Entry, Kind, Node, ROOT, Tree};
+use ft_calls::{Access, Call, Mode, Reply, accesses};
+use ft_path::FilePath;
+use ft_tree::{AccessMode, Cell, Kind, Tree};
 use ft_undo::{perform, revert};
 use std::alloc::Global;
 use std::test::Fail;
@@ -36,13 +34,15 @@ enum CallRef<'a> {
 #[derive(Clone, Copy)]
 enum ReplyRef<'a> {
     Done,
-    Names(&'a [(&'a [u8], Kind)]),
     Number(u64),
     Bytes(&'a [u8]),
     /// A kind, a number, its links and its size.
     Info(Kind, u64, u64, u64),
-    Failed(Errno),
 }
+
+/// The place of the first call in a table that is not as it has it.
+#[derive(Debug, Drop)]
+struct WrongCall(usize);
 
 fn call_of(alloc: Global, call: CallRef) -> Result<Call, Fail> {
     Ok(match call {
@@ -95,34 +95,9 @@ fn call_of_two(alloc: Global, call: CallRef) -> Result<Call, Fail> {
     }
 }
 
-fn reply_of(alloc: Global, reply: ReplyRef) -> Result<Reply, Fail> {
-    Ok(match reply {
-        ReplyRef::Done => Reply::Done,
-        ReplyRef::Names(names) => Reply::Names(names_of(alloc, names)?.into()),
-        ReplyRef::Number(number) => Reply::Number(number),
-        ReplyRef::Bytes(bytes) => Reply::Bytes(bytes.to_vec(alloc)?.into()),
-        ReplyRef::Info(kind, number, links, size) => Reply::Info {
-            kind,
-            number,
-            links,
-            size,
-        },
-        ReplyRef::Failed(errno) => Reply::Failed(errno),
-    })
-}
-
-fn names_of(alloc: Global, names: &[(&[u8], Kind)]) -> Result<Vec<(Name, Kind)>, Fail> {
-    let mut list = Vec::new(alloc);
-    for (name, kind) in names {
-        list.push((name_of(alloc, name)?, *kind))?;
-    }
-    Ok(list)
-}
-
 fn is_reply(reply: &Reply, wanted: ReplyRef) -> bool {
     match (reply, wanted) {
         (Reply::Done, ReplyRef::Done) => true,
-        (Reply::Names(names), ReplyRef::Names(wanted)) => are_names(names.as_slice(), wanted),
         (Reply::Number(number), ReplyRef::Number(wanted)) => *number == wanted,
         (Reply::Bytes(bytes), ReplyRef::Bytes(wanted)) => bytes.as_slice() == wanted,
         (
@@ -134,34 +109,29 @@ fn is_reply(reply: &Reply, wanted: ReplyRef) -> bool {
             },
             ReplyRef::Info(wanted, file, count, length),
         ) => *kind == wanted && *number == file && *links == count && *size == length,
-        (Reply::Failed(errno), ReplyRef::Failed(wanted)) => *errno == wanted,
         _ => false,
     }
 }
 
-/// Makes calls one after another on a new tree, with stamps from 2 on. Answers the place of the
-/// first that cannot be taken back, or is not answered as it says.
-fn wrong_call(alloc: Global, calls: &[(CallRef, ReplyRef)]) -> Result<Option<usize>, Fail> {
+/// Makes calls one after another on a new tree, with stamps from 2 on. Fails at the first that cannot
+/// be taken back, or is not answered as it says.
+fn make_calls(alloc: Global, calls: &[(CallRef, ReplyRef)]) -> Result<(), Fail> {
     let mut tree = Tree::new(alloc)?;
-    wrong_call_on(alloc, &mut tree, calls)
+    make_calls_on(alloc, &mut tree, calls)
 }
 
-fn wrong_call_on(
-    alloc: Global,
-    tree: &mut Tree,
-    calls: &[(CallRef, ReplyRef)],
-) -> Result<Option<usize>, Fail>
+fn make_calls_on(alloc: Global, tree: &mut Tree, calls: &[(CallRef, ReplyRef)]) -> Result<(), Fail>
     requires sound { AreSoundCells tree.old }
     requires free { (k : ℕ) → 2 ≤ k → IsFree tree.old k }
 {
     let mut stamp: u64 = 2;
     for (place, (call, wanted)) in calls.iter().enumerate() {
         if !plays(alloc, tree, stamp, *call, *wanted)? {
-            return Ok(Some(place));
+            Err(WrongCall(place))?;
         }
         stamp = stamp.checked_add(1).ok_or("stamp")?;
     }
-    Ok(None)
+    Ok(())
 }
 
 /// Makes a call, and says whether it can be taken back and is answered so.
@@ -221,31 +191,37 @@ fn show_the_same(tree: &Tree, other: &Tree) -> Result<bool, Memory> {
     Ok(tree.rows()?.as_slice() == other.rows()?.as_slice())
 }
 
-/// Whether a call on a new tree touches these cells.
-fn touches(alloc: Global, call: CallRef, wanted: &[AccessRef]) -> Result<bool, Fail> {
+/// Whether a call that makes `/a` touches its entry in the root and the parent of directory 2.
+fn touches_two_cells(alloc: Global) -> Result<bool, Fail> {
     let tree = Tree::new(alloc)?;
-    let call = call_of(alloc, call)?;
-    Ok(touches_on(alloc, &tree, &call, wanted)?)
+    let call = call_of(alloc, CallRef::Mkdir(b"/a"))?;
+    Ok(touches_two_cells_of(alloc, &tree, &call)?)
 }
 
-fn touches_on(
-    alloc: Global,
-    tree: &Tree,
-    call: &Call,
-    wanted: &[AccessRef],
-) -> Result<bool, Memory> {
-    Ok(are_accesses(accesses(alloc, tree, 2, call)?.as_slice(), wanted))
+fn touches_two_cells_of(alloc: Global, tree: &Tree, call: &Call) -> Result<bool, Memory> {
+    Ok(are_entry_and_parent(accesses(alloc, tree, 2, call)?.as_slice()))
+}
+
+fn are_entry_and_parent(list: &[Access]) -> bool {
+    match list {
+        [
+            Access {
+                cell: Cell::Entry(entry),
+                mode: Mode::Write,
+            },
+            Access {
+                cell: Cell::Parent(2),
+                mode: Mode::Write,
+            },
+        ] => entry.dir == 1 && entry.name.as_bytes() == b"a".as_slice(),
+        _ => false,
+    }
 }
 
 #[test]
 fn single_calls(rt: HostRuntime) -> Result<(), Fail> {
-    const CALLS: &[(CallRef, ReplyRef)] = &[(CallRef::Mkdir(b"/a"), ReplyRef::Done)];
-    const TOUCHED: &[AccessRef] = &[
-        (CellRef::Entry(1, b"a"), Mode::Write),
-        (CellRef::Parent(2), Mode::Write),
-    ];
-    assert_eq!(rt; wrong_call(rt.alloc(), CALLS)?, None);
-    assert!(rt; touches(rt.alloc(), CallRef::Mkdir(b"/a"), TOUCHED)?);
+    make_calls(rt.alloc(), &[(CallRef::Mkdir(b"/a"), ReplyRef::Done)])?;
+    assert!(rt; touches_two_cells(rt.alloc())?);
     Ok(())
 }
 
@@ -258,8 +234,7 @@ fn undo_brings_back_replaced_file(rt: HostRuntime) -> Result<(), Fail> {
         (CallRef::Rename(b"/g", b"/f"), ReplyRef::Done),
         (CallRef::Stat(b"/h"), ReplyRef::Info(Kind::File, 2, 1, 0)),
     ];
-    assert_eq!(rt; wrong_call(rt.alloc(), CALLS)?, None);
-    Ok(())
+    make_calls(rt.alloc(), CALLS)
 }
 
 #[test]
@@ -272,84 +247,5 @@ fn orphan_lives_on(rt: HostRuntime) -> Result<(), Fail> {
         (CallRef::Pread(2), ReplyRef::Bytes(b"hi")),
         (CallRef::Close(2), ReplyRef::Done),
     ];
-    assert_eq!(rt; wrong_call(rt.alloc(), CALLS)?, None);
-    Ok(())
-}
-
-#[test]
-fn most_links_are_looked_at(rt: HostRuntime) -> Result<(), Fail> {
-    assert!(rt; is_full(rt.alloc())?);
-    Ok(())
-}
-
-/// Whether one more link to a file with all its links is refused, when the links were looked at.
-fn is_full(alloc: Global) -> Result<bool, Fail> {
-    let mut tree = Tree::new(alloc)?;
-    link(alloc, &mut tree, MOST_LINKS)?;
-    refuses_link(alloc, &tree)
-}
-
-/// Makes file 4, `/f`, with this many links.
-fn link(alloc: Global, tree: &mut Tree, links: u64) -> Result<(), Fail>
-    requires { AreSoundCells tree.old }
-{
-    let name = name_of(alloc, b"f")?;
-    tree.set_entry(Entry { dir: ROOT, name }, Some(Node::File(4)))?;
-    tree.set_links(4, links)?;
-    Ok(())
-}
-
-fn refuses_link(alloc: Global, tree: &Tree) -> Result<bool, Fail> {
-    let call = call_of(alloc, CallRef::Link(b"/f", b"/n"))?;
-    let prepared = prepare(alloc, tree, 9, &call)?;
-    Ok(is_refused(alloc, tree, &prepared)?)
-}
-
-fn is_refused(alloc: Global, tree: &Tree, prepared: &Prepared) -> Result<bool, Memory> {
-    let reply = prepared.intent.reply(alloc, tree)?;
-    Ok(
-        is_reply(&reply, ReplyRef::Failed(Errno::EMLINK))
-            && look_at_links(prepared.accesses.as_slice()),
-    )
-}
-
-fn look_at_links(list: &[Access]) -> bool {
-    const LOOKED_AT: &[AccessRef] = &[
-        (CellRef::Entry(1, b"f"), Mode::Read),
-        (CellRef::Entry(1, b"n"), Mode::Read),
-        (CellRef::Links(4), Mode::Read),
-    ];
-    are_accesses(list, LOOKED_AT)
-}
-
-#[test]
-fn replies_are_copied(rt: HostRuntime) -> Result<(), Fail> {
-    const REPLIES: &[ReplyRef] = &[
-        ReplyRef::Names(&[(b"a", Kind::Dir), (b"b", Kind::Dir)]),
-        ReplyRef::Bytes(b"hi"),
-        ReplyRef::Number(7),
-        ReplyRef::Done,
-        ReplyRef::Failed(Errno::EBUSY),
-        ReplyRef::Info(Kind::File, 2, 1, 0),
-    ];
-    for reply in REPLIES {
-        assert!(rt; is_copied(rt.alloc(), *reply)?);
-    }
-    Ok(())
-}
-
-fn is_copied(alloc: Global, reply: ReplyRef) -> Result<bool, Fail> {
-    let copy = reply_of(alloc, reply)?.copy(alloc)?;
-    Ok(is_reply(&copy, reply))
-}
-
-#[test]
-fn accesses_are_in_the_order_of_locks(rt: HostRuntime) -> Result<(), Fail> {
-    const RISING: &[AccessRef] = &[
-        (CellRef::Names(1), Mode::Read),
-        (CellRef::Names(1), Mode::Write),
-        (CellRef::Parent(1), Mode::Read),
-    ];
-    assert!(rt; are_rising(accesses_of(rt.alloc(), RISING)?.as_slice()));
-    Ok(())
+    make_calls(rt.alloc(), CALLS)
 }

@@ -3,7 +3,6 @@
 use denote.Param.Send.{IsSend, IsSync, sendable}
 use Rattle.std.proofs.Crossing.{crosses}
 use Rattle.ft_base.proofs.chains.Chains.TheSendSync as chains
-use Rattle.ft_base.proofs.few.Few.TheSendSync as few
 use Rattle.ft_base.proofs.table.Table.TheSendSync as table
 use Rattle.ft_path.proofs.name.Name.TheSendSync as name
 use Rattle.ft_body.proofs.pages.Lost.TheSendSync as lost
@@ -30,7 +29,7 @@ Back-send : IsSend Back.the_row
 Back-send = search (BodyUndo-send, name.the_send, node.the_field_send, open_file.the_field_send, sendable) depth 40
 
 Undo-send : IsSend Undo.the_row
-Undo-send = let few = few.the_send Back.the_row Back-send in search sendable depth 20
+Undo-send = search (Back-send, crosses, sendable) depth 40
 
 Logged-send : IsSend Logged.the_row
 Logged-send = search (Undo-send, sendable) depth 20

@@ -44,12 +44,22 @@ pub const ROOT: u64 = 1;
 /// for the open file description of each descriptor, which may be empty. Its plain tree is what
 /// they are when tidied, without the empty places and without files that neither an entry nor a
 /// description names. It may have any number of each, and keeps the allocator that it was made with.
-#[derive(Drop)]
 pub struct Tree {
     alloc: Global,
     directories: Table<Directory>,
     files: Table<File>,
     opens: Descriptions,
+}
+
+impl Drop for Tree {
+    fn drop(self) {
+        let Tree {
+            alloc: _,
+            directories: _,
+            files: _,
+            opens: _,
+        } = self;
+    }
 }
 
 impl Model for Tree {

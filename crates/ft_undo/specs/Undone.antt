@@ -75,10 +75,10 @@ abbrev pub IsApplied : Cells → List Edit → Cells → Result (List Back) Memo
 IsApplied old edits new (Ok undo) = (new ≡ edited old edits) × (undo ≡ backs_of old edits)
 IsApplied old edits new (Err memory) = new ≡ old
 
--- each edit, made on s, can be taken back by itself in t
+-- each edit, as it was made on the cells before it, can be taken back by itself in these
 abbrev pub IsLeft : Cells → Cells → List Edit → Type 0
-IsLeft t s [] = Unit {0}
-IsLeft t s (e ∷ es) = CanGiveBack t (back_of s e) × IsLeft t (put s (write_of s e)) es
+IsLeft cells before [] = Unit {0}
+IsLeft cells before (edit ∷ edits) = CanGiveBack cells (back_of before edit) × IsLeft cells (put before (write_of before edit)) edits
 
 -- each of the cells has its place, and holds what it does in those that were left
 abbrev pub AreAsLeft : Cells → Cells → List Cell → Type 0

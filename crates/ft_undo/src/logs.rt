@@ -22,9 +22,14 @@ pub struct Logged {
 /// A transaction is open from its begin to its end. Each call takes the time to find its
 /// transactions by a hash, however many are open and however long their lists are; only `close`
 /// takes the time of what it drops besides.
-#[derive(Drop)]
 pub struct Logs {
     chains: Chains<Logged>,
+}
+
+impl Drop for Logs {
+    fn drop(self) {
+        let Logs { chains: _ } = self;
+    }
 }
 
 impl Model for Logs {

@@ -1,4 +1,6 @@
 pub mod Spelling
 pub mod Calls
+pub mod Verbs
 pub mod Texts
 pub mod CallTexts
+pub mod Arguments

@@ -2,6 +2,7 @@
 ghost use Rattle.std.specs.Prelude.{◌≡◌};
 ghost use Rattle.ft_words.specs.Spelling.{number_of, integer_of, path_of, data_of};
 ghost use Rattle.ft_words.specs.Calls.{only, last, both, three, flags_of, whence_of, Reads};
+ghost use Rattle.ft_words.specs.Arguments.{first, others};
 
 use crate::coded::{data_of, path_of};
 use crate::flags::{flags_of, whence_of};
@@ -13,52 +14,75 @@ use ft_calls::{OpenFlags, Whence};
 use ft_path::FilePath;
 use std::alloc::Global;
 
+// The next word, as a number.
+fn next_number(words: &mut Words<'_>) -> Option<u64>
+    ensures first { result ≡ first number_of words.old }
+    ensures others { words.new ≡ others words.old }
+{
+    words.next().and_then(number_of)
+}
+
+// The next word, as an integer.
+fn next_integer(words: &mut Words<'_>) -> Option<i64>
+    ensures first { result ≡ first integer_of words.old }
+    ensures others { words.new ≡ others words.old }
+{
+    words.next().and_then(integer_of)
+}
+
 /// `F`
 pub fn number(words: Words<'_>) -> Option<u64>
     ensures { result ≡ only number_of words.entry }
 {
-    number_of(words.only()?)
+    words.only().and_then(number_of)
+}
+
+// `I`
+fn integer(words: Words<'_>) -> Option<i64>
+    ensures { result ≡ only integer_of words.entry }
+{
+    words.only().and_then(integer_of)
 }
 
 /// `F N`
+#[tactic(auto, using(crate::proofs::Reading::both_zip))]
 pub fn number_number(words: Words<'_>) -> Option<(u64, u64)>
     ensures { result ≡ both number_of (only number_of) words.entry }
 {
     let mut words = words;
-    let first = number_of(words.next()?)?;
-    let second = number_of(words.only()?)?;
-    Some((first, second))
+    next_number(&mut words).zip(number(words))
 }
 
 /// `F I`
+#[tactic(auto, using(crate::proofs::Reading::both_zip))]
 pub fn number_integer(words: Words<'_>) -> Option<(u64, i64)>
     ensures { result ≡ both number_of (only integer_of) words.entry }
 {
     let mut words = words;
-    let first = number_of(words.next()?)?;
-    let second = integer_of(words.only()?)?;
-    Some((first, second))
+    next_number(&mut words).zip(integer(words))
 }
 
 /// `F I N`
+#[tactic(auto, using(crate::proofs::Reading::three_zip))]
 pub fn number_integer_number(words: Words<'_>) -> Option<(u64, i64, u64)>
     ensures { result ≡ three number_of integer_of (only number_of) words.entry }
 {
     let mut words = words;
-    let first = number_of(words.next()?)?;
-    let second = integer_of(words.next()?)?;
-    let third = number_of(words.only()?)?;
+    let first = next_number(&mut words);
+    let second = next_integer(&mut words);
+    let (first, (second, third)) = first.zip(second.zip(number(words)))?;
     Some((first, second, third))
 }
 
 /// `F WHENCE I`
+#[tactic(auto, using(crate::proofs::Reading::three_zip))]
 pub fn number_whence_integer(words: Words<'_>) -> Option<(u64, Whence, i64)>
     ensures { result ≡ three number_of whence_of (only integer_of) words.entry }
 {
     let mut words = words;
-    let first = number_of(words.next()?)?;
-    let second = whence_of(words.next()?)?;
-    let third = integer_of(words.only()?)?;
+    let first = next_number(&mut words);
+    let second = words.next().and_then(whence_of);
+    let (first, (second, third)) = first.zip(second.zip(integer(words)))?;
     Some((first, second, third))
 }
 

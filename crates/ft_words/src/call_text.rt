@@ -1,10 +1,13 @@
 // The text of a call.
-ghost use Rattle.std.specs.Prelude.{◌≡◌, Some};
-ghost use Rattle.ft_words.specs.CallTexts.{call_text, whence_text};
+ghost use Rattle.std.specs.Prelude.{◌≡◌, ◌++◌, Some};
+ghost use Rattle.ft_words.specs.CallTexts.{call_text, flags_text, whence_text};
+ghost use Rattle.ft_words.specs.Arguments.{argument_text};
+ghost use Rattle.ft_words.specs.Verbs.{word, verb_of};
 
 use crate::text::{Coded, Data};
 use crate::tree_text::{access_text, flag_text};
-use ft_calls::{Call, Whence};
+use crate::verbs::Verb;
+use ft_calls::{Call, OpenFlags, Whence};
 use std::fmt;
 
 /// A call: its name and its arguments, as a line of words has them.
@@ -17,54 +20,99 @@ impl fmt::Display for CallText<'_> {
     ghost output = { λ text. Some (call_text text.0.now) };
 
     fn fmt<W: fmt::Write>(&self, f: &mut fmt::Formatter<W>) -> fmt::Result {
-        match self.0 {
-            Call::Mkdir { path } => write!(f, "mkdir{}", Data(path.as_bytes())),
-            Call::Rmdir { path } => write!(f, "rmdir{}", Data(path.as_bytes())),
-            Call::List { path } => write!(f, "list{}", Data(path.as_bytes())),
-            Call::Open {
-                path,
-                access,
-                create,
-                excl,
-                trunc,
-                append,
-            } => write!(
-                f,
-                "open {}{}{}{}{}{}",
-                access_text(*access),
-                flag_text(*create, "c"),
-                flag_text(*excl, "x"),
-                flag_text(*trunc, "t"),
-                flag_text(*append, "a"),
-                Data(path.as_bytes())
-            ),
-            Call::Close { fd } => write!(f, "close {fd}"),
-            Call::Read { fd, len } => write!(f, "read {fd} {len}"),
-            Call::Write { fd, bytes } => write!(f, "write {fd}{}", Data(bytes.as_slice())),
-            Call::Pread { fd, off, len } => write!(f, "pread {fd} {off} {len}"),
-            Call::Pwrite { fd, off, bytes } => {
-                write!(f, "pwrite {fd} {off}{}", Data(bytes.as_slice()))
-            }
-            Call::Lseek { fd, whence, off } => {
-                write!(f, "lseek {fd} {} {off}", whence_text(*whence))
-            }
-            Call::Truncate { len, path } => write!(f, "truncate {len}{}", Data(path.as_bytes())),
-            Call::Ftruncate { fd, len } => write!(f, "ftruncate {fd} {len}"),
-            Call::Stat { path } => write!(f, "stat{}", Data(path.as_bytes())),
-            Call::Fstat { fd } => write!(f, "fstat {fd}"),
-            Call::Link { old, new } => {
-                write!(f, "link {}{}", Coded(old.as_bytes()), Data(new.as_bytes()))
-            },
-            Call::Unlink { path } => write!(f, "unlink{}", Data(path.as_bytes())),
-            Call::Rename { old, new } => {
-                write!(
-                    f,
-                    "rename {}{}",
-                    Coded(old.as_bytes()),
-                    Data(new.as_bytes())
-                )
-            },
+        let verb = Verb::of(self.0);
+        let (first, second, third) = arguments(self.0);
+        write!(f, "{}{first}{second}{third}", verb.word())
+    }
+}
+
+// An argument, after a space.
+#[derive(Clone, Copy)]
+enum Argument<'a> {
+    Absent,
+    Number(u64),
+    Integer(i64),
+    Whence(Whence),
+    Flags(OpenFlags),
+    Path(&'a [u8]),
+    // A path or bytes, left out where they are empty.
+    Last(&'a [u8]),
+}
+
+impl fmt::Display for Argument<'_> {
+    ghost output = { λ argument. Some (argument_text argument) };
+
+    fn fmt<W: fmt::Write>(&self, f: &mut fmt::Formatter<W>) -> fmt::Result {
+        match self {
+            Argument::Absent => Ok(()),
+            Argument::Number(number) => write!(f, " {number}"),
+            Argument::Integer(number) => write!(f, " {number}"),
+            Argument::Whence(whence) => write!(f, " {}", whence_text(*whence)),
+            Argument::Flags(flags) => write!(f, " {}", FlagsText(*flags)),
+            Argument::Path(path) => write!(f, " {}", Coded(path)),
+            Argument::Last(bytes) => Data(bytes).fmt(f),
         }
+    }
+}
+
+// The arguments of a call, which has three at most.
+fn arguments(call: &Call) -> (Argument<'_>, Argument<'_>, Argument<'_>)
+    ensures { word (verb_of call.now) ++ argument_text result.0 ++ argument_text result.1 ++ argument_text result.2 ≡ call_text call.now }
+{
+    use Argument::{Absent, Flags, Integer, Last, Number, Path};
+    match call {
+        Call::Mkdir { path }
+        | Call::Rmdir { path }
+        | Call::List { path }
+        | Call::Stat { path }
+        | Call::Unlink { path } => (Absent, Absent, Last(path.as_bytes())),
+        Call::Link { old, new } | Call::Rename { old, new } => {
+            (Absent, Path(old.as_bytes()), Last(new.as_bytes()))
+        }
+        Call::Open {
+            path,
+            access,
+            create,
+            excl,
+            trunc,
+            append,
+        } => {
+            let flags = OpenFlags {
+                access: *access,
+                create: *create,
+                excl: *excl,
+                trunc: *trunc,
+                append: *append,
+            };
+            (Absent, Flags(flags), Last(path.as_bytes()))
+        }
+        Call::Truncate { len, path } => (Absent, Integer(*len), Last(path.as_bytes())),
+        Call::Close { fd } | Call::Fstat { fd } => (Absent, Absent, Number(*fd)),
+        Call::Read { fd, len } => (Absent, Number(*fd), Number(*len)),
+        Call::Ftruncate { fd, len } => (Absent, Number(*fd), Integer(*len)),
+        Call::Pread { fd, off, len } => (Number(*fd), Integer(*off), Number(*len)),
+        Call::Lseek { fd, whence, off } => {
+            (Number(*fd), Argument::Whence(*whence), Integer(*off))
+        }
+        Call::Write { fd, bytes } => (Absent, Number(*fd), Last(bytes.as_slice())),
+        Call::Pwrite { fd, off, bytes } => (Number(*fd), Integer(*off), Last(bytes.as_slice())),
+    }
+}
+
+// How a file is to be opened.
+#[derive(Clone, Copy)]
+struct FlagsText(OpenFlags);
+
+impl fmt::Display for FlagsText {
+    ghost output = { λ text. Some (flags_text text.0.access text.0.create text.0.excl text.0.trunc text.0.append) };
+
+    fn fmt<W: fmt::Write>(&self, f: &mut fmt::Formatter<W>) -> fmt::Result {
+        let access = access_text(self.0.access);
+        let create = flag_text(self.0.create, "c");
+        let excl = flag_text(self.0.excl, "x");
+        let trunc = flag_text(self.0.trunc, "t");
+        let append = flag_text(self.0.append, "a");
+        write!(f, "{access}{create}{excl}{trunc}{append}")
     }
 }
 

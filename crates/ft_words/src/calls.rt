@@ -1,84 +1,107 @@
 // The calls, by their names.
-ghost use Rattle.std.specs.Prelude.{◌≡◌, ◌++◌, codes, if◌then◌else◌, Some, None};
-ghost use Rattle.std.specs.Str.{bytes_eq};
+ghost use Rattle.std.specs.Prelude.{◌≡◌};
 ghost use Rattle.ft_words.specs.Calls.{call_of, read_by, descriptor_calls, Reads};
+ghost use Rattle.ft_words.specs.Verbs.{call_by, descriptor_call};
 
 use crate::arguments::{
     flags_path, integer_path, number, number_data, number_integer, number_integer_data,
     number_integer_number, number_number, number_whence_integer, path, path_path,
 };
 use crate::unread::Unread;
+use crate::verbs::{DESCRIPTOR_VERBS, DescriptorVerb, VERBS, Verb, spelled};
 use crate::words::Words;
 use ft_calls::{Call, OpenFlags};
 use ft_path::FilePath;
 use std::alloc::Global;
 
 /// The call of this name, with the arguments that the words behind it spell.
+#[tactic(auto, using(crate::proofs::Reading::call_of_verb))]
 pub fn call_of(alloc: Global, name: &[u8], words: Words<'_>) -> Result<Call, Unread>
     ensures { Reads result (call_of name.now words.entry) }
 {
-    if name == b"mkdir".as_slice() {
-        let path = path(alloc, words)?;
-        Ok(Call::Mkdir { path })
-    } else if name == b"rmdir".as_slice() {
-        let path = path(alloc, words)?;
-        Ok(Call::Rmdir { path })
-    } else if name == b"open".as_slice() {
-        let (flags, path) = flags_path(alloc, words)?;
-        Ok(open(flags, path))
-    } else if name == b"truncate".as_slice() {
-        let (len, path) = integer_path(alloc, words)?;
-        Ok(Call::Truncate { len, path })
-    } else if name == b"stat".as_slice() {
-        let path = path(alloc, words)?;
-        Ok(Call::Stat { path })
-    } else if name == b"link".as_slice() {
-        let (old, new) = path_path(alloc, words)?;
-        Ok(Call::Link { old, new })
-    } else if name == b"unlink".as_slice() {
-        let path = path(alloc, words)?;
-        Ok(Call::Unlink { path })
-    } else if name == b"rename".as_slice() {
-        let (old, new) = path_path(alloc, words)?;
-        Ok(Call::Rename { old, new })
-    } else if name == b"list".as_slice() {
-        let path = path(alloc, words)?;
-        Ok(Call::List { path })
-    } else {
-        descriptor_call_of(alloc, name, words)
+    match spelled(&VERBS, name) {
+        Some(verb) => read_call(alloc, verb, words),
+        None => Err(Unread::Misspelt),
     }
 }
 
 /// The same, where it is a call on a descriptor, which is the first of its arguments.
+#[tactic(auto, using(crate::proofs::Reading::descriptor_call_of_verb))]
 pub fn descriptor_call_of(alloc: Global, name: &[u8], words: Words<'_>) -> Result<Call, Unread>
     ensures { Reads result (read_by descriptor_calls name.now words.entry) }
 {
-    if name == b"close".as_slice() {
-        let fd = number(words).ok_or(Unread::Misspelt)?;
-        Ok(Call::Close { fd })
-    } else if name == b"read".as_slice() {
-        let (fd, len) = number_number(words).ok_or(Unread::Misspelt)?;
-        Ok(Call::Read { fd, len })
-    } else if name == b"write".as_slice() {
-        let (fd, bytes) = number_data(alloc, words)?;
-        Ok(Call::Write { fd, bytes })
-    } else if name == b"pread".as_slice() {
-        let (fd, off, len) = number_integer_number(words).ok_or(Unread::Misspelt)?;
-        Ok(Call::Pread { fd, off, len })
-    } else if name == b"pwrite".as_slice() {
-        let (fd, off, bytes) = number_integer_data(alloc, words)?;
-        Ok(Call::Pwrite { fd, off, bytes })
-    } else if name == b"lseek".as_slice() {
-        let (fd, whence, off) = number_whence_integer(words).ok_or(Unread::Misspelt)?;
-        Ok(Call::Lseek { fd, whence, off })
-    } else if name == b"ftruncate".as_slice() {
-        let (fd, len) = number_integer(words).ok_or(Unread::Misspelt)?;
-        Ok(Call::Ftruncate { fd, len })
-    } else if name == b"fstat".as_slice() {
-        let fd = number(words).ok_or(Unread::Misspelt)?;
-        Ok(Call::Fstat { fd })
-    } else {
-        Err(Unread::Misspelt)
+    match spelled(&DESCRIPTOR_VERBS, name) {
+        Some(verb) => read_call(alloc, verb, words),
+        None => Err(Unread::Misspelt),
+    }
+}
+
+// The call of a verb.
+fn read_call(alloc: Global, verb: Verb, words: Words<'_>) -> Result<Call, Unread>
+    ensures { Reads result (call_by verb words.entry) }
+{
+    match verb {
+        Verb::OnPath(verb) => {
+            let path = path(alloc, words)?;
+            Ok(verb.on(path))
+        }
+        Verb::Open => {
+            let (flags, path) = flags_path(alloc, words)?;
+            Ok(open(flags, path))
+        }
+        Verb::Truncate => {
+            let (len, path) = integer_path(alloc, words)?;
+            Ok(Call::Truncate { len, path })
+        }
+        Verb::OnPaths(verb) => {
+            let (old, new) = path_path(alloc, words)?;
+            Ok(verb.on(old, new))
+        }
+        Verb::OnDescriptor(verb) => read_descriptor_call(alloc, verb, words),
+    }
+}
+
+// The same, of a call on a descriptor.
+fn read_descriptor_call(
+    alloc: Global,
+    verb: DescriptorVerb,
+    words: Words<'_>,
+) -> Result<Call, Unread>
+    ensures { Reads result (descriptor_call verb words.entry) }
+{
+    match verb {
+        DescriptorVerb::Write => {
+            let (fd, bytes) = number_data(alloc, words)?;
+            Ok(Call::Write { fd, bytes })
+        }
+        DescriptorVerb::Pwrite => {
+            let (fd, off, bytes) = number_integer_data(alloc, words)?;
+            Ok(Call::Pwrite { fd, off, bytes })
+        }
+        DescriptorVerb::Close => {
+            let fd = number(words).ok_or(Unread::Misspelt)?;
+            Ok(Call::Close { fd })
+        }
+        DescriptorVerb::Read => {
+            let (fd, len) = number_number(words).ok_or(Unread::Misspelt)?;
+            Ok(Call::Read { fd, len })
+        }
+        DescriptorVerb::Pread => {
+            let (fd, off, len) = number_integer_number(words).ok_or(Unread::Misspelt)?;
+            Ok(Call::Pread { fd, off, len })
+        }
+        DescriptorVerb::Lseek => {
+            let (fd, whence, off) = number_whence_integer(words).ok_or(Unread::Misspelt)?;
+            Ok(Call::Lseek { fd, whence, off })
+        }
+        DescriptorVerb::Ftruncate => {
+            let (fd, len) = number_integer(words).ok_or(Unread::Misspelt)?;
+            Ok(Call::Ftruncate { fd, len })
+        }
+        DescriptorVerb::Fstat => {
+            let fd = number(words).ok_or(Unread::Misspelt)?;
+            Ok(Call::Fstat { fd })
+        }
     }
 }
 

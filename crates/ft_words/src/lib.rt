@@ -13,6 +13,7 @@ mod split;
 mod text;
 mod tree_text;
 mod unread;
+mod verbs;
 mod words;
 
 pub use call_text::CallText;

@@ -1,7 +1,5 @@
-use Rattle.std.proofs.Common.{is_some, ap, sym, subst, ◌∙◌, ◌==◌}
+use Rattle.std.proofs.Common.{is_some, ap, subst, ◌∙◌, ◌==◌}
 use Rattle.std.specs.FinMap as finite
-use Rattle.ft_tree.specs.declared.cell.Cell.{Cell}
-use Rattle.ft_locks.specs.Holdings.{has_place}
 use Rattle.ft_locks.specs.Locks.{AreGranted}
 use Rattle.ft_locks.specs.Seen.{table_of}
 use Rattle.ft_locks.proofs.Names.{on_any}

@@ -3,6 +3,11 @@ use Rattle.std.specs.FinMap as finite
 use Rattle.ft_locks.proofs.Handing.{opened_open, inherit_kept, inherit_view}
 use Rattle.ft_locks.proofs.locks.Locks.inherit.Goals as goal
 
+pub hand_over-requires-clause-there : goal.hand_over-requires-clause-there
+hand_over-requires-clause-there c =
+    ap (λ u. is_some (finite.get c.self.inside.holdings.lists u)) c.child.view_is
+    ∙ (opened_open c.args.self.now c.self.inside.holdings.cells c.self.inside.holdings.lists c.self.view_is c.args.child c.requires.child).1
+
 pub hand_over-requires-clause-open : goal.hand_over-requires-clause-open
 hand_over-requires-clause-open c =
     ap (λ u. is_some (finite.get c.self.inside.holdings.lists u)) c.parent.view_is

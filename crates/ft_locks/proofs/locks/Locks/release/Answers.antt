@@ -1,7 +1,13 @@
-use Rattle.std.proofs.Common.{sym, ◌∙◌}
+use Rattle.std.proofs.Common.{is_some, ap, sym, ◌∙◌}
+use Rattle.std.specs.FinMap as finite
 use Rattle.std.proofs.lemmas.Bool.{false≢true, eq-eqb}
 use Rattle.ft_locks.proofs.Handing.{opened_open, release_kept, release_view}
 use Rattle.ft_locks.proofs.locks.Locks.release.Goals as goal
+
+pub hand_over-requires-clause-there : goal.hand_over-requires-clause-there
+hand_over-requires-clause-there c =
+    ap (λ u. is_some (finite.get c.self.inside.holdings.lists u)) c.txn.view_is
+    ∙ (opened_open c.args.self.now c.self.inside.holdings.cells c.self.inside.holdings.lists c.self.view_is c.args.txn c.requires).1
 
 pub hand_over-requires-clause-apart : goal.hand_over-requires-clause-apart
 hand_over-requires-clause-apart c = λ e.

@@ -1,0 +1,26 @@
+-- The words of a call, one after another: as they are read, and as they are printed.
+use Rattle.std.specs.Prelude.{ℕ, List, [], ◌∷◌, ◌++◌, codes, Option, None}
+use Rattle.std.specs.Fmt.{decimal, signed_decimal}
+use Rattle.ft_words.specs.declared.call_text.Argument.{Argument}
+use Rattle.ft_words.specs.declared.call_text.Argument.TheVariants.{Absent, Number, Integer, Whence, Flags, Path, Last}
+use Rattle.ft_words.specs.Texts.{coded, data_text}
+use Rattle.ft_words.specs.CallTexts.{flags_text, whence_text}
+
+-- the first of some words, as a reader of words reads it
+abbrev pub first : {A : Type 0} → (List ℕ → Option A) → List (List ℕ) → Option A
+first read [] = None
+first read (word ∷ words) = read word
+
+abbrev pub others : List (List ℕ) → List (List ℕ)
+others [] = []
+others (word ∷ words) = words
+
+-- an argument after a space
+abbrev pub argument_text : Argument → List ℕ
+argument_text Absent = []
+argument_text (Number number) = codes " " ++ decimal number
+argument_text (Integer number) = codes " " ++ signed_decimal number
+argument_text (Whence whence) = codes " " ++ whence_text whence
+argument_text (Flags flags) = codes " " ++ flags_text flags.access flags.create flags.excl flags.trunc flags.append
+argument_text (Path path) = codes " " ++ coded path.now
+argument_text (Last bytes) = data_text bytes.now

@@ -1,0 +1,88 @@
+-- What calls are named after.
+use Rattle.std.specs.Prelude.{ℕ, List, map, codes, Option, option_map}
+use Rattle.ft_calls.specs.declared.call.Call.{Call}
+use Rattle.ft_calls.specs.declared.call.Call.TheVariants as calls
+use Rattle.ft_words.specs.declared.verbs.Verb.{Verb}
+use Rattle.ft_words.specs.declared.verbs.Verb.TheVariants.{OnPath, Open, Truncate, OnPaths, OnDescriptor}
+use Rattle.ft_words.specs.declared.verbs.PathVerb.{PathVerb}
+use Rattle.ft_words.specs.declared.verbs.PathVerb.TheVariants as path_verbs
+use Rattle.ft_words.specs.declared.verbs.PathsVerb.{PathsVerb}
+use Rattle.ft_words.specs.declared.verbs.PathsVerb.TheVariants as paths_verbs
+use Rattle.ft_words.specs.declared.verbs.DescriptorVerb.{DescriptorVerb}
+use Rattle.ft_words.specs.declared.verbs.DescriptorVerb.TheVariants as descriptor_verbs
+use Rattle.ft_words.specs.Spelling.{number_of, integer_of, path_of, data_of}
+use Rattle.ft_words.specs.Calls.{only, last, both, three, flags_of, whence_of}
+
+abbrev pub verb_of : Call → Verb
+verb_of (calls.Mkdir path) = OnPath path_verbs.Mkdir
+verb_of (calls.Rmdir path) = OnPath path_verbs.Rmdir
+verb_of (calls.List path) = OnPath path_verbs.List
+verb_of (calls.Open path access create excl trunc append) = Open
+verb_of (calls.Close fd) = OnDescriptor descriptor_verbs.Close
+verb_of (calls.Read fd len) = OnDescriptor descriptor_verbs.Read
+verb_of (calls.Write fd bytes) = OnDescriptor descriptor_verbs.Write
+verb_of (calls.Pread fd off len) = OnDescriptor descriptor_verbs.Pread
+verb_of (calls.Pwrite fd off bytes) = OnDescriptor descriptor_verbs.Pwrite
+verb_of (calls.Lseek fd whence off) = OnDescriptor descriptor_verbs.Lseek
+verb_of (calls.Truncate len path) = Truncate
+verb_of (calls.Ftruncate fd len) = OnDescriptor descriptor_verbs.Ftruncate
+verb_of (calls.Stat path) = OnPath path_verbs.Stat
+verb_of (calls.Fstat fd) = OnDescriptor descriptor_verbs.Fstat
+verb_of (calls.Link old new) = OnPaths paths_verbs.Link
+verb_of (calls.Unlink path) = OnPath path_verbs.Unlink
+verb_of (calls.Rename old new) = OnPaths paths_verbs.Rename
+
+abbrev pub word : Verb → List ℕ
+word (OnPath path_verbs.Mkdir) = codes "mkdir"
+word (OnPath path_verbs.Rmdir) = codes "rmdir"
+word (OnPath path_verbs.List) = codes "list"
+word Open = codes "open"
+word (OnDescriptor descriptor_verbs.Close) = codes "close"
+word (OnDescriptor descriptor_verbs.Read) = codes "read"
+word (OnDescriptor descriptor_verbs.Write) = codes "write"
+word (OnDescriptor descriptor_verbs.Pread) = codes "pread"
+word (OnDescriptor descriptor_verbs.Pwrite) = codes "pwrite"
+word (OnDescriptor descriptor_verbs.Lseek) = codes "lseek"
+word Truncate = codes "truncate"
+word (OnDescriptor descriptor_verbs.Ftruncate) = codes "ftruncate"
+word (OnPath path_verbs.Stat) = codes "stat"
+word (OnDescriptor descriptor_verbs.Fstat) = codes "fstat"
+word (OnPaths paths_verbs.Link) = codes "link"
+word (OnPath path_verbs.Unlink) = codes "unlink"
+word (OnPaths paths_verbs.Rename) = codes "rename"
+
+-- some verbs by their words
+abbrev pub words_of : List Verb → List (List ℕ × Verb)
+words_of verbs = map (λ verb. (word verb, verb)) verbs
+
+-- a call on one path
+abbrev pub on_path : PathVerb → List ℕ → Call
+on_path path_verbs.Mkdir path = calls.Mkdir path
+on_path path_verbs.Rmdir path = calls.Rmdir path
+on_path path_verbs.List path = calls.List path
+on_path path_verbs.Stat path = calls.Stat path
+on_path path_verbs.Unlink path = calls.Unlink path
+
+-- a call on two paths
+abbrev pub on_paths : PathsVerb → List ℕ → List ℕ → Call
+on_paths paths_verbs.Link old new = calls.Link old new
+on_paths paths_verbs.Rename old new = calls.Rename old new
+
+-- a call on a descriptor, by the words of its arguments
+abbrev pub descriptor_call : DescriptorVerb → List (List ℕ) → Option Call
+descriptor_call descriptor_verbs.Close words = option_map calls.Close (only number_of words)
+descriptor_call descriptor_verbs.Read words = option_map (λ a. calls.Read a.0 a.1) (both number_of (only number_of) words)
+descriptor_call descriptor_verbs.Write words = option_map (λ a. calls.Write a.0 a.1) (both number_of (last data_of) words)
+descriptor_call descriptor_verbs.Pread words = option_map (λ a. calls.Pread a.0 a.1 a.2) (three number_of integer_of (only number_of) words)
+descriptor_call descriptor_verbs.Pwrite words = option_map (λ a. calls.Pwrite a.0 a.1 a.2) (three number_of integer_of (last data_of) words)
+descriptor_call descriptor_verbs.Lseek words = option_map (λ a. calls.Lseek a.0 a.1 a.2) (three number_of whence_of (only integer_of) words)
+descriptor_call descriptor_verbs.Ftruncate words = option_map (λ a. calls.Ftruncate a.0 a.1) (both number_of (only integer_of) words)
+descriptor_call descriptor_verbs.Fstat words = option_map calls.Fstat (only number_of words)
+
+-- the call of a verb, by the words of its arguments
+abbrev pub call_by : Verb → List (List ℕ) → Option Call
+call_by (OnPath verb) words = option_map (on_path verb) (last path_of words)
+call_by Open words = option_map (λ a. calls.Open a.1 a.0.access a.0.create a.0.excl a.0.trunc a.0.append) (both flags_of (last path_of) words)
+call_by Truncate words = option_map (λ a. calls.Truncate a.0 a.1) (both integer_of (last path_of) words)
+call_by (OnPaths verb) words = option_map (λ a. on_paths verb a.0 a.1) (both path_of (last path_of) words)
+call_by (OnDescriptor verb) words = descriptor_call verb words
