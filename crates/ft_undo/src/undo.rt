@@ -9,16 +9,13 @@ ghost use Rattle.ft_calls.specs.Comes.{write_of, writes_of};
 ghost use Rattle.ft_calls.specs.Edits.{CanEdit, CanEditAll, Apart};
 ghost use Rattle.ft_undo.specs.Undone.{back_of, given_back, restore, restored, CanGiveBack, CanGiveAllBack, CanRestoreAll, AreAsLeft, IsApplied};
 
-use ft_base::Memory;
+use ft_base::{Few, Memory};
 use ft_body::BodyUndo;
 use ft_calls::laws::{editing, restoring, setting};
 use ft_calls::{Edit, Edits, Intent};
 use ft_tree::{Cell, Entry, Node, OpenFile, Tree};
 use std::alloc::Global;
 use std::marker::Model;
-
-// How many edits most calls make that make any.
-const USUAL_EDITS: usize = 2;
 
 /// A cell that was set, with what stood in its place before, or nothing where the place was new.
 #[derive(Drop)]
@@ -50,10 +47,10 @@ pub enum Back {
     },
 }
 
-/// What takes a call back. It takes no memory to do so. What takes a call back that writes nothing takes none at all.
+/// What takes a call back. It takes no memory to do so.
 #[derive(Drop)]
 pub struct Undo {
-    items: Vec<Back>,
+    items: Few<Back>,
 }
 
 impl Model for Undo {
@@ -62,7 +59,7 @@ impl Model for Undo {
 
     ghost Value = { List Back };
 
-    ghost view = { λ a. a.items.items };
+    ghost view = { λ a. a.items };
 }
 
 impl Undo {
@@ -71,7 +68,7 @@ impl Undo {
         ensures { result ≡ [] }
     {
         Undo {
-            items: Vec::new(alloc),
+            items: Few::new(alloc),
         }
     }
 
@@ -85,9 +82,6 @@ impl Undo {
     {
         setting();
         restoring();
-        if self.items.is_empty() {
-            self.items.reserve_exact(USUAL_EDITS)?;
-        }
         let back = set(tree, edit)?;
         if let Err(failed) = self.items.push(back) {
             restore(tree, failed.value);
@@ -157,8 +151,8 @@ pub fn revert(tree: &mut Tree, undo: Undo)
     requires { CanGiveAllBack tree.old undo }
     ensures { tree.new ≡ put_all tree.old (map given_back undo) }
 {
-    let Undo { items } = undo;
-    for back in items {
+    let Undo { mut items } = undo;
+    while let Some(back) = items.pop_front() {
         give_back(tree, back);
     }
 }

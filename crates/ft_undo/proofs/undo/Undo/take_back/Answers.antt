@@ -1,5 +1,4 @@
-use Rattle.std.proofs.Common.{◌≡◌, [], ◌∷◌, ◌++◌, sym, ap, subst, ◌∙◌}
-use Rattle.std.specs.Prelude.{option_to_list}
+use Rattle.std.proofs.Common.{sym, ap, subst, ◌∙◌}
 use Rattle.ft_tree.specs.Cells.{Cells}
 use Rattle.ft_undo.specs.Undone.{restored, CanRestoreAll}
 use Rattle.ft_undo.proofs.Undoing.{can-last, restored-last}
@@ -7,17 +6,14 @@ use Rattle.ft_undo.proofs.undo.Undo.take_back.Goals as goal
 
 pub restore-requires : goal.restore-requires
 restore-requires c =
-    let left = c.pop.new.self.items in
-    let popped : c.loop-back.items.items ≡ left ++ c.in-Some.back ∷ [] = c.pop.ensures.items ∙ ap (λ back. left ++ option_to_list back) c.in-Some.is in
-    (can-last left c.in-Some.back c.loop-back.tree (subst (CanRestoreAll c.loop-back.tree) popped c.loop-back.invariant.can)).0
+    (can-last c.pop.new.self c.in-Some.back c.loop-back.tree (subst (CanRestoreAll c.loop-back.tree) c.in-Some.ensures.some c.loop-back.invariant.can)).0
 
 pub loop-back-preserved : goal.loop-back-preserved
 loop-back-preserved c =
-    let left = c.pop.new.self.items in
-    let popped : c.loop-back.items.items ≡ left ++ c.in-Some.back ∷ [] = c.pop.ensures.items ∙ ap (λ back. left ++ option_to_list back) c.in-Some.is in
-    let can = can-last left c.in-Some.back c.loop-back.tree (subst (CanRestoreAll c.loop-back.tree) popped c.loop-back.invariant.can) in
+    let left = c.pop.new.self in
+    let can = can-last left c.in-Some.back c.loop-back.tree (subst (CanRestoreAll c.loop-back.tree) c.in-Some.ensures.some c.loop-back.invariant.can) in
     record {
       can = subst (λ (s : Cells). CanRestoreAll s left) (sym c.restore.ensures) can.1;
       same = ap (λ (s : Cells). restored s left) c.restore.ensures ∙ sym (restored-last left c.in-Some.back c.loop-back.tree)
-          ∙ ap (restored c.loop-back.tree) (sym popped) ∙ c.loop-back.invariant.same;
+          ∙ ap (restored c.loop-back.tree) (sym c.in-Some.ensures.some) ∙ c.loop-back.invariant.same;
     }

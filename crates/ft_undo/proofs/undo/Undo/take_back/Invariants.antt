@@ -5,9 +5,9 @@ use Rattle.ft_undo.proofs.undo.Undo.take_back.Given as goal
 -- what is left can be taken back, and then all is
 abbrev pub invariant-loop-back : goal.invariant-loop-back
 invariant-loop-back l = record {
-  can : CanRestoreAll l.tree l.items.items;
-  same : restored l.tree l.items.items ≡ restored l.initial.tree l.fn.self;
+  can : CanRestoreAll l.tree l.items;
+  same : restored l.tree l.items ≡ restored l.initial.tree l.fn.self;
 }
 
 abbrev pub decreases-loop-back : goal.decreases-loop-back
-decreases-loop-back l = length l.items.items
+decreases-loop-back l = length l.items
