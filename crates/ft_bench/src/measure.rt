@@ -117,8 +117,7 @@ fn run_on(
     let fd = open(alloc, growth)?;
     let mut done: u64 = 0;
     for index in 0..count {
-        let at = index.wrapping_mul(7919).checked_rem(size).unwrap_or(0);
-        let path = measure.path(alloc, Place::of(at), index)?;
+        let path = measure.path(alloc, Place::among(index, size), index)?;
         if measure.take_at(growth, fd, path)? {
             done = done.wrapping_add(1);
         }

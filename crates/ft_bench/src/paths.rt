@@ -31,6 +31,11 @@ impl Place {
         }
     }
 
+    /// One of so many directories, each time another one.
+    pub fn among(index: u64, size: u64) -> Place {
+        Place::of(index.wrapping_mul(7919).checked_rem(size).unwrap_or(0))
+    }
+
     /// From which level on the directory is the first one there, so that those above it have to be made too.
     pub fn new_levels(self) -> &'static [Level] {
         match (self.second, self.third) {

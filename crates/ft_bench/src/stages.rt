@@ -1,22 +1,27 @@
 // What calls take through a core, in transactions.
 use crate::failed::{Failed, check};
-use crate::paths::{Level, Place, path};
+use crate::paths::{Level, Place};
 use ft_calls::Call;
 use ft_core::{Core, Outcome, TxnId};
+use ft_path::FilePath;
 use std::alloc::Global;
 use std::mem;
 
 /// What is asked again and again, in a transaction that has made many directories.
 #[derive(Clone, Copy, PartialEq, Eq)]
 pub enum Stage {
-    /// A call is made, and not asked for: what the others take beside their asks.
+    /// The path of a call is made, and no call: what the others take beside their asks.
     Call,
-    /// A directory is asked for.
+    /// A directory is asked for, each time beside another one.
     Ask,
     /// The same, while ten thousand other transactions at the top are live.
     Crowd,
     /// A directory is asked for, and all that was made is committed and swept at the end.
     Whole,
+    /// The same, with all new directories in one and the same.
+    Heap,
+    /// The path of a look is made, and no call.
+    Path,
     /// One and the same directory is looked at.
     Look,
     /// A subtransaction begins and commits, with no call.
@@ -31,30 +36,31 @@ impl Stage {
             "ask" => Some(Stage::Ask),
             "crowd" => Some(Stage::Crowd),
             "whole" => Some(Stage::Whole),
+            "heap" => Some(Stage::Heap),
+            "path" => Some(Stage::Path),
             "look" => Some(Stage::Look),
             "empty" => Some(Stage::Empty),
             _ => None,
         }
     }
 
-    /// Does it once.
-    fn take(self, alloc: Global, core: &mut Core, txn: TxnId, index: u64) -> Result<(), Failed> {
-        let place = Place::of(0);
+    /// The path of its call, beside one of so many directories or of the first one.
+    fn path(self, alloc: Global, index: u64, size: u64) -> Result<FilePath, Failed> {
         match self {
-            Stage::Call => place.path(alloc, Level::Beside(index)).map(drop),
-            Stage::Ask | Stage::Crowd | Stage::Whole => {
-                let path = place.path(alloc, Level::Beside(index))?;
+            Stage::Look | Stage::Path => Place::of(0).path(alloc, Level::Third),
+            Stage::Heap => Place::of(0).path(alloc, Level::Beside(index)),
+            _ => Place::among(index, size).path(alloc, Level::Beside(index)),
+        }
+    }
+
+    /// Does it once with a path.
+    fn take(self, core: &mut Core, txn: TxnId, path: FilePath) -> Result<(), Failed> {
+        match self {
+            Stage::Call | Stage::Path | Stage::Empty => Ok(()),
+            Stage::Ask | Stage::Crowd | Stage::Whole | Stage::Heap => {
                 ask(core, txn, Call::Mkdir { path })
             }
-            Stage::Look => {
-                let path = path(alloc, b"/a0/b0/c0".as_slice())?;
-                ask(core, txn, Call::Stat { path })
-            }
-            Stage::Empty => {
-                let child = core.sub(txn)?;
-                core.commit(child)?;
-                Ok(())
-            }
+            Stage::Look => ask(core, txn, Call::Stat { path }),
         }
     }
 }
@@ -90,6 +96,31 @@ fn crowd(core: &mut Core, count: u64) -> Result<(), Failed> {
     Ok(())
 }
 
+/// Begins subtransactions one after the other, and commits each.
+fn pass(core: &mut Core, txn: TxnId, count: u64) -> Result<(), Failed> {
+    for _ in 0..count {
+        let child = core.sub(txn)?;
+        core.commit(child)?;
+    }
+    Ok(())
+}
+
+/// Does a stage that takes paths, each time with another one.
+fn repeat(
+    alloc: Global,
+    core: &mut Core,
+    txn: TxnId,
+    stage: Stage,
+    count: u64,
+    size: u64,
+) -> Result<(), Failed> {
+    for index in 0..count {
+        let path = stage.path(alloc, index, size)?;
+        stage.take(core, txn, path)?;
+    }
+    Ok(())
+}
+
 /// Does a stage as often as `count` says, in a transaction of a core that has made directories, as many as `size`.
 fn run_in(
     alloc: Global,
@@ -103,10 +134,11 @@ fn run_in(
     }
     let txn = core.begin()?;
     fill(alloc, core, txn, size)?;
-    for index in 0..count {
-        stage.take(alloc, core, txn, index)?;
+    match stage {
+        Stage::Empty => pass(core, txn, count)?,
+        _ => repeat(alloc, core, txn, stage, count, size)?,
     }
-    if stage == Stage::Whole {
+    if matches!(stage, Stage::Whole | Stage::Heap) {
         core.commit(txn)?;
         let _ = core.sweep();
     }
