@@ -1,8 +1,8 @@
 -- The chains at each call's end.
 use Rattle.std.proofs.Common.{◌≡◌, ◌≢◌, ℕ, List, [], ◌++◌, length, Option, Some, None, IsSome, Bool, true, false, refl, sym, ap, subst, ◌∙◌}
 use Rattle.std.specs.Prelude.{not, Result, Ok, Err, OnOk, OnErr, is_some, ◌==◌, option_map, IsTrue, ◌↔◌}
-use Rattle.std.specs.Option.{unwrap_or, option_copied_mut, option_copied}
-use Rattle.std.specs.Borrow.{MutBor, Bor}
+use Rattle.std.specs.Option.{unwrap_or, option_flatten, option_copied}
+use Rattle.std.specs.Borrow.{Bor}
 use Rattle.std.specs.Ordering.{nat_cmp}
 use Rattle.std.specs.Cmp.{nat_cmp_total}
 use Rattle.std.specs.FinMap as finite
@@ -16,17 +16,19 @@ use Rattle.ft_base.proofs.ChainShape.{by_number, values, put, seen, list-seen, c
 use Rattle.ft_base.proofs.ChainMoves.{Made, one-made, none-by, some-by}
 
 module _ {E : Type 0} where
-  -- what is lent is what stands there
-  pub lent : (r : Option (MutBor E)) (x : MutBor E) (o : Option E) → option_copied_mut r ≡ o → r ≡ Some x → o ≡ Some x.now
-  lent r x o value is = sym value ∙ ap option_copied_mut is
+  pub flat-some : (o : Option (Option E)) (x : E) → option_flatten o ≡ Some x → o ≡ Some (Some x)
+  flat-some None x is = absurd (false≢true (ap is_some is))
+  flat-some (Some o) x is = ap Some is
 
-  pub unlent : (r : Option (MutBor E)) (o : Option E) → option_copied_mut r ≡ o → r ≡ None → o ≡ None
-  unlent r o value is = sym value ∙ ap option_copied_mut is
+  pub flat-open : (o : Option (Option E)) → IsSome o → o ≡ Some (option_flatten o)
+  flat-open None some = absurd (false≢true some)
+  flat-open (Some o) some = refl
 
-  pub lends : (r : Option (MutBor E)) (o : Option E) → option_copied_mut r ≡ o → IsSome o → IsSome r
-  lends (Some x) o is some = refl
-  lends None o is some = absurd (false≢true (subst IsSome (sym is) some))
+  pub flat-or : (o : Option (Option E)) → option_flatten o ≡ unwrap_or o None
+  flat-or None = refl
+  flat-or (Some o) = refl
 
+  -- what is shared is what stands there
   pub shared : (r : Option (Bor E)) (x : Bor E) (o : Option E) → option_copied r ≡ o → r ≡ Some x → o ≡ Some x.now
   shared r x o value is = sym value ∙ ap option_copied is
 
@@ -47,6 +49,9 @@ module _ {T : Type 0} where
 
   pub next-up : (s s' : Slab (Node T)) (key : ℕ) (next next' : Option ℕ) → next ≡ next' → Updates s s' key (option_map (with_next next) (get s key)) → Updates s s' key (option_map (with_next next') (get s key))
   next-up s s' key next next' is up = subst (λ n. Updates s s' key (option_map (with_next n) (get s key))) is up
+
+  pub made-in : (s : Slab (Node T)) (ends ends' : AllEnds) (m : Lists T) → ends' ≡ ends → Made s ends m → Made s ends' m
+  made-in s ends ends' m is made = subst (λ e. Made s e m) (sym is) made
 
   no-chains-by : (s : Slab (Node T)) (ends : AllEnds) → ends ≡ finite.empty → AreChainedBy (get s) ends (λ _. [])
   no-chains-by s ends is = record {
@@ -87,14 +92,9 @@ module _ {T : Type 0} where
     pub open-ends : (m : Lists T) → lists_of s ends ≡ m → (u : ℕ) → IsSome (finite.get m u) → IsSome (finite.get ends u)
     open-ends m is u some = sym (open-is u) ∙ ap (λ n. is_some (finite.get n u)) is ∙ some
 
-    pub kept : (m : Lists T) → lists_of s ends ≡ m → (u : ℕ) (e : Option Ends) → finite.get ends u ≡ Some e → Made s (finite.insert ends u e) m
-    kept m is u e there = subst (λ x. Made s x m) (sym (insert-same ends u e there)) (record { sound = h; is = is })
-
     -- a slab that grew holds the same
-    pub grown : (m : Lists T) → lists_of s ends ≡ m → (s' : Slab (Node T)) (c : ℕ) (u : ℕ) (e : Option Ends) → finite.get ends u ≡ Some e → s' ≡ record s { capacity = c } → Made s' (finite.insert ends u e) m
-    grown m is s' c u e there same =
-        let k = kept m is u e there in
-        subst (λ x. Made x (finite.insert ends u e) m) (sym same) (record { sound = k.sound; is = k.is })
+    pub grown : (m : Lists T) → lists_of s ends ≡ m → (s' : Slab (Node T)) (c : ℕ) → s' ≡ record s { capacity = c } → Made s' ends m
+    grown m is s' c same = subst (λ x. Made x ends m) (sym same) (record { sound = h; is = is })
 
     pub empty-list : (m : Lists T) → lists_of s ends ≡ m → (u : ℕ) (o : Option (Option Ends)) → finite.get ends u ≡ o → unwrap_or o None ≡ None → list_in m u ≡ []
     empty-list m is u o there none = ap (λ n. list_in n u) (sym is) ∙ none-by s s ends h.0 h.1 u (ap (λ x. unwrap_or x None) there ∙ none)
@@ -124,12 +124,14 @@ module _ {T : Type 0} where
     pub opened-is : (u : ℕ) (ends' : AllEnds) → is_some (finite.get ends u) ≡ false → (m : Lists T) → lists_of s ends ≡ m → ends' ≡ finite.insert ends u None → lists_of s ends' ≡ finite.insert m u (list_in m u)
     opened-is u ends' none m is set = ap (lists_of s) set ∙ (opened u (not-open u none)).is ∙ ap (λ n. finite.insert n u (list_in n u)) is
 
-    pub emptiness : (m : Lists T) → lists_of s ends ≡ m → (u : ℕ) (e : Option Ends) → finite.get ends u ≡ Some e → (b : Bool) → is_some e ≡ not b → IsTrue b ↔ (list_in m u ≡ [])
-    emptiness m is u (Some front) there true test = absurd (false≢true (sym test))
-    emptiness m is u (Some front) there false test =
+    pub emptiness : (m : Lists T) → lists_of s ends ≡ m → (u : ℕ) (o : Option (Option Ends)) → finite.get ends u ≡ o → (b : Bool) → is_some (option_flatten o) ≡ not b → IsTrue b ↔ (list_in m u ≡ [])
+    emptiness m is u (Some (Some front)) there true test = absurd (false≢true (sym test))
+    emptiness m is u (Some (Some front)) there false test =
         let some : (length (list_in m u) == 0) ≡ false = ap (λ n. length (list_in n u) == 0) (sym is) ∙ some-by s s ends h.0 h.1 u front there in
         ((λ yes. absurd (false≢true yes)), (λ empty. absurd (false≢true (sym some ∙ ap (λ xs. length xs == 0) empty))))
-    emptiness m is u None there true test = ((λ yes. empty-list m is u (Some None) there refl), (λ empty. refl))
+    emptiness m is u (Some None) there true test = ((λ yes. empty-list m is u (Some None) there refl), (λ empty. refl))
+    emptiness m is u (Some None) there false test = absurd (false≢true test)
+    emptiness m is u None there true test = ((λ yes. empty-list m is u None there refl), (λ empty. refl))
     emptiness m is u None there false test = absurd (false≢true test)
 
     pub open-still : (m : Lists T) → lists_of s ends ≡ m → (k : ℕ) (x : Option Ends) (j : ℕ) → k ≢ j → IsSome (finite.get m j) → IsSome (finite.get (finite.insert ends k x) j)

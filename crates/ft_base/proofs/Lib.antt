@@ -1,6 +1,7 @@
 pub mod Loans
 pub mod Views
 pub mod Orders
+pub mod Places
 pub mod Clones
 pub mod ChainShape
 pub mod ChainMoves

@@ -4,3 +4,4 @@ pub mod Pairs
 pub mod Copies
 pub mod Chains
 pub mod Linked
+pub mod Dense

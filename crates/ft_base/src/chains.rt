@@ -3,9 +3,9 @@ ghost use Rattle.std.specs.Prelude.{◌≡◌, ◌≢◌, ◌↔◌, ◌∷◌, 
 ghost use Rattle.std.specs.FinMap as finite;
 ghost use Rattle.ft_base.specs.Chains.{list_in, IsOpen, moved, spliced};
 
+use crate::dense_table::DenseTable;
 use crate::memory::Memory;
 use crate::node::{Ends, Node, first_key, from_node, last_key_or, set_next};
-use crate::table::Table;
 use crate::values::Values;
 use slab::Slab;
 use std::alloc::{AllocFailed, Global};
@@ -14,12 +14,13 @@ use std::marker::Model;
 /// For each open owner a list of values, the newest first.
 ///
 /// A value moves from the front of one list to that of another, and a whole list in front of another,
-/// without memory. Each call takes the time to find its owners by a hash, however many are open and
-/// however long their lists are. All values stand in one slab, whose places are used again.
+/// without memory. Each call takes the same time, however many owners are open and however long their
+/// lists are. All values stand in one slab, whose places are used again. Owners are numbered one after
+/// another: there is a place for each number up to the greatest that was ever opened.
 #[derive(Drop)]
 pub struct Chains<T> {
     nodes: Slab<Node<T>>,
-    ends: Table<Option<Ends>>,
+    ends: DenseTable<Option<Ends>>,
 }
 
 impl<T> Model for Chains<T> {
@@ -43,7 +44,7 @@ impl<T> Chains<T> {
     {
         Chains {
             nodes: Slab::new(alloc),
-            ends: Table::new(alloc),
+            ends: DenseTable::new(alloc),
         }
     }
 
@@ -79,7 +80,7 @@ impl<T> Chains<T> {
     pub fn first(&self, owner: u64) -> Option<&T>
         ensures { option_copied result ≡ slice_get (list_in self.now owner) 0 }
     {
-        let ends = (*self.ends.get(owner)?)?;
+        let ends = self.ends.get(owner)??;
         let node = self.nodes.get(ends.first)?;
         Some(&node.value)
     }
@@ -88,13 +89,9 @@ impl<T> Chains<T> {
     pub fn values(&self, owner: u64) -> Values<'_, T>
         ensures { result ≡ list_in self.now owner }
     {
-        let at = match self.ends.get(owner) {
-            Some(ends) => first_key(*ends),
-            None => None,
-        };
         Values {
             nodes: &self.nodes,
-            at,
+            at: first_key(self.ends.get(owner).flatten()),
         }
     }
 
@@ -102,10 +99,7 @@ impl<T> Chains<T> {
     pub fn is_empty(&self, owner: u64) -> bool
         ensures { IsTrue result ↔ (list_in self.now owner ≡ []) }
     {
-        match self.ends.get(owner) {
-            Some(ends) => ends.is_none(),
-            None => true,
-        }
+        self.ends.get(owner).flatten().is_none()
     }
 
     /// Puts a value in front of a list, as its newest; want of memory hands it back.
@@ -115,8 +109,7 @@ impl<T> Chains<T> {
         ensures err { OnErr result (self.new ≡ self.old) }
         ensures value_returned { IfErr result (λ failed. failed.value ≡ value) }
     {
-        let place = self.ends.get_mut(owner).unwrap();
-        let ends = *place;
+        let ends = self.ends.get(owner).flatten();
         let next = first_key(ends);
         let first = match self.nodes.insert(Node { value, next }) {
             Ok(key) => key,
@@ -128,7 +121,7 @@ impl<T> Chains<T> {
             }
         };
         let last = last_key_or(first, ends);
-        *place = Some(Ends { first, last });
+        self.ends.set(owner, Some(Ends { first, last }));
         Ok(())
     }
 
@@ -138,14 +131,9 @@ impl<T> Chains<T> {
         ensures some { OnSome result (self.new ≡ finite.insert self.old owner (drop 1 (list_in self.old owner))) }
         ensures none { IfNone result (self.new ≡ self.old) }
     {
-        let Some(place) = self.ends.get_mut(owner) else {
-            return None;
-        };
-        let Some(front) = *place else {
-            return None;
-        };
+        let front = self.ends.get(owner)??;
         let Node { value, next } = self.nodes.try_remove(front.first).unwrap();
-        *place = from_node(next, front.last);
+        self.ends.set(owner, from_node(next, front.last));
         Some(value)
     }
 
@@ -156,19 +144,15 @@ impl<T> Chains<T> {
         requires apart { source ≢ target }
         ensures { self.new ≡ spliced self.old source target }
     {
-        let place = self.ends.get_mut(source).unwrap();
-        let Some(front) = *place else {
+        let Some(front) = self.ends.get(source).flatten() else {
             return;
         };
-        *place = None;
-        let place = self.ends.get_mut(target).unwrap();
-        let ends = *place;
+        self.ends.set(source, None);
+        let ends = self.ends.get(target).flatten();
         let next = first_key(ends);
         let last = last_key_or(front.last, ends);
-        *place = Some(Ends {
-            first: front.first,
-            last,
-        });
+        let first = front.first;
+        self.ends.set(target, Some(Ends { first, last }));
         set_next(&mut self.nodes, front.last, next);
     }
 
@@ -178,22 +162,16 @@ impl<T> Chains<T> {
         requires apart { source ≢ target }
         ensures { self.new ≡ moved self.old source target }
     {
-        let Some(place) = self.ends.get_mut(source) else {
+        let Some(front) = self.ends.get(source).flatten() else {
             return;
         };
-        let Some(front) = *place else {
-            return;
-        };
-        let after = self.nodes.get(front.first).unwrap().next;
-        *place = from_node(after, front.last);
-        let place = self.ends.get_mut(target).unwrap();
-        let ends = *place;
+        let first = front.first;
+        let after = self.nodes.get(first).unwrap().next;
+        self.ends.set(source, from_node(after, front.last));
+        let ends = self.ends.get(target).flatten();
         let next = first_key(ends);
-        let last = last_key_or(front.first, ends);
-        *place = Some(Ends {
-            first: front.first,
-            last,
-        });
-        set_next(&mut self.nodes, front.first, next);
+        let last = last_key_or(first, ends);
+        self.ends.set(target, Some(Ends { first, last }));
+        set_next(&mut self.nodes, first, next);
     }
 }

@@ -3,6 +3,7 @@
 #![tactic(auto)]
 
 mod chains;
+mod dense_table;
 mod few;
 mod memory;
 mod node;
@@ -11,6 +12,7 @@ mod table;
 mod values;
 
 pub use chains::Chains;
+pub use dense_table::DenseTable;
 pub use few::Few;
 pub use memory::Memory;
 pub use sequence::Sequence;

@@ -35,7 +35,7 @@ use Rattle.ft_history.proofs.Words.{by_number, put_same, put_other}
 use Rattle.ft_core.specs.declared.request.Event.TheVariants.{Abort}
 use Rattle.ft_core.specs.Histories.{History, told as told_of}
 use Rattle.ft_core.specs.States.{Base, Asks}
-use Rattle.ft_core.specs.Journals.{Journaled, noted_of, with_event, without_ask, state_of}
+use Rattle.ft_core.specs.Journals.{Journaled, with_event, without, state_of}
 use Rattle.ft_core.specs.Kept.{Item, fate_in, ArePlaced, AreLogged, AreLogs, IsCoreAt, IsCoreOf}
 use Rattle.ft_core.specs.Laws.{CallLaws, LockLaws}
 use Rattle.ft_core.specs.Taking.{taken_back, CanTakeBack}
@@ -71,9 +71,10 @@ module _ (W : CallLaws) (K : LockLaws) (base : Base) (h : History) (asks : Asks)
     pub dropped : AreDropped table₀ table gone
     pub opened : (x : ℕ) → state_in forest x ≡ Some LiveState → is_opened table x ≡ true
     pub listed : (x : ℕ) → state_in forest x ≡ Some LiveState → is_open lists x ≡ true
+    pub subs : (x : ℕ) → state_in forest x ≡ Some LiveState → finite.get j.subs x ≡ finite.get j₀.subs x
     pub asks_live : (x : ℕ) → is_live_in (state_in forest x) ≡ true → finite.get j.asks x ≡ finite.get asks x
     pub asks_ended : (x : ℕ) → is_live_in (state_in forest x) ≡ false → finite.get j.asks x ≡ None
-    pub journal : j ≡ record j₀ { asks = j.asks }
+    pub journal : j ≡ record j₀ { asks = j.asks; subs = j.subs }
     -- whose turn has not come has its list
     pub waits : (x : ℕ) → state_in forest x ≡ Some LiveState → log x ≡ core.log x
     pub accounted : IsAccounted (is_locked table) (is_let_go table) cells
@@ -101,6 +102,7 @@ module _ (W : CallLaws) (K : LockLaws) (base : Base) (h : History) (asks : Asks)
     dropped = λ l. refl;
     opened = λ x e. (core.ready x (live-of x e)).locks;
     listed = λ x e. (core.ready x (live-of x e)).log;
+    subs = λ x e. refl;
     asks_live = λ x e. ap (λ (a : Asks). finite.get a x) same;
     asks_ended = λ x e. ap (λ (a : Asks). finite.get a x) same ∙ no-ask (finite.get asks x) (λ some. false≢true (sym e ∙ sym (fate-of x) ∙ ap is_live (core.waiting x some)));
     journal = refl;
@@ -176,7 +178,7 @@ module _ (W : CallLaws) (K : LockLaws) (base : Base) (h : History) (asks : Asks)
 
       -- and then the abort has gone on
       module _ (cells' : Cells) (made : cells' ≡ taken_back (list_in lists next) cells) (forest' : Transactions) (ended : HasEnded forest forest' next AbortedState) (forest_is' : IsAborting forest₀ forest' t)
-          (table' : LockTable) (released : AreReleased table table' next) (lists' : Lists Logged) (are : AreLists lists' (put (list_in lists) next [])) (open' : AreOpen lists' (put (is_open lists) next false)) (j' : Journaled) (told : j' ≡ without_ask j next) where
+          (table' : LockTable) (released : AreReleased table table' next) (lists' : Lists Logged) (are : AreLists lists' (put (list_in lists) next [])) (open' : AreOpen lists' (put (is_open lists) next false)) (j' : Journaled) (told : j' ≡ without j next) where
         state-next : is_live_in (state_in forest' next) ≡ false
         state-next = ap is_live_in (ended.states next ∙ put_same (state_in forest) next (Some AbortedState) next refl)
 
@@ -213,6 +215,7 @@ module _ (W : CallLaws) (K : LockLaws) (base : Base) (h : History) (asks : Asks)
           dropped = K.release table₀ table table' way.gone next way.dropped released;
           opened = λ x e. let was = still-state x e in opened-other table table' next released.opened x was.0 (way.opened x was.1);
           listed = λ x e. let was = still-state x e in open-other lists lists' next open' x was.0 (way.listed x was.1);
+          subs = λ x e. let was = still-state x e in ap (λ (q : Journaled). finite.get q.subs x) told ∙ removed-other j.subs next x was.0 ∙ way.subs x was.1;
           asks_live = λ x e. let ne = still x e in ap (λ (q : Journaled). finite.get q.asks x) told ∙ removed-other j.asks next x ne ∙ way.asks_live x (sym (ap is_live_in (state-other x ne)) ∙ e);
           asks_ended = λ x e. ap (λ (q : Journaled). finite.get q.asks x) told ∙ by_number x next
               (λ is. removed-same j.asks next x is)
@@ -225,8 +228,8 @@ module _ (W : CallLaws) (K : LockLaws) (base : Base) (h : History) (asks : Asks)
             both : (a b : Bool) → a ≡ true → b ≡ false → (a && not b) ≡ true
             both a b e f = λ i. e i && not (f i)
 
-            shape : j' ≡ without_ask j next → j ≡ record j₀ { asks = j.asks } → j' ≡ record j₀ { asks = j'.asks }
-            shape a b = a ∙ (λ i. without_ask (b i) next) ∙ (λ i. record j₀ { asks = (sym a i).asks })
+            shape : j' ≡ without j next → j ≡ record j₀ { asks = j.asks; subs = j.subs } → j' ≡ record j₀ { asks = j'.asks; subs = j'.subs }
+            shape a b = a ∙ (λ i. without (b i) next) ∙ (λ i. record j₀ { asks = (sym a i).asks; subs = (sym a i).subs })
 
     -- nothing at or below t is live any more
     module _ (done : HasAborted forest₀ forest t) (none : (x : ℕ) → over_in forest t x ≡ true → state_in forest x ≢ Some LiveState) where
@@ -312,7 +315,7 @@ module _ (W : CallLaws) (K : LockLaws) (base : Base) (h : History) (asks : Asks)
             record {
               locks = way.opened x state;
               log = way.listed x state;
-              sub = ap (λ (q : Journaled). noted_of q x) told ∙ ap (λ (q : Journaled). noted_of q x) way.journal ∙ (core.ready x (was-live x state)).sub;
+              sub = ap (λ (q : Journaled). finite.get q.subs x) told ∙ way.subs x state ∙ (core.ready x (was-live x state)).sub;
             };
         waiting = λ x some. by_test (is_live_in (state_in forest x))
             (λ e. sym (fates-are x) ∙ ap fate_in (live-in (state_in forest x) e))

@@ -59,7 +59,7 @@ module _ (W : CallLaws) (K : LockLaws) (cells : Cells) (forest : Transactions) (
   core-unmade cells' table' lists' j' un is =
       let same : IsCoreOf s cells forest table lists' (record j { room = j'.room }) =
       core-opened W K s.base (history s) s.asks s.last_txn s.last_stamp cells forest table lists j core table lists' (record j { room = j'.room })
-      (record { journal = refl; subs = λ t sub ne is. is; locks = refl; opened = λ t e. e; listed = un.listed; open_still = λ t e. un.open_still t ∙ e }) in
+      (record { journal = refl; subs = λ t ne. refl; locks = refl; opened = λ t e. e; listed = un.listed; open_still = λ t e. un.open_still t ∙ e }) in
       subst (λ (q : Journaled). IsCoreOf (state_of forest q) cells' forest table' lists' q) (sym is)
       (subst (λ (c : Cells). IsCoreOf s c forest table' lists' (record j { room = j'.room })) (sym un.cells)
       (subst (λ (l : LockTable). IsCoreOf s cells forest l lists' (record j { room = j'.room })) (sym un.locks) same))

@@ -1,6 +1,6 @@
 -- What a begin does to what a core keeps.
 use Rattle.std.proofs.Common.{◌≡◌, ◌≢◌, ◌<◌, ◌≤◌, ◌+◌, ℕ, Bool, true, false, not, cond, ◌&&◌, [], ◌∷◌, Option, Some, None, is_some, arith, refl, sym, ap, subst, ◌∙◌, ◌==◌}
-use Rattle.std.specs.Prelude.{slice_get}
+use Rattle.std.specs.FinMap as finite
 use Rattle.ft_base.specs.Chains.{Lists}
 use Rattle.ft_laws.specs.Lists.{In}
 use Rattle.ft_laws.proofs.Lists.{Each-from, Each-at}
@@ -128,9 +128,9 @@ module _ (W : CallLaws) (K : LockLaws) (base : Base) (h : History) (asks : Asks)
           (λ is. record {
             locks = ap (is_opened table) is ∙ open_for.locks;
             log = ap (is_open lists) is ∙ open_for.log;
-            sub = ap (λ (m : Subs). slice_get m t) subs ∙ ap (slice_get j.subs) is ∙ open_for.sub ∙ ap Some (sym (let last_is = core.kept.started.last_txn_is in sub-later h core.kept.core.legal t (omega arith)));
+            sub = ap (λ m. finite.get m t) subs ∙ ap (finite.get j.subs) is ∙ open_for.sub ∙ ap Some (sym (let last_is = core.kept.started.last_txn_is in sub-later h core.kept.core.legal t (omega arith)));
           })
-          (λ ne. let was = core.ready t (was-live t ne now) in record { locks = was.locks; log = was.log; sub = ap (λ (m : Subs). slice_get m t) subs ∙ was.sub });
+          (λ ne. let was = core.ready t (was-live t ne now) in record { locks = was.locks; log = was.log; sub = ap (λ m. finite.get m t) subs ∙ was.sub });
       waiting = λ t some. still-live t (core.waiting t some);
       spare = let le = core.spare in let new = events-begin in omega arith;
       accounted = core.accounted;
@@ -151,20 +151,11 @@ module _ (W : CallLaws) (K : LockLaws) (base : Base) (h : History) (asks : Asks)
         let was = core.ready t live in
         let last = (lived posix_calls base.last_txn h t live).begun in
         let last_is = core.kept.started.last_txn_is in
-        record { locks = same.opened t was.locks; log = same.open_still t was.log; sub = same.subs t _ (λ is. absurd (omega arith)) was.sub };
+        record { locks = same.opened t was.locks; log = same.open_still t was.log; sub = same.subs t (λ is. absurd (omega arith)) ∙ was.sub };
     waiting = core.waiting;
     spare = let le = core.spare in let spare_is = ap (λ (q : Journaled). q.spare) same.journal in omega arith;
     accounted = subst (λ (q : LockTable). IsAccounted (is_locked q) (is_let_go q) cells) (sym same.locks) core.accounted;
   }
-
--- the same in a state
-pub core-placed : CallLaws → LockLaws → (cells : Cells) (forest forest' : Transactions) (table table' : LockTable) (lists lists' : Lists Logged) (j j1 : Journaled) → IsCoreOf (state_of forest j) cells forest table lists j
-    → AreAsBefore j j1 table table' lists lists' (last_in forest + 1) → forest' ≡ forest → IsCoreOf (state_of forest' j1) cells forest' table' lists' j1
-core-placed W K cells forest forest' table table' lists lists' j j1 core same still =
-    let s : State = state_of forest j in
-    let opened = core-opened W K s.base (history s) s.asks s.last_txn s.last_stamp cells forest table lists j core table' lists' j1 same in
-    subst (λ (f : Transactions). IsCoreOf (state_of f j1) cells f table' lists' j1) (sym still)
-    (subst (λ (q : State). IsCoreOf q cells forest table' lists' j1) (sym (ap (state_of forest) same.journal)) opened)
 
 -- whom a begin is not refused under is live
 pub live-fault : (o : Option Fate) (later : Option Fault) → fault_of_fate o later ≡ None → o ≡ Some Live

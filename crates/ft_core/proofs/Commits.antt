@@ -1,8 +1,6 @@
 -- What a commit does to what a core keeps.
 use Rattle.std.proofs.Common.{◌≡◌, ◌≢◌, ◌<◌, ◌==◌, ℕ, true, false, cond, List, [], ◌∷◌, ◌++◌, Option, Some, None, is_some, IsSome, arith, refl, sym, ap, subst, ◌∙◌, ne_eqb, eq-eqb}
 use Rattle.std.proofs.lemmas.Bool.{false≢true}
-use Rattle.std.proofs.lemmas.Option.{slice_get_within}
-use Rattle.std.specs.Prelude.{slice_get}
 use Rattle.std.specs.FinMap as finite
 use Rattle.ft_base.specs.Chains.{Lists, list_in}
 use Rattle.ft_tree.specs.declared.cell.Cell.{Cell}
@@ -13,7 +11,6 @@ use Rattle.ft_undo.specs.Logs.{is_open, AreLists, AreOpen}
 use Rattle.ft_forest.specs.declared.state.State.{State as Life}
 use Rattle.ft_forest.specs.declared.state.State.TheVariants.{Committed as CommittedState}
 use Rattle.ft_forest.specs.Transactions.{Transactions, parent_in, state_in, IsLiveChild, HasEnded}
-use Rattle.ft_forest.proofs.Setting.{get-set_same, get-set_other}
 use Rattle.ft_locks.specs.Locks.{LockTable, is_opened}
 use Rattle.ft_locks.specs.Law.{AreLocksOf}
 use Rattle.ft_locks.specs.Knowing.{is_known}
@@ -34,14 +31,14 @@ use Rattle.ft_core.specs.declared.request.Event.TheVariants.{Commit}
 use Rattle.ft_core.specs.Handing.{AreHandedUp, noted_up, MayHandUp}
 use Rattle.ft_core.specs.Histories.{History}
 use Rattle.ft_core.specs.States.{Base, Asks}
-use Rattle.ft_core.specs.Journals.{Journaled, noted_of, with_event, without_ask, with_sub}
+use Rattle.ft_core.specs.Journals.{Journaled, with_event, without, with_sub}
 use Rattle.ft_core.specs.Kept.{Item, fate_in, AreLogged, IsCoreAt}
 use Rattle.ft_core.specs.Laws.{CallLaws, LockLaws}
 use Rattle.ft_core.proofs.Accounts.{still-accounted}
 use Rattle.ft_core.proofs.Children.{no-child}
 use Rattle.ft_core.proofs.Ends.{named, kept-ending, events-commit}
 use Rattle.ft_core.proofs.Joining.{start, values, past}
-use Rattle.ft_core.proofs.Noted.{removed-same, removed-other, opened-other, open-other}
+use Rattle.ft_core.proofs.Noted.{inserted-same, inserted-other, removed-same, removed-other, opened-other, open-other}
 
 fate-put : (f : ℕ → Option Life) (g : ℕ → Option Fate) (n : ℕ) (x : ℕ) → fate_in (f x) ≡ g x → fate_in (put f n (Some CommittedState) x) ≡ put g n (Some Committed) x
 fate-put f g n x same = by_test (x == n)
@@ -115,18 +112,18 @@ module _ (W : CallLaws) (K : LockLaws) (base : Base) (h : History) (asks : Asks)
   knows (Some p) is table' h' = K.known.inherited table table' t p (up-live p is).1 h'
 
   -- what is noted of the parent's children
-  subs : (up : Option ℕ) → parent posix_calls h t ≡ up → j.last_stamp ≡ last_number → (x : ℕ) → IsLive posix_calls base.last_txn h x
-      → noted_of (noted_up j up) x ≡ Some (last_sub posix_calls base.last_stamp after x)
-  subs None is last x was =
-      (core.ready x was).sub
+  subs : (up : Option ℕ) → parent posix_calls h t ≡ up → j.last_stamp ≡ last_number → (x : ℕ) → IsLive posix_calls base.last_txn h x → x ≢ t
+      → finite.get (without (noted_up j up) t).subs x ≡ Some (last_sub posix_calls base.last_stamp after x)
+  subs None is last x was ne =
+      removed-other j.subs t x ne ∙ (core.ready x was).sub
       ∙ ap Some (sym (ap (λ o. cond (is_some_and o (λ p. p == x)) (Some (last_stamp posix_calls base.last_stamp h)) (last_sub posix_calls base.last_stamp h x)) is))
-  subs (Some p) is last x was =
-      by_number x p
+  subs (Some p) is last x was ne =
+      removed-other (with_sub j p).subs t x ne ∙ by_number x p
       (λ same.
-      ap (slice_get (with_sub j p).subs) same ∙ get-set_same j.subs p (Some j.last_stamp) (slice_get_within j.subs p _ (core.ready p (up-live p is).0).sub) ∙ ap (λ n. Some (Some n)) (last ∙ core.kept.started.last_stamp_is)
+      inserted-same j.subs p (Some j.last_stamp) x same ∙ ap (λ n. Some (Some n)) (last ∙ core.kept.started.last_stamp_is)
       ∙ ap Some (sym (told same)))
       (λ other.
-      get-set_other j.subs p (Some j.last_stamp) x other ∙ (core.ready x was).sub
+      inserted-other j.subs p (Some j.last_stamp) x other ∙ (core.ready x was).sub
       ∙ ap Some (sym (ap (λ o. cond (is_some_and o (λ q. q == x)) (Some (last_stamp posix_calls base.last_stamp h)) (last_sub posix_calls base.last_stamp h x)) is
       ∙ ap (λ b. cond b (Some (last_stamp posix_calls base.last_stamp h)) (last_sub posix_calls base.last_stamp h x)) (ne_eqb p x (λ e. other (sym e))))))
     where
@@ -140,7 +137,7 @@ module _ (W : CallLaws) (K : LockLaws) (base : Base) (h : History) (asks : Asks)
   spare-noted (Some p) = refl
 
   pub core-commit : j.last_stamp ≡ last_number → (up : Option ℕ) → up ≡ parent_in forest t → (forest' : Transactions) → HasEnded forest forest' t CommittedState → (table' : LockTable) → AreHandedUp table table' t up
-      → (lists' : Lists Logged) → AreLists lists' (handed (list_in lists) t up) → AreOpen lists' (put (is_open lists) t false) → (j' : Journaled) → j' ≡ with_event (without_ask (noted_up j up) t) (Commit t)
+      → (lists' : Lists Logged) → AreLists lists' (handed (list_in lists) t up) → AreOpen lists' (put (is_open lists) t false) → (j' : Journaled) → j' ≡ with_event (without (noted_up j up) t) (Commit t)
       → IsCoreAt base after (finite.remove asks t) last_txn last_number cells forest' table' lists' j'
   core-commit last up up_is forest' has table' handed_up lists' are opened j' is =
       let parent_is : parent posix_calls h t ≡ up = sym (up_is ∙ core.transactions.parents t) in
@@ -167,7 +164,7 @@ module _ (W : CallLaws) (K : LockLaws) (base : Base) (h : History) (asks : Asks)
             record {
               locks = handed-opened table table' t up handed_up x was.1 ready.locks;
               log = open-other lists lists' t opened x was.1 ready.log;
-              sub = ap (λ (q : Journaled). noted_of q x) is ∙ subs up parent_is last x was.0;
+              sub = ap (λ (q : Journaled). finite.get q.subs x) is ∙ subs up parent_is last x was.0 was.1;
             };
         waiting = λ x some. by_number x t
             (λ same. absurd (none (sym (ap is_some (removed-same asks t x same)) ∙ some)))
@@ -196,10 +193,10 @@ module _ (W : CallLaws) (K : LockLaws) (base : Base) (h : History) (asks : Asks)
       by_parent (Some p) e =
           let about = up-live p (sym e) in
           let ready = core.ready p about.0 in
-          (about.1, ready.locks, ready.log, some (noted_of j p) _ ready.sub)
+          (about.1, ready.locks, ready.log, some (finite.get j.subs p) _ ready.sub)
 
   -- there is a place for the event
-  pub place-commit : (up : Option ℕ) (j' : Journaled) → j' ≡ without_ask (noted_up j up) t → 0 < j'.spare
+  pub place-commit : (up : Option ℕ) (j' : Journaled) → j' ≡ without (noted_up j up) t → 0 < j'.spare
   place-commit up j' is =
       let fewer = events-commit W base h last_txn last_number cells core.log core.kept t may in
       let le = core.spare in

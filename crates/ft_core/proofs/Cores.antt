@@ -1,5 +1,5 @@
 -- A new core, and what is noted of those who wait.
-use Rattle.std.proofs.Common.{◌≡◌, ◌<◌, ◌≤◌, ◌-◌, ◌&&◌, ℕ, true, false, cond, List, [], Option, Some, None, is_some, arith, refl, sym, ap, subst, ◌∙◌, ne_eqb, eq-eqb}
+use Rattle.std.proofs.Common.{◌≡◌, ◌<◌, ◌≤◌, ◌-◌, ◌&&◌, ℕ, true, false, cond, [], Some, None, is_some, arith, refl, sym, ap, subst, ◌∙◌, ne_eqb, eq-eqb}
 use Rattle.std.specs.Prelude.{nat_lt, nat_le, slice_get}
 use Rattle.std.proofs.lemmas.Bool.{false≢true, and_parts, ltb-true, leb-true}
 use Rattle.std.specs.Cmp.{nat_cmp_total, unsigned_tied}
@@ -92,7 +92,7 @@ module _ (base : Base) (h : History) (asks : Asks) (last_txn last_number : ℕ) 
     transactions = core.transactions;
     locks = core.locks;
     logs = core.logs;
-    ready = λ t live. let was = core.ready t live in record { locks = was.locks; log = was.log; sub = ap (λ (m : List (Option ℕ)). slice_get m t) subs ∙ was.sub };
+    ready = λ t live. let was = core.ready t live in record { locks = was.locks; log = was.log; sub = ap (λ m. finite.get m t) subs ∙ was.sub };
     waiting = waiting;
     spare = let le = core.spare in omega arith;
     accounted = core.accounted;

@@ -21,7 +21,7 @@ use Rattle.ft_history.specs.Undoing.{undo_target}
 use Rattle.ft_history.specs.Undoing.Target.{Found}
 use Rattle.ft_core.specs.Handing.{noted_up}
 use Rattle.ft_core.specs.Histories.{Granted, as_happening}
-use Rattle.ft_core.specs.Journals.{Journaled, state_of, with_event, without_ask}
+use Rattle.ft_core.specs.Journals.{Journaled, state_of, with_event, without}
 use Rattle.ft_core.specs.Kept.{IsCoreAt, IsCoreOf}
 use Rattle.ft_core.specs.States.{State, Asks, history, fate_of, has_live_child, after_commit, after_abort, after_undo, count_standing}
 use Rattle.ft_core.specs.Steps.{Rule, IsStep, IsAnswered, refusal_of, fault_if, fault_of_fate, fault_of_target, IsUndone}
@@ -49,15 +49,15 @@ core-ended s s' e asks cells forest table lists j is core =
     subst (λ (q : State). IsCoreOf q cells forest table lists j) (sym is)
     (subst (λ h. IsCoreAt s.base h asks s.last_txn s.last_stamp cells forest table lists j) (sym (told-push s.events e)) core)
 
-pub told-commit : (j j' : Journaled) (t : ℕ) (up : Option ℕ) → j' ≡ with_event (without_ask (noted_up j up) t) (Commit t) → HasTold j j' (Commit t) (finite.remove j.asks t)
+pub told-commit : (j j' : Journaled) (t : ℕ) (up : Option ℕ) → j' ≡ with_event (without (noted_up j up) t) (Commit t) → HasTold j j' (Commit t) (finite.remove j.asks t)
 told-commit j j' t None is = record { events = ap (λ (q : Journaled). q.events) is; asks_are = ap (λ (q : Journaled). q.asks) is; base_tree = ap (λ (q : Journaled). q.base_tree) is; base_stamp = ap (λ (q : Journaled). q.base_stamp) is; last_stamp = ap (λ (q : Journaled). q.last_stamp) is }
 told-commit j j' t (Some p) is = record { events = ap (λ (q : Journaled). q.events) is; asks_are = ap (λ (q : Journaled). q.asks) is; base_tree = ap (λ (q : Journaled). q.base_tree) is; base_stamp = ap (λ (q : Journaled). q.base_stamp) is; last_stamp = ap (λ (q : Journaled). q.last_stamp) is }
 
 pub told-event : (j j' : Journaled) (e : Event) → j' ≡ with_event j e → HasTold j j' e j.asks
 told-event j j' e is = record { events = ap (λ (q : Journaled). q.events) is; asks_are = ap (λ (q : Journaled). q.asks) is; base_tree = ap (λ (q : Journaled). q.base_tree) is; base_stamp = ap (λ (q : Journaled). q.base_stamp) is; last_stamp = ap (λ (q : Journaled). q.last_stamp) is }
 
--- asks went before
-pub told-less : (j₀ j j' : Journaled) (e : Event) (asks : Asks) → j ≡ record j₀ { asks = j.asks } → j.asks ≡ asks → j' ≡ with_event j e → HasTold j₀ j' e asks
+-- asks and marks went before
+pub told-less : (j₀ j j' : Journaled) (e : Event) (asks : Asks) → j ≡ record j₀ { asks = j.asks; subs = j.subs } → j.asks ≡ asks → j' ≡ with_event j e → HasTold j₀ j' e asks
 told-less j₀ j j' e asks less are is = record {
   events = ap (λ (q : Journaled). q.events) is ∙ ap (λ (q : Journaled). q.events ++ e ∷ []) less;
   asks_are = ap (λ (q : Journaled). q.asks) is ∙ are;

@@ -1,6 +1,5 @@
 -- What a granted call does to what a core keeps.
-use Rattle.std.proofs.Common.{◌≡◌, ◌<◌, ◌+◌, ℕ, true, List, [], ◌∷◌, ◌++◌, Option, inl, inr, is_some, length, map, arith, refl, sym, ap, subst, ◌∙◌}
-use Rattle.std.specs.Prelude.{slice_get}
+use Rattle.std.proofs.Common.{◌≡◌, ◌<◌, ◌+◌, ℕ, true, List, [], ◌∷◌, ◌++◌, inl, inr, is_some, length, map, arith, refl, sym, ap, subst, ◌∙◌}
 use Rattle.std.specs.FinMap as finite
 use Rattle.std.specs.FinSet as set
 use Rattle.ft_base.specs.Chains.{Lists, list_in}
@@ -156,7 +155,7 @@ module _ (W : CallLaws) (K : LockLaws) (base : Base) (h : History) (asks : Asks)
       logs = record { logged = logged; placed = placed };
       ready = λ u alive.
           let was = core.ready u alive in
-          record { locks = ap (λ s. set.contains s u) made.granted.opened ∙ was.locks; log = made.open_still u ∙ was.log; sub = ap (λ (m : List (Option ℕ)). slice_get m u) subs ∙ was.sub };
+          record { locks = ap (λ s. set.contains s u) made.granted.opened ∙ was.locks; log = made.open_still u ∙ was.log; sub = ap (λ m. finite.get m u) subs ∙ was.sub };
       waiting = waiting;
       spare = let le = core.spare in let more = count-push (is_owned h) (grants posix_calls h) c in omega arith;
       accounted = subst (IsAccounted (is_locked table') (is_let_go table')) acted (granted-accounted W K cells table table' a t accesses core.kept.sound is_free touched made.granted core.accounted);

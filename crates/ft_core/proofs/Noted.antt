@@ -1,5 +1,5 @@
--- What is noted of transactions when one goes.
-use Rattle.std.proofs.Common.{◌≡◌, ◌≢◌, ℕ, true, false, not, cond, None, ap, ◌∙◌, ne_eqb, eq-eqb}
+-- What is noted of transactions: one comes, or one goes.
+use Rattle.std.proofs.Common.{◌≡◌, ◌≢◌, ℕ, true, false, not, cond, Some, None, ap, ◌∙◌, ne_eqb, eq-eqb}
 use Rattle.std.proofs.lemmas.Bool.{and_from}
 use Rattle.std.specs.Ordering.{nat_cmp, eq_by_cmp}
 use Rattle.std.specs.Cmp.{nat_cmp_total, unsigned_tied}
@@ -13,6 +13,12 @@ use Rattle.ft_undo.specs.Logs.{is_open, AreOpen}
 use Rattle.ft_locks.specs.Locks.{LockTable, is_opened}
 
 module _ {X : Type 0} (m : finite.FinMap nat_cmp X) (n : ℕ) where
+  pub inserted-same : (v : X) (t : ℕ) → t ≡ n → finite.get (finite.insert m n v) t ≡ Some v
+  inserted-same v t is = finite.get-insert nat_cmp_total m n v t ∙ ap (λ b. cond b (Some v) (finite.get m t)) (unsigned_tied t n ∙ eq-eqb t n is)
+
+  pub inserted-other : (v : X) (t : ℕ) → t ≢ n → finite.get (finite.insert m n v) t ≡ finite.get m t
+  inserted-other v t ne = finite.get-insert nat_cmp_total m n v t ∙ ap (λ b. cond b (Some v) (finite.get m t)) (unsigned_tied t n ∙ ne_eqb t n ne)
+
   pub removed-same : (t : ℕ) → t ≡ n → finite.get (finite.remove m n) t ≡ None
   removed-same t is = finite.get-remove nat_cmp_total m n t ∙ ap (λ b. cond b None (finite.get m t)) (unsigned_tied t n ∙ eq-eqb t n is)
 

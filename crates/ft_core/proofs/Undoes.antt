@@ -1,6 +1,7 @@
 -- What an undo comes upon, and what it does to what a core keeps.
 use Rattle.std.proofs.Common.{◌≡◌, ◌<◌, ◌≤◌, ℕ, List, [], ◌∷◌, Option, Some, None, inl, inr, map, arith, refl, sym, ap, subst, ◌∙◌}
 use Rattle.std.specs.Option.{option_map, option_flatten}
+use Rattle.std.specs.FinMap as finite
 use Rattle.ft_base.specs.Chains.{Lists, list_in}
 use Rattle.ft_laws.specs.Lists.{In}
 use Rattle.ft_tree.specs.Cells.{Cells}
@@ -32,7 +33,7 @@ use Rattle.ft_core.specs.Histories.{History, Granted}
 use Rattle.ft_core.specs.States.{Base, Asks}
 use Rattle.ft_core.specs.declared.fault.Fault.TheVariants.{NothingToUndo, SubSince as SubSinceFault}
 use Rattle.ft_core.specs.Steps.{fault_of_target}
-use Rattle.ft_core.specs.Journals.{Journaled, with_event, noted_of, sub_in}
+use Rattle.ft_core.specs.Journals.{Journaled, with_event, sub_in}
 use Rattle.ft_core.specs.Kept.{Item, ArePlaced, TakesBack, AreLogged, IsKept, IsCoreAt}
 use Rattle.ft_core.specs.Laws.{CallLaws, LockLaws}
 use Rattle.ft_core.proofs.Accounts.{reverted-accounted}
@@ -174,7 +175,7 @@ module _ (W : CallLaws) (K : LockLaws) (base : Base) (h : History) (asks : Asks)
                     (λ same. core.logs.placed t f (subst (In f) (sym done.2) (inr (subst (In f) (put_same core.log t es u same) i))))
                     (λ ne. core.logs.placed u f (subst (In f) (put_other core.log t es u ne) i))));
               };
-              ready = λ u now. let was = core.ready u now in record { locks = was.locks; log = opened u ∙ was.log; sub = ap (λ (q : Journaled). noted_of q u) told ∙ was.sub };
+              ready = λ u now. let was = core.ready u now in record { locks = was.locks; log = opened u ∙ was.log; sub = ap (λ (q : Journaled). finite.get q.subs u) told ∙ was.sub };
               waiting = core.waiting;
               spare =
                   let from_list = target_newest posix_calls W.lawful from (values W base h last_txn last_number cells core.log core.kept) h core.kept.core.legal t d live found in

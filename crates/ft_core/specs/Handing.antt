@@ -1,10 +1,11 @@
 -- What a transaction hands to its parent when it commits, and at the top level to nobody. (Moss, Nested Transactions, MIT 1981, commit of a transaction.)
 use Rattle.std.specs.Prelude.{◌≡◌, ◌≢◌, ℕ, true, Option, Some, None, IsSome}
+use Rattle.std.specs.FinMap as finite
 use Rattle.ft_base.specs.Chains.{Lists}
 use Rattle.ft_undo.specs.declared.logs.Logged.{Logged}
 use Rattle.ft_undo.specs.Logs.{is_open}
 use Rattle.ft_locks.specs.Locks.{LockTable, AreInherited, AreReleased, is_opened}
-use Rattle.ft_core.specs.Journals.{Journaled, noted_of, with_sub}
+use Rattle.ft_core.specs.Journals.{Journaled, with_sub}
 
 -- the parent inherits the locks, or they are released
 abbrev pub AreHandedUp : LockTable → LockTable → ℕ → Option ℕ → Type 0
@@ -19,4 +20,4 @@ noted_up j (Some parent) = with_sub j parent
 -- the parent, if there is one, is another, and there is room for what it is given
 abbrev pub MayHandUp : LockTable → Lists Logged → Journaled → ℕ → Option ℕ → Type 0
 MayHandUp table lists j txn None = Unit {0}
-MayHandUp table lists j txn (Some parent) = (txn ≢ parent) × (is_opened table parent ≡ true) × (is_open lists parent ≡ true) × IsSome (noted_of j parent)
+MayHandUp table lists j txn (Some parent) = (txn ≢ parent) × (is_opened table parent ≡ true) × (is_open lists parent ≡ true) × IsSome (finite.get j.subs parent)

@@ -1,6 +1,7 @@
 -- What a journal is seen as: what has happened, and what is noted of the live transactions.
-use Rattle.std.specs.Prelude.{◌≡◌, ◌≢◌, ℕ, ◌+◌, ◌-◌, Bool, ◌||◌, nat_le, List, [], ◌∷◌, ◌++◌, set, slice_get, Option, Some, refl}
+use Rattle.std.specs.Prelude.{ℕ, ◌+◌, ◌-◌, Bool, ◌||◌, nat_le, List, [], ◌∷◌, ◌++◌, Option, Some, refl}
 use Rattle.std.specs.Option.{option_flatten}
+use Rattle.std.specs.Ordering.{nat_cmp}
 use Rattle.std.specs.FinMap as finite
 use Rattle.std.specs.Coded.{Coded, code_by, coded×, coded_ℕ, coded_list, coded_option}
 use Rattle.ft_tree.specs.Plain.{PlainTree}
@@ -18,8 +19,8 @@ use Rattle.ft_core.specs.States.{State, Asks, coded_asks, coded_tree}
 pub record Journaled : Type 0 where
   pub events : List Event
   pub asks : Asks
-  -- at the number of each live transaction the last stamp when a child of it last committed
-  pub subs : List (Option ℕ)
+  -- for each live transaction the last stamp when a child of it last committed
+  pub subs : finite.FinMap nat_cmp (Option ℕ)
   pub base_tree : PlainTree
   pub base_stamp : ℕ
   pub last_stamp : ℕ
@@ -29,26 +30,18 @@ pub record Journaled : Type 0 where
 
 abbrev pub coded_journaled : Coded Journaled
 coded_journaled =
-    code_by (List Event × (Asks × (List (Option ℕ) × ((PlainTree × (ℕ × ℕ)) × (ℕ × ℕ)))))
-    (coded× (coded_list event.the_row.coded) (coded× coded_asks (coded× (coded_list (coded_option coded_ℕ)) (coded× (coded× coded_tree (coded× coded_ℕ coded_ℕ)) (coded× coded_ℕ coded_ℕ)))))
+    code_by (List Event × (Asks × (finite.FinMap nat_cmp (Option ℕ) × ((PlainTree × (ℕ × ℕ)) × (ℕ × ℕ)))))
+    (coded× (coded_list event.the_row.coded) (coded× coded_asks (coded× (finite.code coded_ℕ (coded_option coded_ℕ)) (coded× (coded× coded_tree (coded× coded_ℕ coded_ℕ)) (coded× coded_ℕ coded_ℕ)))))
     (λ j. (j.events, (j.asks, (j.subs, ((j.base_tree, (j.base_stamp, j.last_stamp)), (j.spare, j.room))))))
     (λ p. record { events = p.0; asks = p.1.0; subs = p.1.1.0; base_tree = p.1.1.1.0.0; base_stamp = p.1.1.1.0.1.0; last_stamp = p.1.1.1.0.1.1; spare = p.1.1.1.1.0; room = p.1.1.1.1.1 }) (λ _. refl)
 
 -- no event, and no place for one, from this tree and this stamp on
 abbrev pub no_events : PlainTree → ℕ → Journaled
-no_events tree stamp = record { events = []; asks = finite.empty; subs = []; base_tree = tree; base_stamp = stamp; last_stamp = stamp; spare = 0; room = 0 }
-
--- what is noted of t, where t has a place
-abbrev pub noted_of : Journaled → ℕ → Option (Option ℕ)
-noted_of j t = slice_get j.subs t
+no_events tree stamp = record { events = []; asks = finite.empty; subs = finite.empty; base_tree = tree; base_stamp = stamp; last_stamp = stamp; spare = 0; room = 0 }
 
 -- the last stamp when a child of t last committed
 abbrev pub sub_in : Journaled → ℕ → Option ℕ
-sub_in j t = option_flatten (noted_of j t)
-
--- of each that has a place, but for n, the same is noted as before
-abbrev pub AreStillNoted : List (Option ℕ) → List (Option ℕ) → ℕ → Type 0
-AreStillNoted old new n = (t : ℕ) (sub : Option ℕ) → t ≢ n → slice_get old t ≡ Some sub → slice_get new t ≡ Some sub
+sub_in j t = option_flatten (finite.get j.subs t)
 
 -- a million calls since the base, or the last stamp
 abbrev pub is_full : Journaled → Bool
@@ -72,13 +65,13 @@ with_call j t call reply accesses = record j {
 abbrev pub with_event : Journaled → Event → Journaled
 with_event j e = record j { events = j.events ++ e ∷ []; spare = j.spare - 1 }
 
--- t waits for nothing any more
-abbrev pub without_ask : Journaled → ℕ → Journaled
-without_ask j t = record j { asks = finite.remove j.asks t }
+-- nothing is noted of t any more
+abbrev pub without : Journaled → ℕ → Journaled
+without j t = record j { asks = finite.remove j.asks t; subs = finite.remove j.subs t }
 
 -- a child of t commits
 abbrev pub with_sub : Journaled → ℕ → Journaled
-with_sub j t = record j { subs = set j.subs t (Some j.last_stamp) }
+with_sub j t = record j { subs = finite.insert j.subs t (Some j.last_stamp) }
 
 -- the state of transactions with their journal
 abbrev pub state_of : Transactions → Journaled → State

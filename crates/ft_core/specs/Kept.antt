@@ -29,7 +29,7 @@ use Rattle.ft_history.specs.Logs.{passing}
 use Rattle.ft_history.specs.Undoing.{last_sub}
 use Rattle.ft_core.specs.Histories.{History, Granted}
 use Rattle.ft_core.specs.States.{Base, State, Asks, history}
-use Rattle.ft_core.specs.Journals.{Journaled, noted_of}
+use Rattle.ft_core.specs.Journals.{Journaled}
 
 -- a call that can be taken back, with its inverse
 abbrev pub Item : Type 0
@@ -130,7 +130,7 @@ events_kept first h = length (passing (λ t. is_live (fate posix_calls first h t
 pub record IsReady (base : Base) (h : History) (table : LockTable) (lists : Lists Logged) (j : Journaled) (t : ℕ) : Type 0 where
   pub locks : is_opened table t ≡ true
   pub log : is_open lists t ≡ true
-  pub sub : noted_of j t ≡ Some (last_sub posix_calls base.last_stamp h t)
+  pub sub : finite.get j.subs t ≡ Some (last_sub posix_calls base.last_stamp h t)
 
 -- What a core keeps: its tree, its transactions, its locks and its lists are those of its history, whatever can be taken back has its places, and a place of no use is locked or was let go.
 pub record IsCoreAt (base : Base) (h : History) (asks : Asks) (last_txn last_number : ℕ) (cells : Cells) (forest : Transactions) (table : LockTable) (lists : Lists Logged) (j : Journaled) : Type 0 where

@@ -42,7 +42,7 @@ impl Core {
             txn,
             parent,
         );
-        self.journal.drop_ask(txn);
+        self.journal.forget(txn);
         self.journal.tell(Event::Commit { txn });
         self.give_places_back();
         Ok(())
@@ -79,7 +79,7 @@ impl Core {
             count += take_list(&mut self.tree, &mut self.logs, next);
             self.logs.close(next.0);
             self.locks.release(next);
-            self.journal.drop_ask(next);
+            self.journal.forget(next);
             last = next;
         }
         self.journal.tell(Event::Abort { txn });

@@ -1,15 +1,15 @@
 // The journal: what has happened, and what is noted of the live transactions.
-ghost use Rattle.std.specs.Prelude.{◌≡◌, ◌<◌, ◌≤◌, ◌+◌, slice_get, IsSome, Some, None, OnOk, OnErr, false};
+ghost use Rattle.std.specs.Prelude.{◌≡◌, ◌<◌, ◌≤◌, ◌+◌, IsSome, Some, None, OnOk, OnErr, false};
 ghost use Rattle.std.specs.FinMap as finite;
 ghost use Rattle.std.specs.Option.{option_copied};
 ghost use Rattle.ft_tree.specs.Tidy.{tidy};
 ghost use Rattle.ft_calls.specs.declared.call.Call.{Call as CallOf};
 ghost use Rattle.ft_forest.specs.declared.TheConstants.{LAST_NUMBER as last_number};
-ghost use Rattle.ft_core.specs.Journals.{no_events, noted_of, sub_in, AreStillNoted, is_full, with_begin, with_call, with_event, without_ask, with_sub, with_none_kept};
+ghost use Rattle.ft_core.specs.Journals.{no_events, sub_in, is_full, with_begin, with_call, with_event, without, with_sub, with_none_kept};
 
 use crate::request::Event;
 use crate::{LAST_NUMBER, MOST_CALLS};
-use ft_base::{Memory, Sequence, Table};
+use ft_base::{DenseTable, Memory, Sequence, Table};
 use ft_calls::{Access, Call, Reply};
 use ft_forest::TxnId;
 use ft_tree::Tree;
@@ -22,8 +22,7 @@ pub(crate) struct Journal {
     // How many places are kept for the ends of transactions and for undos.
     spare: usize,
     asks: Table<Call>,
-    // At the number of a live transaction the last stamp when a child of it last committed.
-    subs: Vec<Option<u64>>,
+    subs: DenseTable<Option<u64>>,
     // The tree of the base, of which nothing is kept: a snapshot has no bytes.
     base: Snapshot<Tree>,
     base_stamp: u64,
@@ -54,7 +53,7 @@ impl Model for Journal {
 
     ghost coded = { coded_journaled };
 
-    ghost view = { λ a. record { events = a.events.items; asks = a.asks; subs = a.subs.items; base_tree = tidy a.base.value; base_stamp = a.base_stamp; last_stamp = a.last_stamp; spare = a.spare; room = vec_capacity a.events - (vec_len a.events + a.spare) } };
+    ghost view = { λ a. record { events = a.events.items; asks = a.asks; subs = a.subs; base_tree = tidy a.base.value; base_stamp = a.base_stamp; last_stamp = a.last_stamp; spare = a.spare; room = vec_capacity a.events - (vec_len a.events + a.spare) } };
 
     ghost invariant = { λ a. (vec_len a.events + a.spare ≤ vec_capacity a.events) × (a.base_stamp ≤ a.last_stamp) × (a.last_stamp ≤ last_number) };
 }
@@ -69,7 +68,7 @@ impl Journal {
             events: Vec::new(alloc),
             spare: 0,
             asks: Table::new(alloc),
-            subs: Vec::new(alloc),
+            subs: DenseTable::new(alloc),
             base,
             base_stamp: stamp,
             last_stamp: stamp,
@@ -100,7 +99,7 @@ impl Journal {
     pub(crate) fn last_sub(&self, txn: TxnId) -> Option<u64>
         ensures { result ≡ sub_in self.now txn }
     {
-        self.subs.get(txn.0 as usize).copied().flatten()
+        self.subs.get(txn.0).flatten()
     }
 
     /// The last stamp given; where no call was granted yet, the base's last one.
@@ -131,14 +130,12 @@ impl Journal {
         Ok(())
     }
 
-    /// Makes the place of what is noted of a transaction that is to begin. Takes the time of a push, as transactions are
-    /// numbered one after the other.
+    /// Makes the place of what is noted of a transaction that is to begin.
     pub(crate) fn open(&mut self, txn: u64) -> Result<(), Memory>
-        ensures same { self.new ≡ record self.old { subs = self.new.subs } }
-        ensures others { AreStillNoted self.old.subs self.new.subs txn }
-        ensures noted { OnOk result (noted_of self.new txn ≡ Some None) }
+        ensures ok { OnOk result (self.new ≡ record self.old { subs = finite.insert self.old.subs txn None }) }
+        ensures err { OnErr result (self.new ≡ self.old) }
     {
-        make_place(&mut self.subs, txn as usize)
+        self.subs.insert(txn, None)
     }
 
     /// Tells that a transaction has begun.
@@ -201,9 +198,9 @@ impl Journal {
         Ok(())
     }
 
-    /// Forgets the call that a transaction waits for, if there is one.
+    /// Forgets the call that a transaction waits for.
     pub(crate) fn drop_ask(&mut self, txn: TxnId)
-        ensures { self.new ≡ without_ask self.old txn }
+        ensures { self.new ≡ record self.old { asks = finite.remove self.old.asks txn } }
     {
         let _ = self.asks.remove(txn.0);
     }
@@ -217,12 +214,20 @@ impl Journal {
         self.spare -= 1;
     }
 
+    /// Forgets what is noted of a transaction.
+    pub(crate) fn forget(&mut self, txn: TxnId)
+        ensures { self.new ≡ without self.old txn }
+    {
+        let _ = self.asks.remove(txn.0);
+        self.subs.remove(txn.0);
+    }
+
     /// Notes that a child of a live transaction commits.
     pub(crate) fn note_sub(&mut self, txn: TxnId)
-        requires { IsSome (noted_of self.old txn) }
+        requires { IsSome (finite.get self.old.subs txn) }
         ensures { self.new ≡ with_sub self.old txn }
     {
-        self.subs[txn.0 as usize] = Some(self.last_stamp);
+        self.subs.set(txn.0, Some(self.last_stamp));
     }
 
     /// Gives the places back that were kept: nothing can end or be undone any more.
@@ -231,16 +236,4 @@ impl Journal {
     {
         self.spare = 0;
     }
-}
-
-/// Makes the place at a number, with nothing noted there. What is noted at others stays.
-fn make_place(subs: &mut Vec<Option<u64>>, place: usize) -> Result<(), Memory>
-    ensures others { AreStillNoted subs.old.items subs.new.items place }
-    ensures noted { OnOk result (slice_get subs.new.items place ≡ Some None) }
-{
-    while subs.len() <= place {
-        subs.push(None)?;
-    }
-    subs[place] = None;
-    Ok(())
 }

@@ -9,9 +9,9 @@ use Rattle.ft_base.proofs.chains.Chains.close.Goals as goal
 pub invariant_of-self : goal.invariant_of-self
 invariant_of-self g c =
     let made = closed c.self.inside.nodes c.self.inside.ends c.self.invariant c.args.owner (ap (λ m. list_in m c.args.owner) c.self.view_is ∙ c.requires) in
-    (subst (λ e. Made c.self.inside.nodes e (finite.remove (lists_of c.self.inside.nodes c.self.inside.ends) c.args.owner)) (sym c.remove.ensures.after) made).sound
+    (subst (λ e. Made c.self.inside.nodes e (finite.remove (lists_of c.self.inside.nodes c.self.inside.ends) c.args.owner)) (sym c.remove.ensures) made).sound
 
 pub returns : goal.returns
 returns g c =
     let made = closed c.self.inside.nodes c.self.inside.ends c.self.invariant c.args.owner (ap (λ m. list_in m c.args.owner) c.self.view_is ∙ c.requires) in
-    (subst (λ e. Made c.self.inside.nodes e (finite.remove (lists_of c.self.inside.nodes c.self.inside.ends) c.args.owner)) (sym c.remove.ensures.after) made).is ∙ ap (λ m. finite.remove m c.args.owner) c.self.view_is
+    (subst (λ e. Made c.self.inside.nodes e (finite.remove (lists_of c.self.inside.nodes c.self.inside.ends) c.args.owner)) (sym c.remove.ensures) made).is ∙ ap (λ m. finite.remove m c.args.owner) c.self.view_is

@@ -1,11 +1,12 @@
-use Rattle.std.proofs.Common.{◌∙◌, sym, Some, None}
+use Rattle.std.proofs.Common.{◌∙◌, sym, ap, refl}
+use Rattle.std.specs.Option.{option_flatten}
+use Rattle.std.specs.FinMap as finite
+use Rattle.ft_base.specs.Linked.{first_of}
+use Rattle.ft_base.proofs.ChainCalls.{flat-or}
 use Rattle.ft_base.proofs.ChainWalks.{walk-list}
-use Rattle.ft_base.proofs.chains.Chains.values.Goals.{in-Some, in-None}
 use Rattle.ft_base.proofs.chains.Chains.values.Goals as goal
 
 pub returns : goal.returns
 returns g c =
-    elim c.match-get.branch [
-      | in-Some w ↦ walk-list c.self.inside.nodes c.self.inside.ends c.self.invariant c.args.self.now c.self.view_is c.args.owner (Some w.in-Some.ends.now) (sym w.in-Some.ensures) c.match-get.at (w.at-is ∙ w.first_key-at.ensures)
-      | in-None w ↦ walk-list c.self.inside.nodes c.self.inside.ends c.self.invariant c.args.self.now c.self.view_is c.args.owner None (sym w.in-None.ensures) c.match-get.at w.at-is
-    ]
+    walk-list c.self.inside.nodes c.self.inside.ends c.self.invariant c.args.self.now c.self.view_is c.args.owner (finite.get c.self.inside.ends c.args.owner) refl c.first_key.result
+    (c.first_key.ensures ∙ ap first_of (c.flatten.ensures ∙ ap option_flatten c.get.ensures ∙ flat-or (finite.get c.self.inside.ends c.args.owner)))

@@ -70,11 +70,11 @@ loop-next-preserved c =
     record {
       way = λ W K core live.
           let way = c.loop-next.invariant.way W K core live in
-          subst (λ n. IsOnWay W K s.base (history s) s.asks s.last_txn s.last_stamp i.tree i.forest i.locks i.logs i.journal core c.args.txn live (c.loop-next.count + n) c.take_list-count.new.tree c.abort_next.new.self c.release.new.self c.close.new.self c.drop_ask.new.self) (sym c.take_list-count.ensures.count)
+          subst (λ n. IsOnWay W K s.base (history s) s.asks s.last_txn s.last_stamp i.tree i.forest i.locks i.logs i.journal core c.args.txn live (c.loop-next.count + n) c.take_list-count.new.tree c.abort_next.new.self c.release.new.self c.close.new.self c.forget.new.self) (sym c.take_list-count.ensures.count)
           (go-on W K s.base (history s) s.asks s.last_txn s.last_stamp i.tree i.forest i.locks i.logs i.journal core c.args.txn live c.loop-next.count c.loop-next.self-inside.tree c.loop-next.self-inside.forest c.loop-next.self-inside.locks c.loop-next.self-inside.logs c.loop-next.self-inside.journal way c.in-Some.next c.in-Some.ensures.next.below c.in-Some.ensures.next.live c.in-Some.ensures.lowest
           c.take_list-count.new.tree c.take_list-count.ensures.cells c.abort_next.new.self c.in-Some.ensures.aborted (c.in-Some.ensures.way i.forest way.forest_is) c.release.new.self c.release.ensures
           c.close.new.self (lists-closed c.loop-next.self-inside.logs c.take_list-count.new.logs c.close.new.self c.in-Some.next c.take_list-count.ensures.lists (subst (λ (n : ℕ). AreLists c.close.new.self (handed (list_in c.take_list-count.new.logs) n None)) c.next.view_is c.close.ensures.lists))
-          (open-closed c.loop-next.self-inside.logs c.take_list-count.new.logs c.close.new.self c.in-Some.next c.take_list-count.ensures.opened (subst (λ (n : ℕ). AreOpen c.close.new.self (put (is_open c.take_list-count.new.logs) n false)) c.next.view_is c.close.ensures.opened)) c.drop_ask.new.self c.drop_ask.ensures);
+          (open-closed c.loop-next.self-inside.logs c.take_list-count.new.logs c.close.new.self c.in-Some.next c.take_list-count.ensures.opened (subst (λ (n : ℕ). AreOpen c.close.new.self (put (is_open c.take_list-count.new.logs) n false)) c.next.view_is c.close.ensures.opened)) c.forget.new.self c.forget.ensures);
       last = c.in-Some.ensures.last;
     }
 

@@ -6,7 +6,7 @@ use Rattle.ft_history.specs.History.{live_children}
 use Rattle.ft_history.specs.History.Fate.{Live}
 use Rattle.ft_core.specs.declared.request.Event.TheVariants.{Commit as CommitEvent}
 use Rattle.ft_core.specs.Handing.{noted_up}
-use Rattle.ft_core.specs.Journals.{Journaled, state_of, with_event, without_ask}
+use Rattle.ft_core.specs.Journals.{Journaled, state_of, with_event, without}
 use Rattle.ft_core.specs.States.{State, history, fate_of, has_live_child, after_commit}
 use Rattle.ft_core.specs.Steps.{exact_rule}
 use Rattle.ft_core.proofs.Children.{no-child, some-child}
@@ -36,8 +36,8 @@ tell-requires c =
     let s : State = state_of i.forest i.journal in
     let live : fate_of s c.args.txn ≡ Some Live = ap (λ (q : State). fate_of q c.args.txn) c.self.view_is ∙ c.in_ok-check_live.ensures.live in
     let none : (x : ℕ) → IsLiveChild i.forest c.args.txn x → ⊥ = c.live_children.ensures.none (omega arith) in
-    place-commit c.call_laws.ensures c.lock_laws.ensures s.base (history s) s.asks s.last_txn s.last_stamp i.tree i.forest i.locks i.logs i.journal c.self.invariant c.args.txn live none c.parent-parent.result c.drop_ask.new.self
-    (c.drop_ask.ensures ∙ ap (λ (q : Journaled). without_ask q c.args.txn) c.hand_up.ensures.noted)
+    place-commit c.call_laws.ensures c.lock_laws.ensures s.base (history s) s.asks s.last_txn s.last_stamp i.tree i.forest i.locks i.logs i.journal c.self.invariant c.args.txn live none c.parent-parent.result c.forget.new.self
+    (c.forget.ensures ∙ ap (λ (q : Journaled). without q c.args.txn) c.hand_up.ensures.noted)
 
 pub invariant_of-self-2 : goal.invariant_of-self-2
 invariant_of-self-2 c =
@@ -45,8 +45,8 @@ invariant_of-self-2 c =
     let s : State = state_of i.forest i.journal in
     let live : fate_of s c.args.txn ≡ Some Live = ap (λ (q : State). fate_of q c.args.txn) c.self.view_is ∙ c.in_ok-check_live.ensures.live in
     let none : (x : ℕ) → IsLiveChild i.forest c.args.txn x → ⊥ = c.live_children.ensures.none (omega arith) in
-    let told : c.tell.new.self ≡ with_event (without_ask (noted_up i.journal c.parent-parent.result) c.args.txn) (CommitEvent c.args.txn) =
-    c.tell.ensures ∙ ap (λ (q : Journaled). with_event q (CommitEvent c.args.txn)) (c.drop_ask.ensures ∙ ap (λ (q : Journaled). without_ask q c.args.txn) c.hand_up.ensures.noted) in
+    let told : c.tell.new.self ≡ with_event (without (noted_up i.journal c.parent-parent.result) c.args.txn) (CommitEvent c.args.txn) =
+    c.tell.ensures ∙ ap (λ (q : Journaled). with_event q (CommitEvent c.args.txn)) (c.forget.ensures ∙ ap (λ (q : Journaled). without q c.args.txn) c.hand_up.ensures.noted) in
     core-ended s (state_of c.commit.new.self c.tell.new.self) (CommitEvent c.args.txn) (finite.remove i.journal.asks c.args.txn) i.tree c.commit.new.self c.hand_up.new.locks c.hand_up.new.logs c.tell.new.self
     (state-ended i.forest c.commit.new.self i.journal c.tell.new.self (CommitEvent c.args.txn) (finite.remove i.journal.asks c.args.txn) c.in_ok-commit.ensures.committed.base c.in_ok-commit.ensures.committed.last
     (told-commit i.journal c.tell.new.self c.args.txn c.parent-parent.result told))
@@ -59,8 +59,8 @@ returns c =
     let s : State = state_of i.forest i.journal in
     let childless = no-child c.call_laws.ensures s.base (history s) s.asks s.last_txn s.last_stamp i.tree i.forest i.locks i.logs i.journal c.self.invariant c.args.txn (c.live_children.ensures.none (omega arith)) in
     let none : has_live_child s c.args.txn ≡ false = longer-none (live_children posix_calls i.forest.base (history s) c.args.txn) childless in
-    let told : c.tell.new.self ≡ with_event (without_ask (noted_up i.journal c.parent-parent.result) c.args.txn) (CommitEvent c.args.txn) =
-    c.tell.ensures ∙ ap (λ (q : Journaled). with_event q (CommitEvent c.args.txn)) (c.drop_ask.ensures ∙ ap (λ (q : Journaled). without_ask q c.args.txn) c.hand_up.ensures.noted) in
+    let told : c.tell.new.self ≡ with_event (without (noted_up i.journal c.parent-parent.result) c.args.txn) (CommitEvent c.args.txn) =
+    c.tell.ensures ∙ ap (λ (q : Journaled). with_event q (CommitEvent c.args.txn)) (c.forget.ensures ∙ ap (λ (q : Journaled). without q c.args.txn) c.hand_up.ensures.noted) in
     let state = state-ended i.forest c.commit.new.self i.journal c.tell.new.self (CommitEvent c.args.txn) (finite.remove i.journal.asks c.args.txn) c.in_ok-commit.ensures.committed.base c.in_ok-commit.ensures.committed.last
     (told-commit i.journal c.tell.new.self c.args.txn c.parent-parent.result told) in
     step-commit exact_rule c.args.self.now c.give_places_back.new.self c.args.txn c.in_ok-check_live.ensures.live (ap (λ (q : State). has_live_child q c.args.txn) (sym c.self.view_is) ∙ none)

@@ -1,4 +1,4 @@
-use Rattle.std.proofs.Common.{◌+◌, Some, None, refl, sym, ap, subst, ◌∙◌}
+use Rattle.std.proofs.Common.{◌+◌, Some, None, sym, ap, subst, ◌∙◌}
 use Rattle.ft_forest.specs.Transactions.{last_in}
 use Rattle.ft_forest.specs.Refusals.{sub_refusal}
 use Rattle.ft_core.specs.declared.fault.Fault.TheVariants.{Memory as MemoryFault}
@@ -8,25 +8,10 @@ use Rattle.ft_core.specs.Journals.{state_of, with_begin}
 use Rattle.ft_core.specs.Kept.{IsCoreOf}
 use Rattle.ft_core.specs.Opens.{AreAsBefore, IsOpenFor}
 use Rattle.ft_core.specs.Steps.{refusal_of, begin_request}
-use Rattle.ft_core.proofs.Begins.{core-placed, core-started}
+use Rattle.ft_core.proofs.Begins.{core-started}
 use Rattle.ft_core.proofs.Refusing.{sub-same, only-memory, err-is}
 use Rattle.ft_core.proofs.manager.Core.start.Goals as goal
 use Rattle.ft_core.proofs.manager.Core.start.Goals.{in-Some+in_ok-txn-in-Some, in-None+in_ok-txn-in-None}
-
-pub invariant_of-self : goal.invariant_of-self
-invariant_of-self c =
-    let same = subst (AreAsBefore c.self.inside.journal c.open.new.journal c.self.inside.locks c.open.new.locks c.self.inside.logs c.open.new.logs) (ap (λ k. k + 1) c.last-next.ensures) c.open.ensures.same in
-    core-placed c.call_laws.ensures c.lock_laws.ensures _ _ _ _ _ _ _ _ _ c.self.invariant same refl
-
-pub invariant_of-self-in_err-txn-in-Some : goal.invariant_of-self-in_err-txn-in-Some
-invariant_of-self-in_err-txn-in-Some c =
-    let same = subst (AreAsBefore c.self.inside.journal c.open.new.journal c.self.inside.locks c.open.new.locks c.self.inside.logs c.open.new.logs) (ap (λ k. k + 1) c.last-next.ensures) c.open.ensures.same in
-    core-placed c.call_laws.ensures c.lock_laws.ensures _ _ _ _ _ _ _ _ _ c.self.invariant same c.in_err-txn-in-Some.ensures.same
-
-pub invariant_of-self-in_err-txn-in-None : goal.invariant_of-self-in_err-txn-in-None
-invariant_of-self-in_err-txn-in-None c =
-    let same = subst (AreAsBefore c.self.inside.journal c.open.new.journal c.self.inside.locks c.open.new.locks c.self.inside.logs c.open.new.logs) (ap (λ k. k + 1) c.last-next.ensures) c.open.ensures.same in
-    core-placed c.call_laws.ensures c.lock_laws.ensures _ _ _ _ _ _ _ _ _ c.self.invariant same c.in_err-txn-in-None.ensures.same
 
 pub invariant_of-self-2 : goal.invariant_of-self-2
 invariant_of-self-2 c =

@@ -1,0 +1,14 @@
+-- A map from numbers whose values stand in a list, each at its number.
+use Rattle.std.specs.Prelude.{ℕ, suc, List, [], ◌∷◌, Option, Some, None}
+use Rattle.std.specs.Ordering.{nat_cmp}
+use Rattle.std.specs.FinMap as finite
+
+module _ {V : Type 0} where
+  -- the values of the places, from this number on, with their numbers
+  abbrev pub numbered : ℕ → List (Option V) → List (ℕ × V)
+  numbered k [] = []
+  numbered k (None ∷ places) = numbered (suc k) places
+  numbered k (Some value ∷ places) = (k, value) ∷ numbered (suc k) places
+
+  abbrev pub dense : List (Option V) → finite.FinMap nat_cmp V
+  dense places = finite.from_entries (numbered 0 places)
