@@ -1,10 +1,10 @@
 -- Places that are made for a grant, taken back, or given its locks.
-use Rattle.std.proofs.Common.{◌≡◌, ◌⊎◌, inl, inr, ◌<◌, ◌+◌, ◌-◌, ℕ, suc, Bool, true, false, cond, ◌&&◌, ◌||◌, ◌==◌, List, [], ◌∷◌, take, drop, length, get_or, Option, Some, None, is_some, refl, sym, ap, ◌∙◌, arith, add-one}
+use Rattle.std.proofs.Common.{◌≡◌, ◌⊎◌, inl, inr, ◌<◌, ◌+◌, ◌-◌, ℕ, suc, Bool, true, false, cond, ◌&&◌, ◌||◌, ◌==◌, List, [], ◌∷◌, take, length, get_or, Option, Some, None, is_some, refl, sym, ap, ◌∙◌, arith, add-one}
 use Rattle.std.proofs.lemmas.Bool.{false≢true, eqb-true}
 use Rattle.std.specs.List.{list_any}
 use Rattle.std.proofs.lemmas.List.{take_more}
 use Rattle.std.proofs.lemmas.List.Folds.{list_any-append}
-use Rattle.std.specs.Option.{option_map, IfSome, IfNone, OnSome}
+use Rattle.std.specs.Option.{option_map, IfSome, IfNone}
 use Rattle.std.specs.FinMap as finite
 use Rattle.ft_base.specs.Chains.{list_in}
 use Rattle.ft_tree.specs.declared.cell.Cell.{Cell}
@@ -19,7 +19,7 @@ use Rattle.ft_locks.specs.declared.marks.Marks.{Marks}
 use Rattle.ft_locks.specs.declared.holdings.Dropped.{Dropped}
 use Rattle.ft_locks.specs.Marks.{held_in, with_marks, has_mark}
 use Rattle.ft_locks.specs.Cells.{Cells, marks_at, is_at}
-use Rattle.ft_locks.specs.Holdings.{Held as Places, has_place, AreOpenStill, after_back, is_given}
+use Rattle.ft_locks.specs.Holdings.{Held as Places, has_place, AreOpenStill, after_back, is_given, IsDropped}
 use Rattle.ft_locks.specs.Locks.{is_held, same_mode, is_accessed, has_access}
 use Rattle.ft_locks.specs.Seen.{has_mark_of, has_line}
 use Rattle.ft_locks.proofs.CellViews.{turned_cell}
@@ -35,17 +35,16 @@ back_bools false false t x = refl
 -- one place less to take back
 pub back_step : (old new : Places) (owner count : ℕ) (r : Option Dropped) → 0 < count
     → IfNone r (((c : Cell) → marks_at old.cells c owner ≡ None) × (new ≡ old))
-    → IfSome r (λ d. list_in old.lists owner ≡ d.cell ∷ list_in new.lists owner)
-    → IfSome r (λ d. (c : Cell) (u : ℕ) → marks_at new.cells c u ≡ cond (is_at d.cell owner c u) None (marks_at old.cells c u))
+    → IfSome r (λ d. IsDropped old new owner d.freed)
     → (c : Cell) (u : ℕ) → after_back (count - 1) owner new.cells new.lists c u ≡ after_back count owner old.cells old.lists c u
-back_step old new owner count (Some d) some none list marks c u =
+back_step old new owner count (Some d) some none dropped c u =
     let next : count ≡ suc (count - 1) = omega (arith, some) in
     let rest = take (count - 1) (list_in new.lists owner) in
-    ap (cond ((u == owner) && list_any (same_cell c) rest) None) (marks c u)
-    ∙ back_bools (u == owner) (same_cell c d.cell) (list_any (same_cell c) rest) (marks_at old.cells c u)
+    ap (cond ((u == owner) && list_any (same_cell c) rest) None) (dropped.marks c u)
+    ∙ back_bools (u == owner) (same_cell c dropped.cell) (list_any (same_cell c) rest) (marks_at old.cells c u)
     ∙ sym (ap (λ n. cond ((u == owner) && list_any (same_cell c) (take n (list_in old.lists owner))) None (marks_at old.cells c u)) next
-    ∙ ap (λ l. cond ((u == owner) && list_any (same_cell c) (take (suc (count - 1)) l)) None (marks_at old.cells c u)) list)
-back_step old new owner count None some none list marks c u =
+    ∙ ap (λ l. cond ((u == owner) && list_any (same_cell c) (take (suc (count - 1)) l)) None (marks_at old.cells c u)) dropped.list)
+back_step old new owner count None some none dropped c u =
     ap (λ (h : Places). after_back (count - 1) owner h.cells h.lists c u) none.1
     ∙ nothing (list_any (same_cell c) (take (count - 1) (list_in old.lists owner)))
     ∙ sym (nothing (list_any (same_cell c) (take count (list_in old.lists owner))))
@@ -60,11 +59,10 @@ back_step old new owner count None some none list marks c u =
 
 pub back_still : (old new : Places) (owner : ℕ) (r : Option Dropped)
     → IfNone r (((c : Cell) → marks_at old.cells c owner ≡ None) × (new ≡ old))
-    → IfSome r (λ d. list_in old.lists owner ≡ d.cell ∷ list_in new.lists owner)
-    → OnSome r (new.lists ≡ finite.insert old.lists owner (drop 1 (list_in old.lists owner))) → AreOpenStill old.lists new.lists
-back_still old new owner (Some d) none list lists u =
-    ap (λ m. is_some (finite.get m u)) lists ∙ still-insert old.lists owner (drop 1 (list_in old.lists owner)) (open_if_listed old.lists owner d.cell (list_in new.lists owner) list) u
-back_still old new owner None none list lists u = ap (λ (h : Places). is_some (finite.get h.lists u)) none.1
+    → IfSome r (λ d. IsDropped old new owner d.freed) → AreOpenStill old.lists new.lists
+back_still old new owner (Some d) none dropped u =
+    ap (λ m. is_some (finite.get m u)) dropped.lists ∙ still-insert old.lists owner (list_in new.lists owner) (open_if_listed old.lists owner dropped.cell (list_in new.lists owner) dropped.list) u
+back_still old new owner None none dropped u = ap (λ (h : Places). is_some (finite.get h.lists u)) none.1
 
 add_bools : (a s t : Bool) (x y : Option Marks) → (a ≡ true → s ≡ true → x ≡ None) → cond (a && (s || t)) None (cond (s && a) y x) ≡ cond (a && t) None x
 add_bools true true true x y absent = refl

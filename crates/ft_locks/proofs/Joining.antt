@@ -1,8 +1,8 @@
 -- The lists of the owners' cells, as places come and go.
-use Rattle.std.proofs.Common.{◌≡◌, ℕ, Bool, true, false, cond, not, ◌&&◌, ◌||◌, ◌==◌, List, [], ◌∷◌, drop, Option, Some, None, IsSome, is_some, Result, Ok, Err, unwrap_or, refl, sym, ap, subst, ◌∙◌}
+use Rattle.std.proofs.Common.{◌≡◌, ℕ, Bool, true, false, cond, not, ◌&&◌, ◌||◌, ◌==◌, List, [], ◌∷◌, drop, Option, Some, None, is_some, Result, Ok, Err, unwrap_or, refl, sym, ap, subst, ◌∙◌}
 use Rattle.std.proofs.lemmas.Bool.{false≢true, eqb-true, eq-eqb}
 use Rattle.std.specs.List.{list_any, slice_get}
-use Rattle.std.specs.Option.{option_map, OnSome, IfNone}
+use Rattle.std.specs.Option.{option_map}
 use Rattle.std.specs.Result.{OnOk, OnErr, is_err}
 use Rattle.std.specs.Ordering.{nat_cmp, eq_by_cmp}
 use Rattle.std.specs.Cmp.{nat_cmp_total, eq_by_cmp_equiv, unsigned_tied}
@@ -15,26 +15,26 @@ use Rattle.ft_locks.specs.declared.marks.Marks.{Marks}
 use Rattle.ft_locks.specs.Cells.{Cells, marks_at, is_at, joined_marks, passed_to, after_hand}
 use Rattle.ft_locks.specs.Holdings.{AreSingle, has_place, IsJoined, AreOpenStill, popped, popped_of}
 
-read_put : (b : Bool) (l : List Cell) (x : Option (List Cell)) → unwrap_or (cond b (Some l) x) [] ≡ cond b l (unwrap_or x [])
+read_put : {T : Type 0} (b : Bool) (l : List T) (x : Option (List T)) → unwrap_or (cond b (Some l) x) [] ≡ cond b l (unwrap_or x [])
 read_put true l x = refl
 read_put false l x = refl
 
-read_out : (b : Bool) (x : Option (List Cell)) → unwrap_or (cond b None x) [] ≡ cond b [] (unwrap_or x [])
+read_out : {T : Type 0} (b : Bool) (x : Option (List T)) → unwrap_or (cond b None x) [] ≡ cond b [] (unwrap_or x [])
 read_out true x = refl
 read_out false x = refl
 
-pub list-insert : (m : Lists Cell) (owner : ℕ) (l : List Cell) (u : ℕ) → list_in (finite.insert m owner l) u ≡ cond (u == owner) l (list_in m u)
+pub list-insert : {T : Type 0} (m : Lists T) (owner : ℕ) (l : List T) (u : ℕ) → list_in (finite.insert m owner l) u ≡ cond (u == owner) l (list_in m u)
 list-insert m owner l u =
     ap (λ o. unwrap_or o []) (finite.get-insert nat_cmp_total m owner l u) ∙ read_put (eq_by_cmp nat_cmp u owner) l (finite.get m u)
     ∙ ap (λ b. cond b l (list_in m u)) (unsigned_tied u owner)
 
-pub list-remove : (m : Lists Cell) (owner u : ℕ) → list_in (finite.remove m owner) u ≡ cond (u == owner) [] (list_in m u)
+pub list-remove : {T : Type 0} (m : Lists T) (owner u : ℕ) → list_in (finite.remove m owner) u ≡ cond (u == owner) [] (list_in m u)
 list-remove m owner u =
     ap (λ o. unwrap_or o []) (finite.get-remove nat_cmp_total m owner u) ∙ read_out (eq_by_cmp nat_cmp u owner) (finite.get m u)
     ∙ ap (λ b. cond b [] (list_in m u)) (unsigned_tied u owner)
 
 -- the list of an owner, put again
-pub list_again : (m : Lists Cell) (owner : ℕ) (l : List Cell) → l ≡ list_in m owner → (u : ℕ) → cond (u == owner) l (list_in m u) ≡ list_in m u
+pub list_again : {T : Type 0} (m : Lists T) (owner : ℕ) (l : List T) → l ≡ list_in m owner → (u : ℕ) → cond (u == owner) l (list_in m u) ≡ list_in m u
 list_again m owner l same u = by_test (u == owner) refl
   where
     by_test : (b : Bool) → (u == owner) ≡ b → cond (u == owner) l (list_in m u) ≡ list_in m u
@@ -126,22 +126,11 @@ placed-marked true f None = refl
 placed-marked true f (Some x) = refl
 placed-marked false f o = refl
 
--- the newest that is taken out
-pub popped-first : (old new : Lists Cell) (owner : ℕ) (r : Option Cell) → r ≡ slice_get (list_in old owner) 0
-    → OnSome r (new ≡ finite.insert old owner (drop 1 (list_in old owner))) → IfNone r (new ≡ old) → new ≡ popped old owner
-popped-first old new owner r first some none = by_list (list_in old owner) r first some none
-  where
-    by_list : (l : List Cell) (r : Option Cell) → r ≡ slice_get l 0 → OnSome r (new ≡ finite.insert old owner (drop 1 l)) → IfNone r (new ≡ old) → new ≡ popped_of old owner l
-    by_list [] None first some none = none
-    by_list [] (Some x) first some none = absurd (false≢true (sym (ap is_some first)))
-    by_list (c ∷ more) None first some none = absurd (false≢true (ap is_some first))
-    by_list (c ∷ more) (Some x) first some none = some
-
-pub first_is : (l : List Cell) (k : Cell) → Some k ≡ slice_get l 0 → l ≡ k ∷ drop 1 l
+pub first_is : {T : Type 0} (l : List T) (k : T) → Some k ≡ slice_get l 0 → l ≡ k ∷ drop 1 l
 first_is [] k e = absurd (false≢true (sym (ap is_some e)))
 first_is (c ∷ more) k e = ap (λ x. x ∷ more) (sym (ap (λ o. unwrap_or o c) e))
 
-pub none_first : (l : List Cell) → None ≡ slice_get l 0 → l ≡ []
+pub none_first : {T : Type 0} (l : List T) → None ≡ slice_get l 0 → l ≡ []
 none_first [] e = refl
 none_first (c ∷ more) e = absurd (false≢true (ap is_some e))
 
@@ -160,13 +149,13 @@ apart_test a b apart = by_test (a == b) refl
     by_test true e = absurd (apart (eqb-true a b e))
     by_test false e = e
 
-pub popped_is : (m : Lists Cell) (owner : ℕ) (k : Cell) (rest : List Cell) → list_in m owner ≡ k ∷ rest → popped m owner ≡ finite.insert m owner rest
+pub popped_is : {T : Type 0} (m : Lists T) (owner : ℕ) (k : T) (rest : List T) → list_in m owner ≡ k ∷ rest → popped m owner ≡ finite.insert m owner rest
 popped_is m owner k rest first = ap (popped_of m owner) first
 
-pub moved_is : (m : Lists Cell) (from to : ℕ) (k : Cell) (rest : List Cell) → list_in m from ≡ k ∷ rest → moved m from to ≡ finite.insert (finite.insert m from rest) to (k ∷ list_in m to)
+pub moved_is : {T : Type 0} (m : Lists T) (from to : ℕ) (k : T) (rest : List T) → list_in m from ≡ k ∷ rest → moved m from to ≡ finite.insert (finite.insert m from rest) to (k ∷ list_in m to)
 moved_is m from to k rest first = ap (first_moved m from to) first
 
-pub list_there : (m : Lists Cell) (owner : ℕ) (l : List Cell) → list_in (finite.insert m owner l) owner ≡ l
+pub list_there : {T : Type 0} (m : Lists T) (owner : ℕ) (l : List T) → list_in (finite.insert m owner l) owner ≡ l
 list_there m owner l = list-insert m owner l owner ∙ ap (λ b. cond b l (list_in m owner)) (itself owner)
 
 pub list_elsewhere : (m : Lists Cell) (owner : ℕ) (l : List Cell) (u : ℕ) → (u ≡ owner → ⊥) → list_in (finite.insert m owner l) u ≡ list_in m u
@@ -320,31 +309,10 @@ joined-none m lists no_cells no_lists = record {
     empty : (u : ℕ) → list_in lists u ≡ []
     empty u = ap (λ n. list_in n u) no_lists ∙ ap (λ o. unwrap_or o []) (finite.get-empty nat_cmp u)
 
-pub opened_lists : {E : Type 0} (r : Result (Unit {0}) E) (old new : Lists Cell) (owner : ℕ) → OnOk r (new ≡ finite.insert old owner (list_in old owner)) → OnErr r (new ≡ old)
+pub opened_lists : {T E : Type 0} (r : Result (Unit {0}) E) (old new : Lists T) (owner : ℕ) → OnOk r (new ≡ finite.insert old owner (list_in old owner)) → OnErr r (new ≡ old)
     → (u : ℕ) → list_in new u ≡ list_in old u
 opened_lists (Ok x) old new owner ok err u = ap (λ m. list_in m u) ok ∙ list-insert old owner (list_in old owner) u ∙ list_again old owner (list_in old owner) refl u
 opened_lists (Err e) old new owner ok err u = ap (λ m. list_in m u) err
-
--- what was put in front and taken out again leaves the lists as they were
-pub lists_back : (m : Lists Cell) (owner : ℕ) (k : Cell) → IsSome (finite.get m owner)
-    → popped (finite.insert m owner (k ∷ list_in m owner)) owner ≡ m
-lists_back m owner k is_open =
-    popped_is (finite.insert m owner (k ∷ list_in m owner)) owner k (list_in m owner) (list_there m owner (k ∷ list_in m owner))
-    ∙ finite.same_map nat_cmp_total finite.nat_cmp-IsAntisymmetric _ _ (λ u.
-    finite.get-insert nat_cmp_total (finite.insert m owner (k ∷ list_in m owner)) owner (list_in m owner) u
-    ∙ ap (cond (eq_by_cmp nat_cmp u owner) (Some (list_in m owner))) (finite.get-insert nat_cmp_total m owner (k ∷ list_in m owner) u)
-    ∙ by_test u (eq_by_cmp nat_cmp u owner) refl)
-  where
-    there : (o : Option (List Cell)) → IsSome o → Some (unwrap_or o []) ≡ o
-    there None e = absurd (false≢true e)
-    there (Some l) e = refl
-
-    by_test : (u : ℕ) (b : Bool) → eq_by_cmp nat_cmp u owner ≡ b
-        → cond (eq_by_cmp nat_cmp u owner) (Some (list_in m owner)) (cond (eq_by_cmp nat_cmp u owner) (Some (k ∷ list_in m owner)) (finite.get m u)) ≡ finite.get m u
-    by_test u true e =
-        ap (λ b. cond b (Some (list_in m owner)) (cond b (Some (k ∷ list_in m owner)) (finite.get m u))) e
-        ∙ there (finite.get m owner) is_open ∙ ap (finite.get m) (sym (eqb-true u owner (sym (unsigned_tied u owner) ∙ e)))
-    by_test u false e = ap (λ b. cond b (Some (list_in m owner)) (cond b (Some (k ∷ list_in m owner)) (finite.get m u))) e
 
 pub ok_if : {X E : Type 0} (r : Result X E) (P : Type 0) → is_err r ≡ false → OnOk r P → P
 ok_if (Ok x) P fine p = p
@@ -357,6 +325,10 @@ err_if (Err e) P failed p = p
 pub none_had : (had : Option Marks) → is_some had ≡ false → had ≡ None
 none_had None e = refl
 none_had (Some x) e = absurd (false≢true (sym e))
+
+-- a place that was made is there
+pub placed_there : (m new : Cells) (k : Cell) (owner : ℕ) (marks : Marks) → ((c : Cell) (u : ℕ) → marks_at new c u ≡ cond (is_at k owner c u) (Some marks) (marks_at m c u)) → is_some (marks_at new k owner) ≡ true
+placed_there m new k owner marks put = ap is_some (put k owner) ∙ ap (λ b. is_some (cond b (Some marks) (marks_at m k owner))) (λ i. (eq_by_cmp_equiv cell_cmp_total).refl k i && itself owner i)
 
 -- a place that was made and taken out again leaves the places as they were
 pub placed_back : (m new back : Cells) (k : Cell) (owner : ℕ) (marks : Marks) → marks_at m k owner ≡ None

@@ -1,9 +1,11 @@
 pub mod HolderLists
 pub mod Names
 pub mod CellViews
+pub mod Slots
 pub mod Loans
 pub mod Places
 pub mod Joining
+pub mod Under
 pub mod Whole
 pub mod Tables
 pub mod Handing

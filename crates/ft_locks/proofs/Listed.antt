@@ -1,7 +1,9 @@
 -- What a list of locks has in it.
-use Rattle.std.proofs.Common.{◌≡◌, ℕ, Bool, true, false, cond, ◌&&◌, ◌||◌, ◌==◌, List, [], ◌∷◌, Some, unwrap_or, refl, sym, ap, subst, ◌∙◌, inl, inr}
-use Rattle.std.proofs.lemmas.Bool.{false≢true}
-use Rattle.std.specs.List.{list_any, dedup, IsDistinct, AllByRecursion}
+use Rattle.std.proofs.Common.{◌≡◌, ℕ, Bool, true, false, ◌&&◌, ◌||◌, ◌==◌, List, [], ◌∷◌, Option, Some, None, is_some, unwrap_or, refl, sym, ap, subst, ◌∙◌, inl, inr}
+use Rattle.std.proofs.lemmas.Bool.{false≢true, and_parts}
+use Rattle.std.specs.List.{list_any, dedup, AllByRecursion}
+use Rattle.std.specs.Option.{option_map}
+use Rattle.slab.specs.Slab.{Slab, get, entries}
 use Rattle.std.specs.List.Sorted.{IsSorted, IsPermutation, IsStrictlySortedBy}
 use Rattle.std.proofs.lemmas.List.Sorted.{list_any-IsPermutation}
 use Rattle.std.proofs.lemmas.List.Kept.{Contains-dedup, Contains-from_dedup, IsStrictlySortedBy-dedup}
@@ -11,12 +13,11 @@ use Rattle.std.specs.declared.cmp.Ordering.{Ordering}
 use Rattle.std.specs.declared.cmp.Ordering.TheVariants.{Less, Equal, Greater}
 use Rattle.std.specs.Cmp.{IsEquivalence, nat_eq_equiv, unsigned_tied, eq_by_cmp_equiv}
 use Rattle.std.specs.FinMap as finite
-use Rattle.std.specs.Map.{lookup, keys_of}
 use Rattle.ft_laws.specs.Lists.{Each, Pairs, In}
 use Rattle.ft_laws.proofs.Tests.{by_test}
 use Rattle.ft_base.specs.Chains.{Lists}
 use Rattle.ft_tree.specs.declared.cell.Cell.{Cell}
-use Rattle.ft_tree.specs.CellOrder.{cell_cmp, same_cell, same_cell-is}
+use Rattle.ft_tree.specs.CellOrder.{cell_cmp, cell_cmp_total, same_cell, same_cell-is}
 use Rattle.ft_calls.specs.declared.call.Mode.{Mode}
 use Rattle.ft_calls.specs.declared.call.Mode.TheVariants.{Read as ReadMode, Write as WriteMode}
 use Rattle.ft_locks.specs.declared.line.LockKind.{LockKind}
@@ -24,12 +25,16 @@ use Rattle.ft_locks.specs.declared.line.LockKind.TheVariants.{Held, Retained}
 use Rattle.ft_locks.specs.declared.line.LockLine.{LockLine}
 use Rattle.ft_locks.specs.declared.holders.Holding.{Holding}
 use Rattle.ft_locks.specs.Marks.{has_mark}
-use Rattle.ft_locks.specs.Holders.{Owners, as_entries, AreApart}
+use Rattle.ft_locks.specs.declared.cells.Locked.{Locked}
+use Rattle.ft_locks.specs.Holders.{as_entries, AreApart}
+use Rattle.ft_locks.specs.Slots.{owners_of, cells_of, at_of, AreKeyed}
 use Rattle.ft_locks.specs.Cells.{Cells}
 use Rattle.ft_locks.specs.Seen.{has_mark_of, has_line, table_of}
 use Rattle.ft_locks.specs.Locks.{LockTable, line_cmp, line_cmp_total, has_lock, AreListed}
 use Rattle.ft_locks.specs.Listing.{same_line, is_listed, AreAdded, is_by, is_on}
 use Rattle.ft_locks.proofs.HolderLists.{owner_passes, get-seen}
+use Rattle.ft_locks.proofs.CellViews.{key_in}
+use Rattle.ft_locks.proofs.Slots.{the_one, at-there, at-none, get-cells, cells-there, any_there, there_any}
 use Rattle.ft_locks.proofs.Tables.{line, same_line-is, same_truth, lines-seen}
 
 -- A lock of one owner on one cell.
@@ -123,41 +128,46 @@ any_kept true p xs = refl
 any_kept false p [] = refl
 any_kept false p (x ∷ xs) = any_kept false p xs
 
-pub cell_listed : (c : Cell) (l : LockLine) (list : List Holding) (holders : Owners) → finite.from_entries (as_entries list) ≡ holders → AreApart list → list_any (is_by c l) list ≡ is_on l (c, holders)
-cell_listed c l list holders are apart =
-    any_kept (same_cell l.cell c) (λ h. (h.owner == l.owner) && has_mark h.marks l.mode l.kind) list
-    ∙ ap (λ b. same_cell l.cell c && b) (owner_passes (λ o. has_mark_of o l) refl list apart l.owner
+cell_listed : (e : Locked) (l : LockLine) (list : List Holding) → finite.from_entries (as_entries list) ≡ e.holders → AreApart list → list_any (is_by e.cell l) list ≡ is_on l e
+cell_listed e l list are apart =
+    any_kept (same_cell l.cell e.cell) (λ h. (h.owner == l.owner) && has_mark h.marks l.mode l.kind) list
+    ∙ ap (λ b. same_cell l.cell e.cell && b) (owner_passes (λ o. has_mark_of o l) refl list apart l.owner
     ∙ ap (λ o. has_mark_of o l) (sym (get-seen list l.owner) ∙ ap (λ m. finite.get m l.owner) are))
 
 -- One cell more of those that are left.
-pub cell_more : (c : Cell) (holders : Owners) (list : List Holding) (old new : List LockLine) (l : LockLine) (rest : List (Cell × Owners)) → finite.from_entries (as_entries list) ≡ holders → AreApart list
-    → is_listed new l ≡ (is_listed old l || list_any (is_by c l) list) → (is_listed new l || list_any (is_on l) rest) ≡ (is_listed old l || list_any (is_on l) ((c, holders) ∷ rest))
-cell_more c holders list old new l rest are apart added =
-    ap (λ b. b || list_any (is_on l) rest) (added ∙ ap (λ b. is_listed old l || b) (cell_listed c l list holders are apart)) ∙ grouped (is_listed old l) (is_on l (c, holders)) (list_any (is_on l) rest)
+pub cell_more : (e : Locked) (list : List Holding) (old new : List LockLine) (l : LockLine) (rest : List (ℕ × Locked)) → finite.from_entries (as_entries list) ≡ e.holders → AreApart list
+    → is_listed new l ≡ (is_listed old l || list_any (is_by e.cell l) list) → (is_listed new l || list_any (λ p. is_on l p.1) rest) ≡ (is_listed old l || (is_on l e || list_any (λ p. is_on l p.1) rest))
+cell_more e list old new l rest are apart added =
+    ap (λ b. b || list_any (λ p. is_on l p.1) rest) (added ∙ ap (λ b. is_listed old l || b) (cell_listed e l list are apart)) ∙ grouped (is_listed old l) (is_on l e) (list_any (λ p. is_on l p.1) rest)
   where
     grouped : (a b d : Bool) → ((a || b) || d) ≡ (a || (b || d))
     grouped true b d = refl
     grouped false b d = refl
 
--- All cells: none stands twice among the entries.
-off_cell : (l : LockLine) (c : Cell) → l.cell ≡ c → (es : List (Cell × Owners)) → AllByRecursion (λ d. same_cell c d ≡ false) (keys_of es) → list_any (is_on l) es ≡ false
-off_cell l c is [] apart = refl
-off_cell l c is (e ∷ es) apart =
-    (λ i. ((ap (λ d. same_cell d e.0) is ∙ apart.0) i && has_mark_of (finite.get e.1 l.owner) l) || off_cell l c is es apart.1 i)
-
-pub on_cells : (l : LockLine) (es : List (Cell × Owners)) → IsDistinct same_cell (keys_of es) → list_any (is_on l) es ≡ has_mark_of (finite.get (unwrap_or (lookup (same_cell l.cell) es) finite.empty) l.owner) l
-unfolding IsDistinct
-on_cells l [] apart = sym (ap (λ o. has_mark_of o l) (finite.get-empty nat_cmp l.owner))
-on_cells l (e ∷ es) apart = by_cell (same_cell l.cell e.0) refl (on_cells l es apart.1)
+-- All cells: what stands in the slab is what the cells have.
+pub on_cells : (s : Slab Locked) (index : List (Cell × ℕ)) → AreKeyed (at_of s) index → (l : LockLine) → list_any (λ p. is_on l p.1) (entries s) ≡ has_line (cells_of s index) l
+on_cells s index keyed l = same_truth _ _
+    (λ any.
+    let one = there_any (is_on l) s.slots 0 any in
+    let both = and_parts (same_cell l.cell one.1.cell) (has_mark_of (finite.get one.1.holders l.owner) l) one.3 in
+    let key = (keyed l.cell one.0).1 (at-there s one.0 one.1 one.2 ∙ ap Some (sym (same_cell-is l.cell one.1.cell both.0))) in
+    ap (λ o. has_mark_of (finite.get (unwrap_or o finite.empty) l.owner) l) (cells-there s index l.cell one.0 (Some one.1) key one.2) ∙ both.1)
+    (λ has. by_key (key_in index l.cell) refl has)
   where
-    or_none : (b : Bool) → (b || false) ≡ b
-    or_none true = refl
-    or_none false = refl
-
-    by_cell : (b : Bool) → same_cell l.cell e.0 ≡ b → list_any (is_on l) es ≡ has_mark_of (finite.get (unwrap_or (lookup (same_cell l.cell) es) finite.empty) l.owner) l
-        → (b && has_mark_of (finite.get e.1 l.owner) l || list_any (is_on l) es) ≡ has_mark_of (finite.get (unwrap_or (cond b (Some e.1) (lookup (same_cell l.cell) es)) finite.empty) l.owner) l
-    by_cell true tie later = ap (λ b. has_mark_of (finite.get e.1 l.owner) l || b) (off_cell l e.0 (same_cell-is l.cell e.0 tie) es apart.0) ∙ or_none (has_mark_of (finite.get e.1 l.owner) l)
-    by_cell false tie later = later
+    by_key : (o : Option ℕ) → key_in index l.cell ≡ o → has_line (cells_of s index) l ≡ true → list_any (λ p. is_on l p.1) (entries s) ≡ true
+    by_key None e has =
+        absurd (false≢true (sym (ap (λ o. has_mark_of (finite.get (unwrap_or o finite.empty) l.owner) l) (get-cells s index l.cell ∙ ap (option_map (λ k. owners_of (get s k))) e)
+        ∙ ap (λ o. has_mark_of o l) (finite.get-empty nat_cmp l.owner)) ∙ has))
+    by_key (Some k) e has = by_slot (get s k) refl
+      where
+        by_slot : (o : Option Locked) → get s k ≡ o → list_any (λ p. is_on l p.1) (entries s) ≡ true
+        by_slot None there = absurd (false≢true (ap is_some (sym (at-none s k there) ∙ (keyed l.cell k).0 e)))
+        by_slot (Some x) there =
+            let same : x.cell ≡ l.cell = the_one x.cell l.cell (sym (at-there s k x there) ∙ (keyed l.cell k).0 e) in
+            any_there (is_on l) s.slots 0 k x there
+            ((λ i. same_cell l.cell (same i) && has_mark_of (finite.get x.holders l.owner) l)
+            ∙ ap (λ b. b && has_mark_of (finite.get x.holders l.owner) l) ((eq_by_cmp_equiv cell_cmp_total).refl l.cell)
+            ∙ sym (ap (λ o. has_mark_of (finite.get (unwrap_or o finite.empty) l.owner) l) (cells-there s index l.cell k (Some x) e there)) ∙ has)
 
 -- The list in order, each once.
 same_line_laws : IsEquivalence same_line

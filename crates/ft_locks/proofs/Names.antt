@@ -1,9 +1,10 @@
 -- The names of entries after one set of them has changed.
-use Rattle.std.proofs.Common.{◌≡◌, ℕ, Bool, true, false, cond, not, ◌&&◌, ◌||◌, ◌==◌, List, [], ◌∷◌, Option, Some, None, refl, sym, ap, length, arith, ◌∙◌, Result, Ok, Err}
+use Rattle.std.proofs.Common.{◌≡◌, ℕ, Bool, true, false, cond, not, ◌&&◌, ◌||◌, ◌==◌, List, [], ◌∷◌, Option, Some, None, is_some, refl, sym, ap, length, arith, ◌∙◌, Result, Ok, Err}
 use Rattle.std.specs.Prelude.{nat_eq}
 use Rattle.std.specs.List.{list_any}
-use Rattle.std.specs.Option.{IfNone}
-use Rattle.std.specs.Result.{OnOk, OnErr, IfOk}
+use Rattle.std.proofs.lemmas.Bool.{false≢true}
+use Rattle.std.specs.Option.{IfSome, IfNone}
+use Rattle.std.specs.Result.{OnOk, OnErr}
 use Rattle.std.specs.Ordering.{nat_cmp, eq_by_cmp}
 use Rattle.std.specs.Cmp.{nat_cmp_total, eq_by_cmp_equiv, unsigned_tied, Equal-is}
 use Rattle.std.specs.Cmp.Lexicographic.{slice_cmp, pointwise, nat_list_cmp_total}
@@ -131,6 +132,14 @@ pub none_any : {X : Type 0} (r : Option X) (P : Type 0) → P → IfNone r P
 none_any None P p = p
 none_any (Some x) P p = tt
 
-pub if_ok_then : {X E : Type 0} (r : Result X E) (P Q : X → Type 0) → ((x : X) → P x → Q x) → IfOk r P → IfOk r Q
-if_ok_then (Ok x) P Q f p = f x p
-if_ok_then (Err e) P Q f p = tt
+pub none_then : {X : Type 0} (r : Option X) (P Q : Type 0) → (P → Q) → IfNone r P → IfNone r Q
+none_then None P Q f p = f p
+none_then (Some x) P Q f p = tt
+
+pub both_then : {X : Type 0} (r : Option X) (P Q R : X → Type 0) → ((x : X) → P x → Q x → R x) → IfSome r P → IfSome r Q → IfSome r R
+both_then None P Q R f p q = tt
+both_then (Some x) P Q R f p q = f x p q
+
+pub if_absent : {X : Type 0} (r : Option X) (P : Type 0) → is_some r ≡ false → IfNone r P → P
+if_absent None P none p = p
+if_absent (Some x) P none p = absurd (false≢true (sym none))

@@ -1,11 +1,11 @@
 -- The locked cells, and the names of those that are entries.
-use Rattle.std.specs.Prelude.{◌≡◌, ℕ, nat_eq, Bool, false, ◌==◌, ◌&&◌, cond, List, Option, Some, None, is_some, unwrap_or, option_map}
-use Rattle.std.specs.Ordering.{nat_cmp, eq_by_cmp}
+use Rattle.std.specs.Prelude.{◌≡◌, ℕ, nat_eq, Bool, false, ◌==◌, ◌&&◌, cond, List, Option, Some, None, IsSome, is_some, unwrap_or, option_map, refl}
+use Rattle.std.specs.Ordering.{nat_cmp}
 use Rattle.std.specs.Cmp.Lexicographic.{pointwise}
 use Rattle.std.specs.HashSet as hashed
 use Rattle.std.specs.HashSet.{HashSet}
 use Rattle.std.proofs.Common.{BuildHasherDefault, FoldHasher}
-use Rattle.std.specs.Coded.{Coded}
+use Rattle.std.specs.Coded.{Coded, code_by, coded×, coded_ℕ}
 use Rattle.std.specs.FinMap as finite
 use Rattle.std.specs.Map.{lookup}
 use Rattle.ft_tree.specs.Entries.{entry_at}
@@ -24,6 +24,26 @@ Cells = finite.FinMap cell_cmp Owners
 abbrev pub coded_cells : Coded Cells
 coded_cells = finite.code cell.the_row.coded coded_owners
 
+-- the cell under each key
+abbrev pub CellKeys : Type 0
+CellKeys = finite.FinMap nat_cmp Cell
+
+-- the cells in the table with their holders, and the key of each
+pub record Keyed : Type 0 where
+  pub cells : Cells
+  pub at : CellKeys
+
+abbrev pub coded_keyed : Coded Keyed
+coded_keyed = code_by (Cells × CellKeys) (coded× coded_cells (finite.code coded_ℕ cell.the_row.coded)) (λ k. (k.cells, k.at)) (λ p. record { cells = p.0; at = p.1 }) (λ _. refl)
+
+abbrev pub holders_of : Cells → Option Cell → Option Owners
+holders_of m None = None
+holders_of m (Some c) = finite.get m c
+
+-- the holders of the cell under a key
+abbrev pub holders_under : Keyed → ℕ → Option Owners
+holders_under k key = holders_of k.cells (finite.get k.at key)
+
 -- the names of one directory's entries, hashed
 abbrev pub NameSet : Type 0
 NameSet = HashSet (List ℕ) (BuildHasherDefault FoldHasher)
@@ -40,12 +60,16 @@ abbrev pub has_name : EntryNames → ℕ → List ℕ → Bool
 has_name m dir name = is_among (finite.get m dir) name
 
 -- the names of a directory's entries are those of the entries in the table
-abbrev pub IsIndexed : List (Cell × Owners) → EntryNames → Type 0
-IsIndexed entries names = (dir : ℕ) (name : List ℕ) → has_name names dir name ≡ is_some (lookup (eq_by_cmp cell_cmp (Entry (entry_at dir name))) entries)
+abbrev pub IsIndexed : List (Cell × ℕ) → EntryNames → Type 0
+IsIndexed index names = (dir : ℕ) (name : List ℕ) → has_name names dir name ≡ is_some (lookup (same_cell (Entry (entry_at dir name))) index)
 
 -- what an owner has on a cell, if it has a place there
 abbrev pub marks_at : Cells → Cell → ℕ → Option Marks
 marks_at m c owner = finite.get (unwrap_or (finite.get m c) finite.empty) owner
+
+-- a cell on which somebody has a place stands where it stood
+abbrev pub Keeps : Keyed → Keyed → Type 0
+Keeps old new = (key : ℕ) (c : Cell) (u : ℕ) → finite.get old.at key ≡ Some c → IsSome (marks_at new.cells c u) → finite.get new.at key ≡ Some c
 
 -- the owner whose places are those of the cells that were let go: no transaction has its number
 abbrev pub let_go_owner : ℕ

@@ -1,5 +1,5 @@
 -- Places on cells, found both by cell and by owner.
-use Rattle.std.specs.Prelude.{◌≡◌, ◌==◌, ◌&&◌, ℕ, Bool, false, cond, is_some, take, Option, None, List, [], ◌∷◌, refl}
+use Rattle.std.specs.Prelude.{◌≡◌, ◌==◌, ◌&&◌, ℕ, Bool, false, cond, is_some, IsSome, IfSome, IfNone, take, map, filter_map, Option, None, List, [], ◌∷◌, refl}
 use Rattle.std.specs.List.{list_any}
 use Rattle.std.specs.FinMap as finite
 use Rattle.std.specs.Coded.{Coded, code_by, coded×}
@@ -7,10 +7,11 @@ use Rattle.ft_base.specs.Chains.{Lists, coded_lists, list_in}
 use Rattle.ft_tree.specs.declared.cell.Cell.{Cell}
 use Rattle.ft_tree.specs.contracts.cell.Cell as cell
 use Rattle.ft_tree.specs.CellOrder.{same_cell}
+use Rattle.ft_laws.specs.Lists.{Each}
 use Rattle.ft_calls.specs.declared.call.Access.{Access}
 use Rattle.ft_locks.specs.declared.line.LockLine.{LockLine}
 use Rattle.ft_locks.specs.declared.marks.Marks.{Marks}
-use Rattle.ft_locks.specs.Cells.{Cells, coded_cells, marks_at}
+use Rattle.ft_locks.specs.Cells.{Cells, CellKeys, Keyed, coded_cells, marks_at, is_at}
 use Rattle.ft_locks.specs.Locks.{is_held, has_access}
 
 -- for each cell its owners, and for each owner its cells
@@ -35,17 +36,45 @@ pub record IsJoined (has : Cell → ℕ → Bool) (lists : Lists Cell) : Type 0 
   pub listed : (u : ℕ) (c : Cell) → list_any (same_cell c) (list_in lists u) ≡ has c u
   pub single : (u : ℕ) → AreSingle (list_in lists u)
 
+-- the cells that stand under these keys
+abbrev pub cells_under : CellKeys → List ℕ → List Cell
+cells_under at keys = filter_map (finite.get at) keys
+
+-- each owner's list, with the cells in place of their keys
+abbrev pub lists_under : CellKeys → Lists ℕ → Lists Cell
+lists_under at lists = finite.from_entries (map (λ e. (e.0, cells_under at e.1)) (finite.entries lists))
+
+-- under each of these keys stands a cell
+abbrev pub AreUsed : CellKeys → List ℕ → Type 0
+AreUsed at keys = Each (λ key. IsSome (finite.get at key)) keys
+
+-- the keys in an owner's list are those of the cells on which it has a place
+pub record AreJoined (k : Keyed) (chains : Lists ℕ) : Type 0 where
+  pub joined : IsJoined (has_place k.cells) (lists_under k.at chains)
+  pub used : (u : ℕ) → AreUsed k.at (list_in chains u)
+
 -- the owners that are open are the same
 abbrev pub AreOpenStill : Lists Cell → Lists Cell → Type 0
 AreOpenStill old new = (u : ℕ) → finite.contains_key new u ≡ finite.contains_key old u
 
--- an owner's newest cell is taken from its list
-abbrev pub popped_of : Lists Cell → ℕ → List Cell → Lists Cell
+-- the newest of an owner's list is taken out
+abbrev pub popped_of : {T : Type 0} → Lists T → ℕ → List T → Lists T
 popped_of m owner [] = m
 popped_of m owner (c ∷ more) = finite.insert m owner more
 
-abbrev pub popped : Lists Cell → ℕ → Lists Cell
+abbrev pub popped : {T : Type 0} → Lists T → ℕ → Lists T
 popped m owner = popped_of m owner (list_in m owner)
+
+-- the newest place of an owner was taken out; its cell was freed where nobody has a place there now
+pub record IsDropped (old new : Held) (owner : ℕ) (freed : Option Cell) : Type 0 where
+  pub cell : Cell
+  pub there : IsSome (marks_at old.cells cell owner)
+  pub list : list_in old.lists owner ≡ cell ∷ list_in new.lists owner
+  pub lists : new.lists ≡ finite.insert old.lists owner (list_in new.lists owner)
+  pub marks : (c : Cell) (u : ℕ) → marks_at new.cells c u ≡ cond (is_at cell owner c u) None (marks_at old.cells c u)
+  pub free : IfSome freed (λ c. c ≡ cell)
+  pub gone : IfSome freed (λ c. (u : ℕ) → marks_at new.cells c u ≡ None)
+  pub more : IfNone freed ((u : ℕ) × IsSome (marks_at new.cells cell u))
 
 -- what would be left of an owner's places without so many of its newest
 abbrev pub after_back : ℕ → ℕ → Cells → Lists Cell → Cell → ℕ → Option Marks

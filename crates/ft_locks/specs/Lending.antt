@@ -1,13 +1,21 @@
 -- What a table of cells ends as, where the holders of one are lent to be written.
-use Rattle.std.specs.Prelude.{Option}
+use Rattle.std.specs.Prelude.{ℕ, Option, Some, None}
 use Rattle.std.specs.Borrow.{LendsIf, MutBor, Fml}
 use Rattle.std.specs.FinMap as finite
 use Rattle.ft_tree.specs.declared.cell.Cell.{Cell}
 use Rattle.ft_locks.specs.Holders.{Owners}
-use Rattle.ft_locks.specs.Cells.{Cells}
+use Rattle.ft_locks.specs.Cells.{Cells, Keyed}
 use Rattle.ft_locks.specs.contracts.cells.LockedCells.{the_row}
 use Rattle.ft_locks.specs.contracts.holders.Holders as holders
 
--- t ends with the last holders behind r at the cell, and where nothing is lent as it was
-abbrev pub LendsHolders : MutBor Cells → Cell → Option (MutBor Owners) → Fml
-LendsHolders t cell r = LendsIf the_row holders.the_row t r (finite.insert t.now cell) t.now
+abbrev pub with_holders_of : Cells → Option Cell → Owners → Cells
+with_holders_of m None owners = m
+with_holders_of m (Some c) owners = finite.insert m c owners
+
+-- the cell under a key has other holders
+abbrev pub with_holders : Keyed → ℕ → Owners → Keyed
+with_holders k key owners = record k { cells = with_holders_of k.cells (finite.get k.at key) owners }
+
+-- t ends with the last holders behind r for the cell under the key, and where nothing is lent as it was
+abbrev pub LendsHolders : MutBor Keyed → ℕ → Option (MutBor Owners) → Fml
+LendsHolders t key r = LendsIf the_row holders.the_row t r (with_holders t.now key) t.now

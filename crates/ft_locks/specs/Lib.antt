@@ -2,6 +2,7 @@ pub mod Ranks
 pub mod Marks
 pub mod Holders
 pub mod Cells
+pub mod Slots
 pub mod Lending
 pub mod Holdings
 pub mod Locks

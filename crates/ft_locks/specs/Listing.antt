@@ -8,7 +8,7 @@ use Rattle.ft_tree.specs.CellOrder.{same_cell}
 use Rattle.ft_locks.specs.declared.line.LockLine.{LockLine}
 use Rattle.ft_locks.specs.declared.holders.Holding.{Holding}
 use Rattle.ft_locks.specs.Marks.{has_mark}
-use Rattle.ft_locks.specs.Holders.{Owners}
+use Rattle.ft_locks.specs.declared.cells.Locked.{Locked}
 use Rattle.ft_locks.specs.Locks.{line_cmp}
 use Rattle.ft_locks.specs.Seen.{has_mark_of}
 
@@ -27,5 +27,5 @@ abbrev pub is_by : Cell → LockLine → Holding → Bool
 is_by cell l h = same_cell l.cell cell && ((h.owner == l.owner) && has_mark h.marks l.mode l.kind)
 
 -- the line's lock is one of the owners' on the cell
-abbrev pub is_on : LockLine → (Cell × Owners) → Bool
-is_on l e = same_cell l.cell e.0 && has_mark_of (finite.get e.1 l.owner) l
+abbrev pub is_on : LockLine → Locked → Bool
+is_on l locked = same_cell l.cell locked.cell && has_mark_of (finite.get locked.holders l.owner) l

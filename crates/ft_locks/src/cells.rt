@@ -1,5 +1,5 @@
-// The cells on which anybody has a place, hashed.
-ghost use Rattle.std.specs.Prelude.{◌≡◌, ◌≢◌, ℕ, cond, false, List, None, Some, IsSome, IsTrue, is_some, OnOk, OnErr, IfOk};
+// The cells on which anybody has a place: each stands in a slab, and an index has its key.
+ghost use Rattle.std.specs.Prelude.{◌≡◌, ◌≢◌, ℕ, cond, List, None, Some, IsSome, IsSomeAnd, is_some, OnOk, OnErr, IfOk, IfSome, IfNone};
 ghost use Rattle.std.specs.Option.{option_map, option_copied, option_copied_mut};
 ghost use Rattle.std.specs.FinMap as finite;
 ghost use Rattle.std.specs.Borrow.{sem};
@@ -8,7 +8,7 @@ ghost use Rattle.ft_tree.specs.declared.cell.Cell.TheVariants.{Entry};
 ghost use Rattle.ft_tree.specs.declared.cell.Cell.{Cell};
 ghost use Rattle.ft_tree.specs.CellOrder.{same_cell};
 ghost use Rattle.ft_locks.specs.Marks.{with_marks};
-ghost use Rattle.ft_locks.specs.Cells.{is_among, is_at, marks_at, passed_to, after_hand};
+ghost use Rattle.ft_locks.specs.Cells.{is_among, is_at, marks_at, passed_to, after_hand, holders_under, Keeps};
 ghost use Rattle.ft_locks.specs.Listing.{AreAdded};
 ghost use Rattle.ft_locks.specs.Seen.{has_line};
 
@@ -20,32 +20,51 @@ use crate::marks::Marks;
 use ft_base::Memory;
 use ft_path::Name;
 use ft_tree::Cell;
-use std::alloc::{AllocFailed, Global};
+use slab::Slab;
+use std::alloc::Global;
 use std::collections::{HashMap, HashSet};
 use std::marker::Model;
 
+/// A cell in the table with its holders.
+#[derive(Drop)]
+pub(crate) struct Locked {
+    pub(crate) cell: Cell,
+    pub(crate) holders: Holders,
+}
+
 /// For each cell in the table its holders.
 ///
-/// To find a cell takes the time to hash it, however many there are. The names of the entries of a
-/// directory are found without a look at other cells.
+/// Each cell stands under a key, from when it comes into the table until it leaves: who has the key
+/// finds the cell without its hash. To find a cell itself takes the time to hash it, however many
+/// there are. The names of the entries of a directory are found without a look at other cells.
 #[derive(Drop)]
 pub(crate) struct LockedCells {
     alloc: Global,
-    cells: HashMap<Cell, Holders>,
+    locked: Slab<Locked>,
+    keys: HashMap<Cell, usize>,
     names: EntryNames,
 }
 
 impl Model for LockedCells {
-    ghost use Rattle.std.specs.FinMap as finite;
-    ghost use Rattle.ft_locks.specs.Cells.{Cells, coded_cells, IsIndexed};
+    ghost use Rattle.ft_locks.specs.Cells.{Keyed, coded_keyed, IsIndexed};
+    ghost use Rattle.ft_locks.specs.Slots.{cells_of, at_of, AreKeyed};
 
-    ghost Value = { Cells };
+    ghost Value = { Keyed };
 
-    ghost coded = { coded_cells };
+    ghost coded = { coded_keyed };
 
-    ghost view = { λ a. finite.from_entries a.cells.entries };
+    ghost view = { λ a. record { cells = cells_of a.locked a.keys.entries; at = at_of a.locked } };
 
-    ghost invariant = { λ a. IsIndexed a.cells.entries a.names.names };
+    ghost invariant = { λ a. AreKeyed (at_of a.locked) a.keys.entries × IsIndexed a.keys.entries a.names.names };
+}
+
+/// A place of an owner on a cell.
+#[derive(Drop)]
+pub(crate) struct Place {
+    /// The key of the cell.
+    pub(crate) key: usize,
+    /// The locks that the owner had there, if it had the place already.
+    pub(crate) had: Option<Marks>,
 }
 
 /// The owner of the places on cells that were let go. Transactions have numbers from 1 on.
@@ -67,128 +86,162 @@ impl LockedCells {
 
     /// No cell. Takes no memory.
     pub(crate) fn new(alloc: Global) -> LockedCells
-        ensures { result ≡ finite.empty }
+        ensures cells { result.cells ≡ finite.empty }
+        ensures at { result.at ≡ finite.empty }
     {
         LockedCells {
             alloc,
-            cells: HashMap::new(alloc),
+            locked: Slab::new(alloc),
+            keys: HashMap::new(alloc),
             names: EntryNames::new(alloc),
         }
     }
 
+    /// The key of a cell, if it is in the table.
+    fn key_of(&self, cell: &Cell) -> Option<usize>
+        ensures at { IfSome result (λ key. finite.get self.now.at key ≡ Some cell.now) }
+        ensures there { is_some result ≡ finite.contains_key self.now.cells cell.now }
+    {
+        self.keys.get(cell).copied()
+    }
+
+    /// The holders of the cell under a key, if there is one.
+    fn under(&self, key: usize) -> Option<&Holders>
+        ensures { option_copied result ≡ holders_under self.now key }
+    {
+        let locked = self.locked.get(key)?;
+        Some(&locked.holders)
+    }
+
     /// The holders of a cell, if it is in the table.
     pub(crate) fn get(&self, cell: &Cell) -> Option<&Holders>
-        ensures { option_copied result ≡ finite.get self.now cell.now }
+        ensures { option_copied result ≡ finite.get self.now.cells cell.now }
     {
-        self.cells.get(cell)
+        let key = self.key_of(cell)?;
+        self.under(key)
     }
 
     /// The names of a directory's entries that are in the table.
     pub(crate) fn names_of(&self, dir: u64) -> Option<&HashSet<Name>>
-        ensures { (name : List ℕ) → is_among (option_copied result) name ≡ finite.contains_key self.now (Entry (entry_at dir name)) }
+        ensures { (name : List ℕ) → is_among (option_copied result) name ≡ finite.contains_key self.now.cells (Entry (entry_at dir name)) }
     {
-        let _cells = &self.cells;
+        let _keys = &self.keys;
         self.names.of(dir)
     }
 
     /// Lists the locks on all cells.
     pub(crate) fn list(&self, lines: &mut Vec<LockLine>) -> Result<(), Memory>
-        ensures { OnOk result (AreAdded lines.old.items lines.new.items (has_line self.now)) }
+        ensures { OnOk result (AreAdded lines.old.items lines.new.items (has_line self.now.cells)) }
     {
-        list_cells(lines, &self.cells)
+        let _keys = &self.keys;
+        list_cells(lines, &self.locked)
     }
 
-    /// Gives an owner a place on a cell, with these locks, where it has none; where it has one,
-    /// answers its locks. Want of memory changes nothing.
-    pub(crate) fn place(
-        &mut self,
-        cell: &Cell,
-        owner: u64,
-        marks: Marks,
-    ) -> Result<Option<Marks>, Memory>
-        ensures had { IfOk result (λ had. had ≡ marks_at self.old cell.now owner) }
-        ensures placed { IfOk result (λ had. had ≡ None → (c : Cell) (u : ℕ) → marks_at self.new c u ≡ cond (is_at cell.now owner c u) (Some marks) (marks_at self.old c u)) }
-        ensures kept { IfOk result (λ had. IsSome had → self.new ≡ self.old) }
+    /// Gives an owner a place on a cell, with these locks, where it has none. Want of memory changes
+    /// nothing.
+    pub(crate) fn place(&mut self, cell: &Cell, owner: u64, marks: Marks) -> Result<Place, Memory>
+        ensures key { IfOk result (λ place. finite.get self.new.at place.key ≡ Some cell.now) }
+        ensures had { IfOk result (λ place. place.had ≡ marks_at self.old.cells cell.now owner) }
+        ensures placed { IfOk result (λ place. place.had ≡ None → (c : Cell) (u : ℕ) → marks_at self.new.cells c u ≡ cond (is_at cell.now owner c u) (Some marks) (marks_at self.old.cells c u)) }
+        ensures kept { IfOk result (λ place. IsSome place.had → self.new ≡ self.old) }
+        ensures others { OnOk result ((k : ℕ) → IsSome (finite.get self.old.at k) → finite.get self.new.at k ≡ finite.get self.old.at k) }
         ensures err { OnErr result (self.new ≡ self.old) }
     {
-        if let Some(holders) = self.get_mut(cell) {
-            return holders.place(owner, marks);
+        if let Some(key) = self.key_of(cell) {
+            let holders = self.get_mut(key).unwrap();
+            let had = holders.place(owner, marks)?;
+            return Ok(Place { key, had });
         }
         let mut holders = Holders::new(self.alloc);
         holders.add(owner, marks)?;
-        self.insert(cell.clone()?, holders)?;
-        Ok(None)
+        let key = self.insert(cell, holders)?;
+        Ok(Place { key, had: None })
     }
 
     /// Gives an owner that has a place on a cell these locks beside its own. Takes no memory.
     pub(crate) fn mark(&mut self, cell: &Cell, owner: u64, marks: Marks)
-        ensures { (c : Cell) (u : ℕ) → marks_at self.new c u ≡ cond (is_at cell.now owner c u) (option_map (λ own. with_marks own marks) (marks_at self.old c u)) (marks_at self.old c u) }
+        ensures marks { (c : Cell) (u : ℕ) → marks_at self.new.cells c u ≡ cond (is_at cell.now owner c u) (option_map (λ own. with_marks own marks) (marks_at self.old.cells c u)) (marks_at self.old.cells c u) }
+        ensures at { self.new.at ≡ self.old.at }
     {
-        if let Some(holders) = self.get_mut(cell) {
+        if let Some(key) = self.key_of(cell) {
+            let holders = self.get_mut(key).unwrap();
             holders.mark(owner, marks);
         }
     }
 
-    /// Gives an owner's place on a cell to another, and answers whether that one had a place there
-    /// already. Takes no memory.
-    pub(crate) fn hand_over(&mut self, cell: &Cell, from: u64, to: u64) -> bool
-        requires there { IsSome (marks_at self.old cell.now from) }
+    /// Gives an owner's place on the cell under a key to another, and answers whether that one had a
+    /// place there already. Takes no memory.
+    pub(crate) fn hand_over(&mut self, key: usize, from: u64, to: u64) -> bool
+        requires there { IsSomeAnd (finite.get self.old.at key) (λ cell. IsSome (marks_at self.old.cells cell from)) }
         requires apart { from ≢ to }
-        ensures merged { result ≡ is_some (marks_at self.old cell.now to) }
-        ensures after { (c : Cell) (u : ℕ) → marks_at self.new c u ≡ cond (same_cell c cell.now) (after_hand from to (marks_at self.old c) u) (marks_at self.old c u) }
+        ensures merged { IfSome (finite.get self.old.at key) (λ cell. result ≡ is_some (marks_at self.old.cells cell to)) }
+        ensures after { IfSome (finite.get self.old.at key) (λ cell. (c : Cell) (u : ℕ) → marks_at self.new.cells c u ≡ cond (same_cell c cell) (after_hand from to (marks_at self.old.cells c) u) (marks_at self.old.cells c u)) }
+        ensures at { self.new.at ≡ self.old.at }
     {
-        let holders = self.get_mut(cell).unwrap();
+        let holders = self.get_mut(key).unwrap();
         let own = holders.get(from).unwrap();
         holders.hand_over(from, to, handed_to(to, own))
     }
 
-    /// Takes an owner's place on a cell away; with its last place the cell leaves the table. Answers
-    /// whether nobody has a place there now. Takes no memory.
-    pub(crate) fn take_out(&mut self, cell: &Cell, owner: u64) -> bool
-        ensures after { (c : Cell) (u : ℕ) → marks_at self.new c u ≡ cond (is_at cell.now owner c u) None (marks_at self.old c u) }
-        ensures gone { IsTrue result → (u : ℕ) → marks_at self.new cell.now u ≡ None }
-        ensures more { result ≡ false → (u : ℕ) × IsSome (marks_at self.new cell.now u) }
+    /// Takes an owner's place on the cell under a key away; with its last place the cell leaves the
+    /// table, and is answered. Takes no memory.
+    pub(crate) fn take_out(&mut self, key: usize, owner: u64) -> Option<Cell>
+        requires { IsSomeAnd (finite.get self.old.at key) (λ cell. IsSome (marks_at self.old.cells cell owner)) }
+        ensures cell { IfSome result (λ cell. finite.get self.old.at key ≡ Some cell) }
+        ensures after { IfSome (finite.get self.old.at key) (λ cell. (c : Cell) (u : ℕ) → marks_at self.new.cells c u ≡ cond (is_at cell owner c u) None (marks_at self.old.cells c u)) }
+        ensures gone { IfSome result (λ cell. (u : ℕ) → marks_at self.new.cells cell u ≡ None) }
+        ensures more { IfNone result (IfSome (finite.get self.old.at key) (λ cell. (u : ℕ) × IsSome (marks_at self.new.cells cell u))) }
+        ensures keys { Keeps self.old self.new }
     {
-        let Some(holders) = self.get_mut(cell) else {
-            return true;
-        };
-        if holders.is_last(owner) {
-            self.remove(cell);
-            return true;
+        let holders = self.get_mut(key).unwrap();
+        if !holders.is_last(owner) {
+            holders.remove(owner);
+            return None;
         }
-        holders.remove(owner);
-        false
+        self.remove(key)
     }
 
-    /// The holders of a cell, to be written. Takes no memory.
-    fn get_mut(&mut self, cell: &Cell) -> Option<&mut Holders>
-        ensures* writes_back { sem 𝓛 (LendsHolders self.entry cell.now result) }
-        ensures value { option_copied_mut result ≡ finite.get self.old cell.now }
+    /// The holders of the cell under a key, to be written. Takes no memory.
+    fn get_mut(&mut self, key: usize) -> Option<&mut Holders>
+        ensures* writes_back { sem 𝓛 (LendsHolders self.entry key result) }
+        ensures value { option_copied_mut result ≡ holders_under self.old key }
     {
-        self.cells.get_mut(cell)
+        let locked = self.locked.get_mut(key)?;
+        Some(&mut locked.holders)
     }
 
-    /// Puts a cell that is not there with its holders into the table. Want of memory changes nothing.
-    fn insert(&mut self, cell: Cell, holders: Holders) -> Result<(), Memory>
-        requires { finite.get self.old cell ≡ None }
-        ensures ok { OnOk result (self.new ≡ finite.insert self.old cell holders) }
+    /// Puts a cell that is not there with its holders into the table, and answers its key. Want of
+    /// memory changes nothing.
+    fn insert(&mut self, cell: &Cell, holders: Holders) -> Result<usize, Memory>
+        requires { finite.get self.old.cells cell.now ≡ None }
+        ensures fresh { IfOk result (λ key. finite.get self.old.at key ≡ None) }
+        ensures cells { OnOk result (self.new.cells ≡ finite.insert self.old.cells cell.now holders) }
+        ensures at { IfOk result (λ key. self.new.at ≡ finite.insert self.old.at key cell.now) }
         ensures err { OnErr result (self.new ≡ self.old) }
     {
-        self.names.note(&cell)?;
-        match self.cells.insert(cell, holders) {
-            Ok(_) => Ok(()),
-            Err(AllocFailed { value: (cell, _) }) => {
-                self.names.forget(&cell);
-                Err(Memory)
-            }
+        let name = cell.clone()?;
+        let locked = Locked {
+            cell: cell.clone()?,
+            holders,
+        };
+        self.locked.reserve(1)?;
+        self.names.note(cell)?;
+        if self.keys.insert(name, self.locked.vacant_key()).is_err() {
+            self.names.forget(cell);
+            return Err(Memory);
         }
+        Ok(self.locked.insert_reserved(locked))
     }
 
-    /// Takes a cell out of the table. Takes no memory.
-    fn remove(&mut self, cell: &Cell)
-        ensures { self.new ≡ finite.remove self.old cell.now }
+    /// Takes the cell under a key, if there is one, out of the table. Takes no memory.
+    fn remove(&mut self, key: usize) -> Option<Cell>
+        ensures cell { result ≡ finite.get self.old.at key }
+        ensures cells { IfSome result (λ cell. self.new.cells ≡ finite.remove self.old.cells cell) }
+        ensures at { self.new.at ≡ finite.remove self.old.at key }
     {
-        self.cells.remove(cell);
-        self.names.forget(cell);
+        let Locked { cell, holders: _ } = self.locked.try_remove(key)?;
+        self.keys.remove(&cell);
+        self.names.forget(&cell);
+        Some(cell)
     }
 }

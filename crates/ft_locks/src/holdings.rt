@@ -1,5 +1,5 @@
 // The places of owners on cells, found both by cell and by owner.
-ghost use Rattle.std.specs.Prelude.{◌≡◌, ◌≢◌, ◌+◌, ℕ, cond, true, false, List, [], ◌∷◌, drop, length, None, Some, IsSome, IsTrue, IfSome, IfNone, OnSome, IfOk, OnOk, OnErr};
+ghost use Rattle.std.specs.Prelude.{◌≡◌, ◌≢◌, ◌+◌, ℕ, cond, true, false, List, [], ◌∷◌, drop, length, None, Some, IsSome, IfSome, IfNone, IfOk, OnOk, OnErr};
 ghost use Rattle.std.specs.Option.{option_map, option_copied};
 ghost use Rattle.std.specs.FinMap as finite;
 ghost use Rattle.ft_base.specs.Chains.{list_in, IsOpen};
@@ -10,7 +10,7 @@ ghost use Rattle.std.specs.List.{list_any};
 ghost use Rattle.ft_tree.specs.declared.cell.Cell.TheVariants.{Entry};
 ghost use Rattle.ft_locks.specs.Marks.{with_marks};
 ghost use Rattle.ft_locks.specs.Cells.{is_among, is_at, marks_at, after_hand};
-ghost use Rattle.ft_locks.specs.Holdings.{AreOpenStill, AreSingle, has_place, popped};
+ghost use Rattle.ft_locks.specs.Holdings.{AreOpenStill, AreSingle, AreUsed, IsDropped, cells_under, has_place, popped};
 
 use crate::cells::LockedCells;
 use crate::holders::Holders;
@@ -26,61 +26,52 @@ use std::marker::Model;
 
 /// Which owner has a place on which cell, and with which locks.
 ///
-/// A cell's owners are found by its hash, and an owner's cells by its list, so that what is done to
-/// one owner costs its own places and no others.
+/// A cell's owners are found by its hash, and an owner's cells by its list, which has their keys: so
+/// what is done to one owner costs its own places and no others, and hashes none.
 #[derive(Drop)]
 pub(crate) struct Holdings {
     cells: LockedCells,
-    chains: Chains<Cell>,
+    chains: Chains<usize>,
 }
 
 impl Model for Holdings {
-    ghost use Rattle.ft_locks.specs.Holdings.{Held, coded_held, IsJoined, has_place};
+    ghost use Rattle.ft_locks.specs.Holdings.{Held, coded_held, AreJoined, lists_under};
 
     ghost Value = { Held };
 
     ghost coded = { coded_held };
 
-    ghost view = { λ a. record { cells = a.cells; lists = a.chains } };
+    ghost view = { λ a. record { cells = a.cells.cells; lists = lists_under a.cells.at a.chains } };
 
-    ghost invariant = { λ a. IsJoined (has_place a.cells) a.chains };
+    ghost invariant = { λ a. AreJoined a.cells a.chains };
 }
 
 /// What became of an owner's place that was taken out.
 #[derive(Drop)]
 pub(crate) struct Dropped {
-    /// The cell on which it was.
-    pub(crate) cell: Cell,
-    /// Whether nobody has a place there now.
-    pub(crate) is_free: bool,
+    /// The cell on which it was, if nobody has a place there now.
+    pub(crate) freed: Option<Cell>,
 }
 
-/// Puts a clone of a cell in front of an owner's list. Want of memory changes nothing.
-fn push_clone(chains: &mut Chains<Cell>, owner: u64, cell: &Cell) -> Result<(), Memory>
-    requires { IsOpen chains.old owner }
-    ensures ok { OnOk result (chains.new ≡ finite.insert chains.old owner (cell.now ∷ list_in chains.old owner)) }
-    ensures err { OnErr result (chains.new ≡ chains.old) }
-{
-    chains.push_front(owner, cell.clone()?)?;
-    Ok(())
-}
-
-/// Takes the newest cell of an owner from its list, where there is one.
-fn discard_front(chains: &mut Chains<Cell>, owner: u64)
+/// Takes the newest of an owner's list out, where there is one.
+fn discard_front(chains: &mut Chains<usize>, owner: u64)
     ensures { chains.new ≡ popped chains.old owner }
 {
     let _ = chains.pop_front(owner);
 }
 
-/// Gives the places of an owner to another, on these cells, on which it has all its places.
-fn hand_all(cells: &mut LockedCells, listed: Values<'_, Cell>, from: u64, to: u64)
-    requires single { AreSingle listed }
-    requires listed { (c : Cell) → list_any (same_cell c) listed ≡ has_place cells.old c from }
+/// Gives the places of an owner to another, on the cells under these keys, on which it has all its
+/// places.
+fn hand_all(cells: &mut LockedCells, keys: Values<'_, usize>, from: u64, to: u64)
+    requires used { AreUsed cells.old.at keys }
+    requires single { AreSingle (cells_under cells.old.at keys) }
+    requires listed { (c : Cell) → list_any (same_cell c) (cells_under cells.old.at keys) ≡ has_place cells.old.cells c from }
     requires apart { from ≢ to }
-    ensures { (c : Cell) (u : ℕ) → marks_at cells.new c u ≡ after_hand from to (marks_at cells.old c) u }
+    ensures marks { (c : Cell) (u : ℕ) → marks_at cells.new.cells c u ≡ after_hand from to (marks_at cells.old.cells c) u }
+    ensures at { cells.new.at ≡ cells.old.at }
 {
-    for cell in listed {
-        cells.hand_over(cell, from, to);
+    for key in keys {
+        cells.hand_over(*key, from, to);
     }
 }
 
@@ -164,13 +155,13 @@ impl Holdings {
         ensures err { OnErr result ((c : Cell) (u : ℕ) → marks_at self.new.cells c u ≡ marks_at self.old.cells c u) }
         ensures lists { OnErr result (self.new.lists ≡ self.old.lists) }
     {
-        let had = self.cells.place(cell, owner, marks)?;
-        if had.is_some() {
-            return Ok(had);
+        let place = self.cells.place(cell, owner, marks)?;
+        if place.had.is_some() {
+            return Ok(place.had);
         }
-        if let Err(refused) = push_clone(&mut self.chains, owner, cell) {
-            self.cells.take_out(cell, owner);
-            return Err(refused);
+        if self.chains.push_front(owner, place.key).is_err() {
+            self.cells.take_out(place.key, owner);
+            return Err(Memory);
         }
         Ok(None)
     }
@@ -186,16 +177,11 @@ impl Holdings {
     /// Takes out the newest place of an owner, where it has one. Takes no memory.
     pub(crate) fn drop_front(&mut self, owner: u64) -> Option<Dropped>
         ensures none { IfNone result (((c : Cell) → marks_at self.old.cells c owner ≡ None) × (self.new ≡ self.old)) }
-        ensures there { IfSome result (λ dropped. IsSome (marks_at self.old.cells dropped.cell owner)) }
-        ensures list { IfSome result (λ dropped. list_in self.old.lists owner ≡ dropped.cell ∷ list_in self.new.lists owner) }
-        ensures lists { OnSome result (self.new.lists ≡ finite.insert self.old.lists owner (drop 1 (list_in self.old.lists owner))) }
-        ensures marks { IfSome result (λ dropped. (c : Cell) (u : ℕ) → marks_at self.new.cells c u ≡ cond (is_at dropped.cell owner c u) None (marks_at self.old.cells c u)) }
-        ensures gone { IfSome result (λ dropped. IsTrue dropped.is_free → (u : ℕ) → marks_at self.new.cells dropped.cell u ≡ None) }
-        ensures more { IfSome result (λ dropped. dropped.is_free ≡ false → (u : ℕ) × IsSome (marks_at self.new.cells dropped.cell u)) }
+        ensures dropped { IfSome result (λ dropped. IsDropped self.old self.new owner dropped.freed) }
     {
-        let cell = self.chains.pop_front(owner)?;
-        let is_free = self.cells.take_out(&cell, owner);
-        Some(Dropped { cell, is_free })
+        let key = self.chains.pop_front(owner)?;
+        let freed = self.cells.take_out(key, owner);
+        Some(Dropped { freed })
     }
 
     /// Gives the newest place of an owner to another, and answers whether there was one. Takes no
@@ -210,10 +196,10 @@ impl Holdings {
         ensures still { AreOpenStill self.old.lists self.new.lists }
         ensures same { result ≡ false → self.new ≡ self.old }
     {
-        let Some(cell) = self.chains.first(from) else {
+        let Some(key) = self.chains.first(from) else {
             return false;
         };
-        if self.cells.hand_over(cell, from, to) {
+        if self.cells.hand_over(*key, from, to) {
             discard_front(&mut self.chains, from);
         } else {
             self.chains.move_front(from, to);

@@ -1,18 +1,18 @@
 // The locks, a line for each.
-ghost use Rattle.std.specs.Prelude.{◌≡◌, ◌&&◌, OnOk};
+ghost use Rattle.std.specs.Prelude.{◌&&◌, OnOk};
 ghost use Rattle.std.specs.List.{list_any};
-ghost use Rattle.std.specs.HashMap.{IsUnique};
-ghost use Rattle.ft_tree.specs.CellOrder.{same_cell};
+ghost use Rattle.slab.specs.Slab.{entries};
 ghost use Rattle.ft_locks.specs.Marks.{has_mark};
 ghost use Rattle.ft_locks.specs.Listing.{same_line, AreAdded, is_by, is_on};
 
-use crate::holders::{Holders, Holding};
+use crate::cells::Locked;
+use crate::holders::Holding;
 use crate::line::{LockKind, LockLine};
 use ft_base::Memory;
 use ft_calls::Mode;
 use ft_forest::TxnId;
 use ft_tree::Cell;
-use std::collections::HashMap;
+use slab::Slab;
 
 /// Lists one lock of an owner on a cell, where it has it.
 fn list_lock(
@@ -58,15 +58,11 @@ fn list_cell(lines: &mut Vec<LockLine>, cell: &Cell, list: &[Holding]) -> Result
 }
 
 /// Lists the locks on all cells.
-pub(crate) fn list_cells(
-    lines: &mut Vec<LockLine>,
-    cells: &HashMap<Cell, Holders>,
-) -> Result<(), Memory>
-    ensures added { OnOk result (AreAdded lines.old.items lines.new.items (λ l. list_any (is_on l) cells.now.entries)) }
-    ensures apart { IsUnique same_cell cells.now }
+pub(crate) fn list_cells(lines: &mut Vec<LockLine>, cells: &Slab<Locked>) -> Result<(), Memory>
+    ensures { OnOk result (AreAdded lines.old.items lines.new.items (λ l. list_any (λ e. is_on l e.1) (entries cells.now))) }
 {
-    for (cell, holders) in cells.iter() {
-        list_cell(lines, cell, holders.as_slice())?;
+    for (_, locked) in cells.iter() {
+        list_cell(lines, &locked.cell, locked.holders.as_slice())?;
     }
     Ok(())
 }

@@ -185,8 +185,8 @@ impl Locks {
         ensures none { IfNone result ((self.old.let_go ≡ set.empty) × (self.new ≡ self.old)) }
     {
         while let Some(dropped) = self.holdings.drop_front(LET_GO) {
-            if dropped.is_free {
-                return Some(dropped.cell);
+            if dropped.freed.is_some() {
+                return dropped.freed;
             }
         }
         None

@@ -1,17 +1,36 @@
-use Rattle.std.proofs.Common.{Some, None, ap, ◌∙◌}
-use Rattle.std.specs.Map.{keys_of}
-use Rattle.ft_locks.proofs.CellViews.{seen_cells, found-seen, seen-put, indexed-keys}
-use Rattle.ft_locks.proofs.Loans.{same_loan, lent_there}
+use Rattle.std.proofs.Common.{Some, None, MutBor, Option, ap, sym, subst, ◌∙◌}
+use mathlib.Core.Logic.{inr}
+use Rattle.std.specs.Option.{ghost_name_of, option_copied_mut}
+use borrow.Follows.Closed.{read_of}
+use Rattle.ft_locks.specs.Holders.{Owners}
+use Rattle.ft_locks.specs.Slots.{AreKeyed}
+use Rattle.ft_locks.specs.Lending.{with_holders}
+use Rattle.ft_locks.proofs.Loans.{same_lent}
+use Rattle.ft_locks.proofs.Slots.{seen-under, lent-at, lent-seen}
 use Rattle.ft_locks.proofs.cells.LockedCells.get_mut.Goals as goal
 
+pub returns-in_err-locked : goal.returns-in_err-locked
+returns-in_err-locked c = (
+  (λ i. inr (c.self.view_is i)) ∙ ap (λ (o : Option (MutBor Owners)). read_of (ghost_name_of o) (with_holders c.args.self.now c.args.key) c.args.self.now) (sym c.from_residual.ensures),
+  record {
+    writes_back = tt;
+    value =
+        ap option_copied_mut c.from_residual.ensures
+        ∙ seen-under c.self.inside.locked c.self.inside.keys.entries c.args.self.now c.self.view_is c.self.invariant.0 c.args.key None (sym c.get_mut.ensures.value ∙ ap option_copied_mut c.in_err-locked.was);
+  },
+)
+
 pub invariant_of-self-lent : goal.invariant_of-self-lent
-invariant_of-self-lent c None = (λ w. indexed-keys _ _ _ (c.get_mut.follows.holds w).1 c.self.invariant, indexed-keys _ _ _ (ap (λ m. keys_of m.entries) c.get_mut.follows.holds-at-none) c.self.invariant)
-invariant_of-self-lent c (Some x) = (λ w. indexed-keys _ _ _ (c.get_mut.follows.holds w).1 c.self.invariant, indexed-keys _ _ _ (ap (λ m. keys_of m.entries) c.get_mut.follows.holds-at-none) c.self.invariant)
+invariant_of-self-lent c = λ w.
+    let there = sym c.get_mut.ensures.value ∙ ap option_copied_mut c.in_ok-locked.was in
+    (subst (λ at. AreKeyed at c.self.inside.keys.entries) (sym (lent-at c.self.inside.locked c.self.inside.keys.entries c.args.self.now c.self.view_is c.self.invariant.0 c.args.key c.in_ok-locked.locked.now there w)) c.self.invariant.0, c.self.invariant.1)
 
 pub returns : goal.returns
-returns c = (
-  same_loan c.get_mut.result _ _ _ _
-      (λ some w. seen-put _ _ _ c.args.cell.now w c.self.view_is ((c.get_mut.follows.holds w).3 (lent_there c.get_mut.result _ c.get_mut.ensures.value some)).0)
-      (ap (λ m. seen_cells m.entries) c.get_mut.follows.holds-at-none ∙ c.self.view_is),
-  record { writes_back = tt; value = c.get_mut.ensures.value ∙ found-seen _ _ c.args.cell.now c.self.view_is },
-)
+returns c =
+    let there = sym c.get_mut.ensures.value ∙ ap option_copied_mut c.in_ok-locked.was in (
+      same_lent _ _ _ (lent-seen c.self.inside.locked c.self.inside.keys.entries c.args.self.now c.self.view_is c.self.invariant.0 c.args.key c.in_ok-locked.locked.now there),
+      record {
+        writes_back = tt;
+        value = seen-under c.self.inside.locked c.self.inside.keys.entries c.args.self.now c.self.view_is c.self.invariant.0 c.args.key (Some c.in_ok-locked.locked.now) there;
+      },
+    )
