@@ -1,17 +1,15 @@
 -- Who is noted as in the way.
 use Rattle.std.proofs.Common.{◌≡◌, ◌⊎◌, inl, inr, ◌<◌, ◌+◌, ℕ, Bool, true, false, cond, not, ◌&&◌, ◌||◌, ◌==◌, List, [], ◌∷◌, take, map, length, get_or, Option, Some, None, is_some, refl, sym, ap, ◌∙◌}
-use Rattle.std.proofs.lemmas.Bool.{false≢true, or_cases, or_left, or_right, eqb-true}
+use Rattle.std.proofs.lemmas.Bool.{false≢true, and_parts, or_cases, or_left, or_right, eqb-true}
 use Rattle.std.specs.List.{list_any}
 use Rattle.std.proofs.lemmas.List.{take_more}
 use Rattle.std.proofs.lemmas.List.Folds.{list_any-append}
 use Rattle.std.specs.Ordering.{nat_cmp, eq_by_cmp, is_lt}
-use Rattle.std.specs.Prelude.{T, nat_eq}
+use Rattle.std.specs.Prelude.{T}
 use Rattle.std.specs.declared.cmp.Ordering.{Ordering}
 use Rattle.std.specs.declared.cmp.Ordering.TheVariants.{Less, Equal, Greater}
 use Rattle.std.specs.FinMap.Entries.{below_all}
 use Rattle.std.specs.Cmp.{nat_cmp_total, nat_eq_equiv, unsigned_tied, eq_by_cmp_equiv, ranked}
-use Rattle.std.specs.Cmp.Lexicographic.{pointwise, bytes_decides}
-use Rattle.std.specs.HashSet as hashed
 use Rattle.std.specs.FinMap as finite
 use Rattle.ft_tree.specs.Entries.{entry_at}
 use Rattle.ft_tree.specs.declared.cell.Cell.{Cell}
@@ -35,8 +33,8 @@ use Rattle.ft_locks.specs.declared.line.LockLine.{LockLine}
 use Rattle.ft_locks.specs.Locks.{LockTable, has_lock, line_access, OwnsConflict, AreBlockers}
 use Rattle.ft_locks.specs.Seen.{has_mark_of, has_line, table_of}
 use Rattle.ft_locks.specs.Holders.{marks_in, AreApart}
-use Rattle.ft_locks.specs.Cells.{Cells, NameSet, marks_at}
-use Rattle.ft_locks.specs.Blocking.{Found, is_in_way, way, is_listed_in_way, is_entry_of, beside, blocks}
+use Rattle.ft_locks.specs.Cells.{Cells, Keyed, marks_at, holders_of, holders_under}
+use Rattle.ft_locks.specs.Blocking.{Found, is_in_way, way, is_listed_in_way, is_holder_in_way, is_entry_of, AreEntriesOf, beside, blocks}
 use Rattle.ft_locks.proofs.HolderLists.{blank, owner_passes}
 
 listed_more : (list : List Holding) (i : ℕ) → i < length list → (mode : Mode) (u : ℕ)
@@ -130,9 +128,6 @@ passes_at {A = A} p same x exact h (y ∷ ys) e = by_head (same y) refl e (passe
     by_head true t e more = ap (λ b. b || list_any p ys) (ap p (sym (exact y t)) ∙ h)
     by_head false t e more = ap (λ b. p y || b) (more e) ∙ or-true (p y)
 
-name_exact : (n k : List ℕ) → pointwise nat_eq n k ≡ true → n ≡ k
-name_exact n k e = (bytes_decides n k).0 e
-
 among_keys : (m : Cells) (c : Cell) → is_some (finite.get m c) ≡ true → list_any (same_cell c) (finite.keys m) ≡ true
 among_keys m c e = sym (finite.contains_key-keys m c) ∙ e
 
@@ -151,25 +146,44 @@ entry_is m d mode u (Links i) both = absurd (false≢true both)
 entry_is m d mode u (Bytes i) both = absurd (false≢true both)
 entry_is m d mode u (Fd f) both = absurd (false≢true both)
 
-pub no_names : (m : Cells) (d : ℕ) → ((n : List ℕ) → false ≡ is_some (finite.get m (Entry (entry_at d n)))) → (mode : Mode) (u : ℕ) → beside m (Names d) mode u ≡ false
-no_names m d none mode u = same_truth (beside m (Names d) mode u) false (λ e.
-    let one = some_one (λ c. is_entry_of d c && way m c mode u) (finite.keys m) e in
-    let entry = entry_is m d mode u one.0 one.1 in
-    none entry.0 ∙ in_keys m (Entry (entry_at d entry.0)) mode u (ap (λ c. way m c mode u) (sym entry.1) ∙ entry.2)) (λ e. absurd (false≢true e))
+-- an owner's locks on the cell under a key are in the way
+abbrev pub way_under : Keyed → ℕ → Mode → ℕ → Bool
+way_under k key mode u = is_holder_in_way (holders_under k key) mode u
 
-pub names_are : (m : Cells) (d : ℕ) (names : NameSet) → ((n : List ℕ) → hashed.contains (pointwise nat_eq) names n ≡ is_some (finite.get m (Entry (entry_at d n)))) → (mode : Mode) (u : ℕ)
-    → list_any (λ n. way m (Entry (entry_at d n)) mode u) names.keys ≡ beside m (Names d) mode u
-names_are m d names are mode u = same_truth _ _
+way_known : (k : Keyed) (key : ℕ) (c : Cell) → finite.get k.at key ≡ Some c → (mode : Mode) (u : ℕ) → way_under k key mode u ≡ way k.cells c mode u
+way_known k key c is mode u = ap (λ o. is_holder_in_way (holders_of k.cells o) mode u) is
+
+some_in : (p : ℕ → Bool) (keys : List ℕ) → list_any p keys ≡ true → (key : ℕ) × In key keys × (p key ≡ true)
+some_in p [] e = absurd (false≢true e)
+some_in p (x ∷ xs) e = by_head (p x) refl e (some_in p xs)
+  where
+    by_head : (b : Bool) → p x ≡ b → (b || list_any p xs) ≡ true → (list_any p xs ≡ true → (key : ℕ) × In key xs × (p key ≡ true)) → (key : ℕ) × In key (x ∷ xs) × (p key ≡ true)
+    by_head true is e later = (x, inl refl, is)
+    by_head false is e later = let found = later e in (found.0, inr found.1, found.2)
+
+in_some : (p : ℕ → Bool) (keys : List ℕ) (key : ℕ) → In key keys → p key ≡ true → list_any p keys ≡ true
+in_some p [] key i e = absurd i
+in_some p (x ∷ xs) key (inl is) e = ap (λ b. b || list_any p xs) (ap p (sym is) ∙ e)
+in_some p (x ∷ xs) key (inr i) e = ap (λ b. p x || b) (in_some p xs key i e) ∙ or_true (p x)
+  where
+    or_true : (b : Bool) → (b || true) ≡ true
+    or_true true = refl
+    or_true false = refl
+
+-- the keys of a directory's entries show who is in the way there
+pub entries_are : (k : Keyed) (d : ℕ) (keys : List ℕ) → AreEntriesOf k d keys → (mode : Mode) (u : ℕ) → list_any (λ key. way_under k key mode u) keys ≡ beside k.cells (Names d) mode u
+entries_are k d keys are mode u = same_truth _ _
     (λ e.
-    let one = some_one (λ n. way m (Entry (entry_at d n)) mode u) names.keys e in
-    passes_at (λ c. is_entry_of d c && way m c mode u) (same_cell (Entry (entry_at d one.0))) (Entry (entry_at d one.0)) (λ c t. same_cell-is (Entry (entry_at d one.0)) c t)
-    (λ j. itself d j && one.1 j) (finite.keys m) (among_keys m (Entry (entry_at d one.0)) (in_keys m (Entry (entry_at d one.0)) mode u one.1)))
+    let one = some_in (λ key. way_under k key mode u) keys e in
+    let entry = are.each one.0 one.1 in
+    let here = sym (way_known k one.0 entry.0 entry.1 mode u) ∙ one.2 in
+    passes_at (λ c. is_entry_of d c && way k.cells c mode u) (same_cell entry.0) entry.0 (λ c t. same_cell-is entry.0 c t)
+    (λ j. entry.2 j && here j) (finite.keys k.cells) (among_keys k.cells entry.0 (in_keys k.cells entry.0 mode u here)))
     (λ e.
-    let one = some_one (λ c. is_entry_of d c && way m c mode u) (finite.keys m) e in
-    let entry = entry_is m d mode u one.0 one.1 in
-    let here = ap (λ c. way m c mode u) (sym entry.1) ∙ entry.2 in
-    passes_at (λ n. way m (Entry (entry_at d n)) mode u) (pointwise nat_eq entry.0) entry.0 (λ k t. name_exact entry.0 k t) here names.keys
-    (are entry.0 ∙ in_keys m (Entry (entry_at d entry.0)) mode u here))
+    let one = some_one (λ c. is_entry_of d c && way k.cells c mode u) (finite.keys k.cells) e in
+    let both = and_parts (is_entry_of d one.0) (way k.cells one.0 mode u) one.1 in
+    let key = are.all one.0 (in_keys k.cells one.0 mode u both.1) both.0 in
+    in_some (λ j. way_under k j mode u) keys key.0 key.2 (way_known k key.0 one.0 key.1 mode u ∙ both.1))
 
 -- Who is in the way owns a conflicting lock.
 marks_in_way : (x : Marks) (mode : Mode) → are_in_the_way x mode ≡ true → (m : Mode) × (kind : LockKind) × (has_mark x m kind ≡ true) × ((is_write m || is_write mode) ≡ true)
@@ -352,3 +366,25 @@ module _ (t : LockTable) (m : Cells) (lists : Lists Cell) (is : table_of m lists
       not_true : (b : Bool) → not b ≡ true → b ≡ false
       not_true true e = absurd (false≢true e)
       not_true false e = refl
+
+-- One key more of those whose holders are noted.
+pub noted_more : (x n : Bool) (p : ℕ → Bool) (keys : List ℕ) (i : ℕ) → i < length keys → ((x || (n && list_any p (take i keys))) || (n && p (get_or keys i 0))) ≡ (x || (n && list_any p (take (i + 1) keys)))
+noted_more x n p keys i within =
+    grouped x n (list_any p (take i keys)) (p (get_or keys i 0))
+    ∙ ap (λ b. x || (n && b)) (sym (ap (list_any p) (take_more keys i 0 within) ∙ list_any-append p (take i keys) (get_or keys i 0 ∷ [])))
+  where
+    grouped : (x n a b : Bool) → ((x || (n && a)) || (n && b)) ≡ (x || (n && (a || (b || false))))
+    grouped true n a b = refl
+    grouped false false a b = refl
+    grouped false true true b = refl
+    grouped false true false true = refl
+    grouped false true false false = refl
+
+pub noted_none : (x n : Bool) → x ≡ (x || (n && false))
+noted_none true n = refl
+noted_none false true = refl
+noted_none false false = refl
+
+-- the same in the table of cells
+pub noted_all : (k : Keyed) (m : Cells) → k.cells ≡ m → (d : ℕ) (keys : List ℕ) → AreEntriesOf k d keys → (mode : Mode) (u : ℕ) → list_any (λ key. way_under k key mode u) keys ≡ beside m (Names d) mode u
+noted_all k m is d keys are mode u = entries_are k d keys are mode u ∙ ap (λ n. beside n (Names d) mode u) is

@@ -1,11 +1,13 @@
 pub mod HolderLists
-pub mod Names
+pub mod Cases
+pub mod Paired
 pub mod CellViews
 pub mod Slots
 pub mod Loans
 pub mod Places
 pub mod Joining
 pub mod Under
+pub mod EntryKeys
 pub mod Whole
 pub mod Tables
 pub mod Handing

@@ -34,7 +34,8 @@ use Rattle.ft_locks.specs.Locks.{LockTable, line_cmp, line_cmp_total, has_lock, 
 use Rattle.ft_locks.specs.Listing.{same_line, is_listed, AreAdded, is_by, is_on}
 use Rattle.ft_locks.proofs.HolderLists.{owner_passes, get-seen}
 use Rattle.ft_locks.proofs.CellViews.{key_in}
-use Rattle.ft_locks.proofs.Slots.{the_one, at-there, at-none, get-cells, cells-there, any_there, there_any}
+use Rattle.ft_locks.proofs.Slots.{at-there, at-none, get-cells, cells-there, any_there, there_any}
+use Rattle.ft_locks.proofs.Paired.{the_one}
 use Rattle.ft_locks.proofs.Tables.{line, same_line-is, same_truth, lines-seen}
 
 -- A lock of one owner on one cell.

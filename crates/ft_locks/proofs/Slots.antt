@@ -1,11 +1,11 @@
 -- The cells in their slab as callers see them, as a cell comes, gets other holders, and goes.
-use Rattle.std.proofs.Common.{◌≡◌, ℕ, zero, suc, ◌+◌, ◌<◌, Bool, true, false, cond, ◌||◌, List, [], ◌∷◌, map, get_or, Option, Some, None, IsSome, is_some, unwrap_or, refl, sym, ap, subst, ◌∙◌, arith}
-use Rattle.std.proofs.lemmas.Bool.{false≢true, ne_eqb, eq-eqb}
+use Rattle.std.proofs.Common.{◌≡◌, ℕ, zero, suc, ◌+◌, ◌<◌, Bool, true, false, cond, ◌||◌, List, [], ◌∷◌, map, get_or, Option, Some, None, IsSome, is_some, refl, sym, ap, subst, ◌∙◌, arith}
+use Rattle.std.proofs.lemmas.Bool.{false≢true}
 use Rattle.std.specs.Option.{option_map, IfSome}
 use Rattle.std.specs.Prelude.{IsSomeAnd}
 use Rattle.std.specs.List.{list_any}
 use Rattle.std.specs.Ordering.{nat_cmp, eq_by_cmp}
-use Rattle.std.specs.Cmp.{nat_cmp_total, eq_by_cmp_equiv, unsigned_tied, Equal-is}
+use Rattle.std.specs.Cmp.{nat_cmp_total, eq_by_cmp_equiv}
 use Rattle.std.specs.FinMap as finite
 use Rattle.std.specs.Map.{lookup}
 use Rattle.std.proofs.lemmas.Map.Made.{lookup-map_values}
@@ -16,28 +16,14 @@ use Rattle.ft_tree.specs.CellOrder.{cell_cmp, cell_cmp_total, same_cell, same_ce
 use Rattle.ft_locks.specs.declared.cells.Locked.{Locked}
 use Rattle.ft_locks.specs.Holders.{Owners}
 use Rattle.ft_locks.specs.Cells.{Cells, CellKeys, Keyed, marks_at, holders_of, holders_under}
-use Rattle.ft_locks.specs.Slots.{owners_of, cells_of, at_of, AreKeyed}
+use Rattle.ft_locks.specs.Slots.{owners_of, cells_of, at_of, AreKeyed, shown, ShowSame}
 use Rattle.ft_locks.specs.Lending.{with_holders_of, with_holders}
+use Rattle.ft_locks.proofs.Paired.{the_one, tie, no_tie, tied, untied, paired-put, paired-out, paired-same}
 use Rattle.ft_locks.proofs.CellViews.{key_in, same_cells, turned_cell}
 use Rattle.ft_locks.proofs.Places.{put_back}
 
-pub the_one : {A : Type 0} (x y : A) → Some x ≡ Some y → x ≡ y
-the_one x y e = ap (λ o. unwrap_or o x) e
-
 same_itself : (c : Cell) → same_cell c c ≡ true
 same_itself c = (eq_by_cmp_equiv cell_cmp_total).refl c
-
-tie : (j k : ℕ) → j ≡ k → eq_by_cmp nat_cmp j k ≡ true
-tie j k is = unsigned_tied j k ∙ eq-eqb j k is
-
-no_tie : (j k : ℕ) → (j ≡ k → ⊥) → eq_by_cmp nat_cmp j k ≡ false
-no_tie j k apart = unsigned_tied j k ∙ ne_eqb j k apart
-
-tied : (j k : ℕ) → eq_by_cmp nat_cmp j k ≡ true → j ≡ k
-tied j k e = finite.nat_cmp-IsAntisymmetric j k ((Equal-is (nat_cmp j k)).0 e)
-
-untied : (j k : ℕ) → eq_by_cmp nat_cmp j k ≡ false → j ≡ k → ⊥
-untied j k e is = false≢true (sym e ∙ tie j k is)
 
 -- the cell in a slot
 abbrev pub cell_in : Option Locked → Option Cell
@@ -185,53 +171,12 @@ module _ (s s' : Slab Locked) (k : ℕ) (o : Option Locked) (changes : Updates s
 -- The keys of the cells, as one comes and as one goes.
 module _ (at : CellKeys) (index index' : List (Cell × ℕ)) (c : Cell) (k : ℕ) (keyed : AreKeyed at index) where
   pub keyed-put : finite.get at k ≡ None → key_in index c ≡ None → ((q : Cell) → key_in index' q ≡ cond (same_cell c q) (Some k) (key_in index q)) → AreKeyed (finite.insert at k c) index'
-  keyed-put free absent put q j = (
-    λ is. finite.get-insert nat_cmp_total at k c j ∙ stands (same_cell c q) refl is,
-    λ is. put q ∙ found (eq_by_cmp nat_cmp j k) refl (sym (finite.get-insert nat_cmp_total at k c j) ∙ is),
-  )
-    where
-      stands : (b : Bool) → same_cell c q ≡ b → key_in index' q ≡ Some j → cond (eq_by_cmp nat_cmp j k) (Some c) (finite.get at j) ≡ Some q
-      stands true e is =
-          let same : k ≡ j = the_one k j (sym (put q ∙ ap (λ b. cond b (Some k) (key_in index q)) e) ∙ is) in
-          ap (λ b. cond b (Some c) (finite.get at j)) (tie j k (sym same)) ∙ ap Some (same_cell-is c q e)
-      stands false e is =
-          let there = (keyed q j).0 (sym (put q ∙ ap (λ b. cond b (Some k) (key_in index q)) e) ∙ is) in
-          ap (λ b. cond b (Some c) (finite.get at j)) (no_tie j k (λ same. false≢true (ap is_some (sym free ∙ ap (finite.get at) (sym same) ∙ there)))) ∙ there
-
-      found : (b : Bool) → eq_by_cmp nat_cmp j k ≡ b → cond (eq_by_cmp nat_cmp j k) (Some c) (finite.get at j) ≡ Some q → cond (same_cell c q) (Some k) (key_in index q) ≡ Some j
-      found true e is =
-          let same : c ≡ q = the_one c q (sym (ap (λ b. cond b (Some c) (finite.get at j)) e) ∙ is) in
-          ap (λ b. cond b (Some k) (key_in index q)) (ap (same_cell c) (sym same) ∙ same_itself c) ∙ ap Some (sym (tied j k e))
-      found false e is =
-          let key = (keyed q j).1 (sym (ap (λ b. cond b (Some c) (finite.get at j)) e) ∙ is) in
-          by_cell (same_cell c q) refl key
-        where
-          by_cell : (b : Bool) → same_cell c q ≡ b → key_in index q ≡ Some j → cond (same_cell c q) (Some k) (key_in index q) ≡ Some j
-          by_cell true d key = absurd (false≢true (ap is_some (sym absent ∙ ap (key_in index) (same_cell-is c q d) ∙ key)))
-          by_cell false d key = ap (λ b. cond b (Some k) (key_in index q)) d ∙ key
+  keyed-put free absent put =
+      paired-put same_cell same_cell-is same_itself (key_in index) (key_in index') (finite.get at) (finite.get (finite.insert at k c)) c k keyed free absent put (finite.get-insert nat_cmp_total at k c)
 
   pub keyed-out : finite.get at k ≡ Some c → ((q : Cell) → key_in index' q ≡ cond (same_cell c q) None (key_in index q)) → AreKeyed (finite.remove at k) index'
-  keyed-out there out q j = (
-    λ is. finite.get-remove nat_cmp_total at k j ∙ stands (same_cell c q) refl is,
-    λ is. out q ∙ found (eq_by_cmp nat_cmp j k) refl (sym (finite.get-remove nat_cmp_total at k j) ∙ is),
-  )
-    where
-      stands : (b : Bool) → same_cell c q ≡ b → key_in index' q ≡ Some j → cond (eq_by_cmp nat_cmp j k) None (finite.get at j) ≡ Some q
-      stands true e is = absurd (false≢true (ap is_some (sym (out q ∙ ap (λ b. cond b None (key_in index q)) e) ∙ is)))
-      stands false e is =
-          let here = (keyed q j).0 (sym (out q ∙ ap (λ b. cond b None (key_in index q)) e) ∙ is) in
-          ap (λ b. cond b None (finite.get at j))
-          (no_tie j k (λ same. false≢true (sym e ∙ ap (same_cell c) (sym (the_one c q (sym there ∙ ap (finite.get at) (sym same) ∙ here))) ∙ same_itself c))) ∙ here
-
-      found : (b : Bool) → eq_by_cmp nat_cmp j k ≡ b → cond (eq_by_cmp nat_cmp j k) None (finite.get at j) ≡ Some q → cond (same_cell c q) None (key_in index q) ≡ Some j
-      found true e is = absurd (false≢true (ap is_some (sym (ap (λ b. cond b None (finite.get at j)) e) ∙ is)))
-      found false e is =
-          let key = (keyed q j).1 (sym (ap (λ b. cond b None (finite.get at j)) e) ∙ is) in
-          by_cell (same_cell c q) refl key
-        where
-          by_cell : (b : Bool) → same_cell c q ≡ b → key_in index q ≡ Some j → cond (same_cell c q) None (key_in index q) ≡ Some j
-          by_cell true d key = absurd (untied j k e (the_one j k (sym key ∙ ap (key_in index) (sym (same_cell-is c q d)) ∙ (keyed c k).1 there)))
-          by_cell false d key = ap (λ b. cond b None (key_in index q)) d ∙ key
+  keyed-out there out =
+      paired-out same_cell same_cell-is same_itself (key_in index) (key_in index') (finite.get at) (finite.get (finite.remove at k)) c k keyed there out (finite.get-remove nat_cmp_total at k)
 
 pub keyed-none : (s : Slab Locked) (index : List (Cell × ℕ)) → s.slots ≡ [] → index ≡ [] → AreKeyed (at_of s) index
 keyed-none s index empty none c k = (
@@ -346,3 +291,43 @@ there_any p (Some x ∷ slots) n any = by_test (p x) refl any (there_any p slots
 
 pub and_some : {A : Type 0} (o : Option A) (x : A) (P : A → Type 0) → o ≡ Some x → P x → IsSomeAnd o P
 and_some o x P is p = subst (λ y. IsSomeAnd y P) (sym is) p
+
+-- What shows the same cells with the same holders.
+module _ (s s' : Slab Locked) (same : ShowSame (get s) (get s')) where
+  pub at-shown : at_of s' ≡ at_of s
+  at-shown = same_at _ _ (λ k. get-at s' k ∙ by_slots (get s' k) (get s k) (same k) ∙ sym (get-at s k))
+    where
+      by_slots : (x y : Option Locked) → shown x ≡ shown y → cell_in x ≡ cell_in y
+      by_slots None None e = refl
+      by_slots None (Some y) e = absurd (false≢true (ap is_some e))
+      by_slots (Some x) None e = absurd (false≢true (sym (ap is_some e)))
+      by_slots (Some x) (Some y) e = ap (λ (p : Cell × Owners). Some p.0) (the_one (x.cell, x.holders) (y.cell, y.holders) e)
+
+  pub cells-shown : (index : List (Cell × ℕ)) → cells_of s' index ≡ cells_of s index
+  cells-shown index = same_cells _ _ (λ q. get-cells s' index q ∙ by_key (key_in index q) ∙ sym (get-cells s index q))
+    where
+      by_slots : (x y : Option Locked) → shown x ≡ shown y → owners_of x ≡ owners_of y
+      by_slots None None e = refl
+      by_slots None (Some y) e = absurd (false≢true (ap is_some e))
+      by_slots (Some x) None e = absurd (false≢true (sym (ap is_some e)))
+      by_slots (Some x) (Some y) e = ap (λ (p : Cell × Owners). p.1) (the_one (x.cell, x.holders) (y.cell, y.holders) e)
+
+      by_key : (o : Option ℕ) → option_map (λ k. owners_of (get s' k)) o ≡ option_map (λ k. owners_of (get s k)) o
+      by_key None = refl
+      by_key (Some k) = ap Some (by_slots (get s' k) (get s k) (same k))
+
+-- an index that has the same keys shows the same
+pub cells-index : (s : Slab Locked) (es fs : List (Cell × ℕ)) → ((q : Cell) → key_in fs q ≡ key_in es q) → cells_of s fs ≡ cells_of s es
+cells-index s es fs same = same_cells _ _ (λ q. get-cells s fs q ∙ ap (option_map (λ k. owners_of (get s k))) (same q) ∙ sym (get-cells s es q))
+
+pub keyed-index : (at : CellKeys) (es fs : List (Cell × ℕ)) → ((q : Cell) → key_in fs q ≡ key_in es q) → AreKeyed at es → AreKeyed at fs
+keyed-index at es fs same keyed = paired-same (key_in es) (key_in fs) (finite.get at) (finite.get at) keyed same (λ k. refl)
+
+-- a key that was put for nothing is taken out again
+pub index-back : (es fs gs : List (Cell × ℕ)) (c : Cell) (k : ℕ) → key_in es c ≡ None → ((q : Cell) → key_in fs q ≡ cond (same_cell c q) (Some k) (key_in es q))
+    → ((q : Cell) → key_in gs q ≡ cond (same_cell c q) None (key_in fs q)) → (q : Cell) → key_in gs q ≡ key_in es q
+index-back es fs gs c k absent put out q = out q ∙ ap (cond (same_cell c q) None) (put q) ∙ by_cell (same_cell c q) refl
+  where
+    by_cell : (b : Bool) → same_cell c q ≡ b → cond (same_cell c q) None (cond (same_cell c q) (Some k) (key_in es q)) ≡ key_in es q
+    by_cell true e = ap (λ b. cond b None (cond b (Some k) (key_in es q))) e ∙ sym (ap (key_in es) (sym (same_cell-is c q e)) ∙ absent)
+    by_cell false e = ap (λ b. cond b None (cond b (Some k) (key_in es q))) e

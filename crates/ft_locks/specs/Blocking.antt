@@ -1,5 +1,5 @@
 -- Who is in the way of an access, cell by cell.
-use Rattle.std.specs.Prelude.{◌≡◌, ◌==◌, ◌&&◌, ◌||◌, ℕ, Bool, false, List, Option, Some, None}
+use Rattle.std.specs.Prelude.{◌≡◌, ◌==◌, ◌&&◌, ◌||◌, ℕ, Bool, true, false, List, Option, Some, None, unwrap_or}
 use Rattle.std.specs.List.{list_any}
 use Rattle.std.specs.Ordering.{nat_cmp}
 use Rattle.std.specs.FinMap as finite
@@ -10,7 +10,9 @@ use Rattle.ft_calls.specs.declared.call.Access.{Access}
 use Rattle.ft_locks.specs.declared.marks.Marks.{Marks}
 use Rattle.ft_locks.specs.declared.holders.Holding.{Holding}
 use Rattle.ft_locks.specs.Marks.{are_in_the_way}
-use Rattle.ft_locks.specs.Cells.{Cells, marks_at}
+use Rattle.ft_locks.specs.Holders.{Owners}
+use Rattle.ft_laws.specs.Lists.{In}
+use Rattle.ft_locks.specs.Cells.{Cells, Keyed, marks_at}
 
 abbrev pub Found : Type 0
 Found = finite.FinMap nat_cmp (Unit {0})
@@ -27,6 +29,10 @@ is_in_way (Some marks) mode = are_in_the_way marks mode
 abbrev pub way : Cells → Cell → Mode → ℕ → Bool
 way m c mode u = is_in_way (marks_at m c u) mode
 
+-- the same by the holders of the cell, if there are any
+abbrev pub is_holder_in_way : Option Owners → Mode → ℕ → Bool
+is_holder_in_way holders mode u = is_in_way (finite.get (unwrap_or holders finite.empty) u) mode
+
 abbrev pub is_listed_in_way : List Holding → Mode → ℕ → Bool
 is_listed_in_way list mode u = list_any (λ h. (h.owner == u) && are_in_the_way h.marks mode) list
 
@@ -37,6 +43,11 @@ is_entry_of d (Parent e) = false
 is_entry_of d (Links i) = false
 is_entry_of d (Bytes i) = false
 is_entry_of d (Fd f) = false
+
+-- these are the keys of a directory's entries
+pub record AreEntriesOf (k : Keyed) (d : ℕ) (keys : List ℕ) : Type 0 where
+  pub each : (key : ℕ) → In key keys → (c : Cell) × (finite.get k.at key ≡ Some c) × (is_entry_of d c ≡ true)
+  pub all : (c : Cell) → finite.contains_key k.cells c ≡ true → is_entry_of d c ≡ true → (key : ℕ) × (finite.get k.at key ≡ Some c) × In key keys
 
 -- the same on the cells that overlap this one besides itself
 abbrev pub beside : Cells → Cell → Mode → ℕ → Bool

@@ -1,16 +1,9 @@
--- The locked cells, and the names of those that are entries.
-use Rattle.std.specs.Prelude.{◌≡◌, ℕ, nat_eq, Bool, false, ◌==◌, ◌&&◌, cond, List, Option, Some, None, IsSome, is_some, unwrap_or, option_map, refl}
+-- The locked cells, and the places on them.
+use Rattle.std.specs.Prelude.{◌≡◌, ℕ, Bool, ◌==◌, ◌&&◌, cond, Option, Some, None, IsSome, unwrap_or, option_map, refl}
 use Rattle.std.specs.Ordering.{nat_cmp}
-use Rattle.std.specs.Cmp.Lexicographic.{pointwise}
-use Rattle.std.specs.HashSet as hashed
-use Rattle.std.specs.HashSet.{HashSet}
-use Rattle.std.proofs.Common.{BuildHasherDefault, FoldHasher}
 use Rattle.std.specs.Coded.{Coded, code_by, coded×, coded_ℕ}
 use Rattle.std.specs.FinMap as finite
-use Rattle.std.specs.Map.{lookup}
-use Rattle.ft_tree.specs.Entries.{entry_at}
 use Rattle.ft_tree.specs.declared.cell.Cell.{Cell}
-use Rattle.ft_tree.specs.declared.cell.Cell.TheVariants.{Entry}
 use Rattle.ft_tree.specs.contracts.cell.Cell as cell
 use Rattle.ft_tree.specs.CellOrder.{cell_cmp, same_cell}
 use Rattle.ft_locks.specs.declared.marks.Marks.{Marks}
@@ -43,25 +36,6 @@ holders_of m (Some c) = finite.get m c
 -- the holders of the cell under a key
 abbrev pub holders_under : Keyed → ℕ → Option Owners
 holders_under k key = holders_of k.cells (finite.get k.at key)
-
--- the names of one directory's entries, hashed
-abbrev pub NameSet : Type 0
-NameSet = HashSet (List ℕ) (BuildHasherDefault FoldHasher)
-
--- for each directory the names of its entries
-abbrev pub EntryNames : Type 0
-EntryNames = finite.FinMap nat_cmp NameSet
-
-abbrev pub is_among : Option NameSet → List ℕ → Bool
-is_among None name = false
-is_among (Some names) name = hashed.contains (pointwise nat_eq) names name
-
-abbrev pub has_name : EntryNames → ℕ → List ℕ → Bool
-has_name m dir name = is_among (finite.get m dir) name
-
--- the names of a directory's entries are those of the entries in the table
-abbrev pub IsIndexed : List (Cell × ℕ) → EntryNames → Type 0
-IsIndexed index names = (dir : ℕ) (name : List ℕ) → has_name names dir name ≡ is_some (lookup (same_cell (Entry (entry_at dir name))) index)
 
 -- what an owner has on a cell, if it has a place there
 abbrev pub marks_at : Cells → Cell → ℕ → Option Marks

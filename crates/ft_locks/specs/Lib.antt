@@ -2,6 +2,7 @@ pub mod Ranks
 pub mod Marks
 pub mod Holders
 pub mod Cells
+pub mod EntryKeys
 pub mod Slots
 pub mod Lending
 pub mod Holdings

@@ -1,5 +1,5 @@
 -- The cells in the table: each stands in a slab under its key, and an index has the key of each.
-use Rattle.std.specs.Prelude.{◌≡◌, ◌↔◌, ℕ, List, map, Option, Some, None}
+use Rattle.std.specs.Prelude.{◌≡◌, ◌↔◌, ℕ, cond, List, map, Option, Some, None}
 use Rattle.std.specs.FinMap as finite
 use Rattle.std.specs.Map.{lookup}
 use Rattle.slab.specs.Slab.{Slab, get, entries}
@@ -8,6 +8,7 @@ use Rattle.ft_tree.specs.CellOrder.{same_cell}
 use Rattle.ft_locks.specs.declared.cells.Locked.{Locked}
 use Rattle.ft_locks.specs.Holders.{Owners}
 use Rattle.ft_locks.specs.Cells.{Cells, CellKeys}
+use Rattle.ft_locks.specs.EntryKeys.{EntryKeys, key_at, spot_of, same_spot}
 
 abbrev pub owners_of : Option Locked → Owners
 owners_of None = finite.empty
@@ -24,3 +25,31 @@ at_of s = finite.from_entries (map (λ e. (e.0, e.1.cell)) (entries s))
 -- a cell has a key in the index where it stands under that key
 abbrev pub AreKeyed : CellKeys → List (Cell × ℕ) → Type 0
 AreKeyed at index = (c : Cell) (key : ℕ) → (lookup (same_cell c) index ≡ Some key) ↔ (finite.get at key ≡ Some c)
+
+abbrev pub spot_in : Option Locked → Option (ℕ × ℕ)
+spot_in None = None
+spot_in (Some locked) = spot_of locked.cell locked.place
+
+-- a key stands in a directory's list where its cell is an entry there that knows the place
+abbrev pub ArePlacedBy : (ℕ → Option Locked) → (ℕ × ℕ → Option ℕ) → Type 0
+ArePlacedBy at keys = (t : ℕ × ℕ) (key : ℕ) → (keys t ≡ Some key) ↔ (spot_in (at key) ≡ Some t)
+
+abbrev pub ArePlaced : (ℕ → Option Locked) → EntryKeys → Type 0
+ArePlaced at keys = ArePlacedBy at (λ t. key_at keys t.0 t.1)
+
+-- the same but at one place, whose key is of no cell any more
+abbrev pub HaveGap : (ℕ → Option Locked) → EntryKeys → ℕ → ℕ → Type 0
+HaveGap at keys dir place = ArePlacedBy at (λ t. cond (same_spot (dir, place) t) None (key_at keys t.0 t.1))
+
+abbrev pub shown : Option Locked → Option (Cell × Owners)
+shown None = None
+shown (Some locked) = Some (locked.cell, locked.holders)
+
+-- each key has the cell with the holders that it had
+abbrev pub ShowSame : (ℕ → Option Locked) → (ℕ → Option Locked) → Type 0
+ShowSame old new = (key : ℕ) → shown (new key) ≡ shown (old key)
+
+-- what stands under a key knows this place
+abbrev pub with_place : ℕ → Option Locked → Option Locked
+with_place place None = None
+with_place place (Some locked) = Some (record locked { place = place })

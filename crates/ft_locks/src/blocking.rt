@@ -1,19 +1,20 @@
 // Who is in the way of an access.
 ghost use Rattle.std.specs.Prelude.{◌≡◌, ◌&&◌, ◌||◌, not, ℕ, true, [], ◌∷◌, OnOk, IfOk};
+ghost use Rattle.std.specs.Option.{option_copied};
 ghost use Rattle.std.specs.FinMap as finite;
 ghost use Rattle.ft_tree.specs.declared.cell.Cell.TheVariants.{Names};
 ghost use Rattle.ft_forest.specs.Transactions.{over_in};
-ghost use Rattle.ft_locks.specs.Blocking.{AreNoted, way, is_listed_in_way, beside, blocks};
+ghost use Rattle.ft_locks.specs.Blocking.{AreNoted, way, is_listed_in_way, is_holder_in_way, beside, blocks};
 ghost use Rattle.ft_locks.specs.Seen.{has_line};
 ghost use Rattle.ft_locks.specs.Surveys.{KeepOthersOut, HoldsAll};
 
-use crate::holders::Holding;
+use crate::holders::{Holders, Holding};
 use crate::holdings::Holdings;
 use crate::line::LockKind;
 use ft_base::{Memory, Table};
 use ft_calls::{Access, Mode};
 use ft_forest::{Forest, TxnId};
-use ft_tree::{Cell, Entry};
+use ft_tree::Cell;
 use std::alloc::Global;
 
 /// Notes each owner in a list whose locks conflict with such an access, and that is neither the
@@ -39,6 +40,22 @@ fn note_list(
     Ok(())
 }
 
+/// The same of the holders of a cell, if there are any.
+fn note_holders(
+    found: &mut Table<()>,
+    forest: &Forest,
+    txn: TxnId,
+    holders: Option<&Holders>,
+    mode: Mode,
+) -> Result<(), Memory>
+    ensures { OnOk result (AreNoted found.old found.new (λ u. not (over_in forest.now u txn) && is_holder_in_way (option_copied holders.entry) mode u)) }
+{
+    match holders {
+        Some(holders) => note_list(found, forest, txn, holders.as_slice(), mode),
+        None => Ok(()),
+    }
+}
+
 /// The same of the owners that have a place on a cell.
 fn note_cell(
     holdings: &Holdings,
@@ -50,10 +67,7 @@ fn note_cell(
 ) -> Result<(), Memory>
     ensures { OnOk result (AreNoted found.old found.new (λ u. not (over_in forest.now u txn) && way holdings.now.cells cell.now mode u)) }
 {
-    match holdings.holders(cell) {
-        Some(holders) => note_list(found, forest, txn, holders.as_slice(), mode),
-        None => Ok(()),
-    }
+    note_holders(found, forest, txn, holdings.holders(cell), mode)
 }
 
 /// The same of the entries of a directory.
@@ -67,13 +81,12 @@ fn note_entries(
 ) -> Result<(), Memory>
     ensures { OnOk result (AreNoted found.old found.new (λ u. not (over_in forest.now u txn) && beside holdings.now.cells (Names dir) mode u)) }
 {
-    let Some(names) = holdings.names_of(dir) else {
+    let cells = holdings.cells();
+    let Some(keys) = cells.entries_of(dir) else {
         return Ok(());
     };
-    for name in names {
-        let name = name.clone()?;
-        let cell = Cell::Entry(Entry { dir, name });
-        note_cell(holdings, found, forest, txn, &cell, mode)?;
+    for key in keys {
+        note_holders(found, forest, txn, cells.under(*key), mode)?;
     }
     Ok(())
 }

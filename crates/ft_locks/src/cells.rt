@@ -1,28 +1,29 @@
 // The cells on which anybody has a place: each stands in a slab, and an index has its key.
-ghost use Rattle.std.specs.Prelude.{◌≡◌, ◌≢◌, ℕ, cond, List, None, Some, IsSome, IsSomeAnd, is_some, OnOk, OnErr, IfOk, IfSome, IfNone};
+ghost use Rattle.std.specs.Prelude.{◌≡◌, ◌≢◌, ℕ, cond, ◌==◌, None, Some, IsSome, IsSomeAnd, is_some, OnOk, OnErr, IfOk, IfSome, IfNone};
 ghost use Rattle.std.specs.Option.{option_map, option_copied, option_copied_mut};
 ghost use Rattle.std.specs.FinMap as finite;
 ghost use Rattle.std.specs.Borrow.{sem};
-ghost use Rattle.ft_tree.specs.Entries.{entry_at};
-ghost use Rattle.ft_tree.specs.declared.cell.Cell.TheVariants.{Entry};
 ghost use Rattle.ft_tree.specs.declared.cell.Cell.{Cell};
 ghost use Rattle.ft_tree.specs.CellOrder.{same_cell};
 ghost use Rattle.ft_locks.specs.Marks.{with_marks};
-ghost use Rattle.ft_locks.specs.Cells.{is_among, is_at, marks_at, passed_to, after_hand, holders_under, Keeps};
+ghost use Rattle.slab.specs.Slab.{get};
+ghost use Rattle.ft_locks.specs.Blocking.{AreEntriesOf};
+ghost use Rattle.ft_locks.specs.EntryKeys.{key_at, listed_keys};
+ghost use Rattle.ft_locks.specs.Slots.{ArePlaced, HaveGap, ShowSame, with_place};
+ghost use Rattle.ft_locks.specs.Cells.{is_at, marks_at, passed_to, after_hand, holders_under, Keeps};
 ghost use Rattle.ft_locks.specs.Listing.{AreAdded};
 ghost use Rattle.ft_locks.specs.Seen.{has_line};
 
-use crate::entry_names::EntryNames;
+use crate::entry_keys::EntryKeys;
 use crate::holders::Holders;
 use crate::line::LockLine;
 use crate::listing::list_cells;
 use crate::marks::Marks;
 use ft_base::Memory;
-use ft_path::Name;
 use ft_tree::Cell;
 use slab::Slab;
 use std::alloc::Global;
-use std::collections::{HashMap, HashSet};
+use std::collections::HashMap;
 use std::marker::Model;
 
 /// A cell in the table with its holders.
@@ -30,24 +31,27 @@ use std::marker::Model;
 pub(crate) struct Locked {
     pub(crate) cell: Cell,
     pub(crate) holders: Holders,
+    /// Of an entry, the place of its key in its directory's list.
+    pub(crate) place: usize,
 }
 
 /// For each cell in the table its holders.
 ///
 /// Each cell stands under a key, from when it comes into the table until it leaves: who has the key
 /// finds the cell without its hash. To find a cell itself takes the time to hash it, however many
-/// there are. The names of the entries of a directory are found without a look at other cells.
+/// there are. The entries of a directory are found by their keys, without a look at other cells.
 #[derive(Drop)]
 pub(crate) struct LockedCells {
     alloc: Global,
     locked: Slab<Locked>,
     keys: HashMap<Cell, usize>,
-    names: EntryNames,
+    entries: EntryKeys,
 }
 
 impl Model for LockedCells {
-    ghost use Rattle.ft_locks.specs.Cells.{Keyed, coded_keyed, IsIndexed};
-    ghost use Rattle.ft_locks.specs.Slots.{cells_of, at_of, AreKeyed};
+    ghost use Rattle.slab.specs.Slab.{get};
+    ghost use Rattle.ft_locks.specs.Cells.{Keyed, coded_keyed};
+    ghost use Rattle.ft_locks.specs.Slots.{cells_of, at_of, AreKeyed, ArePlaced};
 
     ghost Value = { Keyed };
 
@@ -55,7 +59,7 @@ impl Model for LockedCells {
 
     ghost view = { λ a. record { cells = cells_of a.locked a.keys.entries; at = at_of a.locked } };
 
-    ghost invariant = { λ a. AreKeyed (at_of a.locked) a.keys.entries × IsIndexed a.keys.entries a.names.names };
+    ghost invariant = { λ a. AreKeyed (at_of a.locked) a.keys.entries × ArePlaced (get a.locked) a.entries.keys };
 }
 
 /// A place of an owner on a cell.
@@ -81,6 +85,27 @@ fn handed_to(to: u64, marks: Marks) -> Marks
     }
 }
 
+/// Tells a cell its place.
+fn set_place(slab: &mut Slab<Locked>, key: usize, place: usize)
+    ensures { (k : ℕ) → get slab.new k ≡ cond (k == key) (with_place place (get slab.old k)) (get slab.old k) }
+{
+    if let Some(locked) = slab.get_mut(key) {
+        locked.place = place;
+    }
+}
+
+/// Takes a key out of a directory's list; the key that comes in its place is told so.
+fn close_gap(locked: &mut Slab<Locked>, entries: &mut EntryKeys, dir: u64, place: usize)
+    requires there { IsSome (key_at entries.old.keys dir place) }
+    requires gap { HaveGap (get locked.old) entries.old.keys dir place }
+    ensures placed { ArePlaced (get locked.new) entries.new.keys }
+    ensures same { ShowSame (get locked.old) (get locked.new) }
+{
+    if let Some(moved) = entries.remove(dir, place) {
+        set_place(locked, moved, place);
+    }
+}
+
 impl LockedCells {
     ghost use Rattle.ft_locks.specs.Lending.{LendsHolders};
 
@@ -93,7 +118,7 @@ impl LockedCells {
             alloc,
             locked: Slab::new(alloc),
             keys: HashMap::new(alloc),
-            names: EntryNames::new(alloc),
+            entries: EntryKeys::new(alloc),
         }
     }
 
@@ -106,7 +131,7 @@ impl LockedCells {
     }
 
     /// The holders of the cell under a key, if there is one.
-    fn under(&self, key: usize) -> Option<&Holders>
+    pub(crate) fn under(&self, key: usize) -> Option<&Holders>
         ensures { option_copied result ≡ holders_under self.now key }
     {
         let locked = self.locked.get(key)?;
@@ -121,12 +146,12 @@ impl LockedCells {
         self.under(key)
     }
 
-    /// The names of a directory's entries that are in the table.
-    pub(crate) fn names_of(&self, dir: u64) -> Option<&HashSet<Name>>
-        ensures { (name : List ℕ) → is_among (option_copied result) name ≡ finite.contains_key self.now.cells (Entry (entry_at dir name)) }
+    /// The keys of a directory's entries that are in the table, if there are any.
+    pub(crate) fn entries_of(&self, dir: u64) -> Option<&Vec<usize>>
+        ensures { AreEntriesOf self.now dir (listed_keys (option_copied result)) }
     {
         let _keys = &self.keys;
-        self.names.of(dir)
+        self.entries.of(dir)
     }
 
     /// Lists the locks on all cells.
@@ -220,17 +245,23 @@ impl LockedCells {
         ensures err { OnErr result (self.new ≡ self.old) }
     {
         let name = cell.clone()?;
-        let locked = Locked {
-            cell: cell.clone()?,
-            holders,
-        };
+        let cell = cell.clone()?;
         self.locked.reserve(1)?;
-        self.names.note(cell)?;
-        if self.keys.insert(name, self.locked.vacant_key()).is_err() {
-            self.names.forget(cell);
-            return Err(Memory);
+        let key = self.locked.vacant_key();
+        self.keys.insert(name, key)?;
+        match self.entries.note(&cell, key) {
+            Ok(place) => Ok(
+                self.locked.insert_reserved(Locked {
+                    cell,
+                    holders,
+                    place,
+                }),
+            ),
+            Err(refused) => {
+                self.keys.remove(&cell);
+                Err(refused)
+            }
         }
-        Ok(self.locked.insert_reserved(locked))
     }
 
     /// Takes the cell under a key, if there is one, out of the table. Takes no memory.
@@ -239,9 +270,15 @@ impl LockedCells {
         ensures cells { IfSome result (λ cell. self.new.cells ≡ finite.remove self.old.cells cell) }
         ensures at { self.new.at ≡ finite.remove self.old.at key }
     {
-        let Locked { cell, holders: _ } = self.locked.try_remove(key)?;
+        let Locked {
+            cell,
+            holders: _,
+            place,
+        } = self.locked.try_remove(key)?;
         self.keys.remove(&cell);
-        self.names.forget(&cell);
+        if let Cell::Entry(entry) = &cell {
+            close_gap(&mut self.locked, &mut self.entries, entry.dir, place);
+        }
         Some(cell)
     }
 }

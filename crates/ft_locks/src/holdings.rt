@@ -1,15 +1,13 @@
 // The places of owners on cells, found both by cell and by owner.
-ghost use Rattle.std.specs.Prelude.{◌≡◌, ◌≢◌, ◌+◌, ℕ, cond, true, false, List, [], ◌∷◌, drop, length, None, Some, IsSome, IfSome, IfNone, IfOk, OnOk, OnErr};
+ghost use Rattle.std.specs.Prelude.{◌≡◌, ◌≢◌, ◌+◌, ℕ, cond, true, false, [], ◌∷◌, length, None, Some, IsSome, IfSome, IfNone, IfOk, OnOk, OnErr};
 ghost use Rattle.std.specs.Option.{option_map, option_copied};
 ghost use Rattle.std.specs.FinMap as finite;
 ghost use Rattle.ft_base.specs.Chains.{list_in, IsOpen};
-ghost use Rattle.ft_tree.specs.Entries.{entry_at};
 ghost use Rattle.ft_tree.specs.declared.cell.Cell.{Cell};
 ghost use Rattle.ft_tree.specs.CellOrder.{same_cell};
 ghost use Rattle.std.specs.List.{list_any};
-ghost use Rattle.ft_tree.specs.declared.cell.Cell.TheVariants.{Entry};
 ghost use Rattle.ft_locks.specs.Marks.{with_marks};
-ghost use Rattle.ft_locks.specs.Cells.{is_among, is_at, marks_at, after_hand};
+ghost use Rattle.ft_locks.specs.Cells.{is_at, marks_at, after_hand};
 ghost use Rattle.ft_locks.specs.Holdings.{AreOpenStill, AreSingle, AreUsed, IsDropped, cells_under, has_place, popped};
 
 use crate::cells::LockedCells;
@@ -18,10 +16,8 @@ use crate::line::{LockKind, LockLine};
 use crate::marks::Marks;
 use ft_base::{Chains, Memory, Values};
 use ft_calls::Access;
-use ft_path::Name;
 use ft_tree::Cell;
 use std::alloc::Global;
-use std::collections::HashSet;
 use std::marker::Model;
 
 /// Which owner has a place on which cell, and with which locks.
@@ -125,11 +121,11 @@ impl Holdings {
         self.cells.get(cell)
     }
 
-    /// The names of a directory's entries on which anybody has a place.
-    pub(crate) fn names_of(&self, dir: u64) -> Option<&HashSet<Name>>
-        ensures { (name : List ℕ) → is_among (option_copied result) name ≡ finite.contains_key self.now.cells (Entry (entry_at dir name)) }
+    /// The cells on which anybody has a place.
+    pub(crate) fn cells(&self) -> &LockedCells
+        ensures { result.now.cells ≡ self.now.cells }
     {
-        self.cells.names_of(dir)
+        &self.cells
     }
 
     /// Lists all locks.

@@ -6,7 +6,7 @@
 
 mod blocking;
 mod cells;
-mod entry_names;
+mod entry_keys;
 mod holders;
 mod holdings;
 pub mod laws;

@@ -6,6 +6,7 @@ use Rattle.ft_locks.specs.Holders.{Owners}
 use Rattle.ft_locks.specs.Slots.{AreKeyed}
 use Rattle.ft_locks.specs.Lending.{with_holders}
 use Rattle.ft_locks.proofs.Loans.{same_lent}
+use Rattle.ft_locks.proofs.EntryKeys.{placed-lent}
 use Rattle.ft_locks.proofs.Slots.{seen-under, lent-at, lent-seen}
 use Rattle.ft_locks.proofs.cells.LockedCells.get_mut.Goals as goal
 
@@ -23,7 +24,7 @@ returns-in_err-locked c = (
 pub invariant_of-self-lent : goal.invariant_of-self-lent
 invariant_of-self-lent c = λ w.
     let there = sym c.get_mut.ensures.value ∙ ap option_copied_mut c.in_ok-locked.was in
-    (subst (λ at. AreKeyed at c.self.inside.keys.entries) (sym (lent-at c.self.inside.locked c.self.inside.keys.entries c.args.self.now c.self.view_is c.self.invariant.0 c.args.key c.in_ok-locked.locked.now there w)) c.self.invariant.0, c.self.invariant.1)
+    (subst (λ at. AreKeyed at c.self.inside.keys.entries) (sym (lent-at c.self.inside.locked c.self.inside.keys.entries c.args.self.now c.self.view_is c.self.invariant.0 c.args.key c.in_ok-locked.locked.now there w)) c.self.invariant.0, placed-lent c.self.inside.locked c.self.inside.entries.keys c.args.key c.in_ok-locked.locked.now w there c.self.invariant.1)
 
 pub returns : goal.returns
 returns c =

@@ -1,10 +1,12 @@
 use Rattle.std.proofs.Common.{None, Some, ap, sym, subst, refl, ◌∙◌}
 use Rattle.std.specs.FinMap as finite
 use Rattle.ft_locks.specs.Cells.{Keyed}
+use Rattle.ft_locks.specs.EntryKeys.{spot_of}
 use Rattle.ft_locks.specs.Slots.{at_of, AreKeyed}
-use Rattle.ft_locks.proofs.CellViews.{indexed-left_out}
-use Rattle.ft_locks.proofs.Slots.{seen-at, at-there, at-out, cells-out, keyed-out}
+use Rattle.ft_locks.proofs.Slots.{seen-at, at-there, at-out, at-shown, cells-out, cells-shown, keyed-out}
+use Rattle.ft_locks.proofs.EntryKeys.{key-left, gap-left, placed-left, no_spot}
 use Rattle.ft_locks.proofs.cells.LockedCells.remove.Goals as goal
+use Rattle.ft_locks.proofs.cells.LockedCells.remove.Goals.{in-Entry, in_default}
 
 pub returns-in_err-cell-clause-cell : goal.returns-in_err-cell-clause-cell
 returns-in_err-cell-clause-cell c =
@@ -13,13 +15,29 @@ returns-in_err-cell-clause-cell c =
 pub returns-in_err-cell-clause-at : goal.returns-in_err-cell-clause-at
 returns-in_err-cell-clause-at c = at-out c.self.inside.locked c.try_remove.new.self c.args.key None c.try_remove.ensures.updates refl ∙ ap (λ (m : Keyed). finite.remove m.at c.args.key) c.self.view_is
 
-pub invariant_of-self-2 : goal.invariant_of-self-2
-invariant_of-self-2 c =
+pub close_gap-requires-clause-there : goal.close_gap-requires-clause-there
+close_gap-requires-clause-there c = key-left c.self.inside.locked c.try_remove.new.self c.self.inside.entries.keys c.args.key c.in_ok-cell.field-0 c.self.invariant.1 (sym c.try_remove.ensures.value ∙ c.in_ok-cell.was) c.try_remove.ensures.updates c.in-Entry.entry.dir c.in_ok-cell.field-0.place (ap (λ x. spot_of x c.in_ok-cell.field-0.place) c.in-Entry.is)
+
+pub close_gap-requires-clause-gap : goal.close_gap-requires-clause-gap
+close_gap-requires-clause-gap c = gap-left c.self.inside.locked c.try_remove.new.self c.self.inside.entries.keys c.args.key c.in_ok-cell.field-0 c.self.invariant.1 (sym c.try_remove.ensures.value ∙ c.in_ok-cell.was) c.try_remove.ensures.updates c.in-Entry.entry.dir c.in_ok-cell.field-0.place (ap (λ x. spot_of x c.in_ok-cell.field-0.place) c.in-Entry.is)
+
+pub invariant_of-self-in-Entry : goal.invariant_of-self-in-Entry
+invariant_of-self-in-Entry c =
+    let there = sym c.try_remove.ensures.value ∙ c.in_ok-cell.was in (
+      subst (λ at. AreKeyed at c.remove.new.self.entries)
+          (sym (at-shown c.try_remove.new.self c.close_gap.new.locked c.close_gap.ensures.same ∙ at-out c.self.inside.locked c.try_remove.new.self c.args.key None c.try_remove.ensures.updates refl))
+          (keyed-out (at_of c.self.inside.locked) c.self.inside.keys.entries c.remove.new.self.entries c.in_ok-cell.field-0.cell c.args.key c.self.invariant.0
+          (at-there c.self.inside.locked c.args.key c.in_ok-cell.field-0 there) c.remove.ensures.updates.0),
+      c.close_gap.ensures.placed,
+    )
+
+pub invariant_of-self-in_default : goal.invariant_of-self-in_default
+invariant_of-self-in_default c =
     let there = sym c.try_remove.ensures.value ∙ c.in_ok-cell.was in (
       subst (λ at. AreKeyed at c.remove.new.self.entries) (sym (at-out c.self.inside.locked c.try_remove.new.self c.args.key None c.try_remove.ensures.updates refl))
           (keyed-out (at_of c.self.inside.locked) c.self.inside.keys.entries c.remove.new.self.entries c.in_ok-cell.field-0.cell c.args.key c.self.invariant.0
           (at-there c.self.inside.locked c.args.key c.in_ok-cell.field-0 there) c.remove.ensures.updates.0),
-      indexed-left_out c.self.inside.keys.entries c.remove.new.self.entries c.self.inside.names.names c.forget.new.self.names c.in_ok-cell.field-0.cell c.self.invariant.1 c.forget.ensures c.remove.ensures.updates.0,
+      placed-left c.self.inside.locked c.try_remove.new.self c.self.inside.entries.keys c.args.key c.in_ok-cell.field-0 c.self.invariant.1 (sym c.try_remove.ensures.value ∙ c.in_ok-cell.was) c.try_remove.ensures.updates (no_spot c.in_ok-cell.field-0.cell c.in_ok-cell.field-0.place c.in_default.not-Entry),
     )
 
 pub returns-clause-cell : goal.returns-clause-cell
@@ -29,9 +47,17 @@ returns-clause-cell c =
 pub returns-clause-cells : goal.returns-clause-cells
 returns-clause-cells c =
     let there = sym c.try_remove.ensures.value ∙ c.in_ok-cell.was in
-    cells-out c.self.inside.locked c.try_remove.new.self c.args.key None c.try_remove.ensures.updates c.self.inside.keys.entries c.self.invariant.0 c.remove.new.self.entries c.in_ok-cell.field-0.cell
-    (at-there c.self.inside.locked c.args.key c.in_ok-cell.field-0 there) c.remove.ensures.updates.0
-    ∙ ap (λ (m : Keyed). finite.remove m.cells c.in_ok-cell.field-0.cell) c.self.view_is
+    elim c.match-cell.branch [
+      | in-Entry w ↦ ap (λ (k : Keyed). k.cells) w.self-is ∙ cells-shown c.try_remove.new.self w.close_gap.new.locked w.close_gap.ensures.same c.remove.new.self.entries ∙ (cells-out c.self.inside.locked c.try_remove.new.self c.args.key None c.try_remove.ensures.updates c.self.inside.keys.entries c.self.invariant.0 c.remove.new.self.entries c.in_ok-cell.field-0.cell
+          (at-there c.self.inside.locked c.args.key c.in_ok-cell.field-0 there) c.remove.ensures.updates.0
+          ∙ ap (λ (m : Keyed). finite.remove m.cells c.in_ok-cell.field-0.cell) c.self.view_is)
+      | in_default w ↦ ap (λ (k : Keyed). k.cells) w.self-is ∙ (cells-out c.self.inside.locked c.try_remove.new.self c.args.key None c.try_remove.ensures.updates c.self.inside.keys.entries c.self.invariant.0 c.remove.new.self.entries c.in_ok-cell.field-0.cell
+          (at-there c.self.inside.locked c.args.key c.in_ok-cell.field-0 there) c.remove.ensures.updates.0
+          ∙ ap (λ (m : Keyed). finite.remove m.cells c.in_ok-cell.field-0.cell) c.self.view_is)
+    ]
 
 pub returns-clause-at : goal.returns-clause-at
-returns-clause-at c = at-out c.self.inside.locked c.try_remove.new.self c.args.key None c.try_remove.ensures.updates refl ∙ ap (λ (m : Keyed). finite.remove m.at c.args.key) c.self.view_is
+returns-clause-at c = elim c.match-cell.branch [
+  | in-Entry w ↦ ap (λ (k : Keyed). k.at) w.self-is ∙ at-shown c.try_remove.new.self w.close_gap.new.locked w.close_gap.ensures.same ∙ (at-out c.self.inside.locked c.try_remove.new.self c.args.key None c.try_remove.ensures.updates refl ∙ ap (λ (m : Keyed). finite.remove m.at c.args.key) c.self.view_is)
+  | in_default w ↦ ap (λ (k : Keyed). k.at) w.self-is ∙ (at-out c.self.inside.locked c.try_remove.new.self c.args.key None c.try_remove.ensures.updates refl ∙ ap (λ (m : Keyed). finite.remove m.at c.args.key) c.self.view_is)
+]

@@ -1,7 +1,7 @@
 use Rattle.std.proofs.Common.{arith, ap, ◌∙◌}
 use Rattle.std.specs.FinMap as finite
 use Rattle.ft_base.specs.Chains.{list_in}
-use Rattle.ft_locks.proofs.Names.{ok_then, err_then}
+use Rattle.ft_locks.proofs.Cases.{ok_then, err_then}
 use Rattle.ft_locks.proofs.Joining.{apart_test}
 use Rattle.ft_locks.proofs.Handing.{kept_open, open_view, opens_more}
 use Rattle.ft_locks.proofs.locks.Locks.open.Goals as goal
