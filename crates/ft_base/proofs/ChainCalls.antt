@@ -1,5 +1,5 @@
 -- The chains at each call's end.
-use Rattle.std.proofs.Common.{◌≡◌, ◌≢◌, ℕ, List, [], ◌++◌, length, Option, Some, None, IsSome, Bool, true, false, refl, sym, ap, subst, ◌∙◌}
+use Rattle.std.proofs.Common.{◌≡◌, ◌≢◌, ℕ, List, [], ◌∷◌, ◌++◌, drop, length, Option, Some, None, IsSome, Bool, true, false, refl, sym, ap, subst, ◌∙◌}
 use Rattle.std.specs.Prelude.{not, Result, Ok, Err, OnOk, OnErr, is_some, ◌==◌, option_map, IsTrue, ◌↔◌}
 use Rattle.std.specs.Option.{unwrap_or, option_flatten, option_copied}
 use Rattle.std.specs.Borrow.{Bor}
@@ -7,13 +7,14 @@ use Rattle.std.specs.Ordering.{nat_cmp}
 use Rattle.std.specs.Cmp.{nat_cmp_total}
 use Rattle.std.specs.FinMap as finite
 use Rattle.std.proofs.lemmas.Bool.{false≢true}
-use Rattle.slab.specs.Slab.{Slab, get, Updates}
+use Rattle.slab.specs.Slab.{Slab, get, with_value, Updates}
+use Rattle.slab.proofs.SlabLemmas.{Updates-with_value}
 use Rattle.ft_base.specs.declared.node.Node.{Node}
 use Rattle.ft_base.specs.declared.node.Ends.{Ends}
 use Rattle.ft_base.specs.Chains.{Lists, list_in, spliced}
 use Rattle.ft_base.specs.Linked.{AllEnds, ends_in, node, with_next, lists_of, AreChainedBy, AreChained}
 use Rattle.ft_base.proofs.ChainShape.{by_number, values, put, seen, list-seen, closed-chained, closed-seen}
-use Rattle.ft_base.proofs.ChainMoves.{Made, one-made, none-by, some-by}
+use Rattle.ft_base.proofs.ChainMoves.{Made, one-made, set-by, none-by, some-by}
 
 module _ {E : Type 0} where
   pub flat-some : (o : Option (Option E)) (x : E) → option_flatten o ≡ Some x → o ≡ Some (Some x)
@@ -133,6 +134,14 @@ module _ {T : Type 0} where
     emptiness m is u (Some None) there false test = absurd (false≢true test)
     emptiness m is u None there true test = ((λ yes. empty-list m is u None there refl), (λ empty. refl))
     emptiness m is u None there false test = absurd (false≢true test)
+
+    -- another newest value of a list, in its place
+    pub set-first : (u : ℕ) (front : Ends) (n : Node T) (v : T) → finite.get ends u ≡ Some (Some front) → get s front.first ≡ Some n
+        → Made (with_value s front.first (node v n.next)) ends (finite.insert (lists_of s ends) u (v ∷ drop 1 (list_in (lists_of s ends) u)))
+    set-first u front n v there at =
+        let s' = with_value s front.first (node v n.next) in
+        subst (λ e. Made s' e (finite.insert (lists_of s ends) u (v ∷ drop 1 (list_in (lists_of s ends) u)))) (insert-same ends u (Some front) there)
+        (set-by s s' ends h.0 h.1 u front n v there at (Updates-with_value s front.first (node v n.next) (subst IsSome (sym at) refl)))
 
     pub open-still : (m : Lists T) → lists_of s ends ≡ m → (k : ℕ) (x : Option Ends) (j : ℕ) → k ≢ j → IsSome (finite.get m j) → IsSome (finite.get (finite.insert ends k x) j)
     open-still m is k x j ne some = subst IsSome (sym (get-other ends k x j (λ e. ne (sym e)))) (open-ends m is j some)

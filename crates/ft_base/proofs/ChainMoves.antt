@@ -110,6 +110,24 @@ module _ {T : Type 0} where
         (λ q k ne i j. ne (h.apart q u k j (subst (λ xs. HasKey xs k) (sym t.is) (inr i)))) in
         record { sound = (put chain u t.rest, made.0); is = made.1 ∙ ap (λ xs. finite.insert (lists_of s ends) u (drop 1 xs)) (sym (list-seen s ends chain h u ∙ ap values t.is)) }
 
+    -- another value of the first node
+    pub set-by : (u : ℕ) (front : Ends) (n : Node T) (v : T) → finite.get ends u ≡ Some (Some front) → get s front.first ≡ Some n → Updates s s' front.first (Some (node v n.next))
+        → Made s' (finite.insert ends u (Some front)) (finite.insert (lists_of s ends) u (v ∷ drop 1 (list_in (lists_of s ends) u)))
+    set-by u front n v there at up =
+        let t = at-top u front there in
+        let linked : Linked (get s) (t.head ∷ t.rest) = subst (Linked (get s)) t.is (h.linked u) in
+        let single : Single (t.head ∷ t.rest) = subst Single t.is (h.single u) in
+        let n-is = same-node n (node t.head.1 (head_key t.rest)) (get s front.first) at (ap (get s) t.first ∙ linked.0) in
+        let made = one-made u ((t.head.0, v) ∷ t.rest) (Some front)
+        (ends-there u (Some front) there ∙ ap ends_of t.is) (
+          ap (get s') (sym t.first) ∙ up.changed ∙ ap (λ (m : Node T). Some (node v m.next)) n-is,
+          frame (get s) (get s') t.rest (λ k i. up.others k (λ e. single.0 (subst (HasKey t.rest) (e ∙ t.first) i))) linked.1,
+        )
+        single
+        (λ q k ne i. up.others k (λ e. ne (h.apart q u k i (subst (λ xs. HasKey xs k) (sym t.is) (inl (e ∙ t.first))))))
+        (λ q k ne i j. ne (h.apart q u k j (subst (λ xs. HasKey xs k) (sym t.is) i))) in
+        record { sound = (put chain u ((t.head.0, v) ∷ t.rest), made.0); is = made.1 ∙ ap (λ xs. finite.insert (lists_of s ends) u (v ∷ drop 1 xs)) (sym (list-seen s ends chain h u ∙ ap values t.is)) }
+
     pub push-made : (u key : ℕ) (v : T) (e : Option Ends) (e' : Option Ends) → finite.get ends u ≡ Some e → get s key ≡ None → Updates s s' key (Some (node v (first_of e))) → e' ≡ with_front key e
         → Made s' (finite.insert ends u e') (finite.insert (lists_of s ends) u (v ∷ list_in (lists_of s ends) u))
     push-made u key v e e' there none up is = subst (λ x. Made s' (finite.insert ends u x) (finite.insert (lists_of s ends) u (v ∷ list_in (lists_of s ends) u))) (sym is) (pushed-by u key v e there none up)

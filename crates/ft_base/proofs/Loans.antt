@@ -1,5 +1,5 @@
 -- Two ways to say what a loan leaves agree, where they agree at each value that may be left, and where nothing was lent.
-use Rattle.std.proofs.Common.{◌≡◌, Option, Some, None, IsSome, subst, refl}
+use Rattle.std.proofs.Common.{◌≡◌, ◌⊎◌, inl, Option, Some, None, IsSome, subst, refl}
 use Rattle.std.proofs.lemmas.Bool.{false≢true}
 use Rattle.std.specs.Borrow.{MutBor}
 use Rattle.std.specs.Option.{ghost_name_of, option_copied_mut}
@@ -15,3 +15,7 @@ module _ {E : Type 0} where
   pub lent_there : (r : Option (MutBor E)) (o : Option E) → option_copied_mut r ≡ o → IsSome r → IsSome o
   lent_there (Some x) o is some = subst IsSome is refl
   lent_there None o is some = absurd (false≢true some)
+
+-- two ways to say what is left behind one reference agree, where they agree at each value
+pub same_writes : {N E D B : Type 0} (name : N) (F F' : E → D) → ((w : E) → F w ≡ F' w) → ◌≡◌ {A = (N × (E → D)) ⊎ B} (inl (name, F)) (inl (name, F'))
+same_writes name F F' same = λ i. inl (name, λ w. same w i)

@@ -5,3 +5,4 @@ pub mod Copies
 pub mod Chains
 pub mod Linked
 pub mod Dense
+pub mod Lent

@@ -1,5 +1,7 @@
 // Lists of values by their owners, linked in one slab.
 ghost use Rattle.std.specs.Prelude.{◌≡◌, ◌≢◌, ◌↔◌, ◌∷◌, [], drop, slice_get, option_copied, IsSome, IsTrue, IsOk, OnOk, OnErr, IfErr, OnSome, IfNone};
+ghost use Rattle.std.specs.Option.{option_copied_mut};
+ghost use Rattle.std.specs.Borrow.{sem};
 ghost use Rattle.std.specs.FinMap as finite;
 ghost use Rattle.ft_base.specs.Chains.{list_in, IsOpen, moved, spliced};
 
@@ -38,6 +40,8 @@ impl<T> Model for Chains<T> {
 }
 
 impl<T> Chains<T> {
+    ghost use Rattle.ft_base.specs.Lent.{LendsFirst};
+
     /// No owner is open. Takes no memory.
     pub fn new(alloc: Global) -> Chains<T>
         ensures { result ≡ finite.empty }
@@ -83,6 +87,18 @@ impl<T> Chains<T> {
         let ends = self.ends.get(owner)??;
         let node = self.nodes.get(ends.first)?;
         Some(&node.value)
+    }
+
+    /// The newest value of a list, where there is one, to be written. Takes no memory.
+    pub fn first_mut(&mut self, owner: u64) -> Option<&mut T>
+        ensures* writes_back { sem 𝓛 (LendsFirst T.row self.entry owner result) }
+        ensures value { option_copied_mut result ≡ slice_get (list_in self.old owner) 0 }
+    {
+        let Some(front) = self.ends.get(owner).flatten() else {
+            return None;
+        };
+        let node = self.nodes.get_mut(front.first).unwrap();
+        Some(&mut node.value)
     }
 
     /// The values of a list, the newest first; of an owner that is not open, none.

@@ -1,5 +1,5 @@
 // What a call comes to, before it is made.
-ghost use Rattle.std.specs.Prelude.{◌≡◌, [], ◌∷◌, ◌++◌, OnOk};
+ghost use Rattle.std.specs.Prelude.{◌≡◌, [], ◌∷◌, ◌++◌, OnOk, IfSome, IfNone};
 ghost use Rattle.ft_tree.specs.Entries.{entry_in};
 ghost use Rattle.ft_calls.specs.Within.{IsWithin, AreWithin};
 
@@ -96,12 +96,12 @@ impl<'c> Edits<'c> {
         &self.items
     }
 
-    /// The edits themselves, in order.
-    pub fn into_items(self) -> Few<Edit<'c>>
-        ensures { result ≡ self.entry }
+    /// Takes out the first edit, where there is one. Takes no memory.
+    pub fn pop_front(&mut self) -> Option<Edit<'c>>
+        ensures some { IfSome result (λ edit. self.old ≡ edit ∷ self.new) }
+        ensures none { IfNone result (self.old ≡ []) }
     {
-        let Edits { items } = self;
-        items
+        self.items.pop_front()
     }
 
     /// Puts one more behind the others; the first two take no memory.

@@ -26,8 +26,8 @@ use ft_calls::{Access, Call, Prepared, Reply, prepare};
 use ft_forest::{Forest, TxnId};
 use ft_locks::{Locks, Survey};
 use ft_tree::Tree;
-use ft_undo::{Logged, Logs, apply};
-use std::alloc::{AllocFailed, Global};
+use ft_undo::{Logged, Logs};
+use std::alloc::Global;
 
 impl Core {
     /// Makes a call in a transaction, or answers which transactions it waits for: those who own a conflicting lock and are
@@ -269,15 +269,13 @@ fn make(
     ensures made { OnOk result (IsMadeOn tree.old tree.new (outcome_of tree.old prepared.entry.intent).writes locks.old locks.new logs.old logs.new asker.txn asker.stamp prepared.entry.accesses.items) }
     ensures unmade { OnErr result (IsUnmade tree.old tree.new locks.old locks.new logs.old logs.new) }
 {
-    let Prepared { accesses, intent } = prepared;
+    let Prepared {
+        accesses,
+        mut intent,
+    } = prepared;
     let reply = intent.reply(alloc, tree)?;
     let kept = reply.copy(alloc)?;
-    let undo = apply(alloc, tree, intent)?;
-    if let Err(failed) = logs.push(asker.txn.0, asker.stamp, undo) {
-        let AllocFailed { value } = failed;
-        value.take_back(tree);
-        return Err(Memory);
-    }
+    logs.apply(alloc, asker.txn.0, asker.stamp, tree, &mut intent.edits)?;
     let wanted = &accesses.as_slice()[held..];
     if locks.grant(asker.txn, wanted).is_err() {
         if let Some(Logged { stamp: _, undo }) = logs.take_last(asker.txn.0) {

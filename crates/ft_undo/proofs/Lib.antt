@@ -1,3 +1,4 @@
 pub mod Undoing
 pub mod Applied
 pub mod Logging
+pub mod Keeping

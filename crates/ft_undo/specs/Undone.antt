@@ -70,10 +70,10 @@ abbrev pub CanRestoreAll : Cells → List Back → Type 0
 CanRestoreAll cells [] = Unit {0}
 CanRestoreAll cells (b ∷ bs) = CanRestoreAll cells bs × CanGiveBack (restored cells bs) b
 
--- the edits are made, and this takes them back; or memory was wanting, and nothing has changed
-abbrev pub IsApplied : Cells → List Edit → Cells → Result (List Back) Memory → Type 0
-IsApplied old edits new (Ok undo) = (new ≡ edited old edits) × (undo ≡ backs_of old edits)
-IsApplied old edits new (Err memory) = new ≡ old
+-- the edits are made, and this takes them back; or memory was wanting, and nothing has changed or is kept
+abbrev pub IsApplied : Cells → List Edit → Cells → List Back → Result (Unit {0}) Memory → Type 0
+IsApplied old edits new undo (Ok done) = (new ≡ edited old edits) × (undo ≡ backs_of old edits)
+IsApplied old edits new undo (Err memory) = (new ≡ old) × (undo ≡ [])
 
 -- each edit, as it was made on the cells before it, can be taken back by itself in these
 abbrev pub IsLeft : Cells → Cells → List Edit → Type 0

@@ -3,10 +3,16 @@ ghost use Rattle.std.specs.Prelude.{◌≡◌, ◌≢◌, [], true, false, Some,
 ghost use Rattle.std.specs.Option.{option_map};
 ghost use Rattle.ft_base.specs.Chains.{list_in};
 ghost use Rattle.ft_history.specs.Logs.{put, pushed, popped, handed};
+ghost use Rattle.ft_calls.specs.Comes.{writes_of};
+ghost use Rattle.ft_calls.specs.Edits.{CanEditAll, Apart};
 ghost use Rattle.ft_undo.specs.Logs.{is_open, newest_of, AreLists, AreOpen};
+ghost use Rattle.ft_undo.specs.Logged.{IsLogged};
 
 use crate::undo::Undo;
 use ft_base::{Chains, Memory};
+use ft_calls::Edits;
+use ft_calls::laws::{editing, restoring, setting};
+use ft_tree::Tree;
 use std::alloc::{AllocFailed, Global};
 use std::marker::Model;
 
@@ -89,6 +95,42 @@ impl Logs {
                 },
             ) => Err(AllocFailed { value: undo }),
         }
+    }
+
+    /// Takes out the edits of a call that was looked at and makes them, and keeps what takes them back
+    /// as the newest of a transaction's list, in its place there. Each written cell has its place then.
+    ///
+    /// The one refusal is want of memory: what was done is taken back, and nothing has changed.
+    pub fn apply(
+        &mut self,
+        alloc: Global,
+        txn: u64,
+        stamp: u64,
+        tree: &mut Tree,
+        edits: &mut Edits<'_>,
+    ) -> Result<(), Memory>
+        requires open { is_open self.old txn ≡ true }
+        requires places { CanEditAll tree.old edits.old }
+        requires apart { Apart edits.old }
+        ensures made { OnOk result (IsLogged tree.old tree.new (writes_of tree.old edits.old) self.old self.new txn stamp) }
+        ensures refused { OnErr result (tree.new ≡ tree.old) }
+        ensures kept { OnErr result (AreLists self.new (list_in self.old)) }
+        ensures opened { AreOpen self.new (is_open self.old) }
+    {
+        editing();
+        setting();
+        restoring();
+        let undo = Undo::new(alloc);
+        if let Err(failed) = self.chains.push_front(txn, Logged { stamp, undo }) {
+            drop(failed);
+            return Err(Memory);
+        }
+        let logged = self.chains.first_mut(txn).unwrap();
+        if let Err(memory) = logged.undo.fill(tree, edits) {
+            let _ = self.take_last(txn);
+            return Err(memory);
+        }
+        Ok(())
     }
 
     /// Gives a child's whole list to its parent, as newer than all that the parent had, and closes

@@ -64,7 +64,7 @@ impl Model for Undo {
 
 impl Undo {
     /// What takes nothing back. Takes no memory.
-    fn new(alloc: Global) -> Undo
+    pub(crate) fn new(alloc: Global) -> Undo
         ensures { result ≡ [] }
     {
         Undo {
@@ -90,16 +90,43 @@ impl Undo {
         Ok(())
     }
 
+    /// Makes edits one after the other, and keeps what takes them back. Where memory is wanting, what
+    /// was done is taken back, and nothing is kept.
+    pub(crate) fn fill(&mut self, tree: &mut Tree, edits: &mut Edits<'_>) -> Result<(), Memory>
+        requires empty { self.old ≡ [] }
+        requires places { CanEditAll tree.old edits.old }
+        ensures { IsApplied tree.old edits.old tree.new self.new result }
+    {
+        setting();
+        restoring();
+        while let Some(edit) = edits.pop_front() {
+            if let Err(memory) = self.set(tree, edit) {
+                self.unwind(tree);
+                return Err(memory);
+            }
+        }
+        Ok(())
+    }
+
+    /// Takes back all that is kept, the last edit first, and keeps nothing. Takes no memory.
+    fn unwind(&mut self, tree: &mut Tree)
+        requires { CanRestoreAll tree.old self.old }
+        ensures tree { tree.new ≡ restored tree.old self.old }
+        ensures none { self.new ≡ [] }
+    {
+        while let Some(back) = self.items.pop() {
+            restore(tree, back);
+        }
+    }
+
     /// Takes back what was done of a call that wants memory, the last edit first: nothing has changed
     /// then, and no place is left that was new. Takes no memory.
     pub fn take_back(self, tree: &mut Tree)
         requires { CanRestoreAll tree.old self }
         ensures { tree.new ≡ restored tree.old self }
     {
-        let Undo { mut items } = self;
-        while let Some(back) = items.pop() {
-            restore(tree, back);
-        }
+        let mut undo = self;
+        undo.unwind(tree);
     }
 }
 
@@ -123,25 +150,9 @@ pub fn apply(alloc: Global, tree: &mut Tree, intent: Intent<'_>) -> Result<Undo,
     editing();
     setting();
     restoring();
-    let Intent { told: _, edits } = intent;
-    make(alloc, tree, edits)
-}
-
-/// Makes edits one after the other. Where memory is wanting, what was done is taken back.
-fn make(alloc: Global, tree: &mut Tree, edits: Edits<'_>) -> Result<Undo, Memory>
-    requires { CanEditAll tree.old edits }
-    ensures { IsApplied tree.old edits.entry tree.new result }
-{
-    setting();
-    restoring();
+    let Intent { told: _, mut edits } = intent;
     let mut undo = Undo::new(alloc);
-    let mut items = edits.into_items();
-    while let Some(edit) = items.pop_front() {
-        if let Err(memory) = undo.set(tree, edit) {
-            undo.take_back(tree);
-            return Err(memory);
-        }
-    }
+    undo.fill(tree, &mut edits)?;
     Ok(undo)
 }
 

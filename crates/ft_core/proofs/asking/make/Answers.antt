@@ -16,14 +16,15 @@ returns-clause-made c =
     let ys = c.as_slice.result.now in
     let size = length-drop k ys in
     let granted = on-ok c.grant.result (AreGranted c.args.locks.now c.grant.new.self c.args.asker.txn (slice_range ys k (length ys))) c.if-is_err.ensures.value c.grant.ensures.ok in
+    let made = c.in_ok-apply.ensures.made in
     record {
-      cells = c.in_ok-undo.ensures.made;
-      undo = c.in_ok-undo.undo;
-      left = c.in_ok-undo.ensures.left;
-      inverse = c.in_ok-undo.ensures.inverse;
-      may = c.in_ok-undo.ensures.may_revert;
+      cells = made.cells;
+      undo = made.undo;
+      left = made.left;
+      inverse = made.inverse;
+      may = made.may_revert;
       granted = granted-rest c.args.locks.now c.grant.new.self c.args.asker.txn xs k c.requires.held
           (subst (AreGranted c.args.locks.now c.grant.new.self c.args.asker.txn) (take_all (length ys - k) (drop k ys) (omega (arith, size)) ∙ ap (drop k) c.as_slice.ensures.value) granted);
-      listed = subst (λ (a : Asker). AreLists c.push.new.self (pushed (list_in c.args.logs.now) a.txn (record { stamp = a.stamp; undo = c.in_ok-undo.undo }))) c.asker.view_is c.in_default.ensures.lists;
-      open_still = c.push.ensures.opened;
+      listed = subst (λ (a : Asker). AreLists c.apply.new.self (pushed (list_in c.args.logs.now) a.txn (record { stamp = a.stamp; undo = made.undo }))) c.asker.view_is made.listed;
+      open_still = c.apply.ensures.opened;
     }

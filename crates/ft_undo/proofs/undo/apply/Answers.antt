@@ -1,16 +1,38 @@
-use Rattle.ft_undo.proofs.Applied.{made, refused, left, inverse, may_revert, can_take_back, taken_back}
+use Rattle.ft_undo.proofs.Applied.{made, left, inverse, may_revert, can_take_back, taken_back}
 use Rattle.ft_undo.proofs.undo.apply.Goals as goal
 
-pub returns : goal.returns
-returns c =
+pub returns-clause-made : goal.returns-clause-made
+returns-clause-made c =
     let old = c.args.tree.now in
     let edits = c.args.intent.edits in
-    record {
-      made = made c.editing.ensures c.setting.ensures old edits c.requires.apart c.make.new.tree c.make.result c.make.ensures;
-      refused = refused c.editing.ensures c.setting.ensures old edits c.requires.apart c.make.new.tree c.make.result c.make.ensures;
-      left = left c.editing.ensures c.setting.ensures old edits c.requires.apart c.make.new.tree c.requires.places c.make.result c.make.ensures;
-      inverse = inverse c.editing.ensures c.setting.ensures old edits c.requires.apart c.make.new.tree c.make.result c.make.ensures;
-      may_revert = may_revert c.editing.ensures c.setting.ensures old edits c.requires.apart c.make.new.tree c.make.result c.make.ensures;
-      can_take_back = can_take_back c.editing.ensures c.setting.ensures old edits c.requires.apart c.make.new.tree c.restoring.ensures c.requires.places c.make.result c.make.ensures;
-      taken_back = taken_back c.editing.ensures c.setting.ensures old edits c.requires.apart c.make.new.tree c.restoring.ensures c.requires.places c.make.result c.make.ensures;
-    }
+    made c.editing.ensures c.setting.ensures old edits c.requires.apart c.fill.new.tree c.fill.new.self c.in_ok-fill.ensures.0 c.in_ok-fill.ensures.1
+
+pub returns-clause-left : goal.returns-clause-left
+returns-clause-left c =
+    let old = c.args.tree.now in
+    let edits = c.args.intent.edits in
+    left c.editing.ensures c.setting.ensures old edits c.requires.apart c.fill.new.tree c.fill.new.self c.in_ok-fill.ensures.0 c.in_ok-fill.ensures.1 c.requires.places
+
+pub returns-clause-inverse : goal.returns-clause-inverse
+returns-clause-inverse c =
+    let old = c.args.tree.now in
+    let edits = c.args.intent.edits in
+    inverse c.editing.ensures c.setting.ensures old edits c.requires.apart c.fill.new.tree c.fill.new.self c.in_ok-fill.ensures.0 c.in_ok-fill.ensures.1
+
+pub returns-clause-may_revert : goal.returns-clause-may_revert
+returns-clause-may_revert c =
+    let old = c.args.tree.now in
+    let edits = c.args.intent.edits in
+    may_revert c.editing.ensures c.setting.ensures old edits c.requires.apart c.fill.new.tree c.fill.new.self c.in_ok-fill.ensures.0 c.in_ok-fill.ensures.1
+
+pub returns-clause-can_take_back : goal.returns-clause-can_take_back
+returns-clause-can_take_back c =
+    let old = c.args.tree.now in
+    let edits = c.args.intent.edits in
+    can_take_back c.editing.ensures c.setting.ensures old edits c.requires.apart c.fill.new.tree c.fill.new.self c.in_ok-fill.ensures.0 c.in_ok-fill.ensures.1 c.restoring.ensures c.requires.places
+
+pub returns-clause-taken_back : goal.returns-clause-taken_back
+returns-clause-taken_back c =
+    let old = c.args.tree.now in
+    let edits = c.args.intent.edits in
+    taken_back c.editing.ensures c.setting.ensures old edits c.requires.apart c.fill.new.tree c.fill.new.self c.in_ok-fill.ensures.0 c.in_ok-fill.ensures.1 c.restoring.ensures c.requires.places

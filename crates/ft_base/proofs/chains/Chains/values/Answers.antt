@@ -1,4 +1,4 @@
-use Rattle.std.proofs.Common.{◌∙◌, sym, ap, refl}
+use Rattle.std.proofs.Common.{◌∙◌, ap, refl}
 use Rattle.std.specs.Option.{option_flatten}
 use Rattle.std.specs.FinMap as finite
 use Rattle.ft_base.specs.Linked.{first_of}

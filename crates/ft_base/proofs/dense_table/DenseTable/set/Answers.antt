@@ -1,4 +1,4 @@
-use Rattle.std.proofs.Common.{◌<◌, length, Some, arith, ap, ◌∙◌}
+use Rattle.std.proofs.Common.{arith, ap, ◌∙◌}
 use Rattle.std.specs.FinMap as finite
 use Rattle.ft_base.proofs.Places.{has-place, place-put}
 use Rattle.ft_base.proofs.dense_table.DenseTable.set.Goals as goal

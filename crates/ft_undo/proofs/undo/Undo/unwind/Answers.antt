@@ -2,7 +2,7 @@ use Rattle.std.proofs.Common.{sym, ap, subst, ◌∙◌}
 use Rattle.ft_tree.specs.Cells.{Cells}
 use Rattle.ft_undo.specs.Undone.{restored, CanRestoreAll}
 use Rattle.ft_undo.proofs.Undoing.{can-last, restored-last}
-use Rattle.ft_undo.proofs.undo.Undo.take_back.Goals as goal
+use Rattle.ft_undo.proofs.undo.Undo.unwind.Goals as goal
 
 pub restore-requires : goal.restore-requires
 restore-requires c =
