@@ -1,9 +1,10 @@
 -- Where a cell's access stands in a list in order, and what the list is with it.
-use Rattle.std.proofs.Common.{◌≡◌, ◌≤◌, ◌<◌, ◌+◌, ℕ, suc, Bool, true, false, List, [], ◌∷◌, map, length, refl, sym, ap, ◌∙◌, subst, arith, Ordering}
+use Rattle.std.proofs.Common.{◌≡◌, ◌≤◌, ◌<◌, ◌+◌, ℕ, suc, Bool, true, false, List, [], ◌∷◌, ◌++◌, map, drop, length, refl, sym, ap, ◌∙◌, subst, arith, Ordering}
 use Rattle.std.specs.Prelude.{T}
 use Rattle.std.proofs.lemmas.Bool.{false≢true}
 use Rattle.std.specs.declared.cmp.Ordering.TheVariants.{Less, Equal, Greater}
 use Rattle.std.specs.List.{insert}
+use Rattle.std.proofs.lemmas.List.{take_all, drop_all}
 use Rattle.std.specs.Prelude.{slice_set, slice_index_or}
 use Rattle.std.specs.FinMap as finite
 use Rattle.std.specs.FinMap.Entries.{by_order, is_sorted-put}
@@ -35,6 +36,12 @@ noted-within c (a ∷ more) given = elim (cell_cmp c a.cell) as (λ r. by_order 
   | Equal ↦ λ h. omega arith
   | Greater ↦ λ h. (let rest = noted-within c more h in omega arith)
 ] given
+
+-- to put in behind the last is to push
+pub behind : (list : List Access) (at : ℕ) (a : Access) → at ≡ length list → list ++ a ∷ [] ≡ insert list at a
+behind list at a is =
+    let all : length list ≤ at = omega (arith, is) in
+    sym (ap (λ front. front ++ a ∷ drop at list) (take_all at list all) ∙ ap (λ rest. list ++ a ∷ rest) (drop_all at list all))
 
 -- one that is not noted is put in
 pub put-new : (c : Cell) (m : Mode) (list : List Access) → is_noted c list ≡ false

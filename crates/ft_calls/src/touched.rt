@@ -107,6 +107,11 @@ impl Touched {
             return Ok(());
         }
         let cell = Cell::Entry(entry.to_entry()?);
+        if at == self.list.len() {
+            // (most come behind all others, where nothing has to be moved for them)
+            self.list.push(Access { cell, mode })?;
+            return Ok(());
+        }
         self.list.insert(at, Access { cell, mode })?;
         Ok(())
     }

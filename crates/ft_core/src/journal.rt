@@ -153,7 +153,7 @@ impl Journal {
         requires few { is_full self.old ≡ false }
         ensures { self.new ≡ with_call self.old txn call reply accesses.items }
     {
-        let _ = self.asks.remove(txn.0);
+        self.drop_ask(txn);
         self.tell_call(txn, call, reply, accesses);
     }
 
@@ -202,7 +202,10 @@ impl Journal {
     pub(crate) fn drop_ask(&mut self, txn: TxnId)
         ensures { self.new ≡ record self.old { asks = finite.remove self.old.asks txn } }
     {
-        let _ = self.asks.remove(txn.0);
+        // (mostly nobody waits, and then nothing is hashed)
+        if !self.asks.is_empty() {
+            let _ = self.asks.remove(txn.0);
+        }
     }
 
     /// Tells of the end of a transaction or of an undo, in a place that was kept.
@@ -218,7 +221,7 @@ impl Journal {
     pub(crate) fn forget(&mut self, txn: TxnId)
         ensures { self.new ≡ without self.old txn }
     {
-        let _ = self.asks.remove(txn.0);
+        self.drop_ask(txn);
         self.subs.remove(txn.0);
     }
 

@@ -8,6 +8,7 @@ pub mod Places
 pub mod Joining
 pub mod Under
 pub mod EntryKeys
+pub mod Nameless
 pub mod Whole
 pub mod Tables
 pub mod Handing

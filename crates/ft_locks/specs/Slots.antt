@@ -1,9 +1,10 @@
 -- The cells in the table: each stands in a slab under its key, and an index has the key of each.
-use Rattle.std.specs.Prelude.{◌≡◌, ◌↔◌, ℕ, cond, List, map, Option, Some, None}
+use Rattle.std.specs.Prelude.{◌≡◌, ◌↔◌, ℕ, Bool, true, false, cond, List, map, Option, Some, None}
 use Rattle.std.specs.FinMap as finite
 use Rattle.std.specs.Map.{lookup}
 use Rattle.slab.specs.Slab.{Slab, get, entries}
 use Rattle.ft_tree.specs.declared.cell.Cell.{Cell}
+use Rattle.ft_tree.specs.declared.cell.Cell.TheVariants.{Entry, Names, Parent, Links, Bytes, Fd}
 use Rattle.ft_tree.specs.CellOrder.{same_cell}
 use Rattle.ft_locks.specs.declared.cells.Locked.{Locked}
 use Rattle.ft_locks.specs.Holders.{Owners}
@@ -53,3 +54,15 @@ ShowSame old new = (key : ℕ) → shown (new key) ≡ shown (old key)
 abbrev pub with_place : ℕ → Option Locked → Option Locked
 with_place place None = None
 with_place place (Some locked) = Some (record locked { place = place })
+
+abbrev pub is_names : Cell → Bool
+is_names (Names d) = true
+is_names (Entry entry) = false
+is_names (Parent d) = false
+is_names (Links i) = false
+is_names (Bytes i) = false
+is_names (Fd f) = false
+
+-- the names of no directory are in the table
+abbrev pub HaveNoNames : CellKeys → Type 0
+HaveNoNames at = (key : ℕ) (c : Cell) → finite.get at key ≡ Some c → is_names c ≡ false

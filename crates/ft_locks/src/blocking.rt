@@ -104,6 +104,9 @@ fn note_beside(
     let mode = access.mode;
     match &access.cell {
         Cell::Entry(entry) => {
+            if !holdings.cells().may_have_names() {
+                return Ok(());
+            }
             let names = Cell::Names(entry.dir);
             note_cell(holdings, found, forest, txn, &names, mode)
         }

@@ -1,15 +1,16 @@
 // The cells on which anybody has a place: each stands in a slab, and an index has its key.
-ghost use Rattle.std.specs.Prelude.{◌≡◌, ◌≢◌, ℕ, cond, ◌==◌, None, Some, IsSome, IsSomeAnd, is_some, OnOk, OnErr, IfOk, IfSome, IfNone};
+ghost use Rattle.std.specs.Prelude.{◌≡◌, ◌≢◌, ℕ, cond, ◌==◌, false, None, Some, IsSome, IsSomeAnd, is_some, OnOk, OnErr, IfOk, IfSome, IfNone};
 ghost use Rattle.std.specs.Option.{option_map, option_copied, option_copied_mut};
 ghost use Rattle.std.specs.FinMap as finite;
 ghost use Rattle.std.specs.Borrow.{sem};
 ghost use Rattle.ft_tree.specs.declared.cell.Cell.{Cell};
+ghost use Rattle.ft_tree.specs.declared.cell.Cell.TheVariants.{Names};
 ghost use Rattle.ft_tree.specs.CellOrder.{same_cell};
 ghost use Rattle.ft_locks.specs.Marks.{with_marks};
 ghost use Rattle.slab.specs.Slab.{get};
 ghost use Rattle.ft_locks.specs.Blocking.{AreEntriesOf};
 ghost use Rattle.ft_locks.specs.EntryKeys.{key_at, listed_keys};
-ghost use Rattle.ft_locks.specs.Slots.{ArePlaced, HaveGap, ShowSame, with_place};
+ghost use Rattle.ft_locks.specs.Slots.{ArePlaced, HaveGap, ShowSame, with_place, is_names};
 ghost use Rattle.ft_locks.specs.Cells.{is_at, marks_at, passed_to, after_hand, holders_under, Keeps};
 ghost use Rattle.ft_locks.specs.Listing.{AreAdded};
 ghost use Rattle.ft_locks.specs.Seen.{has_line};
@@ -46,12 +47,15 @@ pub(crate) struct LockedCells {
     locked: Slab<Locked>,
     keys: HashMap<Cell, usize>,
     entries: EntryKeys,
+    /// Whether the names of a directory came into the table since it was last empty.
+    has_names: bool,
 }
 
 impl Model for LockedCells {
     ghost use Rattle.slab.specs.Slab.{get};
     ghost use Rattle.ft_locks.specs.Cells.{Keyed, coded_keyed};
-    ghost use Rattle.ft_locks.specs.Slots.{cells_of, at_of, AreKeyed, ArePlaced};
+    ghost use Rattle.std.specs.Prelude.{◌≡◌, false};
+    ghost use Rattle.ft_locks.specs.Slots.{cells_of, at_of, AreKeyed, ArePlaced, HaveNoNames};
 
     ghost Value = { Keyed };
 
@@ -59,7 +63,7 @@ impl Model for LockedCells {
 
     ghost view = { λ a. record { cells = cells_of a.locked a.keys.entries; at = at_of a.locked } };
 
-    ghost invariant = { λ a. AreKeyed (at_of a.locked) a.keys.entries × ArePlaced (get a.locked) a.entries.keys };
+    ghost invariant = { λ a. AreKeyed (at_of a.locked) a.keys.entries × (ArePlaced (get a.locked) a.entries.keys × (a.has_names ≡ false → HaveNoNames (at_of a.locked))) };
 }
 
 /// A place of an owner on a cell.
@@ -83,6 +87,13 @@ fn handed_to(to: u64, marks: Marks) -> Marks
     } else {
         marks.passed_on()
     }
+}
+
+/// Whether a cell is the names of a directory.
+fn is_names(cell: &Cell) -> bool
+    ensures { result ≡ is_names cell.now }
+{
+    matches!(cell, Cell::Names(_))
 }
 
 /// Tells a cell its place.
@@ -119,6 +130,7 @@ impl LockedCells {
             locked: Slab::new(alloc),
             keys: HashMap::new(alloc),
             entries: EntryKeys::new(alloc),
+            has_names: false,
         }
     }
 
@@ -152,6 +164,15 @@ impl LockedCells {
     {
         let _keys = &self.keys;
         self.entries.of(dir)
+    }
+
+    /// Whether the names of some directory may be in the table. Where they are not, nobody who looks at
+    /// an entry has to look for them.
+    pub(crate) fn may_have_names(&self) -> bool
+        ensures { result ≡ false → (d : ℕ) → finite.get self.now.cells (Names d) ≡ None }
+    {
+        let _keys = &self.keys;
+        self.has_names
     }
 
     /// Lists the locks on all cells.
@@ -250,13 +271,16 @@ impl LockedCells {
         let key = self.locked.vacant_key();
         self.keys.insert(name, key)?;
         match self.entries.note(&cell, key) {
-            Ok(place) => Ok(
-                self.locked.insert_reserved(Locked {
-                    cell,
-                    holders,
-                    place,
-                }),
-            ),
+            Ok(place) => {
+                self.has_names |= is_names(&cell);
+                Ok(
+                    self.locked.insert_reserved(Locked {
+                        cell,
+                        holders,
+                        place,
+                    }),
+                )
+            }
             Err(refused) => {
                 self.keys.remove(&cell);
                 Err(refused)
@@ -276,6 +300,7 @@ impl LockedCells {
             place,
         } = self.locked.try_remove(key)?;
         self.keys.remove(&cell);
+        self.has_names &= !self.keys.is_empty();
         if let Cell::Entry(entry) = &cell {
             close_gap(&mut self.locked, &mut self.entries, entry.dir, place);
         }

@@ -11,5 +11,6 @@ pub mod Splits
 pub mod Gathered
 pub mod Opened
 pub mod Swept
+pub mod Spared
 pub mod SweptTidy
 pub mod Sweeps

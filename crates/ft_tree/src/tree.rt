@@ -390,6 +390,10 @@ impl Tree {
     {
         match cell {
             Cell::Entry(entry) => {
+                if self.entry(entry.dir, &entry.name).is_some() {
+                    // (neither its place nor its directory is of no use)
+                    return 0;
+                }
                 let dropped = self.drop_spare(keeps, cell);
                 dropped + self.drop_spare(keeps, &Cell::Parent(entry.dir))
             }

@@ -6,10 +6,11 @@ use Rattle.ft_tree.specs.CellOrder.{same_cell}
 use Rattle.ft_locks.specs.declared.cells.Locked.{Locked}
 use Rattle.ft_locks.specs.Cells.{Keyed}
 use Rattle.ft_locks.specs.EntryKeys.{key_at, is_spot, spot_of}
-use Rattle.ft_locks.specs.Slots.{cells_of, at_of, AreKeyed}
+use Rattle.ft_locks.specs.Slots.{cells_of, at_of, AreKeyed, is_names}
 use Rattle.ft_locks.proofs.CellViews.{key_in}
 use Rattle.ft_locks.proofs.Slots.{at-none, at-put, cells-put, cells-index, keyed-put, keyed-index, index-back, no_key, updates-after}
 use Rattle.ft_locks.proofs.EntryKeys.{placed-put, placed-same}
+use Rattle.ft_locks.proofs.Nameless.{nameless-put, nameless-same, no-left, no-right}
 use Rattle.ft_locks.proofs.cells.LockedCells.insert.Goals as goal
 use Rattle.ft_locks.proofs.cells.LockedCells.insert.Goals.{in-Heap-5, in-Inline-5}
 
@@ -26,8 +27,14 @@ invariant_of-self-in-Ok c =
     let absent = no_key c.self.inside.locked c.self.inside.keys.entries c.args.self.now c.self.view_is c.args.cell.now c.requires in (
       subst (λ at. AreKeyed at c.insert.new.self.entries) (sym (at-put c.self.inside.locked c.insert_reserved.new.self c.insert_reserved.result _ changes c.args.cell.now (ap Some c.in_ok-cell.ensures.cases)))
           (keyed-put (at_of c.self.inside.locked) c.self.inside.keys.entries c.insert.new.self.entries c.args.cell.now c.insert_reserved.result c.self.invariant.0 (at-none c.self.inside.locked c.insert_reserved.result free) absent put),
-      placed-put c.self.inside.locked c.insert_reserved.new.self c.self.inside.entries.keys c.note.new.self.keys c.insert_reserved.result _ c.self.invariant.1 free changes c.in-Ok.ensures.free
-          (λ t. c.in-Ok.ensures.ok t ∙ ap (λ j. cond (is_spot (spot_of c.in_ok-cell.cell c.in-Ok.place) t) (Some j) (key_at c.self.inside.entries.keys t.0 t.1)) key),
+      (
+        placed-put c.self.inside.locked c.insert_reserved.new.self c.self.inside.entries.keys c.note.new.self.keys c.insert_reserved.result _ c.self.invariant.1.0 free changes c.in-Ok.ensures.free
+            (λ t. c.in-Ok.ensures.ok t ∙ ap (λ j. cond (is_spot (spot_of c.in_ok-cell.cell c.in-Ok.place) t) (Some j) (key_at c.self.inside.entries.keys t.0 t.1)) key),
+        λ has_none. nameless-put (at_of c.self.inside.locked) _ c.insert_reserved.result c.args.cell.now
+            (at-put c.self.inside.locked c.insert_reserved.new.self c.insert_reserved.result _ changes c.args.cell.now (ap Some c.in_ok-cell.ensures.cases))
+            (ap is_names (sym c.in_ok-cell.ensures.cases) ∙ sym c.is_names.ensures ∙ no-right c.self.inside.has_names c.is_names.result has_none)
+            (c.self.invariant.1.1 (no-left c.self.inside.has_names c.is_names.result has_none)),
+      ),
     )
 
 pub returns-in-Ok-clause-fresh : goal.returns-in-Ok-clause-fresh
@@ -58,7 +65,10 @@ invariant_of-self-in-Err c =
     let back = index-back c.self.inside.keys.entries c.insert.new.self.entries c.remove.new.self.entries c.args.cell.now c.vacant_key-key.result absent put out in (
       keyed-index (at_of c.reserve.new.self) c.self.inside.keys.entries c.remove.new.self.entries back
           (subst (λ at. AreKeyed at c.self.inside.keys.entries) (sym (ap (λ (s : Slab Locked). at_of s) c.in_ok-reserve.ensures.rest_kept)) c.self.invariant.0),
-      placed-same c.self.inside.locked c.reserve.new.self c.self.inside.entries.keys c.note.new.self.keys c.self.invariant.1 (λ k. ap (λ (t : Slab Locked). get t k) c.in_ok-reserve.ensures.rest_kept) c.in-Err.ensures.err,
+      (
+        placed-same c.self.inside.locked c.reserve.new.self c.self.inside.entries.keys c.note.new.self.keys c.self.invariant.1.0 (λ k. ap (λ (t : Slab Locked). get t k) c.in_ok-reserve.ensures.rest_kept) c.in-Err.ensures.err,
+        λ has_none. nameless-same _ _ (ap (λ (s : Slab Locked). at_of s) c.in_ok-reserve.ensures.rest_kept) (c.self.invariant.1.1 has_none),
+      ),
     )
 
 pub invariant_of-self-in-Err-2 : goal.invariant_of-self-in-Err-2
@@ -69,7 +79,10 @@ invariant_of-self-in-Err-2 c =
     let back = index-back c.self.inside.keys.entries c.insert.new.self.entries c.remove.new.self.entries c.args.cell.now c.vacant_key-key.result absent put out in (
       keyed-index (at_of c.reserve.new.self) c.self.inside.keys.entries c.remove.new.self.entries back
           (subst (λ at. AreKeyed at c.self.inside.keys.entries) (sym (ap (λ (s : Slab Locked). at_of s) c.in_ok-reserve.ensures.rest_kept)) c.self.invariant.0),
-      placed-same c.self.inside.locked c.reserve.new.self c.self.inside.entries.keys c.note.new.self.keys c.self.invariant.1 (λ k. ap (λ (t : Slab Locked). get t k) c.in_ok-reserve.ensures.rest_kept) c.in-Err.ensures.err,
+      (
+        placed-same c.self.inside.locked c.reserve.new.self c.self.inside.entries.keys c.note.new.self.keys c.self.invariant.1.0 (λ k. ap (λ (t : Slab Locked). get t k) c.in_ok-reserve.ensures.rest_kept) c.in-Err.ensures.err,
+        λ has_none. nameless-same _ _ (ap (λ (s : Slab Locked). at_of s) c.in_ok-reserve.ensures.rest_kept) (c.self.invariant.1.1 has_none),
+      ),
     )
 
 pub returns-in-Err-clause-err : goal.returns-in-Err-clause-err

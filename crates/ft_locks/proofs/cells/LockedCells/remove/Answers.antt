@@ -4,6 +4,7 @@ use Rattle.ft_locks.specs.Cells.{Keyed}
 use Rattle.ft_locks.specs.EntryKeys.{spot_of}
 use Rattle.ft_locks.specs.Slots.{at_of, AreKeyed}
 use Rattle.ft_locks.proofs.Slots.{seen-at, at-there, at-out, at-shown, cells-out, cells-shown, keyed-out}
+use Rattle.ft_locks.proofs.Nameless.{nameless-left, no_length}
 use Rattle.ft_locks.proofs.EntryKeys.{key-left, gap-left, placed-left, no_spot}
 use Rattle.ft_locks.proofs.cells.LockedCells.remove.Goals as goal
 use Rattle.ft_locks.proofs.cells.LockedCells.remove.Goals.{in-Entry, in_default}
@@ -16,28 +17,37 @@ pub returns-in_err-cell-clause-at : goal.returns-in_err-cell-clause-at
 returns-in_err-cell-clause-at c = at-out c.self.inside.locked c.try_remove.new.self c.args.key None c.try_remove.ensures.updates refl ∙ ap (λ (m : Keyed). finite.remove m.at c.args.key) c.self.view_is
 
 pub close_gap-requires-clause-there : goal.close_gap-requires-clause-there
-close_gap-requires-clause-there c = key-left c.self.inside.locked c.try_remove.new.self c.self.inside.entries.keys c.args.key c.in_ok-cell.field-0 c.self.invariant.1 (sym c.try_remove.ensures.value ∙ c.in_ok-cell.was) c.try_remove.ensures.updates c.in-Entry.entry.dir c.in_ok-cell.field-0.place (ap (λ x. spot_of x c.in_ok-cell.field-0.place) c.in-Entry.is)
+close_gap-requires-clause-there c = key-left c.self.inside.locked c.try_remove.new.self c.self.inside.entries.keys c.args.key c.in_ok-cell.field-0 c.self.invariant.1.0 (sym c.try_remove.ensures.value ∙ c.in_ok-cell.was) c.try_remove.ensures.updates c.in-Entry.entry.dir c.in_ok-cell.field-0.place (ap (λ x. spot_of x c.in_ok-cell.field-0.place) c.in-Entry.is)
 
 pub close_gap-requires-clause-gap : goal.close_gap-requires-clause-gap
-close_gap-requires-clause-gap c = gap-left c.self.inside.locked c.try_remove.new.self c.self.inside.entries.keys c.args.key c.in_ok-cell.field-0 c.self.invariant.1 (sym c.try_remove.ensures.value ∙ c.in_ok-cell.was) c.try_remove.ensures.updates c.in-Entry.entry.dir c.in_ok-cell.field-0.place (ap (λ x. spot_of x c.in_ok-cell.field-0.place) c.in-Entry.is)
+close_gap-requires-clause-gap c = gap-left c.self.inside.locked c.try_remove.new.self c.self.inside.entries.keys c.args.key c.in_ok-cell.field-0 c.self.invariant.1.0 (sym c.try_remove.ensures.value ∙ c.in_ok-cell.was) c.try_remove.ensures.updates c.in-Entry.entry.dir c.in_ok-cell.field-0.place (ap (λ x. spot_of x c.in_ok-cell.field-0.place) c.in-Entry.is)
 
 pub invariant_of-self-in-Entry : goal.invariant_of-self-in-Entry
 invariant_of-self-in-Entry c =
-    let there = sym c.try_remove.ensures.value ∙ c.in_ok-cell.was in (
-      subst (λ at. AreKeyed at c.remove.new.self.entries)
-          (sym (at-shown c.try_remove.new.self c.close_gap.new.locked c.close_gap.ensures.same ∙ at-out c.self.inside.locked c.try_remove.new.self c.args.key None c.try_remove.ensures.updates refl))
-          (keyed-out (at_of c.self.inside.locked) c.self.inside.keys.entries c.remove.new.self.entries c.in_ok-cell.field-0.cell c.args.key c.self.invariant.0
-          (at-there c.self.inside.locked c.args.key c.in_ok-cell.field-0 there) c.remove.ensures.updates.0),
-      c.close_gap.ensures.placed,
+    let there = sym c.try_remove.ensures.value ∙ c.in_ok-cell.was in
+    let gone = at-shown c.try_remove.new.self c.close_gap.new.locked c.close_gap.ensures.same ∙ at-out c.self.inside.locked c.try_remove.new.self c.args.key None c.try_remove.ensures.updates refl in
+    let keyed = subst (λ at. AreKeyed at c.remove.new.self.entries) (sym gone)
+    (keyed-out (at_of c.self.inside.locked) c.self.inside.keys.entries c.remove.new.self.entries c.in_ok-cell.field-0.cell c.args.key c.self.invariant.0
+    (at-there c.self.inside.locked c.args.key c.in_ok-cell.field-0 there) c.remove.ensures.updates.0) in (
+      keyed,
+      (
+        c.close_gap.ensures.placed,
+        nameless-left (at_of c.self.inside.locked) (at_of c.close_gap.new.locked) c.args.key c.remove.new.self.entries c.self.inside.has_names c.is_empty.result gone keyed (λ is. no_length c.remove.new.self.entries (c.is_empty.ensures.0 is)) c.self.invariant.1.1,
+      ),
     )
 
 pub invariant_of-self-in_default : goal.invariant_of-self-in_default
 invariant_of-self-in_default c =
-    let there = sym c.try_remove.ensures.value ∙ c.in_ok-cell.was in (
-      subst (λ at. AreKeyed at c.remove.new.self.entries) (sym (at-out c.self.inside.locked c.try_remove.new.self c.args.key None c.try_remove.ensures.updates refl))
-          (keyed-out (at_of c.self.inside.locked) c.self.inside.keys.entries c.remove.new.self.entries c.in_ok-cell.field-0.cell c.args.key c.self.invariant.0
-          (at-there c.self.inside.locked c.args.key c.in_ok-cell.field-0 there) c.remove.ensures.updates.0),
-      placed-left c.self.inside.locked c.try_remove.new.self c.self.inside.entries.keys c.args.key c.in_ok-cell.field-0 c.self.invariant.1 (sym c.try_remove.ensures.value ∙ c.in_ok-cell.was) c.try_remove.ensures.updates (no_spot c.in_ok-cell.field-0.cell c.in_ok-cell.field-0.place c.in_default.not-Entry),
+    let there = sym c.try_remove.ensures.value ∙ c.in_ok-cell.was in
+    let gone = at-out c.self.inside.locked c.try_remove.new.self c.args.key None c.try_remove.ensures.updates refl in
+    let keyed = subst (λ at. AreKeyed at c.remove.new.self.entries) (sym gone)
+    (keyed-out (at_of c.self.inside.locked) c.self.inside.keys.entries c.remove.new.self.entries c.in_ok-cell.field-0.cell c.args.key c.self.invariant.0
+    (at-there c.self.inside.locked c.args.key c.in_ok-cell.field-0 there) c.remove.ensures.updates.0) in (
+      keyed,
+      (
+        placed-left c.self.inside.locked c.try_remove.new.self c.self.inside.entries.keys c.args.key c.in_ok-cell.field-0 c.self.invariant.1.0 (sym c.try_remove.ensures.value ∙ c.in_ok-cell.was) c.try_remove.ensures.updates (no_spot c.in_ok-cell.field-0.cell c.in_ok-cell.field-0.place c.in_default.not-Entry),
+        nameless-left (at_of c.self.inside.locked) (at_of c.try_remove.new.self) c.args.key c.remove.new.self.entries c.self.inside.has_names c.is_empty.result gone keyed (λ is. no_length c.remove.new.self.entries (c.is_empty.ensures.0 is)) c.self.invariant.1.1,
+      ),
     )
 
 pub returns-clause-cell : goal.returns-clause-cell
