@@ -100,6 +100,7 @@ impl<'c> Edits<'c> {
     pub fn pop_front(&mut self) -> Option<Edit<'c>>
         ensures some { IfSome result (λ edit. self.old ≡ edit ∷ self.new) }
         ensures none { IfNone result (self.old ≡ []) }
+        ensures left { IfNone result (self.new ≡ []) }
     {
         self.items.pop_front()
     }

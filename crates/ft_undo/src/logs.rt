@@ -113,6 +113,7 @@ impl Logs {
         requires places { CanEditAll tree.old edits.old }
         requires apart { Apart edits.old }
         ensures made { OnOk result (IsLogged tree.old tree.new (writes_of tree.old edits.old) self.old self.new txn stamp) }
+        ensures taken { OnOk result (edits.new ≡ []) }
         ensures refused { OnErr result (tree.new ≡ tree.old) }
         ensures kept { OnErr result (AreLists self.new (list_in self.old)) }
         ensures opened { AreOpen self.new (is_open self.old) }

@@ -95,7 +95,8 @@ impl Undo {
     pub(crate) fn fill(&mut self, tree: &mut Tree, edits: &mut Edits<'_>) -> Result<(), Memory>
         requires empty { self.old ≡ [] }
         requires places { CanEditAll tree.old edits.old }
-        ensures { IsApplied tree.old edits.old tree.new self.new result }
+        ensures applied { IsApplied tree.old edits.old tree.new self.new result }
+        ensures taken { OnOk result (edits.new ≡ []) }
     {
         setting();
         restoring();

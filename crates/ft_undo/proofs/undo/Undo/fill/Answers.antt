@@ -15,8 +15,8 @@ unwind-requires c =
     (subst (CanRestoreAll c.loop-edit.tree) (sym c.in-Err.ensures.none)
     (under-way-back c.args.tree.now c.args.edits.now c.loop-edit.tree c.loop-edit.self c.setting.ensures c.restoring.ensures c.loop-edit.edits c.requires.places c.loop-edit.invariant))
 
-pub returns-in-Err : goal.returns-in-Err
-returns-in-Err c = (
+pub returns-in-Err-clause-applied : goal.returns-in-Err-clause-applied
+returns-in-Err-clause-applied c = (
   c.unwind.ensures.tree ∙ ap (λ (s : Cells). restored s c.set.new.self) c.in-Err.ensures.err ∙ ap (restored c.loop-edit.tree) c.in-Err.ensures.none
       ∙ under-way-same c.args.tree.now c.args.edits.now c.loop-edit.tree c.loop-edit.self c.setting.ensures c.restoring.ensures c.loop-edit.edits c.requires.places c.loop-edit.invariant,
   c.unwind.ensures.none,
