@@ -12,3 +12,5 @@ mod of_plan;
 mod of_progress;
 #[cfg(test)]
 mod of_shared;
+#[cfg(test)]
+mod of_status;

@@ -1,7 +1,7 @@
 // Where the jobs of a plan stand: subjobs wait here for their parents, and parents for their subjobs.
-use crate::report::{End, Report};
 use ft_base::{Memory, Sequence};
 use ft_core::TxnId;
+use ft_reports::{End, Report};
 use std::alloc::Global;
 use std::sync::{Condvar, Mutex, Wait};
 

@@ -3,11 +3,9 @@ ghost use Rattle.std.specs.Prelude.{◌≤◌};
 
 use crate::board::Board;
 use crate::gate::Gate;
-use crate::places::place_of;
-use crate::report::{CallReport, End, Report};
-use crate::steps::{asked, descriptor_in};
 use ft_core::{Fault, Outcome, TxnId};
 use ft_plan::{Job, Step};
+use ft_reports::{CallReport, End, Report, asked, descriptor_in, place_of};
 use ft_shared::Manager;
 use std::alloc::Global;
 use std::sync::Wait;

@@ -1,14 +1,13 @@
 // All jobs of a plan, side by side.
 ghost use Rattle.std.specs.Prelude.{◌≢◌, ◌≤◌, IfOk, IfErr};
-ghost use Rattle.ft_jobs.specs.Reports.{AreReports};
+ghost use Rattle.ft_reports.specs.Reports.{AreReports};
 
 use crate::board::Board;
-use crate::comparing::are_reports;
 use crate::gate::Gate;
 use crate::job_run::{Work, run_job};
-use crate::report::Report;
 use ft_core::Core;
 use ft_plan::{Job, JobFault, Plan};
+use ft_reports::{Report, are_reports};
 use ft_shared::Manager;
 use std::alloc::Global;
 use std::sync::Wait;

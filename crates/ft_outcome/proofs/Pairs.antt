@@ -2,7 +2,7 @@
 use Rattle.std.proofs.Common.{ℕ, List, [], ◌∷◌, ◌++◌, map}
 use Rattle.std.specs.Borrow.{Bor}
 use Rattle.ft_plan.specs.declared.job.Job.{Job}
-use Rattle.ft_jobs.specs.declared.report.Report.{Report}
+use Rattle.ft_reports.specs.declared.report.Report.{Report}
 use Rattle.ft_outcome.specs.Texts.{job_text}
 
 abbrev pub pairs : List (Bor Job × Bor Report) → List (Job × Report)

@@ -6,7 +6,7 @@ use Rattle.ft_core.specs.States.{tree_of}
 use Rattle.ft_plan.specs.declared.fault.JobFault.TheVariants.{Memory, BadPlan, Mismatch, Thread}
 use Rattle.ft_plan.specs.declared.job.Job.{Job}
 use Rattle.ft_plan.specs.Plans.{IsPlanOf}
-use Rattle.ft_jobs.specs.Reports.{AreReports}
+use Rattle.ft_reports.specs.Reports.{AreReports}
 use Rattle.ft_jobs.specs.declared.running.JobsOutcome.{JobsOutcome}
 use Rattle.ft_script.specs.Runs.{WritesPart}
 use Rattle.ft_outcome.specs.declared.running.RunFault.{RunFault}

@@ -6,9 +6,9 @@ use Rattle.ft_tree.specs.declared.row.TreeRow.{TreeRow}
 use Rattle.ft_core.specs.declared.request.Event.{Event}
 use Rattle.ft_core.specs.declared.request.Event.TheVariants.{Call}
 use Rattle.ft_plan.specs.declared.job.Job.{Job}
-use Rattle.ft_jobs.specs.declared.report.End.{End}
-use Rattle.ft_jobs.specs.declared.report.End.TheVariants.{Committed, Aborted, Waited, Refused, NotStarted}
-use Rattle.ft_jobs.specs.declared.report.Report.{Report}
+use Rattle.ft_reports.specs.declared.report.End.{End}
+use Rattle.ft_reports.specs.declared.report.End.TheVariants.{Committed, Aborted, Waited, Refused, NotStarted}
+use Rattle.ft_reports.specs.declared.report.Report.{Report}
 use Rattle.ft_script.specs.Texts.{fault_name}
 use Rattle.ft_words.specs.CallTexts.{call_text}
 use Rattle.ft_words.specs.Texts.{reply_text, tree_text}

@@ -1,6 +1,6 @@
 // Runs a plan: reads it, runs its jobs in threads, and writes what they came to.
 ghost use Rattle.std.specs.Prelude.{◌≡◌, ◌≢◌, ◌≤◌, OnOk, IfOk, IfErr, IsErrOf, string_bytes};
-ghost use Rattle.ft_jobs.specs.Reports.{AreReports};
+ghost use Rattle.ft_reports.specs.Reports.{AreReports};
 ghost use Rattle.ft_outcome.specs.Runs.{IsNoPlan, IsTextOfPlan, RunsPlan, StopsPlan, text_of_outcome};
 
 use crate::text::OutcomeText;

@@ -1,6 +1,6 @@
 // The jobs of a plan, shown while they run.
 ghost use Rattle.std.specs.Prelude.{◌≢◌, ◌≤◌, IfOk, IfErr};
-ghost use Rattle.ft_jobs.specs.Reports.{AreReports};
+ghost use Rattle.ft_reports.specs.Reports.{AreReports};
 
 use crate::watch::Watch;
 use ft_jobs::{JobFault, JobsOutcome, OpenGate, Plan, run_jobs};

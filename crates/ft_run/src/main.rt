@@ -8,15 +8,10 @@
 //! there is.
 #![tactic(auto)]
 
-mod choose;
-mod status;
-#[cfg(test)]
-mod tests;
-
-use choose::{Choice, choose};
+use ft_command::{Choice, choose};
 use ft_jobs::LONGEST_PLAN;
 use ft_script::PlayFault;
-use status::{dot_status, failed, fault_line, jobs_status, play_status};
+use ft_status::{dot_status, failed, fault_line, jobs_status, play_status};
 use std::fs::{File, Files};
 use std::io::{ErrorKind, IsTerminal, Read, Stderr};
 use std::process::ExitCode;

@@ -4,7 +4,7 @@ use Rattle.std.proofs.lemmas.Iterator.Consumers.{YieldsList-end}
 use Rattle.std.specs.Fmt.{HasWritten}
 use Rattle.std.specs.List.{flat_map}
 use Rattle.ft_plan.specs.declared.job.Job.{Job}
-use Rattle.ft_jobs.specs.declared.report.Report.{Report}
+use Rattle.ft_reports.specs.declared.report.Report.{Report}
 use Rattle.ft_outcome.proofs.Pairs.{job_line}
 use Rattle.ft_outcome.proofs.text.JobLinesDisplay.fmt.Goals as goal
 

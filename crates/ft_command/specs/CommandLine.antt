@@ -1,0 +1,89 @@
+-- The command line of the program, in the words of the crate that reads it.
+use Rattle.std.specs.Prelude.{◌≡◌, ◌≢◌, ◌≤◌, ℕ, Bool, true, false, List, [], ◌∷◌, codes, Option, None, Some, string_bytes}
+use Rattle.std.specs.Str.Parse.{digits_value, without_leading_plus}
+use Rattle.clap.specs.Words.{App, IsAmong, Row, Rule, Text, fault_of, first_of, new_app, new_rule, one_of, subcommand_of, with_rule, with_subcommand}
+use Rattle.clap.specs.declared.builder.action.ArgAction.TheVariants.{SetTrue}
+use Rattle.clap.specs.declared.builder.command.Command.{Command}
+use Rattle.clap.specs.declared.builder.command.Command.TheViews.{out-Command}
+use Rattle.clap.specs.declared.builder.value_parser.ValueParser.TheVariants.{Unsigned}
+use Rattle.clap.specs.declared.error.kind.ErrorKind.{ErrorKind}
+use Rattle.clap.specs.declared.error.kind.ErrorKind.TheVariants.{DisplayHelp, OutOfMemory}
+use Rattle.ft_command.specs.declared.choice.Choice.{Choice}
+use Rattle.ft_command.specs.declared.choice.Choice.TheVariants.{Play, Dot, Jobs, Help, Usage, Fault}
+
+-- the plan of `jobs` has to be named
+abbrev pub file_rule : Rule
+file_rule = record (new_rule (codes "file")) { required = true; value_names = 1 }
+
+-- how often a call asks at most: `--turns N`, from 1 to 1,000,000, and 10,000 where it is not named
+abbrev pub turns_rule : Rule
+turns_rule = record (new_rule (codes "turns")) { long = Some (codes "turns"); value_names = 1; parser = Some (Unsigned 1 1000000); defaults = codes "10000" ∷ [] }
+
+-- `--quiet`, where it is not to be shown how far the jobs have come
+abbrev pub quiet_rule : Rule
+quiet_rule = record (new_rule (codes "quiet")) { long = Some (codes "quiet"); action = Some SetTrue }
+
+abbrev pub jobs : App
+jobs = with_rule (with_rule (with_rule (new_app (codes "jobs")) file_rule) turns_rule) quiet_rule
+
+-- no argument of the command is one of its subcommands too
+abbrev pub HasNoGlobals : Command → Type 0
+HasNoGlobals command = (out-Command command).has_globals ≡ false
+
+-- the program: it needs a subcommand, and has `play`, `dot` and `jobs`. The words begin behind its name
+abbrev pub program : App
+program =
+    let named = new_app (codes "ft_run") in
+    let bare = record named { top = record named.top { no_binary_name = true; subcommand_required = true } } in
+    with_subcommand (with_subcommand (with_subcommand bare (new_app (codes "play")).top) (new_app (codes "dot")).top) jobs.top
+
+-- a subcommand by its name, with what was found for it
+abbrev pub Met : Type 0
+Met = Option (Text × List Row)
+
+abbrev pub Names : Text → Met → Type 0
+Names name met = (found : List Row) × (met ≡ Some (name, found))
+
+-- a flag: it stands where the text that was found for it is `true`, and not where that is `false` or nothing was found
+abbrev pub IsFlag : Option Text → Bool → Type 0
+IsFlag None flag = flag ≡ false
+IsFlag (Some text) flag = (text ≡ codes "true" → flag ≡ true) × (text ≡ codes "false" → flag ≡ false)
+
+-- the file and the turns that were found, at least one, and whether it is to be quiet
+abbrev pub TellsJobs : List Row → Text → ℕ → Bool → Type 0
+TellsJobs found file turns quiet =
+    (first_of (codes "file") found ≡ Some file)
+    × ((digits : Text) × (one_of (codes "turns") found ≡ Some digits) × (turns ≡ digits_value 10 (without_leading_plus digits)))
+    × (1 ≤ turns)
+    × IsFlag (one_of (codes "quiet") found) quiet
+
+-- the choice where the words name this subcommand
+abbrev pub ReadChoice : Met → Choice → Type 0
+ReadChoice met Play = Names (codes "play") met
+ReadChoice met Dot = Names (codes "dot") met
+ReadChoice met (Jobs file turns quiet) = (found : List Row) × (met ≡ Some (codes "jobs", found)) × TellsJobs found (string_bytes file) turns quiet
+ReadChoice met (Help text) = ⊥
+ReadChoice met (Usage text) = ⊥
+ReadChoice met Fault = Unit {0}
+
+-- the choice where the words have an error of this kind
+abbrev pub ErrorChoice : ErrorKind → Choice → Type 0
+ErrorChoice kind Play = ⊥
+ErrorChoice kind Dot = ⊥
+ErrorChoice kind (Jobs file turns quiet) = ⊥
+ErrorChoice kind (Help text) = kind ≡ DisplayHelp
+ErrorChoice kind (Usage text) = (kind ≢ DisplayHelp) × (kind ≢ OutOfMemory)
+ErrorChoice kind Fault = Unit {0}
+
+-- the words have no error, and the subcommand that they name is read as this choice
+abbrev pub IsCommand : List Text → Choice → Type 0
+IsCommand words choice = (fault_of program words ≡ []) × ReadChoice (subcommand_of program words) choice
+
+-- the choice that words ask for
+abbrev pub ChoiceOf : List Text → Choice → Type 0
+ChoiceOf words Play = IsCommand words Play
+ChoiceOf words Dot = IsCommand words Dot
+ChoiceOf words (Jobs file turns quiet) = IsCommand words (Jobs file turns quiet)
+ChoiceOf words (Help text) = IsAmong DisplayHelp (fault_of program words)
+ChoiceOf words (Usage text) = (kind : ErrorKind) × IsAmong kind (fault_of program words) × (kind ≢ DisplayHelp)
+ChoiceOf words Fault = Unit {0}

@@ -1,0 +1,37 @@
+-- A transaction that is refused as one that has ended is committed or aborted, as its commit says.
+use Rattle.std.proofs.Common.{◌≡◌, ℕ, Bool, true, false, cond, Option, Some, None, refl}
+use Rattle.std.specs.Prelude.{MatchOption, ◌&&◌, nat_lt, nat_le}
+use Rattle.std.specs.FinMap as finite
+use Rattle.ft_calls.specs.declared.call.Call.{Call}
+use Rattle.ft_calls.specs.Posix.{posix_calls}
+use Rattle.ft_history.specs.History.{Fate, is_committed, is_gone, last_transaction}
+use Rattle.ft_history.specs.History.Fate.{Live, Committed as WasCommitted, Aborted as WasAborted}
+use Rattle.ft_core.specs.declared.fault.Fault.TheVariants.{Ended, NoTxn, NoAsk, Memory}
+use Rattle.ft_core.specs.declared.request.Request.TheVariants.{Drop}
+use Rattle.ft_core.specs.declared.request.Answer.TheVariants.{Refused}
+use Rattle.ft_core.specs.States.{State, history, fate_of}
+use Rattle.ft_core.specs.Steps.{IsStep, IsAnswered, exact_rule, fault_of_fate, fault_of_ask}
+use Rattle.ft_reports.specs.Reading.{HasEnded}
+
+by_fate : (s s' : State) (t : ℕ) (fate : Option Fate) (asked : Option Call)
+    → MatchOption (fault_of_fate fate (fault_of_ask asked None)) (IsAnswered exact_rule s (Drop t) (Refused Ended) s') (λ fault. (Refused Ended ≡ Refused fault) × (s' ≡ s))
+    → (s' ≡ s) × HasEnded fate
+by_fate s s' t None asked h = let e : Refused Ended ≡ Refused NoTxn = h.0 in absurd (cc)
+by_fate s s' t (Some Live) None h = let e : Refused Ended ≡ Refused NoAsk = h.0 in absurd (cc)
+by_fate s s' t (Some Live) (Some call) h = let e : Ended ≡ Memory = h.0 in absurd (cc)
+by_fate s s' t (Some WasCommitted) asked h = (h.1, tt)
+by_fate s s' t (Some WasAborted) asked h = (h.1, tt)
+
+-- who asks to forget what it waits for
+pub ended_is : (s s' : State) (t : ℕ) → IsStep exact_rule s (Drop t) (Refused Ended) s' → (s' ≡ s) × HasEnded (fate_of s t)
+ended_is s s' t h = by_fate s s' t (fate_of s t) (finite.get s.asks t) h
+
+by_tests : (begun committed gone : Bool) → HasEnded (cond begun (Some (cond committed WasCommitted (cond gone WasAborted Live))) None)
+    → cond begun (Some (cond committed WasCommitted (cond gone WasAborted Live))) None ≡ Some (cond committed WasCommitted WasAborted)
+by_tests true true gone h = refl
+by_tests true false true h = refl
+by_tests true false false h = absurd h
+by_tests false committed gone h = absurd h
+
+pub fate_is : (s : State) (t : ℕ) → HasEnded (fate_of s t) → fate_of s t ≡ Some (cond (is_committed posix_calls (history s) t) WasCommitted WasAborted)
+fate_is s t h = by_tests (nat_lt s.base.last_txn t && nat_le t (last_transaction posix_calls s.base.last_txn (history s))) (is_committed posix_calls (history s) t) (is_gone posix_calls (history s) t) h

@@ -1,0 +1,51 @@
+-- How the events of a history are read, oldest first.
+use Rattle.std.specs.Prelude.{◌==◌, ◌||◌, not, ℕ, Bool, true, false, cond, List, [], ◌∷◌, Option, None, Some}
+use Rattle.ft_history.specs.History.{Fate}
+use Rattle.ft_history.specs.History.Fate.{Live, Committed as WasCommitted, Aborted as WasAborted}
+use Rattle.ft_core.specs.declared.request.Event.{Event}
+use Rattle.ft_core.specs.declared.request.Event.TheVariants.{Begin, Call as CallEvent, Undo, Commit, Abort}
+use Rattle.ft_reports.specs.declared.report.CallReport.{CallReport}
+use Rattle.ft_reports.specs.declared.report.Report.{Report}
+use Rattle.ft_reports.specs.Reports.{is_from_least_on, is_reported}
+
+-- what t was granted by the event, if it is a call of t
+abbrev pub granted_by : ℕ → Event → Option CallReport
+granted_by t (CallEvent stamp asker call reply accesses) = cond (asker == t) (Some (record { stamp = stamp; call = call; reply = reply })) None
+granted_by t (Begin u p) = None
+granted_by t (Undo stamp) = None
+granted_by t (Commit u) = None
+granted_by t (Abort u) = None
+
+-- the parent of t, where it was the one given before the event
+abbrev pub parent_after : ℕ → Option ℕ → Event → Option ℕ
+parent_after t before (Begin u p) = cond (t == u) p before
+parent_after t before (CallEvent stamp asker call reply accesses) = before
+parent_after t before (Undo stamp) = before
+parent_after t before (Commit u) = before
+parent_after t before (Abort u) = before
+
+abbrev pub parent_behind : ℕ → Option ℕ → List Event → Option ℕ
+parent_behind t before [] = before
+parent_behind t before (e ∷ events) = parent_behind t (parent_after t before e) events
+
+abbrev pub is_commit_of : ℕ → Event → Bool
+is_commit_of t (Commit u) = t == u
+is_commit_of t (Begin u p) = false
+is_commit_of t (CallEvent stamp asker call reply accesses) = false
+is_commit_of t (Undo stamp) = false
+is_commit_of t (Abort u) = false
+
+-- the event is no call of a transaction from the least reported one on that no report has
+abbrev pub is_accounted : List Report → Event → Bool
+is_accounted reports (CallEvent stamp asker call reply accesses) = not (is_from_least_on reports asker) || is_reported reports asker
+is_accounted reports (Begin u p) = true
+is_accounted reports (Undo stamp) = true
+is_accounted reports (Commit u) = true
+is_accounted reports (Abort u) = true
+
+-- the transaction has committed or is aborted
+abbrev pub HasEnded : Option Fate → Type 0
+HasEnded None = ⊥
+HasEnded (Some Live) = ⊥
+HasEnded (Some WasCommitted) = Unit {0}
+HasEnded (Some WasAborted) = Unit {0}

@@ -1,0 +1,143 @@
+-- The reports of jobs are what happened.
+use Rattle.std.specs.Prelude.{◌≡◌, ◌==◌, ◌&&◌, not, ℕ, Bool, true, false, cond, nat_le, nat_lt, List, [], ◌∷◌, length, Option, None, Some, IsSome, IfSome, IfNone, option_and_then, map, All}
+use Rattle.std.specs.List.{list_any, position, slice_get}
+use Rattle.std.specs.Option.{option_map_or}
+use Rattle.std.specs.Str.{bytes_eq}
+use Rattle.ft_laws.specs.Lists.{In}
+use Rattle.ft_calls.specs.Posix.{posix_calls}
+use Rattle.ft_history.specs.History.{Fate, parent, grants}
+use Rattle.ft_history.specs.History.Fate.{Committed as WasCommitted, Aborted as WasAborted}
+use Rattle.ft_history.specs.Logs.{passing}
+use Rattle.ft_core.specs.Histories.{History, Granted}
+use Rattle.ft_core.specs.States.{State, history, fate_of}
+use Rattle.ft_plan.specs.declared.job.Job.{Job}
+use Rattle.ft_reports.specs.declared.report.CallReport.{CallReport}
+use Rattle.ft_reports.specs.declared.report.Report.{Report}
+use Rattle.ft_reports.specs.declared.report.End.{End}
+use Rattle.ft_reports.specs.declared.report.End.TheVariants.{Committed, Aborted, Waited, Refused, NotStarted}
+use Rattle.ft_reports.specs.Asked.{IsDone}
+
+-- ---- the calls of a transaction
+
+-- a granted call, as its asker is told of it
+abbrev pub as_told : Granted → CallReport
+as_told c = record { stamp = c.call.stamp; call = c.call.call; reply = c.reply }
+
+-- the calls that a transaction was granted, in the order of the history
+abbrev pub calls_of : History → ℕ → List CallReport
+calls_of h t = map as_told (passing (λ (c : Granted). c.asker == t) (grants posix_calls h))
+
+-- each stamp is greater than the one before
+abbrev pub stamps_rise : ℕ → List CallReport → Bool
+stamps_rise before [] = true
+stamps_rise before (c ∷ calls) = nat_lt before c.stamp && stamps_rise c.stamp calls
+
+-- ---- the transactions of reports
+
+abbrev pub has_txn : ℕ → Report → Bool
+has_txn t r = option_map_or (λ u. u == t) r.txn false
+
+abbrev pub has_txn_up_to : ℕ → Report → Bool
+has_txn_up_to t r = option_map_or (λ u. nat_le u t) r.txn false
+
+-- t is the transaction of a report
+abbrev pub is_reported : List Report → ℕ → Bool
+is_reported reports t = list_any (has_txn t) reports
+
+-- t is not below the least transaction of a report
+abbrev pub is_from_least_on : List Report → ℕ → Bool
+is_from_least_on reports t = list_any (has_txn_up_to t) reports
+
+-- No transaction is that of two reports.
+abbrev pub have_own_txns : List Report → Bool
+have_own_txns [] = true
+have_own_txns (r ∷ reports) = not (option_map_or (is_reported reports) r.txn false) && have_own_txns reports
+
+-- ---- jobs under jobs
+
+abbrev pub is_named : List ℕ → Job → Bool
+is_named name job = bytes_eq job.name name
+
+-- the report of the job of this name
+abbrev pub report_of : List Job → List Report → List ℕ → Option Report
+report_of jobs reports name = option_and_then (slice_get reports) (position (is_named name) jobs)
+
+-- the transaction of the job of this name
+abbrev pub txn_of : List Job → List Report → List ℕ → Option ℕ
+txn_of jobs reports name = option_and_then (λ (r : Report). r.txn) (report_of jobs reports name)
+
+-- A top job's transaction t has no parent; a subjob's has the transaction of its parent.
+abbrev pub IsNested : History → List Job → List Report → Option (List ℕ) → ℕ → Type 0
+IsNested h jobs reports None t = parent posix_calls h t ≡ None
+IsNested h jobs reports (Some name) t = (parent posix_calls h t ≡ txn_of jobs reports name) × IsSome (parent posix_calls h t)
+
+-- ---- how jobs end
+
+abbrev pub ends_committed : End → Bool
+ends_committed Committed = true
+ends_committed Aborted = false
+ends_committed Waited = false
+ends_committed (Refused fault) = false
+ends_committed NotStarted = false
+
+-- what has become of the transaction of a job that ended so
+abbrev pub fate_at : End → Fate
+fate_at end = cond (ends_committed end) WasCommitted WasAborted
+
+-- a job that ended so may have had no transaction
+abbrev pub may_lack_txn : End → Bool
+may_lack_txn Committed = false
+may_lack_txn Aborted = false
+may_lack_txn Waited = false
+may_lack_txn (Refused fault) = true
+may_lack_txn NotStarted = true
+
+-- a job that ended so may have left its subjobs unstarted
+abbrev pub may_leave_subjobs : End → Bool
+may_leave_subjobs Committed = false
+may_leave_subjobs Aborted = false
+may_leave_subjobs Waited = true
+may_leave_subjobs (Refused fault) = true
+may_leave_subjobs NotStarted = true
+
+abbrev pub has_left_subjobs : Report → Bool
+has_left_subjobs r = may_leave_subjobs r.end
+
+-- The job is a subjob, and its parent may have left it unstarted.
+abbrev pub may_be_unstarted : List Job → List Report → Job → Bool
+may_be_unstarted jobs reports job = option_map_or has_left_subjobs (option_and_then (report_of jobs reports) job.parent) false
+
+-- ---- all together
+
+-- The report of a job is what happened to it.
+pub record IsReport (h : History) (jobs : List Job) (reports : List Report) (at : ℕ) (job : Job) (r : Report) : Type 0 where
+  -- It is that of the job of this place.
+  pub place : r.job ≡ at
+  -- The calls that its transaction was granted are those that it has, stamp, call and reply, in the order of the stamps.
+  pub calls : IfSome r.txn (λ t. calls_of h t ≡ r.calls)
+  pub rising : stamps_rise 0 r.calls ≡ true
+  -- Its transaction is nested as the job is.
+  pub nested : IfSome r.txn (IsNested h jobs reports job.parent)
+  -- The calls are those of its steps, as far as its end says.
+  pub done : IsDone job.steps r.end r.calls
+  -- Only a job that was not started or was refused something has no transaction, and it has no calls.
+  pub without : IfNone r.txn ((may_lack_txn r.end ≡ true) × (r.calls ≡ []))
+  -- Only a subjob is not started, whose parent was not started, was refused something or waited too long.
+  pub unstarted : r.end ≡ NotStarted → may_be_unstarted jobs reports job ≡ true
+
+abbrev pub IsReportAt : History → List Job → List Report → ℕ → Type 0
+IsReportAt h jobs reports at = (job : Job) (r : Report) → slice_get jobs at ≡ Some job → slice_get reports at ≡ Some r → IsReport h jobs reports at job r
+
+-- Its transaction is committed where the job ended so, and else aborted.
+abbrev pub HasItsFate : State → Report → Type 0
+HasItsFate s r = IfSome r.txn (λ t. fate_of s t ≡ Some (fate_at r.end))
+
+-- The reports of the jobs of a plan are what happened, in the state that they left.
+pub record AreReports (s : State) (jobs : List Job) (reports : List Report) : Type 0 where
+  -- There is one for each job, in the order of the plan.
+  pub count : length reports ≡ length jobs
+  pub each : (at : ℕ) → IsReportAt (history s) jobs reports at
+  pub fates : All (HasItsFate s) reports
+  pub distinct : have_own_txns reports ≡ true
+  -- From the least of their transactions on, each call of the history is of one of them.
+  pub all : (c : Granted) → In c (grants posix_calls (history s)) → is_from_least_on reports c.asker ≡ true → is_reported reports c.asker ≡ true

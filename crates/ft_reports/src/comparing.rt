@@ -1,0 +1,252 @@
+// Whether reports are what happened.
+ghost use Rattle.std.specs.Prelude.{◌≡◌, true, [], ℕ, All, IfSome, IfNone, IfOk, option_copied};
+ghost use Rattle.std.specs.List.{list_all};
+ghost use Rattle.ft_core.specs.Histories.{told};
+ghost use Rattle.ft_reports.specs.Reports.{calls_of, has_txn, has_txn_up_to, is_reported, is_from_least_on, have_own_txns, report_of, txn_of, IsNested, ends_committed, may_lack_txn, may_leave_subjobs, may_be_unstarted, IsReportAt, HasItsFate, AreReports};
+ghost use Rattle.ft_reports.specs.Reading.{is_accounted};
+
+use crate::history::{are_calls_of, do_stamps_rise, has_ended, parent_of};
+use crate::places::place_of;
+use crate::report::{End, Report};
+use crate::steps::is_done;
+use ft_base::Memory;
+use ft_core::{Core, Event, TxnId};
+use ft_plan::{Job, Plan};
+use std::alloc::Global;
+
+/// Whether these are the reports of what happened to the jobs of a plan, in the core that they left.
+pub fn are_reports(
+    alloc: Global,
+    plan: &Plan,
+    core: &mut Core,
+    reports: &[Report],
+) -> Result<bool, Memory>
+    ensures { IfOk result (λ are. are ≡ true → AreReports core.new plan.now reports.now) }
+{
+    let jobs = plan.jobs();
+    if reports.len() != jobs.len() || !have_own_txns(reports) || !have_their_fates(core, reports) {
+        return Ok(false);
+    }
+    let events = core.history();
+    if !are_each(alloc, events, jobs, reports)? {
+        return Ok(false);
+    }
+    Ok(are_accounted(events, reports))
+}
+
+// Whether the transactions of the reports are committed or aborted as they say. Where they are, nothing changes.
+fn have_their_fates(core: &mut Core, reports: &[Report]) -> bool
+    ensures same { result ≡ true → core.new ≡ core.old }
+    ensures fates { result ≡ true → All (HasItsFate core.old) reports.now }
+{
+    for report in reports {
+        if !has_its_fate(core, report) {
+            return false;
+        }
+    }
+    true
+}
+
+// Whether the transaction of a report, if it has one, is committed or aborted as it says. Where it is, nothing changes.
+fn has_its_fate(core: &mut Core, report: &Report) -> bool
+    ensures same { result ≡ true → core.new ≡ core.old }
+    ensures fate { result ≡ true → HasItsFate core.old report.now }
+{
+    match report.txn {
+        None => true,
+        Some(txn) => has_ended(core, txn, ends_committed(report.end)),
+    }
+}
+
+// Whether the transaction of a job that ended so is committed.
+fn ends_committed(end: End) -> bool
+    ensures { result ≡ ends_committed end }
+{
+    matches!(end, End::Committed)
+}
+
+// Whether each report is that of its job.
+fn are_each(
+    alloc: Global,
+    events: &[Event],
+    jobs: &[Job],
+    reports: &[Report],
+) -> Result<bool, Memory>
+    ensures { IfOk result (λ are. are ≡ true → (at : ℕ) → IsReportAt (told events.now) jobs.now reports.now at) }
+{
+    for at in 0..jobs.len() {
+        if !is_report_at(alloc, events, jobs, reports, at)? {
+            return Ok(false);
+        }
+    }
+    Ok(true)
+}
+
+// Whether the report at this place is that of the job at this place. There are both.
+fn is_report_at(
+    alloc: Global,
+    events: &[Event],
+    jobs: &[Job],
+    reports: &[Report],
+    at: usize,
+) -> Result<bool, Memory>
+    ensures { IfOk result (λ is. is ≡ true → IsReportAt (told events.now) jobs.now reports.now at) }
+{
+    let (Some(job), Some(report)) = (jobs.get(at), reports.get(at)) else {
+        return Ok(false);
+    };
+    if !is_done(alloc, job.steps.as_slice(), report)? {
+        return Ok(false);
+    }
+    Ok(
+        report.job == at as u64
+            && do_stamps_rise(report.calls.as_slice())
+            && is_of_txn(events, jobs, reports, job, report)
+            && is_started(jobs, reports, job, report),
+    )
+}
+
+// Whether a report has just the calls that its transaction was granted, which is nested as the job is. Without a
+// transaction, whether there may be none, and no calls.
+fn is_of_txn(events: &[Event], jobs: &[Job], reports: &[Report], job: &Job, report: &Report) -> bool
+    ensures calls { result ≡ true → IfSome report.now.txn (λ t. calls_of (told events.now) t ≡ report.now.calls) }
+    ensures nested { result ≡ true → IfSome report.now.txn (IsNested (told events.now) jobs.now reports.now job.now.parent) }
+    ensures without { result ≡ true → IfNone report.now.txn ((may_lack_txn report.now.end ≡ true) × (report.now.calls ≡ [])) }
+{
+    let calls = report.calls.as_slice();
+    match report.txn {
+        Some(txn) => {
+            are_calls_of(events, txn, calls) && is_nested(events, jobs, reports, job, txn)
+        }
+        None => may_lack_txn(report.end) && calls.is_empty(),
+    }
+}
+
+// Whether a transaction is nested as its job is.
+fn is_nested(events: &[Event], jobs: &[Job], reports: &[Report], job: &Job, txn: TxnId) -> bool
+    ensures { result ≡ true → IsNested (told events.now) jobs.now reports.now job.now.parent txn }
+{
+    match (parent_of(events, txn), &job.parent) {
+        (None, None) => true,
+        (Some(parent), Some(name)) => { txn_of(jobs, reports, name.as_bytes()) == Some(parent) }
+        _ => false,
+    }
+}
+
+// The transaction of the job of this name.
+fn txn_of(jobs: &[Job], reports: &[Report], name: &[u8]) -> Option<TxnId>
+    ensures { result ≡ txn_of jobs.now reports.now name.now }
+{
+    report_of(jobs, reports, name)?.txn
+}
+
+// The report of the job of this name.
+fn report_of<'a>(jobs: &[Job], reports: &'a [Report], name: &[u8]) -> Option<&'a Report>
+    ensures { option_copied result ≡ report_of jobs.now reports.now name.now }
+{
+    let at = place_of(jobs, name)?;
+    reports.get(at)
+}
+
+// Whether the job was started where its report says so, or where it was not may be unstarted.
+fn is_started(jobs: &[Job], reports: &[Report], job: &Job, report: &Report) -> bool
+    ensures { result ≡ true → report.now.end ≡ End.NotStarted → may_be_unstarted jobs.now reports.now job.now ≡ true }
+{
+    match report.end {
+        End::NotStarted => may_be_unstarted(jobs, reports, job),
+        _ => true,
+    }
+}
+
+// Whether the job is a subjob that its parent may have left unstarted.
+fn may_be_unstarted(jobs: &[Job], reports: &[Report], job: &Job) -> bool
+    ensures { result ≡ may_be_unstarted jobs.now reports.now job.now }
+{
+    let Some(name) = &job.parent else {
+        return false;
+    };
+    match report_of(jobs, reports, name.as_bytes()) {
+        None => false,
+        Some(parent) => may_leave_subjobs(parent.end),
+    }
+}
+
+// Whether a job that ended so may have left its subjobs unstarted.
+fn may_leave_subjobs(end: End) -> bool
+    ensures { result ≡ may_leave_subjobs end }
+{
+    matches!(end, End::Waited | End::Refused(_) | End::NotStarted)
+}
+
+// Whether a job that ended so may have had no transaction.
+fn may_lack_txn(end: End) -> bool
+    ensures { result ≡ may_lack_txn end }
+{
+    matches!(end, End::Refused(_) | End::NotStarted)
+}
+
+// Whether no transaction is that of two reports.
+#[tactic(auto, using(std::proofs::lemmas::List::drop_more))]
+fn have_own_txns(reports: &[Report]) -> bool
+    ensures { result ≡ have_own_txns reports.now }
+{
+    for at in 0..reports.len() {
+        if let Some(txn) = reports[at].txn {
+            if is_reported(&reports[at + 1..], txn) {
+                return false;
+            }
+        }
+    }
+    true
+}
+
+// Whether a transaction is that of a report.
+fn is_reported(reports: &[Report], txn: TxnId) -> bool
+    ensures { result ≡ is_reported reports.now txn }
+{
+    reports.iter().any(|report| has_txn(txn, report))
+}
+
+// Whether a transaction is that of this report.
+fn has_txn(txn: TxnId, report: &Report) -> bool
+    ensures { result ≡ has_txn txn report.now }
+{
+    match report.txn {
+        None => false,
+        Some(reported) => reported == txn,
+    }
+}
+
+// Whether a transaction is not below the least that is reported.
+fn is_from_least_on(reports: &[Report], txn: TxnId) -> bool
+    ensures { result ≡ is_from_least_on reports.now txn }
+{
+    reports.iter().any(|report| has_txn_up_to(txn, report))
+}
+
+// Whether the report has a transaction up to this one.
+fn has_txn_up_to(txn: TxnId, report: &Report) -> bool
+    ensures { result ≡ has_txn_up_to txn report.now }
+{
+    match report.txn {
+        None => false,
+        Some(reported) => reported.0 <= txn.0,
+    }
+}
+
+// Whether each call of a transaction from the least reported one on is of one that is reported.
+fn are_accounted(events: &[Event], reports: &[Report]) -> bool
+    ensures { result ≡ list_all (is_accounted reports.now) events.now }
+{
+    events.iter().all(|event| is_accounted(reports, event))
+}
+
+// The same of one event.
+fn is_accounted(reports: &[Report], event: &Event) -> bool
+    ensures { result ≡ is_accounted reports.now event.now }
+{
+    match event {
+        Event::Call { txn, .. } => !is_from_least_on(reports, *txn) || is_reported(reports, *txn),
+        _ => true,
+    }
+}

@@ -1,0 +1,136 @@
+// What the history has of a transaction.
+ghost use Rattle.std.specs.Prelude.{◌≡◌, true, cond, Some, is_some};
+ghost use Rattle.std.specs.List.{list_any};
+ghost use Rattle.ft_calls.specs.Posix.{posix_calls};
+ghost use Rattle.ft_history.specs.History.{parent, is_committed};
+ghost use Rattle.ft_history.specs.History.Fate.{Committed as WasCommitted, Aborted as WasAborted};
+ghost use Rattle.ft_core.specs.Histories.{told};
+ghost use Rattle.ft_core.specs.States.{fate_of};
+ghost use Rattle.ft_reports.specs.Reports.{calls_of, stamps_rise};
+ghost use Rattle.ft_reports.specs.Reading.{granted_by, parent_after, is_commit_of};
+
+use crate::equality::{is_same_call, is_same_reply};
+use crate::report::CallReport;
+use ft_core::{Core, Event, Fault, TxnId};
+
+/// Whether these are all calls that a transaction was granted, in their order.
+#[tactic(auto, using(crate::proofs::Told::calls_are, std::proofs::lemmas::List::take_more))]
+pub fn are_calls_of(events: &[Event], txn: TxnId, calls: &[CallReport]) -> bool
+    ensures { result ≡ true → calls_of (told events.now) txn ≡ calls.now }
+{
+    let mut made = 0;
+    for event in events {
+        if is_call_of(event, txn) {
+            match calls.get(made) {
+                Some(call) if is_told(event, txn, call) => made += 1,
+                _ => return false,
+            }
+        }
+    }
+    made == calls.len()
+}
+
+// Whether the event is a call of the transaction.
+fn is_call_of(event: &Event, txn: TxnId) -> bool
+    ensures { result ≡ is_some (granted_by txn event.now) }
+{
+    match event {
+        Event::Call { txn: asker, .. } => *asker == txn,
+        _ => false,
+    }
+}
+
+// Whether the event is a call of a transaction, granted as it is told here.
+fn is_told(event: &Event, txn: TxnId, told: &CallReport) -> bool
+    ensures { result ≡ true → granted_by txn event.now ≡ Some told.now }
+{
+    match event {
+        Event::Call {
+            stamp,
+            txn: asker,
+            call,
+            reply,
+            ..
+        } => {
+            *asker == txn
+                && *stamp == told.stamp
+                && is_same_call(call, &told.call)
+                && is_same_reply(reply, &told.reply)
+        }
+        _ => false,
+    }
+}
+
+/// Whether each stamp is greater than the one before.
+pub fn do_stamps_rise(calls: &[CallReport]) -> bool
+    ensures { result ≡ stamps_rise 0 calls.now }
+{
+    let mut before = 0;
+    for call in calls {
+        if call.stamp <= before {
+            return false;
+        }
+        before = call.stamp;
+    }
+    true
+}
+
+/// The parent of a transaction, if it has one.
+#[tactic(auto, using(crate::proofs::Told::parent_is))]
+pub fn parent_of(events: &[Event], txn: TxnId) -> Option<TxnId>
+    ensures { result ≡ parent posix_calls (told events.now) txn }
+{
+    let mut parent = None;
+    for event in events {
+        parent = parent_after(event, txn, parent);
+    }
+    parent
+}
+
+// The parent of a transaction after the event, where it was this one before.
+fn parent_after(event: &Event, txn: TxnId, before: Option<TxnId>) -> Option<TxnId>
+    ensures { result ≡ parent_after txn before event.now }
+{
+    match event {
+        Event::Begin { txn: begun, parent } if txn == *begun => *parent,
+        _ => before,
+    }
+}
+
+/// Whether a transaction has committed.
+#[tactic(auto, using(crate::proofs::Told::committed_is))]
+fn has_committed(events: &[Event], txn: TxnId) -> bool
+    ensures { result ≡ is_committed posix_calls (told events.now) txn }
+{
+    is_commit_among(events, txn)
+}
+
+// Whether one of the events is the commit of the transaction.
+fn is_commit_among(events: &[Event], txn: TxnId) -> bool
+    ensures { result ≡ list_any (is_commit_of txn) events.now }
+{
+    events.iter().any(|event| is_commit_of(event, txn))
+}
+
+// Whether the event is the commit of the transaction.
+fn is_commit_of(event: &Event, txn: TxnId) -> bool
+    ensures { result ≡ is_commit_of txn event.now }
+{
+    match event {
+        Event::Commit { txn: ended } => txn == *ended,
+        _ => false,
+    }
+}
+
+/// Whether a transaction has ended, committed or aborted as it says here. Where it has, nothing changes: one that has ended
+/// is refused whatever it asks for, and here it asks to forget what it waits for.
+#[tactic(auto, using(crate::proofs::Ending::ended_is, crate::proofs::Ending::fate_is))]
+pub fn has_ended(core: &mut Core, txn: TxnId, committed: bool) -> bool
+    ensures same { result ≡ true → core.new ≡ core.old }
+    ensures fate { result ≡ true → fate_of core.old txn ≡ Some (cond committed WasCommitted WasAborted) }
+{
+    if has_committed(core.history(), txn) != committed {
+        return false;
+    }
+    matches!(core.drop_ask(txn), Err(Fault::Ended))
+}

@@ -1,0 +1,14 @@
+//! What becomes of jobs: reports of them, which calls the steps of a job ask for, and whether reports are what happened.
+#![tactic(auto)]
+
+mod comparing;
+mod equality;
+mod history;
+mod places;
+mod report;
+mod steps;
+
+pub use comparing::are_reports;
+pub use places::place_of;
+pub use report::{CallReport, End, Report};
+pub use steps::{asked, descriptor_in};
