@@ -12,8 +12,8 @@ use Rattle.ft_locks.specs.declared.line.LockKind.TheVariants.{Held}
 use Rattle.ft_locks.specs.declared.line.LockLine.{LockLine}
 use Rattle.ft_locks.specs.Marks.{is_marked_of}
 use Rattle.ft_locks.specs.Cells.{Cells, marks_at, let_go_owner}
-use Rattle.ft_locks.specs.Holdings.{has_place, is_given, AreOpenStill}
-use Rattle.ft_locks.specs.Locks.{is_held, same_mode, is_accessed, has_access, AreGranted}
+use Rattle.ft_locks.specs.Holdings.{has_place, AreOpenStill}
+use Rattle.ft_locks.specs.Locks.{is_held, same_mode, is_accessed, has_access, AreGranted, is_given}
 use Rattle.ft_locks.specs.Seen.{has_mark_of, has_line, is_marked_at, table_of, IsKept}
 use Rattle.ft_locks.proofs.Joining.{apart_test, itself}
 use Rattle.ft_locks.proofs.Tables.{lines-seen, let_go-seen, opened-seen, marked_by, marked_one, same_truth, same_lines, same_cells_set, same_numbers, line, line_of_mark, mark_of_line}

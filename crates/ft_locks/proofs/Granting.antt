@@ -19,8 +19,8 @@ use Rattle.ft_locks.specs.declared.marks.Marks.{Marks}
 use Rattle.ft_locks.specs.declared.holdings.Dropped.{Dropped}
 use Rattle.ft_locks.specs.Marks.{held_in, with_marks, has_mark}
 use Rattle.ft_locks.specs.Cells.{Cells, marks_at, is_at}
-use Rattle.ft_locks.specs.Holdings.{Held as Places, has_place, AreOpenStill, after_back, is_given, IsDropped}
-use Rattle.ft_locks.specs.Locks.{is_held, same_mode, is_accessed, has_access}
+use Rattle.ft_locks.specs.Holdings.{Held as Places, has_place, AreOpenStill, after_back, IsDropped}
+use Rattle.ft_locks.specs.Locks.{is_held, same_mode, is_accessed, has_access, is_given}
 use Rattle.ft_locks.specs.Seen.{has_mark_of, has_line}
 use Rattle.ft_locks.proofs.CellViews.{turned_cell}
 use Rattle.ft_locks.proofs.Joining.{list_there, open_if_listed, still-insert, placed-put, placed-marked}

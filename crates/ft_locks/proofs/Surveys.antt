@@ -20,8 +20,8 @@ use Rattle.ft_locks.specs.declared.line.LockLine.{LockLine}
 use Rattle.ft_locks.specs.declared.marks.Marks.{Marks}
 use Rattle.ft_locks.specs.Marks.{has_mark, cover}
 use Rattle.ft_locks.specs.Cells.{Cells, marks_at, let_go_owner}
-use Rattle.ft_locks.specs.Holdings.{has_place, is_given}
-use Rattle.ft_locks.specs.Locks.{LockTable, has_lock, is_held, is_let_go, is_accessed, same_mode, AreGranted}
+use Rattle.ft_locks.specs.Holdings.{has_place}
+use Rattle.ft_locks.specs.Locks.{LockTable, has_lock, is_held, is_let_go, is_accessed, same_mode, AreGranted, is_given}
 use Rattle.ft_locks.specs.Seen.{has_mark_of, has_line, table_of}
 use Rattle.ft_locks.specs.Blocking.{Found, AreNoted, way, beside, blocks}
 use Rattle.ft_locks.specs.Surveys.{KeepOthersOut, HasItsCellsAlone, HoldsAll}

@@ -8,11 +8,8 @@ use Rattle.ft_tree.specs.declared.cell.Cell.{Cell}
 use Rattle.ft_tree.specs.contracts.cell.Cell as cell
 use Rattle.ft_tree.specs.CellOrder.{same_cell}
 use Rattle.ft_laws.specs.Lists.{Each}
-use Rattle.ft_calls.specs.declared.call.Access.{Access}
-use Rattle.ft_locks.specs.declared.line.LockLine.{LockLine}
 use Rattle.ft_locks.specs.declared.marks.Marks.{Marks}
 use Rattle.ft_locks.specs.Cells.{Cells, CellKeys, Keyed, coded_cells, marks_at, is_at}
-use Rattle.ft_locks.specs.Locks.{is_held, has_access}
 
 -- for each cell its owners, and for each owner its cells
 pub record Held : Type 0 where
@@ -79,7 +76,3 @@ pub record IsDropped (old new : Held) (owner : ℕ) (freed : Option Cell) : Type
 -- what would be left of an owner's places without so many of its newest
 abbrev pub after_back : ℕ → ℕ → Cells → Lists Cell → Cell → ℕ → Option Marks
 after_back count owner m lists c u = cond ((u == owner) && list_any (same_cell c) (take count (list_in lists owner))) None (marks_at m c u)
-
--- the line is of a lock that the owner holds by one of these accesses
-abbrev pub is_given : ℕ → List Access → LockLine → Bool
-is_given owner accesses l = is_held l.kind && (l.owner == owner) && has_access accesses l.cell l.mode

@@ -75,9 +75,13 @@ has_access accesses cell mode = list_any (λ a. same_cell a.cell cell && same_mo
 abbrev pub is_accessed : List Access → Cell → Bool
 is_accessed accesses cell = list_any (λ a. same_cell a.cell cell) accesses
 
+-- the line is of a lock that the owner holds by one of these accesses
+abbrev pub is_given : ℕ → List Access → LockLine → Bool
+is_given owner accesses l = is_held l.kind && (l.owner == owner) && has_access accesses l.cell l.mode
+
 -- A transaction that is granted a call holds the locks of its accesses.
 pub record AreGranted (old new : LockTable) (txn : ℕ) (accesses : List Access) : Type 0 where
-  pub lines : (l : LockLine) → has_lock new l ≡ (has_lock old l || (is_held l.kind && (l.owner == txn) && has_access accesses l.cell l.mode))
+  pub lines : (l : LockLine) → has_lock new l ≡ (has_lock old l || is_given txn accesses l)
   pub let_go : (c : Cell) → is_let_go new c ≡ (is_let_go old c && not (is_accessed accesses c))
   pub opened : new.opened ≡ old.opened
 

@@ -4,9 +4,8 @@ use Rattle.ft_calls.specs.declared.call.Access.{Access}
 use Rattle.ft_calls.specs.Accesses.{conflict}
 use Rattle.ft_forest.specs.Transactions.{Transactions, over_in}
 use Rattle.ft_locks.specs.declared.line.LockLine.{LockLine}
-use Rattle.ft_locks.specs.Locks.{LockTable, has_lock, line_access}
+use Rattle.ft_locks.specs.Locks.{LockTable, has_lock, line_access, is_given}
 use Rattle.ft_locks.specs.Cells.{Cells}
-use Rattle.ft_locks.specs.Holdings.{is_given}
 use Rattle.ft_locks.specs.Seen.{has_line}
 
 -- each lock that conflicts with one of the transaction's is its own or an ancestor's

@@ -73,10 +73,10 @@ fn hand_all(cells: &mut LockedCells, keys: Values<'_, usize>, from: u64, to: u64
 
 impl Holdings {
     ghost use Rattle.std.specs.Prelude.{◌==◌, ◌&&◌, ◌||◌};
-    ghost use Rattle.ft_locks.specs.Locks.{is_held, is_accessed, has_access};
+    ghost use Rattle.ft_locks.specs.Locks.{is_held, is_given, is_accessed, has_access};
     ghost use Rattle.ft_locks.specs.Listing.{AreAdded};
     ghost use Rattle.ft_locks.specs.Seen.{has_line};
-    ghost use Rattle.ft_locks.specs.Holdings.{after_back, is_given};
+    ghost use Rattle.ft_locks.specs.Holdings.{after_back};
 
     /// No owner and no place. Takes no memory.
     pub(crate) fn new(alloc: Global) -> Holdings

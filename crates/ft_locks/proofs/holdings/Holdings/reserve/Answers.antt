@@ -3,8 +3,8 @@ use Rattle.std.proofs.lemmas.Bool.{and_parts, eqb-true}
 use Rattle.std.specs.FinMap as finite
 use Rattle.ft_tree.specs.CellOrder.{same_cell, same_cell-is}
 use Rattle.ft_locks.specs.declared.line.LockLine.{LockLine}
-use Rattle.ft_locks.specs.Locks.{is_held, same_mode, is_accessed}
-use Rattle.ft_locks.specs.Holdings.{has_place, is_given, after_back}
+use Rattle.ft_locks.specs.Locks.{is_held, same_mode, is_accessed, is_given}
+use Rattle.ft_locks.specs.Holdings.{has_place, after_back}
 use Rattle.ft_locks.specs.Seen.{has_line}
 use Rattle.ft_locks.proofs.CellViews.{turned_cell}
 use Rattle.ft_locks.proofs.Granting.{added_back, added_line, added_place, added_still, accessed_more, given_more, lines_kept, lines_made, line_there, in_either, in_place, or_with, place_kept, place_made, some-placed}
