@@ -10,9 +10,38 @@ use std::time::{Clock, Duration};
 
 const TWO_JOBS: &[u8] = b"job one\nmkdir /a\nmkdir /b\ncommit\njob two-2\nmkdir /c\nabort\n";
 
+// Which jobs come to which steps, each job by its place, and what is told then.
+const TOLD: &[(&[(u64, u64)], &str)] = &[
+    (&[], "jobs ended: 0 of 2; calls granted: 0"),
+    (&[(0, 1), (1, 1)], "jobs ended: 0 of 2; calls granted: 0"),
+    (
+        &[],
+        "jobs ended: 0 of 2; calls granted: 0; waiting: one two-2",
+    ),
+    (
+        &[(0, 2)],
+        "jobs ended: 0 of 2; calls granted: 1; waiting: two-2",
+    ),
+];
+
+const TOLD_AT_THE_END: &str = "jobs ended: 2 of 2; calls granted: 2";
+
 // Whether the watch tells this.
 fn tells<R: Wait>(rt: &R, alloc: Global, watch: &Watch<'_>, told: &str) -> Result<bool, Fail> {
     Ok(watch.line(rt, alloc)?.as_str() == told)
+}
+
+// Whether it tells all these, each once the jobs have come to its steps.
+fn tells_all<R: Wait + Clock>(rt: &R, alloc: Global, watch: &Watch<'_>) -> Result<bool, Fail> {
+    for (steps, told) in TOLD {
+        for (job, step) in *steps {
+            watch.pass(rt, *job, *step);
+        }
+        if !tells(rt, alloc, watch, told)? {
+            return Ok(false);
+        }
+    }
+    Ok(true)
 }
 
 #[test]
@@ -20,31 +49,11 @@ fn jobs_are_watched(rt: HostRuntime) -> Result<(), Fail> {
     let alloc = rt.alloc();
     let plan = Plan::read(alloc, TWO_JOBS)?;
     let watch = Watch::new(alloc, plan.jobs())?;
-    assert!(rt; tells(&rt, alloc, &watch, "jobs ended: 0 of 2; calls granted: 0")?);
-    watch.pass(&rt, 0, 1);
-    watch.pass(&rt, 1, 1);
-    assert!(rt; tells(&rt, alloc, &watch, "jobs ended: 0 of 2; calls granted: 0")?);
-    assert!(rt;
-        tells(
-            &rt,
-            alloc,
-            &watch,
-            "jobs ended: 0 of 2; calls granted: 0; waiting: one two-2"
-        )?
-    );
-    watch.pass(&rt, 0, 2);
-    assert!(rt;
-        tells(
-            &rt,
-            alloc,
-            &watch,
-            "jobs ended: 0 of 2; calls granted: 1; waiting: two-2"
-        )?
-    );
+    let all = tells_all(&rt, alloc, &watch)?;
     watch.pass(&rt, 0, 3);
     watch.ended(&rt, 0);
     watch.ended(&rt, 1);
-    assert!(rt; tells(&rt, alloc, &watch, "jobs ended: 2 of 2; calls granted: 2")?);
+    assert!(rt; all && tells(&rt, alloc, &watch, TOLD_AT_THE_END)?);
     Ok(())
 }
 
