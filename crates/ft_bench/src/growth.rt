@@ -18,7 +18,7 @@ pub struct Growth {
 
 impl Model for Growth {
     ghost use Rattle.std.specs.Prelude.{◌≤◌, ℕ};
-    ghost use Rattle.ft_tree.specs.Cells.{Cells, coded_cells};
+    ghost use Rattle.ft_cells.specs.Cells.{Cells, coded_cells};
     ghost use Rattle.ft_tree.specs.Sound.{AreSoundCells, IsFree};
 
     ghost Value = { Cells };

@@ -2,20 +2,19 @@
 ghost use Rattle.std.specs.Prelude.{◌≡◌, ◌<◌, ◌≤◌, [], length};
 ghost use Rattle.ft_body.specs.declared.TheConstants.{SIZE_LIMIT};
 ghost use Rattle.ft_body.specs.Bytes.{fitting};
-ghost use Rattle.ft_calls.specs.Descriptors.{with_open, any_open, is_readable, is_writable, at_offset, close_open, read_open, pread_at, pread_open, write_place, write_at, write_open, pwrite_at, pwrite_open, seek_from, seek_open, moved, sought, ftruncate_open, fstat_open};
-ghost use Rattle.ft_tree.specs.Looks.{Answer};
-ghost use Rattle.ft_calls.specs.Looking.{Finds};
-ghost use Rattle.ft_calls.specs.Comes.{Comes};
-ghost use Rattle.ft_calls.specs.Intended.{intended};
+ghost use Rattle.ft_posix.specs.Descriptors.{with_open, any_open, is_readable, is_writable, at_offset, close_open, read_open, pread_at, pread_open, write_place, write_at, write_open, pwrite_at, pwrite_open, seek_from, seek_open, moved, sought, ftruncate_open, fstat_open};
+ghost use Rattle.ft_cells.specs.Looks.{Answer};
+ghost use Rattle.ft_posix.specs.Looking.{Finds};
+ghost use Rattle.ft_posix.specs.Comes.{Comes};
+ghost use Rattle.ft_posix.specs.Intended.{intended};
 
-use crate::bytes::{not_negative, seek_place, to_size};
-use crate::call::Whence;
 use crate::files::{cut_file, file_info};
-use crate::intent::{Edit, Edits, Stop, Told};
-use crate::look::Look;
+use crate::offsets::{not_negative, seek_place, to_size};
 use ft_base::Memory;
 use ft_body::SIZE_LIMIT;
+use ft_looks::Look;
 use ft_path::Errno;
+use ft_posix::{Edit, Edits, Stop, Told, Whence};
 use ft_tree::OpenFile;
 
 /// Writes at the offset, which becomes the end of what was written.

@@ -1,17 +1,17 @@
 // What the calls on directories come to.
 ghost use Rattle.std.specs.Prelude.{◌≡◌, [], Ok, Some};
 ghost use Rattle.ft_path.specs.FilePath.{parts_of};
-ghost use Rattle.ft_tree.specs.Entries.{entry_in};
-ghost use Rattle.ft_tree.specs.declared.node.Node.TheVariants.{Dir as DirNode};
+ghost use Rattle.ft_cells.specs.Entries.{entry_in};
+ghost use Rattle.ft_cells.specs.declared.node.Node.TheVariants.{Dir as DirNode};
 ghost use Rattle.ft_tree.specs.Walk.{Named, seen_at};
-ghost use Rattle.ft_calls.specs.Outcomes.{from_parts};
-ghost use Rattle.ft_calls.specs.Dirs.{make_dir, remove_parts, remove_dir, last_fault, list_dir};
-ghost use Rattle.ft_calls.specs.Comes.{Comes};
-ghost use Rattle.ft_calls.specs.Intended.{intended};
+ghost use Rattle.ft_posix.specs.Outcomes.{from_parts};
+ghost use Rattle.ft_posix.specs.Dirs.{make_dir, remove_parts, remove_dir, last_fault, list_dir};
+ghost use Rattle.ft_posix.specs.Comes.{Comes};
+ghost use Rattle.ft_posix.specs.Intended.{intended};
 
-use crate::intent::{Edit, Edits, Stop, Told};
-use crate::look::{Look, text_parts};
+use ft_looks::{Look, text_parts};
 use ft_path::{Errno, FilePath, LastName, Parts};
+use ft_posix::{Edit, Edits, Stop, Told};
 use ft_tree::{EntryRef, Node, Spot};
 use std::alloc::Global;
 

@@ -2,19 +2,18 @@
 ghost use Rattle.std.specs.Prelude.{◌≡◌, ◌≤◌, [], Ok, None};
 ghost use Rattle.ft_body.specs.declared.TheConstants.{SIZE_LIMIT};
 ghost use Rattle.ft_path.specs.FilePath.{parts_of};
-ghost use Rattle.ft_tree.specs.Entries.{entry_in};
-ghost use Rattle.ft_tree.specs.Looks.{Answer};
+ghost use Rattle.ft_cells.specs.Entries.{entry_in};
+ghost use Rattle.ft_cells.specs.Looks.{Answer};
 ghost use Rattle.ft_tree.specs.Walk.{Named, seen_at};
-ghost use Rattle.ft_calls.specs.Outcomes.{from_parts};
-ghost use Rattle.ft_calls.specs.Files.{open_node, open_spot, open_parts, cut_file, truncate_spot, truncate_parts, file_info, stat_spot};
-ghost use Rattle.ft_calls.specs.Comes.{Comes};
-ghost use Rattle.ft_calls.specs.Intended.{intended};
+ghost use Rattle.ft_posix.specs.Outcomes.{from_parts};
+ghost use Rattle.ft_posix.specs.Files.{open_node, open_spot, open_parts, cut_file, truncate_spot, truncate_parts, file_info, stat_spot};
+ghost use Rattle.ft_posix.specs.Comes.{Comes};
+ghost use Rattle.ft_posix.specs.Intended.{intended};
 
-use crate::bytes::to_size;
-use crate::call::OpenFlags;
-use crate::intent::{Edit, Edits, Stop, Told};
-use crate::look::{Look, text_parts};
+use crate::offsets::to_size;
+use ft_looks::{Look, text_parts};
 use ft_path::{Errno, FilePath, Parts};
+use ft_posix::{Edit, Edits, OpenFlags, Stop, Told};
 use ft_tree::{EntryRef, Kind, Node, Spot};
 use std::alloc::Global;
 

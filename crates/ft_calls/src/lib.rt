@@ -1,30 +1,18 @@
-//! The calls that a tree answers, and what each of them does.
+//! The seventeen calls, carried out as far as a look at the tree: what a call accesses, what it is to set, and what
+//! it answers, found out before anything is changed.
 //!
-//! The rules are those of POSIX.1-2017, System Interfaces (mkdir, rmdir, open, close, read, write,
-//! pread, pwrite, lseek, truncate, ftruncate, stat, fstat, link, unlink, rename), over Base Definitions, 4.13 (Pathname
-//! Resolution). The order in which errors are tested is this project's own, and so is `List`, which
-//! stands for opendir and readdir.
+//! What each call does is said by `ft_posix`.
 #![tactic(auto)]
 
-mod bytes;
-mod call;
-mod copying;
 mod descriptors;
 mod dirs;
 mod files;
-mod intent;
-pub mod laws;
 mod links;
-mod look;
+mod offsets;
 mod preparing;
-mod touched;
 
-pub use call::{Access, Call, Mode, OpenFlags, Reply, Whence};
-pub use intent::{Edit, Edits, Intent, Told};
+pub use ft_posix::{
+    Access, Call, Edit, Edits, Intent, LAST_OFFSET, MOST_LINKS, Mode, OpenFlags, Reply, Told,
+    Whence,
+};
 pub use preparing::{Prepared, accesses, prepare};
-
-/// The largest count of a file's links.
-pub const MOST_LINKS: u64 = 1_000;
-
-/// The largest offset of a description: 2^63 - 1.
-pub const LAST_OFFSET: u64 = 9_223_372_036_854_775_807;

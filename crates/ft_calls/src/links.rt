@@ -1,22 +1,21 @@
 // What link, unlink and rename come to.
 ghost use Rattle.std.specs.Prelude.{◌≡◌, [], ◌++◌, Ok, OnOk};
 ghost use Rattle.ft_path.specs.FilePath.{parts_of};
-ghost use Rattle.ft_tree.specs.Entries.{entry_in};
-ghost use Rattle.ft_tree.specs.declared.node.Node.TheVariants.{Dir as DirNode};
-ghost use Rattle.ft_tree.specs.Cells.{Cells, stored_dirs};
-ghost use Rattle.ft_tree.specs.Looks.{Answer};
+ghost use Rattle.ft_cells.specs.Entries.{entry_in};
+ghost use Rattle.ft_cells.specs.declared.node.Node.TheVariants.{Dir as DirNode};
+ghost use Rattle.ft_cells.specs.Cells.{Cells, stored_dirs};
+ghost use Rattle.ft_cells.specs.Looks.{Answer};
 ghost use Rattle.ft_tree.specs.Walk.{seen_at};
-ghost use Rattle.ft_calls.specs.Outcomes.{from_parts};
-ghost use Rattle.ft_calls.specs.Links.{link_new, link_old, link_parts, unlink_spot, rename_fault, renamed, with_parent, unless_below, replace_file, replace_dir, rename_file, rename_dir, rename_old, rename_parts};
-ghost use Rattle.ft_calls.specs.declared.intent.Told.TheVariants.{Done};
-ghost use Rattle.ft_calls.specs.Comes.{writes_of, outcome_of, Comes};
-ghost use Rattle.ft_calls.specs.Intended.{intended};
+ghost use Rattle.ft_posix.specs.Outcomes.{from_parts};
+ghost use Rattle.ft_posix.specs.Links.{link_new, link_old, link_parts, unlink_spot, rename_fault, renamed, with_parent, unless_below, replace_file, replace_dir, rename_file, rename_dir, rename_old, rename_parts};
+ghost use Rattle.ft_posix.specs.declared.intent.Told.TheVariants.{Done};
+ghost use Rattle.ft_posix.specs.Comes.{writes_of, outcome_of, Comes};
+ghost use Rattle.ft_posix.specs.Intended.{intended};
 
-use crate::MOST_LINKS;
-use crate::intent::{Edit, Edits, Stop, Told};
-use crate::look::{Look, text_parts};
 use ft_base::Memory;
+use ft_looks::{Look, text_parts};
 use ft_path::{Errno, FilePath, LastName, Parts};
+use ft_posix::{Edit, Edits, MOST_LINKS, Stop, Told};
 use ft_tree::{EntryRef, Node, Spot};
 use std::alloc::Global;
 

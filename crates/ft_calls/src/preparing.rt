@@ -1,23 +1,22 @@
 // What a call touches and comes to, found out in one go.
 ghost use Rattle.std.specs.Prelude.{◌≡◌, [], IfOk, OnOk};
-ghost use Rattle.ft_tree.specs.Cells.{stored_dirs};
+ghost use Rattle.ft_cells.specs.Cells.{stored_dirs};
 ghost use Rattle.ft_tree.specs.Sound.{AreSoundCells};
-ghost use Rattle.ft_calls.specs.Edits.{CanEditAll, Apart};
-ghost use Rattle.ft_calls.specs.Steps.{steps};
-ghost use Rattle.ft_calls.specs.Stored.{outcome};
-ghost use Rattle.ft_calls.specs.Accesses.{accesses_of};
-ghost use Rattle.ft_calls.specs.Looking.{noted};
-ghost use Rattle.ft_calls.specs.Comes.{Comes, outcome_of};
-ghost use Rattle.ft_calls.specs.Intended.{intended};
+ghost use Rattle.ft_posix.specs.Edits.{CanEditAll, Apart};
+ghost use Rattle.ft_posix.specs.Steps.{steps};
+ghost use Rattle.ft_posix.specs.Stored.{outcome};
+ghost use Rattle.ft_posix.specs.Accesses.{accesses_of};
+ghost use Rattle.ft_posix.specs.Looking.{noted};
+ghost use Rattle.ft_posix.specs.Comes.{Comes, outcome_of};
+ghost use Rattle.ft_posix.specs.Intended.{intended};
 
-use crate::call::{Access, Call, OpenFlags};
 use crate::descriptors::{close, fstat, ftruncate, lseek, pread, pwrite, read, write};
 use crate::dirs::{list, mkdir, rmdir};
 use crate::files::{open, stat, truncate};
-use crate::intent::{Edits, Intent, Stop, Told};
 use crate::links::{link, rename, unlink};
-use crate::look::Look;
 use ft_base::Memory;
+use ft_looks::Look;
+use ft_posix::{Access, Call, Edits, Intent, OpenFlags, Stop, Told};
 use ft_tree::Tree;
 use std::alloc::Global;
 use std::mem;

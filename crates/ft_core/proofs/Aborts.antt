@@ -8,18 +8,18 @@ use Rattle.std.specs.FinMap as finite
 use Rattle.ft_base.specs.Chains.{Lists, list_in}
 use Rattle.ft_laws.specs.Lists.{In}
 use Rattle.ft_laws.proofs.Tests.{by_test, by_option}
-use Rattle.ft_tree.specs.declared.cell.Cell.{Cell}
-use Rattle.ft_tree.specs.Cells.{Cells}
+use Rattle.ft_cells.specs.declared.cell.Cell.{Cell}
+use Rattle.ft_cells.specs.Cells.{Cells}
 use Rattle.ft_tree.specs.Sweep.{IsAccounted}
-use Rattle.ft_calls.specs.Posix.{posix_calls}
-use Rattle.ft_calls.specs.RunLaws.{HasNamedPlaces, writes_cell}
+use Rattle.ft_posix.specs.Posix.{posix_calls}
+use Rattle.ft_posix.specs.RunLaws.{HasNamedPlaces, writes_cell}
 use Rattle.ft_undo.specs.declared.logs.Logged.{Logged}
 use Rattle.ft_undo.specs.Logs.{is_open, AreLists, AreOpen}
 use Rattle.ft_forest.specs.declared.state.State.{State as Life}
 use Rattle.ft_forest.specs.declared.state.State.TheVariants.{Live as LiveState, Committed as CommittedState, Aborted as AbortedState}
 use Rattle.ft_forest.specs.Transactions.{Transactions, parent_in, state_in, over_in, last_in, is_live as is_live_in, HasEnded, HasAborted, IsAborting}
-use Rattle.ft_locks.specs.Locks.{LockTable, is_locked, is_let_go, is_opened, AreReleased}
-use Rattle.ft_locks.specs.Law.{AreDropped}
+use Rattle.ft_moss.specs.Locks.{LockTable, is_locked, is_let_go, is_opened, AreReleased}
+use Rattle.ft_moss.specs.Law.{AreDropped}
 use Rattle.ft_history.specs.Forest.{above}
 use Rattle.ft_history.specs.History.{Base as HistoryBase, Fate, fate, is_live, IsLive, parent, over, grants, standing, is_standing, newest_below}
 use Rattle.ft_history.specs.History.Fate.{Aborted}

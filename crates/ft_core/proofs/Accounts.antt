@@ -10,24 +10,24 @@ use Rattle.std.specs.FinMap as finite
 use Rattle.std.specs.FinSet as set
 use Rattle.ft_laws.specs.Effects.{is_written}
 use Rattle.ft_laws.proofs.Tests.{by_test}
-use Rattle.ft_tree.specs.declared.node.Node.{Node}
-use Rattle.ft_tree.specs.declared.cell.Cell.{Cell}
-use Rattle.ft_tree.specs.declared.cell.Cell.TheVariants.{Entry, Names, Parent, Links, Bytes, Fd}
-use Rattle.ft_tree.specs.declared.open_file.OpenFile.{OpenFile}
-use Rattle.ft_tree.specs.CellOrder.{same_cell}
-use Rattle.ft_tree.specs.Cells.{Cells, DirCells, FileCells, no_dir, dir_of, is_there, has_file, fresh_cells}
+use Rattle.ft_cells.specs.declared.node.Node.{Node}
+use Rattle.ft_cells.specs.declared.cell.Cell.{Cell}
+use Rattle.ft_cells.specs.declared.cell.Cell.TheVariants.{Entry, Names, Parent, Links, Bytes, Fd}
+use Rattle.ft_cells.specs.declared.open_file.OpenFile.{OpenFile}
+use Rattle.ft_cells.specs.CellOrder.{same_cell}
+use Rattle.ft_cells.specs.Cells.{Cells, DirCells, FileCells, no_dir, dir_of, is_there, has_file, fresh_cells}
 use Rattle.ft_tree.specs.Held.{held}
 use Rattle.ft_tree.specs.Sound.{AreSoundCells, IsFree}
 use Rattle.ft_tree.specs.Sweep.{is_useless, at_place, is_spare, IsAccounted, HasNoneToDrop}
-use Rattle.ft_calls.specs.declared.call.Access.{Access}
-use Rattle.ft_calls.specs.Accesses.{accesses_of}
-use Rattle.ft_calls.specs.Posix.{Stamped, as_place, does, names_file, posix, posix_calls}
-use Rattle.ft_calls.specs.RunLaws.{writes_cell}
-use Rattle.ft_calls.specs.Leaving.{accesses_cell, IsOfOpenFile}
-use Rattle.ft_calls.proofs.Leaving.{at_place-more, same-place, dead-file, all-noted}
-use Rattle.ft_locks.specs.declared.line.LockLine.{LockLine}
-use Rattle.ft_locks.specs.Locks.{LockTable, is_locked, is_let_go, is_accessed, AreGranted}
-use Rattle.ft_locks.specs.Knowing.{is_known}
+use Rattle.ft_posix.specs.declared.call.Access.{Access}
+use Rattle.ft_posix.specs.Accesses.{accesses_of}
+use Rattle.ft_posix.specs.Posix.{Stamped, as_place, does, names_file, posix, posix_calls}
+use Rattle.ft_posix.specs.RunLaws.{writes_cell}
+use Rattle.ft_posix.specs.Leaving.{accesses_cell, IsOfOpenFile}
+use Rattle.ft_posix.proofs.Leaving.{at_place-more, same-place, dead-file, all-noted}
+use Rattle.ft_moss.specs.declared.line.LockLine.{LockLine}
+use Rattle.ft_moss.specs.Locks.{LockTable, is_locked, is_let_go, is_accessed, AreGranted}
+use Rattle.ft_moss.specs.Knowing.{is_known}
 use Rattle.ft_history.proofs.Losing.{LosesOwn}
 use Rattle.ft_history.proofs.Words.{not_true}
 use Rattle.ft_core.specs.Kept.{Item, IsOfWritten}

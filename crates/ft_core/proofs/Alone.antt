@@ -2,10 +2,10 @@
 use Rattle.std.proofs.Common.{◌≡◌, ℕ, false, List, [], ◌∷◌, ◌++◌, Option, Some, None, MatchOption, append_assoc, length, arith, refl, sym, ap, subst, ◌∙◌}
 use Rattle.std.specs.Prelude.{nat_lt}
 use Rattle.std.proofs.lemmas.Bool.{false≢true, lt-ltb}
-use Rattle.ft_tree.specs.Cells.{Cells}
-use Rattle.ft_calls.specs.declared.call.Call.{Call}
-use Rattle.ft_calls.specs.Posix.{posix_calls}
-use Rattle.ft_calls.specs.RunLaws.{tree_after}
+use Rattle.ft_cells.specs.Cells.{Cells}
+use Rattle.ft_posix.specs.declared.call.Call.{Call}
+use Rattle.ft_posix.specs.Posix.{posix_calls}
+use Rattle.ft_posix.specs.RunLaws.{tree_after}
 use Rattle.ft_history.specs.History.{Base as HistoryBase, Fate, standing, live_children, IsLive}
 use Rattle.ft_history.specs.History.Fate.{Live}
 use Rattle.ft_history.specs.History.Event.{Begin as WasBegun, Call as WasGranted, Undo as WasUndone}

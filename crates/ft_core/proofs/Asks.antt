@@ -4,17 +4,17 @@ use Rattle.std.specs.FinMap as finite
 use Rattle.std.specs.Cmp.{nat_cmp_total, unsigned_tied}
 use Rattle.ft_laws.proofs.Tests.{by_test}
 use Rattle.ft_base.specs.Chains.{Lists}
-use Rattle.ft_tree.specs.Cells.{Cells}
-use Rattle.ft_calls.specs.declared.call.Call.{Call}
-use Rattle.ft_calls.specs.declared.call.Reply.{Reply}
-use Rattle.ft_calls.specs.declared.call.Access.{Access}
-use Rattle.ft_calls.specs.Accesses.{accesses_of}
-use Rattle.ft_calls.specs.Stored.{outcome}
-use Rattle.ft_calls.specs.Posix.{posix_calls}
+use Rattle.ft_cells.specs.Cells.{Cells}
+use Rattle.ft_posix.specs.declared.call.Call.{Call}
+use Rattle.ft_posix.specs.declared.call.Reply.{Reply}
+use Rattle.ft_posix.specs.declared.call.Access.{Access}
+use Rattle.ft_posix.specs.Accesses.{accesses_of}
+use Rattle.ft_posix.specs.Stored.{outcome}
+use Rattle.ft_posix.specs.Posix.{posix_calls}
 use Rattle.ft_undo.specs.declared.logs.Logged.{Logged}
 use Rattle.ft_forest.specs.declared.TheConstants.{LAST_NUMBER}
 use Rattle.ft_forest.specs.Transactions.{Transactions}
-use Rattle.ft_locks.specs.Locks.{LockTable, AreBlockers}
+use Rattle.ft_moss.specs.Locks.{LockTable, AreBlockers}
 use Rattle.ft_history.specs.History.{grants}
 use Rattle.ft_history.specs.History.Fate.{Live}
 use Rattle.ft_core.specs.declared.TheConstants.{MOST_CALLS}

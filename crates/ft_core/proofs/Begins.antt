@@ -5,15 +5,15 @@ use Rattle.ft_base.specs.Chains.{Lists}
 use Rattle.ft_laws.specs.Lists.{In}
 use Rattle.ft_laws.proofs.Lists.{Each-from, Each-at}
 use Rattle.ft_laws.proofs.Tests.{by_test}
-use Rattle.ft_tree.specs.Cells.{Cells}
+use Rattle.ft_cells.specs.Cells.{Cells}
 use Rattle.ft_tree.specs.Sweep.{IsAccounted}
-use Rattle.ft_calls.specs.Posix.{HasSoundValues, posix_calls}
+use Rattle.ft_posix.specs.Posix.{HasSoundValues, posix_calls}
 use Rattle.ft_undo.specs.declared.logs.Logged.{Logged}
 use Rattle.ft_undo.specs.Logs.{is_open}
 use Rattle.ft_forest.specs.declared.state.State.{State as Life}
 use Rattle.ft_forest.specs.declared.state.State.TheVariants.{Live as LiveState}
 use Rattle.ft_forest.specs.Transactions.{Transactions, parent_in, state_in, last_in, HasBegun}
-use Rattle.ft_locks.specs.Locks.{LockTable, has_lock, is_locked, is_let_go, is_opened}
+use Rattle.ft_moss.specs.Locks.{LockTable, has_lock, is_locked, is_let_go, is_opened}
 use Rattle.ft_history.specs.History.{Base as HistoryBase, Fate, fate, is_live, IsLive, last_transaction, last_stamp, begun, parent, is_child, is_undone, grants, number}
 use Rattle.ft_history.specs.History.Fate.{Live, Committed, Aborted}
 use Rattle.ft_history.specs.History.Event.{Begin as WasBegun, Call as WasGranted, Undo as WasUndone, Commit as WasCommitted, Abort as WasAborted}

@@ -6,12 +6,12 @@ use Rattle.ft_base.specs.Chains.{Lists}
 use Rattle.ft_laws.specs.Lists.{Each, In}
 use Rattle.ft_laws.proofs.Lists.{Each-from}
 use Rattle.ft_laws.proofs.Tests.{by_test, by_option}
-use Rattle.ft_tree.specs.Cells.{Cells}
-use Rattle.ft_calls.specs.Posix.{posix_calls}
+use Rattle.ft_cells.specs.Cells.{Cells}
+use Rattle.ft_posix.specs.Posix.{posix_calls}
 use Rattle.ft_undo.specs.declared.logs.Logged.{Logged}
 use Rattle.ft_forest.specs.declared.state.State.TheVariants.{Live as LiveState}
 use Rattle.ft_forest.specs.Transactions.{Transactions, state_in, IsLiveUnder, IsLiveChild, IsYoungestChild}
-use Rattle.ft_locks.specs.Locks.{LockTable}
+use Rattle.ft_moss.specs.Locks.{LockTable}
 use Rattle.ft_history.specs.History.{Base as HistoryBase, fate, is_live, IsLive, parent, live_children, begun, grants, owner_of, is_standing}
 use Rattle.ft_history.specs.Logs.{passing}
 use Rattle.ft_history.proofs.Fates.{children}

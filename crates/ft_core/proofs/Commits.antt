@@ -3,17 +3,17 @@ use Rattle.std.proofs.Common.{◌≡◌, ◌≢◌, ◌<◌, ◌==◌, ℕ, true
 use Rattle.std.proofs.lemmas.Bool.{false≢true}
 use Rattle.std.specs.FinMap as finite
 use Rattle.ft_base.specs.Chains.{Lists, list_in}
-use Rattle.ft_tree.specs.declared.cell.Cell.{Cell}
-use Rattle.ft_tree.specs.Cells.{Cells}
-use Rattle.ft_calls.specs.Posix.{posix_calls}
+use Rattle.ft_cells.specs.declared.cell.Cell.{Cell}
+use Rattle.ft_cells.specs.Cells.{Cells}
+use Rattle.ft_posix.specs.Posix.{posix_calls}
 use Rattle.ft_undo.specs.declared.logs.Logged.{Logged}
 use Rattle.ft_undo.specs.Logs.{is_open, AreLists, AreOpen}
 use Rattle.ft_forest.specs.declared.state.State.{State as Life}
 use Rattle.ft_forest.specs.declared.state.State.TheVariants.{Committed as CommittedState}
 use Rattle.ft_forest.specs.Transactions.{Transactions, parent_in, state_in, IsLiveChild, HasEnded}
-use Rattle.ft_locks.specs.Locks.{LockTable, is_opened}
-use Rattle.ft_locks.specs.Law.{AreLocksOf}
-use Rattle.ft_locks.specs.Knowing.{is_known}
+use Rattle.ft_moss.specs.Locks.{LockTable, is_opened}
+use Rattle.ft_moss.specs.Law.{AreLocksOf}
+use Rattle.ft_moss.specs.Knowing.{is_known}
 use Rattle.ft_history.specs.Forest.{is_some_and}
 use Rattle.ft_history.specs.History.{Base as HistoryBase, Fate, fate, IsLive, parent, last_stamp}
 use Rattle.ft_history.specs.History.Fate.{Live, Committed}

@@ -7,16 +7,16 @@ use Rattle.std.specs.Ordering.{nat_cmp}
 use Rattle.std.specs.FinMap as finite
 use Rattle.ft_base.specs.Chains.{Lists}
 use Rattle.ft_laws.proofs.Tests.{by_test}
-use Rattle.ft_tree.specs.Cells.{Cells, fresh_cells}
+use Rattle.ft_cells.specs.Cells.{Cells, fresh_cells}
 use Rattle.ft_tree.specs.Sound.{AreSoundCells, IsFree}
 use Rattle.ft_tree.specs.Sweep.{IsAccounted}
 use Rattle.ft_tree.specs.Tidy.{tidy}
-use Rattle.ft_calls.specs.declared.call.Call.{Call}
-use Rattle.ft_calls.specs.Posix.{posix_calls}
+use Rattle.ft_posix.specs.declared.call.Call.{Call}
+use Rattle.ft_posix.specs.Posix.{posix_calls}
 use Rattle.ft_undo.specs.declared.logs.Logged.{Logged}
 use Rattle.ft_undo.specs.Logs.{AreLists}
 use Rattle.ft_forest.specs.Transactions.{Transaction, Transactions, none_since, transaction_in, parent_of, state_of as life_of}
-use Rattle.ft_locks.specs.Locks.{LockTable, no_locks, is_locked, is_let_go}
+use Rattle.ft_moss.specs.Locks.{LockTable, no_locks, is_locked, is_let_go}
 use Rattle.ft_history.specs.History.{Fate, fate, IsLive}
 use Rattle.ft_history.specs.History.Fate.{Live, Committed, Aborted}
 use Rattle.ft_history.proofs.Words.{by_number}

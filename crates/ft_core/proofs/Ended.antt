@@ -3,11 +3,11 @@ use Rattle.std.proofs.Common.{◌≡◌, ℕ, true, false, List, [], ◌∷◌, 
 use Rattle.std.specs.Prelude.{nat_lt}
 use Rattle.std.specs.FinMap as finite
 use Rattle.ft_base.specs.Chains.{Lists}
-use Rattle.ft_tree.specs.Cells.{Cells}
-use Rattle.ft_calls.specs.Posix.{posix_calls}
+use Rattle.ft_cells.specs.Cells.{Cells}
+use Rattle.ft_posix.specs.Posix.{posix_calls}
 use Rattle.ft_undo.specs.declared.logs.Logged.{Logged}
 use Rattle.ft_forest.specs.Transactions.{Transactions, last_in}
-use Rattle.ft_locks.specs.Locks.{LockTable}
+use Rattle.ft_moss.specs.Locks.{LockTable}
 use Rattle.ft_history.specs.History.Fate.{Live}
 use Rattle.ft_core.specs.declared.fault.Fault.{Fault}
 use Rattle.ft_core.specs.declared.fault.Fault.TheVariants.{ChildLive}

@@ -4,9 +4,9 @@ use Rattle.std.proofs.lemmas.Bool.{false≢true, and_parts, and_from}
 use Rattle.ft_laws.specs.Lists.{Each, In}
 use Rattle.ft_laws.proofs.Lists.{Each-from}
 use Rattle.ft_laws.proofs.Tests.{by_test}
-use Rattle.ft_tree.specs.Cells.{Cells}
-use Rattle.ft_calls.specs.Posix.{posix_calls}
-use Rattle.ft_calls.specs.RunLaws.{HasNamedPlaces}
+use Rattle.ft_cells.specs.Cells.{Cells}
+use Rattle.ft_posix.specs.Posix.{posix_calls}
+use Rattle.ft_posix.specs.RunLaws.{HasNamedPlaces}
 use Rattle.ft_history.specs.History.{Base as HistoryBase, Event as Happening, Fate, last_transaction, last_stamp, begun, over, parent, fate, is_live, IsLive, owner_of, grants, is_gone, is_undone, is_standing, standing, number}
 use Rattle.ft_history.specs.History.Fate.{Live, Committed, Aborted}
 use Rattle.ft_history.specs.History.Event.{Undo as WasUndone, Commit as WasCommitted, Abort as WasAborted}

@@ -12,12 +12,12 @@ use Rattle.std.specs.declared.cmp.Ordering.TheVariants.{Less, Equal, Greater}
 use Rattle.std.specs.Cmp.{IsTotalOrder, IsEquivalence, nat_cmp_total, on_total, then_total, eq_by_cmp_equiv, unsigned_tied}
 use Rattle.ft_base.specs.Chains.{Lists}
 use Rattle.ft_laws.specs.Lists.{Each, Pairs, In}
-use Rattle.ft_tree.specs.Cells.{Cells}
-use Rattle.ft_calls.specs.Posix.{posix_calls}
+use Rattle.ft_cells.specs.Cells.{Cells}
+use Rattle.ft_posix.specs.Posix.{posix_calls}
 use Rattle.ft_undo.specs.declared.logs.Logged.{Logged}
 use Rattle.ft_forest.specs.declared.state.State.TheVariants.{Live as LiveState}
 use Rattle.ft_forest.specs.Transactions.{Transactions, state_in, parent_in}
-use Rattle.ft_locks.specs.Locks.{LockTable}
+use Rattle.ft_moss.specs.Locks.{LockTable}
 use Rattle.ft_history.specs.History.{parent}
 use Rattle.ft_history.specs.History.Fate.{Live}
 use Rattle.ft_history.proofs.Fates.{children}

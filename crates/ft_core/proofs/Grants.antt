@@ -6,23 +6,23 @@ use Rattle.ft_base.specs.Chains.{Lists, list_in}
 use Rattle.ft_laws.specs.Lists.{Each, In}
 use Rattle.ft_laws.specs.Calls.{Reverts}
 use Rattle.ft_laws.specs.Effects.{Has, before, write_all, reversal_of}
-use Rattle.ft_tree.specs.declared.cell.Cell.{Cell}
-use Rattle.ft_tree.specs.declared.cell.Cell.TheVariants.{Links}
-use Rattle.ft_tree.specs.Cells.{Cells}
+use Rattle.ft_cells.specs.declared.cell.Cell.{Cell}
+use Rattle.ft_cells.specs.declared.cell.Cell.TheVariants.{Links}
+use Rattle.ft_cells.specs.Cells.{Cells}
 use Rattle.ft_tree.specs.Held.{IsStored}
 use Rattle.ft_tree.specs.Sound.{AreSoundCells, IsFree}
 use Rattle.ft_tree.specs.Sweep.{IsAccounted}
-use Rattle.ft_calls.specs.declared.call.Call.{Call}
-use Rattle.ft_calls.specs.declared.call.Reply.{Reply}
-use Rattle.ft_calls.specs.declared.call.Access.{Access}
-use Rattle.ft_calls.specs.Accesses.{accesses_of}
-use Rattle.ft_calls.specs.Outcomes.{Write}
-use Rattle.ft_calls.specs.Stored.{outcome}
-use Rattle.ft_calls.specs.RunLaws.{writes_cell}
-use Rattle.ft_calls.specs.Posix.{HasSoundValues, Stamped, as_place, posix, posix_calls}
+use Rattle.ft_posix.specs.declared.call.Call.{Call}
+use Rattle.ft_posix.specs.declared.call.Reply.{Reply}
+use Rattle.ft_posix.specs.declared.call.Access.{Access}
+use Rattle.ft_posix.specs.Accesses.{accesses_of}
+use Rattle.ft_posix.specs.Outcomes.{Write}
+use Rattle.ft_posix.specs.Stored.{outcome}
+use Rattle.ft_posix.specs.RunLaws.{writes_cell}
+use Rattle.ft_posix.specs.Posix.{HasSoundValues, Stamped, as_place, posix, posix_calls}
 use Rattle.ft_undo.specs.declared.logs.Logged.{Logged}
 use Rattle.ft_forest.specs.Transactions.{Transactions}
-use Rattle.ft_locks.specs.Locks.{LockTable, is_locked, is_let_go}
+use Rattle.ft_moss.specs.Locks.{LockTable, is_locked, is_let_go}
 use Rattle.ft_history.specs.History.{Base as HistoryBase, last_stamp, IsLive, grants}
 use Rattle.ft_history.specs.History.Event.{Call as WasGranted}
 use Rattle.ft_history.specs.Locks.{blockers_of}

@@ -1,15 +1,15 @@
 -- The core of ft_history at the calls on a tree is a core over the plain tree.
 use Rattle.std.proofs.Common.{◌≡◌, ◌<◌, ◌+◌, ℕ, suc, List, [], ◌∷◌, ◌++◌, Option, Some, length, arith, add-one, refl, sym, ap, subst, ◌∙◌}
-use Rattle.ft_tree.specs.Cells.{Cells}
+use Rattle.ft_cells.specs.Cells.{Cells}
 use Rattle.ft_tree.specs.Sound.{AreSoundCells, IsFree}
 use Rattle.ft_tree.specs.Tidy.{tidy}
-use Rattle.ft_calls.specs.declared.call.Call.{Call}
-use Rattle.ft_calls.specs.declared.call.Call.TheVariants.{Close as CloseCall}
-use Rattle.ft_calls.specs.Accesses.{accesses_of}
-use Rattle.ft_calls.specs.Exec.{exec}
-use Rattle.ft_calls.specs.Stored.{outcome as outcome_on}
-use Rattle.ft_calls.specs.RunLaws.{RunsPlainly, GiveReplies, tree_after, accesses_in}
-use Rattle.ft_calls.specs.Posix.{HasSoundValues, Stamped, posix_calls}
+use Rattle.ft_posix.specs.declared.call.Call.{Call}
+use Rattle.ft_posix.specs.declared.call.Call.TheVariants.{Close as CloseCall}
+use Rattle.ft_posix.specs.Accesses.{accesses_of}
+use Rattle.ft_posix.specs.Exec.{exec}
+use Rattle.ft_posix.specs.Stored.{outcome as outcome_on}
+use Rattle.ft_posix.specs.RunLaws.{RunsPlainly, GiveReplies, tree_after, accesses_in}
+use Rattle.ft_posix.specs.Posix.{HasSoundValues, Stamped, posix_calls}
 use Rattle.ft_history.specs.History.{Base as HistoryBase, last_stamp, IsLive, standing}
 use Rattle.ft_history.specs.History.Event.{Begin as WasBegun}
 use Rattle.ft_history.specs.Legal.{outcome, MayBegin}

@@ -1,19 +1,19 @@
 -- A transaction's list is taken back in an abort, as ft_history has it.
 use Rattle.std.proofs.Common.{◌≡◌, ◌≢◌, ◌+◌, ℕ, suc, true, List, [], ◌∷◌, inl, inr, length, map, arith, refl, sym, subst, ◌∙◌}
 use Rattle.ft_laws.specs.Lists.{In}
-use Rattle.ft_tree.specs.declared.cell.Cell.{Cell}
-use Rattle.ft_tree.specs.Cells.{Cells}
+use Rattle.ft_cells.specs.declared.cell.Cell.{Cell}
+use Rattle.ft_cells.specs.Cells.{Cells}
 use Rattle.ft_tree.specs.Sound.{AreSoundCells}
 use Rattle.ft_tree.specs.Sweep.{IsAccounted}
-use Rattle.ft_calls.specs.Posix.{posix_calls}
-use Rattle.ft_calls.specs.RunLaws.{HasNamedPlaces, writes_cell}
-use Rattle.ft_calls.specs.Stored.{put_all}
+use Rattle.ft_posix.specs.Posix.{posix_calls}
+use Rattle.ft_posix.specs.RunLaws.{HasNamedPlaces, writes_cell}
+use Rattle.ft_posix.specs.Stored.{put_all}
 use Rattle.ft_history.specs.History.{over}
 use Rattle.ft_history.specs.Logs.{put}
 use Rattle.ft_history.proofs.Losing.{LosesOwn, abort_loses, abort_sound}
 use Rattle.ft_history.proofs.Methods.{IsTakingBack, abort_step}
 use Rattle.ft_history.proofs.Words.{put_same, put_other, by_list}
-use Rattle.ft_locks.specs.Locks.{LockTable, is_locked, is_let_go}
+use Rattle.ft_moss.specs.Locks.{LockTable, is_locked, is_let_go}
 use Rattle.ft_undo.specs.declared.logs.Logged.{Logged}
 use Rattle.ft_undo.specs.Undone.{given_back}
 use Rattle.ft_core.specs.Histories.{History}

@@ -10,7 +10,7 @@ use Rattle.ft_base.specs.Chains.{Lists}
 use Rattle.ft_history.specs.Logs.{put}
 use Rattle.ft_undo.specs.declared.logs.Logged.{Logged}
 use Rattle.ft_undo.specs.Logs.{is_open, AreOpen}
-use Rattle.ft_locks.specs.Locks.{LockTable, is_opened}
+use Rattle.ft_moss.specs.Locks.{LockTable, is_opened}
 
 module _ {X : Type 0} (m : finite.FinMap nat_cmp X) (n : ℕ) where
   pub inserted-same : (v : X) (t : ℕ) → t ≡ n → finite.get (finite.insert m n v) t ≡ Some v

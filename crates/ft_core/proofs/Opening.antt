@@ -8,7 +8,7 @@ use Rattle.std.specs.FinSet as set
 use Rattle.ft_base.specs.Chains.{Lists, list_in}
 use Rattle.ft_undo.specs.declared.logs.Logged.{Logged}
 use Rattle.ft_undo.specs.Logs.{is_open, AreLists, AreOpen}
-use Rattle.ft_locks.specs.Locks.{LockTable, is_opened}
+use Rattle.ft_moss.specs.Locks.{LockTable, is_opened}
 use Rattle.ft_history.specs.Logs.{put}
 use Rattle.ft_history.proofs.Words.{put_same, put_other, by_number}
 use Rattle.ft_core.specs.Journals.{Journaled}

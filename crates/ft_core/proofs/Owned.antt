@@ -3,17 +3,17 @@ use Rattle.std.proofs.Common.{◌≡◌, ℕ, true, Some, inl, inr, refl, subst,
 use Rattle.std.proofs.lemmas.Bool.{or_cases}
 use Rattle.ft_base.specs.Chains.{Lists}
 use Rattle.ft_laws.specs.Lists.{In}
-use Rattle.ft_tree.specs.declared.cell.Cell.{Cell}
-use Rattle.ft_tree.specs.Cells.{Cells}
-use Rattle.ft_calls.specs.declared.call.Mode.TheVariants.{Write as WriteMode}
-use Rattle.ft_calls.specs.Posix.{posix_calls}
-use Rattle.ft_calls.specs.RunLaws.{writes_cell}
+use Rattle.ft_cells.specs.declared.cell.Cell.{Cell}
+use Rattle.ft_cells.specs.Cells.{Cells}
+use Rattle.ft_posix.specs.declared.call.Mode.TheVariants.{Write as WriteMode}
+use Rattle.ft_posix.specs.Posix.{posix_calls}
+use Rattle.ft_posix.specs.RunLaws.{writes_cell}
 use Rattle.ft_undo.specs.declared.logs.Logged.{Logged}
 use Rattle.ft_forest.specs.Transactions.{Transactions}
-use Rattle.ft_locks.specs.declared.line.LockKind.{LockKind}
-use Rattle.ft_locks.specs.declared.line.LockKind.TheVariants.{Held, Retained}
-use Rattle.ft_locks.specs.declared.line.LockLine.{LockLine}
-use Rattle.ft_locks.specs.Locks.{LockTable, is_locked, has_lock}
+use Rattle.ft_moss.specs.declared.line.LockKind.{LockKind}
+use Rattle.ft_moss.specs.declared.line.LockKind.TheVariants.{Held, Retained}
+use Rattle.ft_moss.specs.declared.line.LockLine.{LockLine}
+use Rattle.ft_moss.specs.Locks.{LockTable, is_locked, has_lock}
 use Rattle.ft_history.specs.History.{Base as HistoryBase, standing}
 use Rattle.ft_history.specs.Locks.{holds_lock, retains_lock}
 use Rattle.ft_history.proofs.Words.{In-map}

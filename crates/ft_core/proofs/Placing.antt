@@ -3,16 +3,16 @@ use Rattle.std.proofs.Common.{◌≡◌, ℕ, List, [], ◌∷◌, Option, Some,
 use Rattle.ft_laws.specs.Lists.{Each}
 use Rattle.ft_laws.specs.Effects.{Has, before, write_all}
 use Rattle.ft_laws.proofs.Lists.{Each-from, Each-at}
-use Rattle.ft_tree.specs.declared.cell.Cell.{Cell}
-use Rattle.ft_tree.specs.declared.cell.Cell.TheVariants.{Entry, Names, Parent, Links, Bytes, Fd}
-use Rattle.ft_tree.specs.declared.open_file.OpenFile.{OpenFile}
-use Rattle.ft_tree.specs.Cells.{Cells, open_of, HasFilePlace}
+use Rattle.ft_cells.specs.declared.cell.Cell.{Cell}
+use Rattle.ft_cells.specs.declared.cell.Cell.TheVariants.{Entry, Names, Parent, Links, Bytes, Fd}
+use Rattle.ft_cells.specs.declared.open_file.OpenFile.{OpenFile}
+use Rattle.ft_cells.specs.Cells.{Cells, open_of, HasFilePlace}
 use Rattle.ft_tree.specs.Held.{Holds, held, IsStored}
-use Rattle.ft_calls.specs.CellLaws.{SettingLaw}
-use Rattle.ft_calls.specs.Outcomes.{Write}
-use Rattle.ft_calls.specs.Accesses.{written_cell}
-use Rattle.ft_calls.specs.Stored.{put, put_all}
-use Rattle.ft_calls.specs.Posix.{posix}
+use Rattle.ft_posix.specs.CellLaws.{SettingLaw}
+use Rattle.ft_posix.specs.Outcomes.{Write}
+use Rattle.ft_posix.specs.Accesses.{written_cell}
+use Rattle.ft_posix.specs.Stored.{put, put_all}
+use Rattle.ft_posix.specs.Posix.{posix}
 use Rattle.ft_undo.specs.Undone.{AreAsLeft}
 use Rattle.ft_core.specs.Kept.{Item, Change, file_is_stored, ArePlaced}
 

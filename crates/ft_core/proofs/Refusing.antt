@@ -1,7 +1,7 @@
 -- The refusals of the transactions are those of the state.
 use Rattle.std.proofs.Common.{◌≡◌, ◌||◌, ℕ, Bool, true, false, nat_le, Option, Some, None, Result, Ok, Err, IfErr, IsErrAnd, MatchOption, length, arith, refl, sym, ap, subst, ◌∙◌}
 use Rattle.std.specs.Option.{option_map}
-use Rattle.ft_calls.specs.Posix.{posix_calls}
+use Rattle.ft_posix.specs.Posix.{posix_calls}
 use Rattle.ft_forest.specs.declared.TheConstants.{MOST_TRANSACTIONS, MOST_DEPTH, LAST_NUMBER}
 use Rattle.ft_forest.specs.declared.fault.ForestFault.{ForestFault}
 use Rattle.ft_forest.specs.declared.fault.ForestFault.TheVariants as forest_fault

@@ -2,15 +2,15 @@
 use Rattle.std.proofs.Common.{◌≡◌, ◌++◌, ℕ, List, [], ◌∷◌, map, ap, ◌∙◌}
 use Rattle.std.proofs.lemmas.List.{map-append, append_assoc}
 use Rattle.ft_base.specs.Chains.{Lists}
-use Rattle.ft_tree.specs.Cells.{Cells}
-use Rattle.ft_calls.specs.declared.call.Call.{Call}
-use Rattle.ft_calls.specs.declared.call.Access.{Access}
-use Rattle.ft_calls.specs.Accesses.{accesses_of}
-use Rattle.ft_calls.specs.Posix.{as_place, posix_calls}
+use Rattle.ft_cells.specs.Cells.{Cells}
+use Rattle.ft_posix.specs.declared.call.Call.{Call}
+use Rattle.ft_posix.specs.declared.call.Access.{Access}
+use Rattle.ft_posix.specs.Accesses.{accesses_of}
+use Rattle.ft_posix.specs.Posix.{as_place, posix_calls}
 use Rattle.ft_history.specs.Locks.{blockers_of}
 use Rattle.ft_undo.specs.declared.logs.Logged.{Logged}
 use Rattle.ft_forest.specs.Transactions.{Transactions}
-use Rattle.ft_locks.specs.Locks.{LockTable, AreBlockers}
+use Rattle.ft_moss.specs.Locks.{LockTable, AreBlockers}
 use Rattle.ft_core.specs.States.{State, history, next_stamp}
 use Rattle.ft_core.specs.Journals.{Journaled}
 use Rattle.ft_core.specs.Kept.{IsCoreOf, start_of}

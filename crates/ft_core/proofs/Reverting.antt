@@ -4,17 +4,17 @@ use Rattle.ft_laws.specs.Lists.{Each}
 use Rattle.ft_laws.specs.Effects.{write_all}
 use Rattle.ft_laws.proofs.Lists.{Each-map}
 use Rattle.ft_laws.proofs.Tests.{by_test}
-use Rattle.ft_tree.specs.declared.cell.Cell.{Cell}
-use Rattle.ft_tree.specs.declared.cell.Cell.TheVariants.{Entry, Names, Parent, Links, Bytes, Fd}
-use Rattle.ft_tree.specs.declared.open_file.OpenFile.{OpenFile}
-use Rattle.ft_tree.specs.CellOrder.{same_cell, same_cell-is}
-use Rattle.ft_tree.specs.Cells.{Cells, open_of, HasFilePlace}
+use Rattle.ft_cells.specs.declared.cell.Cell.{Cell}
+use Rattle.ft_cells.specs.declared.cell.Cell.TheVariants.{Entry, Names, Parent, Links, Bytes, Fd}
+use Rattle.ft_cells.specs.declared.open_file.OpenFile.{OpenFile}
+use Rattle.ft_cells.specs.CellOrder.{same_cell, same_cell-is}
+use Rattle.ft_cells.specs.Cells.{Cells, open_of, HasFilePlace}
 use Rattle.ft_tree.specs.Held.{Holds, IsStored, set_cell}
-use Rattle.ft_calls.specs.CellLaws.{SettingLaw}
-use Rattle.ft_calls.specs.Outcomes.{Write}
-use Rattle.ft_calls.specs.Posix.{posix, posix_calls}
-use Rattle.ft_calls.specs.RunLaws.{HasNamedPlaces}
-use Rattle.ft_calls.specs.Stored.{put_all}
+use Rattle.ft_posix.specs.CellLaws.{SettingLaw}
+use Rattle.ft_posix.specs.Outcomes.{Write}
+use Rattle.ft_posix.specs.Posix.{posix, posix_calls}
+use Rattle.ft_posix.specs.RunLaws.{HasNamedPlaces}
+use Rattle.ft_posix.specs.Stored.{put_all}
 use Rattle.ft_undo.specs.declared.logs.Logged.{Logged}
 use Rattle.ft_undo.specs.Undone.{given_back, CanGiveAllBack}
 use Rattle.ft_core.specs.Kept.{Change, Item, ArePlaced, TakesBack, file_is_stored}

@@ -5,14 +5,14 @@ use Rattle.std.specs.Result.{is_err, OnOk}
 use Rattle.std.proofs.lemmas.List.{take-append-drop}
 use Rattle.std.proofs.lemmas.List.Folds.{list_any-append}
 use Rattle.ft_base.specs.Chains.{Lists}
-use Rattle.ft_tree.specs.Cells.{Cells}
-use Rattle.ft_tree.specs.declared.cell.Cell.{Cell}
-use Rattle.ft_tree.specs.CellOrder.{same_cell}
-use Rattle.ft_calls.specs.declared.call.Access.{Access}
-use Rattle.ft_calls.specs.declared.call.Mode.{Mode}
+use Rattle.ft_cells.specs.Cells.{Cells}
+use Rattle.ft_cells.specs.declared.cell.Cell.{Cell}
+use Rattle.ft_cells.specs.CellOrder.{same_cell}
+use Rattle.ft_posix.specs.declared.call.Access.{Access}
+use Rattle.ft_posix.specs.declared.call.Mode.{Mode}
 use Rattle.ft_undo.specs.declared.logs.Logged.{Logged}
 use Rattle.ft_forest.specs.Transactions.{Transactions}
-use Rattle.ft_locks.specs.Locks.{LockTable, has_lock, is_let_go, is_held, same_mode, has_access, is_accessed, AreGranted}
+use Rattle.ft_moss.specs.Locks.{LockTable, has_lock, is_let_go, is_held, same_mode, has_access, is_accessed, AreGranted}
 use Rattle.ft_core.specs.Histories.{History}
 use Rattle.ft_core.specs.States.{Base, Asks}
 use Rattle.ft_core.specs.Journals.{Journaled}

@@ -10,17 +10,17 @@ use Rattle.ft_laws.specs.Laws.{is_hidden, holds}
 use Rattle.ft_laws.specs.Runs.{Along}
 use Rattle.ft_laws.proofs.Lists.{Each-from, Each-at}
 use Rattle.ft_laws.proofs.Tests.{by_test, by_option}
-use Rattle.ft_tree.specs.declared.cell.Cell.{Cell}
-use Rattle.ft_tree.specs.declared.cell.Cell.TheVariants.{Entry, Names, Parent, Links, Bytes, Fd}
-use Rattle.ft_tree.specs.Cells.{Cells, FileCells, no_file, bytes_of, links_of, HasFilePlace}
+use Rattle.ft_cells.specs.declared.cell.Cell.{Cell}
+use Rattle.ft_cells.specs.declared.cell.Cell.TheVariants.{Entry, Names, Parent, Links, Bytes, Fd}
+use Rattle.ft_cells.specs.Cells.{Cells, FileCells, no_file, bytes_of, links_of, HasFilePlace}
 use Rattle.ft_tree.specs.Held.{Holds, IsStored, held, blank}
 use Rattle.ft_tree.specs.Sound.{AreSoundCells}
 use Rattle.ft_tree.specs.Sweep.{IsSwept, is_dropped, HasNoneToDrop}
-use Rattle.ft_calls.specs.Posix.{HasSoundValues, file_of, names_file, posix_calls}
-use Rattle.ft_calls.specs.RunLaws.{writes_cell}
+use Rattle.ft_posix.specs.Posix.{HasSoundValues, file_of, names_file, posix_calls}
+use Rattle.ft_posix.specs.RunLaws.{writes_cell}
 use Rattle.ft_undo.specs.declared.logs.Logged.{Logged}
 use Rattle.ft_forest.specs.Transactions.{Transactions}
-use Rattle.ft_locks.specs.Locks.{LockTable, is_locked}
+use Rattle.ft_moss.specs.Locks.{LockTable, is_locked}
 use Rattle.ft_history.specs.History.{Base as HistoryBase, over, standing}
 use Rattle.ft_history.specs.Locks.{owns_lock}
 use Rattle.ft_history.specs.Core.{AreInverses, IsSweep, IsCore}

@@ -4,17 +4,17 @@ use Rattle.std.specs.Option.{option_map, option_flatten}
 use Rattle.std.specs.FinMap as finite
 use Rattle.ft_base.specs.Chains.{Lists, list_in}
 use Rattle.ft_laws.specs.Lists.{In}
-use Rattle.ft_tree.specs.Cells.{Cells}
+use Rattle.ft_cells.specs.Cells.{Cells}
 use Rattle.ft_tree.specs.Sound.{AreSoundCells}
 use Rattle.ft_tree.specs.Sweep.{IsAccounted}
-use Rattle.ft_calls.specs.Posix.{posix_calls}
-use Rattle.ft_calls.specs.RunLaws.{HasNamedPlaces}
-use Rattle.ft_calls.specs.Stored.{put_all}
+use Rattle.ft_posix.specs.Posix.{posix_calls}
+use Rattle.ft_posix.specs.RunLaws.{HasNamedPlaces}
+use Rattle.ft_posix.specs.Stored.{put_all}
 use Rattle.ft_undo.specs.declared.logs.Logged.{Logged}
 use Rattle.ft_undo.specs.Logs.{is_open, newest_of, AreLists, AreOpen}
 use Rattle.ft_undo.specs.Undone.{given_back, CanGiveAllBack}
 use Rattle.ft_forest.specs.Transactions.{Transactions, IsLiveChild}
-use Rattle.ft_locks.specs.Locks.{LockTable, is_locked, is_let_go}
+use Rattle.ft_moss.specs.Locks.{LockTable, is_locked, is_let_go}
 use Rattle.ft_history.specs.Core.{IsCore}
 use Rattle.ft_history.specs.History.{Base as HistoryBase, IsLive}
 use Rattle.ft_history.specs.History.Event.{Undo as WasUndone}

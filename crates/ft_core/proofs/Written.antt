@@ -4,15 +4,15 @@ use Rattle.std.proofs.lemmas.Bool.{and_parts, or_cases, or_left, or_right}
 use Rattle.std.specs.Cmp.{eq_by_cmp_equiv}
 use Rattle.ft_laws.specs.Lists.{Each, Pairs, In}
 use Rattle.ft_laws.specs.Effects.{Access as PlaceAccess, before, write_all, change}
-use Rattle.ft_tree.specs.declared.cell.Cell.{Cell}
-use Rattle.ft_tree.specs.declared.cell.Cell.TheVariants.{Entry, Names, Parent, Links, Bytes, Fd}
-use Rattle.ft_tree.specs.CellOrder.{cell_cmp_total, same_cell, same_cell-is}
-use Rattle.ft_tree.specs.Cells.{Cells}
+use Rattle.ft_cells.specs.declared.cell.Cell.{Cell}
+use Rattle.ft_cells.specs.declared.cell.Cell.TheVariants.{Entry, Names, Parent, Links, Bytes, Fd}
+use Rattle.ft_cells.specs.CellOrder.{cell_cmp_total, same_cell, same_cell-is}
+use Rattle.ft_cells.specs.Cells.{Cells}
 use Rattle.ft_tree.specs.Held.{held, set_cell}
-use Rattle.ft_calls.specs.CellLaws.{SettingLaw}
-use Rattle.ft_calls.specs.Edits.{IsOtherThan, AreApart}
-use Rattle.ft_calls.specs.Posix.{covers, posix}
-use Rattle.ft_calls.specs.RunLaws.{writes_cell}
+use Rattle.ft_posix.specs.CellLaws.{SettingLaw}
+use Rattle.ft_posix.specs.Edits.{IsOtherThan, AreApart}
+use Rattle.ft_posix.specs.Posix.{covers, posix}
+use Rattle.ft_posix.specs.RunLaws.{writes_cell}
 use Rattle.ft_core.specs.Kept.{Item, Change, IsOfWritten}
 
 itself : (c : Cell) → same_cell c c ≡ true

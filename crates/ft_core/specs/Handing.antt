@@ -4,7 +4,7 @@ use Rattle.std.specs.FinMap as finite
 use Rattle.ft_base.specs.Chains.{Lists}
 use Rattle.ft_undo.specs.declared.logs.Logged.{Logged}
 use Rattle.ft_undo.specs.Logs.{is_open}
-use Rattle.ft_locks.specs.Locks.{LockTable, AreInherited, AreReleased, is_opened}
+use Rattle.ft_moss.specs.Locks.{LockTable, AreInherited, AreReleased, is_opened}
 use Rattle.ft_core.specs.Journals.{Journaled, with_sub}
 
 -- the parent inherits the locks, or they are released

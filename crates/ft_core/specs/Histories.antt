@@ -3,10 +3,10 @@ use Rattle.std.specs.Prelude.{ℕ, List, [], ◌∷◌, map}
 use Rattle.ft_laws.specs.Calls.{Done}
 use Rattle.ft_history.specs.History.{Event as Happening, parent}
 use Rattle.ft_history.specs.History.Event.{Begin as WasBegun, Call as WasGranted, Undo as WasUndone, Commit as WasCommitted, Abort as WasAborted}
-use Rattle.ft_calls.specs.declared.call.Call.{Call}
-use Rattle.ft_calls.specs.declared.call.Reply.{Reply}
-use Rattle.ft_calls.specs.declared.call.Access.{Access}
-use Rattle.ft_calls.specs.Posix.{as_place, posix_calls}
+use Rattle.ft_posix.specs.declared.call.Call.{Call}
+use Rattle.ft_posix.specs.declared.call.Reply.{Reply}
+use Rattle.ft_posix.specs.declared.call.Access.{Access}
+use Rattle.ft_posix.specs.Posix.{as_place, posix_calls}
 use Rattle.ft_forest.specs.Transactions.{depth_within}
 use Rattle.ft_core.specs.declared.request.Event.{Event}
 use Rattle.ft_core.specs.declared.request.Event.TheVariants.{Begin, Call as CallEvent, Undo, Commit, Abort}

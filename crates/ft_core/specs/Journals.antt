@@ -4,10 +4,10 @@ use Rattle.std.specs.Option.{option_flatten}
 use Rattle.std.specs.Ordering.{nat_cmp}
 use Rattle.std.specs.FinMap as finite
 use Rattle.std.specs.Coded.{Coded, code_by, coded×, coded_ℕ, coded_list, coded_option}
-use Rattle.ft_tree.specs.Plain.{PlainTree}
-use Rattle.ft_calls.specs.declared.call.Call.{Call}
-use Rattle.ft_calls.specs.declared.call.Reply.{Reply}
-use Rattle.ft_calls.specs.declared.call.Access.{Access}
+use Rattle.ft_cells.specs.Plain.{PlainTree}
+use Rattle.ft_posix.specs.declared.call.Call.{Call}
+use Rattle.ft_posix.specs.declared.call.Reply.{Reply}
+use Rattle.ft_posix.specs.declared.call.Access.{Access}
 use Rattle.ft_forest.specs.declared.TheConstants.{LAST_NUMBER}
 use Rattle.ft_forest.specs.Transactions.{Transactions, last_in}
 use Rattle.ft_core.specs.declared.TheConstants.{MOST_CALLS}

@@ -4,24 +4,24 @@ use Rattle.std.specs.FinMap as finite
 use Rattle.ft_base.specs.Chains.{Lists, list_in}
 use Rattle.ft_laws.specs.Lists.{Each, Pairs, In}
 use Rattle.ft_laws.specs.Effects.{Has, Write as CellWrite}
-use Rattle.ft_tree.specs.declared.cell.Cell.{Cell}
-use Rattle.ft_tree.specs.declared.cell.Cell.TheVariants.{Entry as EntryCell, Names as NamesCell, Parent as ParentCell, Links as LinksCell, Bytes as BytesCell, Fd as FdCell}
-use Rattle.ft_tree.specs.CellOrder.{same_cell}
-use Rattle.ft_tree.specs.Cells.{Cells, HasFilePlace}
+use Rattle.ft_cells.specs.declared.cell.Cell.{Cell}
+use Rattle.ft_cells.specs.declared.cell.Cell.TheVariants.{Entry as EntryCell, Names as NamesCell, Parent as ParentCell, Links as LinksCell, Bytes as BytesCell, Fd as FdCell}
+use Rattle.ft_cells.specs.CellOrder.{same_cell}
+use Rattle.ft_cells.specs.Cells.{Cells, HasFilePlace}
 use Rattle.ft_tree.specs.Held.{Holds, IsStored}
 use Rattle.ft_tree.specs.Sound.{AreSoundCells}
 use Rattle.ft_tree.specs.Sweep.{IsAccounted}
 use Rattle.ft_tree.specs.Tidy.{tidy}
-use Rattle.ft_calls.specs.Posix.{posix, posix_calls}
-use Rattle.ft_calls.specs.RunLaws.{writes_cell}
+use Rattle.ft_posix.specs.Posix.{posix, posix_calls}
+use Rattle.ft_posix.specs.RunLaws.{writes_cell}
 use Rattle.ft_undo.specs.declared.logs.Logged.{Logged}
 use Rattle.ft_undo.specs.Logs.{is_open}
 use Rattle.ft_undo.specs.Undone.{given_back, CanGiveAllBack}
 use Rattle.ft_forest.specs.declared.state.State.{State as Life}
 use Rattle.ft_forest.specs.declared.state.State.TheVariants.{Live as LiveState, Committed as CommittedState, Aborted as AbortedState}
 use Rattle.ft_forest.specs.Transactions.{Transactions, parent_in, state_in, last_in}
-use Rattle.ft_locks.specs.Locks.{LockTable, is_locked, is_let_go, is_opened}
-use Rattle.ft_locks.specs.Law.{AreLocksOf}
+use Rattle.ft_moss.specs.Locks.{LockTable, is_locked, is_let_go, is_opened}
+use Rattle.ft_moss.specs.Law.{AreLocksOf}
 use Rattle.ft_history.specs.History.{Base as HistoryBase, Fate, IsFresh, last_transaction, last_stamp, begun, parent, fate, owner_of, grants, is_live, IsLive, is_standing}
 use Rattle.ft_history.specs.History.Fate.{Live, Committed, Aborted}
 use Rattle.ft_history.specs.Core.{Entry, IsCore}

@@ -1,13 +1,13 @@
 -- What is known of the calls and of their locks.
 use Rattle.ft_laws.specs.Laws.{Lawful}
-use Rattle.ft_calls.specs.CellLaws.{SettingLaw}
-use Rattle.ft_calls.specs.Edits.{PlacesLaw}
-use Rattle.ft_calls.specs.Laws.{TidyingLaw, SoundnessLaw}
-use Rattle.ft_calls.specs.Leaving.{LeavingLaw, UselessLaw, MakingLaw}
-use Rattle.ft_calls.specs.RunLaws.{PlainAccessesLaw, HidingLaw, RunLaw, PlacedLaw, WritesLaw, NamelessLaw}
-use Rattle.ft_calls.specs.Posix.{posix_calls}
-use Rattle.ft_locks.specs.Knowing.{KnownLaw}
-use Rattle.ft_locks.specs.Law.{FirstLaw, OwnerLaw, BeginLaw, GrantLaw, UndoLaw, CommitLaw, AbortLaw, ReleaseLaw, BlockLaw, AloneLaw, CoverLaw, LockedLaw}
+use Rattle.ft_posix.specs.CellLaws.{SettingLaw}
+use Rattle.ft_posix.specs.Edits.{PlacesLaw}
+use Rattle.ft_posix.specs.Laws.{TidyingLaw, SoundnessLaw}
+use Rattle.ft_posix.specs.Leaving.{LeavingLaw, UselessLaw, MakingLaw}
+use Rattle.ft_posix.specs.RunLaws.{PlainAccessesLaw, HidingLaw, RunLaw, PlacedLaw, WritesLaw, NamelessLaw}
+use Rattle.ft_posix.specs.Posix.{posix_calls}
+use Rattle.ft_moss.specs.Knowing.{KnownLaw}
+use Rattle.ft_moss.specs.Law.{FirstLaw, OwnerLaw, BeginLaw, GrantLaw, UndoLaw, CommitLaw, AbortLaw, ReleaseLaw, BlockLaw, AloneLaw, CoverLaw, LockedLaw}
 
 pub record CallLaws : Type 0 where
   pub lawful : Lawful posix_calls

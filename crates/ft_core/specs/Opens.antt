@@ -4,7 +4,7 @@ use Rattle.std.specs.FinMap as finite
 use Rattle.ft_base.specs.Chains.{Lists, list_in}
 use Rattle.ft_undo.specs.declared.logs.Logged.{Logged}
 use Rattle.ft_undo.specs.Logs.{is_open, AreLists}
-use Rattle.ft_locks.specs.Locks.{LockTable, is_opened}
+use Rattle.ft_moss.specs.Locks.{LockTable, is_opened}
 use Rattle.ft_core.specs.Journals.{Journaled}
 
 -- Each transaction has its locks, its list and what is noted of it, and at most the next one is open besides.

@@ -1,11 +1,11 @@
 -- What is promised of every state that a core can come to.
 use Rattle.std.specs.Prelude.{◌≡◌, ℕ, false, List, ◌∷◌, ◌++◌, Option, Some}
 use Rattle.ft_laws.specs.Lists.{Each}
-use Rattle.ft_tree.specs.Cells.{Cells}
+use Rattle.ft_cells.specs.Cells.{Cells}
 use Rattle.ft_tree.specs.Tidy.{tidy}
-use Rattle.ft_calls.specs.Posix.{posix_calls}
-use Rattle.ft_calls.specs.RunLaws.{GiveReplies}
-use Rattle.ft_calls.specs.declared.call.Call.{Call}
+use Rattle.ft_posix.specs.Posix.{posix_calls}
+use Rattle.ft_posix.specs.RunLaws.{GiveReplies}
+use Rattle.ft_posix.specs.declared.call.Call.{Call}
 use Rattle.ft_history.specs.History.Fate.{Live}
 use Rattle.ft_history.specs.Undoing.{IsWithin}
 use Rattle.ft_core.specs.declared.request.Event.{Event}

@@ -5,10 +5,10 @@ use Rattle.std.specs.Ordering.{nat_cmp, ordering_then}
 use Rattle.std.specs.declared.cmp.Ordering.{Ordering}
 use Rattle.std.specs.declared.cmp.Ordering.TheVariants.{Less}
 use Rattle.ft_laws.specs.Lists.{Pairs, In}
-use Rattle.ft_calls.specs.declared.call.Call.{Call}
-use Rattle.ft_locks.specs.declared.line.LockLine.{LockLine}
-use Rattle.ft_locks.specs.Locks.{line_cmp}
-use Rattle.ft_locks.specs.Law.{is_lock}
+use Rattle.ft_posix.specs.declared.call.Call.{Call}
+use Rattle.ft_moss.specs.declared.line.LockLine.{LockLine}
+use Rattle.ft_moss.specs.Locks.{line_cmp}
+use Rattle.ft_moss.specs.Law.{is_lock}
 use Rattle.ft_forest.specs.Transactions.{Transactions, parent_in}
 use Rattle.ft_history.specs.History.Fate.{Live}
 use Rattle.ft_core.specs.declared.reports.Pending.{Pending}

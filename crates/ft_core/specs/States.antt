@@ -4,20 +4,20 @@ use Rattle.std.specs.Ordering.{nat_cmp}
 use Rattle.std.specs.FinMap as finite
 use Rattle.std.specs.Coded.{Coded, code_by, coded×, coded_ℕ, coded_list}
 use base.Stored.{coded_unit}
-use Rattle.ft_tree.specs.contracts.entry.Entry as entry
-use Rattle.ft_tree.specs.Entries.{entry_cmp}
-use Rattle.ft_tree.specs.Cells.{fresh_cells}
-use Rattle.ft_tree.specs.Plain.{PlainTree, NumberSet}
-use Rattle.ft_tree.specs.declared.open_file.OpenFile.{OpenFile}
-use Rattle.ft_tree.specs.contracts.open_file.OpenFile as open_file
+use Rattle.ft_cells.specs.contracts.entry.Entry as entry
+use Rattle.ft_cells.specs.Entries.{entry_cmp}
+use Rattle.ft_cells.specs.Cells.{fresh_cells}
+use Rattle.ft_cells.specs.Plain.{PlainTree, NumberSet}
+use Rattle.ft_cells.specs.declared.open_file.OpenFile.{OpenFile}
+use Rattle.ft_cells.specs.contracts.open_file.OpenFile as open_file
 use Rattle.ft_tree.specs.Tidy.{tidy}
-use Rattle.ft_calls.specs.declared.call.Call.{Call}
-use Rattle.ft_calls.specs.declared.call.Reply.{Reply}
-use Rattle.ft_calls.specs.declared.call.Access.{Access}
-use Rattle.ft_calls.specs.contracts.call.Call as call
-use Rattle.ft_calls.specs.Exec.{exec}
-use Rattle.ft_calls.specs.RunLaws.{accesses_in, tree_after}
-use Rattle.ft_calls.specs.Posix.{posix_calls}
+use Rattle.ft_posix.specs.declared.call.Call.{Call}
+use Rattle.ft_posix.specs.declared.call.Reply.{Reply}
+use Rattle.ft_posix.specs.declared.call.Access.{Access}
+use Rattle.ft_posix.specs.contracts.call.Call as call
+use Rattle.ft_posix.specs.Exec.{exec}
+use Rattle.ft_posix.specs.RunLaws.{accesses_in, tree_after}
+use Rattle.ft_posix.specs.Posix.{posix_calls}
 use Rattle.ft_history.specs.History.{Fate, fate, over, begun, live_children as live_children_of, grants, standing}
 use Rattle.ft_history.specs.Promises.{calls_below}
 use Rattle.ft_forest.specs.declared.TheConstants.{MOST_TRANSACTIONS, MOST_DEPTH, LAST_NUMBER}

@@ -1,9 +1,9 @@
 -- Which answer and which new state a request may have, and a run of requests.
 use Rattle.std.specs.Prelude.{◌≡◌, ◌≢◌, ℕ, Bool, cond, List, [], ◌∷◌, Option, Some, None, MatchOption, Result, Ok, Err, map}
 use Rattle.std.specs.FinMap as finite
-use Rattle.ft_calls.specs.declared.call.Call.{Call}
-use Rattle.ft_calls.specs.declared.call.Access.{Access}
-use Rattle.ft_calls.specs.Posix.{as_place, posix_calls}
+use Rattle.ft_posix.specs.declared.call.Call.{Call}
+use Rattle.ft_posix.specs.declared.call.Access.{Access}
+use Rattle.ft_posix.specs.Posix.{as_place, posix_calls}
 use Rattle.ft_history.specs.History.{Fate}
 use Rattle.ft_history.specs.History.Fate.{Live, Committed as WasCommitted, Aborted as WasAborted}
 use Rattle.ft_history.specs.Locks.{blockers_of}

@@ -1,8 +1,8 @@
 -- When one look at the locks is enough.
 use Rattle.std.specs.Prelude.{ℕ}
 use Rattle.ft_forest.specs.Transactions.{Transactions, IsLiveChild}
-use Rattle.ft_locks.specs.Locks.{LockTable}
-use Rattle.ft_locks.specs.Surveys.{HasItsCellsAlone}
+use Rattle.ft_moss.specs.Locks.{LockTable}
+use Rattle.ft_moss.specs.Surveys.{HasItsCellsAlone}
 
 -- Where it has no live child, a transaction shares what it has locked with its ancestors alone.
 abbrev pub IsAloneIfChildless : LockTable → Transactions → ℕ → Type 0

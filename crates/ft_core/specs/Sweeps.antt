@@ -1,7 +1,7 @@
 -- What a sweep of a core leaves of its tree.
 use Rattle.std.specs.Prelude.{◌≡◌, false}
-use Rattle.ft_tree.specs.declared.cell.Cell.{Cell}
-use Rattle.ft_tree.specs.Cells.{Cells}
+use Rattle.ft_cells.specs.declared.cell.Cell.{Cell}
+use Rattle.ft_cells.specs.Cells.{Cells}
 use Rattle.ft_tree.specs.Sweep.{is_useless}
 
 -- No place is empty, and each file and each directory that is stored is there.

@@ -1,7 +1,7 @@
 -- A list of what takes calls back, put to the cells.
 use Rattle.std.specs.Prelude.{List, [], ◌∷◌, map}
-use Rattle.ft_tree.specs.Cells.{Cells}
-use Rattle.ft_calls.specs.Stored.{put_all}
+use Rattle.ft_cells.specs.Cells.{Cells}
+use Rattle.ft_posix.specs.Stored.{put_all}
 use Rattle.ft_undo.specs.declared.logs.Logged.{Logged}
 use Rattle.ft_undo.specs.Undone.{given_back, CanGiveAllBack}
 

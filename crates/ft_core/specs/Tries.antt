@@ -1,13 +1,13 @@
 -- What comes of trying a call on the parts of a core.
 use Rattle.std.specs.Prelude.{◌≡◌, ◌≢◌, ℕ, List, []}
 use Rattle.ft_base.specs.Chains.{Lists}
-use Rattle.ft_tree.specs.Cells.{Cells}
-use Rattle.ft_calls.specs.declared.call.Call.{Call}
-use Rattle.ft_calls.specs.Accesses.{accesses_of}
-use Rattle.ft_calls.specs.Stored.{outcome}
+use Rattle.ft_cells.specs.Cells.{Cells}
+use Rattle.ft_posix.specs.declared.call.Call.{Call}
+use Rattle.ft_posix.specs.Accesses.{accesses_of}
+use Rattle.ft_posix.specs.Stored.{outcome}
 use Rattle.ft_undo.specs.declared.logs.Logged.{Logged}
 use Rattle.ft_forest.specs.Transactions.{Transactions}
-use Rattle.ft_locks.specs.Locks.{LockTable, AreBlockers}
+use Rattle.ft_moss.specs.Locks.{LockTable, AreBlockers}
 use Rattle.ft_core.specs.declared.asking.Made.{Made}
 use Rattle.ft_core.specs.declared.asking.Tried.{Tried}
 use Rattle.ft_core.specs.declared.asking.Tried.TheVariants.{Made as WasMade, Blocked}

@@ -2,12 +2,12 @@
 ghost use Rattle.std.specs.Prelude.{◌≡◌, ◌≤◌, take, length, [], true, false, Some, IfOk, IfErr, OnOk, OnErr, IsSome};
 ghost use Rattle.std.specs.FinMap as finite;
 ghost use Rattle.ft_tree.specs.Sound.{AreSoundCells};
-ghost use Rattle.ft_calls.specs.declared.call.Call.{Call as CallOf};
-ghost use Rattle.ft_calls.specs.Comes.{outcome_of};
-ghost use Rattle.ft_calls.specs.Edits.{CanEditAll, Apart};
-ghost use Rattle.ft_calls.specs.Stored.{outcome};
+ghost use Rattle.ft_posix.specs.declared.call.Call.{Call as CallOf};
+ghost use Rattle.ft_posix.specs.Comes.{outcome_of};
+ghost use Rattle.ft_posix.specs.Edits.{CanEditAll, Apart};
+ghost use Rattle.ft_posix.specs.Stored.{outcome};
 ghost use Rattle.ft_undo.specs.Logs.{is_open};
-ghost use Rattle.ft_locks.specs.Locks.{is_opened, AreBlockers, AreGranted};
+ghost use Rattle.ft_moss.specs.Locks.{is_opened, AreBlockers, AreGranted};
 ghost use Rattle.ft_history.specs.History.Fate.{Live};
 ghost use Rattle.ft_core.specs.declared.fault.Fault.TheVariants.{Memory as MemoryFault};
 ghost use Rattle.ft_core.specs.declared.request.Request.TheVariants.{Ask, Retry};

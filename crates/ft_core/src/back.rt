@@ -1,12 +1,12 @@
 // Taking calls back, and handing them up.
 ghost use Rattle.std.specs.Prelude.{◌≡◌, ◌<◌, ◌^◌, ◌+◌, ◌∷◌, ℕ, List, [], Some, true, false, length, map};
-ghost use Rattle.ft_calls.specs.Stored.{put_all};
+ghost use Rattle.ft_posix.specs.Stored.{put_all};
 ghost use Rattle.ft_undo.specs.declared.logs.Logged.{Logged};
 ghost use Rattle.ft_undo.specs.Undone.{given_back, CanGiveAllBack};
 ghost use Rattle.ft_base.specs.Chains.{list_in};
 ghost use Rattle.ft_history.specs.Logs.{put, popped, handed};
 ghost use Rattle.ft_undo.specs.Logs.{is_open, AreLists, AreOpen};
-ghost use Rattle.ft_locks.specs.Locks.{is_opened};
+ghost use Rattle.ft_moss.specs.Locks.{is_opened};
 ghost use Rattle.ft_core.specs.Handing.{AreHandedUp, noted_up, MayHandUp};
 ghost use Rattle.ft_core.specs.Taking.{taken_back, CanTakeBack};
 

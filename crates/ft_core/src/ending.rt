@@ -1,7 +1,7 @@
 // How transactions end, and how a call is undone.
 ghost use Rattle.std.specs.Prelude.{◌≡◌, Some, IfOk, IfErr};
-ghost use Rattle.ft_calls.specs.declared.call.Call.{Call as CallOf};
-ghost use Rattle.ft_calls.specs.Posix.{posix_calls};
+ghost use Rattle.ft_posix.specs.declared.call.Call.{Call as CallOf};
+ghost use Rattle.ft_posix.specs.Posix.{posix_calls};
 ghost use Rattle.ft_history.specs.History.Fate.{Live};
 ghost use Rattle.ft_history.specs.Undoing.{undo_target};
 ghost use Rattle.ft_history.specs.Undoing.Target.{Found};

@@ -3,7 +3,7 @@ ghost use Rattle.std.specs.Prelude.{◌≡◌, ◌<◌, ◌≤◌, ◌+◌, IsSo
 ghost use Rattle.std.specs.FinMap as finite;
 ghost use Rattle.std.specs.Option.{option_copied};
 ghost use Rattle.ft_tree.specs.Tidy.{tidy};
-ghost use Rattle.ft_calls.specs.declared.call.Call.{Call as CallOf};
+ghost use Rattle.ft_posix.specs.declared.call.Call.{Call as CallOf};
 ghost use Rattle.ft_forest.specs.declared.TheConstants.{LAST_NUMBER as last_number};
 ghost use Rattle.ft_core.specs.Journals.{no_events, sub_in, is_full, with_begin, with_call, with_event, without, with_sub, with_none_kept};
 

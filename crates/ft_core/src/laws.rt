@@ -1,14 +1,14 @@
 // What is known of the calls and of their locks, in one place: the contracts of functions that do nothing.
 ghost use Rattle.ft_core.specs.Laws.{CallLaws, LockLaws};
 
-use ft_calls::laws::{
-    hiding, lawful, leaving, making, nameless, placed, places, plain_accesses, runs, setting,
-    soundness, tidying, useless, writes,
-};
-use ft_locks::laws::{
+use ft_moss::laws::{
     locks_aborted, locks_alone, locks_begun, locks_block, locks_committed, locks_cover,
     locks_granted, locks_known, locks_live, locks_lock, locks_released, locks_undone,
     no_locks_at_first,
+};
+use ft_posix::laws::{
+    hiding, lawful, leaving, making, nameless, placed, places, plain_accesses, runs, setting,
+    soundness, tidying, useless, writes,
 };
 
 /// The laws of the calls.

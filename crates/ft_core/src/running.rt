@@ -1,6 +1,6 @@
 // Whole lists of requests.
 ghost use Rattle.std.specs.Prelude.{◌≡◌, IfOk, OnOk, OnErr};
-ghost use Rattle.ft_calls.specs.RunLaws.{GiveReplies};
+ghost use Rattle.ft_posix.specs.RunLaws.{GiveReplies};
 ghost use Rattle.ft_core.specs.States.{standing_calls};
 ghost use Rattle.ft_core.specs.Steps.{IsStep, IsRun, exact_rule};
 

@@ -16,27 +16,27 @@ use Rattle.std.specs.FinMap as finite
 use Rattle.ft_laws.specs.Lists.{Each, Pairs, In}
 use Rattle.ft_laws.proofs.Tests.{by_test}
 use Rattle.ft_base.specs.Chains.{Lists}
-use Rattle.ft_tree.specs.declared.cell.Cell.{Cell}
-use Rattle.ft_tree.specs.CellOrder.{cell_cmp, cell_cmp_total, same_cell, same_cell-is}
-use Rattle.ft_calls.specs.declared.call.Mode.{Mode}
-use Rattle.ft_calls.specs.declared.call.Mode.TheVariants.{Read as ReadMode, Write as WriteMode}
-use Rattle.ft_locks.specs.declared.line.LockKind.{LockKind}
-use Rattle.ft_locks.specs.declared.line.LockKind.TheVariants.{Held, Retained}
-use Rattle.ft_locks.specs.declared.line.LockLine.{LockLine}
-use Rattle.ft_locks.specs.declared.holders.Holding.{Holding}
-use Rattle.ft_locks.specs.Marks.{has_mark}
+use Rattle.ft_cells.specs.declared.cell.Cell.{Cell}
+use Rattle.ft_cells.specs.CellOrder.{cell_cmp, cell_cmp_total, same_cell, same_cell-is}
+use Rattle.ft_posix.specs.declared.call.Mode.{Mode}
+use Rattle.ft_posix.specs.declared.call.Mode.TheVariants.{Read as ReadMode, Write as WriteMode}
+use Rattle.ft_moss.specs.declared.line.LockKind.{LockKind}
+use Rattle.ft_moss.specs.declared.line.LockKind.TheVariants.{Held, Retained}
+use Rattle.ft_moss.specs.declared.line.LockLine.{LockLine}
+use Rattle.ft_moss.specs.declared.holders.Holding.{Holding}
+use Rattle.ft_moss.specs.Marks.{has_mark}
 use Rattle.ft_locks.specs.declared.cells.Locked.{Locked}
-use Rattle.ft_locks.specs.Holders.{as_entries, AreApart}
-use Rattle.ft_locks.specs.Slots.{owners_of, cells_of, at_of, AreKeyed}
-use Rattle.ft_locks.specs.Cells.{Cells}
-use Rattle.ft_locks.specs.Seen.{has_mark_of, has_line, table_of}
-use Rattle.ft_locks.specs.Locks.{LockTable, line_cmp, line_cmp_total, has_lock, AreListed}
-use Rattle.ft_locks.specs.Listing.{same_line, is_listed, AreAdded, is_by, is_on}
-use Rattle.ft_locks.proofs.HolderLists.{owner_passes, get-seen}
-use Rattle.ft_locks.proofs.CellViews.{key_in}
+use Rattle.ft_moss.specs.Holders.{as_entries, AreApart}
+use Rattle.ft_locks.specs.Slots.{owners_of, cells_of, at_of, AreKeyed, is_on}
+use Rattle.ft_moss.specs.Cells.{Cells}
+use Rattle.ft_moss.specs.Seen.{has_mark_of, has_line, table_of}
+use Rattle.ft_moss.specs.Locks.{LockTable, line_cmp, line_cmp_total, has_lock, AreListed}
+use Rattle.ft_moss.specs.Listing.{same_line, is_listed, AreAdded, is_by}
+use Rattle.ft_moss.proofs.HolderLists.{owner_passes, get-seen}
+use Rattle.ft_moss.proofs.CellViews.{key_in}
 use Rattle.ft_locks.proofs.Slots.{at-there, at-none, get-cells, cells-there, any_there, there_any}
-use Rattle.ft_locks.proofs.Paired.{the_one}
-use Rattle.ft_locks.proofs.Tables.{line, same_line-is, same_truth, lines-seen}
+use Rattle.ft_moss.proofs.Paired.{the_one}
+use Rattle.ft_moss.proofs.Tables.{line, same_line-is, same_truth, lines-seen}
 
 -- A lock of one owner on one cell.
 

@@ -5,16 +5,16 @@ use Rattle.std.specs.Ordering.{nat_cmp, eq_by_cmp}
 use Rattle.std.specs.Cmp.{nat_cmp_total}
 use Rattle.std.specs.FinMap as finite
 use Rattle.slab.specs.Slab.{Slab}
-use Rattle.ft_tree.specs.declared.cell.Cell.{Cell}
-use Rattle.ft_tree.specs.declared.cell.Cell.TheVariants.{Names}
-use Rattle.ft_calls.specs.declared.call.Mode.{Mode}
+use Rattle.ft_cells.specs.declared.cell.Cell.{Cell}
+use Rattle.ft_cells.specs.declared.cell.Cell.TheVariants.{Names}
+use Rattle.ft_posix.specs.declared.call.Mode.{Mode}
 use Rattle.ft_locks.specs.declared.cells.Locked.{Locked}
-use Rattle.ft_locks.specs.Cells.{Cells, CellKeys, Keyed}
+use Rattle.ft_moss.specs.Cells.{Cells, CellKeys, Keyed}
 use Rattle.ft_locks.specs.Slots.{cells_of, at_of, AreKeyed, is_names, HaveNoNames}
-use Rattle.ft_locks.specs.Blocking.{Found, AreNoted, is_in_way, way}
-use Rattle.ft_locks.proofs.CellViews.{key_in}
-use Rattle.ft_locks.proofs.Paired.{the_one}
-use Rattle.ft_locks.proofs.Places.{marks-missing}
+use Rattle.ft_moss.specs.Blocking.{Found, AreNoted, is_in_way, way}
+use Rattle.ft_moss.proofs.CellViews.{key_in}
+use Rattle.ft_moss.proofs.Paired.{the_one}
+use Rattle.ft_moss.proofs.Places.{marks-missing}
 use Rattle.ft_locks.proofs.Slots.{at-none, seen-key}
 
 pub nameless-none : (s : Slab Locked) → s.slots ≡ [] → HaveNoNames (at_of s)

@@ -2,11 +2,11 @@
 use Rattle.std.specs.Prelude.{ℕ, Option, Some, None}
 use Rattle.std.specs.Borrow.{LendsIf, MutBor, Fml}
 use Rattle.std.specs.FinMap as finite
-use Rattle.ft_tree.specs.declared.cell.Cell.{Cell}
-use Rattle.ft_locks.specs.Holders.{Owners}
-use Rattle.ft_locks.specs.Cells.{Cells, Keyed}
+use Rattle.ft_cells.specs.declared.cell.Cell.{Cell}
+use Rattle.ft_moss.specs.Holders.{Owners}
+use Rattle.ft_moss.specs.Cells.{Cells, Keyed}
 use Rattle.ft_locks.specs.contracts.cells.LockedCells.{the_row}
-use Rattle.ft_locks.specs.contracts.holders.Holders as holders
+use Rattle.ft_moss.specs.contracts.holders.Holders as holders
 
 abbrev pub with_holders_of : Cells → Option Cell → Owners → Cells
 with_holders_of m None owners = m

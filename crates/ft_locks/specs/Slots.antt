@@ -1,14 +1,16 @@
 -- The cells in the table: each stands in a slab under its key, and an index has the key of each.
-use Rattle.std.specs.Prelude.{◌≡◌, ◌↔◌, ℕ, Bool, true, false, cond, List, map, Option, Some, None}
+use Rattle.std.specs.Prelude.{◌≡◌, ◌↔◌, ◌&&◌, ℕ, Bool, true, false, cond, List, map, Option, Some, None}
 use Rattle.std.specs.FinMap as finite
 use Rattle.std.specs.Map.{lookup}
 use Rattle.slab.specs.Slab.{Slab, get, entries}
-use Rattle.ft_tree.specs.declared.cell.Cell.{Cell}
-use Rattle.ft_tree.specs.declared.cell.Cell.TheVariants.{Entry, Names, Parent, Links, Bytes, Fd}
-use Rattle.ft_tree.specs.CellOrder.{same_cell}
+use Rattle.ft_cells.specs.declared.cell.Cell.{Cell}
+use Rattle.ft_cells.specs.declared.cell.Cell.TheVariants.{Entry, Names, Parent, Links, Bytes, Fd}
+use Rattle.ft_cells.specs.CellOrder.{same_cell}
 use Rattle.ft_locks.specs.declared.cells.Locked.{Locked}
-use Rattle.ft_locks.specs.Holders.{Owners}
-use Rattle.ft_locks.specs.Cells.{Cells, CellKeys}
+use Rattle.ft_moss.specs.Holders.{Owners}
+use Rattle.ft_moss.specs.declared.line.LockLine.{LockLine}
+use Rattle.ft_moss.specs.Seen.{has_mark_of}
+use Rattle.ft_moss.specs.Cells.{Cells, CellKeys}
 use Rattle.ft_locks.specs.EntryKeys.{EntryKeys, key_at, spot_of, same_spot}
 
 abbrev pub owners_of : Option Locked → Owners
@@ -66,3 +68,7 @@ is_names (Fd f) = false
 -- the names of no directory are in the table
 abbrev pub HaveNoNames : CellKeys → Type 0
 HaveNoNames at = (key : ℕ) (c : Cell) → finite.get at key ≡ Some c → is_names c ≡ false
+
+-- the line's lock is one of the owners' on the cell
+abbrev pub is_on : LockLine → Locked → Bool
+is_on l locked = same_cell l.cell locked.cell && has_mark_of (finite.get locked.holders l.owner) l

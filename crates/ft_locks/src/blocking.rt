@@ -2,18 +2,17 @@
 ghost use Rattle.std.specs.Prelude.{◌≡◌, ◌&&◌, ◌||◌, not, ℕ, true, [], ◌∷◌, OnOk, IfOk};
 ghost use Rattle.std.specs.Option.{option_copied};
 ghost use Rattle.std.specs.FinMap as finite;
-ghost use Rattle.ft_tree.specs.declared.cell.Cell.TheVariants.{Names};
+ghost use Rattle.ft_cells.specs.declared.cell.Cell.TheVariants.{Names};
 ghost use Rattle.ft_forest.specs.Transactions.{over_in};
-ghost use Rattle.ft_locks.specs.Blocking.{AreNoted, way, is_listed_in_way, is_holder_in_way, beside, blocks};
-ghost use Rattle.ft_locks.specs.Seen.{has_line};
-ghost use Rattle.ft_locks.specs.Surveys.{KeepOthersOut, HoldsAll};
+ghost use Rattle.ft_moss.specs.Blocking.{AreNoted, way, is_listed_in_way, is_holder_in_way, beside, blocks};
+ghost use Rattle.ft_moss.specs.Seen.{has_line};
+ghost use Rattle.ft_moss.specs.Surveys.{KeepOthersOut, HoldsAll};
 
-use crate::holders::{Holders, Holding};
 use crate::holdings::Holdings;
-use crate::line::LockKind;
 use ft_base::{Memory, Table};
-use ft_calls::{Access, Mode};
 use ft_forest::{Forest, TxnId};
+use ft_moss::{Holders, Holding, LockKind};
+use ft_posix::{Access, Mode};
 use ft_tree::Cell;
 use std::alloc::Global;
 

@@ -3,24 +3,22 @@ ghost use Rattle.std.specs.Prelude.{◌≡◌, ◌≢◌, ℕ, cond, ◌==◌, f
 ghost use Rattle.std.specs.Option.{option_map, option_copied, option_copied_mut};
 ghost use Rattle.std.specs.FinMap as finite;
 ghost use Rattle.std.specs.Borrow.{sem};
-ghost use Rattle.ft_tree.specs.declared.cell.Cell.{Cell};
-ghost use Rattle.ft_tree.specs.declared.cell.Cell.TheVariants.{Names};
-ghost use Rattle.ft_tree.specs.CellOrder.{same_cell};
-ghost use Rattle.ft_locks.specs.Marks.{with_marks};
+ghost use Rattle.ft_cells.specs.declared.cell.Cell.{Cell};
+ghost use Rattle.ft_cells.specs.declared.cell.Cell.TheVariants.{Names};
+ghost use Rattle.ft_cells.specs.CellOrder.{same_cell};
+ghost use Rattle.ft_moss.specs.Marks.{with_marks};
 ghost use Rattle.slab.specs.Slab.{get};
-ghost use Rattle.ft_locks.specs.Blocking.{AreEntriesOf};
+ghost use Rattle.ft_moss.specs.Blocking.{AreEntriesOf};
 ghost use Rattle.ft_locks.specs.EntryKeys.{key_at, listed_keys};
 ghost use Rattle.ft_locks.specs.Slots.{ArePlaced, HaveGap, ShowSame, with_place, is_names};
-ghost use Rattle.ft_locks.specs.Cells.{is_at, marks_at, passed_to, after_hand, holders_under, Keeps};
-ghost use Rattle.ft_locks.specs.Listing.{AreAdded};
-ghost use Rattle.ft_locks.specs.Seen.{has_line};
+ghost use Rattle.ft_moss.specs.Cells.{is_at, marks_at, passed_to, after_hand, holders_under, Keeps};
+ghost use Rattle.ft_moss.specs.Listing.{AreAdded};
+ghost use Rattle.ft_moss.specs.Seen.{has_line};
 
 use crate::entry_keys::EntryKeys;
-use crate::holders::Holders;
-use crate::line::LockLine;
 use crate::listing::list_cells;
-use crate::marks::Marks;
 use ft_base::Memory;
+use ft_moss::{Holders, LockLine, Marks};
 use ft_tree::Cell;
 use slab::Slab;
 use std::alloc::Global;
@@ -53,7 +51,7 @@ pub(crate) struct LockedCells {
 
 impl Model for LockedCells {
     ghost use Rattle.slab.specs.Slab.{get};
-    ghost use Rattle.ft_locks.specs.Cells.{Keyed, coded_keyed};
+    ghost use Rattle.ft_moss.specs.Cells.{Keyed, coded_keyed};
     ghost use Rattle.std.specs.Prelude.{◌≡◌, false};
     ghost use Rattle.ft_locks.specs.Slots.{cells_of, at_of, AreKeyed, ArePlaced, HaveNoNames};
 

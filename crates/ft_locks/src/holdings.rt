@@ -3,19 +3,17 @@ ghost use Rattle.std.specs.Prelude.{◌≡◌, ◌≢◌, ◌+◌, ℕ, cond, tr
 ghost use Rattle.std.specs.Option.{option_map, option_copied};
 ghost use Rattle.std.specs.FinMap as finite;
 ghost use Rattle.ft_base.specs.Chains.{list_in, IsOpen};
-ghost use Rattle.ft_tree.specs.declared.cell.Cell.{Cell};
-ghost use Rattle.ft_tree.specs.CellOrder.{same_cell};
+ghost use Rattle.ft_cells.specs.declared.cell.Cell.{Cell};
+ghost use Rattle.ft_cells.specs.CellOrder.{same_cell};
 ghost use Rattle.std.specs.List.{list_any};
-ghost use Rattle.ft_locks.specs.Marks.{with_marks};
-ghost use Rattle.ft_locks.specs.Cells.{is_at, marks_at, after_hand};
-ghost use Rattle.ft_locks.specs.Holdings.{AreOpenStill, AreSingle, AreUsed, IsDropped, cells_under, has_place, popped};
+ghost use Rattle.ft_moss.specs.Marks.{with_marks};
+ghost use Rattle.ft_moss.specs.Cells.{is_at, marks_at, after_hand};
+ghost use Rattle.ft_moss.specs.Holdings.{AreOpenStill, AreSingle, AreUsed, IsDropped, cells_under, has_place, popped};
 
 use crate::cells::LockedCells;
-use crate::holders::Holders;
-use crate::line::{LockKind, LockLine};
-use crate::marks::Marks;
 use ft_base::{Chains, Memory, Values};
-use ft_calls::Access;
+use ft_moss::{Holders, LockKind, LockLine, Marks};
+use ft_posix::Access;
 use ft_tree::Cell;
 use std::alloc::Global;
 use std::marker::Model;
@@ -31,7 +29,7 @@ pub(crate) struct Holdings {
 }
 
 impl Model for Holdings {
-    ghost use Rattle.ft_locks.specs.Holdings.{Held, coded_held, AreJoined, lists_under};
+    ghost use Rattle.ft_moss.specs.Holdings.{Held, coded_held, AreJoined, lists_under};
 
     ghost Value = { Held };
 
@@ -73,10 +71,10 @@ fn hand_all(cells: &mut LockedCells, keys: Values<'_, usize>, from: u64, to: u64
 
 impl Holdings {
     ghost use Rattle.std.specs.Prelude.{◌==◌, ◌&&◌, ◌||◌};
-    ghost use Rattle.ft_locks.specs.Locks.{is_held, is_given, is_accessed, has_access};
-    ghost use Rattle.ft_locks.specs.Listing.{AreAdded};
-    ghost use Rattle.ft_locks.specs.Seen.{has_line};
-    ghost use Rattle.ft_locks.specs.Holdings.{after_back};
+    ghost use Rattle.ft_moss.specs.Locks.{is_held, is_given, is_accessed, has_access};
+    ghost use Rattle.ft_moss.specs.Listing.{AreAdded};
+    ghost use Rattle.ft_moss.specs.Seen.{has_line};
+    ghost use Rattle.ft_moss.specs.Holdings.{after_back};
 
     /// No owner and no place. Takes no memory.
     pub(crate) fn new(alloc: Global) -> Holdings

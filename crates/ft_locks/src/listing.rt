@@ -2,15 +2,15 @@
 ghost use Rattle.std.specs.Prelude.{◌&&◌, OnOk};
 ghost use Rattle.std.specs.List.{list_any};
 ghost use Rattle.slab.specs.Slab.{entries};
-ghost use Rattle.ft_locks.specs.Marks.{has_mark};
-ghost use Rattle.ft_locks.specs.Listing.{same_line, AreAdded, is_by, is_on};
+ghost use Rattle.ft_moss.specs.Marks.{has_mark};
+ghost use Rattle.ft_moss.specs.Listing.{same_line, AreAdded, is_by};
+ghost use Rattle.ft_locks.specs.Slots.{is_on};
 
 use crate::cells::Locked;
-use crate::holders::Holding;
-use crate::line::{LockKind, LockLine};
 use ft_base::Memory;
-use ft_calls::Mode;
 use ft_forest::TxnId;
+use ft_moss::{Holding, LockKind, LockLine};
+use ft_posix::Mode;
 use ft_tree::Cell;
 use slab::Slab;
 

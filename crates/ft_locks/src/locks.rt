@@ -1,17 +1,16 @@
 // The lock table.
 ghost use Rattle.std.specs.Prelude.{◌≡◌, ◌≢◌, ◌<◌, ◌≤◌, ℕ, take, length, true, OnOk, OnErr, IfOk, IfSome, IfNone};
 ghost use Rattle.std.specs.FinSet as set;
-ghost use Rattle.ft_locks.specs.Locks.{no_locks, is_locked, is_let_go, is_opened, AreBlockers, AreGranted, AreInherited, AreListed, AreReleased};
-ghost use Rattle.ft_locks.specs.Surveys.{HasItsCellsAlone};
+ghost use Rattle.ft_moss.specs.Locks.{no_locks, is_locked, is_let_go, is_opened, AreBlockers, AreGranted, AreInherited, AreListed, AreReleased};
+ghost use Rattle.ft_moss.specs.Surveys.{HasItsCellsAlone};
 
 use crate::blocking::{note_access, noted, survey_access};
 use crate::cells::LET_GO;
 use crate::holdings::{Dropped, Holdings};
-use crate::line::LockLine;
-use crate::marks::Marks;
 use ft_base::{Memory, Table};
-use ft_calls::Access;
 use ft_forest::{Forest, TxnId};
+use ft_moss::{LockLine, Marks};
+use ft_posix::Access;
 use ft_tree::{Cell, Keeps};
 use std::alloc::Global;
 use std::marker::Model;
@@ -45,8 +44,8 @@ pub struct Survey {
 }
 
 impl Model for Locks {
-    ghost use Rattle.ft_locks.specs.Locks.{LockTable, coded_table};
-    ghost use Rattle.ft_locks.specs.Seen.{table_of, IsKept};
+    ghost use Rattle.ft_moss.specs.Locks.{LockTable, coded_table};
+    ghost use Rattle.ft_moss.specs.Seen.{table_of, IsKept};
 
     ghost Value = { LockTable };
 
@@ -194,7 +193,7 @@ impl Locks {
 }
 
 impl Keeps for Locks {
-    ghost use Rattle.ft_locks.specs.Locks.{LockTable, is_locked};
+    ghost use Rattle.ft_moss.specs.Locks.{LockTable, is_locked};
 
     ghost kept = { is_locked };
 

@@ -1,7 +1,7 @@
 -- What a run of a plan writes.
 use Rattle.std.specs.Prelude.{◌≡◌, ℕ, List, Option}
 use Rattle.std.specs.Io.KnownBytes.{Appends, Keeps}
-use Rattle.ft_tree.specs.Rows.{rows_of}
+use Rattle.ft_cells.specs.Rows.{rows_of}
 use Rattle.ft_core.specs.States.{tree_of}
 use Rattle.ft_plan.specs.declared.fault.JobFault.TheVariants.{Memory, BadPlan, Mismatch, Thread}
 use Rattle.ft_plan.specs.declared.job.Job.{Job}

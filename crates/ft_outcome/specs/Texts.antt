@@ -2,14 +2,14 @@
 use Rattle.std.specs.Prelude.{ℕ, Bool, true, false, List, [], ◌∷◌, ◌++◌, codes, Option, None, Some}
 use Rattle.std.specs.Fmt.{decimal}
 use Rattle.std.specs.List.{flat_map, count_by, zip}
-use Rattle.ft_tree.specs.declared.row.TreeRow.{TreeRow}
+use Rattle.ft_cells.specs.declared.row.TreeRow.{TreeRow}
 use Rattle.ft_core.specs.declared.request.Event.{Event}
 use Rattle.ft_core.specs.declared.request.Event.TheVariants.{Call}
 use Rattle.ft_plan.specs.declared.job.Job.{Job}
 use Rattle.ft_reports.specs.declared.report.End.{End}
 use Rattle.ft_reports.specs.declared.report.End.TheVariants.{Committed, Aborted, Waited, Refused, NotStarted}
 use Rattle.ft_reports.specs.declared.report.Report.{Report}
-use Rattle.ft_script.specs.Texts.{fault_name}
+use Rattle.ft_replies.specs.Texts.{fault_name}
 use Rattle.ft_words.specs.CallTexts.{call_text}
 use Rattle.ft_words.specs.Texts.{reply_text, tree_text}
 

@@ -5,7 +5,7 @@ ghost use Rattle.ft_outcome.specs.Texts.{txn_text, end_text, job_text, jobs_text
 
 use ft_core::{Event, TxnId};
 use ft_jobs::{End, Job, Report};
-use ft_script::fault_name;
+use ft_replies::fault_name;
 use ft_tree::TreeRow;
 use ft_words::{CallText, ReplyText, TreeText};
 use std::fmt;

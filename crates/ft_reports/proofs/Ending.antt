@@ -2,8 +2,8 @@
 use Rattle.std.proofs.Common.{◌≡◌, ℕ, Bool, true, false, cond, Option, Some, None, refl}
 use Rattle.std.specs.Prelude.{MatchOption, ◌&&◌, nat_lt, nat_le}
 use Rattle.std.specs.FinMap as finite
-use Rattle.ft_calls.specs.declared.call.Call.{Call}
-use Rattle.ft_calls.specs.Posix.{posix_calls}
+use Rattle.ft_posix.specs.declared.call.Call.{Call}
+use Rattle.ft_posix.specs.Posix.{posix_calls}
 use Rattle.ft_history.specs.History.{Fate, is_committed, is_gone, last_transaction}
 use Rattle.ft_history.specs.History.Fate.{Live, Committed as WasCommitted, Aborted as WasAborted}
 use Rattle.ft_core.specs.declared.fault.Fault.TheVariants.{Ended, NoTxn, NoAsk, Memory}

@@ -4,7 +4,7 @@ use Rattle.std.proofs.lemmas.Bool.{false≢true}
 use Rattle.std.specs.Prelude.{map}
 use Rattle.std.specs.List.{filter_map, cons_option, list_any, list_all}
 use Rattle.ft_laws.specs.Lists.{In}
-use Rattle.ft_calls.specs.Posix.{posix_calls}
+use Rattle.ft_posix.specs.Posix.{posix_calls}
 use Rattle.ft_history.specs.History.{parent, is_committed, grants}
 use Rattle.ft_history.specs.History.Event.{Begin as WasBegun, Call as WasGranted, Undo as WasUndone, Commit as WasCommitted, Abort as WasAborted}
 use Rattle.ft_history.specs.Logs.{passing}

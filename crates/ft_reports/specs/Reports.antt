@@ -4,7 +4,7 @@ use Rattle.std.specs.List.{list_any, position, slice_get}
 use Rattle.std.specs.Option.{option_map_or}
 use Rattle.std.specs.Str.{bytes_eq}
 use Rattle.ft_laws.specs.Lists.{In}
-use Rattle.ft_calls.specs.Posix.{posix_calls}
+use Rattle.ft_posix.specs.Posix.{posix_calls}
 use Rattle.ft_history.specs.History.{Fate, parent, grants}
 use Rattle.ft_history.specs.History.Fate.{Committed as WasCommitted, Aborted as WasAborted}
 use Rattle.ft_history.specs.Logs.{passing}

@@ -1,7 +1,7 @@
 // What the history has of a transaction.
 ghost use Rattle.std.specs.Prelude.{◌≡◌, true, cond, Some, is_some};
 ghost use Rattle.std.specs.List.{list_any};
-ghost use Rattle.ft_calls.specs.Posix.{posix_calls};
+ghost use Rattle.ft_posix.specs.Posix.{posix_calls};
 ghost use Rattle.ft_history.specs.History.{parent, is_committed};
 ghost use Rattle.ft_history.specs.History.Fate.{Committed as WasCommitted, Aborted as WasAborted};
 ghost use Rattle.ft_core.specs.Histories.{told};

@@ -4,8 +4,9 @@ use Rattle.std.proofs.lemmas.Bool.{false≢true}
 use Rattle.std.specs.Prelude.{◌==◌}
 use Rattle.std.specs.Io.KnownBytes.{Appends, Consumes, Keeps}
 use Rattle.ft_core.specs.States.{State}
-use Rattle.ft_script.specs.Requests.{meaning_of}
-use Rattle.ft_script.specs.Runs.{GivesText, IsTextOfRun, Plays, WritesPart}
+use Rattle.ft_replies.specs.Requests.{meaning_of}
+use Rattle.ft_replies.specs.Lines.{GivesText}
+use Rattle.ft_script.specs.Runs.{IsTextOfRun, Plays, WritesPart}
 
 -- ---- what a writer holds
 

@@ -10,14 +10,11 @@ use Rattle.ft_script.specs.declared.playing.PlayFault.{PlayFault}
 use Rattle.ft_script.specs.declared.playing.PlayFault.TheVariants.{Memory, Read, Write, TooLong, Turns}
 use Rattle.ft_script.specs.declared.playing.TheConstants.{LONGEST_LINE}
 use Rattle.ft_words.specs.Spelling.{IsFreeOf}
-use Rattle.ft_script.specs.Requests.{meaning_of}
-use Rattle.ft_script.specs.Runs.{Fits, GivesText, Plays, PlaysAll, Cuts, BeginsTooLong, IsNext, StopsLine, StopsIn, Stopped, StopsAt, TakesAll, WritesPart}
+use Rattle.ft_replies.specs.Requests.{meaning_of}
+use Rattle.ft_replies.specs.Lines.{GivesText}
+use Rattle.ft_script.specs.Runs.{Fits, Plays, PlaysAll, Cuts, BeginsTooLong, IsNext, StopsLine, StopsIn, Stopped, StopsAt, TakesAll, WritesPart}
 use Rattle.ft_script.proofs.Cutting.{cuts_none, cuts_later, all_ended, all_but_last_ended, fits_more, free-append}
 use Rattle.ft_script.proofs.Running.{keeps_refl, plays_none, plays_more, consumes_none, consumes_kept, consumes_more}
-
-pub on_err : {T E Q : Type 0} (r : Result T E) → Q → OnErr r Q
-on_err (Ok x) q = tt
-on_err (Err e) q = q
 
 -- a fault that is passed on as it is
 pub passed_on : {T : Type 0} (r : Result T PlayFault) (Q : PlayFault → Type 0) (fault : PlayFault) → IsErr r × IsErrAnd r (λ e. e ≡ fault) → Q fault → IfErr r Q

@@ -3,16 +3,14 @@ ghost use Rattle.std.specs.Prelude.{◌≡◌, ◌≢◌, ◌⊎◌, ◌↔◌, 
 ghost use Rattle.std.specs.Io.{ReadsAtMost};
 ghost use Rattle.std.specs.Io.KnownBytes.{Appends, Consumes, IsAtEnd, Keeps};
 ghost use Rattle.ft_words.specs.Spelling.{IsFreeOf};
-ghost use Rattle.ft_script.specs.Requests.{meaning_of};
-ghost use Rattle.ft_script.specs.Runs.{Fits, GivesText, IsLegal, Plays, PlaysAll, Stopped, StopsAt, StopsLine, TakesAll};
+ghost use Rattle.ft_replies.specs.Requests.{meaning_of};
+ghost use Rattle.ft_replies.specs.Lines.{GivesText, IsLegal};
+ghost use Rattle.ft_script.specs.Runs.{Fits, Plays, PlaysAll, Stopped, StopsAt, StopsLine, TakesAll};
 
-use crate::line::Line;
-use crate::meaning::meaning_of;
-use crate::reporting::report_of;
-use crate::text::AnswerText;
 use crate::writing::write_out;
 use ft_base::Memory;
-use ft_core::{Answer, Core, Request};
+use ft_core::Core;
+use ft_replies::reply_to;
 use ft_words::split_once;
 use std::alloc::{AllocError, Global};
 use std::io::{ErrorKind, Read, Write};
@@ -216,31 +214,4 @@ fn play_line<W: Write>(
 {
     let reply = reply_to(alloc, line, core)?;
     write_out(writer, reply.as_bytes())
-}
-
-// Carries out one line, and gives the text of its reply.
-fn reply_to(alloc: Global, line: &[u8], core: &mut Core) -> Result<String, Memory>
-    ensures ok { IfOk result (λ reply. GivesText core.old (meaning_of line.now) (string_bytes reply) core.new) }
-    ensures err { OnErr result ((core.new ≡ core.old) ⊎ ((text : List ℕ) × GivesText core.old (meaning_of line.now) text core.new)) }
-{
-    match meaning_of(alloc, line)? {
-        Line::Silent => Ok(String::new(alloc)),
-        Line::Bad => Ok(String::from_str(alloc, "bad line\n")?),
-        Line::Report(report) => report_of(alloc, report, core),
-        Line::Request(request) => {
-            let answer = carry_out(core, request);
-            Ok(format!(in alloc; "{}\n", AnswerText(&answer))?)
-        }
-    }
-}
-
-// Carries out a request. What a commit or an abort has let go is swept, where it is not refused.
-fn carry_out(core: &mut Core, request: Request) -> Answer
-    ensures { IsLegal core.old request result core.new }
-{
-    let answer = core.answer(request);
-    if matches!(answer, Answer::Committed | Answer::Aborted(_)) {
-        core.sweep();
-    }
-    answer
 }

@@ -7,10 +7,10 @@ use Rattle.ft_base.proofs.table.Table.TheSendSync as table
 use Rattle.ft_path.proofs.name.Name.TheSendSync as name
 use Rattle.ft_body.proofs.pages.Lost.TheSendSync as lost
 use Rattle.ft_body.specs.contracts.undo.BodyUndo as BodyUndo
-use Rattle.ft_tree.proofs.node.Node.TheSendSync as node
-use Rattle.ft_tree.proofs.open_file.OpenFile.TheSendSync as open_file
+use Rattle.ft_cells.proofs.node.Node.TheSendSync as node
+use Rattle.ft_cells.proofs.open_file.OpenFile.TheSendSync as open_file
 use Rattle.ft_tree.proofs.tree.Tree.TheSendSync as tree
-use Rattle.ft_calls.proofs.call.Call.TheSendSync as call
+use Rattle.ft_posix.proofs.call.Call.TheSendSync as call
 use Rattle.ft_forest.proofs.forest.Forest.TheSendSync as forest
 use Rattle.ft_locks.proofs.locks.Locks.TheSendSync as locks
 use Rattle.ft_undo.specs.contracts.undo.Back as Back

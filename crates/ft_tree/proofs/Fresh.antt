@@ -7,19 +7,19 @@ use Rattle.std.specs.Option.{option_flatten}
 use Rattle.std.specs.List.{filter_map}
 use Rattle.std.specs.FinMap.{get, empty, entries, from_entries, contains_key, get-insert, get-empty, entries-insert}
 use Rattle.std.specs.FinMap.Entries.{put}
-use Rattle.ft_tree.specs.declared.node.Node.{Node}
-use Rattle.ft_tree.specs.declared.open_file.OpenFile.{OpenFile}
-use Rattle.ft_tree.specs.declared.cell.Cell.{Cell}
-use Rattle.ft_tree.specs.declared.cell.Cell.TheVariants.{Entry, Names, Parent, Links, Bytes, Fd}
-use Rattle.ft_tree.specs.Nodes.{number_of}
-use Rattle.ft_tree.specs.Cells.{DirCells, FileCells, no_dir, no_file, dir_of, file_of, dir_entry, entry_of, parent_of, links_of, open_of, filled, fresh_cells}
+use Rattle.ft_cells.specs.declared.node.Node.{Node}
+use Rattle.ft_cells.specs.declared.open_file.OpenFile.{OpenFile}
+use Rattle.ft_cells.specs.declared.cell.Cell.{Cell}
+use Rattle.ft_cells.specs.declared.cell.Cell.TheVariants.{Entry, Names, Parent, Links, Bytes, Fd}
+use Rattle.ft_cells.specs.Nodes.{number_of}
+use Rattle.ft_cells.specs.Cells.{DirCells, FileCells, no_dir, no_file, dir_of, file_of, dir_entry, entry_of, parent_of, links_of, open_of, filled, fresh_cells}
 use Rattle.ft_tree.specs.Held.{held}
-use Rattle.ft_tree.specs.declared.entry.Entry.{Entry as DirEntry}
-use Rattle.ft_tree.specs.Entries.{entry_at, entry_cmp}
-use Rattle.ft_tree.specs.Plain.{view_in}
+use Rattle.ft_cells.specs.declared.entry.Entry.{Entry as DirEntry}
+use Rattle.ft_cells.specs.Entries.{entry_at, entry_cmp}
+use Rattle.ft_cells.specs.Plain.{view_in}
 use Rattle.ft_tree.specs.Tidy.{tidy, edges_from}
 use Rattle.ft_tree.specs.Sound.{AreSoundCells, SaysNothingOf, IsFree}
-use Rattle.ft_tree.proofs.CellViews.{entries-empty}
+use Rattle.ft_cells.proofs.CellViews.{entries-empty}
 
 fresh-get : (d : ℕ) → get fresh_cells.directories d ≡ cond (d == 1) (Some no_dir) None
 fresh-get d = get-insert nat_cmp_total empty 1 no_dir d ∙ (λ i. cond (unsigned_tied d 1 i) (Some no_dir) (get-empty {X = DirCells} nat_cmp d i))

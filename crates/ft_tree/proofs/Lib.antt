@@ -1,15 +1,6 @@
-pub mod Conjunction
-pub mod MapViews
-pub mod InOrder
-pub mod Places
 pub mod Reading
-pub mod CellViews
 pub mod TidyRows
-pub mod Clones
 pub mod Fresh
-pub mod Splits
-pub mod Gathered
-pub mod Opened
 pub mod Swept
 pub mod Spared
 pub mod SweptTidy

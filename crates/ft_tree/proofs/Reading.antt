@@ -1,8 +1,8 @@
 -- What is read of a tree in two parts, one after the other.
 use Rattle.std.proofs.Common.{◌≡◌, List, [], ◌∷◌, refl, sym, ap, ◌∙◌}
-use Rattle.ft_tree.specs.declared.cell.Cell.{Cell}
-use Rattle.ft_tree.specs.Cells.{Cells}
-use Rattle.ft_tree.specs.Looks.{Looks, answer, looked_at, all_noted, then, answer-then, all_noted-then}
+use Rattle.ft_cells.specs.declared.cell.Cell.{Cell}
+use Rattle.ft_cells.specs.Cells.{Cells}
+use Rattle.ft_cells.specs.Looks.{Looks, answer, looked_at, all_noted, then, answer-then, all_noted-then}
 use Rattle.ft_tree.specs.Views.{view_of}
 
 module _ {R : Type 0} (cells : R → Cells) (noted : R → Cell → R) (stays : (r : R) (c : Cell) → cells (noted r c) ≡ cells r) where

@@ -1,17 +1,17 @@
 -- What an entry that is there spares from a sweep: its own place and its directory.
-use Rattle.std.proofs.Common.{◌≡◌, ℕ, Bool, true, false, cond, not, ◌&&◌, ◌==◌, ◌+◌, List, Option, Some, None, is_some, is_none, eqb-true, refl, sym, ap, ◌∙◌}
+use Rattle.std.proofs.Common.{◌≡◌, Bool, true, false, cond, ◌&&◌, ◌==◌, ◌+◌, Option, Some, None, is_some, is_none, eqb-true, refl, sym, ap, ◌∙◌}
 use Rattle.std.proofs.lemmas.Bool.{false≢true}
 use Rattle.std.specs.Option.{option_flatten}
 use Rattle.std.specs.Ordering.{nat_cmp}
 use Rattle.std.specs.Cmp.Lexicographic.{slice_cmp}
-use Rattle.std.specs.FinMap.{get, len, contains_key, get-empty, empty_of_len}
-use Rattle.ft_tree.specs.declared.entry.Entry.{Entry as EntryOf}
-use Rattle.ft_tree.specs.declared.cell.Cell.{Cell}
-use Rattle.ft_tree.specs.declared.cell.Cell.TheVariants.{Entry, Parent}
-use Rattle.ft_tree.specs.Cells.{Cells, dir_of, entry_of, has_dir}
-use Rattle.ft_tree.specs.Sweep.{is_useless, is_spare, at_place, one_if, drop_spare, swept_at, dropped_at}
+use Rattle.std.specs.FinMap.{get, len, get-empty, empty_of_len}
+use Rattle.ft_cells.specs.declared.entry.Entry.{Entry as EntryOf}
+use Rattle.ft_cells.specs.declared.cell.Cell.{Cell}
+use Rattle.ft_cells.specs.declared.cell.Cell.TheVariants.{Entry, Parent}
+use Rattle.ft_cells.specs.Cells.{Cells, dir_of, entry_of}
+use Rattle.ft_tree.specs.Sweep.{is_useless, is_spare, one_if, drop_spare, swept_at, dropped_at}
 use Rattle.ft_tree.specs.Held.{without_place}
-use Rattle.ft_tree.proofs.Splits.{by_test, unlike}
+use Rattle.ft_cells.proofs.Splits.{by_test, unlike}
 
 no-none : {A : Type 0} (o : Option A) → is_some o ≡ true → is_none o ≡ false
 no-none None h = absurd (false≢true h)

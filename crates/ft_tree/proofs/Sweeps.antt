@@ -8,21 +8,21 @@ use Rattle.std.specs.Option.{option_map_or}
 use Rattle.std.specs.FinMap.{FinMap, get, insert, remove, entries, len, contains_key, get-empty, len-remove}
 use Rattle.std.specs.FinSet as set
 use Rattle.std.proofs.lemmas.Map.Lookups.{exact_unsigned}
-use Rattle.ft_tree.specs.Entries.{entry_at}
-use Rattle.ft_tree.specs.declared.node.Node.{Node}
-use Rattle.ft_tree.specs.declared.cell.Cell.{Cell}
-use Rattle.ft_tree.specs.declared.cell.Cell.TheVariants.{Entry, Names, Parent, Links, Bytes, Fd}
-use Rattle.ft_tree.specs.CellOrder.{cell_cmp, cell_cmp_total, cell_cmp_exact}
-use Rattle.ft_tree.specs.Cells.{Cells, DirCells, no_dir, dir_of, entry_of, parent_of, is_there, has_dir, links_of, put_dir, without_dir_place}
+use Rattle.ft_cells.specs.Entries.{entry_at}
+use Rattle.ft_cells.specs.declared.node.Node.{Node}
+use Rattle.ft_cells.specs.declared.cell.Cell.{Cell}
+use Rattle.ft_cells.specs.declared.cell.Cell.TheVariants.{Entry, Names, Parent, Links, Bytes, Fd}
+use Rattle.ft_cells.specs.CellOrder.{cell_cmp, cell_cmp_total, cell_cmp_exact}
+use Rattle.ft_cells.specs.Cells.{Cells, DirCells, no_dir, dir_of, entry_of, parent_of, is_there, has_dir, links_of, put_dir, without_dir_place}
 use Rattle.ft_tree.specs.Held.{without_place}
-use Rattle.ft_tree.specs.Plain.{view_in}
+use Rattle.ft_cells.specs.Plain.{view_in}
 use Rattle.ft_tree.specs.Tidy.{tidy}
 use Rattle.ft_tree.specs.Sound.{IsTree, AreSoundCells}
 use Rattle.ft_tree.specs.Sweep.{at_place, is_spare, one_if, drop_spare, swept_at, dropped_at, places_of_dirs, places_in, IsSwept, IsSweptClean, IsAccounted, HasNoneToDrop, LetGo}
-use Rattle.ft_tree.proofs.Splits.{by_test, by_option, unlike, both-left, both-right, both-of, none-right, not-of, tied-is, tied-itself}
-use Rattle.ft_tree.proofs.MapViews.{some_len}
-use Rattle.ft_tree.proofs.Gathered.{weight, weight-insert, weight-remove}
-use Rattle.ft_tree.proofs.Opened.{described-open}
+use Rattle.ft_cells.proofs.Splits.{by_test, by_option, unlike, both-left, both-right, both-of, none-right, not-of, tied-is, tied-itself}
+use Rattle.ft_cells.proofs.MapViews.{some_len}
+use Rattle.ft_cells.proofs.Gathered.{weight, weight-insert, weight-remove}
+use Rattle.ft_cells.proofs.Opened.{described-open}
 use Rattle.ft_tree.proofs.Swept.{swept-none, swept-then, same_dirs, spare-before, swept-file, gone-file, swept-fd, gone-fd, swept-dir, gone-dir, dir-same, swept-entry, gone-entry, dir-other}
 use Rattle.ft_tree.proofs.SweptTidy.{tidy-file, tidy-fd, tidy-dir, tidy-entry}
 

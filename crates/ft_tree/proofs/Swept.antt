@@ -7,16 +7,16 @@ use Rattle.std.specs.Cmp.Lexicographic.{slice_cmp, nat_list_cmp_total}
 use Rattle.std.specs.Option.{option_flatten, option_map_or}
 use Rattle.std.specs.FinMap.{get, remove, empty, len, contains_key, get-remove, get-insert, empty_of_len}
 use Rattle.std.proofs.lemmas.Map.Lookups.{exact_unsigned, exact_bytes}
-use Rattle.ft_tree.specs.Entries.{entry_at}
-use Rattle.ft_tree.specs.declared.node.Node.{Node}
-use Rattle.ft_tree.specs.declared.open_file.OpenFile.{OpenFile}
-use Rattle.ft_tree.specs.declared.cell.Cell.{Cell}
-use Rattle.ft_tree.specs.declared.cell.Cell.TheVariants.{Entry, Names, Parent, Links, Bytes, Fd}
-use Rattle.ft_tree.specs.Cells.{Cells, DirCells, no_dir, no_file, dir_entry, dir_of, entry_of, links_of, open_of, is_there, has_dir, has_file, is_open, without_dir_place, put_dir}
+use Rattle.ft_cells.specs.Entries.{entry_at}
+use Rattle.ft_cells.specs.declared.node.Node.{Node}
+use Rattle.ft_cells.specs.declared.open_file.OpenFile.{OpenFile}
+use Rattle.ft_cells.specs.declared.cell.Cell.{Cell}
+use Rattle.ft_cells.specs.declared.cell.Cell.TheVariants.{Entry, Names, Parent, Links, Bytes, Fd}
+use Rattle.ft_cells.specs.Cells.{Cells, DirCells, no_dir, no_file, dir_entry, dir_of, entry_of, links_of, open_of, is_there, has_dir, has_file, is_open, without_dir_place, put_dir}
 use Rattle.ft_tree.specs.Held.{IsStored}
 use Rattle.ft_tree.specs.Sweep.{is_useless, at_place, is_spare, IsDeadFile, IsSwept}
-use Rattle.ft_tree.proofs.Splits.{by_test, by_option, unlike, both-left, both-right, both-of, none-left, none-right, not-true, not-of, tied-is, tied-itself}
-use Rattle.ft_tree.proofs.Opened.{is_open-remove}
+use Rattle.ft_cells.proofs.Splits.{by_test, by_option, unlike, both-left, both-right, both-of, none-left, none-right, not-true, not-of, tied-is, tied-itself}
+use Rattle.ft_cells.proofs.Opened.{is_open-remove}
 
 zero-of : (n : ℕ) → nat_lt 0 n ≡ false → 0 ≡ n
 zero-of zero h = refl

@@ -8,21 +8,21 @@ use Rattle.std.specs.List.{filter_map}
 use Rattle.std.specs.FinMap.{get, remove, insert, entries, from_entries, contains_key}
 use Rattle.std.proofs.lemmas.Bool.{false≢true}
 use Rattle.std.proofs.lemmas.Map.Lookups.{exact_unsigned, exact_bytes}
-use Rattle.ft_tree.specs.Entries.{entry_at}
-use Rattle.ft_tree.specs.declared.node.Node.{Node}
-use Rattle.ft_tree.specs.declared.open_file.OpenFile.{OpenFile}
-use Rattle.ft_tree.specs.declared.cell.Cell.{Cell}
-use Rattle.ft_tree.specs.declared.cell.Cell.TheVariants.{Entry, Parent, Links, Fd}
-use Rattle.ft_tree.specs.Nodes.{number_of}
-use Rattle.ft_tree.specs.Cells.{Cells, DirCells, FileCells, Opens, no_dir, no_file, dir_of, dir_names, filled, is_there, has_file, is_open, without_dir_place, put_dir}
+use Rattle.ft_cells.specs.Entries.{entry_at}
+use Rattle.ft_cells.specs.declared.node.Node.{Node}
+use Rattle.ft_cells.specs.declared.open_file.OpenFile.{OpenFile}
+use Rattle.ft_cells.specs.declared.cell.Cell.{Cell}
+use Rattle.ft_cells.specs.declared.cell.Cell.TheVariants.{Entry, Parent, Links, Fd}
+use Rattle.ft_cells.specs.Nodes.{number_of}
+use Rattle.ft_cells.specs.Cells.{Cells, DirCells, FileCells, Opens, no_dir, no_file, dir_of, dir_names, filled, is_there, has_file, is_open, without_dir_place, put_dir}
 use Rattle.ft_tree.specs.Held.{without_place}
-use Rattle.ft_tree.specs.declared.entry.Entry.{Entry as DirEntry}
+use Rattle.ft_cells.specs.declared.entry.Entry.{Entry as DirEntry}
 use Rattle.ft_tree.specs.Tidy.{tidy, edges_at, edges_from, member, dirs_from, is_named, files_from, opens_from}
 use Rattle.ft_tree.specs.Sweep.{at_place, is_spare}
-use Rattle.ft_tree.proofs.CellViews.{entries-empty}
-use Rattle.ft_tree.proofs.Splits.{by_option, unlike, both-left, both-right, not-true, tied-itself}
-use Rattle.ft_tree.proofs.Gathered.{gather, part, gather-insert, gather-remove}
-use Rattle.ft_tree.proofs.Opened.{is_open-remove}
+use Rattle.ft_cells.proofs.CellViews.{entries-empty}
+use Rattle.ft_cells.proofs.Splits.{by_option, unlike, both-left, both-right, not-true, tied-itself}
+use Rattle.ft_cells.proofs.Gathered.{gather, part, gather-insert, gather-remove}
+use Rattle.ft_cells.proofs.Opened.{is_open-remove}
 use Rattle.ft_tree.proofs.Swept.{bare, not_there}
 
 -- The lists as they are gathered, entry by entry.

@@ -8,18 +8,18 @@ use Rattle.std.specs.Cmp.Lexicographic.{slice_cmp}
 use Rattle.std.specs.FinMap.{is_sorted, entries, entries_sorted}
 use Rattle.std.specs.FinMap.Entries.{below_all}
 use Rattle.std.proofs.lemmas.Map.Lookups.{exact_unsigned}
-use Rattle.ft_tree.specs.declared.entry.Entry.{Entry}
-use Rattle.ft_tree.specs.Entries.{entry_at, entry_cmp, entry_cmp_total, entry_cmp_exact}
-use Rattle.ft_tree.specs.declared.node.Node.{Node}
-use Rattle.ft_tree.specs.declared.open_file.OpenFile.{OpenFile}
-use Rattle.ft_tree.specs.declared.row.TreeRow.TheVariants.{Edge as EdgeRow}
+use Rattle.ft_cells.specs.declared.entry.Entry.{Entry}
+use Rattle.ft_cells.specs.Entries.{entry_at, entry_cmp, entry_cmp_total, entry_cmp_exact}
+use Rattle.ft_cells.specs.declared.node.Node.{Node}
+use Rattle.ft_cells.specs.declared.open_file.OpenFile.{OpenFile}
+use Rattle.ft_cells.specs.declared.row.TreeRow.TheVariants.{Edge as EdgeRow}
 use Rattle.std.specs.List.{filter_map}
-use Rattle.ft_tree.specs.Nodes.{number_of}
-use Rattle.ft_tree.specs.Cells.{Cells, DirCells, FileCells, Opens, dir_names, filled, is_there}
+use Rattle.ft_cells.specs.Nodes.{number_of}
+use Rattle.ft_cells.specs.Cells.{Cells, DirCells, FileCells, Opens, dir_names, filled, is_there}
 use Rattle.ft_tree.specs.Tidy.{tidy, edges_at, edges_from, dirs_from, member, is_named, files_from, opens_from}
-use Rattle.ft_tree.specs.Rows.{dir_rows, edge_rows, named_rows, file_rows, open_rows, rows_of}
-use Rattle.ft_tree.proofs.Conjunction.{both, first, second}
-use Rattle.ft_tree.proofs.InOrder.{entries-in_order}
+use Rattle.ft_cells.specs.Rows.{dir_rows, edge_rows, named_rows, file_rows, open_rows, rows_of}
+use Rattle.ft_cells.proofs.Conjunction.{both, first, second}
+use Rattle.ft_cells.proofs.InOrder.{entries-in_order}
 
 -- The directories.
 

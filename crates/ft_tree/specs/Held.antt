@@ -2,11 +2,11 @@
 use Rattle.std.specs.Prelude.{ℕ, List, [], Option, None}
 use Rattle.std.specs.Option.{option_map, option_map_or}
 use Rattle.std.specs.FinMap as map
-use Rattle.ft_tree.specs.declared.node.Node.{Node}
-use Rattle.ft_tree.specs.declared.open_file.OpenFile.{OpenFile}
-use Rattle.ft_tree.specs.declared.cell.Cell.{Cell}
-use Rattle.ft_tree.specs.declared.cell.Cell.TheVariants.{Entry, Names, Parent, Links, Bytes, Fd}
-use Rattle.ft_tree.specs.Cells.{Cells, DirCells, FileCells, dir_of, put_dir, without_dir_place, entry_of, parent_of, links_of, bytes_of, open_of, HasDirPlace, HasEntryPlace, HasFilePlace, HasOpenPlace, put_entry, put_parent, put_links, put_bytes, put_open}
+use Rattle.ft_cells.specs.declared.node.Node.{Node}
+use Rattle.ft_cells.specs.declared.open_file.OpenFile.{OpenFile}
+use Rattle.ft_cells.specs.declared.cell.Cell.{Cell}
+use Rattle.ft_cells.specs.declared.cell.Cell.TheVariants.{Entry, Names, Parent, Links, Bytes, Fd}
+use Rattle.ft_cells.specs.Cells.{Cells, DirCells, FileCells, dir_of, put_dir, without_dir_place, entry_of, parent_of, links_of, bytes_of, open_of, HasDirPlace, HasEntryPlace, HasFilePlace, HasOpenPlace, put_entry, put_parent, put_links, put_bytes, put_open}
 
 -- what a cell holds by itself; the names of a directory are read off its entries
 abbrev pub Holds : Cell → Type 0

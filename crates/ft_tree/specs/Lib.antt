@@ -1,15 +1,6 @@
-pub mod Nodes
-pub mod Modes
-pub mod Entries
-pub mod CellOrder
-pub mod Cells
 pub mod Held
-pub mod Looks
 pub mod Views
 pub mod Walk
-pub mod Plain
 pub mod Tidy
 pub mod Sound
-pub mod Rows
 pub mod Sweep
-pub mod Openings

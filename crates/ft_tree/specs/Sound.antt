@@ -1,16 +1,16 @@
 -- When a tree is one: no directory below itself, each standing in its parent, and files and descriptions that belong to it (POSIX.1-2017, Base Definitions, 3 and 4.13).
 use Rattle.std.specs.Prelude.{◌≡◌, ◌≢◌, ◌≤◌, ℕ, true, false, ◌||◌, List, [], Option, Some, None}
 use Rattle.std.specs.FinMap as finite
-use Rattle.ft_tree.specs.declared.node.Node.{Node}
-use Rattle.ft_tree.specs.declared.node.Node.TheVariants.{Dir as DirNode, File as FileNode}
-use Rattle.ft_tree.specs.declared.entry.Entry.{Entry as DirEntry}
-use Rattle.ft_tree.specs.declared.cell.Cell.{Cell}
-use Rattle.ft_tree.specs.declared.cell.Cell.TheVariants.{Entry, Names, Parent, Links, Bytes, Fd}
-use Rattle.ft_tree.specs.declared.open_file.OpenFile.{OpenFile}
-use Rattle.ft_tree.specs.Nodes.{number_of}
-use Rattle.ft_tree.specs.Cells.{Cells, entry_of, parent_of, links_of, open_of, HasDirPlace, HasFilePlace}
+use Rattle.ft_cells.specs.declared.node.Node.{Node}
+use Rattle.ft_cells.specs.declared.node.Node.TheVariants.{Dir as DirNode, File as FileNode}
+use Rattle.ft_cells.specs.declared.entry.Entry.{Entry as DirEntry}
+use Rattle.ft_cells.specs.declared.cell.Cell.{Cell}
+use Rattle.ft_cells.specs.declared.cell.Cell.TheVariants.{Entry, Names, Parent, Links, Bytes, Fd}
+use Rattle.ft_cells.specs.declared.open_file.OpenFile.{OpenFile}
+use Rattle.ft_cells.specs.Nodes.{number_of}
+use Rattle.ft_cells.specs.Cells.{Cells, entry_of, parent_of, links_of, open_of, HasDirPlace, HasFilePlace}
 use Rattle.ft_tree.specs.Held.{Holds, held, IsStored}
-use Rattle.ft_tree.specs.Plain.{PlainTree, parent_in, view_in}
+use Rattle.ft_cells.specs.Plain.{PlainTree, parent_in, view_in}
 use Rattle.ft_tree.specs.Tidy.{tidy}
 
 -- The parents of a directory lead up to the root; so it is not below itself.

@@ -2,10 +2,10 @@
 use Rattle.std.specs.Prelude.{◌≡◌, ℕ, Bool, true, false, cond, not, ◌==◌, ◌&&◌, ◌||◌, ◌+◌, List, [], ◌∷◌, is_none}
 use Rattle.std.specs.FinMap as map
 use Rattle.std.specs.FinSet as set
-use Rattle.ft_tree.specs.declared.cell.Cell.{Cell}
-use Rattle.ft_tree.specs.declared.cell.Cell.TheVariants.{Entry, Names, Parent, Links, Bytes, Fd}
-use Rattle.ft_tree.specs.CellOrder.{cell_cmp}
-use Rattle.ft_tree.specs.Cells.{Cells, DirCells, entry_of, parent_of, links_of, bytes_of, open_of, dir_of, has_dir, has_file, HasFilePlace}
+use Rattle.ft_cells.specs.declared.cell.Cell.{Cell}
+use Rattle.ft_cells.specs.declared.cell.Cell.TheVariants.{Entry, Names, Parent, Links, Bytes, Fd}
+use Rattle.ft_cells.specs.CellOrder.{cell_cmp}
+use Rattle.ft_cells.specs.Cells.{Cells, DirCells, entry_of, parent_of, links_of, bytes_of, open_of, dir_of, has_dir, has_file, HasFilePlace}
 use Rattle.ft_tree.specs.Held.{IsStored, without_place}
 
 -- the place of a cell is there and of no use: there is no entry or description in it, its directory is not there and has no place of an entry, or nothing names its file (POSIX.1-2017, System Interfaces, unlink, rmdir and close)

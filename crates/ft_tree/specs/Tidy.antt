@@ -3,12 +3,12 @@ use Rattle.std.specs.Prelude.{ℕ, Bool, ◌||◌, nat_lt, List, [], ◌∷◌, 
 use Rattle.std.specs.List.{filter_map}
 use Rattle.std.specs.Option.{option_map}
 use Rattle.std.specs.FinMap as finite
-use Rattle.ft_tree.specs.declared.entry.Entry.{Entry}
-use Rattle.ft_tree.specs.Entries.{entry_at}
-use Rattle.ft_tree.specs.Nodes.{number_of}
-use Rattle.ft_tree.specs.declared.open_file.OpenFile.{OpenFile}
-use Rattle.ft_tree.specs.Cells.{Cells, DirCells, FileCells, Opens, dir_names, is_there, is_open}
-use Rattle.ft_tree.specs.Plain.{PlainTree}
+use Rattle.ft_cells.specs.declared.entry.Entry.{Entry}
+use Rattle.ft_cells.specs.Entries.{entry_at}
+use Rattle.ft_cells.specs.Nodes.{number_of}
+use Rattle.ft_cells.specs.declared.open_file.OpenFile.{OpenFile}
+use Rattle.ft_cells.specs.Cells.{Cells, DirCells, FileCells, Opens, dir_names, is_there, is_open}
+use Rattle.ft_cells.specs.Plain.{PlainTree}
 
 -- the edges that start in one directory
 abbrev pub edges_at : ℕ × DirCells → List (Entry × ℕ)

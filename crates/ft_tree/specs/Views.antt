@@ -1,7 +1,7 @@
 -- What the stored cells show.
-use Rattle.ft_tree.specs.declared.cell.Cell.TheVariants.{Entry, Names, Parent, Links, Bytes, Fd}
-use Rattle.ft_tree.specs.Cells.{Cells, entry_of, names_of, parent_of, links_of, bytes_of, open_of}
-use Rattle.ft_tree.specs.Looks.{View}
+use Rattle.ft_cells.specs.declared.cell.Cell.TheVariants.{Entry, Names, Parent, Links, Bytes, Fd}
+use Rattle.ft_cells.specs.Cells.{Cells, entry_of, names_of, parent_of, links_of, bytes_of, open_of}
+use Rattle.ft_cells.specs.Looks.{View}
 
 abbrev pub view_of : Cells → View
 view_of cells (Entry entry) = entry_of cells entry.dir entry.name

@@ -4,17 +4,17 @@ use Rattle.std.specs.Option.{option_map}
 use Rattle.ft_path.specs.Name.{is_dot, is_dot_dot}
 use Rattle.ft_path.specs.declared.errno.Errno.{Errno}
 use Rattle.ft_path.specs.declared.errno.Errno.TheVariants.{ENOENT, ENOTDIR}
-use Rattle.ft_tree.specs.Entries.{entry_at, entry_in}
-use Rattle.ft_tree.specs.declared.entry.Entry.{Entry as DirEntry}
-use Rattle.ft_tree.specs.declared.node.Found.{Found}
-use Rattle.ft_tree.specs.declared.node.Found.TheVariants.{Place, Whole}
-use Rattle.ft_tree.specs.declared.node.Node.{Node}
-use Rattle.ft_tree.specs.declared.node.Node.TheVariants.{Dir as DirNode, File as FileNode}
-use Rattle.ft_tree.specs.declared.node.Spot.{Spot as Seen}
-use Rattle.ft_tree.specs.declared.node.Spot.TheVariants.{Named as SeenNamed, Itself as SeenItself}
-use Rattle.ft_tree.specs.declared.cell.Cell.TheVariants.{Entry, Parent}
-use Rattle.ft_tree.specs.Nodes.{number_of}
-use Rattle.ft_tree.specs.Looks.{Looks, Answer, Look, then, or_else}
+use Rattle.ft_cells.specs.Entries.{entry_at, entry_in}
+use Rattle.ft_cells.specs.declared.entry.Entry.{Entry as DirEntry}
+use Rattle.ft_cells.specs.declared.node.Found.{Found}
+use Rattle.ft_cells.specs.declared.node.Found.TheVariants.{Place, Whole}
+use Rattle.ft_cells.specs.declared.node.Node.{Node}
+use Rattle.ft_cells.specs.declared.node.Node.TheVariants.{Dir as DirNode, File as FileNode}
+use Rattle.ft_cells.specs.declared.node.Spot.{Spot as Seen}
+use Rattle.ft_cells.specs.declared.node.Spot.TheVariants.{Named as SeenNamed, Itself as SeenItself}
+use Rattle.ft_cells.specs.declared.cell.Cell.TheVariants.{Entry, Parent}
+use Rattle.ft_cells.specs.Nodes.{number_of}
+use Rattle.ft_cells.specs.Looks.{Looks, Answer, Look, then, or_else}
 
 -- where a walk ends: at an entry, with what it leads to, or at a directory itself
 pub data Spot : Type 0 where

@@ -1,11 +1,11 @@
 ghost use Rattle.std.specs.Prelude.{◌≡◌, true, Bool, IfSome, IfNone};
 ghost use Rattle.std.specs.FinSet as set;
 
-use crate::cell::Cell;
+use ft_cells::Cell;
 
 /// Who knows which cells are locked, and so must keep their places, and which were let go.
 pub trait Keeps {
-    ghost use Rattle.ft_tree.specs.declared.cell.Cell.{Cell};
+    ghost use Rattle.ft_cells.specs.declared.cell.Cell.{Cell};
     ghost use Rattle.ft_tree.specs.Sweep.{LetGo};
 
     /// Whether a cell is kept.

@@ -7,23 +7,12 @@
 //! number 1, are rules of this project.
 #![tactic(auto)]
 
-mod cell;
-mod descriptions;
-mod directory;
-mod entry;
-mod file;
 mod keeps;
-mod node;
-mod open_file;
 mod reader;
-mod row;
+mod rows;
 mod tree;
 
-pub use cell::Cell;
-pub use entry::{Entry, EntryRef};
+pub use ft_cells::{AccessMode, Cell, Entry, EntryRef, Found, Kind, Node, OpenFile, Spot, TreeRow};
 pub use keeps::Keeps;
-pub use node::{Found, Kind, Node, Spot};
-pub use open_file::{AccessMode, OpenFile};
 pub use reader::{Reader, walk};
-pub use row::TreeRow;
 pub use tree::{ROOT, Tree};

@@ -1,21 +1,20 @@
 // Where a path leads, whoever reads the tree.
 ghost use Rattle.std.specs.Prelude.{◌≡◌, IfOk, OnOk, OnErr};
-ghost use Rattle.ft_tree.specs.Entries.{entry_at};
-ghost use Rattle.ft_tree.specs.declared.cell.Cell.TheVariants.{Entry, Parent};
-ghost use Rattle.ft_tree.specs.Cells.{entry_of, parent_of};
-ghost use Rattle.ft_tree.specs.Looks.{answer, looked_at, all_noted};
+ghost use Rattle.ft_cells.specs.Entries.{entry_at};
+ghost use Rattle.ft_cells.specs.declared.cell.Cell.TheVariants.{Entry, Parent};
+ghost use Rattle.ft_cells.specs.Cells.{entry_of, parent_of};
+ghost use Rattle.ft_cells.specs.Looks.{answer, looked_at, all_noted};
 ghost use Rattle.ft_tree.specs.Views.{view_of};
 ghost use Rattle.ft_tree.specs.Walk.{up, inner, last, walk, seen};
 
-use crate::entry::EntryRef;
-use crate::node::{Node, Spot};
 use crate::tree::ROOT;
+use ft_cells::{EntryRef, Node, Spot};
 use ft_path::{Errno, Name};
 
 /// Who reads a tree for a walk, and may keep account of the cells that were read.
 pub trait Reader {
-    ghost use Rattle.ft_tree.specs.declared.cell.Cell.{Cell};
-    ghost use Rattle.ft_tree.specs.Cells.{Cells};
+    ghost use Rattle.ft_cells.specs.declared.cell.Cell.{Cell};
+    ghost use Rattle.ft_cells.specs.Cells.{Cells};
 
     /// What may be wanting for that.
     type Want;

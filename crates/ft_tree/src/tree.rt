@@ -2,33 +2,29 @@
 ghost use Rattle.std.specs.Prelude.{◌≡◌, ◌↔◌, ◌<◌, ◌≤◌, ◌+◌, ◌-◌, ◌^◌, ℕ, [], length, IsTrue, IsOk, IfOk, OnOk, OnErr, Option};
 ghost use Rattle.std.specs.Option.{option_copied};
 ghost use Rattle.std.specs.FinMap as map;
-ghost use Rattle.ft_tree.specs.Nodes.{with_kinds};
-ghost use Rattle.ft_tree.specs.Looks.{answer};
+ghost use Rattle.ft_cells.specs.Nodes.{with_kinds};
+ghost use Rattle.ft_cells.specs.Looks.{answer};
 ghost use Rattle.ft_tree.specs.Views.{view_of};
 ghost use Rattle.ft_tree.specs.Walk.{walk, found};
 ghost use Rattle.ft_body.specs.declared.TheConstants.{SIZE_LIMIT};
 ghost use Rattle.ft_body.specs.Bytes.{fitting, written, resized};
-ghost use Rattle.ft_tree.specs.Cells.{entry_of, names_of, parent_of, links_of, bytes_of, body_in, open_of, kind_of, has_dir, has_file, put_entry, put_parent, put_links, put_bytes, put_open, stored_dirs, HasEntryPlace, HasDirPlace, HasFilePlace, HasOpenPlace, fresh_cells};
-ghost use Rattle.ft_tree.specs.declared.cell.Cell.TheVariants.{Entry as EntryCell, Parent, Links, Fd};
+ghost use Rattle.ft_cells.specs.Cells.{entry_of, names_of, parent_of, links_of, bytes_of, body_in, open_of, kind_of, has_dir, has_file, put_entry, put_parent, put_links, put_bytes, put_open, stored_dirs, HasEntryPlace, HasDirPlace, HasFilePlace, HasOpenPlace, fresh_cells};
+ghost use Rattle.ft_cells.specs.declared.cell.Cell.TheVariants.{Entry as EntryCell, Parent, Links, Fd};
 ghost use Rattle.ft_tree.specs.Held.{place_at, without_place};
-ghost use Rattle.ft_tree.specs.Rows.{rows_of};
+ghost use Rattle.ft_cells.specs.Rows.{rows_of};
 ghost use Rattle.ft_tree.specs.Tidy.{tidy};
 ghost use Rattle.ft_tree.specs.Sound.{AreSoundCells, IsFree};
 ghost use Rattle.std.specs.FinSet as set;
 ghost use Rattle.ft_tree.specs.Sweep.{is_useless, is_spare, one_if, at_place, drop_spare, swept_at, dropped_at, places_in, IsSwept, IsSweptClean, IsAccounted, HasNoneToDrop};
 
-use crate::cell::Cell;
-use crate::descriptions::Descriptions;
-use crate::directory::Directory;
-use crate::entry::Entry;
-use crate::file::File;
 use crate::keeps::Keeps;
-use crate::node::{Found, Kind, Node, Spot};
-use crate::open_file::OpenFile;
 use crate::reader::{Reader, walk};
-use crate::row::{TreeRow, push_dirs, push_edges, push_files, push_opens};
+use crate::rows::{push_dirs, push_edges, push_files, push_opens};
 use ft_base::{Memory, Table};
 use ft_body::{Body, BodyUndo};
+use ft_cells::{
+    Cell, Descriptions, Directory, Entry, File, Found, Kind, Node, OpenFile, Spot, TreeRow,
+};
 use ft_path::{Errno, Name, Parts};
 use std::alloc::Global;
 use std::convert::Infallible;
@@ -63,7 +59,7 @@ impl Drop for Tree {
 }
 
 impl Model for Tree {
-    ghost use Rattle.ft_tree.specs.Cells.{Cells, coded_cells};
+    ghost use Rattle.ft_cells.specs.Cells.{Cells, coded_cells};
 
     ghost Value = { Cells };
 

@@ -1,16 +1,16 @@
 -- What follows from edits of different cells being made.
 use Rattle.std.proofs.Common.{◌≡◌, List, [], map, sym, ap, subst, ◌∙◌}
 use Rattle.ft_laws.specs.Effects.{before}
-use Rattle.ft_tree.specs.Cells.{Cells}
-use Rattle.ft_calls.specs.declared.intent.Edit.{Edit}
+use Rattle.ft_cells.specs.Cells.{Cells}
+use Rattle.ft_posix.specs.declared.intent.Edit.{Edit}
 use Rattle.ft_undo.specs.declared.undo.Back.{Back}
-use Rattle.ft_calls.specs.Accesses.{written_cell}
-use Rattle.ft_calls.specs.Comes.{writes_of}
-use Rattle.ft_calls.specs.Posix.{posix}
-use Rattle.ft_calls.specs.Stored.{put_all}
-use Rattle.ft_calls.specs.Edits.{edit_cell, Apart, EditingLaw, edited, CanEditAll}
+use Rattle.ft_posix.specs.Accesses.{written_cell}
+use Rattle.ft_posix.specs.Comes.{writes_of}
+use Rattle.ft_posix.specs.Posix.{posix}
+use Rattle.ft_posix.specs.Stored.{put_all}
+use Rattle.ft_posix.specs.Edits.{edit_cell, Apart, EditingLaw, edited, CanEditAll}
 use Rattle.ft_undo.specs.Undone.{backs_of, given_back, CanGiveAllBack, AreAsLeft, restored, CanRestoreAll}
-use Rattle.ft_calls.specs.CellLaws.{SettingLaw, RestoringLaw}
+use Rattle.ft_posix.specs.CellLaws.{SettingLaw, RestoringLaw}
 use Rattle.ft_undo.proofs.Undoing.{left-edited, undo-before, give-all, as-left, written-edits, append-nil, IsUnderWay, under-way-back, under-way-same}
 
 module _ (editing : EditingLaw) (setting : SettingLaw) (old : Cells) (edits : List Edit) (apart : Apart edits) (new : Cells) (undo : List Back) (cells : new ≡ edited old edits) (backs : undo ≡ backs_of old edits) where

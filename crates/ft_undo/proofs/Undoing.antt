@@ -3,22 +3,22 @@ use Rattle.std.proofs.Common.{◌≡◌, ℕ, false, List, [], ◌∷◌, ◌++�
 use Rattle.std.specs.Option.{option_flatten, option_map}
 use Rattle.std.specs.FinMap.{get}
 use Rattle.std.proofs.lemmas.Bool.{false≢true}
-use Rattle.ft_tree.specs.declared.cell.Cell.{Cell}
-use Rattle.ft_tree.specs.declared.cell.Cell.TheVariants as cell
+use Rattle.ft_cells.specs.declared.cell.Cell.{Cell}
+use Rattle.ft_cells.specs.declared.cell.Cell.TheVariants as cell
 use Rattle.std.specs.Cmp.{eq_by_cmp_equiv}
-use Rattle.ft_tree.specs.CellOrder.{cell_cmp_total, same_cell}
-use Rattle.ft_tree.specs.Cells.{Cells, DirCells, FileCells, no_dir, no_file, entry_of, parent_of, links_of, bytes_of, open_of}
+use Rattle.ft_cells.specs.CellOrder.{cell_cmp_total, same_cell}
+use Rattle.ft_cells.specs.Cells.{Cells, DirCells, FileCells, no_dir, no_file, entry_of, parent_of, links_of, bytes_of, open_of}
 use Rattle.ft_tree.specs.Held.{Holds, held, place_at, IsStored}
-use Rattle.ft_calls.specs.declared.intent.Edit.{Edit}
-use Rattle.ft_calls.specs.declared.intent.Edit.TheVariants.{Entry, Parent, Links, Overwrite, Resize, Open}
-use Rattle.ft_calls.specs.Outcomes.{Write, sets}
-use Rattle.ft_calls.specs.Accesses.{written_cell}
-use Rattle.ft_calls.specs.Stored.{put}
-use Rattle.ft_calls.specs.Comes.{write_of, writes_of}
-use Rattle.ft_calls.specs.Edits.{edited, CanEdit, CanEditAll, edit_cell, IsOther, Apart, SameOn, EditingLaw}
+use Rattle.ft_posix.specs.declared.intent.Edit.{Edit}
+use Rattle.ft_posix.specs.declared.intent.Edit.TheVariants.{Entry, Parent, Links, Overwrite, Resize, Open}
+use Rattle.ft_posix.specs.Outcomes.{Write, sets}
+use Rattle.ft_posix.specs.Accesses.{written_cell}
+use Rattle.ft_posix.specs.Stored.{put}
+use Rattle.ft_posix.specs.Comes.{write_of, writes_of}
+use Rattle.ft_posix.specs.Edits.{edited, CanEdit, CanEditAll, edit_cell, IsOther, Apart, SameOn, EditingLaw}
 use Rattle.ft_laws.specs.Effects.{before}
-use Rattle.ft_calls.specs.Posix.{posix}
-use Rattle.ft_calls.specs.CellLaws.{SettingLaw, RestoringLaw}
+use Rattle.ft_posix.specs.Posix.{posix}
+use Rattle.ft_posix.specs.CellLaws.{SettingLaw, RestoringLaw}
 use Rattle.ft_undo.specs.declared.undo.Back.{Back}
 use Rattle.ft_undo.specs.declared.undo.Back.TheVariants as back
 use Rattle.ft_undo.specs.Undone.{back_of, backs_of, given_back, CanGiveBack, CanGiveAllBack, restore, restored, CanRestoreAll, IsLeft, AreAsLeft}

@@ -2,11 +2,11 @@
 use Rattle.std.specs.Prelude.{◌≡◌, ℕ, List, map}
 use Rattle.ft_base.specs.Chains.{Lists, list_in}
 use Rattle.ft_laws.specs.Effects.{before}
-use Rattle.ft_tree.specs.Cells.{Cells}
-use Rattle.ft_calls.specs.Outcomes.{Write}
-use Rattle.ft_calls.specs.Accesses.{written_cell}
-use Rattle.ft_calls.specs.Stored.{put_all}
-use Rattle.ft_calls.specs.Posix.{posix}
+use Rattle.ft_cells.specs.Cells.{Cells}
+use Rattle.ft_posix.specs.Outcomes.{Write}
+use Rattle.ft_posix.specs.Accesses.{written_cell}
+use Rattle.ft_posix.specs.Stored.{put_all}
+use Rattle.ft_posix.specs.Posix.{posix}
 use Rattle.ft_history.specs.Logs.{pushed}
 use Rattle.ft_undo.specs.declared.undo.Back.{Back}
 use Rattle.ft_undo.specs.declared.logs.Logged.{Logged}

@@ -3,16 +3,16 @@ use Rattle.std.specs.Prelude.{◌≡◌, List, [], ◌∷◌, None, Some, unwrap
 use Rattle.std.specs.Option.{option_flatten}
 use Rattle.ft_base.specs.declared.memory.Memory.{Memory}
 use Rattle.ft_body.specs.Bytes.{fitting, written, resized}
-use Rattle.ft_tree.specs.declared.cell.Cell.{Cell}
-use Rattle.ft_tree.specs.declared.cell.Cell.TheVariants as cell
-use Rattle.ft_tree.specs.Cells.{Cells, bytes_of, put_entry, put_parent, put_links, put_bytes, put_open, HasDirPlace, HasEntryPlace, HasFilePlace, HasOpenPlace}
+use Rattle.ft_cells.specs.declared.cell.Cell.{Cell}
+use Rattle.ft_cells.specs.declared.cell.Cell.TheVariants as cell
+use Rattle.ft_cells.specs.Cells.{Cells, bytes_of, put_entry, put_parent, put_links, put_bytes, put_open, HasDirPlace, HasEntryPlace, HasFilePlace, HasOpenPlace}
 use Rattle.ft_tree.specs.Held.{held, place_at, without_place, IsStored}
-use Rattle.ft_calls.specs.declared.intent.Edit.{Edit}
-use Rattle.ft_calls.specs.declared.intent.Edit.TheVariants.{Entry, Parent, Links, Overwrite, Resize, Open}
-use Rattle.ft_calls.specs.Outcomes.{Write, sets}
-use Rattle.ft_calls.specs.Stored.{put}
-use Rattle.ft_calls.specs.Comes.{write_of}
-use Rattle.ft_calls.specs.Edits.{edited}
+use Rattle.ft_posix.specs.declared.intent.Edit.{Edit}
+use Rattle.ft_posix.specs.declared.intent.Edit.TheVariants.{Entry, Parent, Links, Overwrite, Resize, Open}
+use Rattle.ft_posix.specs.Outcomes.{Write, sets}
+use Rattle.ft_posix.specs.Stored.{put}
+use Rattle.ft_posix.specs.Comes.{write_of}
+use Rattle.ft_posix.specs.Edits.{edited}
 use Rattle.ft_undo.specs.declared.undo.Back.{Back}
 use Rattle.ft_undo.specs.declared.undo.Back.TheVariants as back
 

@@ -1,19 +1,19 @@
 ghost use Rattle.std.specs.Prelude.{◌≡◌, ◌≢◌, ℕ, map, IfOk, OnOk, OnErr};
 ghost use Rattle.ft_laws.specs.Effects.{before};
-ghost use Rattle.ft_tree.specs.Cells.{Cells};
+ghost use Rattle.ft_cells.specs.Cells.{Cells};
 ghost use Rattle.ft_tree.specs.Sound.{AreSoundCells, IsFree};
 ghost use Rattle.ft_tree.specs.Tidy.{tidy};
-ghost use Rattle.ft_calls.specs.Exec.{exec};
-ghost use Rattle.ft_calls.specs.Stored.{outcome, after};
-ghost use Rattle.ft_calls.specs.Accesses.{written_cell};
-ghost use Rattle.ft_calls.specs.Perform.{OnlyTells};
-ghost use Rattle.ft_calls.specs.Posix.{posix};
+ghost use Rattle.ft_posix.specs.Exec.{exec};
+ghost use Rattle.ft_posix.specs.Stored.{outcome, after};
+ghost use Rattle.ft_posix.specs.Accesses.{written_cell};
+ghost use Rattle.ft_posix.specs.Perform.{OnlyTells};
+ghost use Rattle.ft_posix.specs.Posix.{posix};
 ghost use Rattle.ft_undo.specs.Undone.{given_back, CanGiveAllBack, AreAsLeft};
 
 use crate::undo::{Undo, apply};
 use ft_base::Memory;
-use ft_calls::laws::{freshness, soundness, telling, tidying};
 use ft_calls::{Call, Prepared, Reply, prepare};
+use ft_posix::laws::{freshness, soundness, telling, tidying};
 use ft_tree::Tree;
 use std::alloc::Global;
 

@@ -3,15 +3,15 @@ ghost use Rattle.std.specs.Prelude.{◌≡◌, ◌≢◌, [], true, false, Some,
 ghost use Rattle.std.specs.Option.{option_map};
 ghost use Rattle.ft_base.specs.Chains.{list_in};
 ghost use Rattle.ft_history.specs.Logs.{put, pushed, popped, handed};
-ghost use Rattle.ft_calls.specs.Comes.{writes_of};
-ghost use Rattle.ft_calls.specs.Edits.{CanEditAll, Apart};
+ghost use Rattle.ft_posix.specs.Comes.{writes_of};
+ghost use Rattle.ft_posix.specs.Edits.{CanEditAll, Apart};
 ghost use Rattle.ft_undo.specs.Logs.{is_open, newest_of, AreLists, AreOpen};
 ghost use Rattle.ft_undo.specs.Logged.{IsLogged};
 
 use crate::undo::Undo;
 use ft_base::{Chains, Memory};
 use ft_calls::Edits;
-use ft_calls::laws::{editing, restoring, setting};
+use ft_posix::laws::{editing, restoring, setting};
 use ft_tree::Tree;
 use std::alloc::{AllocFailed, Global};
 use std::marker::Model;

@@ -1,18 +1,18 @@
 // How the edits of a call are made, and taken back.
 ghost use Rattle.std.specs.Prelude.{◌≡◌, [], ◌∷◌, ◌++◌, map, IfOk, OnOk, OnErr};
-ghost use Rattle.ft_calls.specs.Stored.{put, put_all};
+ghost use Rattle.ft_posix.specs.Stored.{put, put_all};
 ghost use Rattle.ft_laws.specs.Effects.{before};
-ghost use Rattle.ft_tree.specs.Cells.{Cells};
-ghost use Rattle.ft_calls.specs.Accesses.{written_cell};
-ghost use Rattle.ft_calls.specs.Posix.{posix};
-ghost use Rattle.ft_calls.specs.Comes.{write_of, writes_of};
-ghost use Rattle.ft_calls.specs.Edits.{CanEdit, CanEditAll, Apart};
+ghost use Rattle.ft_cells.specs.Cells.{Cells};
+ghost use Rattle.ft_posix.specs.Accesses.{written_cell};
+ghost use Rattle.ft_posix.specs.Posix.{posix};
+ghost use Rattle.ft_posix.specs.Comes.{write_of, writes_of};
+ghost use Rattle.ft_posix.specs.Edits.{CanEdit, CanEditAll, Apart};
 ghost use Rattle.ft_undo.specs.Undone.{back_of, given_back, restore, restored, CanGiveBack, CanGiveAllBack, CanRestoreAll, AreAsLeft, IsApplied};
 
 use ft_base::{Few, Memory};
 use ft_body::BodyUndo;
-use ft_calls::laws::{editing, restoring, setting};
 use ft_calls::{Edit, Edits, Intent};
+use ft_posix::laws::{editing, restoring, setting};
 use ft_tree::{Cell, Entry, Node, OpenFile, Tree};
 use std::alloc::Global;
 use std::marker::Model;

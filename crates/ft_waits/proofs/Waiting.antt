@@ -4,7 +4,7 @@ use Rattle.std.specs.FinMap as finite
 use Rattle.std.specs.List.{flat_map}
 use Rattle.std.proofs.lemmas.List.Folds.{flat_map-map}
 use Rattle.ft_laws.specs.Lists.{In}
-use Rattle.ft_calls.specs.declared.call.Call.{Call}
+use Rattle.ft_posix.specs.declared.call.Call.{Call}
 use Rattle.ft_core.specs.States.{State}
 use Rattle.ft_core.specs.Reports.{AreLiveChildren, as_wait, blockers_now, waits}
 use Rattle.ft_core.specs.declared.reports.LiveChild.{LiveChild}

@@ -6,7 +6,7 @@ use Rattle.std.specs.declared.cmp.Ordering.{Ordering}
 use Rattle.std.specs.declared.cmp.Ordering.TheVariants.{Less}
 use Rattle.ft_laws.specs.Lists.{Pairs, In}
 use Rattle.ft_history.specs.History.Fate.{Live}
-use Rattle.ft_calls.specs.declared.call.Call.{Call}
+use Rattle.ft_posix.specs.declared.call.Call.{Call}
 use Rattle.ft_core.specs.States.{State, fate_of, live_children}
 use Rattle.ft_core.specs.Reports.{blockers_now}
 use Rattle.ft_waits.specs.declared.edge.Edge.{Edge}

@@ -4,7 +4,7 @@ use Rattle.std.proofs.lemmas.List.{at_drop_more}
 use Rattle.std.specs.Prelude.{option_map, option_and_then}
 use Rattle.std.specs.Option.{option_zip}
 use Rattle.std.specs.Str.{bytes_eq}
-use Rattle.ft_calls.specs.declared.call.Call.{Call}
+use Rattle.ft_posix.specs.declared.call.Call.{Call}
 use Rattle.ft_words.specs.declared.verbs.Verb.{Verb}
 use Rattle.ft_words.specs.declared.verbs.TheConstants.{VERBS, DESCRIPTOR_VERBS}
 use Rattle.ft_words.specs.Calls.{look_up, both, three, call_of, read_by, descriptor_calls}

@@ -1,11 +1,11 @@
 -- The text of a call: its name and its arguments, as a line of words has them. An empty last word is left out with the space before it.
 use Rattle.std.specs.Prelude.{ℕ, Bool, List, ◌++◌, codes}
 use Rattle.std.specs.Fmt.{decimal, signed_decimal}
-use Rattle.ft_tree.specs.declared.open_file.AccessMode.{AccessMode}
-use Rattle.ft_calls.specs.declared.call.Call.{Call}
-use Rattle.ft_calls.specs.declared.call.Call.TheVariants as calls
-use Rattle.ft_calls.specs.declared.call.Whence.{Whence}
-use Rattle.ft_calls.specs.declared.call.Whence.TheVariants.{Set, Cur, End}
+use Rattle.ft_cells.specs.declared.open_file.AccessMode.{AccessMode}
+use Rattle.ft_posix.specs.declared.call.Call.{Call}
+use Rattle.ft_posix.specs.declared.call.Call.TheVariants as calls
+use Rattle.ft_posix.specs.declared.call.Whence.{Whence}
+use Rattle.ft_posix.specs.declared.call.Whence.TheVariants.{Set, Cur, End}
 use Rattle.ft_words.specs.Texts.{access_text, coded, data_text, flag_text}
 
 -- how a file is to be opened: `r`, `w` or `rw`, and a letter for each flag

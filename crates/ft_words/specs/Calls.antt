@@ -1,13 +1,13 @@
 -- The calls: their names, and how their arguments are written. Each table has words, and what they ask for.
 use Rattle.std.specs.Prelude.{◌≡◌, ℕ, Bool, true, false, ◌==◌, List, [], ◌∷◌, ◌++◌, codes, if◌then◌else◌, Option, None, Some, option_and_then, option_map, Result, Ok, Err}
 use Rattle.std.specs.Str.{bytes_eq}
-use Rattle.ft_tree.specs.declared.open_file.AccessMode.{AccessMode}
-use Rattle.ft_tree.specs.declared.open_file.AccessMode.TheVariants.{ReadOnly, WriteOnly, ReadWrite}
-use Rattle.ft_calls.specs.declared.call.Call.{Call}
-use Rattle.ft_calls.specs.declared.call.Call.TheVariants as calls
-use Rattle.ft_calls.specs.declared.call.OpenFlags.{OpenFlags}
-use Rattle.ft_calls.specs.declared.call.Whence.{Whence}
-use Rattle.ft_calls.specs.declared.call.Whence.TheVariants.{Set, Cur, End}
+use Rattle.ft_cells.specs.declared.open_file.AccessMode.{AccessMode}
+use Rattle.ft_cells.specs.declared.open_file.AccessMode.TheVariants.{ReadOnly, WriteOnly, ReadWrite}
+use Rattle.ft_posix.specs.declared.call.Call.{Call}
+use Rattle.ft_posix.specs.declared.call.Call.TheVariants as calls
+use Rattle.ft_posix.specs.declared.call.OpenFlags.{OpenFlags}
+use Rattle.ft_posix.specs.declared.call.Whence.{Whence}
+use Rattle.ft_posix.specs.declared.call.Whence.TheVariants.{Set, Cur, End}
 use Rattle.ft_words.specs.declared.unread.Unread.{Unread}
 use Rattle.ft_words.specs.declared.unread.Unread.TheVariants.{Misspelt, NoMemory}
 use Rattle.ft_words.specs.Spelling.{number_of, integer_of, path_of, data_of}

@@ -4,14 +4,14 @@ use Rattle.std.specs.Fmt.{decimal}
 use Rattle.std.specs.List.{flat_map}
 use Rattle.percent_encoding.specs.Percent.{percent_encode_byte}
 use Rattle.ft_path.specs.Errno.{errno_name}
-use Rattle.ft_tree.specs.declared.node.Kind.{Kind}
-use Rattle.ft_tree.specs.declared.node.Kind.TheVariants.{Dir, File}
-use Rattle.ft_tree.specs.declared.open_file.AccessMode.{AccessMode}
-use Rattle.ft_tree.specs.declared.open_file.AccessMode.TheVariants.{ReadOnly, WriteOnly, ReadWrite}
-use Rattle.ft_tree.specs.declared.row.TreeRow.{TreeRow}
-use Rattle.ft_tree.specs.declared.row.TreeRow.TheVariants as rows
-use Rattle.ft_calls.specs.declared.call.Reply.{Reply}
-use Rattle.ft_calls.specs.declared.call.Reply.TheVariants.{Done, Names, Number, Bytes, Info, Failed}
+use Rattle.ft_cells.specs.declared.node.Kind.{Kind}
+use Rattle.ft_cells.specs.declared.node.Kind.TheVariants.{Dir, File}
+use Rattle.ft_cells.specs.declared.open_file.AccessMode.{AccessMode}
+use Rattle.ft_cells.specs.declared.open_file.AccessMode.TheVariants.{ReadOnly, WriteOnly, ReadWrite}
+use Rattle.ft_cells.specs.declared.row.TreeRow.{TreeRow}
+use Rattle.ft_cells.specs.declared.row.TreeRow.TheVariants as rows
+use Rattle.ft_posix.specs.declared.call.Reply.{Reply}
+use Rattle.ft_posix.specs.declared.call.Reply.TheVariants.{Done, Names, Number, Bytes, Info, Failed}
 
 -- The bytes 0 to 32, `%`, and those from 127 on are printed as `%` and two upper-case hexadecimal digits.
 abbrev pub is_coded : ℕ → Bool

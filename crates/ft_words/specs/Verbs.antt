@@ -1,7 +1,7 @@
 -- What calls are named after.
 use Rattle.std.specs.Prelude.{ℕ, List, map, codes, Option, option_map}
-use Rattle.ft_calls.specs.declared.call.Call.{Call}
-use Rattle.ft_calls.specs.declared.call.Call.TheVariants as calls
+use Rattle.ft_posix.specs.declared.call.Call.{Call}
+use Rattle.ft_posix.specs.declared.call.Call.TheVariants as calls
 use Rattle.ft_words.specs.declared.verbs.Verb.{Verb}
 use Rattle.ft_words.specs.declared.verbs.Verb.TheVariants.{OnPath, Open, Truncate, OnPaths, OnDescriptor}
 use Rattle.ft_words.specs.declared.verbs.PathVerb.{PathVerb}

@@ -1,7 +1,7 @@
 use Rattle.std.proofs.Common.{refl, []}
-use Rattle.ft_calls.specs.Descriptors.{any_open, fstat_open}
-use Rattle.ft_calls.specs.Intended.{intended}
-use Rattle.ft_calls.proofs.Looking.{comes_open}
+use Rattle.ft_posix.specs.Descriptors.{any_open, fstat_open}
+use Rattle.ft_posix.specs.Intended.{intended}
+use Rattle.ft_posix.proofs.Looking.{comes_open}
 use Rattle.ft_calls.proofs.descriptors.fstat.Goals as goal
 
 pub returns-in-Some : goal.returns-in-Some

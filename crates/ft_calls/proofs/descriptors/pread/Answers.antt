@@ -1,10 +1,10 @@
 use Rattle.std.proofs.Common.{subst, rules, []}
 use Rattle.std.proofs.lemmas.Int.{to_z-of_z}
 use mir.Syntax.{w64}
-use Rattle.ft_calls.specs.Comes.{Comes}
-use Rattle.ft_calls.specs.Intended.{intended}
-use Rattle.ft_calls.specs.Descriptors.{is_readable, pread_open}
-use Rattle.ft_calls.proofs.Looking.{comes_open}
+use Rattle.ft_posix.specs.Comes.{Comes}
+use Rattle.ft_posix.specs.Intended.{intended}
+use Rattle.ft_posix.specs.Descriptors.{is_readable, pread_open}
+use Rattle.ft_posix.proofs.Looking.{comes_open}
 use Rattle.ft_calls.proofs.descriptors.pread.Goals as goal
 
 pub returns-in-Some : goal.returns-in-Some

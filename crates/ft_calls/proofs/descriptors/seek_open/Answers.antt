@@ -1,12 +1,12 @@
 use Rattle.std.proofs.Common.{ℕ, subst, rules}
 use Rattle.std.proofs.lemmas.Int.{to_z-of_z}
 use mir.Syntax.{w64}
-use Rattle.ft_calls.specs.Comes.{Comes}
-use Rattle.ft_calls.specs.Intended.{intended}
-use Rattle.ft_tree.specs.Looks.{Looks, Answer}
-use Rattle.ft_calls.specs.Outcomes.{Outcome}
-use Rattle.ft_calls.specs.Descriptors.{seek_from, moved, sought}
-use Rattle.ft_calls.proofs.Looking.{finds_then}
+use Rattle.ft_posix.specs.Comes.{Comes}
+use Rattle.ft_posix.specs.Intended.{intended}
+use Rattle.ft_cells.specs.Looks.{Looks, Answer}
+use Rattle.ft_posix.specs.Outcomes.{Outcome}
+use Rattle.ft_posix.specs.Descriptors.{seek_from, moved, sought}
+use Rattle.ft_posix.proofs.Looking.{finds_then}
 use Rattle.ft_calls.proofs.descriptors.seek_open.Goals as goal
 
 pub returns : goal.returns

@@ -1,13 +1,13 @@
 use Rattle.std.proofs.Common.{◌≡◌, ℕ, List, [], ◌∷◌, Result, refl, rules}
-use Rattle.ft_tree.specs.declared.open_file.OpenFile.{OpenFile}
-use Rattle.ft_tree.specs.Looks.{then}
-use Rattle.ft_calls.specs.declared.intent.Intent.{Intent}
-use Rattle.ft_calls.specs.declared.intent.Stop.{Stop}
-use Rattle.ft_calls.specs.Descriptors.{write_place, write_at, write_open}
-use Rattle.ft_calls.specs.Looking.{Looking}
-use Rattle.ft_calls.specs.Comes.{Comes}
-use Rattle.ft_calls.specs.Intended.{intended}
-use Rattle.ft_calls.proofs.Looking.{finds_then}
+use Rattle.ft_cells.specs.declared.open_file.OpenFile.{OpenFile}
+use Rattle.ft_cells.specs.Looks.{then}
+use Rattle.ft_posix.specs.declared.intent.Intent.{Intent}
+use Rattle.ft_posix.specs.declared.intent.Stop.{Stop}
+use Rattle.ft_posix.specs.Descriptors.{write_place, write_at, write_open}
+use Rattle.ft_posix.specs.Looking.{Looking}
+use Rattle.ft_posix.specs.Comes.{Comes}
+use Rattle.ft_posix.specs.Intended.{intended}
+use Rattle.ft_posix.proofs.Looking.{finds_then}
 use Rattle.ft_calls.proofs.descriptors.write_open.Goals as goal
 
 -- bytes that are some are written

@@ -1,8 +1,8 @@
 use Rattle.std.proofs.lemmas.Result.{err_from_is_err_and}
 use Rattle.ft_path.specs.FilePath.{parts_of}
-use Rattle.ft_calls.specs.Dirs.{make_dir}
-use Rattle.ft_calls.specs.Intended.{intended}
-use Rattle.ft_calls.proofs.Looking.{comes_lost, comes_on}
+use Rattle.ft_posix.specs.Dirs.{make_dir}
+use Rattle.ft_posix.specs.Intended.{intended}
+use Rattle.ft_posix.proofs.Looking.{comes_lost, comes_on}
 use Rattle.ft_calls.proofs.dirs.mkdir.Goals as goal
 
 pub returns-in_err-spot : goal.returns-in_err-spot

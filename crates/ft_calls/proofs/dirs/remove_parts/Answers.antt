@@ -1,9 +1,9 @@
 use Rattle.std.proofs.Common.{◌≡◌, None, Ok, Err, refl, rules}
 use Rattle.std.proofs.lemmas.Result.{err_from_is_err_and}
-use Rattle.ft_calls.specs.Dirs.{remove_dir, last_fault}
-use Rattle.ft_calls.specs.Outcomes.{from_parts}
-use Rattle.ft_calls.specs.Intended.{intended}
-use Rattle.ft_calls.proofs.Looking.{comes_lost, comes_on, comes_past}
+use Rattle.ft_posix.specs.Dirs.{remove_dir, last_fault}
+use Rattle.ft_posix.specs.Outcomes.{from_parts}
+use Rattle.ft_posix.specs.Intended.{intended}
+use Rattle.ft_posix.proofs.Looking.{comes_lost, comes_on, comes_past}
 use Rattle.ft_calls.proofs.dirs.remove_parts.Goals as goal
 use Rattle.ft_path.specs.FilePath.{last_of}
 

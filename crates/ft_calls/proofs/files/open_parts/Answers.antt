@@ -1,14 +1,14 @@
 use Rattle.std.proofs.Common.{◌≡◌, false, Ok, Err, refl, rules}
 use Rattle.std.proofs.lemmas.Result.{err_from_is_err_and}
 use Rattle.std.specs.Prelude.{◌&&◌, not}
-use Rattle.ft_tree.specs.Modes.{can_write}
-use Rattle.ft_tree.specs.Looks.{Looks, Answer}
+use Rattle.ft_cells.specs.Modes.{can_write}
+use Rattle.ft_cells.specs.Looks.{Looks, Answer}
 use Rattle.ft_tree.specs.Walk.{Spot}
-use Rattle.ft_calls.specs.Outcomes.{Outcome, from_parts}
-use Rattle.ft_calls.specs.Files.{open_spot}
+use Rattle.ft_posix.specs.Outcomes.{Outcome, from_parts}
+use Rattle.ft_posix.specs.Files.{open_spot}
 use Rattle.ft_path.specs.declared.errno.Errno.TheVariants.{EINVAL}
-use Rattle.ft_calls.specs.Intended.{intended}
-use Rattle.ft_calls.proofs.Looking.{comes_lost, comes_on, comes_clear}
+use Rattle.ft_posix.specs.Intended.{intended}
+use Rattle.ft_posix.proofs.Looking.{comes_lost, comes_on, comes_clear}
 use Rattle.ft_calls.proofs.files.open_parts.Goals as goal
 
 pub returns-in_err-spot : goal.returns-in_err-spot

@@ -1,8 +1,8 @@
 use Rattle.std.proofs.Common.{Ok}
 use Rattle.ft_path.specs.FilePath.{parts_of}
-use Rattle.ft_calls.specs.Links.{link_parts}
-use Rattle.ft_calls.specs.Intended.{intended}
-use Rattle.ft_calls.proofs.Looking.{comes_text}
+use Rattle.ft_posix.specs.Links.{link_parts}
+use Rattle.ft_posix.specs.Intended.{intended}
+use Rattle.ft_posix.proofs.Looking.{comes_text}
 use Rattle.ft_calls.proofs.links.link.Goals as goal
 
 pub returns : goal.returns

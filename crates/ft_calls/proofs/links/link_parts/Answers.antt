@@ -1,8 +1,8 @@
 use Rattle.std.proofs.Common.{Ok, refl}
 use Rattle.std.proofs.lemmas.Result.{err_from_is_err_and}
-use Rattle.ft_calls.specs.Links.{link_old}
-use Rattle.ft_calls.specs.Intended.{intended}
-use Rattle.ft_calls.proofs.Looking.{comes_lost, comes_on}
+use Rattle.ft_posix.specs.Links.{link_old}
+use Rattle.ft_posix.specs.Intended.{intended}
+use Rattle.ft_posix.proofs.Looking.{comes_lost, comes_on}
 use Rattle.ft_calls.proofs.links.link_parts.Goals as goal
 
 pub returns-in_err-spot : goal.returns-in_err-spot

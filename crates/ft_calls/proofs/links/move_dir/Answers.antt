@@ -1,11 +1,11 @@
 use Rattle.std.proofs.Common.{[], Ok, refl}
-use Rattle.ft_tree.specs.Entries.{entry_in}
-use Rattle.ft_tree.specs.declared.node.Node.TheVariants.{Dir as DirNode}
-use Rattle.ft_tree.specs.Cells.{stored_dirs}
-use Rattle.ft_tree.specs.Looks.{Answer}
-use Rattle.ft_calls.specs.Links.{renamed, with_parent}
-use Rattle.ft_calls.proofs.Looking.{comes_met, comes_unmet}
-use Rattle.ft_calls.proofs.Moving.{comes-more, done}
+use Rattle.ft_cells.specs.Entries.{entry_in}
+use Rattle.ft_cells.specs.declared.node.Node.TheVariants.{Dir as DirNode}
+use Rattle.ft_cells.specs.Cells.{stored_dirs}
+use Rattle.ft_cells.specs.Looks.{Answer}
+use Rattle.ft_posix.specs.Links.{renamed, with_parent}
+use Rattle.ft_posix.proofs.Looking.{comes_met, comes_unmet}
+use Rattle.ft_posix.proofs.Moving.{comes-more, done}
 use Rattle.ft_calls.proofs.links.move_dir.Goals as goal
 
 pub returns-then-branch : goal.returns-then-branch

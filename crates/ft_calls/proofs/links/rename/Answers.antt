@@ -1,9 +1,9 @@
 use Rattle.std.proofs.Common.{Ok}
 use Rattle.ft_path.specs.FilePath.{parts_of}
-use Rattle.ft_tree.specs.Cells.{stored_dirs}
-use Rattle.ft_calls.specs.Links.{rename_parts}
-use Rattle.ft_calls.specs.Intended.{intended}
-use Rattle.ft_calls.proofs.Looking.{comes_text}
+use Rattle.ft_cells.specs.Cells.{stored_dirs}
+use Rattle.ft_posix.specs.Links.{rename_parts}
+use Rattle.ft_posix.specs.Intended.{intended}
+use Rattle.ft_posix.proofs.Looking.{comes_text}
 use Rattle.ft_calls.proofs.links.rename.Goals as goal
 
 pub returns : goal.returns

@@ -1,13 +1,13 @@
 use Rattle.std.proofs.Common.{Ok, refl, ap, subst}
 use Rattle.std.proofs.lemmas.Result.{err_from_is_err_and}
-use Rattle.ft_tree.specs.Entries.{entry_in}
-use Rattle.ft_tree.specs.Cells.{stored_dirs}
-use Rattle.ft_calls.specs.Links.{rename_dir}
+use Rattle.ft_cells.specs.Entries.{entry_in}
+use Rattle.ft_cells.specs.Cells.{stored_dirs}
+use Rattle.ft_posix.specs.Links.{rename_dir}
 use Rattle.ft_tree.specs.Walk.{seen_at}
-use Rattle.ft_calls.specs.Looking.{Looking}
-use Rattle.ft_calls.specs.Comes.{Comes}
-use Rattle.ft_calls.specs.Intended.{intended}
-use Rattle.ft_calls.proofs.Looking.{comes_lost, comes_on}
+use Rattle.ft_posix.specs.Looking.{Looking}
+use Rattle.ft_posix.specs.Comes.{Comes}
+use Rattle.ft_posix.specs.Intended.{intended}
+use Rattle.ft_posix.proofs.Looking.{comes_lost, comes_on}
 use Rattle.ft_calls.proofs.links.rename_dir_to.Goals as goal
 
 pub returns-in_err-spot : goal.returns-in_err-spot

@@ -1,17 +1,17 @@
 use Rattle.std.proofs.Common.{◌≡◌, ℕ, Bool, false, [], None, Result, Ok, cond, refl, sym, subst, rules}
 use Rattle.ft_path.specs.declared.errno.Errno.TheVariants.{ENOTDIR}
-use Rattle.ft_tree.specs.declared.entry.Entry.{Entry as DirEntry}
-use Rattle.ft_tree.specs.Entries.{entry_in}
-use Rattle.ft_tree.specs.declared.node.Node.TheVariants.{File as FileNode}
-use Rattle.ft_tree.specs.Looks.{Answer}
+use Rattle.ft_cells.specs.declared.entry.Entry.{Entry as DirEntry}
+use Rattle.ft_cells.specs.Entries.{entry_in}
+use Rattle.ft_cells.specs.declared.node.Node.TheVariants.{File as FileNode}
+use Rattle.ft_cells.specs.Looks.{Answer}
 use Rattle.ft_tree.specs.Walk.{Spot, Named, seen_at}
-use Rattle.ft_calls.specs.declared.intent.Intent.{Intent}
-use Rattle.ft_calls.specs.declared.intent.Stop.{Stop}
-use Rattle.ft_calls.specs.Outcomes.{failed}
-use Rattle.ft_calls.specs.Links.{renamed, rename_file}
-use Rattle.ft_calls.specs.Looking.{Looking}
-use Rattle.ft_calls.specs.Comes.{Comes}
-use Rattle.ft_calls.proofs.Moving.{done}
+use Rattle.ft_posix.specs.declared.intent.Intent.{Intent}
+use Rattle.ft_posix.specs.declared.intent.Stop.{Stop}
+use Rattle.ft_posix.specs.Outcomes.{failed}
+use Rattle.ft_posix.specs.Links.{renamed, rename_file}
+use Rattle.ft_posix.specs.Looking.{Looking}
+use Rattle.ft_posix.specs.Comes.{Comes}
+use Rattle.ft_posix.proofs.Moving.{done}
 use Rattle.ft_calls.proofs.links.rename_file.Goals as goal
 
 -- the new name is not there

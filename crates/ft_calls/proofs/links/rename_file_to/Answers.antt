@@ -1,9 +1,9 @@
-use Rattle.ft_tree.specs.Entries.{entry_in}
+use Rattle.ft_cells.specs.Entries.{entry_in}
 use Rattle.std.proofs.Common.{Ok, refl}
 use Rattle.std.proofs.lemmas.Result.{err_from_is_err_and}
-use Rattle.ft_calls.specs.Links.{rename_file}
-use Rattle.ft_calls.specs.Intended.{intended}
-use Rattle.ft_calls.proofs.Looking.{comes_lost, comes_on}
+use Rattle.ft_posix.specs.Links.{rename_file}
+use Rattle.ft_posix.specs.Intended.{intended}
+use Rattle.ft_posix.proofs.Looking.{comes_lost, comes_on}
 use Rattle.ft_calls.proofs.links.rename_file_to.Goals as goal
 
 pub returns-in_err-spot : goal.returns-in_err-spot

@@ -1,14 +1,14 @@
 use Rattle.std.proofs.Common.{◌≡◌, None, Ok, Err, refl, ap, subst, rules}
 use Rattle.std.proofs.lemmas.Result.{err_from_is_err_and}
-use Rattle.ft_tree.specs.Cells.{stored_dirs}
+use Rattle.ft_cells.specs.Cells.{stored_dirs}
 use Rattle.ft_tree.specs.Walk.{seen_at}
-use Rattle.ft_calls.specs.Outcomes.{from_parts}
+use Rattle.ft_posix.specs.Outcomes.{from_parts}
 use Rattle.ft_path.specs.FilePath.{last_of}
-use Rattle.ft_calls.specs.Links.{rename_fault, rename_old}
-use Rattle.ft_calls.specs.Looking.{Looking}
-use Rattle.ft_calls.specs.Comes.{Comes}
-use Rattle.ft_calls.specs.Intended.{intended}
-use Rattle.ft_calls.proofs.Looking.{comes_lost, comes_on, comes_past}
+use Rattle.ft_posix.specs.Links.{rename_fault, rename_old}
+use Rattle.ft_posix.specs.Looking.{Looking}
+use Rattle.ft_posix.specs.Comes.{Comes}
+use Rattle.ft_posix.specs.Intended.{intended}
+use Rattle.ft_posix.proofs.Looking.{comes_lost, comes_on, comes_past}
 use Rattle.ft_calls.proofs.links.rename_parts.Goals as goal
 
 pub returns-in_err-spot : goal.returns-in_err-spot

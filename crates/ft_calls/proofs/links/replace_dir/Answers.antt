@@ -1,8 +1,8 @@
-use Rattle.ft_tree.specs.Entries.{entry_in}
-use Rattle.ft_tree.specs.Cells.{stored_dirs}
-use Rattle.ft_calls.specs.Links.{replace_dir}
-use Rattle.ft_calls.specs.Intended.{intended}
-use Rattle.ft_calls.proofs.Looking.{comes_met, comes_unmet}
+use Rattle.ft_cells.specs.Entries.{entry_in}
+use Rattle.ft_cells.specs.Cells.{stored_dirs}
+use Rattle.ft_posix.specs.Links.{replace_dir}
+use Rattle.ft_posix.specs.Intended.{intended}
+use Rattle.ft_posix.proofs.Looking.{comes_met, comes_unmet}
 use Rattle.ft_calls.proofs.links.replace_dir.Goals as goal
 
 pub returns-then-branch : goal.returns-then-branch

@@ -1,14 +1,14 @@
 use Rattle.std.proofs.Common.{◌≡◌, true, None, [], ◌∷◌, ◌++◌, sym, ap, ◌∙◌, rules}
-use Rattle.ft_tree.specs.Entries.{entry_in}
-use Rattle.ft_tree.specs.declared.node.Node.TheVariants.{Dir as DirNode}
-use Rattle.ft_tree.specs.Cells.{names_of}
-use Rattle.ft_tree.specs.declared.cell.Cell.TheVariants as cell
-use Rattle.ft_calls.specs.Outcomes.{sets}
-use Rattle.ft_calls.specs.Links.{renamed, with_parent}
-use Rattle.ft_calls.specs.declared.intent.Edit.TheVariants.{Parent}
-use Rattle.ft_calls.specs.Comes.{writes_of}
-use Rattle.ft_calls.specs.Looking.{is_none_of}
-use Rattle.ft_calls.proofs.Moving.{comes-more, writes_of-append, bare-replaced}
+use Rattle.ft_cells.specs.Entries.{entry_in}
+use Rattle.ft_cells.specs.declared.node.Node.TheVariants.{Dir as DirNode}
+use Rattle.ft_cells.specs.Cells.{names_of}
+use Rattle.ft_cells.specs.declared.cell.Cell.TheVariants as cell
+use Rattle.ft_posix.specs.Outcomes.{sets}
+use Rattle.ft_posix.specs.Links.{renamed, with_parent}
+use Rattle.ft_posix.specs.declared.intent.Edit.TheVariants.{Parent}
+use Rattle.ft_posix.specs.Comes.{writes_of}
+use Rattle.ft_posix.specs.Looking.{is_none_of}
+use Rattle.ft_posix.proofs.Moving.{comes-more, writes_of-append, bare-replaced}
 use Rattle.ft_calls.proofs.links.replace_empty.Goals as goal
 
 pub returns : goal.returns

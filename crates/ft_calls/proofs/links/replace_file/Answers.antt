@@ -1,13 +1,13 @@
 use Rattle.std.proofs.Common.{◌≡◌, ◌-◌, ℕ, [], ◌∷◌, ◌++◌, ap, ◌∙◌, rules}
-use Rattle.ft_tree.specs.Entries.{entry_in}
-use Rattle.ft_tree.specs.declared.cell.Cell.TheVariants as cell
-use Rattle.ft_tree.specs.declared.node.Node.TheVariants.{File as FileNode}
-use Rattle.ft_tree.specs.Cells.{links_of}
-use Rattle.ft_calls.specs.Outcomes.{sets}
-use Rattle.ft_calls.specs.Links.{renamed}
-use Rattle.ft_calls.specs.declared.intent.Edit.TheVariants.{Links}
-use Rattle.ft_calls.specs.Comes.{writes_of}
-use Rattle.ft_calls.proofs.Moving.{comes-more, writes_of-append}
+use Rattle.ft_cells.specs.Entries.{entry_in}
+use Rattle.ft_cells.specs.declared.cell.Cell.TheVariants as cell
+use Rattle.ft_cells.specs.declared.node.Node.TheVariants.{File as FileNode}
+use Rattle.ft_cells.specs.Cells.{links_of}
+use Rattle.ft_posix.specs.Outcomes.{sets}
+use Rattle.ft_posix.specs.Links.{renamed}
+use Rattle.ft_posix.specs.declared.intent.Edit.TheVariants.{Links}
+use Rattle.ft_posix.specs.Comes.{writes_of}
+use Rattle.ft_posix.proofs.Moving.{comes-more, writes_of-append}
 use Rattle.ft_calls.proofs.links.replace_file.Goals as goal
 
 pub returns : goal.returns

@@ -1,9 +1,9 @@
 use Rattle.std.proofs.Common.{◌≡◌, subst, ◌∙◌}
-use Rattle.ft_calls.specs.Stored.{outcome}
-use Rattle.ft_calls.specs.Looking.{Looking}
-use Rattle.ft_calls.specs.Comes.{outcome_of}
-use Rattle.ft_calls.proofs.Applying.{edits-are-apart, edits-have-places}
-use Rattle.ft_calls.proofs.Noting.{accesses-noted}
+use Rattle.ft_posix.specs.Stored.{outcome}
+use Rattle.ft_posix.specs.Looking.{Looking}
+use Rattle.ft_posix.specs.Comes.{outcome_of}
+use Rattle.ft_posix.proofs.Applying.{edits-are-apart, edits-have-places}
+use Rattle.ft_posix.proofs.Noting.{accesses-noted}
 use Rattle.ft_calls.proofs.preparing.prepare.Goals as goal
 
 pub returns-clause-accesses : goal.returns-clause-accesses

@@ -2,19 +2,19 @@ use Rattle.std.proofs.Common.{◌≡◌, ℕ, ℤ, List, [], Result, sym, ap, su
 use Rattle.std.proofs.lemmas.Int.{to_z-of_z}
 use mir.Val.{SFits, of_z, to_z}
 use mir.Syntax.{w64}
-use Rattle.ft_tree.specs.Cells.{stored_dirs}
-use Rattle.ft_tree.specs.Looks.{Looks}
-use Rattle.ft_calls.specs.Outcomes.{Outcome}
-use Rattle.ft_calls.specs.declared.call.Call.{Call}
-use Rattle.ft_calls.specs.declared.call.Call.TheVariants.{Write, Pread, Pwrite, Lseek, Ftruncate}
-use Rattle.ft_calls.specs.declared.intent.Edit.{Edit}
-use Rattle.ft_calls.specs.declared.intent.Told.{Told}
-use Rattle.ft_calls.specs.declared.intent.Intent.{Intent}
-use Rattle.ft_calls.specs.declared.intent.Stop.{Stop}
-use Rattle.ft_calls.specs.Steps.{steps}
-use Rattle.ft_calls.specs.Looking.{Looking}
-use Rattle.ft_calls.specs.Comes.{Comes}
-use Rattle.ft_calls.specs.Intended.{intended}
+use Rattle.ft_cells.specs.Cells.{stored_dirs}
+use Rattle.ft_cells.specs.Looks.{Looks}
+use Rattle.ft_posix.specs.Outcomes.{Outcome}
+use Rattle.ft_posix.specs.declared.call.Call.{Call}
+use Rattle.ft_posix.specs.declared.call.Call.TheVariants.{Write, Pread, Pwrite, Lseek, Ftruncate}
+use Rattle.ft_posix.specs.declared.intent.Edit.{Edit}
+use Rattle.ft_posix.specs.declared.intent.Told.{Told}
+use Rattle.ft_posix.specs.declared.intent.Intent.{Intent}
+use Rattle.ft_posix.specs.declared.intent.Stop.{Stop}
+use Rattle.ft_posix.specs.Steps.{steps}
+use Rattle.ft_posix.specs.Looking.{Looking}
+use Rattle.ft_posix.specs.Comes.{Comes}
+use Rattle.ft_posix.specs.Intended.{intended}
 use Rattle.ft_calls.proofs.preparing.tell.Goals as goal
 
 -- what the call comes to that the pattern names

@@ -3,7 +3,7 @@ use Rattle.std.specs.Prelude.{slice_range}
 use Rattle.std.proofs.lemmas.List.{take_all, length-drop}
 use Rattle.ft_base.specs.Chains.{list_in}
 use Rattle.ft_history.specs.Logs.{pushed}
-use Rattle.ft_locks.specs.Locks.{AreGranted}
+use Rattle.ft_moss.specs.Locks.{AreGranted}
 use Rattle.ft_undo.specs.Logs.{AreLists}
 use Rattle.ft_core.specs.declared.asking.Asker.{Asker}
 use Rattle.ft_core.proofs.Surveys.{granted-rest, on-ok}

@@ -1,6 +1,6 @@
 use denote.Param.Send.{sendable}
 use Rattle.std.proofs.Crossing.{crosses}
-use Rattle.ft_calls.proofs.call.Call.TheSendSync as call
+use Rattle.ft_posix.proofs.call.Call.TheSendSync as call
 use Rattle.ft_shared.proofs.Crossing.{Shared-sync}
 use Rattle.ft_job_tests.proofs.of_shared.wait_and_commit.Goals as goal
 

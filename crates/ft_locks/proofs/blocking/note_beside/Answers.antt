@@ -1,9 +1,9 @@
 use Rattle.std.proofs.Common.{◌&&◌, ◌||◌, not, ap, sym, ◌∙◌}
 use Rattle.std.specs.FinMap as finite
-use Rattle.ft_tree.specs.declared.cell.Cell.TheVariants.{Names}
+use Rattle.ft_cells.specs.declared.cell.Cell.TheVariants.{Names}
 use Rattle.ft_forest.specs.Transactions.{over_in}
-use Rattle.ft_locks.specs.Cells.{Cells}
-use Rattle.ft_locks.specs.Blocking.{beside}
+use Rattle.ft_moss.specs.Cells.{Cells}
+use Rattle.ft_moss.specs.Blocking.{beside}
 use Rattle.ft_locks.proofs.Nameless.{none_beside}
 use Rattle.ft_locks.proofs.blocking.note_beside.Goals as goal
 

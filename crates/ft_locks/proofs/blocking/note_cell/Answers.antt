@@ -1,8 +1,8 @@
 use Rattle.std.proofs.Common.{not, ◌&&◌, ◌||◌, ap, ◌∙◌}
 use Rattle.std.specs.FinMap as finite
 use Rattle.ft_forest.specs.Transactions.{over_in}
-use Rattle.ft_locks.specs.Blocking.{is_holder_in_way}
-use Rattle.ft_locks.proofs.Cases.{ok_then}
+use Rattle.ft_moss.specs.Blocking.{is_holder_in_way}
+use Rattle.ft_moss.proofs.Cases.{ok_then}
 use Rattle.ft_locks.proofs.blocking.note_cell.Goals as goal
 
 pub returns : goal.returns

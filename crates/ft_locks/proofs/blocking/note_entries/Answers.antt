@@ -2,8 +2,8 @@ use Rattle.std.proofs.Common.{not, ◌&&◌, ◌||◌, ap, take_all, get_or, ◌
 use Rattle.std.specs.List.{list_any}
 use Rattle.std.specs.FinMap as finite
 use Rattle.ft_forest.specs.Transactions.{over_in}
-use Rattle.ft_locks.specs.Blocking.{is_holder_in_way}
-use Rattle.ft_locks.proofs.InTheWay.{way_under, noted_more, noted_none, noted_all}
+use Rattle.ft_moss.specs.Blocking.{is_holder_in_way}
+use Rattle.ft_moss.proofs.InTheWay.{way_under, noted_more, noted_none, noted_all}
 use Rattle.ft_locks.proofs.blocking.note_entries.Goals as goal
 
 pub returns-in_default : goal.returns-in_default

@@ -2,7 +2,7 @@ use Rattle.std.proofs.Common.{◌≡◌, ◌&&◌, ◌||◌, not, ℕ, take}
 use Rattle.std.specs.List.{list_any}
 use Rattle.std.specs.FinMap as finite
 use Rattle.ft_forest.specs.Transactions.{over_in}
-use Rattle.ft_locks.proofs.InTheWay.{way_under}
+use Rattle.ft_moss.proofs.InTheWay.{way_under}
 use Rattle.ft_locks.proofs.blocking.note_entries.Given as goal
 
 abbrev pub invariant-loop-key : goal.invariant-loop-key

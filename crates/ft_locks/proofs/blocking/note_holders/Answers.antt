@@ -3,10 +3,10 @@ use Rattle.std.specs.Option.{option_copied}
 use Rattle.std.specs.Ordering.{nat_cmp}
 use Rattle.std.specs.FinMap as finite
 use Rattle.ft_forest.specs.Transactions.{over_in}
-use Rattle.ft_locks.specs.Blocking.{is_in_way, is_holder_in_way}
-use Rattle.ft_locks.proofs.Cases.{ok_then}
-use Rattle.ft_locks.proofs.HolderLists.{get-seen}
-use Rattle.ft_locks.proofs.InTheWay.{listed_is, noted_none}
+use Rattle.ft_moss.specs.Blocking.{is_in_way, is_holder_in_way}
+use Rattle.ft_moss.proofs.Cases.{ok_then}
+use Rattle.ft_moss.proofs.HolderLists.{get-seen}
+use Rattle.ft_moss.proofs.InTheWay.{listed_is, noted_none}
 use Rattle.ft_locks.proofs.blocking.note_holders.Goals as goal
 
 pub returns-in-Some : goal.returns-in-Some

@@ -1,5 +1,5 @@
 use Rattle.std.proofs.Common.{sym, ◌∙◌}
-use Rattle.ft_locks.proofs.InTheWay.{noted_put}
+use Rattle.ft_moss.proofs.InTheWay.{noted_put}
 use Rattle.ft_locks.proofs.blocking.note_list.Goals as goal
 
 pub loop-holding-preserved : goal.loop-holding-preserved

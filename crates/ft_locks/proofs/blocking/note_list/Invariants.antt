@@ -1,7 +1,7 @@
 use Rattle.std.proofs.Common.{◌≡◌, ◌&&◌, ◌||◌, not, ℕ, take}
 use Rattle.std.specs.FinMap as finite
 use Rattle.ft_forest.specs.Transactions.{over_in}
-use Rattle.ft_locks.specs.Blocking.{is_listed_in_way}
+use Rattle.ft_moss.specs.Blocking.{is_listed_in_way}
 use Rattle.ft_locks.proofs.blocking.note_list.Given as goal
 
 abbrev pub invariant-loop-holding : goal.invariant-loop-holding

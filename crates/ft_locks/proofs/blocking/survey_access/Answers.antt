@@ -1,11 +1,11 @@
 use Rattle.std.proofs.Common.{◌≡◌, ◌&&◌, ◌||◌, not, Bool, true, false, refl, sym, ap, ◌∙◌}
 use Rattle.std.specs.FinMap as finite
 use Rattle.ft_forest.specs.Transactions.{over_in}
-use Rattle.ft_locks.specs.Blocking.{is_in_way}
-use Rattle.ft_locks.proofs.HolderLists.{get-seen}
-use Rattle.ft_locks.proofs.InTheWay.{listed_is}
-use Rattle.ft_locks.proofs.Places.{marks-found, marks-missing}
-use Rattle.ft_locks.proofs.Surveys.{none_noted, noted_both, holds_one}
+use Rattle.ft_moss.specs.Blocking.{is_in_way}
+use Rattle.ft_moss.proofs.HolderLists.{get-seen}
+use Rattle.ft_moss.proofs.InTheWay.{listed_is}
+use Rattle.ft_moss.proofs.Places.{marks-found, marks-missing}
+use Rattle.ft_moss.proofs.Surveys.{none_noted, noted_both, holds_one}
 use Rattle.ft_locks.proofs.blocking.survey_access.Goals.{in-Some+in_ok-note_list, in_default}
 use Rattle.ft_locks.proofs.blocking.survey_access.Goals as goal
 

@@ -1,7 +1,7 @@
 use Rattle.std.proofs.Common.{◌≡◌, ◌||◌, take}
 use Rattle.std.specs.List.{list_any}
-use Rattle.ft_locks.specs.declared.line.LockLine.{LockLine}
-use Rattle.ft_locks.specs.Listing.{is_listed, is_by}
+use Rattle.ft_moss.specs.declared.line.LockLine.{LockLine}
+use Rattle.ft_moss.specs.Listing.{is_listed, is_by}
 use Rattle.ft_locks.proofs.listing.list_cell.Given as goal
 
 abbrev pub invariant-loop-holding : goal.invariant-loop-holding

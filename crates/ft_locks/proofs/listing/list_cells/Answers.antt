@@ -1,6 +1,7 @@
 use Rattle.std.proofs.Common.{ap, sym, ◌∙◌, ◌||◌}
 use Rattle.std.specs.List.{list_any}
-use Rattle.ft_locks.specs.Listing.{is_listed, is_on}
+use Rattle.ft_moss.specs.Listing.{is_listed}
+use Rattle.ft_locks.specs.Slots.{is_on}
 use Rattle.ft_locks.proofs.Listed.{cell_more}
 use Rattle.ft_locks.proofs.listing.list_cells.Goals as goal
 

@@ -1,7 +1,8 @@
 use Rattle.std.proofs.Common.{◌≡◌, ◌||◌}
 use Rattle.std.specs.List.{list_any}
-use Rattle.ft_locks.specs.declared.line.LockLine.{LockLine}
-use Rattle.ft_locks.specs.Listing.{is_listed, is_on}
+use Rattle.ft_moss.specs.declared.line.LockLine.{LockLine}
+use Rattle.ft_moss.specs.Listing.{is_listed}
+use Rattle.ft_locks.specs.Slots.{is_on}
 use Rattle.ft_locks.proofs.listing.list_cells.Given as goal
 
 -- what is listed so far and what is on the cells left are all

@@ -1,7 +1,7 @@
 use Rattle.std.proofs.Common.{rules, ◌≡◌, ℕ, true, List, sym, ◌∙◌, subst}
 use Rattle.std.specs.Prelude.{All}
 use Rattle.ft_laws.specs.Lists.{In}
-use Rattle.ft_calls.specs.Posix.{posix_calls}
+use Rattle.ft_posix.specs.Posix.{posix_calls}
 use Rattle.ft_history.specs.History.{grants}
 use Rattle.ft_core.specs.declared.request.Event.{Event}
 use Rattle.ft_core.specs.Histories.{Granted, told}

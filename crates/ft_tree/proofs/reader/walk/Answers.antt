@@ -1,7 +1,7 @@
 use Rattle.std.proofs.Common.{rules, ◌≡◌, ℕ, ◌+◌, ◌∷◌, drop, Result, Ok, Err, sym, ap, ◌∙◌}
 use Rattle.std.proofs.lemmas.List.{drop_more}
 use Rattle.ft_path.specs.declared.errno.Errno.{Errno}
-use Rattle.ft_tree.specs.Looks.{Looks, answer, looked_at, all_noted, or_else}
+use Rattle.ft_cells.specs.Looks.{Looks, answer, looked_at, all_noted, or_else}
 use Rattle.ft_tree.specs.Views.{view_of}
 use Rattle.ft_tree.specs.Walk.{Spot, inner, walk_from}
 use Rattle.ft_tree.proofs.Reading.{end-on, noted-on}

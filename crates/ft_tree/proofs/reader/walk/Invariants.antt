@@ -1,5 +1,5 @@
 use Rattle.std.proofs.Common.{◌≡◌, drop}
-use Rattle.ft_tree.specs.Looks.{answer, looked_at, all_noted}
+use Rattle.ft_cells.specs.Looks.{answer, looked_at, all_noted}
 use Rattle.ft_tree.specs.Views.{view_of}
 use Rattle.ft_tree.specs.Walk.{walk, walk_from}
 use Rattle.ft_tree.proofs.reader.walk.Given as goal

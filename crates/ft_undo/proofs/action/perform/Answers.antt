@@ -1,13 +1,13 @@
 use Rattle.std.proofs.Common.{map, sym, ap, subst, ◌∙◌}
 use Rattle.ft_laws.specs.Effects.{before}
-use Rattle.ft_tree.specs.Cells.{Cells}
+use Rattle.ft_cells.specs.Cells.{Cells}
 use Rattle.ft_tree.specs.Sound.{AreSoundCells, IsFree}
 use Rattle.ft_tree.specs.Tidy.{tidy}
-use Rattle.ft_calls.specs.Accesses.{written_cell}
-use Rattle.ft_calls.specs.Outcomes.{Outcome}
-use Rattle.ft_calls.specs.Perform.{OnlyTells}
-use Rattle.ft_calls.specs.Posix.{posix}
-use Rattle.ft_calls.specs.Stored.{put_all}
+use Rattle.ft_posix.specs.Accesses.{written_cell}
+use Rattle.ft_posix.specs.Outcomes.{Outcome}
+use Rattle.ft_posix.specs.Perform.{OnlyTells}
+use Rattle.ft_posix.specs.Posix.{posix}
+use Rattle.ft_posix.specs.Stored.{put_all}
 use Rattle.ft_undo.specs.Undone.{AreAsLeft}
 use Rattle.ft_undo.proofs.action.perform.Goals as goal
 

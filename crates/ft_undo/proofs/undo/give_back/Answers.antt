@@ -1,7 +1,7 @@
 use Rattle.std.proofs.Common.{◌≡◌, unwrap_or, sym, ap, ◌∙◌, rules}
 use Rattle.std.specs.Option.{option_flatten}
-use Rattle.ft_tree.specs.Cells.{Cells, put_entry, put_parent, put_links, put_bytes, put_open}
-use Rattle.ft_calls.specs.Stored.{put}
+use Rattle.ft_cells.specs.Cells.{Cells, put_entry, put_parent, put_links, put_bytes, put_open}
+use Rattle.ft_posix.specs.Stored.{put}
 use Rattle.ft_undo.specs.declared.undo.Back.{Back}
 use Rattle.ft_undo.specs.Undone.{given_back}
 use Rattle.ft_undo.proofs.undo.give_back.Goals as goal

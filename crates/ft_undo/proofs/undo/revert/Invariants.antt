@@ -1,5 +1,5 @@
 use Rattle.std.proofs.Common.{◌≡◌, length, map}
-use Rattle.ft_calls.specs.Stored.{put_all}
+use Rattle.ft_posix.specs.Stored.{put_all}
 use Rattle.ft_undo.specs.Undone.{given_back, CanGiveAllBack}
 use Rattle.ft_undo.proofs.undo.revert.Given as goal
 

@@ -1,11 +1,11 @@
 use Rattle.std.proofs.Common.{◌≡◌, ℕ, List, ap, sym, ◌∙◌, rules}
 use Rattle.ft_body.specs.Bytes.{BodyChange}
-use Rattle.ft_tree.specs.declared.cell.Cell.TheVariants.{Bytes}
-use Rattle.ft_tree.specs.Cells.{Cells, bytes_of, put_entry, put_bytes}
-use Rattle.ft_calls.specs.declared.intent.Edit.{Edit}
-use Rattle.ft_calls.specs.CellLaws.{SettingLaw}
-use Rattle.ft_calls.specs.Comes.{write_of}
-use Rattle.ft_calls.specs.Stored.{put}
+use Rattle.ft_cells.specs.declared.cell.Cell.TheVariants.{Bytes}
+use Rattle.ft_cells.specs.Cells.{Cells, bytes_of, put_entry, put_bytes}
+use Rattle.ft_posix.specs.declared.intent.Edit.{Edit}
+use Rattle.ft_posix.specs.CellLaws.{SettingLaw}
+use Rattle.ft_posix.specs.Comes.{write_of}
+use Rattle.ft_posix.specs.Stored.{put}
 use Rattle.ft_undo.specs.declared.undo.Back.TheVariants as back
 use Rattle.ft_undo.specs.Undone.{back_of}
 use Rattle.ft_undo.proofs.undo.set.Goals as goal

@@ -1,5 +1,5 @@
 use Rattle.std.proofs.Common.{arith, sym, subst}
-use Rattle.ft_tree.specs.Cells.{Cells}
+use Rattle.ft_cells.specs.Cells.{Cells}
 use Rattle.ft_tree.specs.Sound.{IsFree}
 use Rattle.ft_bench.proofs.growth.Growth.does_on_copy.Goals as goal
 

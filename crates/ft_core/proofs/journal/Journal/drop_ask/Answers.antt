@@ -2,7 +2,7 @@ use Rattle.std.proofs.Common.{◌≡◌, ◌==◌, ℕ, Bool, true, false, cond,
 use Rattle.std.specs.Ordering.{nat_cmp}
 use Rattle.std.specs.Cmp.{nat_cmp_total}
 use Rattle.std.specs.FinMap as finite
-use Rattle.ft_calls.specs.declared.call.Call.{Call}
+use Rattle.ft_posix.specs.declared.call.Call.{Call}
 use Rattle.ft_core.specs.States.{Asks}
 use Rattle.ft_core.specs.Journals.{Journaled}
 use Rattle.ft_core.proofs.journal.Journal.drop_ask.Goals as goal

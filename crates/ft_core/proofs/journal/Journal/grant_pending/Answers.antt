@@ -1,8 +1,8 @@
 use Rattle.std.proofs.Common.{◌≡◌, ℕ, List, Some, ap, ◌∙◌}
 use Rattle.std.specs.FinMap as finite
-use Rattle.ft_calls.specs.declared.call.Call.{Call}
-use Rattle.ft_calls.specs.declared.call.Reply.{Reply}
-use Rattle.ft_calls.specs.declared.call.Access.{Access}
+use Rattle.ft_posix.specs.declared.call.Call.{Call}
+use Rattle.ft_posix.specs.declared.call.Reply.{Reply}
+use Rattle.ft_posix.specs.declared.call.Access.{Access}
 use Rattle.ft_core.specs.States.{Asks}
 use Rattle.ft_core.specs.Journals.{Journaled, with_call}
 use Rattle.ft_core.proofs.journal.Journal.grant_pending.Goals as goal

@@ -1,7 +1,7 @@
 use Rattle.std.proofs.Common.{◌≡◌, ◌∙◌, ◌+◌, ℕ, Some, None, not, false, refl, ap, sym, subst, arith}
 use Rattle.std.specs.FinMap as finite
 use Rattle.ft_base.specs.Chains.{list_in}
-use Rattle.ft_calls.specs.Posix.{posix_calls}
+use Rattle.ft_posix.specs.Posix.{posix_calls}
 use Rattle.ft_forest.specs.Transactions.{Transactions, HasAborted}
 use Rattle.ft_undo.specs.Logs.{is_open, AreLists, AreOpen}
 use Rattle.ft_history.specs.Logs.{put, handed}

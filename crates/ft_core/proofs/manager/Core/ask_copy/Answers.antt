@@ -1,5 +1,5 @@
 use Rattle.std.proofs.Common.{subst}
-use Rattle.ft_calls.specs.declared.call.Call.{Call as CallOf}
+use Rattle.ft_posix.specs.declared.call.Call.{Call as CallOf}
 use Rattle.ft_core.specs.declared.request.Request.TheVariants.{Ask}
 use Rattle.ft_core.specs.Steps.{IsStep, exact_rule, answer_with, outcome_answer}
 use Rattle.ft_core.proofs.manager.Core.ask_copy.Goals as goal

@@ -1,5 +1,5 @@
 use Rattle.std.proofs.Common.{◌≡◌, ◌∙◌, ap, subst}
-use Rattle.ft_calls.specs.Accesses.{accesses_of}
+use Rattle.ft_posix.specs.Accesses.{accesses_of}
 use Rattle.ft_core.specs.States.{State, history}
 use Rattle.ft_core.specs.Journals.{state_of}
 use Rattle.ft_core.specs.Reports.{blockers_now}

@@ -1,6 +1,6 @@
 use Rattle.std.proofs.Common.{◌≡◌, ◌∙◌, ℕ, Some, true, false, refl, ap, sym, arith}
 use Rattle.std.specs.FinMap as finite
-use Rattle.ft_calls.specs.Posix.{posix_calls}
+use Rattle.ft_posix.specs.Posix.{posix_calls}
 use Rattle.ft_forest.specs.Transactions.{IsLiveChild}
 use Rattle.ft_history.specs.History.{live_children}
 use Rattle.ft_history.specs.History.Fate.{Live}

@@ -1,8 +1,8 @@
 use Rattle.std.proofs.Common.{◌+◌, ap, subst, sym, ◌∙◌}
-use Rattle.ft_tree.specs.Cells.{Cells}
+use Rattle.ft_cells.specs.Cells.{Cells}
 use Rattle.ft_tree.specs.Sweep.{is_useless, places_in}
 use Rattle.ft_tree.specs.Tidy.{tidy}
-use Rattle.ft_locks.specs.Locks.{LockTable}
+use Rattle.ft_moss.specs.Locks.{LockTable}
 use Rattle.ft_core.specs.Journals.{state_of}
 use Rattle.ft_core.specs.Living.{NoneIsLive}
 use Rattle.ft_core.specs.Promises.{IsHeadline}

@@ -1,6 +1,6 @@
 use Rattle.std.proofs.Common.{◌≡◌, ◌∙◌, ℕ, Some, true, false, List, ◌∷◌, refl, ap, sym, subst, arith}
 use Rattle.ft_base.specs.Chains.{list_in}
-use Rattle.ft_calls.specs.Posix.{posix_calls}
+use Rattle.ft_posix.specs.Posix.{posix_calls}
 use Rattle.ft_undo.specs.declared.logs.Logged.{Logged}
 use Rattle.ft_undo.specs.Undone.{CanGiveAllBack}
 use Rattle.ft_forest.specs.Transactions.{IsLiveChild}

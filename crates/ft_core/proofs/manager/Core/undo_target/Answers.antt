@@ -1,7 +1,7 @@
 use Rattle.std.proofs.Common.{◌≡◌, ◌∙◌, ℕ, Some, ap, sym, subst, arith}
 use Rattle.std.specs.Option.{option_map}
 use Rattle.ft_base.specs.Chains.{list_in}
-use Rattle.ft_calls.specs.Posix.{posix_calls}
+use Rattle.ft_posix.specs.Posix.{posix_calls}
 use Rattle.ft_undo.specs.declared.logs.Logged.{Logged}
 use Rattle.ft_undo.specs.Logs.{newest_of}
 use Rattle.ft_history.specs.History.Fate.{Live}

@@ -1,13 +1,13 @@
 use Rattle.std.proofs.Common.{◌≡◌, cond, ℕ, List, Some, None, ap, sym, subst, ◌∙◌}
 use Rattle.std.specs.FinMap as finite
 use Rattle.slab.specs.Slab.{Slab, get}
-use Rattle.ft_tree.specs.declared.cell.Cell.{Cell}
-use Rattle.ft_tree.specs.CellOrder.{same_cell}
+use Rattle.ft_cells.specs.declared.cell.Cell.{Cell}
+use Rattle.ft_cells.specs.CellOrder.{same_cell}
 use Rattle.ft_locks.specs.declared.cells.Locked.{Locked}
-use Rattle.ft_locks.specs.Cells.{Keyed}
+use Rattle.ft_moss.specs.Cells.{Keyed}
 use Rattle.ft_locks.specs.EntryKeys.{key_at, is_spot, spot_of}
 use Rattle.ft_locks.specs.Slots.{cells_of, at_of, AreKeyed, is_names}
-use Rattle.ft_locks.proofs.CellViews.{key_in}
+use Rattle.ft_moss.proofs.CellViews.{key_in}
 use Rattle.ft_locks.proofs.Slots.{at-none, at-put, cells-put, cells-index, keyed-put, keyed-index, index-back, no_key, updates-after}
 use Rattle.ft_locks.proofs.EntryKeys.{placed-put, placed-same}
 use Rattle.ft_locks.proofs.Nameless.{nameless-put, nameless-same, no-left, no-right}

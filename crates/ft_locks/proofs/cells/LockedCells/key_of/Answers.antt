@@ -1,7 +1,7 @@
 use Rattle.std.proofs.Common.{◌≡◌, is_some, Some, ap, subst, ◌∙◌}
 use Rattle.std.specs.Option.{IfSome}
 use Rattle.std.specs.FinMap as finite
-use Rattle.ft_locks.specs.Cells.{Keyed}
+use Rattle.ft_moss.specs.Cells.{Keyed}
 use Rattle.ft_locks.specs.Slots.{at_of}
 use Rattle.ft_locks.proofs.Slots.{key-at, seen-key}
 use Rattle.ft_locks.proofs.cells.LockedCells.key_of.Goals as goal

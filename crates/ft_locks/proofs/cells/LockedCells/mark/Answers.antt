@@ -1,12 +1,12 @@
 use Rattle.std.proofs.Common.{refl, cond, ◌==◌, sym, ap, ◌∙◌, Option}
 use Rattle.std.specs.Option.{option_map, option_copied_mut}
 use Rattle.std.specs.FinMap as finite
-use Rattle.ft_locks.specs.declared.marks.Marks.{Marks}
-use Rattle.ft_locks.specs.Marks.{with_marks}
-use Rattle.ft_locks.specs.Cells.{marks_at, holders_of}
+use Rattle.ft_moss.specs.declared.marks.Marks.{Marks}
+use Rattle.ft_moss.specs.Marks.{with_marks}
+use Rattle.ft_moss.specs.Cells.{marks_at, holders_of}
 use Rattle.ft_locks.specs.Lending.{with_holders_of}
 use Rattle.ft_locks.proofs.Slots.{there_if}
-use Rattle.ft_locks.proofs.Places.{marks-found, changed_at, unchanged_at, got-marked}
+use Rattle.ft_moss.proofs.Places.{marks-found, changed_at, unchanged_at, got-marked}
 use Rattle.ft_locks.proofs.cells.LockedCells.mark.Goals as goal
 
 pub returns-in-Some-clause-marks : goal.returns-in-Some-clause-marks

@@ -1,5 +1,5 @@
 use Rattle.std.proofs.Common.{◌∙◌}
-use Rattle.ft_locks.proofs.Granting.{back_step, back_still}
+use Rattle.ft_locks.proofs.TakenBack.{back_step, back_still}
 use Rattle.ft_locks.proofs.holdings.Holdings.take_back.Goals as goal
 
 pub loop-count-preserved : goal.loop-count-preserved

@@ -5,9 +5,9 @@ use Rattle.std.specs.FinMap as finite
 use Rattle.std.proofs.lemmas.List.{take_all}
 use Rattle.std.proofs.lemmas.Result.{IfOk-weaker}
 use Rattle.ft_forest.specs.Transactions.{over_in}
-use Rattle.ft_locks.specs.Blocking.{blocks}
-use Rattle.ft_locks.specs.Locks.{AreBlockers}
-use Rattle.ft_locks.proofs.InTheWay.{are_blockers}
+use Rattle.ft_moss.specs.Blocking.{blocks}
+use Rattle.ft_moss.specs.Locks.{AreBlockers}
+use Rattle.ft_moss.proofs.InTheWay.{are_blockers}
 use Rattle.ft_locks.proofs.locks.Locks.blockers.Goals as goal
 
 pub loop-access-init : goal.loop-access-init

@@ -2,7 +2,7 @@ use Rattle.std.proofs.Common.{◌≡◌, ◌&&◌, not, ℕ, take}
 use Rattle.std.specs.List.{list_any}
 use Rattle.std.specs.FinMap as finite
 use Rattle.ft_forest.specs.Transactions.{over_in}
-use Rattle.ft_locks.specs.Blocking.{blocks}
+use Rattle.ft_moss.specs.Blocking.{blocks}
 use Rattle.ft_locks.proofs.locks.Locks.blockers.Given as goal
 
 abbrev pub invariant-loop-access : goal.invariant-loop-access

@@ -1,10 +1,10 @@
 use Rattle.std.proofs.Common.{is_some, ap, subst, ◌∙◌, ◌==◌}
 use Rattle.std.specs.FinMap as finite
-use Rattle.ft_locks.specs.Locks.{AreGranted}
-use Rattle.ft_locks.specs.Seen.{table_of}
-use Rattle.ft_locks.proofs.Cases.{on_any}
-use Rattle.ft_locks.proofs.Handing.{opened_open}
-use Rattle.ft_locks.proofs.Granted.{given_after, given_at_once, granted_kept, granted, ungranted}
+use Rattle.ft_moss.specs.Locks.{AreGranted}
+use Rattle.ft_moss.specs.Seen.{table_of}
+use Rattle.ft_moss.proofs.Cases.{on_any}
+use Rattle.ft_moss.proofs.Handing.{opened_open}
+use Rattle.ft_moss.proofs.Granted.{given_after, given_at_once, granted_kept, granted, ungranted}
 use Rattle.ft_locks.proofs.locks.Locks.grant.Goals as goal
 
 pub reserve-requires : goal.reserve-requires

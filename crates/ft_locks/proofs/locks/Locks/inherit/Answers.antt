@@ -1,6 +1,6 @@
 use Rattle.std.proofs.Common.{is_some, ap, ◌∙◌}
 use Rattle.std.specs.FinMap as finite
-use Rattle.ft_locks.proofs.Handing.{opened_open, inherit_kept, inherit_view}
+use Rattle.ft_moss.proofs.Handing.{opened_open, inherit_kept, inherit_view}
 use Rattle.ft_locks.proofs.locks.Locks.inherit.Goals as goal
 
 pub hand_over-requires-clause-there : goal.hand_over-requires-clause-there

@@ -1,8 +1,8 @@
 use Rattle.std.proofs.Common.{not, ◌&&◌, ap, sym, ◌∙◌}
 use Rattle.std.proofs.lemmas.Bool.{eq-eqb}
 use Rattle.std.specs.FinMap as finite
-use Rattle.ft_locks.proofs.Joining.{apart_test}
-use Rattle.ft_locks.proofs.Handing.{opened_is}
+use Rattle.ft_moss.proofs.Joining.{apart_test}
+use Rattle.ft_moss.proofs.Handing.{opened_is}
 use Rattle.ft_locks.proofs.locks.Locks.is_open.Goals as goal
 
 pub returns-then-txn-ne-LET_GO : goal.returns-then-txn-ne-LET_GO

@@ -1,5 +1,5 @@
 use Rattle.std.proofs.lemmas.List.Filters.{dedup_is}
-use Rattle.ft_locks.specs.Listing.{same_line}
+use Rattle.ft_moss.specs.Listing.{same_line}
 use Rattle.ft_locks.proofs.Listed.{all_listed}
 use Rattle.ft_locks.proofs.locks.Locks.lines.Goals as goal
 

@@ -1,7 +1,7 @@
 use Rattle.std.proofs.Common.{ap, ◌∙◌}
 use Rattle.std.specs.FinMap as finite
 use Rattle.ft_base.specs.Chains.{list_in}
-use Rattle.ft_locks.proofs.Handing.{seen_none}
+use Rattle.ft_moss.proofs.Handing.{seen_none}
 use Rattle.ft_locks.proofs.locks.Locks.new.Goals as goal
 
 pub invariant_of-result : goal.invariant_of-result

@@ -1,9 +1,9 @@
 use Rattle.std.proofs.Common.{arith, ap, ◌∙◌}
 use Rattle.std.specs.FinMap as finite
 use Rattle.ft_base.specs.Chains.{list_in}
-use Rattle.ft_locks.proofs.Cases.{ok_then, err_then}
-use Rattle.ft_locks.proofs.Joining.{apart_test}
-use Rattle.ft_locks.proofs.Handing.{kept_open, open_view, opens_more}
+use Rattle.ft_moss.proofs.Cases.{ok_then, err_then}
+use Rattle.ft_moss.proofs.Joining.{apart_test}
+use Rattle.ft_moss.proofs.Handing.{kept_open, open_view, opens_more}
 use Rattle.ft_locks.proofs.locks.Locks.open.Goals as goal
 
 pub invariant_of-self : goal.invariant_of-self

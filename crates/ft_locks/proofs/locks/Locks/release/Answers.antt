@@ -1,7 +1,7 @@
 use Rattle.std.proofs.Common.{is_some, ap, sym, ◌∙◌}
 use Rattle.std.specs.FinMap as finite
 use Rattle.std.proofs.lemmas.Bool.{false≢true, eq-eqb}
-use Rattle.ft_locks.proofs.Handing.{opened_open, release_kept, release_view}
+use Rattle.ft_moss.proofs.Handing.{opened_open, release_kept, release_view}
 use Rattle.ft_locks.proofs.locks.Locks.release.Goals as goal
 
 pub hand_over-requires-clause-there : goal.hand_over-requires-clause-there

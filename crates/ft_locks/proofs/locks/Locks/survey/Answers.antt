@@ -5,11 +5,11 @@ use Rattle.std.specs.Ordering.{nat_cmp}
 use Rattle.std.specs.FinMap as finite
 use Rattle.std.proofs.lemmas.List.{take_all}
 use Rattle.ft_forest.specs.Transactions.{over_in}
-use Rattle.ft_locks.specs.Blocking.{blocks}
-use Rattle.ft_locks.specs.Locks.{AreBlockers}
-use Rattle.ft_locks.specs.Surveys.{HoldsAll}
-use Rattle.ft_locks.proofs.InTheWay.{are_blockers}
-use Rattle.ft_locks.proofs.Surveys.{alone_there, holds_none, holds_more, held_granted, noted_more}
+use Rattle.ft_moss.specs.Blocking.{blocks}
+use Rattle.ft_moss.specs.Locks.{AreBlockers}
+use Rattle.ft_moss.specs.Surveys.{HoldsAll}
+use Rattle.ft_moss.proofs.InTheWay.{are_blockers}
+use Rattle.ft_moss.proofs.Surveys.{alone_there, holds_none, holds_more, held_granted, noted_more}
 use Rattle.ft_locks.proofs.locks.Locks.survey.Goals.{then-has_all, else-has_all}
 use Rattle.ft_locks.proofs.locks.Locks.survey.Goals as goal
 

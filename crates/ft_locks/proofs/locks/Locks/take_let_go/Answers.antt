@@ -1,11 +1,11 @@
 use Rattle.std.proofs.Common.{ap, sym, ◌∙◌}
 use Rattle.std.specs.FinSet as set
-use Rattle.ft_locks.specs.Cells.{marks_at}
-use Rattle.ft_locks.specs.Locks.{LockTable, is_let_go}
-use Rattle.ft_locks.specs.Holdings.{Held}
-use Rattle.ft_locks.specs.Seen.{table_of}
-use Rattle.ft_locks.proofs.Cases.{both_then, if_absent}
-use Rattle.ft_locks.proofs.Sweeping.{taken_kept, taken_unseen, taken_was, taken_seen, nothing_let_go}
+use Rattle.ft_moss.specs.Cells.{marks_at}
+use Rattle.ft_moss.specs.Locks.{LockTable, is_let_go}
+use Rattle.ft_moss.specs.Holdings.{Held}
+use Rattle.ft_moss.specs.Seen.{table_of}
+use Rattle.ft_moss.proofs.Cases.{both_then, if_absent}
+use Rattle.ft_moss.proofs.Sweeping.{taken_kept, taken_unseen, taken_was, taken_seen, nothing_let_go}
 use Rattle.ft_locks.proofs.locks.Locks.take_let_go.Goals as goal
 
 pub invariant_of-self : goal.invariant_of-self

@@ -1,6 +1,6 @@
 use Rattle.std.proofs.Common.{◌≡◌, length}
 use Rattle.ft_base.specs.Chains.{list_in}
-use Rattle.ft_locks.specs.Seen.{table_of, IsKept}
+use Rattle.ft_moss.specs.Seen.{table_of, IsKept}
 use Rattle.ft_locks.proofs.locks.Locks.take_let_go.Given as goal
 
 abbrev pub invariant-loop-dropped : goal.invariant-loop-dropped

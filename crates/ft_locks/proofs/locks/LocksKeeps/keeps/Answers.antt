@@ -1,8 +1,8 @@
 use Rattle.std.proofs.Common.{false, ap, sym, ◌∙◌}
 use Rattle.std.proofs.lemmas.Bool.{false≢true}
-use Rattle.ft_locks.specs.Marks.{is_marked_of}
-use Rattle.ft_locks.proofs.Places.{marks-found, marks-missing}
-use Rattle.ft_locks.proofs.Tables.{locked_found}
+use Rattle.ft_moss.specs.Marks.{is_marked_of}
+use Rattle.ft_moss.proofs.Places.{marks-found, marks-missing}
+use Rattle.ft_moss.proofs.Tables.{locked_found}
 use Rattle.ft_locks.proofs.locks.LocksKeeps.keeps.Goals as goal
 
 pub returns-in-Some : goal.returns-in-Some

@@ -3,7 +3,7 @@ use Rattle.std.specs.Prelude.{IfSome, IfNone}
 use Rattle.std.specs.FinSet as set
 use Rattle.std.proofs.lemmas.Option.{IfSome_then}
 use Rattle.ft_laws.proofs.Tests.{by_option}
-use Rattle.ft_locks.specs.Locks.{LockTable, is_locked}
+use Rattle.ft_moss.specs.Locks.{LockTable, is_locked}
 use Rattle.ft_locks.proofs.locks.LocksKeeps.take_let_go.Goals as goal
 
 if_none : {A P Q : Type 0} (o : Option A) → (P → Q) → IfNone o P → IfNone o Q

@@ -1,5 +1,5 @@
 use Rattle.std.proofs.Common.{◌≡◌, ◌∙◌}
-use Rattle.ft_tree.proofs.Clones.{clone-same}
+use Rattle.ft_cells.proofs.Clones.{clone-same}
 use Rattle.ft_tree.proofs.tree.Tree.copy.Goals as goal
 
 pub returns : goal.returns

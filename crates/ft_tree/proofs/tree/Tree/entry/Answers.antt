@@ -1,6 +1,6 @@
 use Rattle.std.proofs.Common.{ap, ◌∙◌}
-use Rattle.ft_tree.specs.Cells.{Cells, entry_of}
-use Rattle.ft_tree.proofs.CellViews.{entry-not_stored}
+use Rattle.ft_cells.specs.Cells.{Cells, entry_of}
+use Rattle.ft_cells.proofs.CellViews.{entry-not_stored}
 use Rattle.ft_tree.proofs.tree.Tree.entry.Goals as goal
 
 -- there is no such directory

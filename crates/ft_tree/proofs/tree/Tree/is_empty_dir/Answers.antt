@@ -1,6 +1,6 @@
 use Rattle.std.proofs.Common.{ap, sym, refl, ◌∙◌}
-use Rattle.ft_tree.specs.Cells.{Cells, names_of}
-use Rattle.ft_tree.proofs.CellViews.{names-not_stored}
+use Rattle.ft_cells.specs.Cells.{Cells, names_of}
+use Rattle.ft_cells.proofs.CellViews.{names-not_stored}
 use Rattle.ft_tree.proofs.tree.Tree.is_empty_dir.Goals as goal
 
 -- there is no such directory

@@ -2,7 +2,7 @@ use Rattle.std.proofs.Common.{ap, sym, is_some, is_none, unwrap_or, ◌&&◌, �
 use Rattle.std.specs.Ordering.{nat_cmp}
 use Rattle.std.specs.Cmp.Lexicographic.{slice_cmp}
 use Rattle.std.specs.FinMap.{contains_key, get-empty}
-use Rattle.ft_tree.specs.Cells.{Cells, no_dir, dir_of, dir_entry, entry_of}
+use Rattle.ft_cells.specs.Cells.{Cells, no_dir, dir_of, dir_entry, entry_of}
 use Rattle.ft_tree.proofs.tree.Tree.is_empty_entry.Goals as goal
 
 -- there is no such directory

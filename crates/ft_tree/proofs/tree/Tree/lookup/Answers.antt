@@ -1,5 +1,5 @@
 use Rattle.std.proofs.Common.{sym, ap, ◌∙◌}
-use Rattle.ft_tree.specs.Looks.{answer}
+use Rattle.ft_cells.specs.Looks.{answer}
 use Rattle.ft_tree.specs.Views.{view_of}
 use Rattle.ft_tree.specs.Walk.{walk, found, seen}
 use Rattle.ft_tree.proofs.tree.Tree.lookup.Goals as goal

@@ -1,7 +1,7 @@
 use Rattle.std.proofs.Common.{ap, ◌∙◌}
-use Rattle.ft_tree.specs.Nodes.{with_kinds}
-use Rattle.ft_tree.specs.Cells.{Cells, names_of}
-use Rattle.ft_tree.proofs.CellViews.{names-not_stored}
+use Rattle.ft_cells.specs.Nodes.{with_kinds}
+use Rattle.ft_cells.specs.Cells.{Cells, names_of}
+use Rattle.ft_cells.proofs.CellViews.{names-not_stored}
 use Rattle.ft_tree.proofs.tree.Tree.names.Goals as goal
 
 -- there is no such directory

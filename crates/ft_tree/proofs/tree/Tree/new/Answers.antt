@@ -1,6 +1,6 @@
 use Rattle.std.proofs.Common.{◌≡◌, ◌≤◌, ℕ, sym, subst, ◌∙◌}
 use Rattle.std.specs.FinMap as finite
-use Rattle.ft_tree.specs.Cells.{Cells, fresh_cells}
+use Rattle.ft_cells.specs.Cells.{Cells, fresh_cells}
 use Rattle.ft_tree.specs.Sound.{AreSoundCells, IsFree}
 use Rattle.ft_tree.proofs.Fresh.{fresh-sound, fresh-free}
 use Rattle.ft_tree.proofs.tree.Tree.new.Goals as goal

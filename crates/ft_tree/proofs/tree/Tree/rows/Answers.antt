@@ -1,8 +1,8 @@
 use Rattle.std.proofs.Common.{◌++◌, ap, ◌∙◌}
 use Rattle.std.specs.FinMap as finite
-use Rattle.ft_tree.specs.Cells.{Cells}
+use Rattle.ft_cells.specs.Cells.{Cells}
 use Rattle.ft_tree.specs.Tidy.{tidy, dirs_from, edges_from, files_from, opens_from}
-use Rattle.ft_tree.specs.Rows.{rows_of, dir_rows, edge_rows, file_rows, open_rows}
+use Rattle.ft_cells.specs.Rows.{rows_of, dir_rows, edge_rows, file_rows, open_rows}
 use Rattle.ft_tree.proofs.TidyRows.{rows-tidy}
 use Rattle.ft_tree.proofs.tree.Tree.rows.Goals as goal
 

@@ -1,6 +1,6 @@
 use Rattle.std.proofs.Common.{ap, ◌∙◌}
 use Rattle.std.proofs.lemmas.Result.{on_err_weaker}
-use Rattle.ft_tree.proofs.CellViews.{put-same}
+use Rattle.ft_cells.proofs.CellViews.{put-same}
 use Rattle.ft_tree.proofs.tree.Tree.set_entry.Goals as goal
 
 -- the directory is written as it was

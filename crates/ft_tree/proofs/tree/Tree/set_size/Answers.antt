@@ -1,6 +1,6 @@
 use Rattle.std.proofs.Common.{ap, ◌∙◌}
 use Rattle.std.proofs.lemmas.Result.{on_err_weaker, IfOk-weaker}
-use Rattle.ft_tree.proofs.CellViews.{put-same, change-put}
+use Rattle.ft_cells.proofs.CellViews.{put-same, change-put}
 use Rattle.ft_tree.proofs.tree.Tree.set_size.Goals as goal
 
 -- the file is the one that was there

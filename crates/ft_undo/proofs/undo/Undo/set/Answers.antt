@@ -1,5 +1,5 @@
 use Rattle.std.proofs.Common.{◌≡◌, sym, subst, ◌∙◌}
-use Rattle.ft_tree.specs.Cells.{Cells}
+use Rattle.ft_cells.specs.Cells.{Cells}
 use Rattle.ft_undo.specs.Undone.{back_of, restore, CanGiveBack}
 use Rattle.ft_undo.proofs.Undoing.{give-edited, restore-edit}
 use Rattle.ft_undo.proofs.undo.Undo.set.Goals as goal

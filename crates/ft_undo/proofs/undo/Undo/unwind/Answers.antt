@@ -1,5 +1,5 @@
 use Rattle.std.proofs.Common.{sym, ap, subst, ◌∙◌}
-use Rattle.ft_tree.specs.Cells.{Cells}
+use Rattle.ft_cells.specs.Cells.{Cells}
 use Rattle.ft_undo.specs.Undone.{restored, CanRestoreAll}
 use Rattle.ft_undo.proofs.Undoing.{can-last, restored-last}
 use Rattle.ft_undo.proofs.undo.Undo.unwind.Goals as goal

@@ -1,5 +1,0 @@
-use Rattle.ft_calls.proofs.Setting.{setting}
-use Rattle.ft_calls.proofs.laws.setting.Goals as goal
-
-pub returns : goal.returns
-returns c = setting

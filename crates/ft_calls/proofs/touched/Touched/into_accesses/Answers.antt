@@ -1,7 +1,0 @@
-use Rattle.std.proofs.Common.{ap, ◌∙◌}
-use Rattle.ft_calls.specs.Accesses.{listed}
-use Rattle.ft_calls.proofs.Placing.{told}
-use Rattle.ft_calls.proofs.touched.Touched.into_accesses.Goals as goal
-
-pub returns : goal.returns
-returns c = told c.self.inside.list.items c.self.invariant ∙ ap listed c.self.view_is

@@ -1,8 +1,0 @@
-use Rattle.std.proofs.Common.{ap, ◌∙◌}
-use Rattle.std.specs.FinMap as finite
-use Rattle.ft_calls.specs.Accesses.{as_entries}
-use Rattle.ft_calls.proofs.Placing.{nothing_noted}
-use Rattle.ft_calls.proofs.touched.Touched.new.Goals as goal
-
-pub returns : goal.returns
-returns c = ap (λ list. finite.from_sorted (as_entries list)) c.new.ensures.items ∙ nothing_noted

@@ -1,0 +1,47 @@
+// The numbers that a call may give for sizes and offsets.
+ghost use Rattle.std.specs.Prelude.{◌≡◌, ◌≤◌, IfOk};
+ghost use Rattle.ft_body.specs.declared.TheConstants.{SIZE_LIMIT};
+ghost use Rattle.ft_posix.specs.Files.{to_size};
+ghost use Rattle.ft_posix.specs.Descriptors.{not_negative, moved, offset_within};
+
+use ft_body::SIZE_LIMIT;
+use ft_path::Errno;
+use ft_posix::LAST_OFFSET;
+
+/// An offset that is not negative.
+pub(crate) fn not_negative(offset: i64) -> Result<u64, Errno>
+    ensures { result ≡ not_negative offset }
+{
+    if offset < 0 {
+        return Err(Errno::EINVAL);
+    }
+    Ok(offset.unsigned_abs())
+}
+
+/// A length that a file may have.
+pub(crate) fn to_size(length: i64) -> Result<u64, Errno>
+    ensures size { result ≡ to_size length }
+    ensures limit { IfOk result (λ size. size ≤ SIZE_LIMIT) }
+{
+    let size = not_negative(length)?;
+    if size > SIZE_LIMIT {
+        return Err(Errno::EFBIG);
+    }
+    Ok(size)
+}
+
+/// The offset that lies `offset` behind a place, or before it.
+pub(crate) fn seek_place(from: u64, offset: i64) -> Result<u64, Errno>
+    ensures { result ≡ offset_within (moved from offset) }
+{
+    let distance = offset.unsigned_abs();
+    let place = if offset < 0 {
+        from.checked_sub(distance).ok_or(Errno::EINVAL)?
+    } else {
+        from.checked_add(distance).ok_or(Errno::EOVERFLOW)?
+    };
+    if place > LAST_OFFSET {
+        return Err(Errno::EOVERFLOW);
+    }
+    Ok(place)
+}

@@ -1,0 +1,180 @@
+-- The stored cells of a tree, and how one of them is read and set.
+use Rattle.std.specs.Prelude.{ℕ, Bool, false, cond, ◌==◌, ◌||◌, nat_lt, List, [], Option, Some, None, IsSome, is_some, unwrap_or, refl}
+use Rattle.std.specs.Ordering.{nat_cmp}
+use Rattle.std.specs.Cmp.Lexicographic.{slice_cmp}
+use Rattle.std.specs.Option.{option_flatten, option_map, option_map_or}
+use Rattle.std.specs.List.{filter_map, list_any}
+use Rattle.std.specs.FinMap as map
+use Rattle.std.specs.Coded.{Coded, code_by, coded×, coded_ℕ, coded_list, coded_option}
+use Rattle.ft_cells.specs.declared.node.Kind.{Kind}
+use Rattle.ft_cells.specs.declared.node.Kind.TheVariants.{Dir as DirKind, File as FileKind}
+use Rattle.ft_cells.specs.declared.node.Node.{Node}
+use Rattle.ft_cells.specs.declared.open_file.OpenFile.{OpenFile}
+use Rattle.ft_cells.specs.contracts.open_file.OpenFile as open_file
+use Rattle.ft_cells.specs.Nodes.{coded_node}
+
+-- What is stored of one directory: the directory that has its entry, and a place for each entry, which may be empty.
+pub record DirCells : Type 0 where
+  pub parent : Option ℕ
+  pub entries : map.FinMap (slice_cmp nat_cmp) (Option Node)
+
+abbrev pub coded_dir_cells : Coded DirCells
+coded_dir_cells =
+    code_by (Option ℕ × map.FinMap (slice_cmp nat_cmp) (Option Node))
+    (coded× (coded_option coded_ℕ) (map.code (coded_list coded_ℕ) (coded_option coded_node)))
+    (λ d. (d.parent, d.entries)) (λ p. record { parent = p.0; entries = p.1 }) (λ _. refl)
+
+-- What is stored of one file: how many entries name it, and its bytes.
+pub record FileCells : Type 0 where
+  pub links : ℕ
+  pub bytes : List ℕ
+
+abbrev pub coded_file_cells : Coded FileCells
+coded_file_cells = code_by (ℕ × List ℕ) (coded× coded_ℕ (coded_list coded_ℕ)) (λ f. (f.links, f.bytes)) (λ p. record { links = p.0; bytes = p.1 }) (λ _. refl)
+
+-- The open file descriptions, by descriptor: a place for each, which may be empty.
+abbrev pub Opens : Type 0
+Opens = map.FinMap nat_cmp (Option OpenFile)
+
+-- The stored cells of a tree, by number.
+pub record Cells : Type 0 where
+  pub directories : map.FinMap nat_cmp DirCells
+  pub files : map.FinMap nat_cmp FileCells
+  pub opens : Opens
+
+abbrev pub coded_cells : Coded Cells
+coded_cells =
+    code_by (map.FinMap nat_cmp DirCells × (map.FinMap nat_cmp FileCells × Opens))
+    (coded× (map.code coded_ℕ coded_dir_cells) (coded× (map.code coded_ℕ coded_file_cells) (map.code coded_ℕ (coded_option open_file.the_row.coded))))
+    (λ c. (c.directories, (c.files, c.opens))) (λ p. record { directories = p.0; files = p.1.0; opens = p.1.1 }) (λ _. refl)
+
+-- what a name leads to; a place that is empty, or not there, is no entry
+abbrev pub dir_entry : DirCells → List ℕ → Option Node
+dir_entry d name = option_flatten (map.get d.entries name)
+
+-- the entry that stands in a place, if there is one
+abbrev pub filled : List ℕ × Option Node → Option (List ℕ × Node)
+filled e = option_map (λ x. (e.0, x)) e.1
+
+-- the entries of a directory in the order of their names, without the empty places
+abbrev pub dir_names : DirCells → List (List ℕ × Node)
+dir_names d = filter_map filled (map.entries d.entries)
+
+-- a directory that is not stored reads as one with no parent and no entry
+abbrev pub no_dir : DirCells
+no_dir = record { parent = None; entries = map.empty }
+
+abbrev pub dir_of : Cells → ℕ → DirCells
+dir_of cells d = unwrap_or (map.get cells.directories d) no_dir
+
+-- a file that is not stored reads as one with no entry and no byte
+abbrev pub no_file : FileCells
+no_file = record { links = 0; bytes = [] }
+
+abbrev pub file_of : Cells → ℕ → FileCells
+file_of cells i = unwrap_or (map.get cells.files i) no_file
+
+-- how many directories are stored, the empty places among them
+abbrev pub stored_dirs : Cells → ℕ
+stored_dirs cells = map.len cells.directories
+
+-- The value of each cell.
+
+abbrev pub entry_of : Cells → ℕ → List ℕ → Option Node
+entry_of cells d name = dir_entry (dir_of cells d) name
+
+abbrev pub names_of : Cells → ℕ → List (List ℕ × Node)
+names_of cells d = dir_names (dir_of cells d)
+
+abbrev pub parent_of : Cells → ℕ → Option ℕ
+parent_of cells d = (dir_of cells d).parent
+
+abbrev pub links_of : Cells → ℕ → ℕ
+links_of cells i = (file_of cells i).links
+
+abbrev pub bytes_of : Cells → ℕ → List ℕ
+bytes_of cells i = (file_of cells i).bytes
+
+-- the bytes of a file that is stored
+abbrev pub body_in : Cells → ℕ → Option (List ℕ)
+body_in cells i = option_map (λ (f : FileCells). f.bytes) (map.get cells.files i)
+
+abbrev pub open_of : Cells → ℕ → Option OpenFile
+open_of cells f = option_flatten (map.get cells.opens f)
+
+-- Places. One that is there can be set without memory.
+
+abbrev pub HasDirPlace : Cells → ℕ → Type 0
+HasDirPlace cells d = IsSome (map.get cells.directories d)
+
+abbrev pub HasPlace : DirCells → List ℕ → Type 0
+HasPlace d name = IsSome (map.get d.entries name)
+
+abbrev pub HasEntryPlace : Cells → ℕ → List ℕ → Type 0
+HasEntryPlace cells d name = HasPlace (dir_of cells d) name
+
+abbrev pub HasFilePlace : Cells → ℕ → Type 0
+HasFilePlace cells i = IsSome (map.get cells.files i)
+
+abbrev pub HasOpenPlace : Cells → ℕ → Type 0
+HasOpenPlace cells f = IsSome (map.get cells.opens f)
+
+-- The cells with one of them set.
+
+abbrev pub put_dir_entry : DirCells → List ℕ → Option Node → DirCells
+put_dir_entry d name to = record { parent = d.parent; entries = map.insert d.entries name to }
+
+abbrev pub put_dir_parent : DirCells → Option ℕ → DirCells
+put_dir_parent d parent = record { parent = parent; entries = d.entries }
+
+abbrev pub put_dir : Cells → ℕ → DirCells → Cells
+put_dir cells d x = record cells { directories = map.insert cells.directories d x }
+
+abbrev pub put_entry : Cells → ℕ → List ℕ → Option Node → Cells
+put_entry cells d name to = put_dir cells d (put_dir_entry (dir_of cells d) name to)
+
+abbrev pub put_parent : Cells → ℕ → Option ℕ → Cells
+put_parent cells d parent = put_dir cells d (put_dir_parent (dir_of cells d) parent)
+
+abbrev pub put_file : Cells → ℕ → FileCells → Cells
+put_file cells i x = record cells { files = map.insert cells.files i x }
+
+abbrev pub put_links : Cells → ℕ → ℕ → Cells
+put_links cells i links = put_file cells i (record { links = links; bytes = bytes_of cells i })
+
+abbrev pub put_bytes : Cells → ℕ → List ℕ → Cells
+put_bytes cells i bytes = put_file cells i (record { links = links_of cells i; bytes = bytes })
+
+abbrev pub put_open : Cells → ℕ → Option OpenFile → Cells
+put_open cells f to = record cells { opens = map.insert cells.opens f to }
+
+-- a directory without the place of an entry
+abbrev pub without_dir_place : DirCells → List ℕ → DirCells
+without_dir_place d name = record { parent = d.parent; entries = map.remove d.entries name }
+
+-- the root alone
+abbrev pub fresh_cells : Cells
+fresh_cells = record { directories = map.insert map.empty 1 no_dir; files = map.empty; opens = map.empty }
+
+-- a stored directory is there where it is the root or has a parent
+abbrev pub is_there : ℕ → DirCells → Bool
+is_there i d = (i == 1) || is_some d.parent
+
+abbrev pub has_dir : Cells → ℕ → Bool
+has_dir cells i = option_map_or (is_there i) (map.get cells.directories i) false
+
+-- the description in a place is one of file i
+abbrev pub is_of_file : ℕ → ℕ × Option OpenFile → Bool
+is_of_file i e = option_map_or (λ (o : OpenFile). o.file == i) e.1 false
+
+-- some descriptor has file i open
+abbrev pub is_open : Opens → ℕ → Bool
+is_open opens i = list_any (is_of_file i) (map.entries opens)
+
+-- a file is there while an entry or a description names it (POSIX.1-2017, System Interfaces, unlink and close)
+abbrev pub has_file : Cells → ℕ → Bool
+has_file cells i = nat_lt 0 (links_of cells i) || is_open cells.opens i
+
+-- what a number stands for
+abbrev pub kind_of : Cells → ℕ → Option Kind
+kind_of cells i = cond (has_dir cells i) (Some DirKind) (cond (has_file cells i) (Some FileKind) None)

@@ -1,0 +1,9 @@
+pub mod Nodes
+pub mod Modes
+pub mod Entries
+pub mod CellOrder
+pub mod Cells
+pub mod Looks
+pub mod Plain
+pub mod Rows
+pub mod Openings

@@ -1,0 +1,35 @@
+-- What an entry leads to.
+use Rattle.std.specs.Prelude.{◌≡◌, ℕ, Bool, true, false, List, map, refl}
+use Rattle.std.specs.Coded.{Coded, code_by, coded×, coded_ℕ, coded_bool}
+use Rattle.ft_cells.specs.declared.node.Kind.{Kind}
+use Rattle.ft_cells.specs.declared.node.Kind.TheVariants.{Dir as DirKind, File as FileKind}
+use Rattle.ft_cells.specs.declared.node.Node.{Node}
+use Rattle.ft_cells.specs.declared.node.Node.TheVariants.{Dir as DirNode, File as FileNode}
+
+abbrev pub number_of : Node → ℕ
+number_of (DirNode i) = i
+number_of (FileNode i) = i
+
+abbrev pub kind_of_node : Node → Kind
+kind_of_node (DirNode i) = DirKind
+kind_of_node (FileNode i) = FileKind
+
+-- names with the kinds of what they lead to
+abbrev pub with_kinds : List (List ℕ × Node) → List (List ℕ × Kind)
+with_kinds es = map (λ e. (e.0, kind_of_node e.1)) es
+
+-- a node is stored as its number, and whether it is a directory
+abbrev pub node_to_pair : Node → Bool × ℕ
+node_to_pair (DirNode i) = (true, i)
+node_to_pair (FileNode i) = (false, i)
+
+abbrev pub node_from : Bool → ℕ → Node
+node_from true i = DirNode i
+node_from false i = FileNode i
+
+abbrev pub node_back : (n : Node) → node_from (node_to_pair n).0 (node_to_pair n).1 ≡ n
+node_back (DirNode i) = refl
+node_back (FileNode i) = refl
+
+abbrev pub coded_node : Coded Node
+coded_node = code_by (Bool × ℕ) (coded× coded_bool coded_ℕ) node_to_pair (λ p. node_from p.0 p.1) node_back

@@ -1,0 +1,50 @@
+-- The plain tree: edges, directories, files and open file descriptions, with nothing kept beside them (POSIX.1-2017, Base Definitions, 3 and 4.13).
+use Rattle.std.specs.Prelude.{ℕ, cond, ◌==◌, List, [], map, filter, length, Option, None, unwrap_or}
+use Rattle.std.specs.Ordering.{nat_cmp}
+use Rattle.std.specs.List.{find}
+use Rattle.std.specs.Option.{option_map}
+use Rattle.std.specs.FinMap as finite
+use Rattle.ft_cells.specs.declared.node.Node.{Node}
+use Rattle.ft_cells.specs.declared.node.Node.TheVariants.{Dir as DirNode, File as FileNode}
+use Rattle.ft_cells.specs.declared.open_file.OpenFile.{OpenFile}
+use Rattle.ft_cells.specs.declared.cell.Cell.TheVariants.{Entry, Names, Parent, Links, Bytes, Fd}
+use Rattle.ft_cells.specs.Entries.{entry_cmp}
+use Rattle.ft_cells.specs.Looks.{View}
+
+-- a set of numbers
+abbrev pub NumberSet : Type 0
+NumberSet = finite.FinMap nat_cmp (Unit {0})
+
+pub record PlainTree : Type 0 where
+  -- what number each entry leads to
+  pub edges : finite.FinMap entry_cmp ℕ
+  -- the numbers that are directories
+  pub dirs : NumberSet
+  -- the bytes of each file
+  pub files : finite.FinMap nat_cmp (List ℕ)
+  -- the open file description of each descriptor
+  pub opens : finite.FinMap nat_cmp OpenFile
+
+-- the directory whose edge leads to a number
+abbrev pub parent_in : PlainTree → ℕ → Option ℕ
+parent_in p i = option_map (λ e. e.0.dir) (find (λ e. e.1 == i) (finite.entries p.edges))
+
+abbrev pub node_in : PlainTree → ℕ → Node
+node_in p i = cond (finite.contains_key p.dirs i) (DirNode i) (FileNode i)
+
+-- all names of a directory, in their order, with what they lead to
+abbrev pub names_in : PlainTree → ℕ → List (List ℕ × Node)
+names_in p d = map (λ e. (e.0.name, node_in p e.1)) (finite.entries (finite.retain_keys p.edges (λ e. e.dir == d)))
+
+-- how many edges lead to a number
+abbrev pub links_in : PlainTree → ℕ → ℕ
+links_in p i = length (filter (λ e. e.1 == i) (finite.entries p.edges))
+
+-- what a plain tree shows; only a directory has a parent, and only a file has links
+abbrev pub view_in : PlainTree → View
+view_in p (Entry entry) = option_map (node_in p) (finite.get p.edges entry)
+view_in p (Names d) = names_in p d
+view_in p (Parent d) = cond (finite.contains_key p.dirs d) (parent_in p d) None
+view_in p (Links i) = cond (finite.contains_key p.dirs i) 0 (links_in p i)
+view_in p (Bytes i) = unwrap_or (finite.get p.files i) []
+view_in p (Fd f) = finite.get p.opens f

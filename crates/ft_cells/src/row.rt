@@ -1,0 +1,32 @@
+// The rows of a tree: what it holds, line by line.
+use crate::entry::Entry;
+use crate::open_file::AccessMode;
+use ft_base::Sequence;
+
+/// One line of what a tree holds. The form is this project's own.
+#[derive(Debug, PartialEq, Eq, Drop)]
+pub enum TreeRow {
+    /// A directory that is there: the root, or one with a parent.
+    Dir {
+        number: u64,
+    },
+    /// An entry of a directory, and the number that it leads to.
+    Edge {
+        entry: Entry,
+        number: u64,
+    },
+    /// A file that is there, one that an entry or a description names: its size and its bytes.
+    File {
+        number: u64,
+        size: u64,
+        bytes: Sequence<u8>,
+    },
+    /// A descriptor that is open, and its open file description.
+    Fd {
+        fd: u64,
+        file: u64,
+        access: AccessMode,
+        append: bool,
+        offset: u64,
+    },
+}

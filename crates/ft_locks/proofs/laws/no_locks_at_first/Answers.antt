@@ -1,5 +1,0 @@
-use Rattle.ft_locks.proofs.Following.{first_law}
-use Rattle.ft_locks.proofs.laws.no_locks_at_first.Goals as goal
-
-pub returns : goal.returns
-returns c = first_law

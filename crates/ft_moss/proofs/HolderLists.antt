@@ -1,0 +1,383 @@
+-- A list of holdings in which no owner stands twice: what stands in its middle decides what it has for one owner.
+use Rattle.std.proofs.Common.{◌≡◌, ℕ, suc, ◌<◌, Bool, true, false, cond, not, ◌&&◌, ◌||◌, List, [], ◌∷◌, ◌++◌, Option, Some, None, refl, sym, ap, subst, ◌∙◌, set, take, drop, length, get_or, is_some, IsSome, unwrap_or, ◌==◌}
+use Rattle.std.proofs.lemmas.Bool.{false≢true}
+use Rattle.std.specs.Ordering.{nat_cmp, eq_by_cmp}
+use Rattle.std.specs.Cmp.{nat_cmp_total, nat_eq_equiv, eq_by_cmp_equiv, unsigned_tied, Equal-is}
+use Rattle.std.proofs.lemmas.List.{set_split, take-append-drop, append-nil}
+use Rattle.std.proofs.Math.Seq.{drop-cons}
+use Rattle.std.specs.List.{remove, find, position, position_or_len, list_any}
+use Rattle.std.proofs.lemmas.List.Folds.{find_at}
+use Rattle.std.proofs.lemmas.List.Quantifiers.{position-Some}
+use Rattle.std.proofs.lemmas.Option.{slice_get_past}
+use Rattle.std.proofs.lemmas.Bool.{ltb-false, eqb-true}
+use Rattle.std.proofs.Math.Dec.{ltb}
+use Rattle.std.specs.FinMap as finite
+use Rattle.ft_moss.specs.declared.marks.Marks.{Marks}
+use Rattle.ft_moss.specs.declared.holders.Holding.{Holding}
+use Rattle.ft_moss.specs.Marks.{no_marks, with_marks, is_marked, is_marked_of}
+use Rattle.ft_moss.specs.Holders.{Owners, as_entries, marks_in, place_in, AreApart, IsPlaceOf, marked, marked_at, handed}
+
+abbrev pub blank : Holding
+blank = record { owner = 0; marks = no_marks }
+
+abbrev ties : ℕ → ℕ → Bool
+ties = eq_by_cmp nat_cmp
+
+none_either : (b : Bool) (o : Option Marks) → cond b o o ≡ o
+none_either true o = refl
+none_either false o = refl
+
+either_first : (a b : Bool) (x : Marks) (more : Option Marks) → (a ≡ true → b ≡ true → ⊥) → cond a None (cond b (Some x) more) ≡ cond b (Some x) (cond a None more)
+either_first true true x more apart = absurd (apart refl refl)
+either_first true false x more apart = refl
+either_first false b x more apart = refl
+
+tied_same : (a b : ℕ) → ties a b ≡ true → a ≡ b
+tied_same a b e = finite.nat_cmp-IsAntisymmetric a b ((Equal-is (nat_cmp a b)).0 e)
+
+none_of : (b : Bool) (n : ℕ) → None ≡ cond b (Some n) None → b ≡ false
+none_of true n e = absurd (false≢true (ap is_some e))
+none_of false n e = refl
+
+missed_head : (b : Bool) (h : Holding) (more : Option Holding) → cond b (Some h) more ≡ None → (b ≡ false) × (more ≡ None)
+missed_head true h more e = absurd (false≢true (sym (ap is_some e)))
+missed_head false h more e = (refl, e)
+
+-- a first entry that leaves nothing: it is another's
+not_first : (b : Bool) (m : Marks) (more : Option Marks) → cond b (Some m) more ≡ None → (b ≡ false) × (more ≡ None)
+not_first true m more e = absurd (false≢true (sym (ap is_some e)))
+not_first false m more e = (refl, e)
+
+first_other : (b : Bool) (m : Marks) (more : Option Marks) → b ≡ false → more ≡ None → cond b (Some m) more ≡ None
+first_other b m more e none = ap (λ c. cond c (Some m) more) e ∙ none
+
+swap_tests : (a b : Bool) (m n : Marks) (more : Option Marks) → (a ≡ true → b ≡ true → ⊥) → cond a (Some m) (cond b (Some n) more) ≡ cond b (Some n) (cond a (Some m) more)
+swap_tests true true m n more apart = absurd (apart refl refl)
+swap_tests true false m n more apart = refl
+swap_tests false b m n more apart = refl
+
+not_both : (q a b : ℕ) → ties a b ≡ false → ties q b ≡ true → ties q a ≡ true → ⊥
+not_both q a b apart with_b with_a =
+    let laws = eq_by_cmp_equiv nat_cmp_total in
+    false≢true (sym apart ∙ sym (laws.congr q a b with_a) ∙ with_b)
+
+-- what an owner has, where the one in the middle stands nowhere else
+pub at-middle : (p s : List Holding) (x : Holding) (q : ℕ) → marks_in (p ++ s) x.owner ≡ None → marks_in (p ++ x ∷ s) q ≡ cond (ties q x.owner) (Some x.marks) (marks_in (p ++ s) q)
+at-middle [] s x q none = refl
+at-middle (h ∷ p) s x q none =
+    let here = not_first (ties x.owner h.owner) h.marks (marks_in (p ++ s) x.owner) none in
+    ap (cond (ties q h.owner) (Some h.marks)) (at-middle p s x q here.1)
+    ∙ swap_tests (ties q h.owner) (ties q x.owner) h.marks x.marks (marks_in (p ++ s) q) (not_both q x.owner h.owner here.0)
+
+pub apart-middle : (p s : List Holding) (x : Holding) → AreApart (p ++ x ∷ s) → AreApart (p ++ s) × (marks_in (p ++ s) x.owner ≡ None)
+apart-middle [] s x h = (h.1, h.0)
+apart-middle (y ∷ p) s x h =
+    let later = apart-middle p s x h.1 in
+    let here = not_first (ties y.owner x.owner) x.marks (marks_in (p ++ s) y.owner) (sym (at-middle p s x y.owner later.1) ∙ h.0) in
+    ((here.1, later.0), first_other (ties x.owner y.owner) y.marks (marks_in (p ++ s) x.owner) ((eq_by_cmp_equiv nat_cmp_total).symm x.owner y.owner ∙ here.0) later.1)
+
+pub middle-apart : (p s : List Holding) (x : Holding) → AreApart (p ++ s) → marks_in (p ++ s) x.owner ≡ None → AreApart (p ++ x ∷ s)
+middle-apart [] s x h none = (none, h)
+middle-apart (y ∷ p) s x h none =
+    let here = not_first (ties x.owner y.owner) y.marks (marks_in (p ++ s) x.owner) none in
+    (at-middle p s x y.owner here.1 ∙ first_other (ties y.owner x.owner) x.marks (marks_in (p ++ s) y.owner) ((eq_by_cmp_equiv nat_cmp_total).symm y.owner x.owner ∙ here.0) h.0, middle-apart p s x h.1 here.1)
+
+-- What the list is seen as.
+abbrev pub seen : List Holding → Owners
+seen list = finite.from_entries (as_entries list)
+
+pub get-seen : (list : List Holding) (q : ℕ) → finite.get (seen list) q ≡ marks_in list q
+get-seen list q = finite.get-from_entries nat_cmp_total (as_entries list) q
+
+pub same_owners : (m n : Owners) → ((q : ℕ) → finite.get m q ≡ finite.get n q) → m ≡ n
+same_owners m n is = finite.same_map nat_cmp_total finite.nat_cmp-IsAntisymmetric m n is
+
+-- a list is what stands before a place, what stands there, and what stands behind it
+pub split_at : (list : List Holding) (i : ℕ) (d : Holding) → i < length list → list ≡ take i list ++ get_or list i d ∷ drop (suc i) list
+split_at list i d within = sym (take-append-drop i list) ∙ ap (λ (more : List Holding). take i list ++ more) (drop-cons list i d within)
+
+-- the rest of a list, with one place left out
+abbrev pub others : List Holding → ℕ → List Holding
+others list i = take i list ++ drop (suc i) list
+
+-- at this place stands x, and its owner nowhere else
+pub record IsPlaced (list : List Holding) (i : ℕ) (x : Holding) : Type 0 where
+  pub apart : AreApart (others list i)
+  pub absent : marks_in (others list i) x.owner ≡ None
+  pub at : (q : ℕ) → marks_in list q ≡ cond (ties q x.owner) (Some x.marks) (marks_in (others list i) q)
+
+pub placed : (list : List Holding) (i : ℕ) (d : Holding) → AreApart list → i < length list → IsPlaced list i (get_or list i d)
+placed list i d apart within =
+    let split = split_at list i d within in
+    let rest = apart-middle (take i list) (drop (suc i) list) (get_or list i d) (subst AreApart split apart) in
+    record {
+      apart = rest.0;
+      absent = rest.1;
+      at = λ q. ap (λ l. marks_in l q) split ∙ at-middle (take i list) (drop (suc i) list) (get_or list i d) q rest.1;
+    }
+
+module _ (m : Owners) (list : List Holding) (is : seen list ≡ m) where
+  -- what the map has, by the list
+  pub get-list : (q : ℕ) → finite.get m q ≡ marks_in list q
+  get-list q = ap (λ (n : Owners). finite.get n q) (sym is) ∙ get-seen list q
+
+  module _ (i : ℕ) (d : Holding) (apart : AreApart list) (within : i < length list) where
+    here : IsPlaced list i (get_or list i d)
+    here = placed list i d apart within
+
+    -- the owner at the place has what stands there
+    pub get-here : finite.get m (get_or list i d).owner ≡ Some (get_or list i d).marks
+    get-here = get-list (get_or list i d).owner ∙ here.at (get_or list i d).owner ∙ ap (λ b. cond b (Some (get_or list i d).marks) (marks_in (others list i) (get_or list i d).owner)) ((eq_by_cmp_equiv nat_cmp_total).refl (get_or list i d).owner)
+
+    -- without it, its owner has nothing, and the others have what they had
+    pub get-others : (q : ℕ) → marks_in (others list i) q ≡ finite.get (finite.remove m (get_or list i d).owner) q
+    get-others q =
+        left_out (ties q (get_or list i d).owner) refl
+        ∙ ap (cond (ties q (get_or list i d).owner) None) (sym (get-list q))
+        ∙ sym (finite.get-remove nat_cmp_total m (get_or list i d).owner q)
+      where
+        left_out : (b : Bool) → ties q (get_or list i d).owner ≡ b → marks_in (others list i) q ≡ cond (ties q (get_or list i d).owner) None (marks_in list q)
+        left_out true tied = ap (marks_in (others list i)) (tied_same q (get_or list i d).owner tied) ∙ here.absent ∙ sym (ap (λ b. cond b None (marks_in list q)) tied)
+        left_out false tied =
+            sym (here.at q ∙ ap (λ b. cond b (Some (get_or list i d).marks) (marks_in (others list i) q)) tied)
+            ∙ sym (ap (λ b. cond b None (marks_in list q)) tied)
+
+    -- another place in its stead
+    pub apart-set : (y : Holding) → marks_in (others list i) y.owner ≡ None → AreApart (set list i y)
+    apart-set y none = subst AreApart (sym (set_split list i y within)) (middle-apart (take i list) (drop (suc i) list) y here.apart none)
+
+    pub seen-set : (y : Holding) → marks_in (others list i) y.owner ≡ None → seen (set list i y) ≡ finite.insert (finite.remove m (get_or list i d).owner) y.owner y.marks
+    seen-set y none = same_owners _ _ (λ q. get-seen (set list i y) q ∙ ap (λ l. marks_in l q) (set_split list i y within)
+        ∙ at-middle (take i list) (drop (suc i) list) y q none
+        ∙ ap (cond (ties q y.owner) (Some y.marks)) (get-others q)
+        ∙ sym (finite.get-insert nat_cmp_total (finite.remove m (get_or list i d).owner) y.owner y.marks q))
+
+    -- its place taken out
+    pub apart-remove : AreApart (remove list i)
+    apart-remove = here.apart
+
+    pub seen-remove : seen (remove list i) ≡ finite.remove m (get_or list i d).owner
+    seen-remove = same_owners _ _ (λ q. get-seen (remove list i) q ∙ get-others q)
+
+  -- a place behind all others
+  pub seen-push : (x : Holding) → marks_in list x.owner ≡ None → seen (list ++ x ∷ []) ≡ finite.insert m x.owner x.marks
+  seen-push x none = same_owners _ _ (λ q. get-seen (list ++ x ∷ []) q
+      ∙ at-middle list [] x q (ap (λ l. marks_in l x.owner) (append-nil list) ∙ none)
+      ∙ ap (cond (ties q x.owner) (Some x.marks)) (ap (λ l. marks_in l q) (append-nil list) ∙ sym (get-list q))
+      ∙ sym (finite.get-insert nat_cmp_total m x.owner x.marks q))
+
+pub apart-push : (list : List Holding) (x : Holding) → AreApart list → marks_in list x.owner ≡ None → AreApart (list ++ x ∷ [])
+apart-push list x apart none = middle-apart list [] x (subst AreApart (sym (append-nil list)) apart) (ap (λ l. marks_in l x.owner) (append-nil list) ∙ none)
+
+-- to put what an owner has again, without first taking it out
+pub put_again : (m : Owners) (u : ℕ) (x : Marks) → finite.insert (finite.remove m u) u x ≡ finite.insert m u x
+put_again m u x = same_owners _ _ (λ q.
+    finite.get-insert nat_cmp_total (finite.remove m u) u x q
+    ∙ covered (ties q u) q refl
+    ∙ sym (finite.get-insert nat_cmp_total m u x q))
+  where
+    covered : (b : Bool) (q : ℕ) → ties q u ≡ b → cond (ties q u) (Some x) (finite.get (finite.remove m u) q) ≡ cond (ties q u) (Some x) (finite.get m q)
+    covered true q e = ap (λ b. cond b (Some x) (finite.get (finite.remove m u) q)) e ∙ sym (ap (λ b. cond b (Some x) (finite.get m q)) e)
+    covered false q e = ap (cond (ties q u) (Some x)) (finite.get-remove nat_cmp_total m u q ∙ ap (λ b. cond b None (finite.get m q)) e)
+
+-- A list as the code reads it.
+abbrev pub read : (list ys : List Holding) (q : ℕ) (r : Option ℕ) → r ≡ place_in ys q → ys ≡ list → r ≡ place_in list q
+read list ys q r e same = e ∙ ap (λ l. place_in l q) same
+
+-- where a search finds no place, the owner has nothing
+pub none_there : (list : List Holding) (q : ℕ) → None ≡ place_in list q → marks_in list q ≡ None
+none_there list q e = nothing list q (missed list (λ h. h.owner == q) e)
+  where
+    missed : (hs : List Holding) (p : Holding → Bool) → None ≡ position p hs → find p hs ≡ None
+    missed hs p e = find_at p hs ∙ slice_get_past hs (position_or_len p hs) (ltb-false (position_or_len p hs) (length hs) (none_of (ltb (position_or_len p hs) (length hs)) (position_or_len p hs) e))
+
+    nothing : (hs : List Holding) (u : ℕ) → find (λ h. h.owner == u) hs ≡ None → marks_in hs u ≡ None
+    nothing [] u none = refl
+    nothing (h ∷ more) u none =
+        let later = missed_head (h.owner == u) h (find (λ x. x.owner == u) more) none in
+        first_other (ties u h.owner) h.marks (marks_in more u) (unsigned_tied u h.owner ∙ nat_eq_equiv.symm u h.owner ∙ later.0) (nothing more u later.1)
+
+-- where it finds one, the owner stands there
+pub found_at : (list : List Holding) (q i : ℕ) → Some i ≡ place_in list q → IsPlaceOf list i q
+found_at list q i e = record {
+  within = (position-Some (λ (h : Holding). h.owner == q) list i blank (sym e)).0;
+  owned = λ d. eqb-true (get_or list i d).owner q (position-Some (λ (h : Holding). h.owner == q) list i d (sym e)).1;
+}
+
+pub none_at : (m : Owners) (list : List Holding) (q : ℕ) → seen list ≡ m → marks_in list q ≡ None → finite.get m q ≡ None
+none_at m list q is none = get-list m list is q ∙ none
+
+-- A list in which the owner q stands at a place.
+module _ (m : Owners) (list : List Holding) (is : seen list ≡ m) (apart : AreApart list) (i q : ℕ) (at : IsPlaceOf list i q) where
+  pub got : (d : Holding) → finite.get m q ≡ Some (get_or list i d).marks
+  got d = ap (finite.get m) (sym (at.owned d)) ∙ get-here m list is i d apart at.within
+
+  pub removed : AreApart (remove list i)
+  removed = (placed list i blank apart at.within).apart
+
+  pub seen-removed : seen (remove list i) ≡ finite.remove m q
+  seen-removed = seen-remove m list is i blank apart at.within ∙ ap (finite.remove m) (at.owned blank)
+
+  own : (d y : Holding) → y.owner ≡ q → marks_in (others list i) y.owner ≡ None
+  own d y same = ap (marks_in (others list i)) (same ∙ sym (at.owned d)) ∙ (placed list i d apart at.within).absent
+
+  pub apart-own : (y : Holding) → y.owner ≡ q → AreApart (set list i y)
+  apart-own y same = apart-set m list is i blank apart at.within y (own blank y same)
+
+  -- the owner's place with more in it
+  pub seen-own : (h : Holding) (x marks : Marks) → h ≡ get_or list i h → x ≡ with_marks h.marks marks → seen (set list i (record { owner = h.owner; marks = x })) ≡ marked m q marks
+  seen-own h x marks read more =
+      let owned : h.owner ≡ q = ap (λ (k : Holding). k.owner) read ∙ at.owned h in
+      seen-set m list is i blank apart at.within (record { owner = h.owner; marks = x }) (own blank (record { owner = h.owner; marks = x }) owned)
+      ∙ ap (λ u. finite.insert (finite.remove m u) h.owner x) (at.owned blank)
+      ∙ ap (λ u. finite.insert (finite.remove m q) u x) owned
+      ∙ put_again m q x
+      ∙ ap (finite.insert m q) more
+      ∙ sym (ap (marked_at m q marks) (got h ∙ ap (λ (k : Holding). Some k.marks) (sym read)))
+
+  absent_too : (u : ℕ) → finite.get m u ≡ None → marks_in (others list i) u ≡ None
+  absent_too u none =
+      get-others m list is i blank apart at.within u ∙ finite.get-remove nat_cmp_total m (get_or list i blank).owner u
+      ∙ ap (cond (ties u (get_or list i blank).owner) None) none ∙ none_either (ties u (get_or list i blank).owner) None
+
+  pub apart-other : (y : Holding) → finite.get m y.owner ≡ None → AreApart (set list i y)
+  apart-other y none = apart-set m list is i blank apart at.within y (absent_too y.owner none)
+
+  -- another owner in its place
+  pub seen-other : (y : Holding) → finite.get m y.owner ≡ None → seen (set list i y) ≡ finite.insert (finite.remove m q) y.owner y.marks
+  seen-other y none = seen-set m list is i blank apart at.within y (absent_too y.owner none) ∙ ap (λ u. finite.insert (finite.remove m u) y.owner y.marks) (at.owned blank)
+
+-- an owner that has nothing loses nothing
+pub remove_none : (m : Owners) (q : ℕ) → finite.get m q ≡ None → finite.remove m q ≡ m
+remove_none m q none = same_owners _ _ (λ u. finite.get-remove nat_cmp_total m q u ∙ unchanged u (ties u q) refl)
+  where
+    unchanged : (u : ℕ) (b : Bool) → ties u q ≡ b → cond (ties u q) None (finite.get m u) ≡ finite.get m u
+    unchanged u true e = ap (λ b. cond b None (finite.get m u)) e ∙ sym (ap (finite.get m) (tied_same u q e) ∙ none)
+    unchanged u false e = ap (λ b. cond b None (finite.get m u)) e
+
+-- to take an owner out before or after another is put
+pub remove_after : (m : Owners) (from to : ℕ) (x : Marks) → (from ≡ to → ⊥) → finite.remove (finite.insert m to x) from ≡ finite.insert (finite.remove m from) to x
+remove_after m from to x apart = same_owners _ _ (λ u.
+    finite.get-remove nat_cmp_total (finite.insert m to x) from u ∙ ap (cond (ties u from) None) (finite.get-insert nat_cmp_total m to x u)
+    ∙ either_first (ties u from) (ties u to) x (finite.get m u) (λ a b. apart (sym (tied_same u from a) ∙ tied_same u to b))
+    ∙ sym (finite.get-insert nat_cmp_total (finite.remove m from) to x u ∙ ap (cond (ties u to) (Some x)) (finite.get-remove nat_cmp_total m from u)))
+
+-- a search that finds no place
+pub nothing_found : (m : Owners) (list ys : List Holding) (q : ℕ) → seen list ≡ m → None ≡ place_in ys q → ys ≡ list → finite.get m q ≡ None
+nothing_found m list ys q is e same = none_at m list q is (none_there list q (read list ys q None e same))
+
+pub nothing_marked : (m : Owners) (q : ℕ) (marks : Marks) → finite.get m q ≡ None → m ≡ marked m q marks
+nothing_marked m q marks none = sym (ap (marked_at m q marks) none)
+
+not_there : {P : Type 0} (o : Option Marks) → o ≡ None → IsSome o → P
+not_there o none some = absurd (false≢true (sym (ap is_some none) ∙ some))
+
+-- a search for an owner that is there finds it
+pub never_missing : {P : Type 0} (m : Owners) (list ys : List Holding) (q : ℕ) → seen list ≡ m → None ≡ place_in ys q → ys ≡ list → IsSome (finite.get m q) → P
+never_missing m list ys q is e same = not_there (finite.get m q) (nothing_found m list ys q is e same)
+
+pub turned : (b : Bool) {x : Bool} → not b ≡ x → b ≡ not x
+turned true e = ap not e
+turned false e = ap not e
+
+-- where nobody else stands in the list, nobody is left without the owner
+pub others_missing : (m : Owners) (list : List Holding) (q : ℕ) → seen list ≡ m → list_any (λ h. not (h.owner == q)) list ≡ false → (u : ℕ) → finite.get (finite.remove m q) u ≡ None
+others_missing m list q is none u =
+    finite.get-remove nat_cmp_total m q u ∙ ap (cond (ties u q) None) (get-list m list is u) ∙ by_list list none
+  where
+    twice : (b : Bool) (x : Marks) (o : Option Marks) → cond b None o ≡ None → cond b None (cond b (Some x) o) ≡ None
+    twice true x o e = refl
+    twice false x o e = e
+
+    by_list : (l : List Holding) → list_any (λ h. not (h.owner == q)) l ≡ false → cond (ties u q) None (marks_in l u) ≡ None
+    by_list [] e = none_either (ties u q) None
+    by_list (h ∷ more) e = by_test (h.owner == q) refl e (λ rest. by_list more rest)
+      where
+        by_test : (b : Bool) → (h.owner == q) ≡ b → (not b || list_any (λ h. not (h.owner == q)) more) ≡ false
+            → (list_any (λ h. not (h.owner == q)) more ≡ false → cond (ties u q) None (marks_in more u) ≡ None) → cond (ties u q) None (marks_in (h ∷ more) u) ≡ None
+        by_test true same e rest = ap (λ v. cond (ties u q) None (cond (ties u v) (Some h.marks) (marks_in more u))) (eqb-true h.owner q same) ∙ twice (ties u q) h.marks (marks_in more u) (rest e)
+        by_test false same e rest = absurd (false≢true (sym e))
+
+pub others_found : (m : Owners) (list : List Holding) (q : ℕ) → seen list ≡ m → list_any (λ h. not (h.owner == q)) list ≡ true → (u : ℕ) × IsSome (finite.get (finite.remove m q) u)
+others_found m list q is some =
+    let found = by_list list some in
+    (found.0, ap is_some (finite.get-remove nat_cmp_total m q found.0 ∙ ap (cond (ties found.0 q) None) (get-list m list is found.0) ∙ ap (λ b. cond b None (marks_in list found.0)) found.1) ∙ found.2)
+  where
+    either : (b : Bool) (x : Marks) (o : Option Marks) → is_some o ≡ true → is_some (cond b (Some x) o) ≡ true
+    either true x o e = refl
+    either false x o e = e
+
+    by_list : (l : List Holding) → list_any (λ h. not (h.owner == q)) l ≡ true → (u : ℕ) × (ties u q ≡ false) × (is_some (marks_in l u) ≡ true)
+    by_list [] e = absurd (false≢true e)
+    by_list (h ∷ more) e = by_test (h.owner == q) refl e (λ rest. by_list more rest)
+      where
+        by_test : (b : Bool) → (h.owner == q) ≡ b → (not b || list_any (λ h. not (h.owner == q)) more) ≡ true
+            → (list_any (λ h. not (h.owner == q)) more ≡ true → (u : ℕ) × (ties u q ≡ false) × (is_some (marks_in more u) ≡ true))
+            → (u : ℕ) × (ties u q ≡ false) × (is_some (marks_in (h ∷ more) u) ≡ true)
+        by_test true same e more_some = let rest = more_some e in (rest.0, rest.1, either (ties rest.0 h.owner) h.marks (marks_in more rest.0) rest.2)
+        by_test false same e more_some = (h.owner, unsigned_tied h.owner q ∙ same, ap (λ b. is_some (cond b (Some h.marks) (marks_in more h.owner))) ((eq_by_cmp_equiv nat_cmp_total).refl h.owner))
+
+-- a place whose marks grow, and another that goes
+pub handed-marked : (m : Owners) (from to : ℕ) (marks : Marks) → (from ≡ to → ⊥) → IsSome (finite.get m to) → finite.remove (marked m to marks) from ≡ handed m from to marks
+handed-marked m from to marks apart some = by_own (finite.get m to) refl some
+  where
+    by_own : (own : Option Marks) → finite.get m to ≡ own → IsSome own → finite.remove (marked m to marks) from ≡ handed m from to marks
+    by_own None e some = absurd (false≢true some)
+    by_own (Some own) e some =
+        ap (λ o. finite.remove (marked_at m to marks o) from) e
+        ∙ remove_after m from to (with_marks own marks) apart
+        ∙ sym (ap (λ o. finite.insert (finite.remove m from) to (with_marks (unwrap_or o no_marks) marks)) e)
+
+pub with_none : (marks : Marks) → with_marks no_marks marks ≡ marks
+with_none marks = refl
+
+-- Whether somebody in a list has a lock.
+pub marked_in_list : (list : List Holding) → AreApart list → list_any (λ h. is_marked h.marks) list ≡ true → (owner : ℕ) × (is_marked_of (marks_in list owner) ≡ true)
+marked_in_list [] apart e = absurd (false≢true e)
+marked_in_list (h ∷ more) apart e = by_head (is_marked h.marks) refl e (marked_in_list more apart.1)
+  where
+    by_owner : (u : ℕ) (b : Bool) → ties u h.owner ≡ b → is_marked_of (marks_in more u) ≡ true → is_marked_of (cond (ties u h.owner) (Some h.marks) (marks_in more u)) ≡ true
+    by_owner u true d marked = absurd (false≢true (sym (ap is_marked_of (ap (marks_in more) (tied_same u h.owner d) ∙ apart.0)) ∙ marked))
+    by_owner u false d marked = ap (λ b. is_marked_of (cond b (Some h.marks) (marks_in more u))) d ∙ marked
+
+    by_head : (b : Bool) → is_marked h.marks ≡ b → (b || list_any (λ x. is_marked x.marks) more) ≡ true
+        → (list_any (λ x. is_marked x.marks) more ≡ true → (owner : ℕ) × (is_marked_of (marks_in more owner) ≡ true)) → (owner : ℕ) × (is_marked_of (marks_in (h ∷ more) owner) ≡ true)
+    by_head true d e later = (h.owner, ap (λ b. is_marked_of (cond b (Some h.marks) (marks_in more h.owner))) ((eq_by_cmp_equiv nat_cmp_total).refl h.owner) ∙ d)
+    by_head false d e later = let found = later e in (found.0, by_owner found.0 (ties found.0 h.owner) refl found.1)
+
+pub unmarked_in_list : (list : List Holding) → list_any (λ h. is_marked h.marks) list ≡ false → (owner : ℕ) → is_marked_of (marks_in list owner) ≡ false
+unmarked_in_list [] e owner = refl
+unmarked_in_list (h ∷ more) e owner =
+    let both = neither (is_marked h.marks) (list_any (λ x. is_marked x.marks) more) e in
+    by_owner (ties owner h.owner) both.0 (unmarked_in_list more both.1 owner)
+  where
+    neither : (a b : Bool) → (a || b) ≡ false → (a ≡ false) × (b ≡ false)
+    neither true b d = absurd (false≢true (sym d))
+    neither false b d = (refl, d)
+
+    by_owner : (b : Bool) → is_marked h.marks ≡ false → is_marked_of (marks_in more owner) ≡ false → is_marked_of (cond b (Some h.marks) (marks_in more owner)) ≡ false
+    by_owner true marked later = marked
+    by_owner false marked later = later
+
+-- a list in which no owner stands twice, read one owner at a time
+pub owner_passes : (p : Option Marks → Bool) → p None ≡ false → (list : List Holding) → AreApart list → (u : ℕ) → list_any (λ h. (h.owner == u) && p (Some h.marks)) list ≡ p (marks_in list u)
+owner_passes p none [] apart u = sym none
+owner_passes p none (h ∷ more) apart u = by_owner (h.owner == u) refl (owner_passes p none more apart.1)
+  where
+    ties_are : eq_by_cmp nat_cmp u h.owner ≡ (h.owner == u)
+    ties_are = unsigned_tied u h.owner ∙ nat_eq_equiv.symm u h.owner
+
+    or_none : (b : Bool) → (b || false) ≡ b
+    or_none true = refl
+    or_none false = refl
+
+    by_owner : (b : Bool) → (h.owner == u) ≡ b → ((v : ℕ) → list_any (λ x. (x.owner == v) && p (Some x.marks)) more ≡ p (marks_in more v))
+        → ((h.owner == u) && p (Some h.marks) || list_any (λ x. (x.owner == u) && p (Some x.marks)) more) ≡ p (cond (eq_by_cmp nat_cmp u h.owner) (Some h.marks) (marks_in more u))
+    by_owner true e later =
+        (λ j. e j && p (Some h.marks) || later u j)
+        ∙ ap (λ o. p (Some h.marks) || p o) (ap (marks_in more) (sym (eqb-true h.owner u e)) ∙ apart.0)
+        ∙ ap (λ b. p (Some h.marks) || b) none ∙ or_none (p (Some h.marks))
+        ∙ sym (ap (λ b. p (cond b (Some h.marks) (marks_in more u))) (ties_are ∙ e))
+    by_owner false e later =
+        (λ j. e j && p (Some h.marks) || later u j)
+        ∙ sym (ap (λ b. p (cond b (Some h.marks) (marks_in more u))) (ties_are ∙ e))

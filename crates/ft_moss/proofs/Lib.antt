@@ -1,0 +1,17 @@
+pub mod HolderLists
+pub mod Cases
+pub mod Paired
+pub mod CellViews
+pub mod Places
+pub mod Joining
+pub mod Under
+pub mod Whole
+pub mod Tables
+pub mod Handing
+pub mod Sweeping
+pub mod Granting
+pub mod Granted
+pub mod InTheWay
+pub mod Surveys
+pub mod Following
+pub mod Knowing

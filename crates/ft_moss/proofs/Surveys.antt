@@ -1,0 +1,155 @@
+-- What one look at a cell tells of those who are in the way there, and of the locks that are held already.
+use Rattle.std.proofs.Common.{◌≡◌, ◌<◌, ◌+◌, inl, inr, ℕ, Bool, true, false, not, ◌&&◌, ◌||◌, ◌==◌, List, [], ◌∷◌, take, length, get_or, Some, refl, sym, ap, subst, ◌∙◌}
+use Rattle.std.proofs.lemmas.Bool.{false≢true, and_parts, and_from, or_cases, or_left, or_right}
+use Rattle.ft_laws.proofs.Tests.{by_test}
+use Rattle.std.specs.List.{list_any}
+use Rattle.std.proofs.lemmas.List.{take_more}
+use Rattle.std.proofs.lemmas.List.Folds.{list_any-append}
+use Rattle.std.specs.FinMap as finite
+use Rattle.ft_base.specs.Chains.{Lists}
+use Rattle.ft_cells.specs.declared.cell.Cell.{Cell}
+use Rattle.ft_cells.specs.CellOrder.{same_cell, overlap}
+use Rattle.ft_posix.specs.declared.call.Mode.{Mode}
+use Rattle.ft_posix.specs.declared.call.Mode.TheVariants.{Read as ReadMode, Write as WriteMode}
+use Rattle.ft_posix.specs.declared.call.Access.{Access}
+use Rattle.ft_posix.specs.Accesses.{is_write}
+use Rattle.ft_forest.specs.Transactions.{Transactions, over_in}
+use Rattle.ft_moss.specs.declared.line.LockKind.{LockKind}
+use Rattle.ft_moss.specs.declared.line.LockKind.TheVariants.{Held, Retained}
+use Rattle.ft_moss.specs.declared.line.LockLine.{LockLine}
+use Rattle.ft_moss.specs.declared.marks.Marks.{Marks}
+use Rattle.ft_moss.specs.Marks.{has_mark, cover}
+use Rattle.ft_moss.specs.Cells.{Cells, marks_at, let_go_owner}
+use Rattle.ft_moss.specs.Holdings.{has_place}
+use Rattle.ft_moss.specs.Locks.{LockTable, has_lock, is_held, is_let_go, is_accessed, same_mode, AreGranted, is_given}
+use Rattle.ft_moss.specs.Seen.{has_mark_of, has_line, table_of}
+use Rattle.ft_moss.specs.Blocking.{Found, AreNoted, way, beside, blocks}
+use Rattle.ft_moss.specs.Surveys.{KeepOthersOut, HasItsCellsAlone, HoldsAll}
+use Rattle.ft_moss.proofs.Joining.{itself}
+use Rattle.ft_moss.proofs.Tables.{mark_one, marked_by, mark_of_line, line, lines-seen, let_go-seen}
+use Rattle.ft_moss.proofs.Granting.{line_there, given_more, in_either}
+use Rattle.ft_moss.proofs.Granted.{some_access}
+use Rattle.ft_moss.proofs.InTheWay.{blocks_in_way, conflicting}
+
+none_of : (b : Bool) → (b && false) ≡ false
+none_of true = refl
+none_of false = refl
+
+or_none : (b : Bool) → (b || false) ≡ b
+or_none true = refl
+or_none false = refl
+
+-- a lock that covers an access, and writes where the access does
+cover_one : (x : Marks) (mode : Mode) → cover x mode ≡ true → (m : Mode) × (kind : LockKind) × (has_mark x m kind ≡ true) × (is_write mode ≡ true → is_write m ≡ true)
+cover_one x ReadMode e = let one = mark_one x e in (one.0, one.1, one.2, λ w. absurd (false≢true w))
+cover_one x WriteMode e = by_two x.write_held x.write_retained refl refl e
+  where
+    by_two : (a b : Bool) → x.write_held ≡ a → x.write_retained ≡ b → (a || b) ≡ true → (m : Mode) × (kind : LockKind) × (has_mark x m kind ≡ true) × (true ≡ true → is_write m ≡ true)
+    by_two true b p q e = (WriteMode, Held, p, λ w. refl)
+    by_two false true p q e = (WriteMode, Retained, q, λ w. refl)
+    by_two false false p q e = absurd (false≢true e)
+
+-- A lock of the transaction's own covers the access.
+module _ (m : Cells) (forest : Transactions) (txn : ℕ) (apart : KeepOthersOut (has_line m) forest txn) (a : Access) (own : Marks) (is : Some own ≡ marks_at m a.cell txn) (covers : cover own a.mode ≡ true) where
+  blocks_over : (u : ℕ) → blocks m a u ≡ true → over_in forest u txn ≡ true
+  blocks_over u k =
+      let theirs = conflicting m a u (blocks_in_way m a u k) in
+      let one = cover_one own a.mode covers in
+      let mine : LockLine = line a.cell txn one.0 one.1 in
+      let parts = and_parts (overlap theirs.0.cell a.cell) (is_write theirs.0.mode || is_write a.mode) theirs.3 in
+      let writes : (is_write theirs.0.mode || is_write one.0) ≡ true = elim (or_cases (is_write theirs.0.mode) (is_write a.mode) parts.1) [
+        | inl w ↦ or_left (is_write theirs.0.mode) (is_write one.0) w
+        | inr w ↦ or_right (is_write theirs.0.mode) (is_write one.0) (one.3 w)
+      ] in
+      subst (λ v. over_in forest v txn ≡ true) theirs.2
+      (apart mine theirs.0 (ap (λ o. has_mark_of o mine) (sym is) ∙ one.2) refl theirs.1 (and_from (overlap theirs.0.cell a.cell) (is_write theirs.0.mode || is_write one.0) parts.0 writes))
+
+  -- so nobody is noted
+  pub none_noted : (found : Found) → AreNoted found found (λ u. not (over_in forest u txn) && blocks m a u)
+  none_noted found u = sym (ap (λ b. finite.contains_key found u || b) none ∙ or_none (finite.contains_key found u))
+    where
+      none : (not (over_in forest u txn) && blocks m a u) ≡ false
+      none = by_test (blocks m a u)
+          (λ k. ap (λ b. not b && blocks m a u) (blocks_over u k))
+          (λ k. ap (λ b. not (over_in forest u txn) && b) k ∙ none_of (not (over_in forest u txn)))
+
+-- those on the cell itself, and then those beside it
+pub noted_both : (old mid new : Found) (forest : Transactions) (txn : ℕ) (m : Cells) (a : Access)
+    → AreNoted old mid (λ u. not (over_in forest u txn) && way m a.cell a.mode u) → AreNoted mid new (λ u. not (over_in forest u txn) && beside m a.cell a.mode u)
+    → AreNoted old new (λ u. not (over_in forest u txn) && blocks m a u)
+noted_both old mid new forest txn m a first second u =
+    second u ∙ ap (λ b. b || (not (over_in forest u txn) && beside m a.cell a.mode u)) (first u)
+    ∙ both (finite.contains_key old u) (not (over_in forest u txn)) (way m a.cell a.mode u) (beside m a.cell a.mode u)
+  where
+    both : (c n w b : Bool) → ((c || (n && w)) || (n && b)) ≡ (c || (n && (w || b)))
+    both true n w b = refl
+    both false true w b = refl
+    both false false w b = refl
+
+-- the lock of one access
+pub holds_one : (m : Cells) (owner : ℕ) (a : Access) (own : Marks) → Some own ≡ marks_at m a.cell owner → has_mark own a.mode Held ≡ true → HoldsAll m owner (a ∷ [])
+holds_one m owner a own is has l given =
+    line_there m owner a own is has l (sym (ap (λ b. is_held l.kind && (l.owner == owner) && b) (or_none (same_cell a.cell l.cell && same_mode a.mode l.mode))) ∙ given)
+
+-- one more
+pub holds_more : (m : Cells) (owner : ℕ) (xs : List Access) (i : ℕ) (a : Access) → i < length xs → a ≡ get_or xs i a → HoldsAll m owner (take i xs) → HoldsAll m owner (a ∷ []) → HoldsAll m owner (take (i + 1) xs)
+holds_more m owner xs i a within is before one l given =
+    in_either (is_given owner (take i xs) l) (is_held l.kind && (l.owner == owner) && (same_cell a.cell l.cell && same_mode a.mode l.mode)) (has_line m l)
+    (sym (given_more xs i a within is owner l) ∙ given) (before l)
+    (λ k. one l (ap (λ b. is_held l.kind && (l.owner == owner) && b) (or_none (same_cell a.cell l.cell && same_mode a.mode l.mode)) ∙ k))
+
+pub holds_none : (m : Cells) (owner : ℕ) → HoldsAll m owner []
+holds_none m owner l given = absurd (false≢true (sym (none (is_held l.kind) (l.owner == owner)) ∙ given))
+  where
+    none : (a b : Bool) → (a && b && false) ≡ false
+    none true b = none_of b
+    none false b = refl
+
+-- To grant what is held already changes nothing.
+pub held_granted : (t : LockTable) (m : Cells) (lists : Lists Cell) → table_of m lists ≡ t → (txn : ℕ) (xs : List Access) → HoldsAll m txn xs → AreGranted t t txn xs
+held_granted t m lists is txn xs all = subst (λ u. AreGranted u u txn xs) is (record {
+  lines = λ l. absorbs (has_lock (table_of m lists) l) (is_given txn xs l) (λ given. lines-seen m lists l ∙ all l given);
+  let_go = λ c. by_test (is_accessed xs c)
+      (λ k.
+      let mode = some_access xs c k in
+      let mine : LockLine = line c txn mode.0 Held in
+      let marked = marked_by m c txn (mark_of_line (marks_at m c txn) mine (all mine (λ i. itself txn i && mode.1 i))) in
+      let_go-seen m lists c ∙ ap (λ b. has_place m c let_go_owner && not b) marked ∙ none_of (has_place m c let_go_owner)
+      ∙ sym (ap (λ b. is_let_go (table_of m lists) c && not b) k ∙ none_of (is_let_go (table_of m lists) c)))
+      (λ k. sym (ap (λ b. is_let_go (table_of m lists) c && not b) k ∙ and_all (is_let_go (table_of m lists) c)));
+  opened = refl;
+})
+  where
+    absorbs : (a b : Bool) → (b ≡ true → a ≡ true) → a ≡ (a || b)
+    absorbs true b there = refl
+    absorbs false true there = there refl
+    absorbs false false there = refl
+
+    and_all : (b : Bool) → (b && true) ≡ b
+    and_all true = refl
+    and_all false = refl
+
+-- what holds of a table's locks holds of what is found on its cells
+pub alone_there : (t : LockTable) (m : Cells) (lists : Lists Cell) → table_of m lists ≡ t → (forest : Transactions) (txn : ℕ) → HasItsCellsAlone t forest txn → KeepOthersOut (has_line m) forest txn
+alone_there t m lists is forest txn alone own other mine owner there conflicts = alone own other (in_table own mine) owner (in_table other there) conflicts
+  where
+    in_table : (l : LockLine) → has_line m l ≡ true → has_lock t l ≡ true
+    in_table l e = sym (ap (λ x. has_lock x l) is) ∙ lines-seen m lists l ∙ e
+
+-- those in the way of one access more
+pub noted_more : (old new : Found) (forest : Transactions) (txn : ℕ) (m : Cells) (xs : List Access) (i : ℕ) (a : Access) → i < length xs → a ≡ get_or xs i a
+    → ((u : ℕ) → finite.contains_key old u ≡ (not (over_in forest u txn) && list_any (λ x. blocks m x u) (take i xs))) → AreNoted old new (λ u. not (over_in forest u txn) && blocks m a u)
+    → (u : ℕ) → finite.contains_key new u ≡ (not (over_in forest u txn) && list_any (λ x. blocks m x u) (take (i + 1) xs))
+noted_more old new forest txn m xs i a within is before noted u =
+    noted u ∙ ap (λ b. b || (not (over_in forest u txn) && blocks m a u)) (before u)
+    ∙ both (not (over_in forest u txn)) (list_any (λ x. blocks m x u) (take i xs)) (blocks m a u)
+    ∙ ap (λ b. not (over_in forest u txn) && b) (sym more)
+  where
+    more : list_any (λ x. blocks m x u) (take (i + 1) xs) ≡ (list_any (λ x. blocks m x u) (take i xs) || (blocks m a u || false))
+    more =
+        ap (λ ys. list_any (λ x. blocks m x u) ys) (take_more xs i a within) ∙ list_any-append (λ (x : Access). blocks m x u) (take i xs) (get_or xs i a ∷ [])
+        ∙ ap (λ (x : Access). list_any (λ y. blocks m y u) (take i xs) || (blocks m x u || false)) (sym is)
+
+    both : (n l b : Bool) → ((n && l) || (n && b)) ≡ (n && (l || (b || false)))
+    both true l b = ap (λ x. l || x) (sym (or_none b))
+    both false l b = refl

@@ -1,0 +1,99 @@
+-- How the lock table follows the history of the calls. (Moss, Nested Transactions, MIT 1981, the locking rules.)
+use Rattle.std.specs.Prelude.{◌≡◌, ℕ, Bool, true, false, cond, not, ◌==◌, ◌&&◌, ◌||◌, Option, Some, None, List, [], ◌∷◌, map}
+use Rattle.ft_laws.specs.Lists.{any}
+use Rattle.ft_laws.specs.Calls.{Done}
+use Rattle.ft_laws.specs.Effects.{Access as PlaceAccess}
+use Rattle.ft_cells.specs.declared.cell.Cell.{Cell}
+use Rattle.ft_cells.specs.CellOrder.{same_cell}
+use Rattle.ft_posix.specs.declared.call.Mode.{Mode}
+use Rattle.ft_posix.specs.declared.call.Mode.TheVariants.{Read as ReadMode, Write as WriteMode}
+use Rattle.ft_posix.specs.declared.call.Access.{Access}
+use Rattle.ft_posix.specs.Posix.{as_place, file_of, posix_calls}
+use Rattle.ft_history.specs.History.{Base, Event, parent, over, IsLive, live_children}
+use Rattle.ft_history.specs.History.Event.{Begin, Call, Undo, Commit, Abort}
+use Rattle.ft_history.specs.Locks.{holds_lock, retains_lock, owns_lock, blockers_of}
+use Rattle.ft_history.specs.Legal.{Legal}
+use Rattle.ft_forest.specs.Transactions.{Transactions, parent_in}
+use Rattle.ft_moss.specs.declared.line.LockLine.{LockLine}
+use Rattle.ft_moss.specs.Locks.{LockTable, no_locks, has_lock, is_locked, is_held, AreGranted, AreInherited, AreReleased, AreBlockers}
+use Rattle.ft_moss.specs.Surveys.{HasItsCellsAlone}
+
+-- what has happened to the tree
+abbrev pub History : Type 0
+History = List (Event posix_calls)
+
+abbrev pub is_mode : Mode → Bool → Bool
+is_mode ReadMode writes = not writes
+is_mode WriteMode writes = writes
+
+-- some access is of the line's cell in its mode
+abbrev pub is_of : LockLine → List (PlaceAccess Cell) → Bool
+is_of l accesses = any (λ a. same_cell a.place l.cell && is_mode l.mode a.writes) accesses
+
+-- The line is a lock of the history: its owner holds it or retains it, as its kind says (Moss, to hold and to retain a lock).
+abbrev pub is_lock : History → LockLine → Bool
+is_lock h l = cond (is_held l.kind) (holds_lock posix_calls h l.owner (is_of l)) (retains_lock posix_calls h l.owner (is_of l))
+
+-- The table has the locks of the history, and no others.
+abbrev pub AreLocksOf : History → LockTable → Type 0
+AreLocksOf h t = (l : LockLine) → has_lock t l ≡ is_lock h l
+
+-- Of the owners that pass the test all locks are dropped, and the others have theirs.
+abbrev pub AreDropped : LockTable → LockTable → (ℕ → Bool) → Type 0
+AreDropped old new gone = (l : LockLine) → has_lock new l ≡ (not (gone l.owner) && has_lock old l)
+
+-- P holds of each sound base, each history from it and the table with its locks
+abbrev pub OfLocks : (Base posix_calls → History → LockTable → Type 0) → Type 0
+OfLocks P = (base : Base posix_calls) → posix_calls.IsSound base.store → (h : History) (t : LockTable) → AreLocksOf h t → P base h t
+
+-- At first there is no lock.
+abbrev pub FirstLaw : Type 0
+FirstLaw = AreLocksOf [] no_locks
+
+-- Who has a lock is live.
+abbrev pub OwnerLaw : Type 0
+OwnerLaw = OfLocks (λ base h t. Legal posix_calls base h → (l : LockLine) → has_lock t l ≡ true → IsLive posix_calls base.transaction h l.owner)
+
+-- A begin keeps the table.
+abbrev pub BeginLaw : Type 0
+BeginLaw = OfLocks (λ base h t. (n : ℕ) (up : Option ℕ) → Legal posix_calls base (Begin n up ∷ h) → AreLocksOf (Begin n up ∷ h) t)
+
+-- At a granted call its asker is granted the accesses.
+abbrev pub GrantLaw : Type 0
+GrantLaw = OfLocks (λ base h t. (c : Done posix_calls) (accesses : List Access) (new : LockTable) → Legal posix_calls base (Call c ∷ h) → c.accesses ≡ map as_place accesses
+    → AreGranted t new c.asker accesses → AreLocksOf (Call c ∷ h) new)
+
+-- An undo keeps the table.
+abbrev pub UndoLaw : Type 0
+UndoLaw = OfLocks (λ base h t. (k : ℕ) → Legal posix_calls base (Undo k ∷ h) → AreLocksOf (Undo k ∷ h) t)
+
+-- At the commit of a subtransaction its parent inherits, and at that of a top-level transaction its locks are released.
+pub record CommitLaw : Type 0 where
+  pub under : OfLocks (λ base h t. (txn up : ℕ) (new : LockTable) → Legal posix_calls base (Commit txn ∷ h) → parent posix_calls h txn ≡ Some up → AreInherited t new txn up → AreLocksOf (Commit txn ∷ h) new)
+  pub top : OfLocks (λ base h t. (txn : ℕ) (new : LockTable) → Legal posix_calls base (Commit txn ∷ h) → parent posix_calls h txn ≡ None → AreReleased t new txn → AreLocksOf (Commit txn ∷ h) new)
+
+-- At an abort the locks of all live transactions at or below it are dropped.
+abbrev pub AbortLaw : Type 0
+AbortLaw = OfLocks (λ base h t. (txn : ℕ) (gone : ℕ → Bool) (new : LockTable) → Legal posix_calls base (Abort txn ∷ h)
+    → ((y : ℕ) → IsLive posix_calls base.transaction h y → gone y ≡ over posix_calls h txn y) → AreDropped t new gone → AreLocksOf (Abort txn ∷ h) new)
+
+-- One release after another drops the locks of all who are released.
+abbrev pub ReleaseLaw : Type 0
+ReleaseLaw = (old mid new : LockTable) (gone : ℕ → Bool) (txn : ℕ) → AreDropped old mid gone → AreReleased mid new txn → AreDropped old new (λ y. (y == txn) || gone y)
+
+-- Who is in the way by the table is so by the history.
+abbrev pub BlockLaw : Type 0
+BlockLaw = OfLocks (λ base h t. Legal posix_calls base h → (forest : Transactions) → ((x : ℕ) → parent_in forest x ≡ parent posix_calls h x) → (txn : ℕ) (accesses : List Access) (ys : List ℕ)
+    → AreBlockers t forest txn accesses ys → ys ≡ blockers_of posix_calls h txn (map as_place accesses))
+
+-- A transaction without live children shares what it has locked with its ancestors alone.
+abbrev pub AloneLaw : Type 0
+AloneLaw = OfLocks (λ base h t. Legal posix_calls base h → (forest : Transactions) → ((x : ℕ) → parent_in forest x ≡ parent posix_calls h x) → (txn : ℕ) → live_children posix_calls base.transaction h txn ≡ [] → HasItsCellsAlone t forest txn)
+
+-- A file's cell on which the table has no lock is touched by none of the history.
+abbrev pub CoverLaw : Type 0
+CoverLaw = OfLocks (λ base h t. (c : Cell) (file : ℕ) → file_of c ≡ Some file → is_locked t c ≡ false → (y : ℕ) → owns_lock posix_calls h y (λ accesses. posix_calls.touches accesses c) ≡ false)
+
+-- The cell of each lock is locked.
+abbrev pub LockedLaw : Type 0
+LockedLaw = (t : LockTable) (l : LockLine) → has_lock t l ≡ true → is_locked t l.cell ≡ true

@@ -1,0 +1,12 @@
+pub mod Ranks
+pub mod Marks
+pub mod Holders
+pub mod Cells
+pub mod Holdings
+pub mod Locks
+pub mod Seen
+pub mod Blocking
+pub mod Listing
+pub mod Surveys
+pub mod Law
+pub mod Knowing

@@ -1,0 +1,121 @@
+-- The locks of transactions, as callers see them, and what each call does to them. (Moss, Nested Transactions, MIT 1981, the locking rules.)
+use Rattle.std.specs.Prelude.{◌≡◌, ◌↔◌, ◌<◌, ℕ, Bool, true, false, not, ◌==◌, ◌&&◌, ◌||◌, List, refl}
+use Rattle.std.specs.List.{list_any}
+use Rattle.std.specs.declared.cmp.Ordering.{Ordering}
+use Rattle.std.specs.declared.cmp.Ordering.TheVariants.{Less}
+use Rattle.std.specs.Ordering.{nat_cmp, ordering_then}
+use Rattle.std.specs.Cmp.{IsTotalOrder, nat_cmp_total, on_total, then_total}
+use Rattle.std.specs.FinSet as set
+use Rattle.ft_cells.specs.declared.cell.Cell.{Cell}
+use Rattle.ft_cells.specs.CellOrder.{cell_cmp, cell_cmp_total, same_cell}
+use Rattle.ft_posix.specs.declared.call.Mode.{Mode}
+use Rattle.ft_posix.specs.declared.call.Mode.TheVariants.{Read as ReadMode, Write as WriteMode}
+use Rattle.ft_posix.specs.declared.call.Access.{Access}
+use Rattle.ft_posix.specs.Accesses.{is_write, conflict}
+use Rattle.ft_laws.specs.Lists.{Pairs, In}
+use Rattle.ft_forest.specs.Transactions.{Transactions, over_in}
+use Rattle.ft_moss.specs.declared.line.LockKind.{LockKind}
+use Rattle.ft_moss.specs.declared.line.LockKind.TheVariants.{Held, Retained}
+use Rattle.ft_moss.specs.declared.line.LockLine.{LockLine}
+use Rattle.ft_moss.specs.contracts.line.LockLine as line
+use Rattle.ft_moss.specs.Ranks.{mode_rank, kind_rank}
+use Rattle.ft_cells.specs.contracts.cell.Cell as cell
+use Rattle.std.specs.Coded.{Coded, code_by, coded×, coded_ℕ}
+
+-- by cell, then by owner, Read before Write, and Held before Retained
+abbrev pub line_cmp : LockLine → LockLine → Ordering
+line_cmp x y = ordering_then (cell_cmp x.cell y.cell) (ordering_then (nat_cmp x.owner y.owner) (ordering_then (nat_cmp (mode_rank x.mode) (mode_rank y.mode)) (nat_cmp (kind_rank x.kind) (kind_rank y.kind))))
+
+pub line_cmp_total : IsTotalOrder line_cmp
+line_cmp_total = then_total (on_total (λ (l : LockLine). l.cell) cell_cmp_total) (then_total (on_total (λ (l : LockLine). l.owner) nat_cmp_total) (then_total (on_total (λ (l : LockLine). mode_rank l.mode) nat_cmp_total) (on_total (λ (l : LockLine). kind_rank l.kind) nat_cmp_total)))
+
+-- the locks; the cells whose last lock went and that nobody has locked since; and the transactions that may be given locks
+pub record LockTable : Type 0 where
+  pub lines : set.FinSet line_cmp
+  pub let_go : set.FinSet cell_cmp
+  pub opened : set.FinSet nat_cmp
+
+abbrev pub coded_table : Coded LockTable
+coded_table =
+    code_by (set.FinSet line_cmp × (set.FinSet cell_cmp × set.FinSet nat_cmp)) (coded× (set.code line.the_row.coded) (coded× (set.code cell.the_row.coded) (set.code coded_ℕ)))
+    (λ t. (t.lines, (t.let_go, t.opened))) (λ p. record { lines = p.0; let_go = p.1.0; opened = p.1.1 }) (λ _. refl)
+
+abbrev pub no_locks : LockTable
+no_locks = record { lines = set.empty; let_go = set.empty; opened = set.empty }
+
+abbrev pub has_lock : LockTable → LockLine → Bool
+has_lock t line = set.contains t.lines line
+
+abbrev pub is_let_go : LockTable → Cell → Bool
+is_let_go t cell = set.contains t.let_go cell
+
+abbrev pub is_opened : LockTable → ℕ → Bool
+is_opened t txn = set.contains t.opened txn
+
+-- somebody has a lock on the cell
+abbrev pub is_locked : LockTable → Cell → Bool
+is_locked t cell = list_any (λ l. same_cell l.cell cell) (set.items t.lines)
+
+abbrev pub is_held : LockKind → Bool
+is_held Held = true
+is_held Retained = false
+
+abbrev pub same_mode : Mode → Mode → Bool
+same_mode ReadMode m = not (is_write m)
+same_mode WriteMode m = is_write m
+
+-- the owner has a lock on the cell in this mode, held or retained
+abbrev pub owns_lock : LockTable → ℕ → Cell → Mode → Bool
+owns_lock t owner cell mode = has_lock t (record { cell = cell; owner = owner; mode = mode; kind = Held }) || has_lock t (record { cell = cell; owner = owner; mode = mode; kind = Retained })
+
+-- an access of the list is to this cell in this mode
+abbrev pub has_access : List Access → Cell → Mode → Bool
+has_access accesses cell mode = list_any (λ a. same_cell a.cell cell && same_mode a.mode mode) accesses
+
+abbrev pub is_accessed : List Access → Cell → Bool
+is_accessed accesses cell = list_any (λ a. same_cell a.cell cell) accesses
+
+-- the line is of a lock that the owner holds by one of these accesses
+abbrev pub is_given : ℕ → List Access → LockLine → Bool
+is_given owner accesses l = is_held l.kind && (l.owner == owner) && has_access accesses l.cell l.mode
+
+-- A transaction that is granted a call holds the locks of its accesses.
+pub record AreGranted (old new : LockTable) (txn : ℕ) (accesses : List Access) : Type 0 where
+  pub lines : (l : LockLine) → has_lock new l ≡ (has_lock old l || is_given txn accesses l)
+  pub let_go : (c : Cell) → is_let_go new c ≡ (is_let_go old c && not (is_accessed accesses c))
+  pub opened : new.opened ≡ old.opened
+
+-- The parent retains in the same mode what the child held or retained, and keeps its own (Moss, commit of a subtransaction).
+pub record AreInherited (old new : LockTable) (child parent : ℕ) : Type 0 where
+  pub lines : (l : LockLine) → has_lock new l ≡ (not (l.owner == child) && (has_lock old l || ((l.owner == parent) && not (is_held l.kind) && owns_lock old child l.cell l.mode)))
+  pub let_go : new.let_go ≡ old.let_go
+  pub opened : new.opened ≡ set.remove old.opened child
+
+-- The transaction's locks are dropped (Moss, commit of a top-level transaction, and abort); a cell that was locked and is no more is let go.
+pub record AreReleased (old new : LockTable) (txn : ℕ) : Type 0 where
+  pub lines : (l : LockLine) → has_lock new l ≡ (not (l.owner == txn) && has_lock old l)
+  pub let_go : (c : Cell) → is_let_go new c ≡ (is_let_go old c || (is_locked old c && not (is_locked new c)))
+  pub opened : new.opened ≡ set.remove old.opened txn
+
+-- the lock's access
+abbrev pub line_access : LockLine → Access
+line_access l = record { cell = l.cell; mode = l.mode }
+
+-- y owns a lock that conflicts with one of the accesses
+pub record OwnsConflict (t : LockTable) (accesses : List Access) (y : ℕ) : Type 0 where
+  pub line : LockLine
+  pub there : has_lock t line ≡ true
+  pub owner : line.owner ≡ y
+  pub conflicts : list_any (λ a. conflict (line_access line) a) accesses ≡ true
+
+-- The blockers of a call: in rising order and each once the owners of conflicting locks that are neither the asker nor an ancestor of it
+-- (Moss: all who retain a conflicting lock must be superiors; a rule of this project: an ancestor that holds is treated as one that retains).
+pub record AreBlockers (t : LockTable) (forest : Transactions) (txn : ℕ) (accesses : List Access) (ys : List ℕ) : Type 0 where
+  pub rising : Pairs (λ x y. x < y) ys
+  pub sound : (y : ℕ) → In y ys → OwnsConflict t accesses y × (over_in forest y txn ≡ false)
+  pub all : (y : ℕ) → OwnsConflict t accesses y → over_in forest y txn ≡ false → In y ys
+
+-- The list has each lock once, in their order.
+pub record AreListed (t : LockTable) (lines : List LockLine) : Type 0 where
+  pub order : Pairs (λ x y. line_cmp x y ≡ Less) lines
+  pub exact : (l : LockLine) → In l lines ↔ (has_lock t l ≡ true)

@@ -1,0 +1,21 @@
+-- When a look at its own lock on a cell tells a transaction that nobody is in its way there.
+use Rattle.std.specs.Prelude.{◌≡◌, ℕ, Bool, true, List}
+use Rattle.ft_posix.specs.declared.call.Access.{Access}
+use Rattle.ft_posix.specs.Accesses.{conflict}
+use Rattle.ft_forest.specs.Transactions.{Transactions, over_in}
+use Rattle.ft_moss.specs.declared.line.LockLine.{LockLine}
+use Rattle.ft_moss.specs.Locks.{LockTable, has_lock, line_access, is_given}
+use Rattle.ft_moss.specs.Cells.{Cells}
+use Rattle.ft_moss.specs.Seen.{has_line}
+
+-- each lock that conflicts with one of the transaction's is its own or an ancestor's
+abbrev pub KeepOthersOut : (LockLine → Bool) → Transactions → ℕ → Type 0
+KeepOthersOut has forest txn = (own other : LockLine) → has own ≡ true → own.owner ≡ txn → has other ≡ true → conflict (line_access other) (line_access own) ≡ true → over_in forest other.owner txn ≡ true
+
+-- The transaction shares what it has locked with its ancestors alone (Moss: all who retain a conflicting lock must be superiors).
+abbrev pub HasItsCellsAlone : LockTable → Transactions → ℕ → Type 0
+HasItsCellsAlone t forest txn = KeepOthersOut (has_lock t) forest txn
+
+-- an owner holds the lock of each access
+abbrev pub HoldsAll : Cells → ℕ → List Access → Type 0
+HoldsAll m owner accesses = (l : LockLine) → is_given owner accesses l ≡ true → has_line m l ≡ true

@@ -1,0 +1,260 @@
+-- What the calls look at: beside the bytes of files that are named, only what the plain tree shows as the stored cells do.
+use Rattle.std.proofs.Common.{◌≡◌, ℕ, zero, suc, ℤ, Bool, true, false, cond, length, List, [], ◌∷◌, Option, Some, None, unwrap_or, Result, Ok, Err, refl, sym}
+use Rattle.std.specs.Prelude.{◌==◌, ◌&&◌, not, nat_le}
+use Rattle.ft_body.specs.declared.TheConstants.{SIZE_LIMIT}
+use Rattle.ft_path.specs.Name.{is_dot, is_dot_dot}
+use Rattle.ft_path.specs.declared.errno.Errno.{Errno}
+use Rattle.ft_path.specs.declared.errno.Errno.TheVariants.{ENOENT, EINVAL, EBADF, EFBIG}
+use Rattle.ft_path.specs.declared.path.Parts.{Parts}
+use Rattle.ft_path.specs.FilePath.{last_of, parts_of}
+use Rattle.ft_cells.specs.Entries.{entry_at}
+use Rattle.ft_cells.specs.declared.cell.Cell.{Cell}
+use Rattle.ft_cells.specs.declared.cell.Cell.TheVariants.{Entry, Names, Parent, Links, Bytes, Fd}
+use Rattle.ft_cells.specs.declared.node.Node.TheVariants.{Dir as DirNode, File as FileNode}
+use Rattle.ft_cells.specs.declared.open_file.OpenFile.{OpenFile}
+use Rattle.ft_cells.specs.Cells.{Cells, open_of}
+use Rattle.ft_cells.specs.Modes.{can_write}
+use Rattle.ft_tree.specs.Views.{view_of}
+use Rattle.ft_cells.specs.Looks.{Looks, Answer, Look, answer, looked_at, then, or_else}
+use Rattle.ft_tree.specs.Walk.{Spot, Named as AtName, Itself, up, passed, inner, reached, last, walk_from, walk}
+use Rattle.ft_tree.specs.Sound.{AreSoundCells}
+use Rattle.ft_posix.specs.declared.call.Call.{Call}
+use Rattle.ft_posix.specs.declared.call.Call.TheVariants.{Mkdir, Rmdir, List as ListDir, Open, Close, Read, Write as WriteCall, Pread, Pwrite, Lseek, Truncate, Ftruncate, Stat, Fstat, Link, Unlink, Rename}
+use Rattle.ft_posix.specs.declared.call.OpenFlags.{OpenFlags}
+use Rattle.ft_posix.specs.declared.call.Whence.{Whence}
+use Rattle.ft_posix.specs.declared.call.Whence.TheVariants.{Set, Cur, End}
+use Rattle.ft_posix.specs.declared.call.Reply.TheVariants.{Done}
+use Rattle.ft_posix.specs.Outcomes.{Outcome, failed, told, from_parts, unless}
+use Rattle.ft_posix.specs.Dirs.{make_dir, remove_dir, last_fault, remove_parts, list_dir}
+use Rattle.ft_posix.specs.Links.{link_new, link_old, link_parts, unlink_spot, climb, unless_below, rename_fault, replace_dir, rename_file, rename_dir, rename_old, rename_parts}
+use Rattle.ft_posix.specs.Files.{open_spot, open_parts, to_size, cut_file, truncate_spot, truncate_parts, stat_spot}
+use Rattle.ft_posix.specs.Descriptors.{on_open, with_open, any_open, is_readable, is_writable, close_open, read_open, not_negative, pread_at, pread_open, write_place, write_at, write_open, pwrite_at, pwrite_open, seek_from, moved, sought, seek_open, ftruncate_open, fstat_open}
+use Rattle.ft_posix.specs.Steps.{steps}
+use Rattle.ft_posix.proofs.Named.{Named, by_entry, by_open}
+use Rattle.ft_posix.proofs.Walked.{IsSpot, EndsWell, walk-ends}
+
+module _ (cells : Cells) where
+  -- the plain tree shows the cell as the stored cells do: of bytes it has those of files that are named alone
+  abbrev pub IsShown : Cell → Type 0
+  IsShown (Entry entry) = Unit {0}
+  IsShown (Names d) = Unit {0}
+  IsShown (Parent d) = Unit {0}
+  IsShown (Links i) = Unit {0}
+  IsShown (Bytes i) = Named cells i
+  IsShown (Fd f) = Unit {0}
+
+  abbrev pub AllShown : List Cell → Type 0
+  AllShown [] = Unit {0}
+  AllShown (c ∷ cs) = IsShown c × AllShown cs
+
+  module _ {A : Type 0} where
+    -- all that is looked at is shown
+    abbrev LooksWell : Looks A → Type 0
+    LooksWell s = AllShown (looked_at s (view_of cells))
+
+    -- whichever of two is taken
+    either-shown : (b : Bool) (s t : Looks A) → LooksWell s → LooksWell t → LooksWell (cond b s t)
+    either-shown true s t p q = p
+    either-shown false s t p q = q
+
+  -- and then what is looked at behind it
+  then-shown : {A B : Type 0} (s : Looks A) (f : A → Looks B) → LooksWell s → LooksWell (f (answer s (view_of cells))) → LooksWell (then s f)
+  then-shown (Answer x) f p q = q
+  then-shown (Look c next) f p q = (p.0, then-shown (next (view_of cells c)) f p.1 q)
+
+  or_else-shown : {A B E : Type 0} (fail : E → B) (go : A → Looks B) (r : Result A E) → ((x : A) → LooksWell (go x)) → LooksWell (or_else fail go r)
+  or_else-shown fail go (Ok x) each = each x
+  or_else-shown fail go (Err e) each = tt
+
+  unless-shown : (fault : Option Errno) (go : Looks Outcome) → LooksWell go → LooksWell (unless fault go)
+  unless-shown None go h = h
+  unless-shown (Some e) go h = tt
+
+  -- A walk looks at entries and parents alone.
+
+  up-shown : (d : ℕ) → LooksWell (up d)
+  up-shown d = either-shown (d == 1) (Answer 1) (Look (Parent d) (λ p. Answer (unwrap_or p 1))) tt (tt, tt)
+
+  inner-shown : (d : ℕ) (name : List ℕ) → LooksWell (inner d name)
+  inner-shown d name =
+      either-shown (is_dot name) (Answer (Ok d)) _ tt
+      (either-shown (is_dot_dot name) (then (up d) (λ p. Answer (Ok p))) (Look (Entry (entry_at d name)) (λ x. Answer (passed x))) (then-shown (up d) (λ p. Answer (Ok p)) (up-shown d) tt) (tt, tt))
+
+  last-shown : (d : ℕ) (name : List ℕ) (trailing : Bool) → LooksWell (last d name trailing)
+  last-shown d name trailing =
+      either-shown (is_dot name) (Answer (Ok (Itself d))) _ tt
+      (either-shown (is_dot_dot name) (then (up d) (λ p. Answer (Ok (Itself p)))) (Look (Entry (entry_at d name)) (λ x. Answer (reached d name trailing x))) (then-shown (up d) (λ p. Answer (Ok (Itself p))) (up-shown d) tt) (tt, tt))
+
+  walk_from-shown : (names : List (List ℕ)) (d : ℕ) (name : List ℕ) (trailing : Bool) → LooksWell (walk_from d name names trailing)
+  walk_from-shown [] d name trailing = last-shown d name trailing
+  walk_from-shown (m ∷ ms) d name trailing =
+      let go : ℕ → Looks (Result Spot Errno) = λ i. walk_from i m ms trailing in
+      then-shown (inner d name) (or_else Err go) (inner-shown d name) (or_else-shown Err go _ (λ i. walk_from-shown ms i m trailing))
+
+  walk-shown : (names : List (List ℕ)) (trailing : Bool) → LooksWell (walk names trailing)
+  walk-shown [] trailing = tt
+  walk-shown (name ∷ names) trailing = walk_from-shown names 1 name trailing
+
+  -- And a climb at parents.
+
+  climb-shown : (n i d : ℕ) → LooksWell (climb n i d)
+  climb-shown zero i d = tt
+  climb-shown (suc n) i d = either-shown (d == i) (Answer true) _ tt (either-shown (d == 1) (Answer false) _ tt (tt, climb-shown n i _))
+
+  unless_below-shown : (n i e : ℕ) (go : Looks Outcome) → LooksWell go → LooksWell (unless_below n i e go)
+  unless_below-shown n i e go h =
+      then-shown (climb n i e) (λ met. cond met (Answer (failed EINVAL)) go) (climb-shown n i e) (either-shown (answer (climb n i e) (view_of cells)) (Answer (failed EINVAL)) go tt h)
+
+  -- A call looks at a file only that its path leads to, or its descriptor.
+
+  remove_dir-shown : (spot : Spot) → IsSpot cells spot → LooksWell (remove_dir spot)
+  remove_dir-shown (AtName entry None) h = tt
+  remove_dir-shown (AtName entry (Some (DirNode i))) h = (tt, tt)
+  remove_dir-shown (AtName entry (Some (FileNode i))) h = tt
+  remove_dir-shown (Itself d) h = tt
+
+  make_dir-shown : (k : ℕ) (spot : Spot) → IsSpot cells spot → LooksWell (make_dir k spot)
+  make_dir-shown k (AtName entry None) h = tt
+  make_dir-shown k (AtName entry (Some x)) h = tt
+  make_dir-shown k (Itself d) h = tt
+
+  list_dir-shown : (spot : Spot) → IsSpot cells spot → LooksWell (list_dir spot)
+  list_dir-shown (AtName entry None) h = tt
+  list_dir-shown (AtName entry (Some (DirNode i))) h = (tt, tt)
+  list_dir-shown (AtName entry (Some (FileNode i))) h = tt
+  list_dir-shown (Itself d) h = (tt, tt)
+
+  truncate_spot-shown : (size : ℕ) (spot : Spot) → IsSpot cells spot → LooksWell (truncate_spot size spot)
+  truncate_spot-shown size (AtName entry None) h = tt
+  truncate_spot-shown size (AtName entry (Some (DirNode i))) h = tt
+  truncate_spot-shown size (AtName entry (Some (FileNode i))) h = (by_entry entry.dir entry.name i (sym h.1), tt)
+  truncate_spot-shown size (Itself d) h = tt
+
+  stat_spot-shown : (spot : Spot) → IsSpot cells spot → LooksWell (stat_spot spot)
+  stat_spot-shown (AtName entry None) h = tt
+  stat_spot-shown (AtName entry (Some (DirNode i))) h = tt
+  stat_spot-shown (AtName entry (Some (FileNode i))) h = (tt, (by_entry entry.dir entry.name i (sym h.1), tt))
+  stat_spot-shown (Itself d) h = tt
+
+  link_new-shown : (i : ℕ) (trailing : Bool) (spot : Spot) → IsSpot cells spot → LooksWell (link_new i trailing spot)
+  link_new-shown i trailing (AtName entry None) h = either-shown trailing (Answer (failed ENOENT)) _ tt (tt, tt)
+  link_new-shown i trailing (AtName entry (Some x)) h = tt
+  link_new-shown i trailing (Itself d) h = tt
+
+  unlink_spot-shown : (spot : Spot) → IsSpot cells spot → LooksWell (unlink_spot spot)
+  unlink_spot-shown (AtName entry None) h = tt
+  unlink_spot-shown (AtName entry (Some (DirNode i))) h = tt
+  unlink_spot-shown (AtName entry (Some (FileNode i))) h = (tt, tt)
+  unlink_spot-shown (Itself d) h = tt
+
+  rename_file-shown : (d : ℕ) (name : List ℕ) (i : ℕ) (trailing : Bool) (spot : Spot) → IsSpot cells spot → LooksWell (rename_file (entry_at d name) i trailing spot)
+  rename_file-shown d name i trailing (AtName entry None) h = tt
+  rename_file-shown d name i trailing (AtName entry (Some (DirNode j))) h = tt
+  rename_file-shown d name i trailing (AtName entry (Some (FileNode j))) h = either-shown (i == j) (Answer (told Done)) _ tt (tt, tt)
+  rename_file-shown d name i trailing (Itself e) h = tt
+
+  rename_dir-shown : (n d : ℕ) (name : List ℕ) (i : ℕ) (spot : Spot) → IsSpot cells spot → LooksWell (rename_dir n (entry_at d name) i spot)
+  rename_dir-shown n d name i (AtName entry None) h = unless_below-shown n i entry.dir _ tt
+  rename_dir-shown n d name i (AtName entry (Some (DirNode j))) h = either-shown (i == j) (Answer (told Done)) _ tt (unless_below-shown n i entry.dir (replace_dir (entry_at d name) i entry j) (tt, tt))
+  rename_dir-shown n d name i (AtName entry (Some (FileNode j))) h = tt
+  rename_dir-shown n d name i (Itself e) h = tt
+
+  with_open-shown : (fd : ℕ) (fits : OpenFile → Bool) (go : OpenFile → Looks Outcome) → ((o : OpenFile) → Named cells o.file → LooksWell (go o)) → LooksWell (with_open fd fits go)
+  with_open-shown fd fits go each = (tt, by_place (open_of cells fd) refl)
+    where
+      by_place : (place : Option OpenFile) → open_of cells fd ≡ place → LooksWell (on_open fits go place)
+      by_place None is = tt
+      by_place (Some o) is = either-shown (fits o) (go o) (Answer (failed EBADF)) (each o (by_open fd o is)) tt
+
+  write_place-shown : (o : OpenFile) → Named cells o.file → LooksWell (write_place o)
+  write_place-shown o named = either-shown o.append (Look (Bytes o.file) (λ bytes. Answer (length bytes))) (Answer o.offset) (named, tt) tt
+
+  write_open-shown : (fd : ℕ) (bytes : List ℕ) (o : OpenFile) → Named cells o.file → LooksWell (write_open fd bytes o)
+  write_open-shown fd [] o named = tt
+  write_open-shown fd (first ∷ more) o named =
+      then-shown (write_place o) (write_at fd o (first ∷ more)) (write_place-shown o named)
+      (either-shown (nat_le SIZE_LIMIT (answer (write_place o) (view_of cells))) (Answer (failed EFBIG)) _ tt (named, tt))
+
+  pwrite_at-shown : (o : OpenFile) → Named cells o.file → (bytes : List ℕ) (at : ℕ) → LooksWell (pwrite_at o bytes at)
+  pwrite_at-shown o named [] at = tt
+  pwrite_at-shown o named (first ∷ more) at = either-shown (nat_le SIZE_LIMIT at) (Answer (failed EFBIG)) _ tt (named, tt)
+
+  seek_from-shown : (whence : Whence) (o : OpenFile) → Named cells o.file → LooksWell (seek_from whence o)
+  seek_from-shown Set o named = tt
+  seek_from-shown Cur o named = tt
+  seek_from-shown End o named = (named, tt)
+
+  module _ (sound : AreSoundCells cells) where
+    spot-shown : (go : Spot → Looks Outcome) → ((spot : Spot) → IsSpot cells spot → LooksWell (go spot)) → (r : Result Spot Errno) → EndsWell cells r → LooksWell (or_else failed go r)
+    spot-shown go each (Ok spot) h = each spot h
+    spot-shown go each (Err e) h = tt
+
+    from_parts-shown : (go : Spot → Looks Outcome) → ((spot : Spot) → IsSpot cells spot → LooksWell (go spot)) → (parts : Result Parts Errno) → LooksWell (from_parts parts go)
+    from_parts-shown go each (Err e) = tt
+    from_parts-shown go each (Ok parts) =
+        then-shown (walk parts.names parts.trailing) (or_else failed go) (walk-shown parts.names parts.trailing)
+        (spot-shown go each _ (walk-ends cells sound.tree parts.names parts.trailing))
+
+    remove_parts-shown : (parts : Result Parts Errno) → LooksWell (remove_parts parts)
+    remove_parts-shown (Err e) = tt
+    remove_parts-shown (Ok parts) = unless-shown (last_fault (last_of parts.names)) (from_parts (Ok parts) remove_dir) (from_parts-shown remove_dir remove_dir-shown (Ok parts))
+
+    open_parts-shown : (k : ℕ) (flags : OpenFlags) (parts : Result Parts Errno) → LooksWell (open_parts k flags parts)
+    open_parts-shown k flags (Err e) = tt
+    open_parts-shown k flags (Ok parts) =
+        either-shown (flags.trunc && not (can_write flags.access)) (Answer (failed EINVAL)) _ tt
+        (from_parts-shown (λ spot. Answer (open_spot k flags parts.trailing spot)) (λ spot h. tt) (Ok parts))
+
+    truncate_parts-shown : (len : ℤ) (parts : Result Parts Errno) → LooksWell (truncate_parts len parts)
+    truncate_parts-shown len (Err e) = tt
+    truncate_parts-shown len (Ok parts) =
+        or_else-shown failed (λ size. from_parts (Ok parts) (truncate_spot size)) (to_size len) (λ size. from_parts-shown (truncate_spot size) (truncate_spot-shown size) (Ok parts))
+
+    -- A path leads on from where another one led.
+
+    link_old-shown : (new : Parts) (spot : Spot) → IsSpot cells spot → LooksWell (link_old new spot)
+    link_old-shown new (AtName entry None) h = tt
+    link_old-shown new (AtName entry (Some (DirNode i))) h = tt
+    link_old-shown new (AtName entry (Some (FileNode i))) h = from_parts-shown (link_new i new.trailing) (link_new-shown i new.trailing) (Ok new)
+    link_old-shown new (Itself d) h = tt
+
+    link_parts-shown : (old new : Result Parts Errno) → LooksWell (link_parts old new)
+    link_parts-shown (Err e) new = tt
+    link_parts-shown (Ok old) (Err e) = tt
+    link_parts-shown (Ok old) (Ok new) = from_parts-shown (link_old new) (link_old-shown new) (Ok old)
+
+    rename_old-shown : (n : ℕ) (new : Parts) (spot : Spot) → IsSpot cells spot → LooksWell (rename_old n new spot)
+    rename_old-shown n new (AtName entry None) h = tt
+    rename_old-shown n new (AtName entry (Some (DirNode i))) h = from_parts-shown (rename_dir n entry i) (rename_dir-shown n entry.dir entry.name i) (Ok new)
+    rename_old-shown n new (AtName entry (Some (FileNode i))) h = from_parts-shown (rename_file entry i new.trailing) (rename_file-shown entry.dir entry.name i new.trailing) (Ok new)
+    rename_old-shown n new (Itself d) h = tt
+
+    rename_parts-shown : (n : ℕ) (old new : Result Parts Errno) → LooksWell (rename_parts n old new)
+    rename_parts-shown n (Err e) new = tt
+    rename_parts-shown n (Ok old) (Err e) = tt
+    rename_parts-shown n (Ok old) (Ok new) =
+        unless-shown (rename_fault (last_of old.names) (last_of new.names)) (from_parts (Ok old) (rename_old n new)) (from_parts-shown (rename_old n new) (rename_old-shown n new) (Ok old))
+
+-- on sound cells each cell that a call looks at is one that the plain tree shows alike
+pub call-looks : (cells : Cells) → AreSoundCells cells → (n k : ℕ) (call : Call) → AllShown cells (looked_at (steps n k call) (view_of cells))
+call-looks cells sound n k (Mkdir path) = from_parts-shown cells sound (make_dir k) (make_dir-shown cells k) (parts_of path)
+call-looks cells sound n k (Rmdir path) = remove_parts-shown cells sound (parts_of path)
+call-looks cells sound n k (ListDir path) = from_parts-shown cells sound list_dir (list_dir-shown cells) (parts_of path)
+call-looks cells sound n k (Open path access create excl trunc append) = open_parts-shown cells sound k _ (parts_of path)
+call-looks cells sound n k (Close fd) = with_open-shown cells fd any_open (close_open fd) (λ o named. (tt, tt))
+call-looks cells sound n k (Read fd len) = with_open-shown cells fd is_readable (read_open fd len) (λ o named. (named, tt))
+call-looks cells sound n k (WriteCall fd bytes) = with_open-shown cells fd is_writable (write_open fd bytes) (write_open-shown cells fd bytes)
+call-looks cells sound n k (Pread fd off len) =
+    with_open-shown cells fd is_readable (pread_open off len) (λ o named. or_else-shown cells failed (pread_at len o) (not_negative off) (λ at. (named, tt)))
+call-looks cells sound n k (Pwrite fd off bytes) =
+    with_open-shown cells fd is_writable (pwrite_open off bytes) (λ o named. or_else-shown cells failed (pwrite_at o bytes) (not_negative off) (pwrite_at-shown cells o named bytes))
+call-looks cells sound n k (Lseek fd whence off) =
+    with_open-shown cells fd any_open (seek_open fd whence off) (λ o named. then-shown cells (seek_from whence o) (λ from. Answer (sought fd o (moved from off))) (seek_from-shown cells whence o named) tt)
+call-looks cells sound n k (Truncate len path) = truncate_parts-shown cells sound len (parts_of path)
+call-looks cells sound n k (Ftruncate fd len) =
+    with_open-shown cells fd is_writable (ftruncate_open len) (λ o named. or_else-shown cells failed (cut_file o.file) (to_size len) (λ size. (named, tt)))
+call-looks cells sound n k (Stat path) = from_parts-shown cells sound stat_spot (stat_spot-shown cells) (parts_of path)
+call-looks cells sound n k (Fstat fd) = with_open-shown cells fd any_open fstat_open (λ o named. (tt, (named, tt)))
+call-looks cells sound n k (Link old new) = link_parts-shown cells sound (parts_of old) (parts_of new)
+call-looks cells sound n k (Unlink path) = from_parts-shown cells sound unlink_spot (unlink_spot-shown cells) (parts_of path)
+call-looks cells sound n k (Rename old new) = rename_parts-shown cells sound n (parts_of old) (parts_of new)

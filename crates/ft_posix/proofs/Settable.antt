@@ -1,0 +1,254 @@
+-- The names of a directory are never set.
+use Rattle.std.proofs.Common.{◌≡◌, ℕ, Bool, true, false, cond, not, ◌&&◌, ◌||◌, ℤ, nat_le, List, [], ◌∷◌, map, inl, inr, Option, Some, None, Result, Ok, Err, sym, subst}
+use Rattle.std.specs.Prelude.{◌==◌, nat_lt}
+use Rattle.ft_laws.specs.Lists.{Each, In}
+use Rattle.ft_body.specs.declared.TheConstants.{SIZE_LIMIT}
+use Rattle.ft_body.specs.Bytes.{fitting}
+use Rattle.ft_path.specs.declared.errno.Errno.{Errno}
+use Rattle.ft_path.specs.declared.path.Parts.{Parts}
+use Rattle.ft_path.specs.FilePath.{parts_of, last_of}
+use Rattle.ft_cells.specs.Entries.{entry_at}
+use Rattle.ft_cells.specs.declared.cell.Cell.{Cell}
+use Rattle.ft_cells.specs.declared.cell.Cell.TheVariants.{Entry, Names, Parent, Links, Bytes, Fd}
+use Rattle.ft_cells.specs.declared.node.Node.{Node}
+use Rattle.ft_cells.specs.declared.node.Node.TheVariants.{Dir as DirNode, File as FileNode}
+use Rattle.ft_cells.specs.declared.open_file.OpenFile.{OpenFile}
+use Rattle.ft_cells.specs.Looks.{Looks, Answer, Look, View, answer, then, or_else}
+use Rattle.ft_cells.specs.Modes.{can_write}
+use Rattle.ft_tree.specs.Walk.{Spot, Named, Itself, walk}
+use Rattle.ft_posix.specs.declared.TheConstants.{MOST_LINKS, LAST_OFFSET}
+use Rattle.ft_posix.specs.declared.call.Call.{Call}
+use Rattle.ft_posix.specs.declared.call.Call.TheVariants.{Mkdir, Rmdir, List as ListDir, Open, Close, Read, Write as WriteCall, Pread, Pwrite, Lseek, Truncate, Ftruncate, Stat, Fstat, Link, Unlink, Rename}
+use Rattle.ft_posix.specs.declared.call.OpenFlags.{OpenFlags}
+use Rattle.ft_posix.specs.declared.call.Whence.{Whence}
+use Rattle.ft_posix.specs.Outcomes.{Write, Outcome, failed, from_parts, unless}
+use Rattle.ft_posix.specs.Accesses.{written_cell}
+use Rattle.ft_posix.specs.Dirs.{make_dir, if_empty, remove_dir, last_fault, remove_parts, list_dir}
+use Rattle.ft_posix.specs.Files.{open_node, is_exclusive, open_spot, open_parts, to_size, cut_file, truncate_spot, truncate_parts, stat_spot}
+use Rattle.ft_posix.specs.Descriptors.{on_open, with_open, any_open, is_readable, is_writable, close_open, read_open, not_negative, pread_at, pread_open, write_place, write_at, has_written, write_open, has_pwritten, pwrite_at, pwrite_open, seek_from, moved, sought, seek_open, ftruncate_open, fstat_open}
+use Rattle.ft_posix.specs.Links.{link_at, link_new, link_old, link_parts, unlink_spot, rename_fault, climb, unless_below, with_parent, replace_file, if_bare, replace_dir, rename_file, rename_dir, rename_old, rename_parts}
+use Rattle.ft_posix.specs.Steps.{steps}
+
+-- a cell that calls may set
+abbrev IsSettable : Cell → Type 0
+IsSettable (Entry entry) = Unit {0}
+IsSettable (Names d) = ⊥
+IsSettable (Parent d) = Unit {0}
+IsSettable (Links i) = Unit {0}
+IsSettable (Bytes i) = Unit {0}
+IsSettable (Fd f) = Unit {0}
+
+abbrev AreSettable : List Write → Type 0
+AreSettable = Each (λ w. IsSettable w.cell)
+
+-- what is set where the looks lead
+abbrev Sets : Looks Outcome → Type 0
+Sets s = (v : View) → AreSettable (answer s v).writes
+
+-- Choices.
+
+one-of : (b : Bool) (s t : Looks Outcome) → Sets s → Sets t → Sets (cond b s t)
+one-of true s t p q = p
+one-of false s t p q = q
+
+one-outcome : (b : Bool) (o p : Outcome) → AreSettable o.writes → AreSettable p.writes → AreSettable (cond b o p).writes
+one-outcome true o p x y = x
+one-outcome false o p x y = y
+
+one-list : (b : Bool) (xs ys : List Write) → AreSettable xs → AreSettable ys → AreSettable (cond b xs ys)
+one-list true xs ys x y = x
+one-list false xs ys x y = y
+
+then-sets : {A : Type 0} (s : Looks A) (f : A → Looks Outcome) → ((x : A) → Sets (f x)) → Sets (then s f)
+then-sets (Answer x) f h v = h x v
+then-sets (Look c next) f h v = then-sets (next (v c)) f h v
+
+or_else-sets : {A : Type 0} (f : A → Looks Outcome) → ((x : A) → Sets (f x)) → (r : Result A Errno) → Sets (or_else failed f r)
+or_else-sets f h (Ok x) v = h x v
+or_else-sets f h (Err e) v = tt
+
+from_parts-sets : (r : Result Parts Errno) (go : Spot → Looks Outcome) → ((spot : Spot) → Sets (go spot)) → Sets (from_parts r go)
+from_parts-sets (Err e) go h v = tt
+from_parts-sets (Ok parts) go h v = then-sets (walk parts.names parts.trailing) (or_else failed go) (or_else-sets go h) v
+
+unless-sets : (o : Option Errno) (go : Looks Outcome) → Sets go → Sets (unless o go)
+unless-sets None go h v = h v
+unless-sets (Some e) go h v = tt
+
+-- Directories.
+
+make_dir-sets : (stamp : ℕ) (spot : Spot) → Sets (make_dir stamp spot)
+make_dir-sets stamp (Named entry None) v = (tt, (tt, tt))
+make_dir-sets stamp (Named entry (Some x)) v = tt
+make_dir-sets stamp (Itself dir) v = tt
+
+if_empty-sets : (dir : ℕ) (name : List ℕ) (number : ℕ) (names : List (List ℕ × Node)) → AreSettable (if_empty (entry_at dir name) number names).writes
+if_empty-sets dir name number [] = (tt, (tt, tt))
+if_empty-sets dir name number (e ∷ es) = tt
+
+remove_dir-sets : (spot : Spot) → Sets (remove_dir spot)
+remove_dir-sets (Named entry None) v = tt
+remove_dir-sets (Named entry (Some (FileNode number))) v = tt
+remove_dir-sets (Named entry (Some (DirNode number))) v = if_empty-sets entry.dir entry.name number (v (Names number))
+remove_dir-sets (Itself dir) v = tt
+
+remove_parts-sets : (r : Result Parts Errno) → Sets (remove_parts r)
+remove_parts-sets (Err e) v = tt
+remove_parts-sets (Ok parts) v = unless-sets (last_fault (last_of parts.names)) (from_parts (Ok parts) remove_dir) (from_parts-sets (Ok parts) remove_dir remove_dir-sets) v
+
+list_dir-sets : (spot : Spot) → Sets (list_dir spot)
+list_dir-sets (Named entry None) v = tt
+list_dir-sets (Named entry (Some (FileNode number))) v = tt
+list_dir-sets (Named entry (Some (DirNode number))) v = tt
+list_dir-sets (Itself dir) v = tt
+
+-- Files.
+
+open_node-sets : (stamp : ℕ) (flags : OpenFlags) (x : Node) → AreSettable (open_node stamp flags x).writes
+open_node-sets stamp flags (DirNode file) = tt
+open_node-sets stamp flags (FileNode file) = (tt, one-list flags.trunc _ _ (tt, tt) tt)
+
+open_spot-sets : (stamp : ℕ) (flags : OpenFlags) (trailing : Bool) (spot : Spot) → AreSettable (open_spot stamp flags trailing spot).writes
+open_spot-sets stamp flags trailing (Named entry None) = one-outcome (flags.create && not trailing) _ _ (tt, (tt, (tt, (tt, tt)))) tt
+open_spot-sets stamp flags trailing (Named entry (Some x)) = one-outcome (is_exclusive flags) _ _ tt (open_node-sets stamp flags x)
+open_spot-sets stamp flags trailing (Itself dir) = one-outcome (is_exclusive flags) _ _ tt tt
+
+open_parts-sets : (stamp : ℕ) (flags : OpenFlags) (r : Result Parts Errno) → Sets (open_parts stamp flags r)
+open_parts-sets stamp flags (Err e) v = tt
+open_parts-sets stamp flags (Ok parts) v =
+    let go : Spot → Looks Outcome = λ spot. Answer (open_spot stamp flags parts.trailing spot) in
+    one-of (flags.trunc && not (can_write flags.access)) _ (from_parts (Ok parts) go) (λ v. tt) (from_parts-sets (Ok parts) go (λ spot v. open_spot-sets stamp flags parts.trailing spot)) v
+
+truncate_spot-sets : (size : ℕ) (spot : Spot) → Sets (truncate_spot size spot)
+truncate_spot-sets size (Named entry None) v = tt
+truncate_spot-sets size (Named entry (Some (DirNode file))) v = tt
+truncate_spot-sets size (Named entry (Some (FileNode file))) v = (tt, tt)
+truncate_spot-sets size (Itself dir) v = tt
+
+truncate_parts-sets : (len : ℤ) (r : Result Parts Errno) → Sets (truncate_parts len r)
+truncate_parts-sets len (Err e) v = tt
+truncate_parts-sets len (Ok parts) v = or_else-sets (λ size. from_parts (Ok parts) (truncate_spot size)) (λ size. from_parts-sets (Ok parts) (truncate_spot size) (truncate_spot-sets size)) (to_size len) v
+
+stat_spot-sets : (spot : Spot) → Sets (stat_spot spot)
+stat_spot-sets (Named entry None) v = tt
+stat_spot-sets (Named entry (Some (DirNode file))) v = tt
+stat_spot-sets (Named entry (Some (FileNode file))) v = tt
+stat_spot-sets (Itself dir) v = tt
+
+-- Descriptors.
+
+on_open-sets : (fits : OpenFile → Bool) (go : OpenFile → Looks Outcome) → ((o : OpenFile) → Sets (go o)) → (place : Option OpenFile) → Sets (on_open fits go place)
+on_open-sets fits go h None v = tt
+on_open-sets fits go h (Some o) v = one-of (fits o) (go o) _ (h o) (λ v. tt) v
+
+with_open-sets : (fd : ℕ) (fits : OpenFile → Bool) (go : OpenFile → Looks Outcome) → ((o : OpenFile) → Sets (go o)) → Sets (with_open fd fits go)
+with_open-sets fd fits go h v = on_open-sets fits go h (v (Fd fd)) v
+
+write_at-sets : (fd : ℕ) (o : OpenFile) (bytes : List ℕ) (at : ℕ) → Sets (write_at fd o bytes at)
+write_at-sets fd o bytes at = one-of (nat_le SIZE_LIMIT at) _ (Look (Bytes o.file) (λ old. Answer (has_written fd o at (fitting bytes at) old))) (λ v. tt) (λ v. (tt, (tt, tt)))
+
+write_open-sets : (fd : ℕ) (bytes : List ℕ) (o : OpenFile) → Sets (write_open fd bytes o)
+write_open-sets fd [] o v = tt
+write_open-sets fd (first ∷ more) o v = then-sets (write_place o) (write_at fd o (first ∷ more)) (write_at-sets fd o (first ∷ more)) v
+
+pwrite_at-sets : (o : OpenFile) (bytes : List ℕ) (at : ℕ) → Sets (pwrite_at o bytes at)
+pwrite_at-sets o [] at v = tt
+pwrite_at-sets o (first ∷ more) at v = one-of (nat_le SIZE_LIMIT at) _ (Look (Bytes o.file) (λ old. Answer (has_pwritten o at (fitting (first ∷ more) at) old))) (λ v. tt) (λ v. (tt, tt)) v
+
+sought-sets : (fd : ℕ) (o : OpenFile) (to : Option ℕ) → AreSettable (sought fd o to).writes
+sought-sets fd o None = tt
+sought-sets fd o (Some at) = one-outcome (nat_le at LAST_OFFSET) _ _ (tt, tt) tt
+
+seek_open-sets : (fd : ℕ) (whence : Whence) (off : ℤ) (o : OpenFile) → Sets (seek_open fd whence off o)
+seek_open-sets fd whence off o = then-sets (seek_from whence o) (λ from. Answer (sought fd o (moved from off))) (λ from v. sought-sets fd o (moved from off))
+
+-- Links.
+
+link_new-sets : (file : ℕ) (trailing : Bool) (spot : Spot) → Sets (link_new file trailing spot)
+link_new-sets file trailing (Named entry None) v =
+    one-of trailing _ (Look (Links file) (λ links. Answer (link_at file entry links))) (λ v. tt) (λ v. one-outcome (nat_lt (v (Links file)) MOST_LINKS) _ _ (tt, (tt, tt)) tt) v
+link_new-sets file trailing (Named entry (Some x)) v = tt
+link_new-sets file trailing (Itself dir) v = tt
+
+link_old-sets : (new : Parts) (spot : Spot) → Sets (link_old new spot)
+link_old-sets new (Named entry None) v = tt
+link_old-sets new (Named entry (Some (DirNode file))) v = tt
+link_old-sets new (Named entry (Some (FileNode file))) v = from_parts-sets (Ok new) (link_new file new.trailing) (link_new-sets file new.trailing) v
+link_old-sets new (Itself dir) v = tt
+
+link_parts-sets : (old new : Result Parts Errno) → Sets (link_parts old new)
+link_parts-sets (Err e) new v = tt
+link_parts-sets (Ok old) (Err e) v = tt
+link_parts-sets (Ok old) (Ok new) v = from_parts-sets (Ok old) (link_old new) (link_old-sets new) v
+
+unlink_spot-sets : (spot : Spot) → Sets (unlink_spot spot)
+unlink_spot-sets (Named entry None) v = tt
+unlink_spot-sets (Named entry (Some (DirNode file))) v = tt
+unlink_spot-sets (Named entry (Some (FileNode file))) v = (tt, (tt, tt))
+unlink_spot-sets (Itself dir) v = tt
+
+with_parent-sets : (moved dir into : ℕ) → AreSettable (with_parent moved dir into)
+with_parent-sets moved dir into = one-list (dir == into) _ _ tt (tt, tt)
+
+unless_below-sets : (most moved into : ℕ) (go : Looks Outcome) → Sets go → Sets (unless_below most moved into go)
+unless_below-sets most moved into go h = then-sets (climb most moved into) (λ met. cond met (Answer (failed _)) go) (λ met. one-of met _ go (λ v. tt) h)
+
+rename_file-sets : (dir : ℕ) (name : List ℕ) (moved : ℕ) (trailing : Bool) (spot : Spot) → Sets (rename_file (entry_at dir name) moved trailing spot)
+rename_file-sets dir name moved trailing (Named entry None) v = one-outcome trailing _ _ tt (tt, (tt, tt))
+rename_file-sets dir name moved trailing (Named entry (Some (FileNode replaced))) v =
+    one-of (moved == replaced) _ (replace_file (entry_at dir name) moved entry replaced) (λ v. tt) (λ v. (tt, (tt, (tt, tt)))) v
+rename_file-sets dir name moved trailing (Named entry (Some (DirNode replaced))) v = tt
+rename_file-sets dir name moved trailing (Itself into) v = tt
+
+if_bare-sets : (dir : ℕ) (name : List ℕ) (moved into : ℕ) (other : List ℕ) (replaced : ℕ) (names : List (List ℕ × Node)) → AreSettable (if_bare (entry_at dir name) moved (entry_at into other) replaced names).writes
+if_bare-sets dir name moved into other replaced [] = (tt, (tt, (tt, with_parent-sets moved dir into)))
+if_bare-sets dir name moved into other replaced (e ∷ es) = tt
+
+rename_dir-sets : (most dir : ℕ) (name : List ℕ) (moved : ℕ) (spot : Spot) → Sets (rename_dir most (entry_at dir name) moved spot)
+rename_dir-sets most dir name moved (Named entry None) v = unless_below-sets most moved entry.dir _ (λ v. (tt, (tt, with_parent-sets moved dir entry.dir))) v
+rename_dir-sets most dir name moved (Named entry (Some (FileNode replaced))) v = tt
+rename_dir-sets most dir name moved (Named entry (Some (DirNode replaced))) v =
+    let go = replace_dir (entry_at dir name) moved entry replaced in
+    one-of (moved == replaced) _ (unless_below most moved entry.dir go) (λ v. tt) (unless_below-sets most moved entry.dir go (λ v. if_bare-sets dir name moved entry.dir entry.name replaced (v (Names replaced)))) v
+rename_dir-sets most dir name moved (Itself into) v = tt
+
+rename_old-sets : (most : ℕ) (new : Parts) (spot : Spot) → Sets (rename_old most new spot)
+rename_old-sets most new (Named entry None) v = tt
+rename_old-sets most new (Named entry (Some (FileNode moved))) v = from_parts-sets (Ok new) (rename_file entry moved new.trailing) (rename_file-sets entry.dir entry.name moved new.trailing) v
+rename_old-sets most new (Named entry (Some (DirNode moved))) v = from_parts-sets (Ok new) (rename_dir most entry moved) (rename_dir-sets most entry.dir entry.name moved) v
+rename_old-sets most new (Itself dir) v = tt
+
+rename_parts-sets : (most : ℕ) (old new : Result Parts Errno) → Sets (rename_parts most old new)
+rename_parts-sets most (Err e) new v = tt
+rename_parts-sets most (Ok old) (Err e) v = tt
+rename_parts-sets most (Ok old) (Ok new) v = unless-sets (rename_fault (last_of old.names) (last_of new.names)) (from_parts (Ok old) (rename_old most new)) (from_parts-sets (Ok old) (rename_old most new) (rename_old-sets most new)) v
+
+-- All calls.
+
+call-sets : (most stamp : ℕ) (call : Call) → Sets (steps most stamp call)
+call-sets most stamp (Mkdir path) = from_parts-sets (parts_of path) (make_dir stamp) (make_dir-sets stamp)
+call-sets most stamp (Rmdir path) = remove_parts-sets (parts_of path)
+call-sets most stamp (ListDir path) = from_parts-sets (parts_of path) list_dir list_dir-sets
+call-sets most stamp (Open path access create excl trunc append) = open_parts-sets stamp _ (parts_of path)
+call-sets most stamp (Close fd) = with_open-sets fd any_open (close_open fd) (λ o v. (tt, tt))
+call-sets most stamp (Read fd len) = with_open-sets fd is_readable (read_open fd len) (λ o v. (tt, tt))
+call-sets most stamp (WriteCall fd bytes) = with_open-sets fd is_writable (write_open fd bytes) (write_open-sets fd bytes)
+call-sets most stamp (Pread fd off len) = with_open-sets fd is_readable (pread_open off len) (λ o. or_else-sets (pread_at len o) (λ at v. tt) (not_negative off))
+call-sets most stamp (Pwrite fd off bytes) = with_open-sets fd is_writable (pwrite_open off bytes) (λ o. or_else-sets (pwrite_at o bytes) (pwrite_at-sets o bytes) (not_negative off))
+call-sets most stamp (Lseek fd whence off) = with_open-sets fd any_open (seek_open fd whence off) (seek_open-sets fd whence off)
+call-sets most stamp (Truncate len path) = truncate_parts-sets len (parts_of path)
+call-sets most stamp (Ftruncate fd len) = with_open-sets fd is_writable (ftruncate_open len) (λ o. or_else-sets (cut_file o.file) (λ size v. (tt, tt)) (to_size len))
+call-sets most stamp (Stat path) = from_parts-sets (parts_of path) stat_spot stat_spot-sets
+call-sets most stamp (Fstat fd) = with_open-sets fd any_open fstat_open (λ o v. tt)
+call-sets most stamp (Link old new) = link_parts-sets (parts_of old) (parts_of new)
+call-sets most stamp (Unlink path) = from_parts-sets (parts_of path) unlink_spot unlink_spot-sets
+call-sets most stamp (Rename old new) = rename_parts-sets most (parts_of old) (parts_of new)
+
+-- none of them is the names of a directory
+no-names : (ws : List Write) → AreSettable ws → (d : ℕ) → In (Names d) (map written_cell ws) → ⊥
+no-names [] each d i = absurd i
+no-names (w ∷ ws) each d (inl is) = subst IsSettable (sym is) each.0
+no-names (w ∷ ws) each d (inr i) = no-names ws each.1 d i
+
+pub names-not_written : (most stamp : ℕ) (call : Call) (v : View) (d : ℕ) → In (Names d) (map written_cell (answer (steps most stamp call) v).writes) → ⊥
+names-not_written most stamp call v d i = no-names (answer (steps most stamp call) v).writes (call-sets most stamp call v) d i

@@ -1,0 +1,124 @@
+-- What the calls on descriptors look at, and what they come to.
+use Rattle.std.specs.Prelude.{ℕ, Bool, true, cond, ◌+◌, ◌-◌, suc, nat_le, ℤ, pos, negsuc, length, List, [], ◌∷◌, Option, Some, None, Result, Ok, Err}
+use Rattle.ft_body.specs.declared.TheConstants.{SIZE_LIMIT}
+use Rattle.ft_body.specs.Bytes.{bytes_at, fitting, written}
+use Rattle.ft_path.specs.declared.errno.Errno.{Errno}
+use Rattle.ft_path.specs.declared.errno.Errno.TheVariants.{EINVAL, EBADF, EFBIG, EOVERFLOW}
+use Rattle.ft_cells.specs.declared.cell.Cell.TheVariants.{Links, Bytes, Fd}
+use Rattle.ft_cells.specs.declared.open_file.OpenFile.{OpenFile}
+use Rattle.ft_cells.specs.Modes.{can_read, can_write}
+use Rattle.ft_cells.specs.Looks.{Looks, Answer, Look, then, or_else}
+use Rattle.ft_posix.specs.declared.TheConstants.{LAST_OFFSET}
+use Rattle.ft_posix.specs.declared.call.Whence.{Whence}
+use Rattle.ft_posix.specs.declared.call.Whence.TheVariants.{Set, Cur, End}
+use Rattle.ft_posix.specs.declared.call.Reply.TheVariants.{Done, Number, Bytes as BytesReply}
+use Rattle.ft_posix.specs.Outcomes.{sets, Outcome, failed, told}
+use Rattle.ft_posix.specs.Files.{to_size, cut_file, file_info}
+
+-- Calls on a descriptor: one that is not open, or not for this, is bad.
+
+abbrev pub on_open : (OpenFile → Bool) → (OpenFile → Looks Outcome) → Option OpenFile → Looks Outcome
+on_open fits go None = Answer (failed EBADF)
+on_open fits go (Some description) = cond (fits description) (go description) (Answer (failed EBADF))
+
+abbrev pub with_open : ℕ → (OpenFile → Bool) → (OpenFile → Looks Outcome) → Looks Outcome
+with_open fd fits go = Look (Fd fd) (λ place. on_open fits go place)
+
+abbrev pub any_open : OpenFile → Bool
+any_open description = true
+
+abbrev pub is_readable : OpenFile → Bool
+is_readable description = can_read description.access
+
+abbrev pub is_writable : OpenFile → Bool
+is_writable description = can_write description.access
+
+abbrev pub at_offset : OpenFile → ℕ → OpenFile
+at_offset description offset = record { file = description.file; access = description.access; append = description.append; offset = offset }
+
+-- close (POSIX.1-2017, System Interfaces, close); whether entries name the file is looked at
+abbrev pub close_open : ℕ → OpenFile → Looks Outcome
+close_open fd description = Look (Links description.file) (λ _. Answer (record { reply = Done; writes = sets (Fd fd) None ∷ [] }))
+
+-- read (POSIX.1-2017, System Interfaces, read): the offset moves by the count of bytes that are read
+abbrev pub has_read : ℕ → OpenFile → List ℕ → Outcome
+has_read fd description bytes = record { reply = BytesReply bytes; writes = sets (Fd fd) (Some (at_offset description (description.offset + length bytes))) ∷ [] }
+
+abbrev pub read_open : ℕ → ℕ → OpenFile → Looks Outcome
+read_open fd len description = Look (Bytes description.file) (λ bytes. Answer (has_read fd description (bytes_at bytes description.offset len)))
+
+-- an offset or a length below zero is invalid
+abbrev pub not_negative : ℤ → Result ℕ Errno
+not_negative (pos n) = Ok n
+not_negative (negsuc n) = Err EINVAL
+
+-- pread (POSIX.1-2017, System Interfaces, read)
+abbrev pub pread_at : ℕ → OpenFile → ℕ → Looks Outcome
+pread_at len description at = Look (Bytes description.file) (λ bytes. Answer (told (BytesReply (bytes_at bytes at len))))
+
+abbrev pub pread_open : ℤ → ℕ → OpenFile → Looks Outcome
+pread_open off len description = or_else failed (pread_at len description) (not_negative off)
+
+-- write (POSIX.1-2017, System Interfaces, write): with append the offset is first the size
+
+abbrev pub write_place : OpenFile → Looks ℕ
+write_place description = cond description.append (Look (Bytes description.file) (λ bytes. Answer (length bytes))) (Answer description.offset)
+
+-- the offset becomes the end of what was written
+abbrev pub has_written : ℕ → OpenFile → ℕ → List ℕ → List ℕ → Outcome
+has_written fd description at taken bytes = record {
+  reply = Number (length taken);
+  writes = sets (Bytes description.file) (written bytes at taken) ∷ sets (Fd fd) (Some (at_offset description (at + length taken))) ∷ [];
+}
+
+abbrev pub write_at : ℕ → OpenFile → List ℕ → ℕ → Looks Outcome
+write_at fd description bytes at = cond (nat_le SIZE_LIMIT at) (Answer (failed EFBIG)) (Look (Bytes description.file) (λ old. Answer (has_written fd description at (fitting bytes at) old)))
+
+-- to write no bytes changes nothing
+abbrev pub write_open : ℕ → List ℕ → OpenFile → Looks Outcome
+write_open fd [] description = Answer (told (Number 0))
+write_open fd (first ∷ more) description = then (write_place description) (write_at fd description (first ∷ more))
+
+-- pwrite (POSIX.1-2017, System Interfaces, write): the offset of the description stays, and append has no effect
+
+abbrev pub has_pwritten : OpenFile → ℕ → List ℕ → List ℕ → Outcome
+has_pwritten description at taken bytes = record { reply = Number (length taken); writes = sets (Bytes description.file) (written bytes at taken) ∷ [] }
+
+abbrev pub pwrite_at : OpenFile → List ℕ → ℕ → Looks Outcome
+pwrite_at description [] at = Answer (told (Number 0))
+pwrite_at description (first ∷ more) at =
+    cond (nat_le SIZE_LIMIT at) (Answer (failed EFBIG)) (Look (Bytes description.file) (λ old. Answer (has_pwritten description at (fitting (first ∷ more) at) old)))
+
+abbrev pub pwrite_open : ℤ → List ℕ → OpenFile → Looks Outcome
+pwrite_open off bytes description = or_else failed (pwrite_at description bytes) (not_negative off)
+
+-- lseek (POSIX.1-2017, System Interfaces, lseek)
+
+abbrev pub seek_from : Whence → OpenFile → Looks ℕ
+seek_from Set description = Answer 0
+seek_from Cur description = Answer description.offset
+seek_from End description = Look (Bytes description.file) (λ bytes. Answer (length bytes))
+
+-- where an offset leads from a place, unless below zero
+abbrev pub moved : ℕ → ℤ → Option ℕ
+moved from (pos n) = Some (from + n)
+moved from (negsuc n) = cond (nat_le (suc n) from) (Some (from - suc n)) None
+
+abbrev pub offset_within : Option ℕ → Result ℕ Errno
+offset_within None = Err EINVAL
+offset_within (Some at) = cond (nat_le at LAST_OFFSET) (Ok at) (Err EOVERFLOW)
+
+abbrev pub sought : ℕ → OpenFile → Option ℕ → Outcome
+sought fd description None = failed EINVAL
+sought fd description (Some at) = cond (nat_le at LAST_OFFSET) (record { reply = Number at; writes = sets (Fd fd) (Some (at_offset description at)) ∷ [] }) (failed EOVERFLOW)
+
+abbrev pub seek_open : ℕ → Whence → ℤ → OpenFile → Looks Outcome
+seek_open fd whence off description = then (seek_from whence description) (λ from. Answer (sought fd description (moved from off)))
+
+-- ftruncate and fstat (POSIX.1-2017, System Interfaces, ftruncate, fstat)
+
+abbrev pub ftruncate_open : ℤ → OpenFile → Looks Outcome
+ftruncate_open len description = or_else failed (cut_file description.file) (to_size len)
+
+abbrev pub fstat_open : OpenFile → Looks Outcome
+fstat_open description = file_info description.file

@@ -1,0 +1,55 @@
+-- What the calls on directories look at, and what they come to.
+use Rattle.std.specs.Prelude.{ℕ, List, [], ◌∷◌, Option, Some, None, Result, Ok, Err}
+use Rattle.ft_path.specs.FilePath.{last_of}
+use Rattle.ft_path.specs.declared.path.LastName.{LastName}
+use Rattle.ft_path.specs.declared.path.LastName.TheVariants.{Absent, Dot, DotDot, Plain}
+use Rattle.ft_path.specs.declared.path.Parts.{Parts}
+use Rattle.ft_path.specs.declared.errno.Errno.{Errno}
+use Rattle.ft_path.specs.declared.errno.Errno.TheVariants.{ENOENT, ENOTDIR, EEXIST, EINVAL, EBUSY, ENOTEMPTY}
+use Rattle.ft_cells.specs.declared.entry.Entry.{Entry as DirEntry}
+use Rattle.ft_cells.specs.declared.cell.Cell.TheVariants.{Entry, Names, Parent}
+use Rattle.ft_cells.specs.declared.node.Node.{Node}
+use Rattle.ft_cells.specs.declared.node.Node.TheVariants.{Dir as DirNode, File as FileNode}
+use Rattle.ft_cells.specs.Nodes.{with_kinds}
+use Rattle.ft_cells.specs.Looks.{Looks, Answer, Look}
+use Rattle.ft_tree.specs.Walk.{Spot, Named, Itself}
+use Rattle.ft_posix.specs.declared.call.Reply.TheVariants.{Done, Names as NamesReply}
+use Rattle.ft_posix.specs.Outcomes.{sets, Outcome, failed, told, from_parts, unless}
+
+-- mkdir (POSIX.1-2017, System Interfaces, mkdir): the directory gets the call's stamp as its number
+abbrev pub make_dir : ℕ → Spot → Looks Outcome
+make_dir stamp (Named entry None) = Answer (record { reply = Done; writes = sets (Parent stamp) (Some entry.dir) ∷ sets (Entry entry) (Some (DirNode stamp)) ∷ [] })
+make_dir stamp (Named entry (Some x)) = Answer (failed EEXIST)
+make_dir stamp (Itself dir) = Answer (failed EEXIST)
+
+-- rmdir (POSIX.1-2017, System Interfaces, rmdir)
+abbrev pub if_empty : DirEntry → ℕ → List (List ℕ × Node) → Outcome
+if_empty entry number [] = record { reply = Done; writes = sets (Parent number) None ∷ sets (Entry entry) None ∷ [] }
+if_empty entry number (name ∷ names) = failed ENOTEMPTY
+
+abbrev pub remove_dir : Spot → Looks Outcome
+remove_dir (Named entry None) = Answer (failed ENOENT)
+remove_dir (Named entry (Some (FileNode number))) = Answer (failed ENOTDIR)
+remove_dir (Named entry (Some (DirNode number))) = Look (Names number) (λ names. Answer (if_empty entry number names))
+remove_dir (Itself dir) = Answer (failed EBUSY)
+
+-- what is wrong with the last component of the path of a directory to be removed, before any look-up: the root is busy, `.` is invalid, and `..` is not empty
+abbrev pub last_fault : LastName → Option Errno
+last_fault Absent = Some EBUSY
+last_fault Dot = Some EINVAL
+last_fault DotDot = Some ENOTEMPTY
+last_fault Plain = None
+
+abbrev pub remove_parts : Result Parts Errno → Looks Outcome
+remove_parts (Err e) = Answer (failed e)
+remove_parts (Ok parts) = unless (last_fault (last_of parts.names)) (from_parts (Ok parts) remove_dir)
+
+-- list: all names of a directory at once, in order, for which POSIX has opendir and readdir
+abbrev pub list_names : ℕ → Looks Outcome
+list_names dir = Look (Names dir) (λ names. Answer (told (NamesReply (with_kinds names))))
+
+abbrev pub list_dir : Spot → Looks Outcome
+list_dir (Named entry None) = Answer (failed ENOENT)
+list_dir (Named entry (Some (FileNode number))) = Answer (failed ENOTDIR)
+list_dir (Named entry (Some (DirNode number))) = list_names number
+list_dir (Itself dir) = list_names dir

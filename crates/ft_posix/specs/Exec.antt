@@ -1,0 +1,61 @@
+-- The execution of a call on the plain tree.
+use Rattle.std.specs.Prelude.{ℕ, Bool, cond, ◌==◌, ◌||◌, List, [], ◌∷◌, Option, Some, None}
+use Rattle.std.specs.List.{list_any}
+use Rattle.std.specs.Ordering.{nat_cmp}
+use Rattle.std.specs.FinMap as finite
+use Rattle.ft_cells.specs.declared.entry.Entry.{Entry as DirEntry}
+use Rattle.ft_cells.specs.Entries.{entry_cmp}
+use Rattle.ft_cells.specs.declared.node.Node.{Node}
+use Rattle.ft_cells.specs.declared.open_file.OpenFile.{OpenFile}
+use Rattle.ft_cells.specs.Nodes.{number_of}
+use Rattle.ft_cells.specs.declared.cell.Cell.{Cell}
+use Rattle.ft_cells.specs.declared.cell.Cell.TheVariants.{Entry, Names, Parent, Links, Bytes, Fd}
+use Rattle.ft_tree.specs.Held.{Holds}
+use Rattle.ft_cells.specs.Looks.{answer}
+use Rattle.ft_cells.specs.Plain.{PlainTree, NumberSet, view_in}
+use Rattle.ft_posix.specs.declared.call.Call.{Call}
+use Rattle.ft_posix.specs.declared.call.Reply.{Reply}
+use Rattle.ft_posix.specs.Outcomes.{Write}
+use Rattle.ft_posix.specs.Steps.{steps}
+
+-- an edge is drawn, or taken away
+abbrev pub set_edge : finite.FinMap entry_cmp ℕ → DirEntry → Option Node → finite.FinMap entry_cmp ℕ
+set_edge edges e (Some x) = finite.insert edges e (number_of x)
+set_edge edges e None = finite.remove edges e
+
+-- a directory is there where it has a parent, and the root always
+abbrev pub set_dir : NumberSet → ℕ → Option ℕ → NumberSet
+set_dir dirs d (Some p) = finite.insert dirs d tt
+set_dir dirs d None = cond (d == 1) dirs (finite.remove dirs d)
+
+abbrev pub set_open : finite.FinMap nat_cmp OpenFile → ℕ → Option OpenFile → finite.FinMap nat_cmp OpenFile
+set_open opens f (Some o) = finite.insert opens f o
+set_open opens f None = finite.remove opens f
+
+-- links are not kept: they are the count of the edges
+abbrev pub set_plain : PlainTree → (c : Cell) → Holds c → PlainTree
+set_plain p (Entry entry) to = record p { edges = set_edge p.edges entry to }
+set_plain p (Names d) to = p
+set_plain p (Parent d) parent = record p { dirs = set_dir p.dirs d parent }
+set_plain p (Links i) links = p
+set_plain p (Bytes i) bytes = record p { files = finite.insert p.files i bytes }
+set_plain p (Fd f) to = record p { opens = set_open p.opens f to }
+
+abbrev pub put_plain : PlainTree → Write → PlainTree
+put_plain p w = set_plain p w.cell w.value
+
+abbrev pub put_all_plain : PlainTree → List Write → PlainTree
+put_all_plain p [] = p
+put_all_plain p (w ∷ ws) = put_all_plain (put_plain p w) ws
+
+-- an edge or a description names the file
+abbrev pub is_named_in : PlainTree → ℕ → Bool
+is_named_in p i = list_any (λ e. e.1 == i) (finite.entries p.edges) || list_any (λ e. e.1.file == i) (finite.entries p.opens)
+
+-- a file that neither names is gone (POSIX.1-2017, System Interfaces, unlink and close)
+abbrev pub without_dead_files : PlainTree → PlainTree
+without_dead_files p = record p { files = finite.retain_keys p.files (is_named_in p) }
+
+-- the call with this stamp: the tree after it, and its reply
+abbrev pub exec : PlainTree → ℕ → Call → PlainTree × Reply
+exec p stamp call = let outcome = answer (steps (finite.len p.dirs) stamp call) (view_in p) in (without_dead_files (put_all_plain p outcome.writes), outcome.reply)

@@ -1,0 +1,99 @@
+-- The calls on a tree, seen as calls in the abstract: what ft_laws asks of calls is shown of these.
+use Rattle.std.specs.Prelude.{ℕ, Bool, false, ◌==◌, map, Option, Some, None}
+use Rattle.ft_laws.specs.Calls.{Calls}
+use Rattle.ft_laws.specs.Effects.{Access as PlaceAccess, Effect, Effects, calls_of}
+use Rattle.ft_cells.specs.declared.cell.Cell.{Cell}
+use Rattle.ft_cells.specs.declared.cell.Cell.TheVariants.{Entry, Names, Parent, Links, Bytes, Fd}
+use Rattle.ft_cells.specs.declared.node.Node.{Node}
+use Rattle.ft_cells.specs.declared.node.Node.TheVariants.{Dir as DirNode, File as FileNode}
+use Rattle.ft_cells.specs.declared.open_file.OpenFile.{OpenFile}
+use Rattle.ft_cells.specs.CellOrder.{same_cell, overlap}
+use Rattle.ft_cells.specs.Cells.{Cells}
+use Rattle.ft_tree.specs.Held.{Holds, held, blank, set_cell}
+use Rattle.ft_tree.specs.Sound.{AreSoundCells, IsFree, SameValues}
+use Rattle.ft_posix.specs.declared.call.Call.{Call}
+use Rattle.ft_posix.specs.declared.call.Reply.{Reply}
+use Rattle.ft_posix.specs.declared.call.Access.{Access}
+use Rattle.ft_posix.specs.Stored.{outcome}
+use Rattle.ft_posix.specs.Accesses.{is_write, accesses_of}
+
+-- an access to the names of a directory is one to each of its entries
+abbrev pub covers : Cell → Cell → Bool
+covers (Names d) (Entry entry) = d == entry.dir
+covers x y = same_cell x y
+
+-- a call with its stamp
+pub record Stamped : Type 0 where
+  pub stamp : ℕ
+  pub call : Call
+
+abbrev pub as_place : Access → PlaceAccess Cell
+as_place a = record { place = a.cell; writes = is_write a.mode }
+
+-- the values are those of sound cells
+pub record HasSoundValues (cells : Cells) : Type 0 where
+  pub with_places : Cells
+  pub sound : AreSoundCells with_places
+  pub same : SameValues with_places cells
+
+-- the file to which a cell belongs
+abbrev pub file_of : Cell → Option ℕ
+file_of (Entry entry) = None
+file_of (Names d) = None
+file_of (Parent d) = None
+file_of (Links i) = Some i
+file_of (Bytes i) = Some i
+file_of (Fd f) = None
+
+abbrev pub node_names : Option Node → ℕ → Bool
+node_names None i = false
+node_names (Some (DirNode j)) i = false
+node_names (Some (FileNode j)) i = j == i
+
+abbrev pub description_names : Option OpenFile → ℕ → Bool
+description_names None i = false
+description_names (Some o) i = o.file == i
+
+-- an entry names its file, and a description the file that it has open
+abbrev pub names_file : (c : Cell) → Holds c → ℕ → Bool
+names_file (Entry entry) to i = node_names to i
+names_file (Names d) to i = false
+names_file (Parent d) to i = false
+names_file (Links j) to i = false
+names_file (Bytes j) to i = false
+names_file (Fd f) to i = description_names to i
+
+abbrev pub does : Cells → Stamped → Effect Cell Cell Holds Reply
+does cells a = let o = outcome cells a.stamp a.call in record {
+  accesses = map as_place (accesses_of cells a.stamp a.call);
+  writes = o.writes;
+  reply = o.reply;
+}
+
+-- a file that a call makes has its stamp for a number
+abbrev pub posix : Effects
+posix = record {
+  Store = Cells;
+  Cell = Cell;
+  Value = Holds;
+  Place = Cell;
+  Call = Stamped;
+  Reply = Reply;
+  File = ℕ;
+  cell = held;
+  write = set_cell;
+  same_cell = same_cell;
+  covers = covers;
+  overlap = overlap;
+  stamp = λ a. a.stamp;
+  does = does;
+  IsSound = HasSoundValues;
+  IsReady = λ a cells. IsFree cells a.stamp;
+  file_of = file_of;
+  names = names_file;
+  blank = blank;
+  own = λ a. a.stamp;
+}
+
+abbrev pub posix_calls : Calls
+posix_calls = calls_of posix

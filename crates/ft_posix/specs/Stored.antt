@@ -1,0 +1,24 @@
+-- The execution of a call on the stored cells.
+use Rattle.std.specs.Prelude.{ℕ, List, [], ◌∷◌}
+use Rattle.ft_cells.specs.Cells.{Cells, stored_dirs}
+use Rattle.ft_tree.specs.Held.{set_cell}
+use Rattle.ft_tree.specs.Views.{view_of}
+use Rattle.ft_cells.specs.Looks.{answer}
+use Rattle.ft_posix.specs.declared.call.Call.{Call}
+use Rattle.ft_posix.specs.Outcomes.{Write, Outcome}
+use Rattle.ft_posix.specs.Steps.{steps}
+
+abbrev pub put : Cells → Write → Cells
+put cells w = set_cell cells w.cell w.value
+
+abbrev pub put_all : Cells → List Write → Cells
+put_all cells [] = cells
+put_all cells (w ∷ ws) = put_all (put cells w) ws
+
+-- what the call with this stamp comes to
+abbrev pub outcome : Cells → ℕ → Call → Outcome
+outcome cells stamp call = answer (steps (stored_dirs cells) stamp call) (view_of cells)
+
+-- the cells after it
+abbrev pub after : Cells → ℕ → Call → Cells
+after cells stamp call = put_all cells (outcome cells stamp call).writes

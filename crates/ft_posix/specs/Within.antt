@@ -1,0 +1,18 @@
+-- Edits that keep files within their limit.
+use Rattle.std.specs.Prelude.{◌≤◌, List, [], ◌∷◌}
+use Rattle.ft_body.specs.declared.TheConstants.{SIZE_LIMIT}
+use Rattle.ft_posix.specs.declared.intent.Edit.{Edit}
+use Rattle.ft_posix.specs.declared.intent.Edit.TheVariants.{Entry, Parent, Links, Overwrite, Resize, Open}
+
+-- bytes and sizes that are edited are within the limit
+abbrev pub IsWithin : Edit → Type 0
+IsWithin (Entry entry to) = Unit {0}
+IsWithin (Parent d to) = Unit {0}
+IsWithin (Links i to) = Unit {0}
+IsWithin (Overwrite i at bytes) = at ≤ SIZE_LIMIT
+IsWithin (Resize i size) = size ≤ SIZE_LIMIT
+IsWithin (Open f to) = Unit {0}
+
+abbrev pub AreWithin : List Edit → Type 0
+AreWithin [] = Unit {0}
+AreWithin (e ∷ es) = IsWithin e × AreWithin es

@@ -1,0 +1,209 @@
+// What a call comes to, before it is made.
+ghost use Rattle.std.specs.Prelude.{◌≡◌, [], ◌∷◌, ◌++◌, OnOk, IfOk, IfSome, IfNone};
+ghost use Rattle.ft_body.specs.Bytes.{bytes_at};
+ghost use Rattle.ft_cells.specs.Cells.{bytes_of};
+ghost use Rattle.ft_cells.specs.Entries.{entry_in};
+ghost use Rattle.ft_posix.specs.Within.{IsWithin, AreWithin};
+
+use crate::call::Reply;
+use ft_base::{Few, Memory};
+use ft_path::Errno;
+use ft_tree::{Entry, EntryRef, Kind, Node, OpenFile, Tree};
+use std::alloc::Global;
+use std::marker::Model;
+
+/// Why a call comes to no intent.
+#[derive(Clone, Copy)]
+pub enum Stop {
+    /// There was no memory.
+    Memory,
+    /// The call fails, with this error.
+    Errno(Errno),
+}
+
+impl From<Memory> for Stop {
+    ghost use Rattle.std.specs.Prelude.{◌≡◌};
+    ghost use Rattle.ft_posix.specs.declared.intent.Stop.TheVariants.{Memory};
+
+    ghost from_gives = { λ _ stop. stop ≡ Memory };
+
+    fn from(_memory: Memory) -> Stop {
+        Stop::Memory
+    }
+}
+
+impl From<Errno> for Stop {
+    ghost use Rattle.std.specs.Prelude.{◌≡◌};
+    ghost use Rattle.ft_posix.specs.declared.intent.Stop.TheVariants.{Errno as Fails};
+
+    ghost from_gives = { λ errno stop. stop ≡ Fails errno };
+
+    fn from(errno: Errno) -> Stop {
+        Stop::Errno(errno)
+    }
+}
+
+/// One cell that is to get a new value. Bytes to be written are borrowed from the call.
+#[derive(Drop)]
+pub enum Edit<'c> {
+    /// What an entry leads to.
+    Entry { entry: Entry, to: Option<Node> },
+    /// The directory that has a directory's entry.
+    Parent { dir: u64, to: Option<u64> },
+    /// How many entries name a file.
+    Links { file: u64, to: u64 },
+    /// Bytes of a file, those that have room from an offset on.
+    Overwrite { file: u64, at: u64, bytes: &'c [u8] },
+    /// The size of a file.
+    Resize { file: u64, size: u64 },
+    /// The open file description of a descriptor.
+    Open { fd: u64, to: Option<OpenFile> },
+}
+
+/// The edits of a call.
+#[derive(Drop)]
+pub struct Edits<'c> {
+    items: Few<Edit<'c>>,
+}
+
+impl<'c> Model for Edits<'c> {
+    ghost use Rattle.std.specs.Prelude.{List};
+    ghost use Rattle.ft_posix.specs.declared.intent.Edit.{Edit};
+
+    ghost Value = { List Edit };
+
+    ghost use Rattle.ft_posix.specs.Within.{AreWithin};
+
+    ghost view = { λ a. a.items };
+
+    ghost invariant = { λ a. AreWithin a.items };
+}
+
+impl<'c> Edits<'c> {
+    /// No edits. Takes no memory.
+    pub fn new(alloc: Global) -> Edits<'c>
+        ensures { result ≡ [] }
+    {
+        Edits {
+            items: Few::new(alloc),
+        }
+    }
+
+    /// The edits, in order.
+    pub fn as_items(&self) -> &Few<Edit<'c>>
+        ensures items { result.now ≡ self.now }
+        ensures within { AreWithin self.now }
+    {
+        &self.items
+    }
+
+    /// Takes out the first edit, where there is one. Takes no memory.
+    pub fn pop_front(&mut self) -> Option<Edit<'c>>
+        ensures some { IfSome result (λ edit. self.old ≡ edit ∷ self.new) }
+        ensures none { IfNone result (self.old ≡ []) }
+        ensures left { IfNone result (self.new ≡ []) }
+    {
+        self.items.pop_front()
+    }
+
+    /// Puts one more behind the others; the first two take no memory.
+    pub fn push(&mut self, edit: Edit<'c>) -> Result<(), Memory>
+        requires { IsWithin edit }
+        ensures { OnOk result (self.new ≡ self.old ++ edit.entry ∷ []) }
+    {
+        self.items.push(edit)?;
+        Ok(())
+    }
+
+    /// The same, of what an entry leads to.
+    pub fn push_entry(&mut self, entry: EntryRef<'_>, to: Option<Node>) -> Result<(), Memory>
+        ensures { OnOk result (self.new ≡ self.old ++ Edit.Entry (entry_in entry.entry) to ∷ []) }
+    {
+        let entry = entry.to_entry()?;
+        self.push(Edit::Entry { entry, to })
+    }
+}
+
+/// What a call answers when it is made. A list is told only by where it is.
+#[derive(Clone, Copy, Debug)]
+pub enum Told {
+    /// What was asked is done.
+    Done,
+    /// A descriptor, an offset, or how many bytes are written.
+    Number(u64),
+    /// What a path leads to or a descriptor has open.
+    Info {
+        kind: Kind,
+        number: u64,
+        links: u64,
+        size: u64,
+    },
+    /// The call fails, with this error.
+    Failed(Errno),
+    /// The names of a directory.
+    NamesOf(u64),
+    /// The bytes of a file from an offset on, at most `len`.
+    BytesOf {
+        file: u64,
+        at: u64,
+        len: u64,
+    },
+}
+
+/// What a call comes to, before it is made: its answer, and the cells that it is to set.
+#[derive(Drop)]
+pub struct Intent<'c> {
+    pub told: Told,
+    pub edits: Edits<'c>,
+}
+
+impl<'c> Intent<'c> {
+    ghost use Rattle.std.specs.Prelude.{◌≡◌, IfOk, OnErr};
+    ghost use Rattle.ft_posix.specs.Comes.{reply_of};
+    ghost use Rattle.ft_posix.specs.Perform.{IsList};
+
+    /// The reply of the call. A list is read off the tree, which is as it was looked at. Only a list
+    /// takes memory, and want of it is the one refusal.
+    pub fn reply(&self, alloc: Global, tree: &Tree) -> Result<Reply, Memory>
+        ensures reply { IfOk result (λ reply. reply ≡ reply_of tree.now self.now.told) }
+        ensures lists { OnErr result (IsList (reply_of tree.now self.now.told)) }
+    {
+        match self.told {
+            Told::Done => Ok(Reply::Done),
+            Told::Number(number) => Ok(Reply::Number(number)),
+            Told::Info {
+                kind,
+                number,
+                links,
+                size,
+            } => Ok(Reply::Info {
+                kind,
+                number,
+                links,
+                size,
+            }),
+            Told::Failed(errno) => Ok(Reply::Failed(errno)),
+            Told::NamesOf(dir) => Ok(Reply::Names(tree.names(dir)?.into())),
+            Told::BytesOf { file, at, len } => {
+                let bytes = read_bytes(alloc, tree, file, at, len)?;
+                Ok(Reply::Bytes(bytes.into()))
+            }
+        }
+    }
+}
+
+/// The bytes of a file from an offset on, at most `count`.
+fn read_bytes(
+    alloc: Global,
+    tree: &Tree,
+    file: u64,
+    offset: u64,
+    count: u64,
+) -> Result<Vec<u8>, Memory>
+    ensures { IfOk result (λ read. read.items ≡ bytes_at (bytes_of tree.now file) offset count) }
+{
+    match tree.body(file) {
+        Some(body) => body.read_at(offset, count),
+        None => Ok(Vec::new(alloc)),
+    }
+}

@@ -1,0 +1,10 @@
+use Rattle.std.proofs.Common.{take}
+use Rattle.std.specs.Fmt.{HasWritten, IsPlainFormatter}
+use Rattle.ft_words.specs.Texts.{lines_text}
+use Rattle.ft_replies.specs.Reports.{lock_text}
+use Rattle.ft_replies.proofs.lock_text.LockLinesDisplay.fmt.Given as goal
+
+-- the text so far is that of the locks so far
+abbrev pub invariant-loop-lock : goal.invariant-loop-lock
+invariant-loop-lock g l =
+    IsPlainFormatter l.initial.f → HasWritten g.W.Write.write_str_gives l.initial.f (lines_text lock_text (take l.lock-index l.lock-items)) l.f

@@ -1,0 +1,42 @@
+-- What is written for a line.
+use Rattle.std.specs.Prelude.{◌≡◌, ◌⊎◌, ℕ, List, [], ◌∷◌, ◌++◌, codes}
+use Rattle.ft_cells.specs.Rows.{rows_of}
+use Rattle.ft_moss.specs.declared.line.LockLine.{LockLine}
+use Rattle.ft_core.specs.declared.request.Answer.{Answer}
+use Rattle.ft_core.specs.declared.request.Request.{Request}
+use Rattle.ft_core.specs.States.{State, tree_of}
+use Rattle.ft_core.specs.Steps.{IsStep, exact_rule}
+use Rattle.ft_core.specs.Reports.{AreLockLines}
+use Rattle.ft_waits.specs.declared.edge.Edge.{Edge}
+use Rattle.ft_waits.specs.declared.verdict.Verdict.{Verdict}
+use Rattle.ft_waits.specs.Edges.{AreEdgesOf}
+use Rattle.ft_waits.specs.Waits.{IsVerdict}
+use Rattle.ft_replies.specs.declared.line.Line.{Line}
+use Rattle.ft_replies.specs.declared.line.Line.TheVariants as line
+use Rattle.ft_replies.specs.declared.line.Report.{Report}
+use Rattle.ft_replies.specs.declared.line.Report.TheVariants.{Tree, Locks, Waits}
+use Rattle.ft_replies.specs.Requests.{meaning_of}
+use Rattle.ft_replies.specs.Texts.{text_of}
+use Rattle.ft_words.specs.Texts.{tree_text}
+use Rattle.ft_replies.specs.Reports.{locks_text, waits_text}
+
+-- a legal step of the core
+abbrev pub IsLegal : State → Request → Answer → State → Type 0
+IsLegal = IsStep exact_rule
+
+-- the text of a report, without the line feed behind it: what the plain tree of the state holds; the locks of its history; or its waits-for edges, with the verdict on them
+abbrev pub IsReportText : State → Report → List ℕ → Type 0
+IsReportText s Tree text = text ≡ tree_text (rows_of (tree_of s))
+IsReportText s Locks text = (locks : List LockLine) × AreLockLines s locks × (text ≡ locks_text locks)
+IsReportText s Waits text = (edges : List Edge) × (verdict : Verdict) × AreEdgesOf s edges × IsVerdict edges verdict × (text ≡ waits_text edges verdict)
+
+-- the report, or that there was no memory for what it tells of
+abbrev pub IsReport : State → Report → List ℕ → Type 0
+IsReport s report text = ((told : List ℕ) × IsReportText s report told × (text ≡ told ++ 10 ∷ [])) ⊎ (text ≡ codes "refused Memory" ++ 10 ∷ [])
+
+-- What is written for a line that was carried out, and the state after it.
+abbrev pub GivesText : State → Line → List ℕ → State → Type 0
+GivesText old line.Silent text new = (text ≡ []) × (new ≡ old)
+GivesText old line.Bad text new = (text ≡ codes "bad line" ++ 10 ∷ []) × (new ≡ old)
+GivesText old (line.Request request) text new = (answer : Answer) × IsLegal old request answer new × (text ≡ text_of answer ++ 10 ∷ [])
+GivesText old (line.Report report) text new = IsReport old report text × (new ≡ old)

@@ -1,0 +1,57 @@
+-- The text of a report: how many lines it has, and the lines.
+use Rattle.std.specs.Prelude.{ℕ, List, ◌∷◌, ◌++◌, length, codes}
+use Rattle.std.specs.Fmt.{decimal}
+use Rattle.std.specs.List.{flat_map}
+use Rattle.ft_cells.specs.declared.cell.Cell.{Cell}
+use Rattle.ft_cells.specs.declared.cell.Cell.TheVariants.{Entry, Names, Parent, Links, Bytes, Fd}
+use Rattle.ft_posix.specs.declared.call.Mode.{Mode}
+use Rattle.ft_posix.specs.declared.call.Mode.TheVariants as modes
+use Rattle.ft_moss.specs.declared.line.LockKind.{LockKind}
+use Rattle.ft_moss.specs.declared.line.LockKind.TheVariants.{Held, Retained}
+use Rattle.ft_moss.specs.declared.line.LockLine.{LockLine}
+use Rattle.ft_waits.specs.Kinds.{kind_name}
+use Rattle.ft_waits.specs.declared.edge.Edge.{Edge}
+use Rattle.ft_waits.specs.declared.verdict.Verdict.{Verdict}
+use Rattle.ft_waits.specs.declared.verdict.Verdict.TheVariants.{Cycle, Ranked}
+use Rattle.ft_words.specs.Texts.{coded, lines_text}
+use Rattle.ft_replies.specs.Texts.{txn_list}
+
+-- ---- the locks
+
+abbrev pub cell_text : Cell → List ℕ
+cell_text (Entry entry) = codes "entry " ++ decimal entry.dir ++ codes " " ++ coded entry.name
+cell_text (Names dir) = codes "names " ++ decimal dir
+cell_text (Parent dir) = codes "parent " ++ decimal dir
+cell_text (Links file) = codes "links " ++ decimal file
+cell_text (Bytes file) = codes "bytes " ++ decimal file
+cell_text (Fd fd) = codes "fd " ++ decimal fd
+
+abbrev pub mode_text : Mode → List ℕ
+mode_text modes.Read = codes "read"
+mode_text modes.Write = codes "write"
+
+abbrev pub kind_text : LockKind → List ℕ
+kind_text Held = codes "held"
+kind_text Retained = codes "retained"
+
+abbrev pub lock_text : LockLine → List ℕ
+lock_text lock = codes "lock " ++ cell_text lock.cell ++ codes " " ++ mode_text lock.mode ++ codes " " ++ decimal lock.owner ++ codes " " ++ kind_text lock.kind
+
+abbrev pub locks_text : List LockLine → List ℕ
+locks_text locks = codes "locks " ++ decimal (length locks) ++ lines_text lock_text locks
+
+-- ---- who waits for whom
+
+abbrev pub edge_text : Edge → List ℕ
+edge_text edge = codes "edge " ++ decimal edge.from ++ codes " " ++ decimal edge.to ++ codes " " ++ kind_name edge.kind
+
+-- each transaction and its rank, after a space
+abbrev pub rank_list : List (ℕ × ℕ) → List ℕ
+rank_list ranks = flat_map (λ entry. 32 ∷ decimal entry.0 ++ codes ":" ++ decimal entry.1) ranks
+
+abbrev pub verdict_text : Verdict → List ℕ
+verdict_text (Cycle members) = codes "cycle" ++ txn_list members
+verdict_text (Ranked ranks) = codes "ranks" ++ rank_list ranks
+
+abbrev pub waits_text : List Edge → Verdict → List ℕ
+waits_text edges verdict = codes "edges " ++ decimal (length edges) ++ lines_text edge_text edges ++ 10 ∷ verdict_text verdict

@@ -1,0 +1,44 @@
+-- What a line asks for. Each table has words, and what they ask for.
+use Rattle.std.specs.Prelude.{ℕ, List, [], ◌∷◌, codes, Option, None, Some, option_and_then, option_map}
+use Rattle.std.specs.Option.{option_map_or}
+use Rattle.ft_core.specs.declared.request.Request.{Request}
+use Rattle.ft_core.specs.declared.request.Request.TheVariants.{Begin, Sub, Commit, Abort, Undo, Retry, Drop, Ask}
+use Rattle.ft_words.specs.Spelling.{words_of_line, number_of}
+use Rattle.ft_words.specs.Calls.{look_up, call_of}
+use Rattle.ft_replies.specs.declared.line.Report.TheVariants.{Tree, Locks, Waits}
+use Rattle.ft_replies.specs.declared.line.Line.{Line}
+use Rattle.ft_replies.specs.declared.line.Line.TheVariants as line
+
+-- what asks for something alone on its line
+abbrev pub lone_words : List (List ℕ × Line)
+lone_words = (codes "begin", line.Request Begin) ∷ (codes "tree", line.Report Tree) ∷ (codes "locks", line.Report Locks) ∷ (codes "waits", line.Report Waits) ∷ []
+
+-- what asks for something of one transaction, whose number is the other word
+abbrev pub txn_words : List (List ℕ × (ℕ → Request))
+txn_words = (codes "sub", Sub) ∷ (codes "commit", Commit) ∷ (codes "abort", Abort) ∷ (codes "undo", Undo) ∷ (codes "retry", Retry) ∷ (codes "drop", Drop) ∷ []
+
+abbrev pub txn_request : List ℕ → ℕ → Option Request
+txn_request word txn = option_map (λ make. make txn) (look_up txn_words word)
+
+-- a line that begins with a word
+abbrev pub asked_by_word : List ℕ → List (List ℕ) → Option Line
+asked_by_word word [] = look_up lone_words word
+asked_by_word word (number ∷ []) = option_map line.Request (option_and_then (txn_request word) (number_of number))
+asked_by_word word (number ∷ other ∷ words) = None
+
+-- a line that begins with the number of a transaction: a call
+abbrev pub asked_by_txn : ℕ → List (List ℕ) → Option Line
+asked_by_txn txn [] = None
+asked_by_txn txn (name ∷ words) = option_map (λ call. line.Request (Ask txn call)) (call_of name words)
+
+abbrev pub asked_by : List (List ℕ) → Option Line
+asked_by [] = None
+asked_by (first ∷ words) = option_map_or (λ txn. asked_by_txn txn words) (number_of first) (asked_by_word first words)
+
+abbrev pub or_bad : Option Line → Line
+or_bad None = line.Bad
+or_bad (Some meaning) = meaning
+
+-- What a line means.
+abbrev pub meaning_of : List ℕ → Line
+meaning_of bytes = option_map_or (λ words. or_bad (asked_by words)) (words_of_line bytes) line.Silent

@@ -1,0 +1,15 @@
+//! One line of a script: what it asks for, carried out on a core, and the text of its reply.
+#![tactic(auto)]
+
+mod line;
+mod lock_text;
+mod meaning;
+mod replying;
+mod reporting;
+mod text;
+mod wait_text;
+
+pub use lock_text::LocksText;
+pub use replying::reply_to;
+pub use text::{AnswerText, fault_name};
+pub use wait_text::WaitsText;

@@ -1,0 +1,102 @@
+// From the bytes of a line to what it means.
+ghost use Rattle.std.specs.Prelude.{◌≡◌, IfOk, codes, if◌then◌else◌, Some, None};
+ghost use Rattle.std.specs.Str.{bytes_eq};
+ghost use Rattle.ft_replies.specs.Requests.{meaning_of, asked_by, asked_by_txn, asked_by_word, lone_words, txn_request};
+ghost use Rattle.ft_words.specs.Calls.{look_up, Reads};
+
+use crate::line::{Line, Report};
+use ft_base::Memory;
+use ft_core::{Request, TxnId};
+use ft_words::{Unread, Words, call_of, number_of};
+use std::alloc::Global;
+
+/// What a line means. Its line feed is no part of it.
+///
+/// Fails only for want of memory.
+pub(crate) fn meaning_of(alloc: Global, line: &[u8]) -> Result<Line, Memory>
+    ensures { IfOk result (λ meaning. meaning ≡ meaning_of line.now) }
+{
+    let Some(words) = Words::of_line(line) else {
+        return Ok(Line::Silent);
+    };
+    match asked_by(alloc, words) {
+        Ok(meaning) => Ok(meaning),
+        Err(Unread::Misspelt) => Ok(Line::Bad),
+        Err(Unread::NoMemory) => Err(Memory),
+    }
+}
+
+// What words ask for, if they ask for something.
+fn asked_by(alloc: Global, words: Words<'_>) -> Result<Line, Unread>
+    ensures { Reads result (asked_by words.entry) }
+{
+    let mut words = words;
+    let first = words.next().ok_or(Unread::Misspelt)?;
+    match number_of(first) {
+        Some(txn) => asked_by_txn(alloc, TxnId(txn), words),
+        None => asked_by_word(first, words).ok_or(Unread::Misspelt),
+    }
+}
+
+// What the words behind a transaction's number ask for: a call.
+fn asked_by_txn(alloc: Global, txn: TxnId, words: Words<'_>) -> Result<Line, Unread>
+    ensures { Reads result (asked_by_txn txn words.entry) }
+{
+    let mut words = words;
+    let name = words.next().ok_or(Unread::Misspelt)?;
+    let call = call_of(alloc, name, words)?;
+    Ok(Line::Request(Request::Ask(txn, call)))
+}
+
+// What a line asks for that begins with a word.
+fn asked_by_word(word: &[u8], others: Words<'_>) -> Option<Line>
+    ensures { result ≡ asked_by_word word.now others.entry }
+{
+    let mut others = others;
+    let Some(number) = others.next() else {
+        return asked_alone(word);
+    };
+    if others.next().is_some() {
+        return None;
+    }
+    let request = txn_request(word, TxnId(number_of(number)?))?;
+    Some(Line::Request(request))
+}
+
+// What a word asks for alone on its line.
+fn asked_alone(word: &[u8]) -> Option<Line>
+    ensures { result ≡ look_up lone_words word.now }
+{
+    if word == b"begin".as_slice() {
+        Some(Line::Request(Request::Begin))
+    } else if word == b"tree".as_slice() {
+        Some(Line::Report(Report::Tree))
+    } else if word == b"locks".as_slice() {
+        Some(Line::Report(Report::Locks))
+    } else if word == b"waits".as_slice() {
+        Some(Line::Report(Report::Waits))
+    } else {
+        None
+    }
+}
+
+// What a word asks for of a transaction.
+fn txn_request(word: &[u8], txn: TxnId) -> Option<Request>
+    ensures { result ≡ txn_request word.now txn }
+{
+    if word == b"sub".as_slice() {
+        Some(Request::Sub(txn))
+    } else if word == b"commit".as_slice() {
+        Some(Request::Commit(txn))
+    } else if word == b"abort".as_slice() {
+        Some(Request::Abort(txn))
+    } else if word == b"undo".as_slice() {
+        Some(Request::Undo(txn))
+    } else if word == b"retry".as_slice() {
+        Some(Request::Retry(txn))
+    } else if word == b"drop".as_slice() {
+        Some(Request::Drop(txn))
+    } else {
+        None
+    }
+}

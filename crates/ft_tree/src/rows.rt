@@ -1,0 +1,85 @@
+// The rows of a tree are put one behind the other.
+ghost use Rattle.std.specs.Prelude.{◌≡◌, ◌++◌, OnOk};
+ghost use Rattle.std.specs.FinMap as finite;
+ghost use Rattle.ft_cells.specs.Rows.{dir_rows, edge_rows, file_rows, open_rows};
+ghost use Rattle.ft_tree.specs.Tidy.{dirs_from, edges_from, files_from, opens_from};
+
+use crate::tree::ROOT;
+use ft_base::{Memory, Table};
+use ft_cells::{Descriptions, Directory, File, OpenFile, TreeRow};
+use std::alloc::Global;
+
+/// Puts the directories that are there behind the rows.
+pub(crate) fn push_dirs(
+    alloc: Global,
+    rows: &mut Vec<TreeRow>,
+    directories: &Table<Directory>,
+) -> Result<(), Memory>
+    ensures { OnOk result (rows.new.items ≡ rows.old.items ++ dir_rows (dirs_from (finite.entries directories.now))) }
+{
+    for (number, directory) in directories.sorted(alloc)? {
+        if number == ROOT || directory.parent().is_some() {
+            rows.push(TreeRow::Dir { number })?;
+        }
+    }
+    Ok(())
+}
+
+/// Puts the entries of all directories behind the rows.
+pub(crate) fn push_edges(
+    alloc: Global,
+    rows: &mut Vec<TreeRow>,
+    directories: &Table<Directory>,
+) -> Result<(), Memory>
+    ensures { OnOk result (rows.new.items ≡ rows.old.items ++ edge_rows (edges_from (finite.entries directories.now))) }
+{
+    for (number, directory) in directories.sorted(alloc)? {
+        directory.push_edges(number, rows)?;
+    }
+    Ok(())
+}
+
+/// Puts the files that are there behind the rows.
+pub(crate) fn push_files(
+    alloc: Global,
+    rows: &mut Vec<TreeRow>,
+    files: &Table<File>,
+    opens: &Descriptions,
+) -> Result<(), Memory>
+    ensures { OnOk result (rows.new.items ≡ rows.old.items ++ file_rows (files_from opens.now (finite.entries files.now))) }
+{
+    for (number, file) in files.sorted(alloc)? {
+        if file.links() > 0 || opens.is_open(number) {
+            let size = file.body().len();
+            let bytes = file.body().read_at(0, size)?;
+            rows.push(TreeRow::File {
+                number,
+                size,
+                bytes: bytes.into(),
+            })?;
+        }
+    }
+    Ok(())
+}
+
+/// Puts the descriptors that are open behind the rows.
+pub(crate) fn push_opens(
+    alloc: Global,
+    rows: &mut Vec<TreeRow>,
+    opens: &Table<Option<OpenFile>>,
+) -> Result<(), Memory>
+    ensures { OnOk result (rows.new.items ≡ rows.old.items ++ open_rows (opens_from (finite.entries opens.now))) }
+{
+    for (fd, place) in opens.sorted(alloc)? {
+        if let Some(open) = place {
+            rows.push(TreeRow::Fd {
+                fd,
+                file: open.file,
+                access: open.access,
+                append: open.append,
+                offset: open.offset,
+            })?;
+        }
+    }
+    Ok(())
+}
