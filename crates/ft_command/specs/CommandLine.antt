@@ -30,12 +30,19 @@ jobs = with_rule (with_rule (with_rule (new_app (codes "jobs")) file_rule) turns
 abbrev pub HasNoGlobals : Command → Type 0
 HasNoGlobals command = (out-Command command).has_globals ≡ false
 
--- the program: it needs a subcommand, and has `play`, `dot` and `jobs`. The words begin behind its name
-abbrev pub program : App
-program =
+-- the program needs a subcommand; the words begin behind its name
+abbrev pub bare : App
+bare =
     let named = new_app (codes "ft_run") in
-    let bare = record named { top = record named.top { no_binary_name = true; subcommand_required = true } } in
-    with_subcommand (with_subcommand (with_subcommand bare (new_app (codes "play")).top) (new_app (codes "dot")).top) jobs.top
+    record named { top = record named.top { no_binary_name = true; subcommand_required = true } }
+
+-- it has `play` and `dot`
+abbrev pub with_filters : App
+with_filters = with_subcommand (with_subcommand bare (new_app (codes "play")).top) (new_app (codes "dot")).top
+
+-- and `jobs`
+abbrev pub program : App
+program = with_subcommand with_filters jobs.top
 
 -- a subcommand by its name, with what was found for it
 abbrev pub Met : Type 0

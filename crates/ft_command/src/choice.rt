@@ -1,7 +1,7 @@
 // What a command line asks for.
-ghost use Rattle.std.specs.Prelude.{◌≡◌, IfOk, IfSome, false, map, string_bytes};
-ghost use Rattle.clap.specs.Words.{app_of, found_of, kind_of, rows_of, rule_of, subcommand_rows_of};
-ghost use Rattle.ft_command.specs.CommandLine.{ChoiceOf, ErrorChoice, HasNoGlobals, ReadChoice, TellsJobs, file_rule, jobs, program, quiet_rule};
+ghost use Rattle.std.specs.Prelude.{◌≡◌, IfOk, IfSome, codes, false, map, string_bytes};
+ghost use Rattle.clap.specs.Words.{app_of, found_of, kind_of, new_app, rows_of, rule_of, subcommand_rows_of};
+ghost use Rattle.ft_command.specs.CommandLine.{ChoiceOf, ErrorChoice, HasNoGlobals, ReadChoice, TellsJobs, bare, file_rule, jobs, program, quiet_rule, turns_rule, with_filters};
 
 use clap::builder::ValueParser;
 use clap::error::ErrorKind;
@@ -90,20 +90,46 @@ fn asked_of_jobs(alloc: Global, found: &ArgMatches) -> Option<(String, u64, bool
 fn program<'a>(alloc: Global) -> Result<Command<'a>, AllocError>
     ensures { IfOk result (λ command. app_of command ≡ program) }
 {
-    let play = Command::new(alloc, "play").about(
-        "Runs a script from standard input to standard output",
-    );
-    let dot = Command::new(alloc, "dot").about(
-        "Draws who waits for whom: the last report among replies, in the DOT language",
-    );
+    let jobs = jobs_command(alloc)?;
+    with_filters(alloc)?.subcommand(jobs)
+}
+
+// All of it but the jobs of a plan.
+fn with_filters<'a>(alloc: Global) -> Result<Command<'a>, AllocError>
+    ensures { IfOk result (λ command. app_of command ≡ with_filters) }
+{
+    bare(alloc)
+        .subcommand(play_command(alloc))?
+        .subcommand(dot_command(alloc))
+}
+
+// The command line without its subcommands.
+fn bare<'a>(alloc: Global) -> Command<'a>
+    ensures { app_of result ≡ bare }
+{
     Command::new(alloc, "ft_run")
         .about("Runs scripts of transactions on a tree of directories")
         .no_binary_name(true)
         .subcommand_required(true)
         .after_help(EXAMPLE)
-        .subcommand(play)?
-        .subcommand(dot)?
-        .subcommand(jobs_command(alloc)?)
+}
+
+// The part of it that runs a script.
+fn play_command<'a>(alloc: Global) -> Command<'a>
+    ensures app { app_of result ≡ new_app (codes "play") }
+    ensures local { HasNoGlobals result }
+{
+    Command::new(alloc, "play").about("Runs a script from standard input to standard output")
+}
+
+// The part of it that draws who waits for whom.
+fn dot_command<'a>(alloc: Global) -> Command<'a>
+    ensures app { app_of result ≡ new_app (codes "dot") }
+    ensures local { HasNoGlobals result }
+{
+    Command::new(alloc, "dot").about(
+        "Draws who waits for whom: the last report among replies, in the DOT language",
+    )
 }
 
 // The part of it that runs the jobs of a plan.
@@ -111,16 +137,10 @@ fn jobs_command<'a>(alloc: Global) -> Result<Command<'a>, AllocError>
     ensures app { IfOk result (λ command. app_of command ≡ jobs) }
     ensures local { IfOk result HasNoGlobals }
 {
-    let turns = Arg::new(alloc, "turns")
-        .long("turns")
-        .value_name("N")
-        .value_parser(ValueParser::unsigned(1, MOST_TURNS))
-        .default_value("10000")
-        .help("How often a call that waits asks at most");
     Command::new(alloc, "jobs")
         .about("Runs the jobs of a plan in threads, and prints what they came to")
         .arg(file_arg(alloc))?
-        .arg(turns)?
+        .arg(turns_arg(alloc))?
         .arg(quiet_arg(alloc))
 }
 
@@ -133,6 +153,19 @@ fn file_arg<'a>(alloc: Global) -> Arg<'a>
         .required(true)
         .value_name("FILE")
         .help("The plan")
+}
+
+// How often a call asks at most.
+fn turns_arg<'a>(alloc: Global) -> Arg<'a>
+    ensures rule { rule_of result ≡ turns_rule }
+    ensures local { result.global ≡ false }
+{
+    Arg::new(alloc, "turns")
+        .long("turns")
+        .value_name("N")
+        .value_parser(ValueParser::unsigned(1, MOST_TURNS))
+        .default_value("10000")
+        .help("How often a call that waits asks at most")
 }
 
 // The flag that leaves out how far the jobs have come.

@@ -2,7 +2,5 @@
 #![tactic(auto)]
 
 mod choice;
-#[cfg(test)]
-mod tests;
 
 pub use choice::{Choice, choose};

@@ -18,7 +18,8 @@ use Rattle.ft_core.specs.declared.request.Answer.{Answer}
 use Rattle.ft_core.specs.declared.request.Answer.TheVariants.{Refused}
 use Rattle.ft_core.specs.Faults.{fault_from}
 use Rattle.ft_core.specs.States.{State, history, has_most_transactions, is_deepest}
-use Rattle.ft_core.specs.Steps.{fault_if, fault_of_fate, refusal_of, IsAnswered, IsStep, exact_rule, answer_with}
+use Rattle.ft_core.specs.Opens.{add_refusal}
+use Rattle.ft_core.specs.Steps.{fault_if, fault_of_fate, refusal_of, begin_request, IsAnswered, IsStep, exact_rule, answer_with}
 use Rattle.ft_core.specs.Kept.{fate_in, IsStarted, AreTransactions}
 
 from-if : (b : Bool) (f : ForestFault) (later : Option ForestFault) → option_map fault_from (forest_fault_if b f later) ≡ fault_if b (fault_from f) (option_map fault_from later)
@@ -51,6 +52,10 @@ module _ (s : State) (forest : Transactions) (are : AreTransactions s.base (hist
       from-state (state_in forest t) (forest_fault_if (nat_le MOST_DEPTH (depth_in forest t)) forest_fault.Deep (begin_refusal forest))
       ∙ ap (fault_of_fate (fate_in (state_in forest t))) (from-if (nat_le MOST_DEPTH (depth_in forest t)) forest_fault.Deep (begin_refusal forest) ∙ (λ i. fault_if (deep-same t i) Deep (begin-same i)))
       ∙ ap (λ o. fault_of_fate o (fault_if (is_deepest s t) Deep (refusal_of s Begin))) (are.fates t)
+
+  pub add-same : (up : Option ℕ) → option_map fault_from (add_refusal forest up) ≡ refusal_of s (begin_request up)
+  add-same None = begin-same
+  add-same (Some t) = sub-same t
 
 -- where nothing refuses it but memory, it is memory
 pub only-memory : (o : Option ForestFault) (due : Option Fault) (fault : ForestFault) → option_map fault_from o ≡ due → due ≡ None → IsRefusal o fault → fault_from fault ≡ Memory

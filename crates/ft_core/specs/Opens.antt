@@ -1,9 +1,12 @@
 -- What it is that the lock table, the logs and the journal are ready for a transaction that is to begin.
-use Rattle.std.specs.Prelude.{◌≡◌, ◌≢◌, ◌≤◌, ℕ, true, None, Some}
+use Rattle.std.specs.Prelude.{◌≡◌, ◌≢◌, ◌≤◌, ℕ, true, Option, None, Some}
 use Rattle.std.specs.FinMap as finite
 use Rattle.ft_base.specs.Chains.{Lists, list_in}
 use Rattle.ft_undo.specs.declared.logs.Logged.{Logged}
 use Rattle.ft_undo.specs.Logs.{is_open, AreLists}
+use Rattle.ft_forest.specs.declared.fault.ForestFault.{ForestFault}
+use Rattle.ft_forest.specs.Transactions.{Transactions}
+use Rattle.ft_forest.specs.Refusals.{begin_refusal, sub_refusal}
 use Rattle.ft_moss.specs.Locks.{LockTable, is_opened}
 use Rattle.ft_core.specs.Journals.{Journaled}
 
@@ -22,3 +25,8 @@ pub record IsOpenFor (j : Journaled) (table : LockTable) (lists : Lists Logged) 
   pub sub : finite.get j.subs next ≡ Some None
   pub locks : is_opened table next ≡ true
   pub log : is_open lists next ≡ true
+
+-- why the forest refuses a transaction more, at the top or below this one
+abbrev pub add_refusal : Transactions → Option ℕ → Option ForestFault
+add_refusal forest None = begin_refusal forest
+add_refusal forest (Some t) = sub_refusal forest t

@@ -11,14 +11,16 @@ ghost use Rattle.ft_core.specs.States.{at_base, first_base, fate_of, next_txn, a
 ghost use Rattle.ft_core.specs.Living.{SomeIsLive, NoneIsLive};
 ghost use Rattle.ft_core.specs.Promises.{IsHeadline};
 ghost use Rattle.ft_core.specs.Steps.{IsStep, exact_rule, fault_of_fate, answer_with, refusal_of, begin_request};
-ghost use Rattle.ft_core.specs.Opens.{AreAsBefore, IsOpenFor};
+ghost use Rattle.ft_core.specs.Opens.{AreAsBefore, IsOpenFor, add_refusal};
+ghost use Rattle.ft_forest.specs.Transactions.{last_in, HasBegun};
+ghost use Rattle.ft_forest.specs.Refusals.{IsRefusal};
 
 use crate::fault::Fault;
 use crate::journal::Journal;
 use crate::laws::{call_laws, lock_laws};
 use crate::request::Event;
 use ft_base::Memory;
-use ft_forest::{Forest, State, TxnId};
+use ft_forest::{Forest, ForestFault, State, TxnId};
 use ft_locks::Locks;
 use ft_posix::laws::plain_soundness;
 use ft_tree::Tree;
@@ -170,12 +172,22 @@ impl Core {
         call_laws();
         let next = self.forest.last() + 1;
         open(&mut self.journal, &mut self.locks, &mut self.logs, next)?;
-        let txn = match parent {
-            Some(up) => self.forest.sub(up)?,
-            None => self.forest.begin()?,
-        };
+        let txn = add(&mut self.forest, &parent)?;
         self.journal.begin(txn, parent);
         Ok(txn)
+    }
+}
+
+/// Begins a transaction in the forest, at the top or below its parent.
+fn add(forest: &mut Forest, parent: &Option<TxnId>) -> Result<TxnId, ForestFault>
+    ensures begun { OnOk result (HasBegun forest.old forest.new parent.now) }
+    ensures number { IfOk result (λ txn. txn ≡ last_in forest.old + 1) }
+    ensures refused { IfErr result (IsRefusal (add_refusal forest.old parent.now)) }
+    ensures same { OnErr result (forest.new ≡ forest.old) }
+{
+    match *parent {
+        Some(up) => forest.sub(up),
+        None => forest.begin(),
     }
 }
 

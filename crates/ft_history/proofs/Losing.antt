@@ -13,9 +13,8 @@ use Rattle.ft_history.specs.History.{Base, Event, number, parent, over, standing
 use Rattle.ft_history.specs.Undoing.{MayUndo}
 use Rattle.ft_history.specs.Ledger.{lists}
 use Rattle.ft_history.specs.Core.{Entry, IsCore}
-use Rattle.ft_history.proofs.Forest.{ForestLaws}
 use Rattle.ft_history.proofs.Holding.{Runs, Holds, hidden_file, split, calls, clear, able as able_split, faithful as faithful_split, holds_taken}
-use Rattle.ft_history.proofs.Aborting.{Taking, older as older_taken}
+use Rattle.ft_history.proofs.Aborting.{older as older_taken}
 use Rattle.ft_history.proofs.History.{Sound, owner, laws, undo_older}
 use Rattle.ft_history.proofs.Legal.{sound_all, target_newest}
 use Rattle.ft_history.proofs.Methods.{IsTakingBack}

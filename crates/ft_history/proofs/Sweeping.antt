@@ -1,14 +1,14 @@
 -- Where nothing names a file any more, and no owned call touches it, taking an owned call back brings no name of it back.
 use Rattle.std.proofs.Common.{◌≡◌, ℕ, Bool, true, false, Option, Some, None, List, [], ◌∷◌, inl, inr, refl, sym, ap, subst, ◌∙◌}
 use Rattle.std.proofs.lemmas.Bool.{false≢true}
-use Rattle.ft_laws.specs.Lists.{Each, Pairs, In}
+use Rattle.ft_laws.specs.Lists.{Each, Pairs}
 use Rattle.ft_laws.specs.Calls.{Calls, Done}
 use Rattle.ft_laws.specs.Laws.{Lawful, TouchesFile, is_hidden}
 use Rattle.ft_laws.specs.Runs.{run, Along, Able, Faithful}
 use Rattle.ft_laws.proofs.Lists.{Each-from}
 use Rattle.ft_laws.proofs.Running.{able_next}
 use Rattle.ft_laws.proofs.Tests.{by_test}
-use Rattle.ft_history.specs.History.{Base, Event, owner_of, standing, over}
+use Rattle.ft_history.specs.History.{Base, Event, standing, over}
 use Rattle.ft_history.specs.Locks.{owns_lock}
 use Rattle.ft_history.specs.Orders.{Covers, IsNested}
 use Rattle.ft_history.specs.Legal.{outcome}

@@ -1,7 +1,9 @@
-//! Tests of the crates that run jobs, from the core behind a lock upwards, in one crate: a crate with tests is proved a second
-//! time with them.
+//! Tests of the crates that run jobs, from the core behind a lock upwards, and of the command line, in one crate: a crate with
+//! tests is proved a second time with them.
 #![tactic(auto)]
 
+#[cfg(test)]
+mod of_command;
 #[cfg(test)]
 mod of_jobs;
 #[cfg(test)]

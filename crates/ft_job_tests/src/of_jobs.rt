@@ -229,15 +229,18 @@ fn ends_under<R: Threads + Wait + Clock + Sync>(
         lie,
     };
     match run_jobs(rt, alloc, &plan, lying, &OpenGate, FEW_TURNS) {
-        Ok(outcome) => {
-            let mut ends = Vec::new(alloc);
-            for report in &outcome.reports {
-                ends.push(report.end)?;
-            }
-            Ok(Ok(ends))
-        }
+        Ok(outcome) => Ok(Ok(ends_of(alloc, outcome.reports.as_slice())?)),
         Err(fault) => Ok(Err(fault)),
     }
+}
+
+/// The ends that reports tell of.
+fn ends_of(alloc: Global, reports: &[Report]) -> Result<Vec<End>, Fail> {
+    let mut ends = Vec::new(alloc);
+    for report in reports {
+        ends.push(report.end)?;
+    }
+    Ok(ends)
 }
 
 /// Whether the jobs end so.

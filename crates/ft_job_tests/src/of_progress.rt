@@ -44,16 +44,27 @@ fn tells_all<R: Wait + Clock>(rt: &R, alloc: Global, watch: &Watch<'_>) -> Resul
     Ok(true)
 }
 
+// Whether a line tells of two jobs as they come to a call, wait and end.
+fn tells_to_the_end<R: Wait + Clock>(
+    rt: &R,
+    alloc: Global,
+    watch: &Watch<'_>,
+) -> Result<bool, Fail> {
+    if !tells_all(rt, alloc, watch)? {
+        return Ok(false);
+    }
+    watch.pass(rt, 0, 3);
+    watch.ended(rt, 0);
+    watch.ended(rt, 1);
+    tells(rt, alloc, watch, TOLD_AT_THE_END)
+}
+
 #[test]
 fn jobs_are_watched(rt: HostRuntime) -> Result<(), Fail> {
     let alloc = rt.alloc();
     let plan = Plan::read(alloc, TWO_JOBS)?;
     let watch = Watch::new(alloc, plan.jobs())?;
-    let all = tells_all(&rt, alloc, &watch)?;
-    watch.pass(&rt, 0, 3);
-    watch.ended(&rt, 0);
-    watch.ended(&rt, 1);
-    assert!(rt; all && tells(&rt, alloc, &watch, TOLD_AT_THE_END)?);
+    assert!(rt; tells_to_the_end(&rt, alloc, &watch)?);
     Ok(())
 }
 

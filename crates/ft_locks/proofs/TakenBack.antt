@@ -1,29 +1,17 @@
 -- Places that are taken back, the newest first.
-use Rattle.std.proofs.Common.{◌≡◌, ◌⊎◌, inl, inr, ◌<◌, ◌+◌, ◌-◌, ℕ, suc, Bool, true, false, cond, ◌&&◌, ◌||◌, ◌==◌, List, [], ◌∷◌, take, length, get_or, Option, Some, None, is_some, refl, sym, ap, ◌∙◌, arith, add-one}
-use Rattle.std.proofs.lemmas.Bool.{false≢true, eqb-true}
+use Rattle.std.proofs.Common.{◌≡◌, ◌<◌, ◌-◌, ℕ, suc, Bool, true, false, cond, ◌&&◌, ◌||◌, ◌==◌, take, Option, Some, None, is_some, refl, sym, ap, ◌∙◌, arith}
+use Rattle.std.proofs.lemmas.Bool.{eqb-true}
 use Rattle.std.specs.List.{list_any}
-use Rattle.std.proofs.lemmas.List.{take_more}
-use Rattle.std.proofs.lemmas.List.Folds.{list_any-append}
-use Rattle.std.specs.Option.{option_map, IfSome, IfNone}
+use Rattle.std.specs.Option.{IfSome, IfNone}
 use Rattle.std.specs.FinMap as finite
 use Rattle.ft_base.specs.Chains.{list_in}
 use Rattle.ft_cells.specs.declared.cell.Cell.{Cell}
-use Rattle.ft_cells.specs.CellOrder.{same_cell, same_cell-is}
-use Rattle.ft_posix.specs.declared.call.Mode.{Mode}
-use Rattle.ft_posix.specs.declared.call.Mode.TheVariants.{Read as ReadMode, Write as WriteMode}
-use Rattle.ft_posix.specs.declared.call.Access.{Access}
-use Rattle.ft_moss.specs.declared.line.LockKind.{LockKind}
-use Rattle.ft_moss.specs.declared.line.LockKind.TheVariants.{Held, Retained}
-use Rattle.ft_moss.specs.declared.line.LockLine.{LockLine}
+use Rattle.ft_cells.specs.CellOrder.{same_cell}
 use Rattle.ft_moss.specs.declared.marks.Marks.{Marks}
 use Rattle.ft_locks.specs.declared.holdings.Dropped.{Dropped}
-use Rattle.ft_moss.specs.Marks.{held_in, with_marks, has_mark}
-use Rattle.ft_moss.specs.Cells.{Cells, marks_at, is_at}
-use Rattle.ft_moss.specs.Holdings.{Held as Places, has_place, AreOpenStill, after_back, IsDropped}
-use Rattle.ft_moss.specs.Locks.{is_held, same_mode, is_accessed, has_access, is_given}
-use Rattle.ft_moss.specs.Seen.{has_mark_of, has_line}
-use Rattle.ft_moss.proofs.CellViews.{turned_cell}
-use Rattle.ft_moss.proofs.Joining.{list_there, open_if_listed, still-insert, placed-put, placed-marked}
+use Rattle.ft_moss.specs.Cells.{marks_at}
+use Rattle.ft_moss.specs.Holdings.{Held as Places, AreOpenStill, after_back, IsDropped}
+use Rattle.ft_moss.proofs.Joining.{open_if_listed, still-insert}
 
 back_bools : (a s t : Bool) (x : Option Marks) → cond (a && t) None (cond (s && a) None x) ≡ cond (a && (s || t)) None x
 back_bools true true true x = refl

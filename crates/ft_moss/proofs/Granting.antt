@@ -1,10 +1,10 @@
 -- Places that are made for a grant, taken back, or given its locks.
-use Rattle.std.proofs.Common.{◌≡◌, ◌⊎◌, inl, inr, ◌<◌, ◌+◌, ◌-◌, ℕ, suc, Bool, true, false, cond, ◌&&◌, ◌||◌, ◌==◌, List, [], ◌∷◌, take, length, get_or, Option, Some, None, is_some, refl, sym, ap, ◌∙◌, arith, add-one}
+use Rattle.std.proofs.Common.{◌≡◌, ◌⊎◌, inl, inr, ◌<◌, ◌+◌, ℕ, suc, Bool, true, false, cond, ◌&&◌, ◌||◌, ◌==◌, List, [], ◌∷◌, take, length, get_or, Option, Some, None, is_some, refl, sym, ap, ◌∙◌, add-one}
 use Rattle.std.proofs.lemmas.Bool.{false≢true, eqb-true}
 use Rattle.std.specs.List.{list_any}
 use Rattle.std.proofs.lemmas.List.{take_more}
 use Rattle.std.proofs.lemmas.List.Folds.{list_any-append}
-use Rattle.std.specs.Option.{option_map, IfSome, IfNone}
+use Rattle.std.specs.Option.{option_map}
 use Rattle.std.specs.FinMap as finite
 use Rattle.ft_base.specs.Chains.{list_in}
 use Rattle.ft_cells.specs.declared.cell.Cell.{Cell}
@@ -18,11 +18,11 @@ use Rattle.ft_moss.specs.declared.line.LockLine.{LockLine}
 use Rattle.ft_moss.specs.declared.marks.Marks.{Marks}
 use Rattle.ft_moss.specs.Marks.{held_in, with_marks, has_mark}
 use Rattle.ft_moss.specs.Cells.{Cells, marks_at, is_at}
-use Rattle.ft_moss.specs.Holdings.{Held as Places, has_place, AreOpenStill, after_back, IsDropped}
+use Rattle.ft_moss.specs.Holdings.{Held as Places, has_place, AreOpenStill, after_back}
 use Rattle.ft_moss.specs.Locks.{is_held, same_mode, is_accessed, has_access, is_given}
 use Rattle.ft_moss.specs.Seen.{has_mark_of, has_line}
 use Rattle.ft_moss.proofs.CellViews.{turned_cell}
-use Rattle.ft_moss.proofs.Joining.{list_there, open_if_listed, still-insert, placed-put, placed-marked}
+use Rattle.ft_moss.proofs.Joining.{list_there, still-insert, placed-put, placed-marked}
 
 add_bools : (a s t : Bool) (x y : Option Marks) → (a ≡ true → s ≡ true → x ≡ None) → cond (a && (s || t)) None (cond (s && a) y x) ≡ cond (a && t) None x
 add_bools true true true x y absent = refl

@@ -2,14 +2,12 @@
 use Rattle.std.specs.Prelude.{◌≡◌, ◌==◌, ◌&&◌, ◌||◌, Bool, List}
 use Rattle.std.specs.List.{list_any}
 use Rattle.std.specs.Ordering.{eq_by_cmp}
-use Rattle.std.specs.FinMap as finite
 use Rattle.ft_cells.specs.declared.cell.Cell.{Cell}
 use Rattle.ft_cells.specs.CellOrder.{same_cell}
 use Rattle.ft_moss.specs.declared.line.LockLine.{LockLine}
 use Rattle.ft_moss.specs.declared.holders.Holding.{Holding}
 use Rattle.ft_moss.specs.Marks.{has_mark}
 use Rattle.ft_moss.specs.Locks.{line_cmp}
-use Rattle.ft_moss.specs.Seen.{has_mark_of}
 
 abbrev pub same_line : LockLine → LockLine → Bool
 same_line = eq_by_cmp line_cmp

@@ -1,4 +1,5 @@
 // The limits, and what no clause says: printed text, and the numbers of faults.
+use crate::of_path::is_printed;
 use ft_forest::{Forest, ForestFault, TxnId};
 use std::test::Fail;
 
@@ -31,12 +32,8 @@ fn gives_the_last_number(forest: &mut Forest) -> Result<bool, ForestFault> {
 
 #[test]
 fn numbers_and_faults_are_shown(rt: HostRuntime) -> Result<(), Fail> {
-    let alloc = rt.alloc();
-    assert_eq!(rt; ForestFault::Deep as u8, 8);
-    assert_eq!(rt; format!(in alloc; "{}", TxnId(7))?.as_str(), "7");
-    assert_eq!(rt;
-        format!(in alloc; "{}", ForestFault::ChildLive)?.as_str(),
-        "ChildLive"
-    );
+    assert!(rt; ForestFault::Deep as u8 == 8);
+    assert!(rt; is_printed(rt.alloc(), TxnId(7), "7")?);
+    assert!(rt; is_printed(rt.alloc(), ForestFault::ChildLive, "ChildLive")?);
     Ok(())
 }

@@ -1,5 +1,5 @@
 -- Nothing names a file that is not there.
-use Rattle.std.proofs.Common.{◌≡◌, ℕ, false, true, Option, Some, None, eqb-true, refl, sym, subst, ◌∙◌}
+use Rattle.std.proofs.Common.{◌≡◌, ℕ, true, Option, Some, None, eqb-true, refl, sym, subst, ◌∙◌}
 use Rattle.std.proofs.lemmas.Bool.{false≢true}
 use Rattle.ft_laws.proofs.Tests.{by_test}
 use Rattle.ft_cells.specs.declared.cell.Cell.{Cell}

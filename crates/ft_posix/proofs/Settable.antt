@@ -1,5 +1,5 @@
 -- The names of a directory are never set.
-use Rattle.std.proofs.Common.{◌≡◌, ℕ, Bool, true, false, cond, not, ◌&&◌, ◌||◌, ℤ, nat_le, List, [], ◌∷◌, map, inl, inr, Option, Some, None, Result, Ok, Err, sym, subst}
+use Rattle.std.proofs.Common.{ℕ, Bool, true, false, cond, not, ◌&&◌, ℤ, nat_le, List, [], ◌∷◌, map, inl, inr, Option, Some, None, Result, Ok, Err, sym, subst}
 use Rattle.std.specs.Prelude.{◌==◌, nat_lt}
 use Rattle.ft_laws.specs.Lists.{Each, In}
 use Rattle.ft_body.specs.declared.TheConstants.{SIZE_LIMIT}

@@ -1,5 +1,5 @@
 -- What a call comes to: a reply, and the cells that it writes with their new values.
-use Rattle.std.specs.Prelude.{ℕ, List, [], Option, None, Some, Result, Ok, Err}
+use Rattle.std.specs.Prelude.{List, [], Option, None, Some, Result, Ok, Err}
 use Rattle.ft_path.specs.declared.path.Parts.{Parts}
 use Rattle.ft_path.specs.declared.errno.Errno.{Errno}
 use Rattle.ft_laws.specs.Effects.{Write as CellWrite}

@@ -367,19 +367,28 @@ fn sixty_three_subs_then_deep(rt: HostRuntime) -> Result<(), Fail> {
     Ok(())
 }
 
+// The numbers of the faults.
+const NUMBERS: &[(Fault, u8)] = &[
+    (Fault::Memory, 1),
+    (Fault::NoTxn, 2),
+    (Fault::Ended, 3),
+    (Fault::ChildLive, 4),
+    (Fault::NothingToUndo, 5),
+    (Fault::SubSince, 6),
+    (Fault::Full, 7),
+    (Fault::Deep, 8),
+    (Fault::Live, 9),
+    (Fault::NoAsk, 10),
+    (Fault::NoViews, 11),
+];
+
 #[test]
 fn faults_have_numbers(rt: HostRuntime) {
-    assert_eq!(rt; Fault::Memory as u8, 1);
-    assert_eq!(rt; Fault::NoTxn as u8, 2);
-    assert_eq!(rt; Fault::Ended as u8, 3);
-    assert_eq!(rt; Fault::ChildLive as u8, 4);
-    assert_eq!(rt; Fault::NothingToUndo as u8, 5);
-    assert_eq!(rt; Fault::SubSince as u8, 6);
-    assert_eq!(rt; Fault::Full as u8, 7);
-    assert_eq!(rt; Fault::Deep as u8, 8);
-    assert_eq!(rt; Fault::Live as u8, 9);
-    assert_eq!(rt; Fault::NoAsk as u8, 10);
-    assert_eq!(rt; Fault::NoViews as u8, 11);
+    assert!(rt;
+        NUMBERS
+            .iter()
+            .all(|(fault, number)| *fault as u8 == *number)
+    );
 }
 
 #[test]

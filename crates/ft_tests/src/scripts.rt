@@ -1,7 +1,7 @@
 // A small language of scripts, for tests: requests and the answers that they are to get.
 use ft_calls::{Call, Reply};
 use ft_core::{Answer, Fault, Request, TxnId};
-use ft_path::{Errno, FilePath};
+use ft_path::{Errno, FilePath, Name};
 use ft_tree::{AccessMode, Kind};
 use std::alloc::Global;
 use std::test::Fail;
@@ -127,6 +127,12 @@ pub(crate) fn request(alloc: Global, line: Line) -> Result<Request, Fail> {
     }
 }
 
+/// Whether the names are these, one behind the other.
+fn are_names(names: &[(Name, Kind)], wanted: &[u8]) -> bool {
+    let all = names.iter().flat_map(|(name, _)| name.as_bytes());
+    all.copied().eq(wanted.iter().copied())
+}
+
 fn is_reply(stamp: u64, reply: &Reply, wanted: Wanted) -> bool {
     match (reply, wanted) {
         (Reply::Done, Wanted::Done(wanted)) => stamp == wanted,
@@ -138,11 +144,7 @@ fn is_reply(stamp: u64, reply: &Reply, wanted: Wanted) -> bool {
             stamp == number && bytes.as_slice() == wanted
         }
         (Reply::Names(names), Wanted::Names(number, wanted)) => {
-            let all = names
-                .as_slice()
-                .iter()
-                .flat_map(|(name, _)| name.as_bytes());
-            stamp == number && all.copied().eq(wanted.iter().copied())
+            stamp == number && are_names(names.as_slice(), wanted)
         }
         (
             Reply::Info {

@@ -1,14 +1,13 @@
 -- A call that is kept in a log: an empty undo is put in front of its transaction's list, and filled there.
-use Rattle.std.proofs.Common.{◌≡◌, ◌≢◌, ℕ, Bool, true, List, [], ◌∷◌, drop, slice_get, Option, Some, None, IsSome, refl, sym, ap, subst, ◌∙◌}
+use Rattle.std.proofs.Common.{◌≡◌, ◌≢◌, ℕ, true, ◌∷◌, drop, slice_get, Option, Some, None, IsSome, refl, sym, ap, subst, ◌∙◌}
 use Rattle.std.proofs.lemmas.Bool.{false≢true}
 use Rattle.std.specs.Option.{unwrap_or, option_copied_mut}
 use Rattle.std.specs.Borrow.{MutBor}
 use Rattle.std.specs.FinMap as finite
 use Rattle.ft_laws.proofs.Tests.{by_number}
 use Rattle.ft_base.specs.Chains.{Lists, list_in}
-use Rattle.ft_history.specs.Logs.{put, pushed, popped, rest}
+use Rattle.ft_history.specs.Logs.{pushed, popped, rest}
 use Rattle.ft_history.proofs.Words.{put_same, put_other}
-use Rattle.ft_undo.specs.declared.undo.Back.{Back}
 use Rattle.ft_undo.specs.declared.logs.Logged.{Logged}
 use Rattle.ft_undo.specs.Logs.{is_open, AreLists, AreOpen}
 use Rattle.ft_undo.proofs.Logging.{lists-set, open-set}

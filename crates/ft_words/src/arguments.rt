@@ -30,6 +30,14 @@ fn next_integer(words: &mut Words<'_>) -> Option<i64>
     words.next().and_then(integer_of)
 }
 
+// The next word, as what an offset counts from.
+fn next_whence(words: &mut Words<'_>) -> Option<Whence>
+    ensures first { result ≡ first whence_of words.old }
+    ensures others { words.new ≡ others words.old }
+{
+    words.next().and_then(whence_of)
+}
+
 /// `F`
 pub fn number(words: Words<'_>) -> Option<u64>
     ensures { result ≡ only number_of words.entry }
@@ -81,7 +89,7 @@ pub fn number_whence_integer(words: Words<'_>) -> Option<(u64, Whence, i64)>
 {
     let mut words = words;
     let first = next_number(&mut words);
-    let second = words.next().and_then(whence_of);
+    let second = next_whence(&mut words);
     let (first, (second, third)) = first.zip(second.zip(integer(words)))?;
     Some((first, second, third))
 }

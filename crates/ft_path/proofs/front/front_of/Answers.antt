@@ -1,6 +1,6 @@
-use Rattle.std.proofs.Common.{◌≡◌, ◌<◌, ◌+◌, ◌-◌, ◌*◌, ℕ, drop, unwrap_or, arith, refl, sym, ap, subst, ◌∙◌}
+use Rattle.std.proofs.Common.{◌≡◌, ◌<◌, ◌+◌, ◌-◌, ◌*◌, drop, unwrap_or, arith, sym, ap, subst, ◌∙◌}
 use Rattle.std.specs.List.{slice_get}
-use Rattle.ft_path.specs.Front.{with_digits, front_of}
+use Rattle.ft_path.specs.Front.{with_digits}
 use Rattle.ft_path.proofs.Fronts.{found_at, next_digit, one_more, has_room}
 use Rattle.ft_path.proofs.front.front_of.Goals as goal
 

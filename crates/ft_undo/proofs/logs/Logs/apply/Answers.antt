@@ -1,7 +1,5 @@
-use Rattle.std.proofs.Common.{◌≡◌, ◌∷◌, ℕ, List, true, refl, sym, ap, subst, ◌∙◌}
-use Rattle.std.specs.FinMap as finite
+use Rattle.std.proofs.Common.{refl, ap, subst, ◌∙◌}
 use Rattle.ft_base.specs.Chains.{Lists, list_in}
-use Rattle.ft_history.specs.Logs.{pushed}
 use Rattle.ft_undo.specs.declared.logs.Logged.{Logged}
 use Rattle.ft_undo.specs.Logs.{is_open, AreLists}
 use Rattle.ft_undo.proofs.Applied.{made, left, inverse, may_revert, can_take_back, taken_back}

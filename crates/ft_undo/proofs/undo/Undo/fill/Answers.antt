@@ -1,4 +1,4 @@
-use Rattle.std.proofs.Common.{◌≡◌, ◌∷◌, sym, ap, subst, ◌∙◌, rules}
+use Rattle.std.proofs.Common.{sym, ap, subst, ◌∙◌, rules}
 use Rattle.ft_cells.specs.Cells.{Cells}
 use Rattle.ft_undo.specs.Undone.{restored, CanRestoreAll}
 use Rattle.ft_undo.proofs.Undoing.{IsUnderWay, under-way-can, under-way-back, under-way-same, under-way-on}

@@ -1,4 +1,4 @@
-use Rattle.std.proofs.Common.{◌≡◌, sym, subst, ◌∙◌}
+use Rattle.std.proofs.Common.{sym, subst, ◌∙◌}
 use Rattle.ft_cells.specs.Cells.{Cells}
 use Rattle.ft_undo.specs.Undone.{back_of, restore, CanGiveBack}
 use Rattle.ft_undo.proofs.Undoing.{give-edited, restore-edit}

@@ -1,5 +1,5 @@
 // What no clause says: which words the crate that reads them takes, and its texts.
-use crate::choice::{Choice, choose};
+use ft_command::{Choice, choose};
 use std::alloc::Global;
 use std::test::Fail;
 
