@@ -1,9 +1,11 @@
-//! Tests of the crates that run jobs, from the core behind a lock upwards, and of the command line, in one crate: a crate with
-//! tests is proved a second time with them.
+//! Tests of the crates that play scripts and run jobs, and of the command line, in one crate: a crate with tests is proved a
+//! second time with them.
 #![tactic(auto)]
 
 #[cfg(test)]
 mod of_command;
+#[cfg(test)]
+mod of_dot;
 #[cfg(test)]
 mod of_jobs;
 #[cfg(test)]
@@ -13,6 +15,6 @@ mod of_plan;
 #[cfg(test)]
 mod of_progress;
 #[cfg(test)]
-mod of_shared;
+mod of_script;
 #[cfg(test)]
 mod of_status;

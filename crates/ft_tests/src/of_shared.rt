@@ -1,10 +1,10 @@
 // Rows worked by hand, request by request through the lock; who waits for whom; threads that wait, and let others go on; what is
 // handed back.
-use ft_calls::{Call, Reply};
+use crate::scripts::{Line, Wanted, is_answer, request};
+use ft_calls::Call;
 use ft_core::{Answer, Core, Fault, Outcome, Request, TxnId};
 use ft_path::FilePath;
 use ft_shared::{Manager, Refused, Shared};
-use ft_tree::AccessMode;
 use ft_waits::{Edge, EdgeKind, Verdict};
 use std::alloc::Global;
 use std::sync::Wait;
@@ -13,152 +13,9 @@ use std::thread;
 use std::thread::Threads;
 use std::time::{Clock, Duration};
 
-/// Requests, each with its answer.
-type Row = Vec<(Request, Answer)>;
-
-fn add(row: &mut Row, request: Request, answer: Answer) -> Result<(), Fail> {
-    row.push((request, answer))?;
-    Ok(())
-}
-
-/// A transaction is begun.
-fn add_txn(row: &mut Row, request: Request, number: u64) -> Result<(), Fail> {
-    add(row, request, Answer::Txn(TxnId(number)))
-}
-
-/// A call is granted.
-fn add_call(row: &mut Row, request: Request, stamp: u64, reply: Reply) -> Result<(), Fail> {
-    add(row, request, Answer::Granted { stamp, reply })
-}
-
-/// A call waits for one transaction.
-fn add_wait(row: &mut Row, request: Request, blocker: u64) -> Result<(), Fail> {
-    let mut blockers = Vec::new(*row.allocator());
-    blockers.push(TxnId(blocker))?;
-    let blockers = blockers.into();
-    add(row, request, Answer::Waits { blockers })
-}
-
-/// Descriptor 2 is read from the beginning.
-fn add_read(row: &mut Row, txn: u64, stamp: u64, bytes: &[u8]) -> Result<(), Fail> {
-    let bytes = bytes.to_vec(*row.allocator())?.into();
-    let call = Call::Pread {
-        fd: 2,
-        off: 0,
-        len: 9,
-    };
-    add_call(
-        row,
-        Request::Ask(TxnId(txn), call),
-        stamp,
-        Reply::Bytes(bytes),
-    )
-}
-
-fn add_refusal(row: &mut Row, request: Request, fault: Fault) -> Result<(), Fail> {
-    add(row, request, Answer::Refused(fault))
-}
-
-fn mkdir(alloc: Global, txn: u64, path: &[u8]) -> Result<Request, Fail> {
-    let path = FilePath::new(alloc, path)?;
-    Ok(Request::Ask(TxnId(txn), Call::Mkdir { path }))
-}
-
-fn stat(alloc: Global, txn: u64, path: &[u8]) -> Result<Request, Fail> {
-    let path = FilePath::new(alloc, path)?;
-    Ok(Request::Ask(TxnId(txn), Call::Stat { path }))
-}
-
 fn stat_call(alloc: Global) -> Result<Call, Fail> {
     let path = FilePath::new(alloc, b"/a".as_slice())?;
     Ok(Call::Stat { path })
-}
-
-/// To read and write, and made where it is not there.
-fn open(alloc: Global, txn: u64, path: &[u8]) -> Result<Request, Fail> {
-    let path = FilePath::new(alloc, path)?;
-    let call = Call::Open {
-        path,
-        access: AccessMode::ReadWrite,
-        create: true,
-        excl: false,
-        trunc: false,
-        append: false,
-    };
-    Ok(Request::Ask(TxnId(txn), call))
-}
-
-/// To descriptor 2, at the beginning.
-fn pwrite(alloc: Global, txn: u64, bytes: &[u8]) -> Result<Request, Fail> {
-    let bytes = bytes.to_vec(alloc)?.into();
-    let call = Call::Pwrite {
-        fd: 2,
-        off: 0,
-        bytes,
-    };
-    Ok(Request::Ask(TxnId(txn), call))
-}
-
-/// Locks go to the parent.
-fn commit_hands_locks_up(alloc: Global, row: &mut Row) -> Result<(), Fail> {
-    add_txn(row, Request::Begin, 1)?;
-    add_txn(row, Request::Sub(TxnId(1)), 2)?;
-    add_txn(row, Request::Sub(TxnId(1)), 3)?;
-    add_call(row, open(alloc, 2, b"/f".as_slice())?, 2, Reply::Number(2))?;
-    add_call(
-        row,
-        pwrite(alloc, 2, b"hi".as_slice())?,
-        3,
-        Reply::Number(2),
-    )?;
-    add_wait(row, pwrite(alloc, 3, b"XX".as_slice())?, 2)?;
-    add(row, Request::Commit(TxnId(2)), Answer::Committed)?;
-    add_call(row, Request::Retry(TxnId(3)), 4, Reply::Number(2))?;
-    add(row, Request::Abort(TxnId(3)), Answer::Aborted(1))?;
-    add_read(row, 1, 5, b"hi".as_slice())?;
-    add(row, Request::Commit(TxnId(1)), Answer::Committed)
-}
-
-/// Refusals.
-fn ended_and_unknown_transactions(alloc: Global, row: &mut Row) -> Result<(), Fail> {
-    add_txn(row, Request::Begin, 1)?;
-    add_txn(row, Request::Sub(TxnId(1)), 2)?;
-    add_refusal(row, Request::Commit(TxnId(1)), Fault::ChildLive)?;
-    add(row, Request::Abort(TxnId(1)), Answer::Aborted(0))?;
-    add_refusal(row, stat(alloc, 2, b"/".as_slice())?, Fault::Ended)?;
-    add_refusal(row, Request::Commit(TxnId(9)), Fault::NoTxn)?;
-    add_txn(row, Request::Begin, 3)?;
-    add_refusal(row, Request::Retry(TxnId(3)), Fault::NoAsk)?;
-    add_txn(row, Request::Sub(TxnId(3)), 4)?;
-    add_call(row, mkdir(alloc, 4, b"/a".as_slice())?, 2, Reply::Done)?;
-    add_wait(row, stat(alloc, 3, b"/a".as_slice())?, 4)?;
-    add(row, Request::Drop(TxnId(3)), Answer::Dropped)?;
-    add_refusal(row, Request::Drop(TxnId(3)), Fault::NoAsk)
-}
-
-/// Undos.
-fn undo_walks_back(alloc: Global, row: &mut Row) -> Result<(), Fail> {
-    add_txn(row, Request::Begin, 1)?;
-    add_call(row, open(alloc, 1, b"/f".as_slice())?, 2, Reply::Number(2))?;
-    add_call(
-        row,
-        pwrite(alloc, 1, b"hi".as_slice())?,
-        3,
-        Reply::Number(2),
-    )?;
-    add(row, Request::Undo(TxnId(1)), Answer::Undone(3))?;
-    add(row, Request::Undo(TxnId(1)), Answer::Undone(2))?;
-    add_refusal(row, Request::Undo(TxnId(1)), Fault::NothingToUndo)
-}
-
-/// Two transactions wait for each other.
-fn deadlock(alloc: Global, row: &mut Row) -> Result<(), Fail> {
-    add_txn(row, Request::Begin, 1)?;
-    add_txn(row, Request::Begin, 2)?;
-    add_call(row, mkdir(alloc, 1, b"/a".as_slice())?, 2, Reply::Done)?;
-    add_call(row, mkdir(alloc, 2, b"/b".as_slice())?, 3, Reply::Done)?;
-    add_wait(row, stat(alloc, 1, b"/b".as_slice())?, 2)?;
-    add_wait(row, stat(alloc, 2, b"/a".as_slice())?, 1)
 }
 
 /// Carries a request out through the lock.
@@ -175,18 +32,23 @@ fn answer<R: Wait>(rt: &R, shared: &Shared, request: Request) -> Result<Answer, 
     }
 }
 
-/// Carries a row out, and says whether each request is answered so.
-fn plays<R: Wait>(rt: &R, shared: &Shared, row: Row) -> bool {
-    for (request, wanted) in row {
-        let told = match answer(rt, shared, request) {
+/// Carries a script out, and says whether each line is answered as it says.
+fn plays<R: Wait>(
+    rt: &R,
+    alloc: Global,
+    shared: &Shared,
+    script: &[(Line, Wanted)],
+) -> Result<bool, Fail> {
+    for (line, wanted) in script {
+        let told = match answer(rt, shared, request(alloc, *line)?) {
             Ok(told) => told,
             Err(fault) => Answer::Refused(fault),
         };
-        if told != wanted {
-            return false;
+        if !is_answer(&told, *wanted) {
+            return Ok(false);
         }
     }
-    true
+    Ok(true)
 }
 
 /// A new core behind a lock.
@@ -197,28 +59,61 @@ fn new_shared(alloc: Global) -> Result<Shared, Fault> {
     }
 }
 
-/// Carries a row out on a new core.
-fn plays_anew<R: Wait>(rt: &R, row: Row) -> Result<bool, Fail> {
-    let shared = new_shared(*row.allocator())?;
-    Ok(plays(rt, &shared, row))
+/// Carries a script out on a new core.
+fn plays_anew<R: Wait>(rt: &R, alloc: Global, script: &[(Line, Wanted)]) -> Result<bool, Fail> {
+    let shared = new_shared(alloc)?;
+    plays(rt, alloc, &shared, script)
 }
 
 fn hands_locks_up<R: Wait>(rt: &R, alloc: Global) -> Result<bool, Fail> {
-    let mut row = Vec::new(alloc);
-    commit_hands_locks_up(alloc, &mut row)?;
-    plays_anew(rt, row)
+    let script = [
+        (Line::Begin, Wanted::Txn(1)),
+        (Line::Sub(1), Wanted::Txn(2)),
+        (Line::Sub(1), Wanted::Txn(3)),
+        (Line::Open(2, b"/f".as_slice()), Wanted::Number(2, 2)),
+        (Line::Pwrite(2, 2, b"hi".as_slice()), Wanted::Number(3, 2)),
+        (Line::Pwrite(3, 2, b"XX".as_slice()), Wanted::Waits(2)),
+        (Line::Commit(2), Wanted::Committed),
+        (Line::Retry(3), Wanted::Number(4, 2)),
+        (Line::Abort(3), Wanted::Aborted(1)),
+        (Line::Pread(1, 2), Wanted::Bytes(5, b"hi".as_slice())),
+        (Line::Commit(1), Wanted::Committed),
+    ];
+    plays_anew(rt, alloc, &script)
 }
 
 fn refuses<R: Wait>(rt: &R, alloc: Global) -> Result<bool, Fail> {
-    let mut row = Vec::new(alloc);
-    ended_and_unknown_transactions(alloc, &mut row)?;
-    plays_anew(rt, row)
+    let script = [
+        (Line::Begin, Wanted::Txn(1)),
+        (Line::Sub(1), Wanted::Txn(2)),
+        (Line::Commit(1), Wanted::Refused(Fault::ChildLive)),
+        (Line::Abort(1), Wanted::Aborted(0)),
+        (
+            Line::List(2, b"/".as_slice()),
+            Wanted::Refused(Fault::Ended),
+        ),
+        (Line::Commit(9), Wanted::Refused(Fault::NoTxn)),
+        (Line::Begin, Wanted::Txn(3)),
+        (Line::Retry(3), Wanted::Refused(Fault::NoAsk)),
+        (Line::Sub(3), Wanted::Txn(4)),
+        (Line::Mkdir(4, b"/a".as_slice()), Wanted::Done(2)),
+        (Line::List(3, b"/a".as_slice()), Wanted::Waits(4)),
+        (Line::Drop(3), Wanted::Dropped),
+        (Line::Drop(3), Wanted::Refused(Fault::NoAsk)),
+    ];
+    plays_anew(rt, alloc, &script)
 }
 
 fn walks_back<R: Wait>(rt: &R, alloc: Global) -> Result<bool, Fail> {
-    let mut row = Vec::new(alloc);
-    undo_walks_back(alloc, &mut row)?;
-    plays_anew(rt, row)
+    let script = [
+        (Line::Begin, Wanted::Txn(1)),
+        (Line::Open(1, b"/f".as_slice()), Wanted::Number(2, 2)),
+        (Line::Pwrite(1, 2, b"hi".as_slice()), Wanted::Number(3, 2)),
+        (Line::Undo(1), Wanted::Undone(3)),
+        (Line::Undo(1), Wanted::Undone(2)),
+        (Line::Undo(1), Wanted::Refused(Fault::NothingToUndo)),
+    ];
+    plays_anew(rt, alloc, &script)
 }
 
 #[test]
@@ -246,19 +141,22 @@ fn is_deadlock(edges: &[Edge], verdict: &Verdict) -> bool {
 }
 
 /// Whether a core tells a deadlock of two, where there is one.
-fn tells_deadlock<R: Wait>(rt: &R, shared: &Shared, row: Row) -> Result<bool, Fail> {
-    if !plays(rt, shared, row) {
-        return Ok(false);
-    }
+fn tells_deadlock<R: Wait>(rt: &R, shared: &Shared) -> Result<bool, Fail> {
     let (edges, verdict) = shared.waits(rt)?;
     Ok(is_deadlock(edges.as_slice(), &verdict))
 }
 
 fn waits_in_circle<R: Wait>(rt: &R, alloc: Global) -> Result<bool, Fail> {
-    let mut row = Vec::new(alloc);
-    deadlock(alloc, &mut row)?;
+    let script = [
+        (Line::Begin, Wanted::Txn(1)),
+        (Line::Begin, Wanted::Txn(2)),
+        (Line::Mkdir(1, b"/a".as_slice()), Wanted::Done(2)),
+        (Line::Mkdir(2, b"/b".as_slice()), Wanted::Done(3)),
+        (Line::List(1, b"/b".as_slice()), Wanted::Waits(2)),
+        (Line::List(2, b"/a".as_slice()), Wanted::Waits(1)),
+    ];
     let shared = new_shared(alloc)?;
-    tells_deadlock(rt, &shared, row)
+    Ok(plays(rt, alloc, &shared, &script)? && tells_deadlock(rt, &shared)?)
 }
 
 #[test]
