@@ -1,5 +1,5 @@
 -- The lines of jobs say which jobs they are.
-use Rattle.std.proofs.Common.{true, false, arith, ◌≡◌, List, [], ◌∷◌, ◌++◌, Option, Some, None, refl, sym, ap, ◌∙◌, append_assoc, append-nil}
+use Rattle.std.proofs.Common.{false, arith, ◌≡◌, List, [], ◌∷◌, ◌++◌, Option, Some, None, refl, sym, ap, ◌∙◌, append_assoc, append-nil}
 use Rattle.std.proofs.lemmas.Bool.{false≢true}
 use Rattle.std.specs.Prelude.{ℕ, map, option_map, option_and_then}
 use Rattle.std.specs.Option.{option_map_or}

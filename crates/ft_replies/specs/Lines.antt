@@ -15,7 +15,6 @@ use Rattle.ft_replies.specs.declared.line.Line.{Line}
 use Rattle.ft_replies.specs.declared.line.Line.TheVariants as line
 use Rattle.ft_replies.specs.declared.line.Report.{Report}
 use Rattle.ft_replies.specs.declared.line.Report.TheVariants.{Tree, Locks, Waits}
-use Rattle.ft_replies.specs.Requests.{meaning_of}
 use Rattle.ft_replies.specs.Texts.{text_of}
 use Rattle.ft_words.specs.Texts.{tree_text}
 use Rattle.ft_replies.specs.Reports.{locks_text, waits_text}

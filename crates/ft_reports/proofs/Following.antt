@@ -1,24 +1,37 @@
 -- How far a job came with its steps.
-use Rattle.std.proofs.Common.{◌≡◌, ℕ, List, subst}
-use Rattle.std.specs.Prelude.{◌≢◌}
+use Rattle.std.proofs.Common.{◌≡◌, ℕ, List, length, Some, ap, ◌∙◌, subst}
+use Rattle.std.proofs.lemmas.List.{length-map}
+use Rattle.std.proofs.lemmas.Option.{slice_get-map}
+use Rattle.std.specs.Option.{option_map}
+use Rattle.std.specs.List.{slice_get}
+use Rattle.std.specs.Prelude.{◌≢◌, ◌↔◌}
+use Rattle.ft_posix.specs.declared.call.Call.{Call}
 use Rattle.ft_plan.specs.declared.job.Step.{Step}
 use Rattle.ft_reports.specs.declared.report.CallReport.{CallReport}
 use Rattle.ft_reports.specs.declared.report.End.{End}
 use Rattle.ft_reports.specs.declared.report.End.TheVariants.{Committed, Aborted, Waited, Refused, NotStarted}
 use Rattle.ft_reports.specs.declared.steps.Extent.{Extent}
 use Rattle.ft_reports.specs.declared.steps.Extent.TheVariants.{Whole, Other}
-use Rattle.ft_reports.specs.Asked.{opened, all_asked, asked_with, AreAllOf, AreFirstOf, IsAtEnd, IsDone}
+use Rattle.ft_reports.specs.Asked.{opened, all_asked, asked_with, calls_told, AreAllOf, AreFirstOf, IsAtEnd, IsDone}
 
-by_end : (steps : List Step) (end : End) (calls : List CallReport) (extent : Extent) → IsAtEnd steps end extent
-    → (extent ≡ Whole → AreAllOf (asked_with steps calls) calls) → (extent ≢ Other → AreFirstOf (asked_with steps calls) calls) → IsDone steps end calls
-by_end steps Committed calls extent at whole first = (whole at.0, at.1)
-by_end steps Aborted calls extent at whole first = (whole at.0, at.1)
-by_end steps Waited calls extent at whole first = first at
-by_end steps (Refused fault) calls extent at whole first = first at
-by_end steps NotStarted calls extent at whole first = first at
+abbrev AreAsExtent : List Call → List CallReport → Extent → Type 0
+AreAsExtent asked calls extent = ((extent ≡ Whole) ↔ AreAllOf asked calls) × ((extent ≢ Other) ↔ AreFirstOf asked calls)
 
-pub done_is : (steps : List Step) (end : End) (calls : List CallReport) (ds : List ℕ) (extent : Extent) → ds ≡ opened steps calls → IsAtEnd steps end extent
-    → (extent ≡ Whole → AreAllOf (all_asked ds steps) calls) → (extent ≢ Other → AreFirstOf (all_asked ds steps) calls) → IsDone steps end calls
-done_is steps end calls ds extent same at whole first =
-    by_end steps end calls extent at (subst (λ (xs : List ℕ). extent ≡ Whole → AreAllOf (all_asked xs steps) calls) same whole)
-    (subst (λ (xs : List ℕ). extent ≢ Other → AreFirstOf (all_asked xs steps) calls) same first)
+by_end : (steps : List Step) (end : End) (calls : List CallReport) (extent : Extent) → AreAsExtent (asked_with steps calls) calls extent → IsAtEnd steps end extent ↔ IsDone steps end calls
+by_end steps Committed calls extent fits = (λ at. (fits.0.0 at.0, at.1), λ done. (fits.0.1 done.0, done.1))
+by_end steps Aborted calls extent fits = (λ at. (fits.0.0 at.0, at.1), λ done. (fits.0.1 done.0, done.1))
+by_end steps Waited calls extent fits = fits.1
+by_end steps (Refused fault) calls extent fits = fits.1
+by_end steps NotStarted calls extent fits = fits.1
+
+pub done_is : (steps : List Step) (end : End) (calls : List CallReport) (ds : List ℕ) (extent : Extent) → ds ≡ opened steps calls → AreAsExtent (all_asked ds steps) calls extent
+    → IsAtEnd steps end extent ↔ IsDone steps end calls
+done_is steps end calls ds extent same fits = by_end steps end calls extent (subst (λ (xs : List ℕ). AreAsExtent (all_asked xs steps) calls extent) same fits)
+
+-- ---- calls told of
+
+pub length-told : (calls : List CallReport) → length (calls_told calls) ≡ length calls
+length-told calls = length-map calls (λ (c : CallReport). c.call)
+
+pub told_at : (calls : List CallReport) (i : ℕ) (c : CallReport) → slice_get calls i ≡ Some c → slice_get (calls_told calls) i ≡ Some c.call
+told_at calls i c got = slice_get-map (λ (d : CallReport). d.call) calls i ∙ ap (option_map (λ (d : CallReport). d.call)) got

@@ -1,4 +1,6 @@
+pub mod Deciding
 pub mod Same
 pub mod Told
 pub mod Ending
 pub mod Following
+pub mod Fronts

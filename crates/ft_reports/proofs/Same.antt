@@ -1,7 +1,91 @@
--- Lists whose elements are the same one by one are the same.
-use Rattle.std.proofs.Common.{◌≡◌, ℕ, true, List}
-use Rattle.std.proofs.lemmas.Slice.Eq.{bytes_eq-Decides}
-use Rattle.std.specs.Str.{bytes_eq}
+-- `==` decides whether two calls, or two replies, are the same.
+use Rattle.std.proofs.lemmas.Bool.Decides.{Decides-eqb as number, Decides-int_eq as offset}
+use Rattle.std.proofs.lemmas.Slice.Eq.{bytes_eq-Decides as text}
+use Rattle.std.specs.Cmp.{booleans_Decides as flag}
+use Rattle.std.specs.Cmp.Lexicographic.{pointwise_decides}
+use Rattle.ft_path.specs.contracts.errno.Errno.{the_type as errno}
+use Rattle.ft_cells.specs.contracts.node.Kind.{the_type as kind}
+use Rattle.ft_cells.specs.contracts.open_file.AccessMode.{the_type as access_mode}
+use Rattle.ft_posix.specs.contracts.call.Whence.{the_type as whence}
+use Rattle.ft_posix.specs.contracts.call.Call.{enum as calls}
+use Rattle.ft_posix.specs.contracts.call.CallPartialEq.TheImpl.{ghosts as for_calls}
+use Rattle.ft_posix.specs.contracts.call.Reply.{enum as replies}
+use Rattle.ft_posix.specs.contracts.call.ReplyPartialEq.TheImpl.{ghosts as for_replies}
+use Rattle.ft_reports.proofs.Deciding.{Decided, no_field, field, field_and, bare, variants}
 
-pub text : (a b : List ℕ) → bytes_eq a b ≡ true → a ≡ b
-text a b h = (bytes_eq-Decides a b).0 h
+pub same_calls : Decided for_calls.eq
+same_calls =
+    variants calls _ (
+      field text,
+      (
+        field text,
+        (
+          field text,
+          (
+            field_and text (field_and (bare access_mode tt) (field_and flag (field_and flag (field_and flag (field flag))))),
+            (
+              field number,
+              (
+                field_and number (field number),
+                (
+                  field_and number (field text),
+                  (
+                    field_and number (field_and offset (field number)),
+                    (
+                      field_and number (field_and offset (field text)),
+                      (
+                        field_and number (field_and (bare whence tt) (field offset)),
+                        (
+                          field_and offset (field text),
+                          (
+                            field_and number (field offset),
+                            (
+                              field text,
+                              (
+                                field number,
+                                (
+                                  field_and text (field text),
+                                  (
+                                    field text,
+                                    (
+                                      field_and text (field text),
+                                      tt,
+                                    ),
+                                  ),
+                                ),
+                              ),
+                            ),
+                          ),
+                        ),
+                      ),
+                    ),
+                  ),
+                ),
+              ),
+            ),
+          ),
+        ),
+      ),
+    )
+
+pub same_replies : Decided for_replies.eq
+same_replies =
+    variants replies _ (
+      no_field,
+      (
+        field (pointwise_decides (field_and text (bare kind tt))),
+        (
+          field number,
+          (
+            field text,
+            (
+              field_and (bare kind tt) (field_and number (field_and number (field number))),
+              (
+                field (bare errno tt),
+                tt,
+              ),
+            ),
+          ),
+        ),
+      ),
+    )

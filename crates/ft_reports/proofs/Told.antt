@@ -4,6 +4,7 @@ use Rattle.std.proofs.lemmas.Bool.{false≢true}
 use Rattle.std.specs.Prelude.{map}
 use Rattle.std.specs.List.{filter_map, cons_option, list_any, list_all}
 use Rattle.ft_laws.specs.Lists.{In}
+use Rattle.ft_laws.proofs.Lists.{In-front, In-back, In-cases}
 use Rattle.ft_posix.specs.Posix.{posix_calls}
 use Rattle.ft_history.specs.History.{parent, is_committed, grants}
 use Rattle.ft_history.specs.History.Event.{Begin as WasBegun, Call as WasGranted, Undo as WasUndone, Commit as WasCommitted, Abort as WasAborted}
@@ -95,14 +96,12 @@ abbrev IsAccounted : List Report → Granted → Type 0
 IsAccounted reports c = is_from_least_on reports c.asker ≡ true → is_reported reports c.asker ≡ true
 
 in_snoc : (cs : List Granted) (c d : Granted) → In d (cs ++ c ∷ []) → In d cs ⊎ (d ≡ c)
-in_snoc [] c d (inl same) = inr same
-in_snoc [] c d (inr none) = absurd none
-in_snoc (b ∷ cs) c d (inl same) = inl (inl same)
-in_snoc (b ∷ cs) c d (inr there) = behind (in_snoc cs c d there)
+in_snoc cs c d there = by_place (In-cases d cs (c ∷ []) there)
   where
-    behind : In d cs ⊎ (d ≡ c) → In d (b ∷ cs) ⊎ (d ≡ c)
-    behind (inl old) = inl (inr old)
-    behind (inr new) = inr new
+    by_place : In d cs ⊎ In d (c ∷ []) → In d cs ⊎ (d ≡ c)
+    by_place (inl old) = inl old
+    by_place (inr (inl new)) = inr new
+    by_place (inr (inr none)) = absurd none
 
 both_true : (a b : Bool) → (a && b) ≡ true → (a ≡ true) × (b ≡ true)
 both_true true b h = (refl, h)
@@ -129,3 +128,35 @@ accounted_told reports h (Abort u ∷ events) old all c there = accounted_told r
 
 pub all_accounted : (reports : List Report) (events : List Event) → list_all (is_accounted reports) events ≡ true → (c : Granted) → In c (grants posix_calls (told events)) → is_from_least_on reports c.asker ≡ true → is_reported reports c.asker ≡ true
 all_accounted reports events all = accounted_told reports [] events (λ (c : Granted) none. absurd none) all
+
+-- A call that was granted before the events is granted after them.
+in_told : (c : Granted) (h : History) (events : List Event) → In c (grants posix_calls h) → In c (grants posix_calls (told_after h events))
+in_told c h [] there = there
+in_told c h (CallEvent k u call reply accesses ∷ events) there =
+    let d = granted k u call reply accesses in
+    in_told c (WasGranted d ∷ h) events (In-front c (grants posix_calls h) (d ∷ []) there)
+in_told c h (Begin u p ∷ events) there = in_told c (WasBegun u p ∷ h) events there
+in_told c h (Undo k ∷ events) there = in_told c (WasUndone k ∷ h) events there
+in_told c h (Commit u ∷ events) there = in_told c (WasCommitted u ∷ h) events there
+in_told c h (Abort u ∷ events) there = in_told c (WasAborted u ∷ h) events there
+
+implies : (a b : Bool) → (a ≡ true → b ≡ true) → (not a || b) ≡ true
+implies true b h = h refl
+implies false b h = refl
+
+both : (a b : Bool) → a ≡ true → b ≡ true → (a && b) ≡ true
+both a b h k = ap (λ (c : Bool). c && b) h ∙ k
+
+told_accounted : (reports : List Report) (h : History) (events : List Event) → ((c : Granted) → In c (grants posix_calls (told_after h events)) → IsAccounted reports c) → list_all (is_accounted reports) events ≡ true
+told_accounted reports h [] each = refl
+told_accounted reports h (CallEvent k u call reply accesses ∷ events) each =
+    let d = granted k u call reply accesses in
+    let there = in_told d (WasGranted d ∷ h) events (In-back d (grants posix_calls h) (d ∷ []) (inl refl)) in
+    both (is_accounted reports (CallEvent k u call reply accesses)) (list_all (is_accounted reports) events) (implies (is_from_least_on reports u) (is_reported reports u) (each d there)) (told_accounted reports (WasGranted d ∷ h) events each)
+told_accounted reports h (Begin u p ∷ events) each = told_accounted reports (WasBegun u p ∷ h) events each
+told_accounted reports h (Undo k ∷ events) each = told_accounted reports (WasUndone k ∷ h) events each
+told_accounted reports h (Commit u ∷ events) each = told_accounted reports (WasCommitted u ∷ h) events each
+told_accounted reports h (Abort u ∷ events) each = told_accounted reports (WasAborted u ∷ h) events each
+
+pub accounted_all : (reports : List Report) (events : List Event) → ((c : Granted) → In c (grants posix_calls (told events)) → is_from_least_on reports c.asker ≡ true → is_reported reports c.asker ≡ true) → list_all (is_accounted reports) events ≡ true
+accounted_all reports events each = told_accounted reports [] events each

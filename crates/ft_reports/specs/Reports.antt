@@ -1,5 +1,5 @@
 -- The reports of jobs are what happened.
-use Rattle.std.specs.Prelude.{◌≡◌, ◌==◌, ◌&&◌, not, ℕ, Bool, true, false, cond, nat_le, nat_lt, List, [], ◌∷◌, length, Option, None, Some, IsSome, IfSome, IfNone, option_and_then, map, All}
+use Rattle.std.specs.Prelude.{◌≡◌, ◌==◌, ◌&&◌, not, ℕ, Bool, true, false, cond, nat_le, nat_lt, List, [], ◌∷◌, length, Option, None, Some, IsSome, IfSome, MatchOption, option_and_then, map, All}
 use Rattle.std.specs.List.{list_any, position, slice_get}
 use Rattle.std.specs.Option.{option_map_or}
 use Rattle.std.specs.Str.{bytes_eq}
@@ -109,19 +109,24 @@ may_be_unstarted jobs reports job = option_map_or has_left_subjobs (option_and_t
 
 -- ---- all together
 
+-- The report has the calls that its transaction t was granted, stamp, call and reply, in order; t is nested as the job is.
+abbrev pub IsOfTxn : History → List Job → List Report → Job → Report → ℕ → Type 0
+IsOfTxn h jobs reports job r t = (calls_of h t ≡ r.calls) × IsNested h jobs reports job.parent t
+
+-- Only a job that was not started or was refused something has no transaction, and it has no calls.
+abbrev pub MayLackTxn : Report → Type 0
+MayLackTxn r = (may_lack_txn r.end ≡ true) × (r.calls ≡ [])
+
 -- The report of a job is what happened to it.
 pub record IsReport (h : History) (jobs : List Job) (reports : List Report) (at : ℕ) (job : Job) (r : Report) : Type 0 where
   -- It is that of the job of this place.
   pub place : r.job ≡ at
-  -- The calls that its transaction was granted are those that it has, stamp, call and reply, in the order of the stamps.
-  pub calls : IfSome r.txn (λ t. calls_of h t ≡ r.calls)
+  -- Its calls are those of its transaction, which is nested as the job is; or it may lack one.
+  pub txn : MatchOption r.txn (MayLackTxn r) (IsOfTxn h jobs reports job r)
+  -- They are in the order of their stamps.
   pub rising : stamps_rise 0 r.calls ≡ true
-  -- Its transaction is nested as the job is.
-  pub nested : IfSome r.txn (IsNested h jobs reports job.parent)
-  -- The calls are those of its steps, as far as its end says.
+  -- They are those of its steps, as far as its end says.
   pub done : IsDone job.steps r.end r.calls
-  -- Only a job that was not started or was refused something has no transaction, and it has no calls.
-  pub without : IfNone r.txn ((may_lack_txn r.end ≡ true) × (r.calls ≡ []))
   -- Only a subjob is not started, whose parent was not started, was refused something or waited too long.
   pub unstarted : r.end ≡ NotStarted → may_be_unstarted jobs reports job ≡ true
 

@@ -1,8 +1,8 @@
 // Whether reports are what happened.
-ghost use Rattle.std.specs.Prelude.{◌≡◌, true, [], ℕ, All, IfSome, IfNone, IfOk, option_copied};
+ghost use Rattle.std.specs.Prelude.{◌≡◌, ◌↔◌, true, ℕ, All, MatchOption, IfOk, IsTrue, option_copied};
 ghost use Rattle.std.specs.List.{list_all};
 ghost use Rattle.ft_core.specs.Histories.{told};
-ghost use Rattle.ft_reports.specs.Reports.{calls_of, has_txn, has_txn_up_to, is_reported, is_from_least_on, have_own_txns, report_of, txn_of, IsNested, ends_committed, may_lack_txn, may_leave_subjobs, may_be_unstarted, IsReportAt, HasItsFate, AreReports};
+ghost use Rattle.ft_reports.specs.Reports.{has_txn, has_txn_up_to, is_reported, is_from_least_on, have_own_txns, report_of, txn_of, IsNested, IsOfTxn, MayLackTxn, ends_committed, may_lack_txn, may_leave_subjobs, may_be_unstarted, IsReportAt, HasItsFate, AreReports};
 ghost use Rattle.ft_reports.specs.Reading.{is_accounted};
 
 use crate::history::{are_calls_of, do_stamps_rise, has_ended, parent_of};
@@ -14,14 +14,16 @@ use ft_core::{Core, Event, TxnId};
 use ft_plan::{Job, Plan};
 use std::alloc::Global;
 
-/// Whether these are the reports of what happened to the jobs of a plan, in the core that they left.
+/// Whether these are the reports of what happened to the jobs of a plan, in the core that they left. Where they are, nothing
+/// changes; where they are not, it may have forgotten what a transaction waits for. Its only error is want of memory.
 pub fn are_reports(
     alloc: Global,
     plan: &Plan,
     core: &mut Core,
     reports: &[Report],
 ) -> Result<bool, Memory>
-    ensures { IfOk result (λ are. are ≡ true → AreReports core.new plan.now reports.now) }
+    ensures exact { IfOk result (λ are. IsTrue are ↔ AreReports core.old plan.now reports.now) }
+    ensures same { IfOk result (λ are. IsTrue are → core.new ≡ core.old) }
 {
     let jobs = plan.jobs();
     if reports.len() != jobs.len() || !have_own_txns(reports) || !have_their_fates(core, reports) {
@@ -36,8 +38,8 @@ pub fn are_reports(
 
 // Whether the transactions of the reports are committed or aborted as they say. Where they are, nothing changes.
 fn have_their_fates(core: &mut Core, reports: &[Report]) -> bool
-    ensures same { result ≡ true → core.new ≡ core.old }
-    ensures fates { result ≡ true → All (HasItsFate core.old) reports.now }
+    ensures same { IsTrue result → core.new ≡ core.old }
+    ensures fates { IsTrue result ↔ All (HasItsFate core.old) reports.now }
 {
     for report in reports {
         if !has_its_fate(core, report) {
@@ -49,8 +51,8 @@ fn have_their_fates(core: &mut Core, reports: &[Report]) -> bool
 
 // Whether the transaction of a report, if it has one, is committed or aborted as it says. Where it is, nothing changes.
 fn has_its_fate(core: &mut Core, report: &Report) -> bool
-    ensures same { result ≡ true → core.new ≡ core.old }
-    ensures fate { result ≡ true → HasItsFate core.old report.now }
+    ensures same { IsTrue result → core.new ≡ core.old }
+    ensures fate { IsTrue result ↔ HasItsFate core.old report.now }
 {
     match report.txn {
         None => true,
@@ -72,7 +74,7 @@ fn are_each(
     jobs: &[Job],
     reports: &[Report],
 ) -> Result<bool, Memory>
-    ensures { IfOk result (λ are. are ≡ true → (at : ℕ) → IsReportAt (told events.now) jobs.now reports.now at) }
+    ensures { IfOk result (λ are. IsTrue are ↔ ((at : ℕ) → IsReportAt (told events.now) jobs.now reports.now at)) }
 {
     for at in 0..jobs.len() {
         if !is_report_at(alloc, events, jobs, reports, at)? {
@@ -82,7 +84,7 @@ fn are_each(
     Ok(true)
 }
 
-// Whether the report at this place is that of the job at this place. There are both.
+// Whether the report at this place is that of the job at this place, if there are both.
 fn is_report_at(
     alloc: Global,
     events: &[Event],
@@ -90,10 +92,10 @@ fn is_report_at(
     reports: &[Report],
     at: usize,
 ) -> Result<bool, Memory>
-    ensures { IfOk result (λ is. is ≡ true → IsReportAt (told events.now) jobs.now reports.now at) }
+    ensures { IfOk result (λ is. IsTrue is ↔ IsReportAt (told events.now) jobs.now reports.now at) }
 {
     let (Some(job), Some(report)) = (jobs.get(at), reports.get(at)) else {
-        return Ok(false);
+        return Ok(true);
     };
     if !is_done(alloc, job.steps.as_slice(), report)? {
         return Ok(false);
@@ -109,9 +111,7 @@ fn is_report_at(
 // Whether a report has just the calls that its transaction was granted, which is nested as the job is. Without a
 // transaction, whether there may be none, and no calls.
 fn is_of_txn(events: &[Event], jobs: &[Job], reports: &[Report], job: &Job, report: &Report) -> bool
-    ensures calls { result ≡ true → IfSome report.now.txn (λ t. calls_of (told events.now) t ≡ report.now.calls) }
-    ensures nested { result ≡ true → IfSome report.now.txn (IsNested (told events.now) jobs.now reports.now job.now.parent) }
-    ensures without { result ≡ true → IfNone report.now.txn ((may_lack_txn report.now.end ≡ true) × (report.now.calls ≡ [])) }
+    ensures { IsTrue result ↔ MatchOption report.now.txn (MayLackTxn report.now) (IsOfTxn (told events.now) jobs.now reports.now job.now report.now) }
 {
     let calls = report.calls.as_slice();
     match report.txn {
@@ -124,7 +124,7 @@ fn is_of_txn(events: &[Event], jobs: &[Job], reports: &[Report], job: &Job, repo
 
 // Whether a transaction is nested as its job is.
 fn is_nested(events: &[Event], jobs: &[Job], reports: &[Report], job: &Job, txn: TxnId) -> bool
-    ensures { result ≡ true → IsNested (told events.now) jobs.now reports.now job.now.parent txn }
+    ensures { IsTrue result ↔ IsNested (told events.now) jobs.now reports.now job.now.parent txn }
 {
     match (parent_of(events, txn), &job.parent) {
         (None, None) => true,
@@ -150,7 +150,7 @@ fn report_of<'a>(jobs: &[Job], reports: &'a [Report], name: &[u8]) -> Option<&'a
 
 // Whether the job was started where its report says so, or where it was not may be unstarted.
 fn is_started(jobs: &[Job], reports: &[Report], job: &Job, report: &Report) -> bool
-    ensures { result ≡ true → report.now.end ≡ End.NotStarted → may_be_unstarted jobs.now reports.now job.now ≡ true }
+    ensures { IsTrue result ↔ (report.now.end ≡ End.NotStarted → may_be_unstarted jobs.now reports.now job.now ≡ true) }
 {
     match report.end {
         End::NotStarted => may_be_unstarted(jobs, reports, job),

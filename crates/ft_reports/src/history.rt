@@ -1,5 +1,5 @@
 // What the history has of a transaction.
-ghost use Rattle.std.specs.Prelude.{◌≡◌, true, cond, Some, is_some};
+ghost use Rattle.std.specs.Prelude.{◌≡◌, ◌↔◌, cond, Some, is_some, IsTrue};
 ghost use Rattle.std.specs.List.{list_any};
 ghost use Rattle.ft_posix.specs.Posix.{posix_calls};
 ghost use Rattle.ft_history.specs.History.{parent, is_committed};
@@ -9,21 +9,20 @@ ghost use Rattle.ft_core.specs.States.{fate_of};
 ghost use Rattle.ft_reports.specs.Reports.{calls_of, stamps_rise};
 ghost use Rattle.ft_reports.specs.Reading.{granted_by, parent_after, is_commit_of};
 
-use crate::equality::{is_same_call, is_same_reply};
 use crate::report::CallReport;
 use ft_core::{Core, Event, Fault, TxnId};
 
 /// Whether these are all calls that a transaction was granted, in their order.
-#[tactic(auto, using(crate::proofs::Told::calls_are, std::proofs::lemmas::List::take_more))]
 pub fn are_calls_of(events: &[Event], txn: TxnId, calls: &[CallReport]) -> bool
-    ensures { result ≡ true → calls_of (told events.now) txn ≡ calls.now }
+    ensures { IsTrue result ↔ (calls_of (told events.now) txn ≡ calls.now) }
 {
     let mut made = 0;
     for event in events {
         if is_call_of(event, txn) {
             match calls.get(made) {
+                None => return false,
                 Some(call) if is_told(event, txn, call) => made += 1,
-                _ => return false,
+                Some(_) => return false,
             }
         }
     }
@@ -42,7 +41,7 @@ fn is_call_of(event: &Event, txn: TxnId) -> bool
 
 // Whether the event is a call of a transaction, granted as it is told here.
 fn is_told(event: &Event, txn: TxnId, told: &CallReport) -> bool
-    ensures { result ≡ true → granted_by txn event.now ≡ Some told.now }
+    ensures { IsTrue result ↔ (granted_by txn event.now ≡ Some told.now) }
 {
     match event {
         Event::Call {
@@ -51,12 +50,7 @@ fn is_told(event: &Event, txn: TxnId, told: &CallReport) -> bool
             call,
             reply,
             ..
-        } => {
-            *asker == txn
-                && *stamp == told.stamp
-                && is_same_call(call, &told.call)
-                && is_same_reply(reply, &told.reply)
-        }
+        } => { *asker == txn && *stamp == told.stamp && told.is_of(call) && told.has_reply(reply) }
         _ => false,
     }
 }
@@ -126,8 +120,8 @@ fn is_commit_of(event: &Event, txn: TxnId) -> bool
 /// is refused whatever it asks for, and here it asks to forget what it waits for.
 #[tactic(auto, using(crate::proofs::Ending::ended_is, crate::proofs::Ending::fate_is))]
 pub fn has_ended(core: &mut Core, txn: TxnId, committed: bool) -> bool
-    ensures same { result ≡ true → core.new ≡ core.old }
-    ensures fate { result ≡ true → fate_of core.old txn ≡ Some (cond committed WasCommitted WasAborted) }
+    ensures same { IsTrue result → core.new ≡ core.old }
+    ensures fate { IsTrue result ↔ (fate_of core.old txn ≡ Some (cond committed WasCommitted WasAborted)) }
 {
     if has_committed(core.history(), txn) != committed {
         return false;

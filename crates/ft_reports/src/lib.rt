@@ -2,7 +2,6 @@
 #![tactic(auto)]
 
 mod comparing;
-mod equality;
 mod history;
 mod places;
 mod report;

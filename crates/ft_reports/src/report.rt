@@ -26,6 +26,26 @@ pub struct CallReport {
     pub reply: Reply,
 }
 
+impl CallReport {
+    ghost use Rattle.std.specs.Prelude.{◌≡◌, ◌↔◌, IsTrue};
+
+    /// Whether it is of this call.
+    #[tactic(auto, using(crate::proofs::Same::same_calls))]
+    pub(crate) fn is_of(&self, call: &Call) -> bool
+        ensures { IsTrue result ↔ (self.now.call ≡ call.now) }
+    {
+        self.call == *call
+    }
+
+    /// Whether it has this reply.
+    #[tactic(auto, using(crate::proofs::Same::same_replies))]
+    pub(crate) fn has_reply(&self, reply: &Reply) -> bool
+        ensures { IsTrue result ↔ (self.now.reply ≡ reply.now) }
+    {
+        self.reply == *reply
+    }
+}
+
 /// What became of a job.
 #[derive(Debug, PartialEq, Eq, Drop)]
 pub struct Report {

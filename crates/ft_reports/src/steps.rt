@@ -1,8 +1,7 @@
 // What the steps of a job ask for.
-ghost use Rattle.std.specs.Prelude.{◌≡◌, ◌≢◌, true, IfOk};
+ghost use Rattle.std.specs.Prelude.{◌≡◌, ◌≢◌, ◌↔◌, IfOk, IsTrue};
 ghost use Rattle.ft_reports.specs.Asked.{is_call, descriptor_in, first_descriptor, opened_by, calls_behind, opened, opened_at, on_opened, asked_by, all_asked, AreAllOf, AreFirstOf, IsAtEnd, IsDone};
 
-use crate::equality::is_same_call;
 use crate::report::{CallReport, End, Report};
 use ft_base::Memory;
 use ft_calls::{Call, Reply};
@@ -118,15 +117,15 @@ fn extent_of(
     descriptors: &[u64],
     calls: &[CallReport],
 ) -> Result<Extent, Memory>
-    ensures whole { IfOk result (λ extent. extent ≡ Extent.Whole → AreAllOf (all_asked descriptors.now steps.now) calls.now) }
-    ensures front { IfOk result (λ extent. extent ≢ Extent.Other → AreFirstOf (all_asked descriptors.now steps.now) calls.now) }
+    ensures whole { IfOk result (λ extent. (extent ≡ Extent.Whole) ↔ AreAllOf (all_asked descriptors.now steps.now) calls.now) }
+    ensures front { IfOk result (λ extent. (extent ≢ Extent.Other) ↔ AreFirstOf (all_asked descriptors.now steps.now) calls.now) }
 {
     let mut made = 0;
     for step in steps {
         if let Some(call) = asked(alloc, step, descriptors)? {
             match calls.get(made) {
                 None => return Ok(Extent::Front),
-                Some(told) if is_same_call(&told.call, &call) => made += 1,
+                Some(told) if told.is_of(&call) => made += 1,
                 Some(_) => return Ok(Extent::Other),
             }
         }
@@ -140,7 +139,7 @@ fn extent_of(
 /// Whether the calls of a report are those of the steps of its job: all of them where its last step ended the job, and else
 /// the first of them.
 pub fn is_done(alloc: Global, steps: &[Step], report: &Report) -> Result<bool, Memory>
-    ensures { IfOk result (λ done. done ≡ true → IsDone steps.now report.now.end report.now.calls) }
+    ensures { IfOk result (λ done. IsTrue done ↔ IsDone steps.now report.now.end report.now.calls) }
 {
     let calls = report.calls.as_slice();
     let descriptors = opened(alloc, steps, calls)?;
@@ -151,7 +150,7 @@ pub fn is_done(alloc: Global, steps: &[Step], report: &Report) -> Result<bool, M
 // Whether a job with calls to this extent may have ended so: where the end names a step, that is the last one, and all calls
 // were made.
 fn is_at_end(steps: &[Step], end: End, extent: Extent) -> bool
-    ensures { result ≡ true → IsAtEnd steps.now end extent }
+    ensures { IsTrue result ↔ IsAtEnd steps.now end extent }
 {
     match end {
         End::Committed => extent == Extent::Whole && matches!(steps.last(), Some(Step::Commit)),

@@ -1,31 +1,14 @@
 -- What a run of a script writes.
-use Rattle.std.specs.Prelude.{◌≡◌, ◌⊎◌, ◌<◌, ◌≤◌, ℕ, List, [], ◌∷◌, ◌++◌, length, codes, Option}
+use Rattle.std.specs.Prelude.{◌≡◌, ◌⊎◌, ◌<◌, ◌≤◌, ℕ, List, [], ◌∷◌, ◌++◌, length, Option}
 use Rattle.std.specs.List.{flat_map, AllByRecursion}
 use Rattle.std.specs.Io.KnownBytes.{Appends, Consumes, IsAtEnd, Keeps}
-use Rattle.ft_cells.specs.Rows.{rows_of}
-use Rattle.ft_moss.specs.declared.line.LockLine.{LockLine}
-use Rattle.ft_core.specs.declared.request.Answer.{Answer}
-use Rattle.ft_core.specs.declared.request.Request.{Request}
-use Rattle.ft_core.specs.States.{State, at_base, first_base, tree_of}
-use Rattle.ft_core.specs.Steps.{IsStep, exact_rule}
-use Rattle.ft_core.specs.Reports.{AreLockLines}
-use Rattle.ft_waits.specs.declared.edge.Edge.{Edge}
-use Rattle.ft_waits.specs.declared.verdict.Verdict.{Verdict}
-use Rattle.ft_waits.specs.Edges.{AreEdgesOf}
-use Rattle.ft_waits.specs.Waits.{IsVerdict}
-use Rattle.ft_replies.specs.declared.line.Line.{Line}
-use Rattle.ft_replies.specs.declared.line.Line.TheVariants as line
-use Rattle.ft_replies.specs.declared.line.Report.{Report}
-use Rattle.ft_replies.specs.declared.line.Report.TheVariants.{Tree, Locks, Waits}
+use Rattle.ft_core.specs.States.{State, at_base, first_base}
 use Rattle.ft_script.specs.declared.playing.PlayFault.{PlayFault}
 use Rattle.ft_script.specs.declared.playing.PlayFault.TheVariants.{Memory, Read, Write, TooLong, Turns}
 use Rattle.ft_script.specs.declared.playing.TheConstants.{LONGEST_LINE}
 use Rattle.ft_words.specs.Spelling.{IsFreeOf, lines_of}
 use Rattle.ft_replies.specs.Requests.{meaning_of}
-use Rattle.ft_replies.specs.Lines.{GivesText, IsLegal}
-use Rattle.ft_replies.specs.Texts.{text_of}
-use Rattle.ft_words.specs.Texts.{tree_text}
-use Rattle.ft_replies.specs.Reports.{locks_text, waits_text}
+use Rattle.ft_replies.specs.Lines.{GivesText}
 
 -- The text of a run: what is written for lines, one after another, and the state in the end.
 abbrev pub IsTextOfRun : State → List (List ℕ) → List ℕ → State → Type 0

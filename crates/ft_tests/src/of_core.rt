@@ -1,6 +1,6 @@
 // Scripts worked by hand, one call of the core a request; lists of requests; the numbers of the faults, and what is
 // printed.
-use crate::scripts::{Line, Wanted, is_answer, request};
+use crate::scripts::{Answers, Line, Wanted, plays};
 use ft_calls::Mode;
 use ft_core::{Answer, Core, Fault, LiveChild, Request, TxnId};
 use ft_locks::{LockKind, LockLine};
@@ -9,15 +9,10 @@ use ft_tree::{Cell, TreeRow};
 use std::alloc::Global;
 use std::test::Fail;
 
-/// Carries a script out, one call for each line, and says whether each is answered as it says.
-fn plays(alloc: Global, core: &mut Core, script: &[(Line, Wanted)]) -> Result<bool, Fail> {
-    for (line, wanted) in script {
-        let answer = core.answer(request(alloc, *line)?);
-        if !is_answer(&answer, *wanted) {
-            return Ok(false);
-        }
+impl Answers for Core {
+    fn answer_to(&mut self, request: Request) -> Answer {
+        self.answer(request)
     }
-    Ok(true)
 }
 
 /// Carries a script out on a new core, and says whether each line is answered as it says.
@@ -30,18 +25,6 @@ fn plays_anew(alloc: Global, script: &[(Line, Wanted)]) -> Result<bool, Fail> {
 fn plays_to_nothing(alloc: Global, script: &[(Line, Wanted)]) -> Result<bool, Fail> {
     let mut core = Core::new(alloc)?;
     Ok(plays(alloc, &mut core, script)? && is_bare(&core)?)
-}
-
-/// The same, with a sweep before each.
-fn plays_swept(alloc: Global, core: &mut Core, script: &[(Line, Wanted)]) -> Result<bool, Fail> {
-    for (line, wanted) in script {
-        let _ = core.sweep();
-        let answer = core.answer(request(alloc, *line)?);
-        if !is_answer(&answer, *wanted) {
-            return Ok(false);
-        }
-    }
-    Ok(true)
 }
 
 /// Whether the tree holds the root alone.
@@ -186,10 +169,21 @@ fn ended_and_unknown_transactions(rt: HostRuntime) -> Result<(), Fail> {
     Ok(())
 }
 
+/// A core that is swept before each request.
+#[derive(Drop)]
+struct SweptCore(Core);
+
+impl Answers for SweptCore {
+    fn answer_to(&mut self, request: Request) -> Answer {
+        let _ = self.0.sweep();
+        self.0.answer(request)
+    }
+}
+
 /// Carries a script out on a new core with a sweep before each line, and says whether the tree holds the root alone then.
 fn sweeps_to_nothing(alloc: Global, script: &[(Line, Wanted)]) -> Result<bool, Fail> {
-    let mut core = Core::new(alloc)?;
-    Ok(plays_swept(alloc, &mut core, script)? && is_bare(&core)?)
+    let mut swept = SweptCore(Core::new(alloc)?);
+    Ok(plays(alloc, &mut swept, script)? && is_bare(&swept.0)?)
 }
 
 #[test]

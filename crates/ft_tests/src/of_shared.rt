@@ -1,6 +1,6 @@
 // Rows worked by hand, request by request through the lock; who waits for whom; threads that wait, and let others go on; what is
 // handed back.
-use crate::scripts::{Line, Wanted, is_answer, request};
+use crate::scripts::{Answers, Line, Wanted, plays};
 use ft_calls::Call;
 use ft_core::{Answer, Core, Fault, Outcome, Request, TxnId};
 use ft_path::FilePath;
@@ -32,23 +32,20 @@ fn answer<R: Wait>(rt: &R, shared: &Shared, request: Request) -> Result<Answer, 
     }
 }
 
-/// Carries a script out, and says whether each line is answered as it says.
-fn plays<R: Wait>(
-    rt: &R,
-    alloc: Global,
-    shared: &Shared,
-    script: &[(Line, Wanted)],
-) -> Result<bool, Fail> {
-    for (line, wanted) in script {
-        let told = match answer(rt, shared, request(alloc, *line)?) {
-            Ok(told) => told,
+/// A core behind a lock, and what waits for it.
+#[derive(Drop)]
+struct Locked<'a, R> {
+    rt: &'a R,
+    shared: &'a Shared,
+}
+
+impl<'a, R: Wait> Answers for Locked<'a, R> {
+    fn answer_to(&mut self, request: Request) -> Answer {
+        match answer(self.rt, self.shared, request) {
+            Ok(answer) => answer,
             Err(fault) => Answer::Refused(fault),
-        };
-        if !is_answer(&told, *wanted) {
-            return Ok(false);
         }
     }
-    Ok(true)
 }
 
 /// A new core behind a lock.
@@ -62,7 +59,11 @@ fn new_shared(alloc: Global) -> Result<Shared, Fault> {
 /// Carries a script out on a new core.
 fn plays_anew<R: Wait>(rt: &R, alloc: Global, script: &[(Line, Wanted)]) -> Result<bool, Fail> {
     let shared = new_shared(alloc)?;
-    plays(rt, alloc, &shared, script)
+    let mut locked = Locked {
+        rt,
+        shared: &shared,
+    };
+    plays(alloc, &mut locked, script)
 }
 
 fn hands_locks_up<R: Wait>(rt: &R, alloc: Global) -> Result<bool, Fail> {
@@ -156,7 +157,11 @@ fn waits_in_circle<R: Wait>(rt: &R, alloc: Global) -> Result<bool, Fail> {
         (Line::List(2, b"/a".as_slice()), Wanted::Waits(1)),
     ];
     let shared = new_shared(alloc)?;
-    Ok(plays(rt, alloc, &shared, &script)? && tells_deadlock(rt, &shared)?)
+    let mut locked = Locked {
+        rt,
+        shared: &shared,
+    };
+    Ok(plays(alloc, &mut locked, &script)? && tells_deadlock(rt, &shared)?)
 }
 
 #[test]

@@ -1,4 +1,4 @@
-// A small language of scripts, for tests: requests and the answers that they are to get.
+// A small language of scripts, for tests: requests and the answers that they are to get, from whoever answers them.
 use ft_calls::{Call, Reply};
 use ft_core::{Answer, Fault, Request, TxnId};
 use ft_path::{Errno, FilePath, Name};
@@ -111,7 +111,7 @@ fn descriptor_call(alloc: Global, line: Line) -> Result<(u64, Call), Fail> {
 }
 
 /// The request of a line.
-pub(crate) fn request(alloc: Global, line: Line) -> Result<Request, Fail> {
+fn request(alloc: Global, line: Line) -> Result<Request, Fail> {
     match line {
         Line::Begin => Ok(Request::Begin),
         Line::Sub(txn) => Ok(Request::Sub(TxnId(txn))),
@@ -160,7 +160,7 @@ fn is_reply(stamp: u64, reply: &Reply, wanted: Wanted) -> bool {
 }
 
 /// Whether an answer is the one that is wanted.
-pub(crate) fn is_answer(answer: &Answer, wanted: Wanted) -> bool {
+fn is_answer(answer: &Answer, wanted: Wanted) -> bool {
     match (answer, wanted) {
         (Answer::Txn(txn), Wanted::Txn(wanted)) => txn.0 == wanted,
         (Answer::Granted { stamp, reply }, wanted) => is_reply(*stamp, reply, wanted),
@@ -174,4 +174,24 @@ pub(crate) fn is_answer(answer: &Answer, wanted: Wanted) -> bool {
         (Answer::Refused(fault), Wanted::Refused(wanted)) => *fault == wanted,
         _ => false,
     }
+}
+
+/// What answers requests.
+pub(crate) trait Answers {
+    fn answer_to(&mut self, request: Request) -> Answer;
+}
+
+/// Carries a script out, one request for each line, and says whether each is answered as it says.
+pub(crate) fn plays<A: Answers>(
+    alloc: Global,
+    answers: &mut A,
+    script: &[(Line, Wanted)],
+) -> Result<bool, Fail> {
+    for (line, wanted) in script {
+        let answer = answers.answer_to(request(alloc, *line)?);
+        if !is_answer(&answer, *wanted) {
+            return Ok(false);
+        }
+    }
+    Ok(true)
 }

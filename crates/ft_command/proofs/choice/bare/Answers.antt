@@ -1,6 +1,6 @@
-use Rattle.std.proofs.Common.{true, ap, codes, ◌∙◌}
+use Rattle.std.proofs.Common.{true, ap, ◌∙◌}
 use Rattle.clap.specs.Simple.{app_of_fields}
-use Rattle.clap.specs.Words.{App, new_app}
+use Rattle.clap.specs.Words.{App}
 use Rattle.ft_command.proofs.choice.bare.Goals as goal
 
 pub returns : goal.returns

@@ -1,6 +1,3 @@
-use Rattle.std.proofs.Common.{sym, subst}
-use Rattle.ft_cells.specs.Cells.{Cells}
-use Rattle.ft_tree.specs.Sound.{AreSoundCells, IsFree}
 use Rattle.ft_part_tests.proofs.of_undo.make_and_take_back.Goals as goal
 
 -- right after the call its cells are as it left them

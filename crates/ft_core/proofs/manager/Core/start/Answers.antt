@@ -1,5 +1,4 @@
-use Rattle.std.proofs.Common.{◌+◌, sym, ap, subst, ◌∙◌}
-use Rattle.ft_forest.specs.Transactions.{last_in}
+use Rattle.std.proofs.Common.{◌+◌, ap, subst, ◌∙◌}
 use Rattle.ft_core.specs.declared.fault.Fault.TheVariants.{Memory as MemoryFault}
 use Rattle.ft_core.specs.Faults.{fault_from}
 use Rattle.ft_core.specs.Journals.{state_of, with_begin}
