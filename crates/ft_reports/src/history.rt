@@ -6,7 +6,7 @@ ghost use Rattle.ft_history.specs.History.{parent, is_committed};
 ghost use Rattle.ft_history.specs.History.Fate.{Committed as WasCommitted, Aborted as WasAborted};
 ghost use Rattle.ft_core.specs.Histories.{told};
 ghost use Rattle.ft_core.specs.States.{fate_of};
-ghost use Rattle.ft_reports.specs.Reports.{calls_of, stamps_rise};
+ghost use Rattle.ft_reports.specs.Reports.{calls_of, stamps_rise, HasAtMostDropped};
 ghost use Rattle.ft_reports.specs.Reading.{granted_by, parent_after, is_commit_of};
 
 use crate::report::CallReport;
@@ -118,10 +118,11 @@ fn is_commit_of(event: &Event, txn: TxnId) -> bool
 
 /// Whether a transaction has ended, committed or aborted as it says here. Where it has, nothing changes: one that has ended
 /// is refused whatever it asks for, and here it asks to forget what it waits for.
-#[tactic(auto, using(crate::proofs::Ending::ended_is, crate::proofs::Ending::fate_is))]
+#[tactic(auto, using(crate::proofs::Ending::ended_is, crate::proofs::Ending::fate_is, crate::proofs::Ending::at_most_dropped))]
 pub fn has_ended(core: &mut Core, txn: TxnId, committed: bool) -> bool
     ensures same { IsTrue result → core.new ≡ core.old }
     ensures fate { IsTrue result ↔ (fate_of core.old txn ≡ Some (cond committed WasCommitted WasAborted)) }
+    ensures left { HasAtMostDropped core.old core.new }
 {
     if has_committed(core.history(), txn) != committed {
         return false;
