@@ -1,5 +1,5 @@
 -- A map from numbers whose values stand in a list, each at its number.
-use Rattle.std.specs.Prelude.{ℕ, suc, List, [], ◌∷◌, Option, Some, None}
+use Rattle.std.specs.Prelude.{ℕ, suc, List, [], ◌∷◌, ◌++◌, replicate, Option, Some, None}
 use Rattle.std.specs.Ordering.{nat_cmp}
 use Rattle.std.specs.FinMap as finite
 
@@ -12,3 +12,7 @@ module _ {V : Type 0} where
 
   abbrev pub dense : List (Option V) → finite.FinMap nat_cmp V
   dense places = finite.from_entries (numbered 0 places)
+
+  -- behind the place of 0 there are places that nobody has, of the numbers that are skipped
+  abbrev pub spread : Option V → ℕ → List (Option V) → List (Option V)
+  spread zero skipped places = zero ∷ (replicate skipped None ++ places)

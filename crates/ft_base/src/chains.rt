@@ -18,7 +18,7 @@ use std::marker::Model;
 /// A value moves from the front of one list to that of another, and a whole list in front of another,
 /// without memory. Each call takes the same time, however many owners are open and however long their
 /// lists are. All values stand in one slab, whose places are used again. Owners are numbered one after
-/// another: there is a place for each number up to the greatest that was ever opened.
+/// another: there is a place for 0, and for each number from the first that was opened to the greatest.
 #[derive(Drop)]
 pub struct Chains<T> {
     nodes: Slab<Node<T>>,
