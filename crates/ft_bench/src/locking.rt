@@ -2,6 +2,7 @@
 use crate::failed::{Failed, check};
 use crate::paths::path;
 use ft_calls::{Access, Mode};
+use ft_core::Rule;
 use ft_forest::{Forest, TxnId};
 use ft_locks::Locks;
 use ft_path::FilePath;
@@ -77,7 +78,9 @@ impl Table {
 
     /// Asks who is in the way, and grants what is asked for where nobody is.
     fn ask(&mut self, txn: TxnId, accesses: &[Access]) -> Result<bool, Failed> {
-        let blockers = self.locks.blockers(&self.forest, txn, accesses)?;
+        let blockers = self
+            .locks
+            .blockers(&self.forest, txn, accesses, Rule::Profile)?;
         let is_granted = blockers.is_empty();
         if is_granted {
             self.grant(txn, accesses)?;

@@ -8,6 +8,8 @@ use Rattle.clap.specs.declared.builder.command.Command.TheViews.{out-Command}
 use Rattle.clap.specs.declared.builder.value_parser.ValueParser.TheVariants.{Unsigned}
 use Rattle.clap.specs.declared.error.kind.ErrorKind.{ErrorKind}
 use Rattle.clap.specs.declared.error.kind.ErrorKind.TheVariants.{DisplayHelp, OutOfMemory}
+use Rattle.ft_moss.specs.declared.rule.Rule.{Rule as LockRule}
+use Rattle.ft_moss.specs.Rules.{is_strict}
 use Rattle.ft_command.specs.declared.choice.Choice.{Choice}
 use Rattle.ft_command.specs.declared.choice.Choice.TheVariants.{Play, Dot, Jobs, Help, Usage, Fault}
 
@@ -23,8 +25,15 @@ turns_rule = record (new_rule (codes "turns")) { long = Some (codes "turns"); va
 abbrev pub quiet_rule : Rule
 quiet_rule = record (new_rule (codes "quiet")) { long = Some (codes "quiet"); action = Some SetTrue }
 
+-- `--moss`, where a lock that an ancestor holds is in the way too
+abbrev pub moss_rule : Rule
+moss_rule = record (new_rule (codes "moss")) { long = Some (codes "moss"); action = Some SetTrue }
+
+abbrev pub play : App
+play = with_rule (new_app (codes "play")) moss_rule
+
 abbrev pub jobs : App
-jobs = with_rule (with_rule (with_rule (new_app (codes "jobs")) file_rule) turns_rule) quiet_rule
+jobs = with_rule (with_rule (with_rule (with_rule (new_app (codes "jobs")) file_rule) turns_rule) quiet_rule) moss_rule
 
 -- no argument of the command is one of its subcommands too
 abbrev pub HasNoGlobals : Command → Type 0
@@ -38,7 +47,7 @@ bare =
 
 -- it has `play` and `dot`
 abbrev pub with_filters : App
-with_filters = with_subcommand (with_subcommand bare (new_app (codes "play")).top) (new_app (codes "dot")).top
+with_filters = with_subcommand (with_subcommand bare play.top) (new_app (codes "dot")).top
 
 -- and `jobs`
 abbrev pub program : App
@@ -64,20 +73,24 @@ TellsJobs found file turns quiet =
     × (1 ≤ turns)
     × IsFlag (one_of (codes "quiet") found) quiet
 
+-- the rule by which calls are granted
+abbrev pub TellsRule : List Row → LockRule → Type 0
+TellsRule found rule = IsFlag (one_of (codes "moss") found) (is_strict rule)
+
 -- the choice where the words name this subcommand
 abbrev pub ReadChoice : Met → Choice → Type 0
-ReadChoice met Play = Names (codes "play") met
+ReadChoice met (Play rule) = (found : List Row) × (met ≡ Some (codes "play", found)) × TellsRule found rule
 ReadChoice met Dot = Names (codes "dot") met
-ReadChoice met (Jobs file turns quiet) = (found : List Row) × (met ≡ Some (codes "jobs", found)) × TellsJobs found (string_bytes file) turns quiet
+ReadChoice met (Jobs file turns quiet rule) = (found : List Row) × (met ≡ Some (codes "jobs", found)) × TellsJobs found (string_bytes file) turns quiet × TellsRule found rule
 ReadChoice met (Help text) = ⊥
 ReadChoice met (Usage text) = ⊥
 ReadChoice met Fault = Unit {0}
 
 -- the choice where the words have an error of this kind
 abbrev pub ErrorChoice : ErrorKind → Choice → Type 0
-ErrorChoice kind Play = ⊥
+ErrorChoice kind (Play rule) = ⊥
 ErrorChoice kind Dot = ⊥
-ErrorChoice kind (Jobs file turns quiet) = ⊥
+ErrorChoice kind (Jobs file turns quiet rule) = ⊥
 ErrorChoice kind (Help text) = kind ≡ DisplayHelp
 ErrorChoice kind (Usage text) = (kind ≢ DisplayHelp) × (kind ≢ OutOfMemory)
 ErrorChoice kind Fault = Unit {0}
@@ -88,9 +101,9 @@ IsCommand words choice = (fault_of program words ≡ []) × ReadChoice (subcomma
 
 -- the choice that words ask for
 abbrev pub ChoiceOf : List Text → Choice → Type 0
-ChoiceOf words Play = IsCommand words Play
+ChoiceOf words (Play rule) = IsCommand words (Play rule)
 ChoiceOf words Dot = IsCommand words Dot
-ChoiceOf words (Jobs file turns quiet) = IsCommand words (Jobs file turns quiet)
+ChoiceOf words (Jobs file turns quiet rule) = IsCommand words (Jobs file turns quiet rule)
 ChoiceOf words (Help text) = IsAmong DisplayHelp (fault_of program words)
 ChoiceOf words (Usage text) = (kind : ErrorKind) × IsAmong kind (fault_of program words) × (kind ≢ DisplayHelp)
 ChoiceOf words Fault = Unit {0}

@@ -1,27 +1,31 @@
 // What a command line asks for.
 ghost use Rattle.std.specs.Prelude.{◌≡◌, IfOk, IfSome, codes, false, map, string_bytes};
 ghost use Rattle.clap.specs.Words.{app_of, found_of, kind_of, new_app, rows_of, rule_of, subcommand_rows_of};
-ghost use Rattle.ft_command.specs.CommandLine.{ChoiceOf, ErrorChoice, HasNoGlobals, ReadChoice, TellsJobs, bare, file_rule, jobs, program, quiet_rule, turns_rule, with_filters};
+ghost use Rattle.ft_command.specs.CommandLine.{ChoiceOf, ErrorChoice, HasNoGlobals, ReadChoice, TellsJobs, TellsRule, bare, file_rule, jobs, moss_rule, play, program, quiet_rule, turns_rule, with_filters};
 
 use clap::builder::ValueParser;
 use clap::error::ErrorKind;
 use clap::{Arg, ArgAction, ArgMatches, Command, Error};
+use ft_moss::Rule;
 use std::alloc::{AllocError, Global};
 use std::convert::AsStr;
 
 /// What the program is to do.
 #[derive(Debug, Drop)]
 pub enum Choice {
-    /// Run a script.
-    Play,
+    /// Run a script on a core that grants calls by this rule.
+    Play {
+        rule: Rule,
+    },
     /// Draw the last report on who waits for whom.
     Dot,
     /// Run the jobs of the plan in a file. A call of theirs asks at most so many times, at least once. How far they have come
-    /// is not shown where it is to be quiet.
+    /// is not shown where it is to be quiet. Their core grants calls by this rule.
     Jobs {
         file: String,
         turns: u64,
         quiet: bool,
+        rule: Rule,
     },
     /// Print this help to the standard output, and end with status 0.
     Help(String),
@@ -58,17 +62,38 @@ pub fn choose<'a, S: AsStr>(alloc: Global, words: &'a [S]) -> Choice
 fn choice_of(alloc: Global, matches: &ArgMatches) -> Choice
     ensures { ReadChoice (subcommand_rows_of matches.now) result }
 {
-    match matches.subcommand_name() {
-        Some("play") => return Choice::Play,
-        Some("dot") => return Choice::Dot,
-        _ => {}
+    if let Some(found) = matches.subcommand_matches("play") {
+        let rule = asked_rule(found);
+        return Choice::Play { rule };
+    }
+    if let Some("dot") = matches.subcommand_name() {
+        return Choice::Dot;
     }
     let Some(found) = matches.subcommand_matches("jobs") else {
         return Choice::Fault;
     };
     match asked_of_jobs(alloc, found) {
-        Some((file, turns, quiet)) => Choice::Jobs { file, turns, quiet },
+        Some((file, turns, quiet)) => {
+            let rule = asked_rule(found);
+            Choice::Jobs {
+                file,
+                turns,
+                quiet,
+                rule,
+            }
+        }
         None => Choice::Fault,
+    }
+}
+
+// The rule by which calls are to be granted.
+fn asked_rule(found: &ArgMatches) -> Rule
+    ensures { TellsRule (rows_of (found_of found.now)) result }
+{
+    if found.get_flag("moss") {
+        Rule::Moss
+    } else {
+        Rule::Profile
     }
 }
 
@@ -98,9 +123,8 @@ fn program<'a>(alloc: Global) -> Result<Command<'a>, AllocError>
 fn with_filters<'a>(alloc: Global) -> Result<Command<'a>, AllocError>
     ensures { IfOk result (λ command. app_of command ≡ with_filters) }
 {
-    bare(alloc)
-        .subcommand(play_command(alloc))?
-        .subcommand(dot_command(alloc))
+    let play = play_command(alloc)?;
+    bare(alloc).subcommand(play)?.subcommand(dot_command(alloc))
 }
 
 // The command line without its subcommands.
@@ -115,11 +139,13 @@ fn bare<'a>(alloc: Global) -> Command<'a>
 }
 
 // The part of it that runs a script.
-fn play_command<'a>(alloc: Global) -> Command<'a>
-    ensures app { app_of result ≡ new_app (codes "play") }
-    ensures local { HasNoGlobals result }
+fn play_command<'a>(alloc: Global) -> Result<Command<'a>, AllocError>
+    ensures app { IfOk result (λ command. app_of command ≡ play) }
+    ensures local { IfOk result HasNoGlobals }
 {
-    Command::new(alloc, "play").about("Runs a script from standard input to standard output")
+    Command::new(alloc, "play")
+        .about("Runs a script from standard input to standard output")
+        .arg(moss_arg(alloc))
 }
 
 // The part of it that draws who waits for whom.
@@ -141,7 +167,8 @@ fn jobs_command<'a>(alloc: Global) -> Result<Command<'a>, AllocError>
         .about("Runs the jobs of a plan in threads, and prints what they came to")
         .arg(file_arg(alloc))?
         .arg(turns_arg(alloc))?
-        .arg(quiet_arg(alloc))
+        .arg(quiet_arg(alloc))?
+        .arg(moss_arg(alloc))
 }
 
 // The plan of it.
@@ -177,6 +204,17 @@ fn quiet_arg<'a>(alloc: Global) -> Arg<'a>
         .long("quiet")
         .action(ArgAction::SetTrue)
         .help("Don't show on a terminal how far the jobs have come")
+}
+
+// The flag that asks for Moss's rule for holders.
+fn moss_arg<'a>(alloc: Global) -> Arg<'a>
+    ensures rule { rule_of result ≡ moss_rule }
+    ensures local { result.global ≡ false }
+{
+    Arg::new(alloc, "moss")
+        .long("moss")
+        .action(ArgAction::SetTrue)
+        .help("Let a lock that a parent holds be in its children's way too")
 }
 
 // The choice where the words could not be read.

@@ -1,6 +1,6 @@
 -- An abort on its way: each live transaction at or below it is taken back and ended, before its parent.
 use Rattle.std.proofs.Common.{◌≡◌, ◌≢◌, ◌<◌, ◌≤◌, ◌+◌, ◌==◌, ◌&&◌, ◌||◌, ℕ, Bool, true, false, not, cond, List, [], ◌∷◌, Option, Some, None, is_some, inl, inr, length, arith, refl, sym, ap, subst, ◌∙◌, eq-eqb, ne_eqb}
-use Rattle.std.proofs.lemmas.Bool.{false≢true}
+use Rattle.std.proofs.lemmas.Bool.{false≢true, and_parts}
 use Rattle.std.specs.Ordering.{nat_cmp}
 use Rattle.std.specs.Cmp.{nat_cmp_total}
 use Rattle.std.specs.declared.cmp.Ordering.TheVariants.{Equal}
@@ -18,8 +18,9 @@ use Rattle.ft_undo.specs.Logs.{is_open, AreLists, AreOpen}
 use Rattle.ft_forest.specs.declared.state.State.{State as Life}
 use Rattle.ft_forest.specs.declared.state.State.TheVariants.{Live as LiveState, Committed as CommittedState, Aborted as AbortedState}
 use Rattle.ft_forest.specs.Transactions.{Transactions, parent_in, state_in, over_in, last_in, is_live as is_live_in, HasEnded, HasAborted, IsAborting}
-use Rattle.ft_moss.specs.Locks.{LockTable, is_locked, is_let_go, is_opened, AreReleased}
+use Rattle.ft_moss.specs.Locks.{LockTable, has_lock, is_locked, is_let_go, is_opened, AreReleased}
 use Rattle.ft_moss.specs.Law.{AreDropped}
+use Rattle.ft_moss.specs.Rules.{is_strict}
 use Rattle.ft_history.specs.Forest.{above}
 use Rattle.ft_history.specs.History.{Base as HistoryBase, Fate, fate, is_live, IsLive, parent, over, grants, standing, is_standing, newest_below}
 use Rattle.ft_history.specs.History.Fate.{Aborted}
@@ -309,6 +310,9 @@ module _ (W : CallLaws) (K : LockLaws) (base : Base) (h : History) (asks : Asks)
           fates = fates-are;
         };
         locks = K.abort from (values W base h last_txn last_number cells₀ core.log core.kept) h table₀ core.locks t way.gone table legal (λ y now. way.gone_is y now ∙ dead y) way.dropped;
+        no_holder = λ strict.
+            K.holders.fewer table₀ table (λ l e. (and_parts (not (way.gone l.owner)) (has_lock table₀ l) (sym (way.dropped l) ∙ e)).1) forest₀ forest done.parents
+            (core.no_holder (sym (ap is_strict (ap (λ (q : Journaled). q.rule) told ∙ ap (λ (q : Journaled). q.rule) way.journal)) ∙ strict));
         logs = way.logs;
         ready = λ x now.
             let state = now-live x now in

@@ -17,13 +17,13 @@ use Rattle.ft_history.proofs.Words.{by_list}
 use Rattle.ft_core.specs.declared.fault.Fault.TheVariants.{ChildLive}
 use Rattle.ft_core.specs.declared.request.Request.TheVariants.{Undo as UndoRequest, Abort as AbortRequest}
 use Rattle.ft_core.specs.declared.request.Answer.{Answer}
-use Rattle.ft_core.specs.declared.request.Answer.TheVariants.{Txn, Granted as GrantedAnswer, Waits, Dropped, Committed, Aborted, Undone, Refused}
+use Rattle.ft_core.specs.declared.request.Answer.TheVariants.{Txn, Granted as GrantedAnswer, Waits, Dropped, Committed, Aborted, Undone, Cleared, Refused}
 use Rattle.ft_core.specs.declared.request.Event.{Event}
 use Rattle.ft_core.specs.declared.request.Event.TheVariants.{Begin, Call as CallEvent, Undo, Abort}
 use Rattle.ft_core.specs.Histories.{History, Granted, granted, as_happening, told, told_after}
 use Rattle.ft_core.specs.States.{State, history, fate_of, has_live_child, tree_of, next_stamp, reply_of, accesses_now, after_grant, after_undo, after_abort, count_standing}
 use Rattle.ft_core.specs.Promises.{IsJustMade, RanAlone}
-use Rattle.ft_core.specs.Steps.{Rule, IsStep, IsAnswered, IsUndone, fault_if, fault_of_fate, fault_of_target}
+use Rattle.ft_core.specs.Steps.{BlockingRule, IsStep, IsAnswered, IsUndone, fault_if, fault_of_fate, fault_of_target}
 use Rattle.ft_core.specs.Kept.{Item, IsKept}
 use Rattle.ft_core.specs.Laws.{CallLaws}
 use Rattle.ft_core.proofs.Told.{told-push, told_after-append}
@@ -70,7 +70,7 @@ module _ (W : CallLaws) where
         tree = ap (λ g. tree_after before.base.tree (standing posix_calls g)) (told-push s.events (Undo k) ∙ ap (λ g. WasUndone k ∷ g) past) ∙ ap (tree_after before.base.tree) made.1.standing;
       }
 
-  pub step-last : (rule : Rule) (before s s' : State) (t : ℕ) (call : Call) (a : Answer) (cells : Cells) (log : ℕ → List Item) → KeptIn s cells log → IsJustMade before s t call → IsStep rule s (UndoRequest t) a s'
+  pub step-last : (rule : BlockingRule) (before s s' : State) (t : ℕ) (call : Call) (a : Answer) (cells : Cells) (log : ℕ → List Item) → KeptIn s cells log → IsJustMade before s t call → IsStep rule s (UndoRequest t) a s'
       → (a ≡ Undone (next_stamp before)) × (tree_of s' ≡ tree_of before)
   step-last rule before s s' t call a cells log kept just step =
       let none : has_live_child (after_grant before t call) t ≡ false = ap (λ q. has_live_child q t) (sym just.made) ∙ just.alone in
@@ -98,6 +98,7 @@ module _ (W : CallLaws) where
       undone Dropped h = absurd h
       undone Committed h = absurd h
       undone (Aborted n) h = absurd h
+      undone Cleared h = absurd h
 
   -- The abort of a transaction that ran alone gives back the tree of its begin.
   aborts-alone : (before s : State) (t : ℕ) (cells : Cells) (log : ℕ → List Item) → KeptIn s cells log → RanAlone before s t → tree_of (after_abort s t) ≡ tree_of before
@@ -109,7 +110,7 @@ module _ (W : CallLaws) where
       (record { live = alone.live; up = alone.up; later = told alone.later; split = split; within = alone.within }) in
       (λ i. tree_after s.base.tree (standing posix_calls (told-push s.events (Abort t) i))) ∙ (λ i. tree_after (alone.base i).tree (same.standing i))
 
-  pub step-alone : (rule : Rule) (before s s' : State) (t : ℕ) (a : Answer) (cells : Cells) (log : ℕ → List Item) → KeptIn s cells log → RanAlone before s t → IsStep rule s (AbortRequest t) a s'
+  pub step-alone : (rule : BlockingRule) (before s s' : State) (t : ℕ) (a : Answer) (cells : Cells) (log : ℕ → List Item) → KeptIn s cells log → RanAlone before s t → IsStep rule s (AbortRequest t) a s'
       → (a ≡ Aborted (count_standing s t)) × (tree_of s' ≡ tree_of before)
   step-alone rule before s s' t a cells log kept alone step =
       let answered : IsAnswered rule s (AbortRequest t) a s' = subst (λ (o : Option Fate). MatchOption (fault_of_fate o None) (IsAnswered rule s (AbortRequest t) a s') (λ fault. (a ≡ Refused fault) × (s' ≡ s))) alone.live step in
@@ -124,3 +125,4 @@ module _ (W : CallLaws) where
       aborted Dropped h = absurd h
       aborted Committed h = absurd h
       aborted (Undone k) h = absurd h
+      aborted Cleared h = absurd h

@@ -1,5 +1,5 @@
 -- Asking for a call.
-use Rattle.std.proofs.Common.{◌≡◌, ◌-◌, ◌||◌, ℕ, List, [], Some, nat_le, cond, ◌==◌, eqb-true, length, arith, refl, sym, ap, subst, ◌∙◌}
+use Rattle.std.proofs.Common.{◌≡◌, ◌-◌, ◌||◌, ℕ, List, [], Some, nat_le, cond, ◌==◌, eqb-true, length, map, arith, refl, sym, ap, subst, ◌∙◌}
 use Rattle.std.specs.FinMap as finite
 use Rattle.std.specs.Cmp.{nat_cmp_total, unsigned_tied}
 use Rattle.ft_laws.proofs.Tests.{by_test}
@@ -10,7 +10,7 @@ use Rattle.ft_posix.specs.declared.call.Reply.{Reply}
 use Rattle.ft_posix.specs.declared.call.Access.{Access}
 use Rattle.ft_posix.specs.Accesses.{accesses_of}
 use Rattle.ft_posix.specs.Stored.{outcome}
-use Rattle.ft_posix.specs.Posix.{posix_calls}
+use Rattle.ft_posix.specs.Posix.{as_place, posix_calls}
 use Rattle.ft_undo.specs.declared.logs.Logged.{Logged}
 use Rattle.ft_forest.specs.declared.TheConstants.{LAST_NUMBER}
 use Rattle.ft_forest.specs.Transactions.{Transactions}
@@ -49,9 +49,9 @@ module _ (W : CallLaws) (K : LockLaws) (cells : Cells) (forest : Transactions) (
   touched-now call = accesses-are W s.base (history s) s.last_txn s.last_stamp cells core.log core.kept (next_stamp s) call
 
   -- who is in the way by the table is so by the rule
-  pub blocked : (t : ℕ) (call : Call) (accesses : List Access) (ys : List ℕ) → accesses ≡ accesses_of cells (next_stamp s) call → AreBlockers table forest t accesses ys → ys ≡ exact_rule s t (accesses_now s call)
+  pub blocked : (t : ℕ) (call : Call) (accesses : List Access) (ys : List ℕ) → accesses ≡ accesses_of cells (next_stamp s) call → AreBlockers s.rule table forest t accesses ys → ys ≡ exact_rule s t (accesses_now s call)
   blocked t call accesses ys touched are =
-      K.block (start W s.base (history s) s.last_txn s.last_stamp cells core.log core.kept) (values W s.base (history s) s.last_txn s.last_stamp cells core.log core.kept) (history s) table core.locks core.kept.core.legal forest core.transactions.parents t accesses ys are
+      K.block (start W s.base (history s) s.last_txn s.last_stamp cells core.log core.kept) (values W s.base (history s) s.last_txn s.last_stamp cells core.log core.kept) (history s) table core.locks core.kept.core.legal forest core.transactions.parents s.rule t accesses ys are
       ∙ ap (exact_rule s t) (touched ∙ touched-now call)
 
   -- nothing has changed but places
@@ -69,7 +69,7 @@ module _ (W : CallLaws) (K : LockLaws) (cells : Cells) (forest : Transactions) (
     pub kept : IsCoreOf (state_of forest j') cells' forest table' lists' j'
 
   -- a call is granted and made
-  pub core-called : (t : ℕ) (call : Call) (reply : Reply) (accesses : List Access) → fate_of s t ≡ Some Live → accesses ≡ accesses_of cells (next_stamp s) call → reply ≡ (outcome cells (next_stamp s) call).reply → AreBlockers table forest t accesses []
+  pub core-called : (t : ℕ) (call : Call) (reply : Reply) (accesses : List Access) → fate_of s t ≡ Some Live → accesses ≡ accesses_of cells (next_stamp s) call → reply ≡ (outcome cells (next_stamp s) call).reply → AreBlockers s.rule table forest t accesses []
       → (cells' : Cells) (table' : LockTable) (lists' : Lists Logged) → IsMadeOn cells cells' (outcome cells (next_stamp s) call).writes table table' lists lists' t (next_stamp s) accesses
       → (j' : Journaled) (room : ℕ) → j' ≡ with_call (record j { room = room }) t call reply accesses → IsGranted t call reply cells' table' lists' j'
   core-called t call reply accesses live touched answered are cells' table' lists' made j' room is =
@@ -79,8 +79,8 @@ module _ (W : CallLaws) (K : LockLaws) (cells : Cells) (forest : Transactions) (
       let state : state_of forest j' ≡ after_grant s t call = ap (state_of forest) is ∙ (λ i. after_call s t call (told i) (seen i)) in
       let q : Journaled = with_call (record j { room = room }) t call reply accesses in
       let at = core-granted W K s.base (history s) s.asks s.last_txn s.last_stamp cells forest table lists j core t call reply accesses (next_stamp s) refl live touched answered
-      (ap (exact_rule s t) seen ∙ none) cells' table' lists' made (finite.remove s.asks t)
-      (dropped s.base (history s) s.asks s.last_txn s.last_stamp cells forest table lists j core t) q refl refl in
+      (K.foreign (start W s.base (history s) s.last_txn s.last_stamp cells core.log core.kept) (values W s.base (history s) s.last_txn s.last_stamp cells core.log core.kept) (history s) core.kept.core.legal s.rule t (map as_place accesses) (ap (exact_rule s t) seen ∙ none)) cells' table' lists' made (finite.remove s.asks t)
+      (dropped s.base (history s) s.asks s.last_txn s.last_stamp cells forest table lists j core t) are q refl refl refl in
       let whole : IsCoreOf (state_of forest q) cells' forest table' lists' q =
       subst (λ h. IsCoreAt s.base h (finite.remove s.asks t) s.last_txn (next_stamp s) cells' forest table' lists' q) (sym (told-push s.events (CallEvent (next_stamp s) t call reply accesses))) at in
       record {
@@ -89,11 +89,11 @@ module _ (W : CallLaws) (K : LockLaws) (cells : Cells) (forest : Transactions) (
       }
 
   -- a call that was tried and made is granted
-  pub core-made : (t : ℕ) (call : Call) → fate_of s t ≡ Some Live → (stamp : ℕ) → stamp ≡ next_stamp s → (cells' : Cells) (table' : LockTable) (lists' : Lists Logged) (made : Made) → IsMade cells cells' table table' lists lists' forest t stamp call made
+  pub core-made : (t : ℕ) (call : Call) → fate_of s t ≡ Some Live → (stamp : ℕ) → stamp ≡ next_stamp s → (cells' : Cells) (table' : LockTable) (lists' : Lists Logged) (made : Made) → IsMade s.rule cells cells' table table' lists lists' forest t stamp call made
       → (j1 j' : Journaled) → j1 ≡ record j { room = j1.room } → j' ≡ with_call j1 t call made.kept made.accesses.items → IsGranted t call made.kept cells' table' lists' j'
   core-made t call live stamp next cells' table' lists' made is j1 j' reserved told =
       core-called t call made.kept made.accesses.items live (is.accesses ∙ ap (λ n. accesses_of cells n call) next) (is.reply ∙ ap (λ n. (outcome cells n call).reply) next)
-      (subst (λ xs. AreBlockers table forest t xs []) (sym is.accesses) is.free) cells' table' lists'
+      (subst (λ xs. AreBlockers s.rule table forest t xs []) (sym is.accesses) is.free) cells' table' lists'
       (subst (λ n. IsMadeOn cells cells' (outcome cells n call).writes table table' lists lists' t n made.accesses.items) next
       (subst (IsMadeOn cells cells' (outcome cells stamp call).writes table table' lists lists' t stamp) (sym is.accesses) is.made_on))
       j' j1.room (told ∙ ap (λ (q : Journaled). with_call q t call made.kept made.accesses.items) reserved)
@@ -105,12 +105,12 @@ module _ (W : CallLaws) (K : LockLaws) (cells : Cells) (forest : Transactions) (
       (subst (λ q. IsAsked exact_rule q t call (Granted (next_stamp q) kept) (state_of forest j')) is g.asked)
 
   -- whom a call waits for
-  pub waits-for : (now : State) → s ≡ now → (t : ℕ) (call : Call) (stamp : ℕ) → stamp ≡ next_stamp s → (found : List ℕ) → AreBlockers table forest t (accesses_of cells stamp call) found → found ≡ exact_rule now t (accesses_now now call)
+  pub waits-for : (now : State) → s ≡ now → (t : ℕ) (call : Call) (stamp : ℕ) → stamp ≡ next_stamp s → (found : List ℕ) → AreBlockers s.rule table forest t (accesses_of cells stamp call) found → found ≡ exact_rule now t (accesses_now now call)
   waits-for now is t call stamp next found are =
       blocked t call (accesses_of cells stamp call) found (ap (λ n. accesses_of cells n call) next) are ∙ ap (λ q. exact_rule q t (accesses_now q call)) is
 
   -- a call that was tried and made
-  pub tried-made : (now : State) → s ≡ now → (t : ℕ) (call : Call) → fate_of now t ≡ Some Live → (stamp : ℕ) → stamp ≡ next_stamp s → (cells' : Cells) (table' : LockTable) (lists' : Lists Logged) (made : Made) → IsMade cells cells' table table' lists lists' forest t stamp call made
+  pub tried-made : (now : State) → s ≡ now → (t : ℕ) (call : Call) → fate_of now t ≡ Some Live → (stamp : ℕ) → stamp ≡ next_stamp s → (cells' : Cells) (table' : LockTable) (lists' : Lists Logged) (made : Made) → IsMade s.rule cells cells' table table' lists lists' forest t stamp call made
       → (j1 j' : Journaled) → j1 ≡ record j { room = j1.room } → j' ≡ with_call j1 t call made.kept made.accesses.items → IsCoreOf (state_of forest j') cells' forest table' lists' j' × IsAsked exact_rule now t call (Granted stamp made.reply) (state_of forest j')
   tried-made now is t call live stamp next cells' table' lists' made as_made j1 j' reserved told =
       let g = core-made t call (ap (λ (q : State). fate_of q t) is ∙ live) stamp next cells' table' lists' made as_made j1 j' reserved told in
@@ -119,7 +119,7 @@ module _ (W : CallLaws) (K : LockLaws) (cells : Cells) (forest : Transactions) (
   pub core-waits : (t : ℕ) (call : Call) → fate_of s t ≡ Some Live → (j' : Journaled) → j' ≡ record j { asks = finite.insert j.asks t call } → IsCoreOf (state_of forest j') cells forest table lists j'
   core-waits t call live j' is =
       subst (λ (q : Journaled). IsCoreOf (state_of forest q) cells forest table lists q) (sym is)
-      (core-asks s.base (history s) s.asks s.last_txn s.last_stamp cells forest table lists j core (finite.insert j.asks t call) (awaited s.base (history s) s.asks s.last_txn s.last_stamp cells forest table lists j core t call live) (record j { asks = finite.insert j.asks t call }) refl refl)
+      (core-asks s.base (history s) s.asks s.last_txn s.last_stamp cells forest table lists j core (finite.insert j.asks t call) (awaited s.base (history s) s.asks s.last_txn s.last_stamp cells forest table lists j core t call live) (record j { asks = finite.insert j.asks t call }) refl refl refl)
 
 -- to wait for the call that one waits for changes nothing
 pub waits-again : (s : State) (t : ℕ) (call : Call) → finite.get s.asks t ≡ Some call → after_wait s t call ≡ s

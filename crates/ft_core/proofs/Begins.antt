@@ -14,6 +14,7 @@ use Rattle.ft_forest.specs.declared.state.State.{State as Life}
 use Rattle.ft_forest.specs.declared.state.State.TheVariants.{Live as LiveState}
 use Rattle.ft_forest.specs.Transactions.{Transactions, parent_in, state_in, last_in, HasBegun}
 use Rattle.ft_moss.specs.Locks.{LockTable, has_lock, is_locked, is_let_go, is_opened}
+use Rattle.ft_moss.specs.Rules.{is_strict}
 use Rattle.ft_history.specs.History.{Base as HistoryBase, Fate, fate, is_live, IsLive, last_transaction, last_stamp, begun, parent, is_child, is_undone, grants, number}
 use Rattle.ft_history.specs.History.Fate.{Live, Committed, Aborted}
 use Rattle.ft_history.specs.History.Event.{Begin as WasBegun, Call as WasGranted, Undo as WasUndone, Commit as WasCommitted, Abort as WasAborted}
@@ -112,17 +113,18 @@ module _ (W : CallLaws) (K : LockLaws) (base : Base) (h : History) (asks : Asks)
         (Each-from (λ c. is_owned after c ≡ true → is_owned h c ≡ true) (grants posix_calls h) (λ c i e. sym (same-owned c i) ∙ e)) in
         omega arith
 
-    pub core-begin : (forest' : Transactions) → HasBegun forest forest' up → IsOpenFor j table lists n → (j' : Journaled) → j'.subs ≡ j.subs → j'.spare ≡ j.spare + 1 → IsCoreAt base after asks n last_number cells forest' table lists j'
-    core-begin forest' has open_for j' subs more = record {
+    pub core-begin : (forest' : Transactions) → HasBegun forest forest' up → IsOpenFor j table lists n → (j' : Journaled) → j'.rule ≡ j.rule → j'.subs ≡ j.subs → j'.spare ≡ j.spare + 1 → IsCoreAt base after asks n last_number cells forest' table lists j'
+    core-begin forest' has open_for j' rule subs more = record {
       log = core.log;
       kept = kept-begin W base h last_txn last_number cells core.log core.kept n up next live;
       transactions = record {
         base_is = has.base ∙ core.transactions.base_is;
         last = has.last ∙ number_is;
-        parents = λ x. has.parents x ∙ ap (λ k. put (parent_in forest) k up x) number_is ∙ ap (cond (x == n) up) (core.transactions.parents x);
+        parents = parents;
         fates = λ x. ap fate_in (has.states x) ∙ ap (λ k. fate_in (put (state_in forest) k (Some LiveState) x)) number_is ∙ fate-cond (x == n) (state_in forest x) ∙ ap (cond (x == n) (Some Live)) (core.transactions.fates x) ∙ sym (fates x);
       };
       locks = K.begin from with_values h table core.locks n up legal;
+      no_holder = λ strict. K.holders.begun from with_values h table core.locks n up legal forest forest' core.transactions.parents parents (core.no_holder (sym (ap is_strict rule) ∙ strict));
       logs = core.logs;
       ready = λ t now. by_number t n
           (λ is. record {
@@ -139,6 +141,9 @@ module _ (W : CallLaws) (K : LockLaws) (base : Base) (h : History) (asks : Asks)
         number_is : last_in forest + 1 ≡ n
         number_is = ap (λ k. k + 1) core.transactions.last ∙ sym next
 
+        parents : (x : ℕ) → parent_in forest' x ≡ parent posix_calls after x
+        parents x = has.parents x ∙ ap (λ k. put (parent_in forest) k up x) number_is ∙ ap (cond (x == n) up) (core.transactions.parents x)
+
   -- places for a transaction that is to begin change nothing
   pub core-opened : (table' : LockTable) (lists' : Lists Logged) (j' : Journaled) → AreAsBefore j j' table table' lists lists' (last_txn + 1) → IsCoreAt base h asks last_txn last_number cells forest table' lists' j'
   core-opened table' lists' j' same = record {
@@ -146,6 +151,7 @@ module _ (W : CallLaws) (K : LockLaws) (base : Base) (h : History) (asks : Asks)
     kept = core.kept;
     transactions = core.transactions;
     locks = λ l. ap (λ (q : LockTable). has_lock q l) same.locks ∙ core.locks l;
+    no_holder = λ strict. K.holders.fewer table table' (λ l e. sym (ap (λ (q : LockTable). has_lock q l) same.locks) ∙ e) forest forest (λ x. refl) (core.no_holder (sym (ap (λ (q : Journaled). is_strict q.rule) same.journal) ∙ strict));
     logs = record { logged = λ t. subst (AreLogged (core.log t)) (sym (same.listed t)) (core.logs.logged t); placed = core.logs.placed };
     ready = λ t live.
         let was = core.ready t live in
@@ -173,6 +179,7 @@ live-parent s (Some p) fine q e =
 -- the state after a begin
 pub state-begun : (forest forest' : Transactions) (up : Option ℕ) (j j' : Journaled) (subs : Subs) (room : ℕ) → HasBegun forest forest' up → j' ≡ with_begin (record j { subs = subs; room = room }) (last_in forest + 1) up → state_of forest' j' ≡ after_begin (state_of forest j) up
 state-begun forest forest' up j j' subs room has is = λ i. record {
+  rule = (is i).rule;
   base = record { tree = (is i).base_tree; last_txn = has.base i; last_stamp = (is i).base_stamp };
   events = (is i).events;
   asks = (is i).asks;
@@ -185,7 +192,7 @@ pub core-started : CallLaws → LockLaws → (cells : Cells) (forest forest' : T
 core-started W K cells forest forest' table table' lists lists' j j1 j' up core fine same open_for has is =
     let s : State = state_of forest j in
     let opened = core-opened W K s.base (history s) s.asks s.last_txn s.last_stamp cells forest table lists j core table' lists' j1 same in
-    let begun = core-begin W K s.base (history s) s.asks s.last_txn s.last_stamp cells forest table' lists' j1 opened (last_in forest + 1) up refl (live-parent s up fine) forest' has open_for j' (ap (λ (q : Journaled). q.subs) is) (ap (λ (q : Journaled). q.spare) is) in
+    let begun = core-begin W K s.base (history s) s.asks s.last_txn s.last_stamp cells forest table' lists' j1 opened (last_in forest + 1) up refl (live-parent s up fine) forest' has open_for j' (ap (λ (q : Journaled). q.rule) is) (ap (λ (q : Journaled). q.subs) is) (ap (λ (q : Journaled). q.spare) is) in
     let told : IsCoreOf (after_begin s up) cells forest' table' lists' j' =
     subst (λ h. IsCoreAt s.base h s.asks (last_in forest + 1) s.last_stamp cells forest' table' lists' j') (sym (told-push s.events (Begin (last_in forest + 1) up))) begun in
     subst (λ q. IsCoreOf q cells forest' table' lists' j') (sym (state-begun forest forest' up j j' j1.subs j1.room has (is ∙ ap (λ (q : Journaled). with_begin q (last_in forest + 1) up) same.journal))) told

@@ -12,6 +12,7 @@ use Rattle.ft_undo.specs.declared.logs.Logged.{Logged}
 use Rattle.ft_forest.specs.declared.state.State.TheVariants.{Live as LiveState}
 use Rattle.ft_forest.specs.Transactions.{Transactions, state_in, IsLiveUnder, IsLiveChild, IsYoungestChild}
 use Rattle.ft_moss.specs.Locks.{LockTable}
+use Rattle.ft_moss.specs.Rules.{is_strict}
 use Rattle.ft_history.specs.History.{Base as HistoryBase, fate, is_live, IsLive, parent, live_children, begun, grants, owner_of, is_standing}
 use Rattle.ft_history.specs.Logs.{passing}
 use Rattle.ft_history.proofs.Fates.{children}
@@ -90,6 +91,7 @@ module _ (W : CallLaws) (base : Base) (h : History) (asks : Asks) (last_txn last
       kept = core.kept;
       transactions = core.transactions;
       locks = core.locks;
+      no_holder = λ strict. core.no_holder (sym (ap (λ (q : Journaled). is_strict q.rule) told) ∙ strict);
       logs = core.logs;
       ready = λ t now. absurd (no-live t now);
       waiting = core.waiting;

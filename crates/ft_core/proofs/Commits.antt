@@ -1,6 +1,6 @@
 -- What a commit does to what a core keeps.
-use Rattle.std.proofs.Common.{◌≡◌, ◌≢◌, ◌<◌, ◌==◌, ℕ, true, false, cond, List, [], ◌∷◌, ◌++◌, Option, Some, None, is_some, IsSome, arith, refl, sym, ap, subst, ◌∙◌, ne_eqb, eq-eqb}
-use Rattle.std.proofs.lemmas.Bool.{false≢true}
+use Rattle.std.proofs.Common.{◌≡◌, ◌≢◌, ◌<◌, ◌==◌, ℕ, true, false, not, cond, List, [], ◌∷◌, ◌++◌, Option, Some, None, is_some, IsSome, arith, refl, sym, ap, subst, ◌∙◌, ne_eqb, eq-eqb}
+use Rattle.std.proofs.lemmas.Bool.{false≢true, and_parts}
 use Rattle.std.specs.FinMap as finite
 use Rattle.ft_base.specs.Chains.{Lists, list_in}
 use Rattle.ft_cells.specs.declared.cell.Cell.{Cell}
@@ -11,7 +11,9 @@ use Rattle.ft_undo.specs.Logs.{is_open, AreLists, AreOpen}
 use Rattle.ft_forest.specs.declared.state.State.{State as Life}
 use Rattle.ft_forest.specs.declared.state.State.TheVariants.{Committed as CommittedState}
 use Rattle.ft_forest.specs.Transactions.{Transactions, parent_in, state_in, IsLiveChild, HasEnded}
-use Rattle.ft_moss.specs.Locks.{LockTable, is_opened}
+use Rattle.ft_moss.specs.Locks.{LockTable, has_lock, is_opened}
+use Rattle.ft_moss.specs.Rules.{is_strict}
+use Rattle.ft_moss.specs.Surveys.{HasNoHolderAbove}
 use Rattle.ft_moss.specs.Law.{AreLocksOf}
 use Rattle.ft_moss.specs.Knowing.{is_known}
 use Rattle.ft_history.specs.Forest.{is_some_and}
@@ -106,6 +108,10 @@ module _ (W : CallLaws) (K : LockLaws) (base : Base) (h : History) (asks : Asks)
   locks None is table' h' = K.commit.top from (values W base h last_txn last_number cells core.log core.kept) h table core.locks t table' legal is h'
   locks (Some p) is table' h' = K.commit.under from (values W base h last_txn last_number cells core.log core.kept) h table core.locks t p table' legal is h'
 
+  no_holder : (up : Option ℕ) → parent posix_calls h t ≡ up → (table' : LockTable) → AreHandedUp table table' t up → HasNoHolderAbove table forest → HasNoHolderAbove table' forest
+  no_holder None is table' h' = K.holders.fewer table table' (λ l e. (and_parts (not (l.owner == t)) (has_lock table l) (sym (h'.lines l) ∙ e)).1) forest forest (λ x. refl)
+  no_holder (Some p) is table' h' = K.holders.inherited from (values W base h last_txn last_number cells core.log core.kept) h table core.locks core.kept.core.legal forest core.transactions.parents t p is table' h'
+
   -- who inherits, and who is let go, knows what was known
   knows : (up : Option ℕ) → parent posix_calls h t ≡ up → (table' : LockTable) → AreHandedUp table table' t up → (c : Cell) → is_known table c ≡ true → is_known table' c ≡ true
   knows None is table' h' = K.known.released table table' t h'
@@ -132,6 +138,10 @@ module _ (W : CallLaws) (K : LockLaws) (base : Base) (h : History) (asks : Asks)
           ap (λ o. cond (is_some_and o (λ q. q == x)) (Some (last_stamp posix_calls base.last_stamp h)) (last_sub posix_calls base.last_stamp h x)) is
           ∙ ap (λ b. cond b (Some (last_stamp posix_calls base.last_stamp h)) (last_sub posix_calls base.last_stamp h x)) (eq-eqb p x (sym same))
 
+  rule-noted : (up : Option ℕ) → (noted_up j up).rule ≡ j.rule
+  rule-noted None = refl
+  rule-noted (Some p) = refl
+
   spare-noted : (up : Option ℕ) → (noted_up j up).spare ≡ j.spare
   spare-noted None = refl
   spare-noted (Some p) = refl
@@ -154,6 +164,9 @@ module _ (W : CallLaws) (K : LockLaws) (base : Base) (h : History) (asks : Asks)
           fates = λ x. ap fate_in (has.states x) ∙ fate-put (state_in forest) (fate posix_calls base.last_txn h) t x (core.transactions.fates x) ∙ sym (fates x);
         };
         locks = locks up parent_is table' handed_up;
+        no_holder = λ strict.
+            K.holders.fewer table' table' (λ l e. e) forest forest' has.parents
+            (no_holder up parent_is table' handed_up (core.no_holder (sym (ap is_strict (ap (λ (q : Journaled). q.rule) is ∙ rule-noted up)) ∙ strict)));
         logs = record {
           logged = λ x. subst (AreLogged (handed core.log t up x)) (sym (are x)) (logged-handed core.log (list_in lists) core.logs.logged t up x);
           placed = λ x e i. let was = In-handed core.log t up x e i in core.logs.placed was.0 e was.1;

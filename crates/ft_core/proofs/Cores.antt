@@ -1,5 +1,5 @@
 -- A new core, and what is noted of those who wait.
-use Rattle.std.proofs.Common.{◌≡◌, ◌<◌, ◌≤◌, ◌-◌, ◌&&◌, ℕ, true, false, cond, [], Some, None, is_some, arith, refl, sym, ap, subst, ◌∙◌, ne_eqb, eq-eqb}
+use Rattle.std.proofs.Common.{◌≡◌, ◌<◌, ◌≤◌, ◌-◌, ◌+◌, ◌&&◌, ℕ, true, false, cond, [], Some, None, is_some, arith, refl, sym, ap, subst, ◌∙◌, ne_eqb, eq-eqb}
 use Rattle.std.specs.Prelude.{nat_lt, nat_le, slice_get}
 use Rattle.std.proofs.lemmas.Bool.{false≢true, and_parts, ltb-true, leb-true}
 use Rattle.std.specs.Cmp.{nat_cmp_total, unsigned_tied}
@@ -16,6 +16,8 @@ use Rattle.ft_posix.specs.Posix.{posix_calls}
 use Rattle.ft_undo.specs.declared.logs.Logged.{Logged}
 use Rattle.ft_undo.specs.Logs.{AreLists}
 use Rattle.ft_forest.specs.Transactions.{Transaction, Transactions, none_since, transaction_in, parent_of, state_of as life_of}
+use Rattle.ft_moss.specs.declared.rule.Rule.{Rule}
+use Rattle.ft_moss.specs.Rules.{is_strict}
 use Rattle.ft_moss.specs.Locks.{LockTable, no_locks, is_locked, is_let_go}
 use Rattle.ft_history.specs.History.{Fate, fate, IsLive}
 use Rattle.ft_history.specs.History.Fate.{Live, Committed, Aborted}
@@ -29,18 +31,18 @@ use Rattle.ft_core.specs.Laws.{CallLaws, LockLaws}
 use Rattle.ft_core.proofs.Accounts.{fresh-accounted}
 use Rattle.ft_core.proofs.Joining.{sound_values}
 
-none-in : (x : ℕ) → transaction_in (none_since 0) x ≡ None
-none-in x = by_test (nat_lt 0 x) (λ k. ap (λ b. cond b (slice_get {X = Transaction} [] (x - 1)) None) k ∙ refl) (λ k. ap (λ b. cond b (slice_get {X = Transaction} [] (x - 1)) None) k)
+pub none-in : (first x : ℕ) → transaction_in (none_since first) x ≡ None
+none-in first x = by_test (nat_lt first x) (λ k. ap (λ b. cond b (slice_get {X = Transaction} [] (x - (first + 1))) None) k ∙ refl) (λ k. ap (λ b. cond b (slice_get {X = Transaction} [] (x - (first + 1))) None) k)
 
-unborn : (x : ℕ) → fate posix_calls 0 [] x ≡ None
-unborn x = by_test (nat_lt 0 x && nat_le x 0)
-    (λ k. let parts = and_parts (nat_lt 0 x) (nat_le x 0) k in let one : 0 < x = ltb-true 0 x parts.0 in let two : x ≤ 0 = leb-true x 0 parts.1 in absurd (omega arith))
+pub unborn : (first x : ℕ) → fate posix_calls first [] x ≡ None
+unborn first x = by_test (nat_lt first x && nat_le x first)
+    (λ k. let parts = and_parts (nat_lt first x) (nat_le x first) k in let one : first < x = ltb-true first x parts.0 in let two : x ≤ first = leb-true x first parts.1 in absurd (omega arith))
     (λ k. ap (λ b. cond b (Some (cond false Committed (cond false Aborted Live))) None) k)
 
 -- new: the root alone
-pub core-first : CallLaws → LockLaws → (cells : Cells) → cells ≡ fresh_cells → AreSoundCells cells → ((k : ℕ) → 2 ≤ k → IsFree cells k) → (lists : Lists Logged) → AreLists lists (λ t. []) → (room : ℕ)
-    → IsCoreOf (state_of (none_since 0) (record (no_events (tidy cells) 1) { room = room })) cells (none_since 0) no_locks lists (record (no_events (tidy cells) 1) { room = room })
-core-first W K cells fresh sound free lists none room = record {
+pub core-first : CallLaws → LockLaws → (rule : Rule) (cells : Cells) → cells ≡ fresh_cells → AreSoundCells cells → ((k : ℕ) → 2 ≤ k → IsFree cells k) → (lists : Lists Logged) → AreLists lists (λ t. []) → (room : ℕ)
+    → IsCoreOf (state_of (none_since 0) (record (no_events rule (tidy cells) 1) { room = room })) cells (none_since 0) no_locks lists (record (no_events rule (tidy cells) 1) { room = room })
+core-first W K rule cells fresh sound free lists none room = record {
   log = λ t. [];
   kept = record {
     started = record {
@@ -60,12 +62,13 @@ core-first W K cells fresh sound free lists none room = record {
   transactions = record {
     base_is = refl;
     last = refl;
-    parents = λ x. ap parent_of (none-in x);
-    fates = λ x. ap (λ o. fate_in (life_of o)) (none-in x) ∙ sym (unborn x);
+    parents = λ x. ap parent_of (none-in 0 x);
+    fates = λ x. ap (λ o. fate_in (life_of o)) (none-in 0 x) ∙ sym (unborn 0 x);
   };
   locks = K.first;
+  no_holder = λ strict. K.holders.first (none_since 0);
   logs = record { logged = λ t. subst (AreLogged []) (sym (none t)) tt; placed = λ t e i. absurd i };
-  ready = λ t live. absurd (not_live (sym (unborn t) ∙ live));
+  ready = λ t live. absurd (not_live (sym (unborn 0 t) ∙ live));
   waiting = λ t some. absurd (false≢true (sym (ap is_some (finite.get-empty {X = Call} nat_cmp t)) ∙ some));
   spare = omega arith;
   accounted = subst (IsAccounted (is_locked no_locks) (is_let_go no_locks)) (sym fresh) (fresh-accounted (is_locked no_locks) (is_let_go no_locks));
@@ -74,23 +77,24 @@ core-first W K cells fresh sound free lists none room = record {
     not_live : {f : Fate} → None ≡ Some f → ⊥
     not_live e = cc
 
-pub core-new : CallLaws → LockLaws → (cells : Cells) → cells ≡ fresh_cells → AreSoundCells cells → ((k : ℕ) → 2 ≤ k → IsFree cells k) → (lists : Lists Logged) → AreLists lists (λ t. []) → (forest : Transactions) → forest ≡ none_since 0
-    → (table : LockTable) → table ≡ no_locks → (base : Cells) → base ≡ cells → (j : Journaled) → j ≡ record (no_events (tidy base) 1) { room = j.room } → IsCoreOf (state_of forest j) cells forest table lists j
-core-new W K cells fresh sound free lists none forest first table empty base same j is =
-    let q : Journaled = record (no_events (tidy cells) 1) { room = j.room } in
-    subst (λ (k : Journaled). IsCoreOf (state_of forest k) cells forest table lists k) (sym (is ∙ ap (λ b. record (no_events (tidy b) 1) { room = j.room }) same))
+pub core-new : CallLaws → LockLaws → (rule : Rule) (cells : Cells) → cells ≡ fresh_cells → AreSoundCells cells → ((k : ℕ) → 2 ≤ k → IsFree cells k) → (lists : Lists Logged) → AreLists lists (λ t. []) → (forest : Transactions) → forest ≡ none_since 0
+    → (table : LockTable) → table ≡ no_locks → (base : Cells) → base ≡ cells → (j : Journaled) → j ≡ record (no_events rule (tidy base) 1) { room = j.room } → IsCoreOf (state_of forest j) cells forest table lists j
+core-new W K rule cells fresh sound free lists none forest first table empty base same j is =
+    let q : Journaled = record (no_events rule (tidy cells) 1) { room = j.room } in
+    subst (λ (k : Journaled). IsCoreOf (state_of forest k) cells forest table lists k) (sym (is ∙ ap (λ b. record (no_events rule (tidy b) 1) { room = j.room }) same))
     (subst (λ (m : Transactions). IsCoreOf (state_of m q) cells m table lists q) (sym first)
     (subst (λ (t : LockTable). IsCoreOf (state_of (none_since 0) q) cells (none_since 0) t lists q) (sym empty)
-    (core-first W K cells fresh sound free lists none j.room)))
+    (core-first W K rule cells fresh sound free lists none j.room)))
 
 module _ (base : Base) (h : History) (asks : Asks) (last_txn last_number : ℕ) (cells : Cells) (forest : Transactions) (table : LockTable) (lists : Lists Logged) (j : Journaled) (core : IsCoreAt base h asks last_txn last_number cells forest table lists j) where
   -- others wait
-  pub core-asks : (asks' : Asks) → ((t : ℕ) → is_some (finite.get asks' t) ≡ true → IsLive posix_calls base.last_txn h t) → (j' : Journaled) → j'.subs ≡ j.subs → j'.spare ≡ j.spare → IsCoreAt base h asks' last_txn last_number cells forest table lists j'
-  core-asks asks' waiting j' subs spare = record {
+  pub core-asks : (asks' : Asks) → ((t : ℕ) → is_some (finite.get asks' t) ≡ true → IsLive posix_calls base.last_txn h t) → (j' : Journaled) → j'.rule ≡ j.rule → j'.subs ≡ j.subs → j'.spare ≡ j.spare → IsCoreAt base h asks' last_txn last_number cells forest table lists j'
+  core-asks asks' waiting j' rule subs spare = record {
     log = core.log;
     kept = core.kept;
     transactions = core.transactions;
     locks = core.locks;
+    no_holder = λ strict. core.no_holder (sym (ap is_strict rule) ∙ strict);
     logs = core.logs;
     ready = λ t live. let was = core.ready t live in record { locks = was.locks; log = was.log; sub = ap (λ m. finite.get m t) subs ∙ was.sub };
     waiting = waiting;

@@ -24,7 +24,7 @@ use Rattle.ft_core.specs.Histories.{Granted, as_happening}
 use Rattle.ft_core.specs.Journals.{Journaled, state_of, with_event, without}
 use Rattle.ft_core.specs.Kept.{IsCoreAt, IsCoreOf}
 use Rattle.ft_core.specs.States.{State, Asks, history, fate_of, has_live_child, after_commit, after_abort, after_undo, count_standing}
-use Rattle.ft_core.specs.Steps.{Rule, IsStep, IsAnswered, refusal_of, fault_if, fault_of_fate, fault_of_target, IsUndone}
+use Rattle.ft_core.specs.Steps.{BlockingRule, IsStep, IsAnswered, refusal_of, fault_if, fault_of_fate, fault_of_target, IsUndone}
 use Rattle.ft_core.proofs.Told.{told-push}
 
 -- the state with one event more, and these asks
@@ -35,13 +35,14 @@ ended s e asks = record s { events = s.events ++ e ∷ []; asks = asks }
 pub record HasTold (j j' : Journaled) (e : Event) (asks : Asks) : Type 0 where
   pub events : j'.events ≡ j.events ++ e ∷ []
   pub asks_are : j'.asks ≡ asks
+  pub rule : j'.rule ≡ j.rule
   pub base_tree : j'.base_tree ≡ j.base_tree
   pub base_stamp : j'.base_stamp ≡ j.base_stamp
   pub last_stamp : j'.last_stamp ≡ j.last_stamp
 
 pub state-ended : (forest forest' : Transactions) (j j' : Journaled) (e : Event) (asks : Asks) → forest'.base ≡ forest.base → last_in forest' ≡ last_in forest → HasTold j j' e asks → state_of forest' j' ≡ ended (state_of forest j) e asks
 state-ended forest forest' j j' e asks base last has =
-    λ i. record { base = record { tree = has.base_tree i; last_txn = base i; last_stamp = has.base_stamp i }; events = has.events i; asks = has.asks_are i; last_txn = last i; last_stamp = has.last_stamp i }
+    λ i. record { rule = has.rule i; base = record { tree = has.base_tree i; last_txn = base i; last_stamp = has.base_stamp i }; events = has.events i; asks = has.asks_are i; last_txn = last i; last_stamp = has.last_stamp i }
 
 pub core-ended : (s s' : State) (e : Event) (asks : Asks) (cells : Cells) (forest : Transactions) (table : LockTable) (lists : Lists Logged) (j : Journaled) → s' ≡ ended s e asks
     → IsCoreAt s.base (as_happening e ∷ history s) asks s.last_txn s.last_stamp cells forest table lists j → IsCoreOf s' cells forest table lists j
@@ -50,17 +51,18 @@ core-ended s s' e asks cells forest table lists j is core =
     (subst (λ h. IsCoreAt s.base h asks s.last_txn s.last_stamp cells forest table lists j) (sym (told-push s.events e)) core)
 
 pub told-commit : (j j' : Journaled) (t : ℕ) (up : Option ℕ) → j' ≡ with_event (without (noted_up j up) t) (Commit t) → HasTold j j' (Commit t) (finite.remove j.asks t)
-told-commit j j' t None is = record { events = ap (λ (q : Journaled). q.events) is; asks_are = ap (λ (q : Journaled). q.asks) is; base_tree = ap (λ (q : Journaled). q.base_tree) is; base_stamp = ap (λ (q : Journaled). q.base_stamp) is; last_stamp = ap (λ (q : Journaled). q.last_stamp) is }
-told-commit j j' t (Some p) is = record { events = ap (λ (q : Journaled). q.events) is; asks_are = ap (λ (q : Journaled). q.asks) is; base_tree = ap (λ (q : Journaled). q.base_tree) is; base_stamp = ap (λ (q : Journaled). q.base_stamp) is; last_stamp = ap (λ (q : Journaled). q.last_stamp) is }
+told-commit j j' t None is = record { events = ap (λ (q : Journaled). q.events) is; asks_are = ap (λ (q : Journaled). q.asks) is; rule = ap (λ (q : Journaled). q.rule) is; base_tree = ap (λ (q : Journaled). q.base_tree) is; base_stamp = ap (λ (q : Journaled). q.base_stamp) is; last_stamp = ap (λ (q : Journaled). q.last_stamp) is }
+told-commit j j' t (Some p) is = record { events = ap (λ (q : Journaled). q.events) is; asks_are = ap (λ (q : Journaled). q.asks) is; rule = ap (λ (q : Journaled). q.rule) is; base_tree = ap (λ (q : Journaled). q.base_tree) is; base_stamp = ap (λ (q : Journaled). q.base_stamp) is; last_stamp = ap (λ (q : Journaled). q.last_stamp) is }
 
 pub told-event : (j j' : Journaled) (e : Event) → j' ≡ with_event j e → HasTold j j' e j.asks
-told-event j j' e is = record { events = ap (λ (q : Journaled). q.events) is; asks_are = ap (λ (q : Journaled). q.asks) is; base_tree = ap (λ (q : Journaled). q.base_tree) is; base_stamp = ap (λ (q : Journaled). q.base_stamp) is; last_stamp = ap (λ (q : Journaled). q.last_stamp) is }
+told-event j j' e is = record { events = ap (λ (q : Journaled). q.events) is; asks_are = ap (λ (q : Journaled). q.asks) is; rule = ap (λ (q : Journaled). q.rule) is; base_tree = ap (λ (q : Journaled). q.base_tree) is; base_stamp = ap (λ (q : Journaled). q.base_stamp) is; last_stamp = ap (λ (q : Journaled). q.last_stamp) is }
 
 -- asks and marks went before
 pub told-less : (j₀ j j' : Journaled) (e : Event) (asks : Asks) → j ≡ record j₀ { asks = j.asks; subs = j.subs } → j.asks ≡ asks → j' ≡ with_event j e → HasTold j₀ j' e asks
 told-less j₀ j j' e asks less are is = record {
   events = ap (λ (q : Journaled). q.events) is ∙ ap (λ (q : Journaled). q.events ++ e ∷ []) less;
   asks_are = ap (λ (q : Journaled). q.asks) is ∙ are;
+  rule = ap (λ (q : Journaled). q.rule) is ∙ ap (λ (q : Journaled). q.rule) less;
   base_tree = ap (λ (q : Journaled). q.base_tree) is ∙ ap (λ (q : Journaled). q.base_tree) less;
   base_stamp = ap (λ (q : Journaled). q.base_stamp) is ∙ ap (λ (q : Journaled). q.base_stamp) less;
   last_stamp = ap (λ (q : Journaled). q.last_stamp) is ∙ ap (λ (q : Journaled). q.last_stamp) less;
@@ -68,25 +70,25 @@ told-less j₀ j j' e asks less are is = record {
 
 -- Steps.
 
-refused : (rule : Rule) (s : State) (r : Request) (fault : Fault) → refusal_of s r ≡ Some fault → IsStep rule s r (Refused fault) s
+refused : (rule : BlockingRule) (s : State) (r : Request) (fault : Fault) → refusal_of s r ≡ Some fault → IsStep rule s r (Refused fault) s
 refused rule s r fault is = subst (λ (o : Option Fault). MatchOption o (IsAnswered rule s r (Refused fault) s) (λ f. (Refused fault ≡ Refused f) × (s ≡ s))) (sym is) (refl, refl)
 
-step-allowed : (rule : Rule) (s s' : State) (r : Request) (a : Answer) → refusal_of s r ≡ None → IsAnswered rule s r a s' → IsStep rule s r a s'
+step-allowed : (rule : BlockingRule) (s s' : State) (r : Request) (a : Answer) → refusal_of s r ≡ None → IsAnswered rule s r a s' → IsStep rule s r a s'
 step-allowed rule s s' r a is answered = subst (λ (o : Option Fault). MatchOption o (IsAnswered rule s r a s') (λ f. (a ≡ Refused f) × (s' ≡ s))) (sym is) answered
 
-pub step-child : (rule : Rule) (s : State) (t : ℕ) → fate_of s t ≡ Some Live → has_live_child s t ≡ true → IsStep rule s (CommitRequest t) (Refused ChildLive) s × IsStep rule s (UndoRequest t) (Refused ChildLive) s
+pub step-child : (rule : BlockingRule) (s : State) (t : ℕ) → fate_of s t ≡ Some Live → has_live_child s t ≡ true → IsStep rule s (CommitRequest t) (Refused ChildLive) s × IsStep rule s (UndoRequest t) (Refused ChildLive) s
 step-child rule s t live some = (
   refused rule s (CommitRequest t) ChildLive (λ i. fault_of_fate (live i) (fault_if (some i) ChildLive None)),
   refused rule s (UndoRequest t) ChildLive (λ i. fault_of_fate (live i) (fault_if (some i) ChildLive (fault_of_target (undo_target posix_calls (history s) t)))),
 )
 
-pub step-commit : (rule : Rule) (s s' : State) (t : ℕ) → fate_of s t ≡ Some Live → has_live_child s t ≡ false → s' ≡ after_commit s t → IsStep rule s (CommitRequest t) Committed s'
+pub step-commit : (rule : BlockingRule) (s s' : State) (t : ℕ) → fate_of s t ≡ Some Live → has_live_child s t ≡ false → s' ≡ after_commit s t → IsStep rule s (CommitRequest t) Committed s'
 step-commit rule s s' t live none is = step-allowed rule s s' (CommitRequest t) Committed (λ i. fault_of_fate (live i) (fault_if (none i) ChildLive None)) is
 
-pub step-abort : (rule : Rule) (s s' : State) (t n : ℕ) → fate_of s t ≡ Some Live → n ≡ count_standing s t → s' ≡ after_abort s t → IsStep rule s (AbortRequest t) (Aborted n) s'
+pub step-abort : (rule : BlockingRule) (s s' : State) (t n : ℕ) → fate_of s t ≡ Some Live → n ≡ count_standing s t → s' ≡ after_abort s t → IsStep rule s (AbortRequest t) (Aborted n) s'
 step-abort rule s s' t n live count is = step-allowed rule s s' (AbortRequest t) (Aborted n) (λ i. fault_of_fate (live i) None) (count, is)
 
-pub step-undo : (rule : Rule) (s s' : State) (t k : ℕ) (d : Granted) → fate_of s t ≡ Some Live → has_live_child s t ≡ false → undo_target posix_calls (history s) t ≡ Found d → d.call.stamp ≡ k → s' ≡ after_undo s k → IsStep rule s (UndoRequest t) (Undone k) s'
+pub step-undo : (rule : BlockingRule) (s s' : State) (t k : ℕ) (d : Granted) → fate_of s t ≡ Some Live → has_live_child s t ≡ false → undo_target posix_calls (history s) t ≡ Found d → d.call.stamp ≡ k → s' ≡ after_undo s k → IsStep rule s (UndoRequest t) (Undone k) s'
 step-undo rule s s' t k d live none found stamp is =
     step-allowed rule s s' (UndoRequest t) (Undone k) (λ i. fault_of_fate (live i) (fault_if (none i) ChildLive (fault_of_target (found i))))
     (subst (λ x. IsUndone s x k s') (sym found) (sym stamp, is))

@@ -22,7 +22,8 @@ use Rattle.ft_posix.specs.RunLaws.{writes_cell}
 use Rattle.ft_posix.specs.Posix.{HasSoundValues, Stamped, as_place, posix, posix_calls}
 use Rattle.ft_undo.specs.declared.logs.Logged.{Logged}
 use Rattle.ft_forest.specs.Transactions.{Transactions}
-use Rattle.ft_moss.specs.Locks.{LockTable, is_locked, is_let_go}
+use Rattle.ft_moss.specs.Locks.{LockTable, is_locked, is_let_go, AreBlockers}
+use Rattle.ft_moss.specs.Rules.{is_strict}
 use Rattle.ft_history.specs.History.{Base as HistoryBase, last_stamp, IsLive, grants}
 use Rattle.ft_history.specs.History.Event.{Call as WasGranted}
 use Rattle.ft_history.specs.Locks.{blockers_of}
@@ -132,8 +133,8 @@ module _ (W : CallLaws) (K : LockLaws) (base : Base) (h : History) (asks : Asks)
         ])
         (λ ne. placed-stays cells cells' stay e (core.logs.placed u e (subst (In e) (put_other core.log t (entry ∷ core.log t) u ne) i)))
 
-    pub core-granted : (asks' : Asks) → ((u : ℕ) → is_some (finite.get asks' u) ≡ true → IsLive posix_calls base.last_txn h u) → (j' : Journaled) → j'.subs ≡ j.subs → j'.spare ≡ j.spare + 1 → IsCoreAt base after asks' last_txn k cells' forest table' lists' j'
-    core-granted asks' waiting j' subs spare = record {
+    pub core-granted : (asks' : Asks) → ((u : ℕ) → is_some (finite.get asks' u) ≡ true → IsLive posix_calls base.last_txn h u) → AreBlockers j.rule table forest t accesses [] → (j' : Journaled) → j'.rule ≡ j.rule → j'.subs ≡ j.subs → j'.spare ≡ j.spare + 1 → IsCoreAt base after asks' last_txn k cells' forest table' lists' j'
+    core-granted asks' waiting free j' rule subs spare = record {
       log = pushed core.log t entry;
       kept = record {
         started = record {
@@ -152,6 +153,9 @@ module _ (W : CallLaws) (K : LockLaws) (base : Base) (h : History) (asks : Asks)
       };
       transactions = record { base_is = core.transactions.base_is; last = core.transactions.last; parents = core.transactions.parents; fates = core.transactions.fates };
       locks = K.grant from with_values h table core.locks c accesses table' core'.legal refl made.granted;
+      no_holder = λ strict.
+          let was : is_strict j.rule ≡ true = sym (ap is_strict rule) ∙ strict in
+          K.holders.granted from with_values h table core.locks core.kept.core.legal forest core.transactions.parents j.rule was t accesses table' free made.granted (core.no_holder was);
       logs = record { logged = logged; placed = placed };
       ready = λ u alive.
           let was = core.ready u alive in

@@ -26,3 +26,4 @@ mod Ended
 mod Families
 mod Written
 mod Sweeps
+mod Checkpoints

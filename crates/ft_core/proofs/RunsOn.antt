@@ -3,10 +3,10 @@ use Rattle.std.proofs.Common.{List, [], ◌∷◌, ◌++◌, refl, subst}
 use Rattle.ft_core.specs.declared.request.Request.{Request}
 use Rattle.ft_core.specs.declared.request.Answer.{Answer}
 use Rattle.ft_core.specs.States.{State}
-use Rattle.ft_core.specs.Steps.{Rule, IsStep, IsRun}
+use Rattle.ft_core.specs.Steps.{BlockingRule, IsStep, IsRun}
 
 -- one more request
-pub run-push : (rule : Rule) (s : State) (requests : List Request) (answers : List Answer) (m : State) (r : Request) (a : Answer) (s' : State)
+pub run-push : (rule : BlockingRule) (s : State) (requests : List Request) (answers : List Answer) (m : State) (r : Request) (a : Answer) (s' : State)
     → IsRun rule s requests answers m → IsStep rule m r a s' → IsRun rule s (requests ++ r ∷ []) (answers ++ a ∷ []) s'
 run-push rule s [] [] m r a s' ran step = (s', subst (λ q. IsStep rule q r a s') ran step, refl)
 run-push rule s [] (b ∷ answers) m r a s' ran step = absurd ran

@@ -230,6 +230,7 @@ module _ (W : CallLaws) (K : LockLaws) (base : Base) (h : History) (asks : Asks)
     kept = record { started = core.kept.started; hidden = more; core = core'; sound = sound' };
     transactions = core.transactions;
     locks = λ l. ap (λ s. set.contains s l) lines ∙ core.locks l;
+    no_holder = λ strict. K.holders.fewer table table' (λ l e. sym (ap (λ s. set.contains s l) lines) ∙ e) forest forest (λ x. refl) (core.no_holder strict);
     logs = record { logged = core.logs.logged; placed = placed };
     ready = λ u live. let now = core.ready u live in record { locks = ap (λ s. set.contains s u) opened ∙ now.locks; log = now.log; sub = now.sub };
     waiting = core.waiting;

@@ -15,6 +15,7 @@ use Rattle.ft_undo.specs.Logs.{is_open, newest_of, AreLists, AreOpen}
 use Rattle.ft_undo.specs.Undone.{given_back, CanGiveAllBack}
 use Rattle.ft_forest.specs.Transactions.{Transactions, IsLiveChild}
 use Rattle.ft_moss.specs.Locks.{LockTable, is_locked, is_let_go}
+use Rattle.ft_moss.specs.Rules.{is_strict}
 use Rattle.ft_history.specs.Core.{IsCore}
 use Rattle.ft_history.specs.History.{Base as HistoryBase, IsLive}
 use Rattle.ft_history.specs.History.Event.{Undo as WasUndone}
@@ -169,6 +170,7 @@ module _ (W : CallLaws) (K : LockLaws) (base : Base) (h : History) (asks : Asks)
               kept = kept;
               transactions = record { base_is = core.transactions.base_is; last = core.transactions.last; parents = core.transactions.parents; fates = core.transactions.fates };
               locks = K.undo from (values W base h last_txn last_number cells core.log core.kept) h table core.locks d.call.stamp legal;
+              no_holder = λ strict. core.no_holder (sym (ap (λ (q : Journaled). is_strict q.rule) told) ∙ strict);
               logs = record {
                 logged = λ u. subst (AreLogged (put core.log t es u)) (sym (are u)) (logged-put core.log (list_in lists) core.logs.logged t es xs both.1 u);
                 placed = λ u f i. subst (λ (s : Cells). ArePlaced s f) (sym made) (placed-stays cells (put_all cells (map given_back x.undo)) one.stay f (by_number u t

@@ -1,13 +1,17 @@
 -- What a journal is seen as: what has happened, and what is noted of the live transactions.
-use Rattle.std.specs.Prelude.{ℕ, ◌+◌, ◌-◌, Bool, ◌||◌, nat_le, List, [], ◌∷◌, ◌++◌, Option, Some, refl}
+use Rattle.std.specs.Prelude.{ℕ, ◌<◌, ◌+◌, ◌-◌, Bool, ◌||◌, nat_le, List, [], ◌∷◌, ◌++◌, Option, Some, refl}
 use Rattle.std.specs.Option.{option_flatten}
 use Rattle.std.specs.Ordering.{nat_cmp}
 use Rattle.std.specs.FinMap as finite
 use Rattle.std.specs.Coded.{Coded, code_by, coded×, coded_ℕ, coded_list, coded_option}
+use Rattle.ft_cells.specs.Cells.{Cells}
 use Rattle.ft_cells.specs.Plain.{PlainTree}
+use Rattle.ft_tree.specs.Sound.{AreSoundCells, IsFree}
 use Rattle.ft_posix.specs.declared.call.Call.{Call}
 use Rattle.ft_posix.specs.declared.call.Reply.{Reply}
 use Rattle.ft_posix.specs.declared.call.Access.{Access}
+use Rattle.ft_moss.specs.declared.rule.Rule.{Rule}
+use Rattle.ft_moss.specs.contracts.rule.Rule as rule
 use Rattle.ft_forest.specs.declared.TheConstants.{LAST_NUMBER}
 use Rattle.ft_forest.specs.Transactions.{Transactions, last_in}
 use Rattle.ft_core.specs.declared.TheConstants.{MOST_CALLS}
@@ -17,6 +21,7 @@ use Rattle.ft_core.specs.contracts.request.Event as event
 use Rattle.ft_core.specs.States.{State, Asks, coded_asks, coded_tree}
 
 pub record Journaled : Type 0 where
+  pub rule : Rule
   pub events : List Event
   pub asks : Asks
   -- for each live transaction the last stamp when a child of it last committed
@@ -30,14 +35,19 @@ pub record Journaled : Type 0 where
 
 abbrev pub coded_journaled : Coded Journaled
 coded_journaled =
-    code_by (List Event × (Asks × (finite.FinMap nat_cmp (Option ℕ) × ((PlainTree × (ℕ × ℕ)) × (ℕ × ℕ)))))
-    (coded× (coded_list event.the_row.coded) (coded× coded_asks (coded× (finite.code coded_ℕ (coded_option coded_ℕ)) (coded× (coded× coded_tree (coded× coded_ℕ coded_ℕ)) (coded× coded_ℕ coded_ℕ)))))
-    (λ j. (j.events, (j.asks, (j.subs, ((j.base_tree, (j.base_stamp, j.last_stamp)), (j.spare, j.room))))))
-    (λ p. record { events = p.0; asks = p.1.0; subs = p.1.1.0; base_tree = p.1.1.1.0.0; base_stamp = p.1.1.1.0.1.0; last_stamp = p.1.1.1.0.1.1; spare = p.1.1.1.1.0; room = p.1.1.1.1.1 }) (λ _. refl)
+    code_by (Rule × (List Event × (Asks × (finite.FinMap nat_cmp (Option ℕ) × ((PlainTree × (ℕ × ℕ)) × (ℕ × ℕ))))))
+    (coded× rule.the_row.coded (coded× (coded_list event.the_row.coded) (coded× coded_asks (coded× (finite.code coded_ℕ (coded_option coded_ℕ)) (coded× (coded× coded_tree (coded× coded_ℕ coded_ℕ)) (coded× coded_ℕ coded_ℕ))))))
+    (λ j. (j.rule, (j.events, (j.asks, (j.subs, ((j.base_tree, (j.base_stamp, j.last_stamp)), (j.spare, j.room)))))))
+    (λ p. record { rule = p.0; events = p.1.0; asks = p.1.1.0; subs = p.1.1.1.0; base_tree = p.1.1.1.1.0.0; base_stamp = p.1.1.1.1.0.1.0; last_stamp = p.1.1.1.1.0.1.1; spare = p.1.1.1.1.1.0; room = p.1.1.1.1.1.1 }) (λ _. refl)
+
+-- A tree from which a history may go on: it is sound, and no number above the last stamp stands in it.
+pub record IsBaseTree (cells : Cells) (stamp : ℕ) : Type 0 where
+  pub sound : AreSoundCells cells
+  pub free : (k : ℕ) → stamp < k → IsFree cells k
 
 -- no event, and no place for one, from this tree and this stamp on
-abbrev pub no_events : PlainTree → ℕ → Journaled
-no_events tree stamp = record { events = []; asks = finite.empty; subs = finite.empty; base_tree = tree; base_stamp = stamp; last_stamp = stamp; spare = 0; room = 0 }
+abbrev pub no_events : Rule → PlainTree → ℕ → Journaled
+no_events rule tree stamp = record { rule = rule; events = []; asks = finite.empty; subs = finite.empty; base_tree = tree; base_stamp = stamp; last_stamp = stamp; spare = 0; room = 0 }
 
 -- the last stamp when a child of t last committed
 abbrev pub sub_in : Journaled → ℕ → Option ℕ
@@ -76,6 +86,7 @@ with_sub j t = record j { subs = finite.insert j.subs t (Some j.last_stamp) }
 -- the state of transactions with their journal
 abbrev pub state_of : Transactions → Journaled → State
 state_of forest j = record {
+  rule = j.rule;
   base = record { tree = j.base_tree; last_txn = forest.base; last_stamp = j.base_stamp };
   events = j.events;
   asks = j.asks;

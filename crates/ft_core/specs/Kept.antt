@@ -22,6 +22,8 @@ use Rattle.ft_forest.specs.declared.state.State.TheVariants.{Live as LiveState, 
 use Rattle.ft_forest.specs.Transactions.{Transactions, parent_in, state_in, last_in}
 use Rattle.ft_moss.specs.Locks.{LockTable, is_locked, is_let_go, is_opened}
 use Rattle.ft_moss.specs.Law.{AreLocksOf}
+use Rattle.ft_moss.specs.Rules.{is_strict}
+use Rattle.ft_moss.specs.Surveys.{HasNoHolderAbove}
 use Rattle.ft_history.specs.History.{Base as HistoryBase, Fate, IsFresh, last_transaction, last_stamp, begun, parent, fate, owner_of, grants, is_live, IsLive, is_standing}
 use Rattle.ft_history.specs.History.Fate.{Live, Committed, Aborted}
 use Rattle.ft_history.specs.Core.{Entry, IsCore}
@@ -138,6 +140,8 @@ pub record IsCoreAt (base : Base) (h : History) (asks : Asks) (last_txn last_num
   pub kept : IsKept base h last_txn last_number cells log
   pub transactions : AreTransactions base h last_txn forest
   pub locks : AreLocksOf h table
+  -- by Moss's rule no strict ancestor of an owner holds a lock that conflicts with one of the owner's
+  pub no_holder : is_strict j.rule ≡ true → HasNoHolderAbove table forest
   pub logs : AreLogs cells log lists
   pub ready : (t : ℕ) → IsLive posix_calls base.last_txn h t → IsReady base h table lists j t
   -- only live transactions wait

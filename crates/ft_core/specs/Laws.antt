@@ -7,7 +7,7 @@ use Rattle.ft_posix.specs.Leaving.{LeavingLaw, UselessLaw, MakingLaw}
 use Rattle.ft_posix.specs.RunLaws.{PlainAccessesLaw, HidingLaw, RunLaw, PlacedLaw, WritesLaw, NamelessLaw}
 use Rattle.ft_posix.specs.Posix.{posix_calls}
 use Rattle.ft_moss.specs.Knowing.{KnownLaw}
-use Rattle.ft_moss.specs.Law.{FirstLaw, OwnerLaw, BeginLaw, GrantLaw, UndoLaw, CommitLaw, AbortLaw, ReleaseLaw, BlockLaw, AloneLaw, CoverLaw, LockedLaw}
+use Rattle.ft_moss.specs.Law.{FirstLaw, OwnerLaw, BeginLaw, GrantLaw, UndoLaw, CommitLaw, AbortLaw, ReleaseLaw, BlockLaw, ForeignLaw, AloneLaw, HolderLaw, CoverLaw, LockedLaw}
 
 pub record CallLaws : Type 0 where
   pub lawful : Lawful posix_calls
@@ -34,7 +34,9 @@ pub record LockLaws : Type 0 where
   pub abort : AbortLaw
   pub release : ReleaseLaw
   pub block : BlockLaw
+  pub foreign : ForeignLaw
   pub alone : AloneLaw
+  pub holders : HolderLaw
   pub cover : CoverLaw
   pub locked : LockedLaw
   pub live : OwnerLaw

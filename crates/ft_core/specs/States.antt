@@ -18,8 +18,11 @@ use Rattle.ft_posix.specs.contracts.call.Call as call
 use Rattle.ft_posix.specs.Exec.{exec}
 use Rattle.ft_posix.specs.RunLaws.{accesses_in, tree_after}
 use Rattle.ft_posix.specs.Posix.{posix_calls}
-use Rattle.ft_history.specs.History.{Fate, fate, over, begun, live_children as live_children_of, grants, standing}
+use Rattle.ft_history.specs.History.{Fate, fate, is_live, over, begun, live_children as live_children_of, grants, standing}
+use Rattle.ft_history.specs.Logs.{passing}
 use Rattle.ft_history.specs.Promises.{calls_below}
+use Rattle.ft_moss.specs.declared.rule.Rule.{Rule}
+use Rattle.ft_moss.specs.contracts.rule.Rule as rule
 use Rattle.ft_forest.specs.declared.TheConstants.{MOST_TRANSACTIONS, MOST_DEPTH, LAST_NUMBER}
 use Rattle.ft_core.specs.declared.TheConstants.{MOST_CALLS}
 use Rattle.ft_core.specs.declared.request.Event.{Event}
@@ -33,7 +36,7 @@ coded_tree =
     (coded× (finite.code entry.the_row.coded coded_ℕ) (coded× (finite.code coded_ℕ coded_unit) (coded× (finite.code coded_ℕ (coded_list coded_ℕ)) (finite.code coded_ℕ open_file.the_row.coded))))
     (λ p. (p.edges, (p.dirs, (p.files, p.opens)))) (λ p. record { edges = p.0; dirs = p.1.0; files = p.1.1.0; opens = p.1.1.1 }) (λ _. refl)
 
--- what stood at the start: a plain tree, the last transaction's number and the last stamp
+-- what stood at the start, or at the last checkpoint: a plain tree, the last transaction's number and the last stamp
 pub record Base : Type 0 where
   pub tree : PlainTree
   pub last_txn : ℕ
@@ -43,6 +46,8 @@ abbrev pub Asks : Type 0
 Asks = finite.FinMap nat_cmp Call
 
 pub record State : Type 0 where
+  -- by which rule it is told who is in the way of a call; it never changes
+  pub rule : Rule
   pub base : Base
   -- what has happened since, oldest first
   pub events : List Event
@@ -61,17 +66,18 @@ coded_asks = finite.code coded_ℕ call.the_row.coded
 
 abbrev pub coded_state : Coded State
 coded_state =
-    code_by (Base × (List Event × (Asks × (ℕ × ℕ))))
-    (coded× coded_base (coded× (coded_list event.the_row.coded) (coded× coded_asks (coded× coded_ℕ coded_ℕ))))
-    (λ s. (s.base, (s.events, (s.asks, (s.last_txn, s.last_stamp)))))
-    (λ p. record { base = p.0; events = p.1.0; asks = p.1.1.0; last_txn = p.1.1.1.0; last_stamp = p.1.1.1.1 }) (λ _. refl)
+    code_by (Rule × (Base × (List Event × (Asks × (ℕ × ℕ)))))
+    (coded× rule.the_row.coded (coded× coded_base (coded× (coded_list event.the_row.coded) (coded× coded_asks (coded× coded_ℕ coded_ℕ)))))
+    (λ s. (s.rule, (s.base, (s.events, (s.asks, (s.last_txn, s.last_stamp))))))
+    (λ p. record { rule = p.0; base = p.1.0; events = p.1.1.0; asks = p.1.1.1.0; last_txn = p.1.1.1.1.0; last_stamp = p.1.1.1.1.1 }) (λ _. refl)
 
 -- the root alone, of number 1; no transaction
 abbrev pub first_base : Base
 first_base = record { tree = tidy fresh_cells; last_txn = 0; last_stamp = 1 }
 
-abbrev pub at_base : Base → State
-at_base base = record { base = base; events = []; asks = finite.empty; last_txn = base.last_txn; last_stamp = base.last_stamp }
+-- nothing has happened since the base
+abbrev pub at_base : Rule → Base → State
+at_base rule base = record { rule = rule; base = base; events = []; asks = finite.empty; last_txn = base.last_txn; last_stamp = base.last_stamp }
 
 abbrev pub history : State → History
 history s = told s.events
@@ -88,6 +94,13 @@ live_children s t = live_children_of posix_calls s.base.last_txn (history s) t
 
 abbrev pub has_live_child : State → ℕ → Bool
 has_live_child s t = nat_lt 0 (length (live_children s t))
+
+-- the live transactions, in rising order
+abbrev pub live_transactions : State → List ℕ
+live_transactions s = passing (λ t. is_live (fate_of s t)) (begun posix_calls (history s))
+
+abbrev pub has_live : State → Bool
+has_live s = nat_lt 0 (length (live_transactions s))
 
 -- Calls.
 
@@ -161,3 +174,10 @@ after_abort s t = record s { events = s.events ++ Abort t ∷ []; asks = finite.
 -- how many standing calls were asked by t or below it
 abbrev pub count_standing : State → ℕ → ℕ
 count_standing s t = calls_below posix_calls (history s) t
+
+-- the tree as it stands is the base, and what has happened is forgotten; the last numbers and the rule stay
+abbrev pub base_now : State → Base
+base_now s = record { tree = tree_of s; last_txn = s.last_txn; last_stamp = s.last_stamp }
+
+abbrev pub after_checkpoint : State → State
+after_checkpoint s = at_base s.rule (base_now s)

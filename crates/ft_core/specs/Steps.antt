@@ -6,20 +6,20 @@ use Rattle.ft_posix.specs.declared.call.Access.{Access}
 use Rattle.ft_posix.specs.Posix.{as_place, posix_calls}
 use Rattle.ft_history.specs.History.{Fate}
 use Rattle.ft_history.specs.History.Fate.{Live, Committed as WasCommitted, Aborted as WasAborted}
-use Rattle.ft_history.specs.Locks.{blockers_of}
+use Rattle.ft_moss.specs.Law.{blockers_by}
 use Rattle.ft_history.specs.Undoing.{Target, undo_target}
 use Rattle.ft_history.specs.Undoing.Target.{Found, SubSince as SubSinceTarget, Nothing}
 use Rattle.ft_core.specs.declared.fault.Fault.{Fault}
-use Rattle.ft_core.specs.declared.fault.Fault.TheVariants.{Memory, NoTxn, Ended, ChildLive, NothingToUndo, SubSince, Full, Deep, NoAsk}
+use Rattle.ft_core.specs.declared.fault.Fault.TheVariants.{Memory, NoTxn, Ended, ChildLive, NothingToUndo, SubSince, Full, Deep, Live as LiveFault, NoAsk}
 use Rattle.ft_core.specs.declared.request.Request.{Request}
-use Rattle.ft_core.specs.declared.request.Request.TheVariants.{Begin, Sub, Ask, Retry, Drop, Commit, Abort, Undo}
+use Rattle.ft_core.specs.declared.request.Request.TheVariants.{Begin, Sub, Ask, Retry, Drop, Commit, Abort, Undo, Checkpoint}
 use Rattle.ft_core.specs.declared.request.Answer.{Answer}
-use Rattle.ft_core.specs.declared.request.Answer.TheVariants.{Txn, Granted, Waits, Dropped, Committed, Aborted, Undone, Refused}
+use Rattle.ft_core.specs.declared.request.Answer.TheVariants.{Txn, Granted, Waits, Dropped, Committed, Aborted, Undone, Cleared, Refused}
 use Rattle.ft_core.specs.declared.request.Outcome.{Outcome}
 use Rattle.ft_core.specs.declared.request.Outcome.TheVariants.{Granted as GrantedOutcome, Waits as WaitsOutcome}
-use Rattle.ft_core.specs.States.{State, history, fate_of, has_live_child, is_deepest, has_most_transactions, has_most_calls, next_txn, next_stamp, after_begin, reply_of, accesses_now, after_grant, after_wait, after_drop, after_undo, after_commit, after_abort, count_standing}
+use Rattle.ft_core.specs.States.{State, history, fate_of, has_live_child, has_live, is_deepest, has_most_transactions, has_most_calls, next_txn, next_stamp, after_begin, reply_of, accesses_now, after_grant, after_wait, after_drop, after_undo, after_commit, after_abort, after_checkpoint, count_standing}
 
--- Refusals, in their order: NoTxn, Ended, Deep, ChildLive, NothingToUndo or SubSince, NoAsk, Full. (Rules of this project.)
+-- Refusals, in their order: NoTxn, Ended, Deep, ChildLive, NothingToUndo or SubSince, NoAsk, Full; of a checkpoint Live. (Rules of this project.)
 
 -- a fault, where a test holds, and else what comes later
 abbrev pub fault_if : Bool → Fault → Option Fault → Option Fault
@@ -50,6 +50,7 @@ refusal_of s (Drop t) = fault_of_fate (fate_of s t) (fault_of_ask (finite.get s.
 refusal_of s (Commit t) = fault_of_fate (fate_of s t) (fault_if (has_live_child s t) ChildLive None)
 refusal_of s (Abort t) = fault_of_fate (fate_of s t) None
 refusal_of s (Undo t) = fault_of_fate (fate_of s t) (fault_if (has_live_child s t) ChildLive (fault_of_target (undo_target posix_calls (history s) t)))
+refusal_of s Checkpoint = fault_if (has_live s) LiveFault None
 
 -- requests that may want memory; an abort, an undo, a commit and a drop never do
 abbrev pub MayWantMemory : Request → Type 0
@@ -61,17 +62,18 @@ MayWantMemory (Drop t) = ⊥
 MayWantMemory (Commit t) = ⊥
 MayWantMemory (Abort t) = ⊥
 MayWantMemory (Undo t) = ⊥
+MayWantMemory Checkpoint = Unit {0}
 
 -- A rule says who blocks a call of a transaction with these accesses, in a state: its base counts too, since two states with the same events may have different trees.
-abbrev pub Rule : Type 0
-Rule = State → ℕ → List Access → List ℕ
+abbrev pub BlockingRule : Type 0
+BlockingRule = State → ℕ → List Access → List ℕ
 
--- who owns a conflicting lock and is neither the asker nor an ancestor of it, in rising order
-abbrev pub exact_rule : Rule
-exact_rule s t accesses = blockers_of posix_calls (history s) t (map as_place accesses)
+-- by the rule of the state: who owns a conflicting lock and is neither the asker nor an ancestor of it, and by Moss's rule each ancestor that holds one too, in rising order
+abbrev pub exact_rule : BlockingRule
+exact_rule s t accesses = blockers_by s.rule (history s) t (map as_place accesses)
 
 -- A call that t asked for is granted exactly where nobody blocks it: its stamp is the next, and its reply and accesses are those on the tree of the state. Else the answer names its blockers, and t waits for it.
-abbrev pub IsAsked : Rule → State → ℕ → Call → Answer → State → Type 0
+abbrev pub IsAsked : BlockingRule → State → ℕ → Call → Answer → State → Type 0
 IsAsked rule s t call (Granted k reply) s' = (rule s t (accesses_now s call) ≡ []) × (k ≡ next_stamp s) × (reply ≡ reply_of s call) × (s' ≡ after_grant s t call)
 IsAsked rule s t call (Waits blockers) s' = (blockers ≢ []) × (blockers ≡ rule s t (accesses_now s call)) × (s' ≡ after_wait s t call)
 IsAsked rule s t call other s' = ⊥
@@ -83,7 +85,7 @@ IsUndone s SubSinceTarget k s' = ⊥
 IsUndone s Nothing k s' = ⊥
 
 -- The answer to a request that nothing refuses but, perhaps, want of memory, with the state after it.
-abbrev pub IsAnswered : Rule → State → Request → Answer → State → Type 0
+abbrev pub IsAnswered : BlockingRule → State → Request → Answer → State → Type 0
 IsAnswered rule s r (Refused fault) s' = (fault ≡ Memory) × MayWantMemory r × (s' ≡ s)
 IsAnswered rule s Begin (Txn t) s' = (t ≡ next_txn s) × (s' ≡ after_begin s None)
 IsAnswered rule s (Sub p) (Txn t) s' = (t ≡ next_txn s) × (s' ≡ after_begin s (Some p))
@@ -93,14 +95,15 @@ IsAnswered rule s (Drop t) Dropped s' = s' ≡ after_drop s t
 IsAnswered rule s (Commit t) Committed s' = s' ≡ after_commit s t
 IsAnswered rule s (Abort t) (Aborted n) s' = (n ≡ count_standing s t) × (s' ≡ after_abort s t)
 IsAnswered rule s (Undo t) (Undone k) s' = IsUndone s (undo_target posix_calls (history s) t) k s'
+IsAnswered rule s Checkpoint Cleared s' = s' ≡ after_checkpoint s
 IsAnswered rule s r other s' = ⊥
 
 -- A legal step: a refusal stands exactly where its words say, and changes nothing.
-abbrev pub IsStep : Rule → State → Request → Answer → State → Type 0
+abbrev pub IsStep : BlockingRule → State → Request → Answer → State → Type 0
 IsStep rule s r a s' = MatchOption (refusal_of s r) (IsAnswered rule s r a s') (λ fault. (a ≡ Refused fault) × (s' ≡ s))
 
 -- A legal run: one answer to each request, each a legal step.
-abbrev pub IsRun : Rule → State → List Request → List Answer → State → Type 0
+abbrev pub IsRun : BlockingRule → State → List Request → List Answer → State → Type 0
 IsRun rule s [] [] s' = s' ≡ s
 IsRun rule s [] (a ∷ answers) s' = ⊥
 IsRun rule s (r ∷ requests) [] s' = ⊥

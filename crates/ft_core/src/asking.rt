@@ -8,6 +8,8 @@ ghost use Rattle.ft_posix.specs.Edits.{CanEditAll, Apart};
 ghost use Rattle.ft_posix.specs.Stored.{outcome};
 ghost use Rattle.ft_undo.specs.Logs.{is_open};
 ghost use Rattle.ft_moss.specs.Locks.{is_opened, AreBlockers, AreGranted};
+ghost use Rattle.ft_moss.specs.Rules.{is_strict};
+ghost use Rattle.ft_moss.specs.Surveys.{HasNoHolderAbove};
 ghost use Rattle.ft_history.specs.History.Fate.{Live};
 ghost use Rattle.ft_core.specs.declared.fault.Fault.TheVariants.{Memory as MemoryFault};
 ghost use Rattle.ft_core.specs.declared.request.Request.TheVariants.{Ask, Retry};
@@ -25,13 +27,14 @@ use ft_base::{Memory, Sequence};
 use ft_calls::{Access, Call, Prepared, Reply, prepare};
 use ft_forest::{Forest, TxnId};
 use ft_locks::{Locks, Survey};
+use ft_moss::Rule;
 use ft_tree::Tree;
 use ft_undo::{Logged, Logs};
 use std::alloc::Global;
 
 impl Core {
     /// Makes a call in a transaction, or answers which transactions it waits for: those who own a conflicting lock and are
-    /// neither the asker nor an ancestor of it, in rising order.
+    /// neither the asker nor an ancestor of it, and by `Rule::Moss` the ancestors that hold one too, in rising order.
     ///
     /// Refuses NoTxn, Ended, and Full where as many calls are granted as may be, in this order.
     pub fn ask(&mut self, txn: TxnId, call: Call) -> Result<Outcome, Fault>
@@ -92,6 +95,7 @@ impl Core {
         lock_laws();
         self.journal.reserve()?;
         let stamp = self.journal.next_stamp();
+        let rule = self.journal.rule();
         let tried = try_call(
             self.alloc,
             &mut self.tree,
@@ -101,6 +105,7 @@ impl Core {
             txn,
             stamp,
             &call,
+            rule,
         )?;
         match tried {
             Tried::Made(
@@ -134,6 +139,7 @@ impl Core {
         lock_laws();
         self.journal.reserve()?;
         let stamp = self.journal.next_stamp();
+        let rule = self.journal.rule();
         let Some(call) = self.journal.pending(txn) else {
             unreachable!();
         };
@@ -146,6 +152,7 @@ impl Core {
             txn,
             stamp,
             call,
+            rule,
         )?;
         match tried {
             Tried::Made(
@@ -173,25 +180,27 @@ pub(crate) struct Asker {
     pub stamp: u64,
 }
 
-/// Who is in the way of a call with these accesses, and for how many of them, from the first on, the
-/// asker holds the locks already. Where it has live children they may share its cells, and then none
-/// is told to be held.
+/// Who is in the way of a call with these accesses by a rule, and for how many of them, from the first
+/// on, the asker holds the locks already. Where it has live children they may share its cells, and then
+/// none is told to be held.
 pub(crate) fn survey(
     locks: &Locks,
     forest: &Forest,
     txn: TxnId,
     accesses: &[Access],
+    rule: Rule,
 ) -> Result<Survey, Memory>
-    requires { IsAloneIfChildless locks.now forest.now txn }
-    ensures blockers { IfOk result (λ survey. AreBlockers locks.now forest.now txn accesses.now survey.blockers.items) }
+    requires alone { IsAloneIfChildless locks.now forest.now txn }
+    requires no_holder { is_strict rule ≡ true → HasNoHolderAbove locks.now forest.now }
+    ensures blockers { IfOk result (λ survey. AreBlockers rule locks.now forest.now txn accesses.now survey.blockers.items) }
     ensures within { IfOk result (λ survey. survey.held ≤ length accesses.now) }
     ensures held { IfOk result (λ survey. AreGranted locks.now locks.now txn (take survey.held accesses.now)) }
 {
     if forest.live_children(txn) != 0 {
-        let blockers = locks.blockers(forest, txn, accesses)?;
+        let blockers = locks.blockers(forest, txn, accesses, rule)?;
         return Ok(Survey { blockers, held: 0 });
     }
-    locks.survey(forest, txn, accesses)
+    locks.survey(forest, txn, accesses, rule)
 }
 
 /// The reply of a call that was made, twice, and its accesses.
@@ -221,16 +230,18 @@ fn try_call(
     txn: TxnId,
     stamp: u64,
     call: &Call,
+    rule: Rule,
 ) -> Result<Tried, Memory>
     requires sound { AreSoundCells tree.old }
     requires locks { is_opened locks.old txn ≡ true }
     requires log { is_open logs.old txn ≡ true }
     requires alone { IsAloneIfChildless locks.old forest.now txn }
-    ensures tried { IfOk result (IsTried tree.old tree.new locks.old locks.new logs.old logs.new forest.now txn stamp call.now) }
+    requires no_holder { is_strict rule ≡ true → HasNoHolderAbove locks.old forest.now }
+    ensures tried { IfOk result (IsTried rule tree.old tree.new locks.old locks.new logs.old logs.new forest.now txn stamp call.now) }
     ensures unmade { OnErr result (IsUnmade tree.old tree.new locks.old locks.new logs.old logs.new) }
 {
     let prepared = prepare(alloc, tree, stamp, call)?;
-    let Survey { blockers, held } = survey(locks, forest, txn, prepared.accesses.as_slice())?;
+    let Survey { blockers, held } = survey(locks, forest, txn, prepared.accesses.as_slice(), rule)?;
     if !blockers.is_empty() {
         return Ok(Tried::Blocked(blockers));
     }

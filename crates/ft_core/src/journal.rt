@@ -5,26 +5,26 @@ ghost use Rattle.std.specs.Option.{option_copied};
 ghost use Rattle.ft_tree.specs.Tidy.{tidy};
 ghost use Rattle.ft_posix.specs.declared.call.Call.{Call as CallOf};
 ghost use Rattle.ft_forest.specs.declared.TheConstants.{LAST_NUMBER as last_number};
-ghost use Rattle.ft_core.specs.Journals.{no_events, sub_in, is_full, with_begin, with_call, with_event, without, with_sub, with_none_kept};
+ghost use Rattle.ft_core.specs.Journals.{IsBaseTree, no_events, sub_in, is_full, with_begin, with_call, with_event, without, with_sub, with_none_kept};
 
 use crate::request::Event;
 use crate::{LAST_NUMBER, MOST_CALLS};
 use ft_base::{DenseTable, Memory, Sequence, Table};
 use ft_calls::{Access, Call, Reply};
 use ft_forest::TxnId;
+use ft_moss::Rule;
 use ft_tree::Tree;
 use std::alloc::Global;
 use std::marker::Model;
-use std::snapshot::Snapshot;
 
 pub(crate) struct Journal {
+    rule: Rule,
     events: Vec<Event>,
     // How many places are kept for the ends of transactions and for undos.
     spare: usize,
     asks: Table<Call>,
     subs: DenseTable<Option<u64>>,
-    // The tree of the base, of which nothing is kept: a snapshot has no bytes.
-    base: Snapshot<Tree>,
+    base: Tree,
     base_stamp: u64,
     last_stamp: u64,
 }
@@ -32,6 +32,7 @@ pub(crate) struct Journal {
 impl Drop for Journal {
     fn drop(self) {
         let Journal {
+            rule: _,
             events: _,
             spare: _,
             asks: _,
@@ -47,24 +48,26 @@ impl Model for Journal {
     ghost use Rattle.std.specs.Prelude.{◌-◌, ◌+◌, ◌≤◌, vec_len, vec_capacity};
     ghost use Rattle.ft_tree.specs.Tidy.{tidy};
     ghost use Rattle.ft_forest.specs.declared.TheConstants.{LAST_NUMBER as last_number};
-    ghost use Rattle.ft_core.specs.Journals.{Journaled, coded_journaled};
+    ghost use Rattle.ft_core.specs.Journals.{Journaled, IsBaseTree, coded_journaled};
 
     ghost Value = { Journaled };
 
     ghost coded = { coded_journaled };
 
-    ghost view = { λ a. record { events = a.events.items; asks = a.asks; subs = a.subs; base_tree = tidy a.base.value; base_stamp = a.base_stamp; last_stamp = a.last_stamp; spare = a.spare; room = vec_capacity a.events - (vec_len a.events + a.spare) } };
+    ghost view = { λ a. record { rule = a.rule; events = a.events.items; asks = a.asks; subs = a.subs; base_tree = tidy a.base; base_stamp = a.base_stamp; last_stamp = a.last_stamp; spare = a.spare; room = vec_capacity a.events - (vec_len a.events + a.spare) } };
 
-    ghost invariant = { λ a. (vec_len a.events + a.spare ≤ vec_capacity a.events) × (a.base_stamp ≤ a.last_stamp) × (a.last_stamp ≤ last_number) };
+    ghost invariant = { λ a. (vec_len a.events + a.spare ≤ vec_capacity a.events) × (a.base_stamp ≤ a.last_stamp) × (a.last_stamp ≤ last_number) × IsBaseTree a.base a.base_stamp };
 }
 
 impl Journal {
     /// Nothing has happened since this tree; `stamp` is the last one given before. Takes no memory.
-    pub(crate) fn new(alloc: Global, base: Snapshot<Tree>, stamp: u64) -> Journal
-        requires { stamp ≤ last_number }
-        ensures { result ≡ record (no_events (tidy base.value) stamp) { room = result.room } }
+    pub(crate) fn new(alloc: Global, rule: Rule, base: Tree, stamp: u64) -> Journal
+        requires last { stamp ≤ last_number }
+        requires base { IsBaseTree base stamp }
+        ensures { result ≡ record (no_events rule (tidy base) stamp) { room = result.room } }
     {
         Journal {
+            rule,
             events: Vec::new(alloc),
             spare: 0,
             asks: Table::new(alloc),
@@ -73,6 +76,21 @@ impl Journal {
             base_stamp: stamp,
             last_stamp: stamp,
         }
+    }
+
+    /// By which rule calls are granted.
+    pub(crate) fn rule(&self) -> Rule
+        ensures { result ≡ self.now.rule }
+    {
+        self.rule
+    }
+
+    /// The tree from which all began.
+    pub(crate) fn base(&self) -> &Tree
+        ensures tree { tidy result.now ≡ self.now.base_tree }
+        ensures base { IsBaseTree result.now self.now.base_stamp }
+    {
+        &self.base
     }
 
     pub(crate) fn events(&self) -> &[Event]
@@ -104,7 +122,8 @@ impl Journal {
 
     /// The last stamp given; where no call was granted yet, the base's last one.
     pub(crate) fn last_stamp(&self) -> u64
-        ensures { result ≡ self.now.last_stamp }
+        ensures stamp { result ≡ self.now.last_stamp }
+        ensures last { result ≤ last_number }
     {
         self.last_stamp
     }

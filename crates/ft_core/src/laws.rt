@@ -2,9 +2,9 @@
 ghost use Rattle.ft_core.specs.Laws.{CallLaws, LockLaws};
 
 use ft_moss::laws::{
-    locks_aborted, locks_alone, locks_begun, locks_block, locks_committed, locks_cover,
-    locks_granted, locks_known, locks_live, locks_lock, locks_released, locks_undone,
-    no_locks_at_first,
+    locks_aborted, locks_alone, locks_begun, locks_below_holders, locks_block, locks_committed,
+    locks_cover, locks_foreign, locks_granted, locks_known, locks_live, locks_lock, locks_released,
+    locks_undone, no_locks_at_first,
 };
 use ft_posix::laws::{
     hiding, lawful, leaving, making, nameless, placed, places, plain_accesses, runs, setting,
@@ -43,7 +43,9 @@ pub(crate) fn lock_laws()
     locks_aborted();
     locks_released();
     locks_block();
+    locks_foreign();
     locks_alone();
+    locks_below_holders();
     locks_cover();
     locks_lock();
     locks_live();

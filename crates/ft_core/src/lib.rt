@@ -4,6 +4,7 @@
 
 mod asking;
 mod back;
+mod clearing;
 mod ending;
 mod fault;
 mod journal;
@@ -16,6 +17,7 @@ mod sweeping;
 
 pub use fault::Fault;
 pub use ft_forest::{LAST_NUMBER, MOST_DEPTH, MOST_TRANSACTIONS, TxnId};
+pub use ft_moss::Rule;
 pub use manager::Core;
 pub use reports::{LiveChild, Pending};
 pub use request::{Answer, Event, Outcome, Request};

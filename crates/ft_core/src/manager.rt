@@ -4,10 +4,12 @@ ghost use Rattle.ft_tree.specs.Tidy.{tidy};
 ghost use Rattle.ft_tree.specs.Sound.{IsSoundTree, AreSoundCells};
 ghost use Rattle.ft_core.specs.declared.fault.Fault.{Fault as FaultOf};
 ghost use Rattle.ft_core.specs.declared.fault.Fault.TheVariants.{Memory as MemoryFault};
+ghost use Rattle.ft_moss.specs.declared.rule.Rule.TheVariants.{Profile};
 ghost use Rattle.ft_history.specs.History.Fate.{Live};
 ghost use Rattle.ft_core.specs.declared.request.Request.TheVariants.{Begin, Sub, Drop as DropAsk};
 ghost use Rattle.ft_core.specs.declared.request.Answer.TheVariants.{Txn, Dropped};
 ghost use Rattle.ft_core.specs.States.{at_base, first_base, fate_of, next_txn, after_begin};
+ghost use Rattle.ft_core.specs.Journals.{IsBaseTree};
 ghost use Rattle.ft_core.specs.Living.{SomeIsLive, NoneIsLive};
 ghost use Rattle.ft_core.specs.Promises.{IsHeadline};
 ghost use Rattle.ft_core.specs.Steps.{IsStep, exact_rule, fault_of_fate, answer_with, refusal_of, begin_request};
@@ -22,12 +24,12 @@ use crate::request::Event;
 use ft_base::Memory;
 use ft_forest::{Forest, ForestFault, State, TxnId};
 use ft_locks::Locks;
+use ft_moss::Rule;
 use ft_posix::laws::plain_soundness;
 use ft_tree::Tree;
 use ft_undo::Logs;
 use std::alloc::Global;
 use std::marker::Model;
-use std::snapshot::Snapshot;
 
 /// A tree with its transactions.
 ///
@@ -70,22 +72,37 @@ impl Model for Core {
 }
 
 impl Core {
-    /// A core over the empty tree: the root alone.
+    /// A core over the empty tree: the root alone. Its rule is `Rule::Profile`.
     pub fn new(alloc: Global) -> Result<Core, Fault>
-        ensures { MatchResult result (λ core. core ≡ at_base first_base) (λ fault. fault ≡ MemoryFault) }
+        ensures { MatchResult result (λ core. core ≡ at_base Profile first_base) (λ fault. fault ≡ MemoryFault) }
+    {
+        Core::with_rule(alloc, Rule::Profile)
+    }
+
+    /// A core over the empty tree that grants calls by this rule.
+    pub fn with_rule(alloc: Global, rule: Rule) -> Result<Core, Fault>
+        ensures { MatchResult result (λ core. core ≡ at_base rule first_base) (λ fault. fault ≡ MemoryFault) }
     {
         call_laws();
         lock_laws();
+        let base = Tree::new(alloc)?;
         let tree = Tree::new(alloc)?;
         let locks = Locks::new(alloc)?;
         Ok(Core {
             alloc,
-            journal: Journal::new(alloc, Snapshot::of(&tree), 1),
+            journal: Journal::new(alloc, rule, base, 1),
             tree,
             forest: Forest::new(alloc, 0),
             locks,
             logs: Logs::new(alloc),
         })
+    }
+
+    /// By which rule calls are granted. It never changes.
+    pub fn rule(&self) -> Rule
+        ensures { result ≡ self.now.rule }
+    {
+        self.journal.rule()
     }
 
     /// Begins a top-level transaction.
@@ -131,6 +148,14 @@ impl Core {
         call_laws();
         plain_soundness();
         &self.tree
+    }
+
+    /// The tree of the base: the root alone, until a checkpoint. No number above the base's last stamp stands in it.
+    pub fn base(&self) -> &Tree
+        ensures tree { tidy result.now ≡ self.now.base.tree }
+        ensures base { IsBaseTree result.now self.now.base.last_stamp }
+    {
+        self.journal.base()
     }
 
     /// What has happened since the base, in order.

@@ -73,7 +73,13 @@ impl Core {
         lock_laws();
         let stamp = self.journal.next_stamp();
         let touched = accesses(self.alloc, &self.tree, stamp, call)?;
-        let Survey { blockers, .. } = survey(&self.locks, &self.forest, txn, touched.as_slice())?;
+        let Survey { blockers, .. } = survey(
+            &self.locks,
+            &self.forest,
+            txn,
+            touched.as_slice(),
+            self.journal.rule(),
+        )?;
         Ok(blockers)
     }
 }

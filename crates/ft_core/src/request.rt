@@ -22,6 +22,8 @@ pub enum Request {
     Abort(TxnId),
     /// Undoes the last of a transaction's own standing calls.
     Undo(TxnId),
+    /// Makes the tree as it stands the base, and forgets what has happened.
+    Checkpoint,
 }
 
 /// What a core answers.
@@ -41,6 +43,8 @@ pub enum Answer {
     Aborted(u64),
     /// The call with this stamp is undone.
     Undone(u64),
+    /// The tree is the base, and what has happened is forgotten.
+    Cleared,
     /// The request is refused.
     Refused(Fault),
 }

@@ -64,6 +64,10 @@ impl Core {
                 Ok(stamp) => Answer::Undone(stamp),
                 Err(fault) => Answer::Refused(fault),
             },
+            Request::Checkpoint => match self.checkpoint() {
+                Ok(()) => Answer::Cleared,
+                Err(fault) => Answer::Refused(fault),
+            },
         }
     }
 }

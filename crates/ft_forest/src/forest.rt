@@ -64,6 +64,20 @@ impl Forest {
         }
     }
 
+    /// Forgets all transactions, none of which is live, and gives their memory back. Their numbers go on from the last one.
+    /// Takes no memory.
+    pub fn restart(&mut self)
+        requires { (x : ℕ) → state_in self.old x ≢ Some Live }
+        ensures { self.new ≡ none_since (last_in self.old) }
+    {
+        let alloc = *self.records.list.allocator();
+        self.base = self.last();
+        self.records = Records {
+            youngest: None,
+            list: Vec::new(alloc),
+        };
+    }
+
     /// The last transaction's number; where there is none yet, the base's last one.
     pub fn last(&self) -> u64
         ensures { result ≡ last_in self.now }

@@ -1,5 +1,5 @@
 -- What each event does to the locks.
-use Rattle.std.proofs.Common.{◌≡◌, ◌≢◌, ◌≤◌, ℕ, Bool, true, false, not, cond, ◌&&◌, ◌||◌, Option, Some, None, List, ◌∷◌, inl, inr, sym, refl, ap, ◌∙◌, subst, arith, ◌==◌, ne_eqb, ◌<◌}
+use Rattle.std.proofs.Common.{◌≡◌, ◌≢◌, ◌≤◌, ℕ, Bool, true, false, not, cond, ◌&&◌, ◌||◌, Option, Some, None, List, [], ◌∷◌, inl, inr, sym, refl, ap, ◌∙◌, subst, arith, ◌==◌, ne_eqb, eqb-true, ◌<◌}
 use Rattle.std.proofs.lemmas.Bool.{false≢true, and_parts, and_from, or_cases, or_left, or_right, eqb-false}
 use Rattle.ft_laws.specs.Lists.{In}
 use Rattle.ft_laws.specs.Calls.{Calls, Done}
@@ -7,11 +7,12 @@ use Rattle.ft_laws.specs.Laws.{Lawful}
 use Rattle.ft_laws.proofs.Lists.{Each-map}
 use Rattle.ft_laws.proofs.Tests.{by_test}
 use Rattle.ft_history.specs.Forest.{is_some_and}
+use Rattle.ft_history.specs.Logs.{passing}
 use Rattle.ft_history.specs.History.{Base, Event, last_transaction, parent, over, owner_of, grants, begun, is_child}
 use Rattle.ft_history.specs.History.Event.{Begin, Call, Undo, Commit, Abort}
-use Rattle.ft_history.specs.Locks.{is_owner, holds_lock, retains_lock, owns_lock, is_blocker}
+use Rattle.ft_history.specs.Locks.{is_owner, holds_lock, retains_lock, owns_lock, is_blocker, is_moss_blocker}
 use Rattle.ft_history.specs.Legal.{Legal}
-use Rattle.ft_history.specs.Promises.{LockRules, Blockers}
+use Rattle.ft_history.specs.Promises.{LockRules, AreThose, Blockers}
 use Rattle.ft_history.proofs.Words.{same_some, none_some, moved, moved_same, moved_other, moved_from, In-passing, passing-In, Pairs-passing, same_test, not_true}
 use Rattle.ft_history.proofs.Owning.{any_agree, any_push, some_is, is_some, Owned, owned_by, owned, owning, owns_one, one_owns}
 use Rattle.ft_history.proofs.Aborting.{ended}
@@ -38,6 +39,18 @@ retained_new : (old a b : Bool) → (old || (a && (not a && b))) ≡ old
 retained_new true a b = refl
 retained_new false true b = refl
 retained_new false false b = refl
+
+-- where nobody passes a test, nobody passes one that passes no others
+none_passes : (p q : ℕ → Bool) → ((y : ℕ) → p y ≡ true → q y ≡ true) → (xs : List ℕ) → passing q xs ≡ [] → passing p xs ≡ []
+none_passes p q more [] none = refl
+none_passes p q more (x ∷ xs) none = by_test (q x)
+    (λ k. absurd (no_list x (passing q xs) (sym (ap (λ b. cond b (x ∷ passing q xs) (passing q xs)) k) ∙ none)))
+    (λ k. by_test (p x)
+    (λ m. absurd (false≢true (sym k ∙ more x m)))
+    (λ m. ap (λ b. cond b (x ∷ passing p xs) (passing p xs)) m ∙ none_passes p q more xs (sym (ap (λ b. cond b (x ∷ passing q xs) (passing q xs)) k) ∙ none)))
+  where
+    no_list : (y : ℕ) (ys : List ℕ) → (y ∷ ys) ≡ [] → ⊥
+    no_list y ys e = cc
 
 module _ (C : Calls) (L : Lawful C) (base : Base C) (h : List (Event C)) (sound : Sound C L base h) where
   -- another event, that grants no call: who owned and owns a lock
@@ -163,16 +176,49 @@ module _ (C : Calls) (L : Lawful C) where
         retained = λ y test. abort_locks C L base h sound t legal (λ a. not (a == y)) y test;
       }
 
+  -- those who pass a test that only owners of locks pass are all begun
+  module _ (base : Base C) (base_sound : C.IsSound base.store) (h : List (Event C)) (legal : Legal C base h) where
+    those : (p : ℕ → Bool) (test : C.Accesses → Bool) → ((y : ℕ) → p y ≡ true → owns_lock C h y test ≡ true) → AreThose p (passing p (begun C h))
+    those p test owns =
+        let sound = sound_all C L base base_sound h legal in
+        record {
+          rising = Pairs-passing (λ x y. x < y) p (begun C h) sound.numbers_rise;
+          exact = λ y. (
+            λ i. (In-passing p y (begun C h) i).1,
+            λ k.
+                let o = owns_one C h y test (owns y k) in
+                let l = lived C base.transaction h y (owner_is_live C L base h sound o.call o.granted y o.owner) in
+                passing-In p y (begun C h) (sound.numbers_all y l.since l.begun) k,
+          );
+        }
+
+    module _ (t : ℕ) (f : C.Accesses) where
+      abbrev in_way : C.Accesses → Bool
+      in_way g = C.conflict g f
+
+      moss_owns : (y : ℕ) → is_moss_blocker C h t f y ≡ true → owns_lock C h y in_way ≡ true
+      moss_owns y k = elim (or_cases (holds_lock C h y in_way && not (y == t)) (retains_lock C h y in_way && not (over C h y t)) k) [
+        | inl m ↦ or_left (holds_lock C h y in_way) (retains_lock C h y in_way) (and_parts (holds_lock C h y in_way) (not (y == t)) m).0
+        | inr m ↦ or_right (holds_lock C h y in_way) (retains_lock C h y in_way) (and_parts (retains_lock C h y in_way) (not (over C h y t)) m).0
+      ]
+
+      -- who is neither t nor above it is not t
+      another : (y : ℕ) → not (over C h y t) ≡ true → not (y == t) ≡ true
+      another y k = by_test (y == t)
+          (λ is. absurd (false≢true (sym (not_true (over C h y t) k) ∙ ap (λ x. over C h x t) (eqb-true y t is) ∙ (laws C L base h (sound_all C L base base_sound h legal)).itself t)))
+          (λ is. ap not is)
+
+      moss_blocks : (y : ℕ) → is_blocker C h t f y ≡ true → is_moss_blocker C h t f y ≡ true
+      moss_blocks y k =
+          let both = and_parts (owns_lock C h y in_way) (not (over C h y t)) k in
+          elim (or_cases (holds_lock C h y in_way) (retains_lock C h y in_way) both.0) [
+            | inl m ↦ or_left (holds_lock C h y in_way && not (y == t)) (retains_lock C h y in_way && not (over C h y t)) (and_from (holds_lock C h y in_way) (not (y == t)) m (another y both.1))
+            | inr m ↦ or_right (holds_lock C h y in_way && not (y == t)) (retains_lock C h y in_way && not (over C h y t)) (and_from (retains_lock C h y in_way) (not (over C h y t)) m both.1)
+          ]
+
   pub blockers : Blockers C
-  blockers base base_sound h legal t f =
-      let sound = sound_all C L base base_sound h legal in
-      record {
-        rising = Pairs-passing (λ x y. x < y) (is_blocker C h t f) (begun C h) sound.numbers_rise;
-        exact = λ y. (
-          λ i. (In-passing (is_blocker C h t f) y (begun C h) i).1,
-          λ k.
-              let o = owns_one C h y (λ g. C.conflict g f) (and_parts (owns_lock C h y (λ g. C.conflict g f)) (not (over C h y t)) k).0 in
-              let l = lived C base.transaction h y (owner_is_live C L base h sound o.call o.granted y o.owner) in
-              passing-In (is_blocker C h t f) y (begun C h) (sound.numbers_all y l.since l.begun) k,
-        );
-      }
+  blockers base base_sound h legal t f = record {
+    own = those base base_sound h legal (is_blocker C h t f) (λ g. C.conflict g f) (λ y k. (and_parts (owns_lock C h y (λ g. C.conflict g f)) (not (over C h y t)) k).0);
+    moss = those base base_sound h legal (is_moss_blocker C h t f) (λ g. C.conflict g f) (moss_owns base base_sound h legal t f);
+    stricter = λ none. none_passes (is_blocker C h t f) (is_moss_blocker C h t f) (moss_blocks base base_sound h legal t f) (begun C h) none;
+  }

@@ -34,6 +34,13 @@ module _ (C : Calls) where
   abbrev pub blockers_of : List (Event C) → ℕ → C.Accesses → List ℕ
   blockers_of h t f = passing (is_blocker h t f) (begun C h)
 
+  -- The same by Moss's own rule for holders: no other transaction than t may hold a conflicting lock, its ancestors included, and all who retain one must be superiors (Moss, the locking rules).
+  abbrev pub is_moss_blocker : List (Event C) → ℕ → C.Accesses → ℕ → Bool
+  is_moss_blocker h t f y = (holds_lock h y (λ g. C.conflict g f) && not (y == t)) || (retains_lock h y (λ g. C.conflict g f) && not (over C h y t))
+
+  abbrev pub moss_blockers_of : List (Event C) → ℕ → C.Accesses → List ℕ
+  moss_blockers_of h t f = passing (is_moss_blocker h t f) (begun C h)
+
   -- What each transaction holds and retains in this history.
   pub record AreLocks (h : List (Event C)) (holds retains : ℕ → (C.Accesses → Bool) → Bool) : Type 0 where
     pub held : (y : ℕ) (test : C.Accesses → Bool) → holds_lock h y test ≡ holds y test

@@ -8,13 +8,18 @@ use Rattle.ft_history.specs.Logs.{passing, joined, pushed, put, handed, emptied}
 use Rattle.ft_history.specs.History.{Base, IsFresh, Event, number, last_stamp, parent, over, newest_below, IsLive, live_children, owner_of, grants, standing}
 use Rattle.ft_history.specs.History.Event.{Begin, Call, Undo, Commit, Abort}
 use Rattle.ft_history.specs.Fates.{AreNumbered, AreLiveChildren, FatesAfter}
-use Rattle.ft_history.specs.Locks.{owns_lock, is_blocker, blockers_of, LocksAfter}
+use Rattle.ft_history.specs.Locks.{owns_lock, is_blocker, blockers_of, is_moss_blocker, moss_blockers_of, LocksAfter}
 use Rattle.ft_history.specs.Undoing.{last_sub, undo_target, MayUndo, RanAlone}
 use Rattle.ft_history.specs.Undoing.Target.{Found, SubSince, Nothing}
 use Rattle.ft_history.specs.Legal.{outcome, MayBegin, MayCommit, Legal}
 use Rattle.ft_history.specs.Ledger.{lists}
 use Rattle.ft_history.specs.Orders.{IsNested, IsInFront, IsAbortOrder}
 use Rattle.ft_history.specs.Core.{Entry, take_back, MayTakeBack, machine, IsMade, IsSweep, checkpoint, IsCore}
+
+-- ys are those who pass the test, each once and in the order of their numbers
+pub record AreThose (test : ℕ → Bool) (ys : List ℕ) : Type 0 where
+  pub rising : Pairs (λ x y. x < y) ys
+  pub exact : (y : ℕ) → In y ys ↔ (test y ≡ true)
 
 module _ (C : Calls) where
   -- P holds of each history that is legal from a sound base
@@ -89,12 +94,14 @@ module _ (C : Calls) where
   LiveOwners = OfHistories (λ base h. AreLiveOwners base.transaction h)
 
   pub record AreBlockers (h : List (Event C)) (t : ℕ) (f : C.Accesses) : Type 0 where
-    -- Each stands there once, in the order of the numbers,
-    pub rising : Pairs (λ x y. x < y) (blockers_of C h t f)
-    -- and they are all who are in the way: since an owner is live, and so begun, none is missed.
-    pub exact : (y : ℕ) → In y (blockers_of C h t f) ↔ (is_blocker C h t f y ≡ true)
+    -- They are all who are in the way: since an owner is live, and so begun, none is missed.
+    pub own : AreThose (is_blocker C h t f) (blockers_of C h t f)
+    -- So it is by Moss's own rule,
+    pub moss : AreThose (is_moss_blocker C h t f) (moss_blockers_of C h t f)
+    -- which grants no call that the other does not.
+    pub stricter : moss_blockers_of C h t f ≡ [] → blockers_of C h t f ≡ []
 
-  -- The blockers of a call of t with any accesses.
+  -- The blockers of a call of t with any accesses, by both rules.
   abbrev pub Blockers : Type 0
   Blockers = OfHistories (λ base h. (t : ℕ) (f : C.Accesses) → AreBlockers h t f)
 

@@ -61,7 +61,8 @@ pub fn lock_sharing()
 {}
 
 /// The blockers of a call, each once and in the order of their numbers, are all who own a conflicting
-/// lock and are neither the asker nor above it.
+/// lock and are neither the asker nor above it; by Moss's own rule for holders, those above it who hold
+/// one as well.
 pub fn blockers()
     ensures { Blockers tiny_calls }
 {}

@@ -1,5 +1,6 @@
 // What no clause says: which words the crate that reads them takes, and its texts.
 use ft_command::{Choice, choose};
+use ft_core::Rule;
 use std::alloc::Global;
 use std::test::Fail;
 
@@ -15,8 +16,13 @@ fn is_help(alloc: Global, words: &[&str], part: &str) -> bool {
     matches!(&choice, Choice::Help(text) if text.as_str().contains(part))
 }
 
+// Whether they ask for a script on a core of this rule.
+fn is_play_by(alloc: Global, words: &[&str], wanted: Rule) -> bool {
+    matches!(choose(alloc, words), Choice::Play { rule } if rule == wanted)
+}
+
 fn is_play(alloc: Global, words: &[&str]) -> bool {
-    matches!(choose(alloc, words), Choice::Play)
+    is_play_by(alloc, words, Rule::Profile)
 }
 
 fn is_dot(alloc: Global, words: &[&str]) -> bool {
@@ -26,9 +32,12 @@ fn is_dot(alloc: Global, words: &[&str]) -> bool {
 // Whether they ask for the jobs of this plan, in so many turns, and to be as quiet.
 fn is_jobs(alloc: Global, words: &[&str], plan: &str, most: u64, hushed: bool) -> bool {
     match choose(alloc, words) {
-        Choice::Jobs { file, turns, quiet } => {
-            file.as_str() == plan && turns == most && quiet == hushed
-        }
+        Choice::Jobs {
+            file,
+            turns,
+            quiet,
+            rule,
+        } => { file.as_str() == plan && turns == most && quiet == hushed && rule == Rule::Profile }
         _ => false,
     }
 }
@@ -37,6 +46,7 @@ fn is_jobs(alloc: Global, words: &[&str], plan: &str, most: u64, hushed: bool) -
 fn choices(rt: HostRuntime) -> Result<(), Fail> {
     let alloc = rt.alloc();
     assert!(rt; is_play(alloc, &["play"]));
+    assert!(rt; is_play_by(alloc, &["play", "--moss"], Rule::Moss));
     assert!(rt; is_dot(alloc, &["dot"]));
     assert!(rt; is_usage(alloc, &[], "Usage: ft_run <COMMAND>"));
     assert!(rt; is_usage(alloc, &["dance"], "unrecognized subcommand 'dance'"));

@@ -1,4 +1,5 @@
 // What no clause says: the line that tells of a fault, and what jobs came to.
+use ft_core::Rule;
 use ft_status::{jobs_status, play_status};
 use std::alloc::Global;
 use std::io;
@@ -63,7 +64,7 @@ fn ends_with<R: Read>(
     held: &str,
 ) -> bool {
     let mut replies = Narrow::new(alloc, 100);
-    let status = play_status(alloc, reader, &mut replies, errors);
+    let status = play_status(alloc, Rule::Profile, reader, &mut replies, errors);
     status == end.0
         && replies.held.as_slice() == end.1.as_bytes()
         && errors.held.as_slice() == held.as_bytes()
@@ -118,6 +119,7 @@ fn jobs_program_text(rt: HostRuntime) -> Result<(), Fail> {
     let status = jobs_status(
         &rt,
         alloc,
+        Rule::Profile,
         ONE_JOB,
         1,
         None::<Narrow>,
@@ -130,6 +132,7 @@ fn jobs_program_text(rt: HostRuntime) -> Result<(), Fail> {
     let status = jobs_status(
         &rt,
         alloc,
+        Rule::Profile,
         b"".as_slice(),
         1,
         None::<Narrow>,
@@ -148,6 +151,7 @@ fn output_that_fails(rt: HostRuntime) -> Result<(), Fail> {
     let status = jobs_status(
         &rt,
         alloc,
+        Rule::Profile,
         ONE_JOB,
         1,
         None::<Narrow>,

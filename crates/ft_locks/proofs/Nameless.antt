@@ -11,7 +11,7 @@ use Rattle.ft_posix.specs.declared.call.Mode.{Mode}
 use Rattle.ft_locks.specs.declared.cells.Locked.{Locked}
 use Rattle.ft_moss.specs.Cells.{Cells, CellKeys, Keyed}
 use Rattle.ft_locks.specs.Slots.{cells_of, at_of, AreKeyed, is_names, HaveNoNames}
-use Rattle.ft_moss.specs.Blocking.{Found, AreNoted, is_in_way, way}
+use Rattle.ft_moss.specs.Blocking.{Found, AreNoted, Counted, is_in_way, way}
 use Rattle.ft_moss.proofs.CellViews.{key_in}
 use Rattle.ft_moss.proofs.Paired.{the_one}
 use Rattle.ft_moss.proofs.Places.{marks-missing}
@@ -80,11 +80,10 @@ no_names s index seen is keyed none d = by_key (key_in index (Names d)) refl
     by_key (Some k) e = absurd (false≢true (sym (none k (Names d) ((keyed (Names d) k).0 e))))
 
 -- and nobody is in the way by them
-pub none_beside : (found : Found) (m : Cells) (d : ℕ) (mode : Mode) (p : ℕ → Bool) → finite.get m (Names d) ≡ None → AreNoted found found (λ u. p u && way m (Names d) mode u)
-none_beside found m d mode p none u =
-    unnoted (finite.contains_key found u) (p u) ∙ ap (λ o. finite.contains_key found u || (p u && is_in_way o mode)) (sym (marks-missing m (Names d) (sym none) u))
+pub none_beside : (found : Found) (m : Cells) (d : ℕ) (mode : Mode) (counted : Counted) → finite.get m (Names d) ≡ None → AreNoted found found (way counted m (Names d) mode)
+none_beside found m d mode counted none u =
+    unnoted (finite.contains_key found u) ∙ ap (λ o. finite.contains_key found u || is_in_way counted u o mode) (sym (marks-missing m (Names d) (sym none) u))
   where
-    unnoted : (a b : Bool) → a ≡ (a || (b && false))
-    unnoted true b = refl
-    unnoted false true = refl
-    unnoted false false = refl
+    unnoted : (a : Bool) → a ≡ (a || false)
+    unnoted true = refl
+    unnoted false = refl

@@ -2,14 +2,15 @@
 ghost use Rattle.std.specs.Prelude.{◌≡◌, ◌≢◌, ◌<◌, ◌≤◌, ℕ, take, length, true, OnOk, OnErr, IfOk, IfSome, IfNone};
 ghost use Rattle.std.specs.FinSet as set;
 ghost use Rattle.ft_moss.specs.Locks.{no_locks, is_locked, is_let_go, is_opened, AreBlockers, AreGranted, AreInherited, AreListed, AreReleased};
-ghost use Rattle.ft_moss.specs.Surveys.{HasItsCellsAlone};
+ghost use Rattle.ft_moss.specs.Rules.{is_strict};
+ghost use Rattle.ft_moss.specs.Surveys.{HasItsCellsAlone, HasNoHolderAbove};
 
-use crate::blocking::{note_access, noted, survey_access};
+use crate::blocking::{Asker, note_access, noted, survey_access};
 use crate::cells::LET_GO;
 use crate::holdings::{Dropped, Holdings};
 use ft_base::{Memory, Table};
 use ft_forest::{Forest, TxnId};
-use ft_moss::{LockLine, Marks};
+use ft_moss::{LockLine, Marks, Rule};
 use ft_posix::Access;
 use ft_tree::{Cell, Keeps};
 use std::alloc::Global;
@@ -85,30 +86,41 @@ impl Locks {
     }
 
     /// Who is in the way of a call with these accesses: the owners of conflicting locks that are
-    /// neither the asker nor an ancestor of it, in rising order and each once.
+    /// neither the asker nor an ancestor of it, and by `Rule::Moss` the ancestors of it that hold one
+    /// too, in rising order and each once.
     pub fn blockers(
         &self,
         forest: &Forest,
         txn: TxnId,
         accesses: &[Access],
+        rule: Rule,
     ) -> Result<Vec<TxnId>, Memory>
-        ensures { IfOk result (λ blockers. AreBlockers self.now forest.now txn accesses.now blockers.items) }
+        ensures { IfOk result (λ blockers. AreBlockers rule self.now forest.now txn accesses.now blockers.items) }
     {
         let mut found = Table::new(self.alloc);
         for access in accesses {
-            note_access(&self.holdings, &mut found, forest, txn, access)?;
+            let asker = Asker { txn, rule };
+            note_access(&self.holdings, &mut found, forest, &asker, access)?;
         }
         noted(self.alloc, &found)
     }
 
-    /// Who is in the way of a call with these accesses, and for how many of them, from the first on,
-    /// the asker holds the locks already.
+    /// Who is in the way of a call with these accesses by a rule, and for how many of them, from the
+    /// first on, the asker holds the locks already.
     ///
     /// A cell on which a lock of the asker's own covers the access is looked at once, and not those
-    /// that overlap it: nobody but an ancestor has a lock there that conflicts.
-    pub fn survey(&self, forest: &Forest, txn: TxnId, accesses: &[Access]) -> Result<Survey, Memory>
-        requires { HasItsCellsAlone self.now forest.now txn }
-        ensures blockers { IfOk result (λ survey. AreBlockers self.now forest.now txn accesses.now survey.blockers.items) }
+    /// that overlap it: nobody but an ancestor has a lock there that conflicts, and where all calls
+    /// are granted by `Rule::Moss` no ancestor holds one.
+    pub fn survey(
+        &self,
+        forest: &Forest,
+        txn: TxnId,
+        accesses: &[Access],
+        rule: Rule,
+    ) -> Result<Survey, Memory>
+        requires alone { HasItsCellsAlone self.now forest.now txn }
+        requires no_holder { is_strict rule ≡ true → HasNoHolderAbove self.now forest.now }
+        ensures blockers { IfOk result (λ survey. AreBlockers rule self.now forest.now txn accesses.now survey.blockers.items) }
         ensures within { IfOk result (λ survey. survey.held ≤ length accesses.now) }
         ensures held { IfOk result (λ survey. AreGranted self.now self.now txn (take survey.held accesses.now)) }
     {
@@ -116,7 +128,8 @@ impl Locks {
         let mut held = 0;
         let mut has_all = true;
         for access in accesses {
-            let is_held = survey_access(&self.holdings, &mut found, forest, txn, access)?;
+            let asker = Asker { txn, rule };
+            let is_held = survey_access(&self.holdings, &mut found, forest, &asker, access)?;
             has_all &= is_held;
             if has_all {
                 held += 1;

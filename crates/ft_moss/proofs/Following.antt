@@ -1,6 +1,6 @@
 -- The lock table follows the locks of the history.
-use Rattle.std.proofs.Common.{◌≡◌, ℕ, Bool, true, false, cond, not, ◌&&◌, ◌||◌, ◌==◌, List, [], ◌∷◌, Option, Some, map, refl, sym, ap, subst, ◌∙◌}
-use Rattle.std.proofs.lemmas.Bool.{false≢true, and_parts, and_from, or_left, or_right}
+use Rattle.std.proofs.Common.{◌≡◌, ℕ, Bool, true, false, cond, not, ◌&&◌, ◌||◌, ◌==◌, List, [], ◌∷◌, inl, inr, Option, Some, map, refl, sym, ap, subst, ◌∙◌}
+use Rattle.std.proofs.lemmas.Bool.{false≢true, and_parts, and_from, or_cases, or_left, or_right, eqb-true}
 use Rattle.std.specs.List.{list_any}
 use Rattle.std.specs.FinSet as set
 use Rattle.std.specs.Cmp.{nat_eq_equiv, eq_by_cmp_equiv}
@@ -12,9 +12,12 @@ use Rattle.ft_laws.proofs.Tests.{by_test}
 use Rattle.ft_history.specs.Forest.{is_some_and, above}
 use Rattle.ft_history.specs.History.{over, is_child, owner_of, grants}
 use Rattle.ft_history.specs.History.Event.{Begin, Call, Undo, Commit, Abort}
-use Rattle.ft_history.specs.Locks.{holds_lock, retains_lock, owns_lock, blockers_of, LocksAfter}
-use Rattle.ft_history.proofs.Words.{rising_one, not_true, none_some}
-use Rattle.ft_history.proofs.Owning.{any_one, one_any, owning, owns_one, one_owns}
+use Rattle.ft_history.specs.Locks.{holds_lock, retains_lock, owns_lock, blockers_of, moss_blockers_of, LocksAfter}
+use Rattle.ft_history.specs.Promises.{AreBlockers as AreBlockersOf}
+use Rattle.ft_history.proofs.Words.{rising_one, none_some}
+use Rattle.ft_history.proofs.Owning.{any_one, one_any, owned_by, owned, owning, owns_one}
+use Rattle.ft_history.proofs.History.{laws}
+use Rattle.ft_history.proofs.Legal.{sound_all}
 use Rattle.ft_history.proofs.Promises.{live_owners}
 use Rattle.ft_history.proofs.Locks as theory
 use Rattle.ft_history.proofs.Sharing.{sharing, conflict_back}
@@ -30,9 +33,11 @@ use Rattle.ft_forest.specs.Transactions.{over_in}
 use Rattle.ft_moss.specs.declared.line.LockKind.{LockKind}
 use Rattle.ft_moss.specs.declared.line.LockKind.TheVariants.{Held, Retained}
 use Rattle.ft_moss.specs.declared.line.LockLine.{LockLine}
-use Rattle.ft_moss.specs.Locks.{LockTable, is_locked, line_cmp, has_lock, is_held, same_mode, has_access, line_access, OwnsConflict}
+use Rattle.ft_moss.specs.Locks.{LockTable, is_locked, line_cmp, has_lock, is_held, same_mode, has_access, line_access, IsInTheWay}
 use Rattle.ft_moss.proofs.Tables.{cell_locked}
-use Rattle.ft_moss.specs.Law.{History, is_mode, is_of, is_lock, AreLocksOf, FirstLaw, OwnerLaw, BeginLaw, GrantLaw, UndoLaw, CommitLaw, AbortLaw, ReleaseLaw, BlockLaw, AloneLaw, CoverLaw}
+use Rattle.ft_moss.specs.Law.{History, is_mode, is_of, is_lock, AreLocksOf, FirstLaw, OwnerLaw, BeginLaw, GrantLaw, UndoLaw, CommitLaw, AbortLaw, ReleaseLaw, blockers_by, BlockLaw, ForeignLaw, AloneLaw, CoverLaw}
+use Rattle.ft_moss.specs.declared.rule.Rule.{Rule}
+use Rattle.ft_moss.specs.declared.rule.Rule.TheVariants.{Profile, Moss}
 
 -- What is of a cell in a mode.
 
@@ -151,17 +156,27 @@ module _ (h : History) (t : LockTable) (locks : AreLocksOf h t) (asked : List Ac
   abbrev in_way : List (PlaceAccess Cell) → Bool
   in_way f = posix_calls.conflict f (map as_place asked)
 
-  in_table : owns_lock posix_calls h y in_way ≡ true → OwnsConflict t asked y
-  in_table owns =
-      let o = owns_one posix_calls h y in_way owns in
+  -- what a call of this kind of asker accesses is a lock of its owner
+  table_line : (kind : LockKind) (of : ℕ → Bool) → ((test : List (PlaceAccess Cell) → Bool) → owned_by posix_calls h y of test ≡ cond (is_held kind) (holds_lock posix_calls h y test) (retains_lock posix_calls h y test))
+      → owned_by posix_calls h y of in_way ≡ true → (l : LockLine) × (has_lock t l ≡ true) × (l.owner ≡ y) × (list_any (λ a. conflict (line_access l) a) asked ≡ true) × (l.kind ≡ kind)
+  table_line kind of is owns =
+      let o = owned posix_calls h y of in_way owns in
       let one = any_one (λ a. any (places_conflict posix a) (map as_place asked)) o.call.accesses o.passes in
-      let own = lock_of h o.call y one.0 o.granted o.owner one.1 in
-      record {
-        line = access_line one.0 y own.0;
-        there = locks (access_line one.0 y own.0) ∙ own.1;
-        owner = refl;
-        conflicts = conflicts_are one.0 (access_line one.0 y own.0) asked refl (mode_again one.0.writes) ∙ one.2;
-      }
+      let l : LockLine = access_line one.0 y kind in (
+        l,
+        locks l
+            ∙ sym (is (is_of l))
+            ∙ owning posix_calls h y of (is_of l) (record { call = o.call; granted = o.granted; owner = o.owner; asker = o.asker; passes = of_its_line one.0 y kind o.call.accesses one.1 }),
+        refl,
+        conflicts_are one.0 l asked refl (mode_again one.0.writes) ∙ one.2,
+        refl,
+      )
+
+  held_line : holds_lock posix_calls h y in_way ≡ true → (l : LockLine) × (has_lock t l ≡ true) × (l.owner ≡ y) × (list_any (λ a. conflict (line_access l) a) asked ≡ true) × (l.kind ≡ Held)
+  held_line = table_line Held (λ u. u == y) (λ test. refl)
+
+  kept_line : retains_lock posix_calls h y in_way ≡ true → (l : LockLine) × (has_lock t l ≡ true) × (l.owner ≡ y) × (list_any (λ a. conflict (line_access l) a) asked ≡ true) × (l.kind ≡ Retained)
+  kept_line = table_line Retained (λ u. not (u == y)) (λ test. refl)
 
   -- a lock of the table is one of an owned call
   lock_owned : (l : LockLine) → is_lock h l ≡ true → owns_lock posix_calls h l.owner (is_of l) ≡ true
@@ -171,22 +186,30 @@ module _ (h : History) (t : LockTable) (locks : AreLocksOf h t) (asked : List Ac
       by_kind true held kept e = or_left held kept e
       by_kind false held kept e = or_right held kept e
 
-  in_history : OwnsConflict t asked y → owns_lock posix_calls h y in_way ≡ true
-  in_history owns =
-      let l : LockLine = owns.line in
-      let o = owns_one posix_calls h l.owner (is_of l) (lock_owned l (sym (locks l) ∙ owns.there)) in
+  -- the call that a line's lock is of conflicts, where the line does
+  history_line : (of : ℕ → Bool) (l : LockLine) → l.owner ≡ y → list_any (λ a. conflict (line_access l) a) asked ≡ true → owned_by posix_calls h y of (is_of l) ≡ true → owned_by posix_calls h y of in_way ≡ true
+  history_line of l owner conflicts lock =
+      let o = owned posix_calls h y of (is_of l) lock in
       let one = any_one (λ a. same_cell a.place l.cell && is_mode l.mode a.writes) o.call.accesses o.passes in
       let a : PlaceAccess Cell = one.0 in
       let same = and_parts (same_cell a.place l.cell) (is_mode l.mode a.writes) one.2 in
-      let way = sym (conflicts_are a l asked (sym (same_cell-is a.place l.cell same.0)) (mode_writes l.mode a.writes same.1)) ∙ owns.conflicts in
-      subst (λ u. owns_lock posix_calls h u in_way ≡ true) owns.owner
-      (one_owns posix_calls h l.owner in_way (record {
+      let way = sym (conflicts_are a l asked (sym (same_cell-is a.place l.cell same.0)) (mode_writes l.mode a.writes same.1)) ∙ conflicts in
+      owning posix_calls h y of in_way (record {
         call = o.call;
         granted = o.granted;
         owner = o.owner;
-        asker = refl;
+        asker = o.asker;
         passes = one_any (λ b. any (places_conflict posix b) (map as_place asked)) a o.call.accesses one.1 way;
-      }))
+      })
+
+  -- by the kind of its line, y holds or retains a lock that conflicts
+  in_history : (l : LockLine) → has_lock t l ≡ true → l.owner ≡ y → list_any (λ a. conflict (line_access l) a) asked ≡ true → cond (is_held l.kind) (holds_lock posix_calls h y in_way) (retains_lock posix_calls h y in_way) ≡ true
+  in_history l there owner conflicts = by_kind l.kind (λ j. cond (is_held l.kind) (holds_lock posix_calls h (owner j) (is_of l)) (retains_lock posix_calls h (owner j) (is_of l))) (sym (locks l) ∙ there)
+    where
+      by_kind : (kind : LockKind) → cond (is_held kind) (holds_lock posix_calls h l.owner (is_of l)) (retains_lock posix_calls h l.owner (is_of l)) ≡ cond (is_held kind) (holds_lock posix_calls h y (is_of l)) (retains_lock posix_calls h y (is_of l))
+          → cond (is_held kind) (holds_lock posix_calls h l.owner (is_of l)) (retains_lock posix_calls h l.owner (is_of l)) ≡ true → cond (is_held kind) (holds_lock posix_calls h y in_way) (retains_lock posix_calls h y in_way) ≡ true
+      by_kind Held is e = history_line (λ u. u == y) l owner conflicts (sym is ∙ e)
+      by_kind Retained is e = history_line (λ u. not (u == y)) l owner conflicts (sym is ∙ e)
 
 module _ (L : Lawful posix_calls) where
   pub owner_law : OwnerLaw
@@ -239,18 +262,76 @@ module _ (L : Lawful posix_calls) where
       ∙ sym (λ i. cond (is_held l.kind) (rule.held l.owner (is_of l) i) (rule.retained l.owner (is_of l) i))
 
   pub block_law : BlockLaw
-  block_law base sound h t locks legal forest parents txn asked ys are =
-      let f = map as_place asked in
-      let rule = theory.blockers posix_calls L base sound h legal txn f in
-      let over_is : (y : ℕ) → over_in forest y txn ≡ over posix_calls h y txn = λ y i. above (λ x. parents x i) y txn in
-      rising_one ys (blockers_of posix_calls h txn f) are.rising rule.rising
-      (λ y i.
-      let sound = are.sound y i in
-      (rule.exact y).1 (and_from (owns_lock posix_calls h y (λ g. posix_calls.conflict g f)) (not (over posix_calls h y txn))
-      (in_history h t locks asked y sound.0) (ap not (sym (over_is y) ∙ sound.1))))
-      (λ y i.
-      let both = and_parts (owns_lock posix_calls h y (λ g. posix_calls.conflict g f)) (not (over posix_calls h y txn)) ((rule.exact y).0 i) in
-      are.all y (in_table h t locks asked y both.0) (over_is y ∙ not_true (over posix_calls h y txn) both.1))
+  block_law base sound h t locks legal forest parents rule txn asked ys are =
+      by_rule rule (λ y i. are.sound y i) (λ y i. are.all y i)
+    where
+      f : List (PlaceAccess Cell)
+      f = map as_place asked
+
+      way : List (PlaceAccess Cell) → Bool
+      way g = posix_calls.conflict g f
+
+      over_is : (y : ℕ) → over_in forest y txn ≡ over posix_calls h y txn
+      over_is y i = above (λ x. parents x i) y txn
+
+      theirs : AreBlockersOf posix_calls h txn f
+      theirs = theory.blockers posix_calls L base sound h legal txn f
+
+      by_rule : (r : Rule) → ((y : ℕ) → In y ys → IsInTheWay r t forest txn asked y) → ((y : ℕ) → IsInTheWay r t forest txn asked y → In y ys) → ys ≡ blockers_by r h txn f
+      by_rule Profile each all = rising_one ys (blockers_of posix_calls h txn f) are.rising theirs.own.rising
+          (λ y i.
+          let w = each y i in
+          (theirs.own.exact y).1 (and_from (owns_lock posix_calls h y way) (not (over posix_calls h y txn))
+          (either_kind (is_held w.line.kind) (holds_lock posix_calls h y way) (retains_lock posix_calls h y way) (in_history h t locks asked y w.line w.there w.owner w.conflicts))
+          (ap not (sym (over_is y) ∙ ap (λ u. over_in forest u txn) (sym w.owner)) ∙ foreign_only (not (over_in forest w.line.owner txn)) w.counted)))
+          (λ y i.
+          let both = and_parts (owns_lock posix_calls h y way) (not (over posix_calls h y txn)) ((theirs.own.exact y).0 i) in
+          elim (or_cases (holds_lock posix_calls h y way) (retains_lock posix_calls h y way) both.0) [
+            | inl m ↦ let l = held_line h t locks asked y m in all y (record { line = l.0; there = l.1; owner = l.2; conflicts = l.3; counted = or_left (not (over_in forest l.0.owner txn)) false (ap not (ap (λ u. over_in forest u txn) l.2 ∙ over_is y) ∙ both.1) })
+            | inr m ↦ let l = kept_line h t locks asked y m in all y (record { line = l.0; there = l.1; owner = l.2; conflicts = l.3; counted = or_left (not (over_in forest l.0.owner txn)) false (ap not (ap (λ u. over_in forest u txn) l.2 ∙ over_is y) ∙ both.1) })
+          ])
+        where
+          either_kind : (k a b : Bool) → cond k a b ≡ true → (a || b) ≡ true
+          either_kind true a b e = or_left a b e
+          either_kind false a b e = or_right a b e
+
+          foreign_only : (b : Bool) → (b || false) ≡ true → b ≡ true
+          foreign_only true e = refl
+          foreign_only false e = absurd (false≢true e)
+      by_rule Moss each all = rising_one ys (moss_blockers_of posix_calls h txn f) are.rising theirs.moss.rising
+          (λ y i.
+          let w = each y i in
+          (theirs.moss.exact y).1 (by_kind (is_held w.line.kind) (holds_lock posix_calls h y way) (retains_lock posix_calls h y way) (over posix_calls h y txn) (y == txn)
+          (λ e. ap not (ap (λ u. over posix_calls h u txn) (eqb-true y txn e) ∙ itself txn))
+          (in_history h t locks asked y w.line w.there w.owner w.conflicts)
+          ((λ j. not (((sym (over_is y)) ∙ ap (λ u. over_in forest u txn) (sym w.owner)) j) || (true && is_held w.line.kind && not (sym w.owner j == txn))) ∙ w.counted)))
+          (λ y i. elim (or_cases (holds_lock posix_calls h y way && not (y == txn)) (retains_lock posix_calls h y way && not (over posix_calls h y txn)) ((theirs.moss.exact y).0 i)) [
+            | inl m ↦
+                let both = and_parts (holds_lock posix_calls h y way) (not (y == txn)) m in
+                let l = held_line h t locks asked y both.0 in
+                all y (record { line = l.0; there = l.1; owner = l.2; conflicts = l.3; counted = or_right (not (over_in forest l.0.owner txn)) (true && is_held l.0.kind && not (l.0.owner == txn)) ((λ j. is_held (l.4 j) && not (l.2 j == txn)) ∙ both.1) })
+            | inr m ↦
+                let both = and_parts (retains_lock posix_calls h y way) (not (over posix_calls h y txn)) m in
+                let l = kept_line h t locks asked y both.0 in
+                all y (record { line = l.0; there = l.1; owner = l.2; conflicts = l.3; counted = or_left (not (over_in forest l.0.owner txn)) (true && is_held l.0.kind && not (l.0.owner == txn)) (ap not (ap (λ u. over_in forest u txn) l.2 ∙ over_is y) ∙ both.1) })
+          ])
+        where
+          itself : (x : ℕ) → over posix_calls h x x ≡ true
+          itself = (laws posix_calls L base h (sound_all posix_calls L base sound h legal)).itself
+
+          by_kind : (k held kept o e : Bool) → (e ≡ true → not o ≡ false) → cond k held kept ≡ true → (not o || (k && not e)) ≡ true → ((held && not e) || (kept && not o)) ≡ true
+          by_kind true true kept true false own owns counted = refl
+          by_kind true true kept false false own owns counted = refl
+          by_kind true true kept true true own owns counted = absurd (false≢true counted)
+          by_kind true true kept false true own owns counted = absurd (false≢true (sym (own refl)))
+          by_kind true false kept o e own owns counted = absurd (false≢true owns)
+          by_kind false held true true e own owns counted = absurd (false≢true counted)
+          by_kind false held true false e own owns counted = or_right (held && not e) true refl
+          by_kind false held false o e own owns counted = absurd (false≢true owns)
+
+  pub foreign_law : ForeignLaw
+  foreign_law base sound h legal Profile txn f none = none
+  foreign_law base sound h legal Moss txn f none = (theory.blockers posix_calls L base sound h legal txn f).stricter none
 
   pub alone_law : AloneLaw
   alone_law base sound h t locks legal forest parents txn none own other mine owner there conflicts =

@@ -14,4 +14,5 @@ pub mod Granted
 pub mod InTheWay
 pub mod Surveys
 pub mod Following
+pub mod Above
 pub mod Knowing

@@ -1,5 +1,5 @@
 -- What one look at a cell tells of those who are in the way there, and of the locks that are held already.
-use Rattle.std.proofs.Common.{◌≡◌, ◌<◌, ◌+◌, inl, inr, ℕ, Bool, true, false, not, ◌&&◌, ◌||◌, ◌==◌, List, [], ◌∷◌, take, length, get_or, Some, refl, sym, ap, subst, ◌∙◌}
+use Rattle.std.proofs.Common.{◌≡◌, ◌<◌, ◌+◌, inl, inr, ℕ, Bool, true, false, not, ◌&&◌, ◌||◌, ◌==◌, List, [], ◌∷◌, take, length, get_or, Some, refl, sym, ap, subst, ◌∙◌, eq-eqb}
 use Rattle.std.proofs.lemmas.Bool.{false≢true, and_parts, and_from, or_cases, or_left, or_right}
 use Rattle.ft_laws.proofs.Tests.{by_test}
 use Rattle.std.specs.List.{list_any}
@@ -12,7 +12,7 @@ use Rattle.ft_cells.specs.CellOrder.{same_cell, overlap}
 use Rattle.ft_posix.specs.declared.call.Mode.{Mode}
 use Rattle.ft_posix.specs.declared.call.Mode.TheVariants.{Read as ReadMode, Write as WriteMode}
 use Rattle.ft_posix.specs.declared.call.Access.{Access}
-use Rattle.ft_posix.specs.Accesses.{is_write}
+use Rattle.ft_posix.specs.Accesses.{is_write, conflict}
 use Rattle.ft_forest.specs.Transactions.{Transactions, over_in}
 use Rattle.ft_moss.specs.declared.line.LockKind.{LockKind}
 use Rattle.ft_moss.specs.declared.line.LockKind.TheVariants.{Held, Retained}
@@ -21,10 +21,12 @@ use Rattle.ft_moss.specs.declared.marks.Marks.{Marks}
 use Rattle.ft_moss.specs.Marks.{has_mark, cover}
 use Rattle.ft_moss.specs.Cells.{Cells, marks_at, let_go_owner}
 use Rattle.ft_moss.specs.Holdings.{has_place}
-use Rattle.ft_moss.specs.Locks.{LockTable, has_lock, is_held, is_let_go, is_accessed, same_mode, AreGranted, is_given}
+use Rattle.ft_moss.specs.Locks.{LockTable, has_lock, line_access, is_held, is_let_go, is_accessed, same_mode, AreGranted, is_given}
 use Rattle.ft_moss.specs.Seen.{has_mark_of, has_line, table_of}
-use Rattle.ft_moss.specs.Blocking.{Found, AreNoted, way, beside, blocks}
-use Rattle.ft_moss.specs.Surveys.{KeepOthersOut, HasItsCellsAlone, HoldsAll}
+use Rattle.ft_moss.specs.declared.rule.Rule.{Rule}
+use Rattle.ft_moss.specs.Rules.{is_strict}
+use Rattle.ft_moss.specs.Blocking.{Found, AreNoted, Counted, against, way, beside, blocks}
+use Rattle.ft_moss.specs.Surveys.{KeepOthersOut, KeepHoldersOut, HasItsCellsAlone, HasNoHolderAbove, HoldsAll}
 use Rattle.ft_moss.proofs.Joining.{itself}
 use Rattle.ft_moss.proofs.Tables.{mark_one, marked_by, mark_of_line, line, lines-seen, let_go-seen}
 use Rattle.ft_moss.proofs.Granting.{line_there, given_more, in_either}
@@ -49,42 +51,39 @@ cover_one x WriteMode e = by_two x.write_held x.write_retained refl refl e
     by_two false true p q e = (WriteMode, Retained, q, λ w. refl)
     by_two false false p q e = absurd (false≢true e)
 
--- A lock of the transaction's own covers the access.
-module _ (m : Cells) (forest : Transactions) (txn : ℕ) (apart : KeepOthersOut (has_line m) forest txn) (a : Access) (own : Marks) (is : Some own ≡ marks_at m a.cell txn) (covers : cover own a.mode ≡ true) where
-  blocks_over : (u : ℕ) → blocks m a u ≡ true → over_in forest u txn ≡ true
-  blocks_over u k =
-      let theirs = conflicting m a u (blocks_in_way m a u k) in
+-- A lock of the transaction's own covers the access, and by Moss's rule no ancestor of it holds one that conflicts.
+module _ (rule : Rule) (m : Cells) (forest : Transactions) (txn : ℕ) (apart : KeepOthersOut (has_line m) forest txn) (no_holder : is_strict rule ≡ true → KeepHoldersOut (has_line m) forest) (a : Access) (own : Marks) (is : Some own ≡ marks_at m a.cell txn) (covers : cover own a.mode ≡ true) where
+  blocks_none : (u : ℕ) → blocks (against rule forest txn) m a u ≡ true → ⊥
+  blocks_none u k =
+      let theirs = conflicting rule forest txn m a u (blocks_in_way (against rule forest txn) m a u k) in
       let one = cover_one own a.mode covers in
       let mine : LockLine = line a.cell txn one.0 one.1 in
+      let there : has_line m mine ≡ true = ap (λ o. has_mark_of o mine) (sym is) ∙ one.2 in
       let parts = and_parts (overlap theirs.0.cell a.cell) (is_write theirs.0.mode || is_write a.mode) theirs.3 in
       let writes : (is_write theirs.0.mode || is_write one.0) ≡ true = elim (or_cases (is_write theirs.0.mode) (is_write a.mode) parts.1) [
         | inl w ↦ or_left (is_write theirs.0.mode) (is_write one.0) w
         | inr w ↦ or_right (is_write theirs.0.mode) (is_write one.0) (one.3 w)
       ] in
-      subst (λ v. over_in forest v txn ≡ true) theirs.2
-      (apart mine theirs.0 (ap (λ o. has_mark_of o mine) (sym is) ∙ one.2) refl theirs.1 (and_from (overlap theirs.0.cell a.cell) (is_write theirs.0.mode || is_write one.0) parts.0 writes))
+      let conflicts : conflict (line_access theirs.0) (line_access mine) ≡ true = and_from (overlap theirs.0.cell a.cell) (is_write theirs.0.mode || is_write one.0) parts.0 writes in
+      let over : over_in forest theirs.0.owner txn ≡ true = apart mine theirs.0 there refl theirs.1 conflicts in
+      let above : (is_strict rule && is_held theirs.0.kind && not (theirs.0.owner == txn)) ≡ true = sym (ap (λ b. not b || (is_strict rule && is_held theirs.0.kind && not (theirs.0.owner == txn))) over) ∙ theirs.4 in
+      let other = and_parts (is_strict rule && is_held theirs.0.kind) (not (theirs.0.owner == txn)) above in
+      let holds = and_parts (is_strict rule) (is_held theirs.0.kind) other.0 in
+      let same : theirs.0.owner ≡ txn = no_holder holds.0 mine theirs.0 there theirs.1 holds.1 conflicts over in
+      false≢true (sym (ap not (eq-eqb theirs.0.owner txn same)) ∙ other.1)
 
   -- so nobody is noted
-  pub none_noted : (found : Found) → AreNoted found found (λ u. not (over_in forest u txn) && blocks m a u)
-  none_noted found u = sym (ap (λ b. finite.contains_key found u || b) none ∙ or_none (finite.contains_key found u))
-    where
-      none : (not (over_in forest u txn) && blocks m a u) ≡ false
-      none = by_test (blocks m a u)
-          (λ k. ap (λ b. not b && blocks m a u) (blocks_over u k))
-          (λ k. ap (λ b. not (over_in forest u txn) && b) k ∙ none_of (not (over_in forest u txn)))
+  pub none_noted : (found : Found) → AreNoted found found (blocks (against rule forest txn) m a)
+  none_noted found u = sym (ap (λ b. finite.contains_key found u || b) (by_test (blocks (against rule forest txn) m a u) (λ k. absurd (blocks_none u k)) (λ k. k)) ∙ or_none (finite.contains_key found u))
 
 -- those on the cell itself, and then those beside it
-pub noted_both : (old mid new : Found) (forest : Transactions) (txn : ℕ) (m : Cells) (a : Access)
-    → AreNoted old mid (λ u. not (over_in forest u txn) && way m a.cell a.mode u) → AreNoted mid new (λ u. not (over_in forest u txn) && beside m a.cell a.mode u)
-    → AreNoted old new (λ u. not (over_in forest u txn) && blocks m a u)
-noted_both old mid new forest txn m a first second u =
-    second u ∙ ap (λ b. b || (not (over_in forest u txn) && beside m a.cell a.mode u)) (first u)
-    ∙ both (finite.contains_key old u) (not (over_in forest u txn)) (way m a.cell a.mode u) (beside m a.cell a.mode u)
+pub noted_both : (old mid new : Found) (counted : Counted) (m : Cells) (a : Access) → AreNoted old mid (way counted m a.cell a.mode) → AreNoted mid new (beside counted m a.cell a.mode) → AreNoted old new (blocks counted m a)
+noted_both old mid new counted m a first second u =
+    second u ∙ ap (λ b. b || beside counted m a.cell a.mode u) (first u) ∙ both (finite.contains_key old u) (way counted m a.cell a.mode u) (beside counted m a.cell a.mode u)
   where
-    both : (c n w b : Bool) → ((c || (n && w)) || (n && b)) ≡ (c || (n && (w || b)))
-    both true n w b = refl
-    both false true w b = refl
-    both false false w b = refl
+    both : (c w b : Bool) → ((c || w) || b) ≡ (c || (w || b))
+    both true w b = refl
+    both false w b = refl
 
 -- the lock of one access
 pub holds_one : (m : Cells) (owner : ℕ) (a : Access) (own : Marks) → Some own ≡ marks_at m a.cell owner → has_mark own a.mode Held ≡ true → HoldsAll m owner (a ∷ [])
@@ -129,27 +128,27 @@ held_granted t m lists is txn xs all = subst (λ u. AreGranted u u txn xs) is (r
     and_all true = refl
     and_all false = refl
 
--- what holds of a table's locks holds of what is found on its cells
-pub alone_there : (t : LockTable) (m : Cells) (lists : Lists Cell) → table_of m lists ≡ t → (forest : Transactions) (txn : ℕ) → HasItsCellsAlone t forest txn → KeepOthersOut (has_line m) forest txn
-alone_there t m lists is forest txn alone own other mine owner there conflicts = alone own other (in_table own mine) owner (in_table other there) conflicts
-  where
-    in_table : (l : LockLine) → has_line m l ≡ true → has_lock t l ≡ true
-    in_table l e = sym (ap (λ x. has_lock x l) is) ∙ lines-seen m lists l ∙ e
+-- What holds of a table's locks holds of what is found on its cells.
+module _ (t : LockTable) (m : Cells) (lists : Lists Cell) (is : table_of m lists ≡ t) (forest : Transactions) where
+  in_table : (l : LockLine) → has_line m l ≡ true → has_lock t l ≡ true
+  in_table l e = sym (ap (λ x. has_lock x l) is) ∙ lines-seen m lists l ∙ e
+
+  pub alone_there : (txn : ℕ) → HasItsCellsAlone t forest txn → KeepOthersOut (has_line m) forest txn
+  alone_there txn alone own other mine owner there conflicts = alone own other (in_table own mine) owner (in_table other there) conflicts
+
+  pub no_holder_there : HasNoHolderAbove t forest → KeepHoldersOut (has_line m) forest
+  no_holder_there before own other mine there held conflicts over = before own other (in_table own mine) (in_table other there) held conflicts over
 
 -- those in the way of one access more
-pub noted_more : (old new : Found) (forest : Transactions) (txn : ℕ) (m : Cells) (xs : List Access) (i : ℕ) (a : Access) → i < length xs → a ≡ get_or xs i a
-    → ((u : ℕ) → finite.contains_key old u ≡ (not (over_in forest u txn) && list_any (λ x. blocks m x u) (take i xs))) → AreNoted old new (λ u. not (over_in forest u txn) && blocks m a u)
-    → (u : ℕ) → finite.contains_key new u ≡ (not (over_in forest u txn) && list_any (λ x. blocks m x u) (take (i + 1) xs))
-noted_more old new forest txn m xs i a within is before noted u =
-    noted u ∙ ap (λ b. b || (not (over_in forest u txn) && blocks m a u)) (before u)
-    ∙ both (not (over_in forest u txn)) (list_any (λ x. blocks m x u) (take i xs)) (blocks m a u)
-    ∙ ap (λ b. not (over_in forest u txn) && b) (sym more)
+pub noted_more : (old new : Found) (counted : Counted) (m : Cells) (xs : List Access) (i : ℕ) (a : Access) → i < length xs → a ≡ get_or xs i a
+    → ((u : ℕ) → finite.contains_key old u ≡ list_any (λ x. blocks counted m x u) (take i xs)) → AreNoted old new (blocks counted m a)
+    → (u : ℕ) → finite.contains_key new u ≡ list_any (λ x. blocks counted m x u) (take (i + 1) xs)
+noted_more old new counted m xs i a within is before noted u =
+    noted u ∙ ap (λ b. b || blocks counted m a u) (before u)
+    ∙ ap (λ b. list_any (λ x. blocks counted m x u) (take i xs) || b) (sym (or_none (blocks counted m a u)))
+    ∙ sym more
   where
-    more : list_any (λ x. blocks m x u) (take (i + 1) xs) ≡ (list_any (λ x. blocks m x u) (take i xs) || (blocks m a u || false))
+    more : list_any (λ x. blocks counted m x u) (take (i + 1) xs) ≡ (list_any (λ x. blocks counted m x u) (take i xs) || (blocks counted m a u || false))
     more =
-        ap (λ ys. list_any (λ x. blocks m x u) ys) (take_more xs i a within) ∙ list_any-append (λ (x : Access). blocks m x u) (take i xs) (get_or xs i a ∷ [])
-        ∙ ap (λ (x : Access). list_any (λ y. blocks m y u) (take i xs) || (blocks m x u || false)) (sym is)
-
-    both : (n l b : Bool) → ((n && l) || (n && b)) ≡ (n && (l || (b || false)))
-    both true l b = ap (λ x. l || x) (sym (or_none b))
-    both false l b = refl
+        ap (λ ys. list_any (λ x. blocks counted m x u) ys) (take_more xs i a within) ∙ list_any-append (λ (x : Access). blocks counted m x u) (take i xs) (get_or xs i a ∷ [])
+        ∙ ap (λ (x : Access). list_any (λ y. blocks counted m y u) (take i xs) || (blocks counted m x u || false)) (sym is)

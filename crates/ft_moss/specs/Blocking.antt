@@ -1,5 +1,5 @@
 -- Who is in the way of an access, cell by cell.
-use Rattle.std.specs.Prelude.{◌≡◌, ◌==◌, ◌&&◌, ◌||◌, ℕ, Bool, true, false, List, Option, Some, None, unwrap_or}
+use Rattle.std.specs.Prelude.{◌≡◌, ◌==◌, ◌&&◌, ◌||◌, ℕ, Bool, true, false, cond, not, List, Option, Some, None, unwrap_or}
 use Rattle.std.specs.List.{list_any}
 use Rattle.std.specs.Ordering.{nat_cmp}
 use Rattle.std.specs.FinMap as finite
@@ -9,9 +9,12 @@ use Rattle.ft_posix.specs.declared.call.Mode.{Mode}
 use Rattle.ft_posix.specs.declared.call.Access.{Access}
 use Rattle.ft_moss.specs.declared.marks.Marks.{Marks}
 use Rattle.ft_moss.specs.declared.holders.Holding.{Holding}
-use Rattle.ft_moss.specs.Marks.{are_in_the_way}
+use Rattle.ft_moss.specs.declared.rule.Rule.{Rule}
+use Rattle.ft_moss.specs.Rules.{is_strict}
+use Rattle.ft_moss.specs.Marks.{no_marks, held_of, are_in_the_way}
 use Rattle.ft_moss.specs.Holders.{Owners}
 use Rattle.ft_laws.specs.Lists.{In}
+use Rattle.ft_forest.specs.Transactions.{Transactions, over_in}
 use Rattle.ft_moss.specs.Cells.{Cells, Keyed, marks_at}
 
 abbrev pub Found : Type 0
@@ -21,20 +24,28 @@ Found = finite.FinMap nat_cmp (Unit {0})
 abbrev pub AreNoted : Found → Found → (ℕ → Bool) → Type 0
 AreNoted old new p = (u : ℕ) → finite.contains_key new u ≡ (finite.contains_key old u || p u)
 
-abbrev pub is_in_way : Option Marks → Mode → Bool
-is_in_way None mode = false
-is_in_way (Some marks) mode = are_in_the_way marks mode
+-- which of the locks that an owner has on a cell count
+abbrev pub Counted : Type 0
+Counted = ℕ → Marks → Marks
 
--- whether an owner's locks on a cell conflict with such an access to a cell that overlaps it
-abbrev pub way : Cells → Cell → Mode → ℕ → Bool
-way m c mode u = is_in_way (marks_at m c u) mode
+-- Against a call of txn all count, but of txn itself and of its ancestors: of txn none, and of an ancestor those that it holds, where the rule is Moss's.
+abbrev pub against : Rule → Transactions → ℕ → Counted
+against rule forest txn u marks = cond (over_in forest u txn) (cond (is_strict rule && not (u == txn)) (held_of marks) no_marks) marks
+
+abbrev pub is_in_way : Counted → ℕ → Option Marks → Mode → Bool
+is_in_way counted u None mode = false
+is_in_way counted u (Some marks) mode = are_in_the_way (counted u marks) mode
+
+-- whether an owner's locks on a cell conflict with such an access to a cell that overlaps it, and count
+abbrev pub way : Counted → Cells → Cell → Mode → ℕ → Bool
+way counted m c mode u = is_in_way counted u (marks_at m c u) mode
 
 -- the same by the holders of the cell, if there are any
-abbrev pub is_holder_in_way : Option Owners → Mode → ℕ → Bool
-is_holder_in_way holders mode u = is_in_way (finite.get (unwrap_or holders finite.empty) u) mode
+abbrev pub is_holder_in_way : Counted → Option Owners → Mode → ℕ → Bool
+is_holder_in_way counted holders mode u = is_in_way counted u (finite.get (unwrap_or holders finite.empty) u) mode
 
-abbrev pub is_listed_in_way : List Holding → Mode → ℕ → Bool
-is_listed_in_way list mode u = list_any (λ h. (h.owner == u) && are_in_the_way h.marks mode) list
+abbrev pub is_listed_in_way : Counted → List Holding → Mode → ℕ → Bool
+is_listed_in_way counted list mode u = list_any (λ h. (h.owner == u) && are_in_the_way (counted u h.marks) mode) list
 
 abbrev pub is_entry_of : ℕ → Cell → Bool
 is_entry_of d (Entry entry) = d == entry.dir
@@ -50,13 +61,13 @@ pub record AreEntriesOf (k : Keyed) (d : ℕ) (keys : List ℕ) : Type 0 where
   pub all : (c : Cell) → finite.contains_key k.cells c ≡ true → is_entry_of d c ≡ true → (key : ℕ) × (finite.get k.at key ≡ Some c) × In key keys
 
 -- the same on the cells that overlap this one besides itself
-abbrev pub beside : Cells → Cell → Mode → ℕ → Bool
-beside m (Entry entry) mode u = way m (Names entry.dir) mode u
-beside m (Names d) mode u = list_any (λ c. is_entry_of d c && way m c mode u) (finite.keys m)
-beside m (Parent d) mode u = false
-beside m (Links i) mode u = false
-beside m (Bytes i) mode u = false
-beside m (Fd f) mode u = false
+abbrev pub beside : Counted → Cells → Cell → Mode → ℕ → Bool
+beside counted m (Entry entry) mode u = way counted m (Names entry.dir) mode u
+beside counted m (Names d) mode u = list_any (λ c. is_entry_of d c && way counted m c mode u) (finite.keys m)
+beside counted m (Parent d) mode u = false
+beside counted m (Links i) mode u = false
+beside counted m (Bytes i) mode u = false
+beside counted m (Fd f) mode u = false
 
-abbrev pub blocks : Cells → Access → ℕ → Bool
-blocks m a u = way m a.cell a.mode u || beside m a.cell a.mode u
+abbrev pub blocks : Counted → Cells → Access → ℕ → Bool
+blocks counted m a u = way counted m a.cell a.mode u || beside counted m a.cell a.mode u

@@ -11,12 +11,15 @@ use Rattle.ft_posix.specs.declared.call.Access.{Access}
 use Rattle.ft_posix.specs.Posix.{as_place, file_of, posix_calls}
 use Rattle.ft_history.specs.History.{Base, Event, parent, over, IsLive, live_children}
 use Rattle.ft_history.specs.History.Event.{Begin, Call, Undo, Commit, Abort}
-use Rattle.ft_history.specs.Locks.{holds_lock, retains_lock, owns_lock, blockers_of}
+use Rattle.ft_history.specs.Locks.{holds_lock, retains_lock, owns_lock, blockers_of, moss_blockers_of}
 use Rattle.ft_history.specs.Legal.{Legal}
 use Rattle.ft_forest.specs.Transactions.{Transactions, parent_in}
 use Rattle.ft_moss.specs.declared.line.LockLine.{LockLine}
+use Rattle.ft_moss.specs.declared.rule.Rule.{Rule}
+use Rattle.ft_moss.specs.declared.rule.Rule.TheVariants.{Profile, Moss}
 use Rattle.ft_moss.specs.Locks.{LockTable, no_locks, has_lock, is_locked, is_held, AreGranted, AreInherited, AreReleased, AreBlockers}
-use Rattle.ft_moss.specs.Surveys.{HasItsCellsAlone}
+use Rattle.ft_moss.specs.Rules.{is_strict}
+use Rattle.ft_moss.specs.Surveys.{HasItsCellsAlone, HasNoHolderAbove}
 
 -- what has happened to the tree
 abbrev pub History : Type 0
@@ -81,14 +84,37 @@ AbortLaw = OfLocks (λ base h t. (txn : ℕ) (gone : ℕ → Bool) (new : LockTa
 abbrev pub ReleaseLaw : Type 0
 ReleaseLaw = (old mid new : LockTable) (gone : ℕ → Bool) (txn : ℕ) → AreDropped old mid gone → AreReleased mid new txn → AreDropped old new (λ y. (y == txn) || gone y)
 
--- Who is in the way by the table is so by the history.
+-- who is in the way of a call of t by a rule, in rising order
+abbrev pub blockers_by : Rule → History → ℕ → List (PlaceAccess Cell) → List ℕ
+blockers_by Profile h t accesses = blockers_of posix_calls h t accesses
+blockers_by Moss h t accesses = moss_blockers_of posix_calls h t accesses
+
+-- Who is in the way by the table is so by the history, by either rule.
 abbrev pub BlockLaw : Type 0
-BlockLaw = OfLocks (λ base h t. Legal posix_calls base h → (forest : Transactions) → ((x : ℕ) → parent_in forest x ≡ parent posix_calls h x) → (txn : ℕ) (accesses : List Access) (ys : List ℕ)
-    → AreBlockers t forest txn accesses ys → ys ≡ blockers_of posix_calls h txn (map as_place accesses))
+BlockLaw = OfLocks (λ base h t. Legal posix_calls base h → (forest : Transactions) → ((x : ℕ) → parent_in forest x ≡ parent posix_calls h x) → (rule : Rule) (txn : ℕ) (accesses : List Access) (ys : List ℕ)
+    → AreBlockers rule t forest txn accesses ys → ys ≡ blockers_by rule h txn (map as_place accesses))
+
+-- Neither rule grants a call where somebody owns a conflicting lock who is neither its asker nor an ancestor of it.
+abbrev pub ForeignLaw : Type 0
+ForeignLaw = (base : Base posix_calls) → posix_calls.IsSound base.store → (h : History) → Legal posix_calls base h → (rule : Rule) (txn : ℕ) (accesses : List (PlaceAccess Cell)) → blockers_by rule h txn accesses ≡ [] → blockers_of posix_calls h txn accesses ≡ []
 
 -- A transaction without live children shares what it has locked with its ancestors alone.
 abbrev pub AloneLaw : Type 0
 AloneLaw = OfLocks (λ base h t. Legal posix_calls base h → (forest : Transactions) → ((x : ℕ) → parent_in forest x ≡ parent posix_calls h x) → (txn : ℕ) → live_children posix_calls base.transaction h txn ≡ [] → HasItsCellsAlone t forest txn)
+
+-- the forest has the parents of the history
+abbrev pub HasParentsOf : History → Transactions → Type 0
+HasParentsOf h forest = (x : ℕ) → parent_in forest x ≡ parent posix_calls h x
+
+-- Where all calls are granted by Moss's rule, no strict ancestor of an owner ever holds a lock that conflicts with one of the owner's.
+pub record HolderLaw : Type 0 where
+  pub first : (forest : Transactions) → HasNoHolderAbove no_locks forest
+  pub begun : OfLocks (λ base h t. (n : ℕ) (up : Option ℕ) → Legal posix_calls base (Begin n up ∷ h) → (old new : Transactions) → HasParentsOf h old → HasParentsOf (Begin n up ∷ h) new → HasNoHolderAbove t old → HasNoHolderAbove t new)
+  pub granted : OfLocks (λ base h t. Legal posix_calls base h → (forest : Transactions) → HasParentsOf h forest → (rule : Rule) → is_strict rule ≡ true → (txn : ℕ) (accesses : List Access) (new : LockTable)
+      → AreBlockers rule t forest txn accesses [] → AreGranted t new txn accesses → HasNoHolderAbove t forest → HasNoHolderAbove new forest)
+  pub inherited : OfLocks (λ base h t. Legal posix_calls base h → (forest : Transactions) → HasParentsOf h forest → (child up : ℕ) → parent posix_calls h child ≡ Some up → (new : LockTable) → AreInherited t new child up → HasNoHolderAbove t forest → HasNoHolderAbove new forest)
+  -- where no lock is new, and the parents are the same
+  pub fewer : (old new : LockTable) → ((l : LockLine) → has_lock new l ≡ true → has_lock old l ≡ true) → (forest now : Transactions) → ((x : ℕ) → parent_in now x ≡ parent_in forest x) → HasNoHolderAbove old forest → HasNoHolderAbove new now
 
 -- A file's cell on which the table has no lock is touched by none of the history.
 abbrev pub CoverLaw : Type 0

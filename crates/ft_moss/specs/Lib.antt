@@ -1,4 +1,5 @@
 pub mod Ranks
+pub mod Rules
 pub mod Marks
 pub mod Holders
 pub mod Cells

@@ -18,6 +18,8 @@ use Rattle.ft_moss.specs.declared.line.LockKind.{LockKind}
 use Rattle.ft_moss.specs.declared.line.LockKind.TheVariants.{Held, Retained}
 use Rattle.ft_moss.specs.declared.line.LockLine.{LockLine}
 use Rattle.ft_moss.specs.contracts.line.LockLine as line
+use Rattle.ft_moss.specs.declared.rule.Rule.{Rule}
+use Rattle.ft_moss.specs.Rules.{is_strict}
 use Rattle.ft_moss.specs.Ranks.{mode_rank, kind_rank}
 use Rattle.ft_cells.specs.contracts.cell.Cell as cell
 use Rattle.std.specs.Coded.{Coded, code_by, coded×, coded_ℕ}
@@ -101,19 +103,24 @@ pub record AreReleased (old new : LockTable) (txn : ℕ) : Type 0 where
 abbrev pub line_access : LockLine → Access
 line_access l = record { cell = l.cell; mode = l.mode }
 
--- y owns a lock that conflicts with one of the accesses
-pub record OwnsConflict (t : LockTable) (accesses : List Access) (y : ℕ) : Type 0 where
+-- A lock counts against a call of txn where its owner is neither txn nor an ancestor of txn (Moss: all who retain a conflicting lock must be superiors);
+-- and, by Moss's rule, where an ancestor holds it (Moss: no other transaction may hold a conflicting lock). By the other rule, of this project, an ancestor that holds is treated as one that retains.
+abbrev pub counts : Rule → Transactions → ℕ → LockLine → Bool
+counts rule forest txn l = not (over_in forest l.owner txn) || (is_strict rule && is_held l.kind && not (l.owner == txn))
+
+-- y owns a lock that counts against a call of txn with these accesses and conflicts with one of them
+pub record IsInTheWay (rule : Rule) (t : LockTable) (forest : Transactions) (txn : ℕ) (accesses : List Access) (y : ℕ) : Type 0 where
   pub line : LockLine
   pub there : has_lock t line ≡ true
   pub owner : line.owner ≡ y
   pub conflicts : list_any (λ a. conflict (line_access line) a) accesses ≡ true
+  pub counted : counts rule forest txn line ≡ true
 
--- The blockers of a call: in rising order and each once the owners of conflicting locks that are neither the asker nor an ancestor of it
--- (Moss: all who retain a conflicting lock must be superiors; a rule of this project: an ancestor that holds is treated as one that retains).
-pub record AreBlockers (t : LockTable) (forest : Transactions) (txn : ℕ) (accesses : List Access) (ys : List ℕ) : Type 0 where
+-- The blockers of a call: in rising order and each once the owners of such locks.
+pub record AreBlockers (rule : Rule) (t : LockTable) (forest : Transactions) (txn : ℕ) (accesses : List Access) (ys : List ℕ) : Type 0 where
   pub rising : Pairs (λ x y. x < y) ys
-  pub sound : (y : ℕ) → In y ys → OwnsConflict t accesses y × (over_in forest y txn ≡ false)
-  pub all : (y : ℕ) → OwnsConflict t accesses y → over_in forest y txn ≡ false → In y ys
+  pub sound : (y : ℕ) → In y ys → IsInTheWay rule t forest txn accesses y
+  pub all : (y : ℕ) → IsInTheWay rule t forest txn accesses y → In y ys
 
 -- The list has each lock once, in their order.
 pub record AreListed (t : LockTable) (lines : List LockLine) : Type 0 where

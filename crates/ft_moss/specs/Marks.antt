@@ -14,6 +14,10 @@ abbrev pub held_in : Mode → Marks
 held_in ReadMode = record no_marks { read_held = true }
 held_in WriteMode = record no_marks { write_held = true }
 
+-- those that are held
+abbrev pub held_of : Marks → Marks
+held_of m = record no_marks { read_held = m.read_held; write_held = m.write_held }
+
 abbrev pub with_marks : Marks → Marks → Marks
 with_marks m n = record {
   read_held = m.read_held || n.read_held;

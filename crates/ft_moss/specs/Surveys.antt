@@ -4,7 +4,7 @@ use Rattle.ft_posix.specs.declared.call.Access.{Access}
 use Rattle.ft_posix.specs.Accesses.{conflict}
 use Rattle.ft_forest.specs.Transactions.{Transactions, over_in}
 use Rattle.ft_moss.specs.declared.line.LockLine.{LockLine}
-use Rattle.ft_moss.specs.Locks.{LockTable, has_lock, line_access, is_given}
+use Rattle.ft_moss.specs.Locks.{LockTable, has_lock, line_access, is_held, is_given}
 use Rattle.ft_moss.specs.Cells.{Cells}
 use Rattle.ft_moss.specs.Seen.{has_line}
 
@@ -15,6 +15,14 @@ KeepOthersOut has forest txn = (own other : LockLine) → has own ≡ true → o
 -- The transaction shares what it has locked with its ancestors alone (Moss: all who retain a conflicting lock must be superiors).
 abbrev pub HasItsCellsAlone : LockTable → Transactions → ℕ → Type 0
 HasItsCellsAlone t forest txn = KeepOthersOut (has_lock t) forest txn
+
+-- who holds a lock that conflicts with one of an owner's, and is the owner or an ancestor of it, is the owner
+abbrev pub KeepHoldersOut : (LockLine → Bool) → Transactions → Type 0
+KeepHoldersOut has forest = (own other : LockLine) → has own ≡ true → has other ≡ true → is_held other.kind ≡ true → conflict (line_access other) (line_access own) ≡ true → over_in forest other.owner own.owner ≡ true → other.owner ≡ own.owner
+
+-- No strict ancestor of an owner holds a lock that conflicts with one of the owner's. (Moss, Nested Transactions, MIT 1981, the locking rules: no other transaction may hold a conflicting lock, and all who retain one must be superiors.)
+abbrev pub HasNoHolderAbove : LockTable → Transactions → Type 0
+HasNoHolderAbove t forest = KeepHoldersOut (has_lock t) forest
 
 -- an owner holds the lock of each access
 abbrev pub HoldsAll : Cells → ℕ → List Access → Type 0

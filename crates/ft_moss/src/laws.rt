@@ -1,5 +1,5 @@
 // How the lock table follows a history: each is the contract of a function that does nothing.
-ghost use Rattle.ft_moss.specs.Law.{FirstLaw, OwnerLaw, BeginLaw, GrantLaw, UndoLaw, CommitLaw, AbortLaw, ReleaseLaw, BlockLaw, AloneLaw, CoverLaw, LockedLaw};
+ghost use Rattle.ft_moss.specs.Law.{FirstLaw, OwnerLaw, BeginLaw, GrantLaw, UndoLaw, CommitLaw, AbortLaw, ReleaseLaw, BlockLaw, ForeignLaw, AloneLaw, HolderLaw, CoverLaw, LockedLaw};
 ghost use Rattle.ft_moss.specs.Knowing.{KnownLaw};
 
 use ft_posix::laws::lawful;
@@ -64,9 +64,24 @@ pub fn locks_block()
     lawful();
 }
 
+/// A call is granted only where nobody owns a conflicting lock but its asker and the ancestors of it.
+pub fn locks_foreign()
+    ensures { ForeignLaw }
+{
+    lawful();
+}
+
 /// A transaction without live children shares what it has locked with its ancestors alone.
 pub fn locks_alone()
     ensures { AloneLaw }
+{
+    lawful();
+}
+
+/// Where all calls are granted by Moss's rule, no strict ancestor of an owner holds a lock that
+/// conflicts with one of the owner's.
+pub fn locks_below_holders()
+    ensures { HolderLaw }
 {
     lawful();
 }

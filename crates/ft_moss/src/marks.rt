@@ -14,7 +14,7 @@ pub struct Marks {
 }
 
 impl Marks {
-    ghost use Rattle.ft_moss.specs.Marks.{no_marks, held_in, with_marks, passed_on, has_mark, is_marked, are_in_the_way, cover};
+    ghost use Rattle.ft_moss.specs.Marks.{no_marks, held_in, held_of, with_marks, passed_on, has_mark, is_marked, are_in_the_way, cover};
 
     /// No lock.
     pub fn none() -> Marks
@@ -35,6 +35,17 @@ impl Marks {
         Marks {
             read_held: mode == Mode::Read,
             write_held: mode == Mode::Write,
+            ..Marks::none()
+        }
+    }
+
+    /// Those of them that are held.
+    pub fn held_ones(self) -> Marks
+        ensures { result ≡ held_of self }
+    {
+        Marks {
+            read_held: self.read_held,
+            write_held: self.write_held,
             ..Marks::none()
         }
     }

@@ -17,5 +17,5 @@ no_fate : (b : Bool) (fate : Fate) → b ≡ false → is_live (cond b (Some fat
 no_fate true fate h = absurd (false≢true (sym h))
 no_fate false fate h = refl
 
-pub none_is_live : NoneIsLive (at_base first_base)
-none_is_live live = false≢true (sym (no_fate (nat_lt 0 live.0 && nat_le live.0 0) _ (nothing_between live.0)) ∙ ap is_live live.1)
+pub none_is_live : (rule : _) → NoneIsLive (at_base rule first_base)
+none_is_live rule live = false≢true (sym (no_fate (nat_lt 0 live.0 && nat_le live.0 0) _ (nothing_between live.0)) ∙ ap is_live live.1)

@@ -5,7 +5,7 @@ ghost use Rattle.ft_outcome.specs.Runs.{IsNoPlan, IsTextOfPlan, RunsPlan, StopsP
 
 use crate::text::OutcomeText;
 use ft_base::Memory;
-use ft_core::Core;
+use ft_core::{Core, Rule};
 use ft_jobs::{Job, JobFault, JobsOutcome, Plan};
 use ft_progress::run_shown;
 use ft_script::write_out;
@@ -39,7 +39,7 @@ impl From<JobFault> for RunFault {
     }
 }
 
-/// Reads a plan, runs its jobs on a new core, each in a thread of its own, and writes what they came to. A call of theirs
+/// Reads a plan, runs its jobs on a new core that grants calls by this rule, each in a thread of its own, and writes what they came to. A call of theirs
 /// asks at most so many times. How far they have come is shown on a screen while they run, if there is one.
 ///
 /// A fault ends the run.
@@ -49,6 +49,7 @@ impl From<JobFault> for RunFault {
 pub fn run_plan<R: Threads + Wait + Clock + Sync, S: Write + Send + Drop, W: Write>(
     rt: &R,
     alloc: Global,
+    rule: Rule,
     plan: &[u8],
     turns: u64,
     screen: Option<S>,
@@ -58,7 +59,7 @@ pub fn run_plan<R: Threads + Wait + Clock + Sync, S: Write + Send + Drop, W: Wri
     ensures ok { OnOk result (RunsPlan plan.now (W.contents writer.old) (W.contents writer.new)) }
     ensures fault { IfErr result (λ fault. StopsPlan fault plan.now (W.contents writer.old) (W.contents writer.new)) }
 {
-    let text = text_of(rt, alloc, plan, turns, screen)?;
+    let text = text_of(rt, alloc, rule, plan, turns, screen)?;
     match write_out(writer, text.as_bytes()) {
         Ok(()) => Ok(()),
         Err(_) => Err(RunFault::Write),
@@ -69,6 +70,7 @@ pub fn run_plan<R: Threads + Wait + Clock + Sync, S: Write + Send + Drop, W: Wri
 fn text_of<R: Threads + Wait + Clock + Sync, S: Write + Send + Drop>(
     rt: &R,
     alloc: Global,
+    rule: Rule,
     plan: &[u8],
     turns: u64,
     screen: Option<S>,
@@ -78,7 +80,7 @@ fn text_of<R: Threads + Wait + Clock + Sync, S: Write + Send + Drop>(
     ensures bad_plan { IsErrOf result JobFault.BadPlan → IsNoPlan plan.now }
 {
     let plan = Plan::read(alloc, plan)?;
-    let outcome = run_anew(rt, alloc, &plan, turns, screen)?;
+    let outcome = run_anew(rt, alloc, rule, &plan, turns, screen)?;
     Ok(told(alloc, plan.jobs(), &outcome)?)
 }
 
@@ -100,6 +102,7 @@ fn told(alloc: Global, jobs: &[Job], outcome: &JobsOutcome) -> Result<String, Me
 fn run_anew<R: Threads + Wait + Clock + Sync, S: Write + Send + Drop>(
     rt: &R,
     alloc: Global,
+    rule: Rule,
     plan: &Plan,
     turns: u64,
     screen: Option<S>,
@@ -108,7 +111,7 @@ fn run_anew<R: Threads + Wait + Clock + Sync, S: Write + Send + Drop>(
     ensures ok { IfOk result (λ outcome. AreReports outcome.core plan.now outcome.reports.items) }
     ensures cause { IfErr result (λ fault. fault ≢ JobFault.BadPlan) }
 {
-    let Ok(core) = Core::new(alloc) else {
+    let Ok(core) = Core::with_rule(alloc, rule) else {
         return Err(JobFault::Memory);
     };
     match Shared::new(core) {

@@ -5,7 +5,7 @@ use Rattle.std.specs.List.{flat_map}
 use Rattle.ft_core.specs.declared.fault.Fault.{Fault}
 use Rattle.ft_core.specs.declared.fault.Fault.TheVariants as faults
 use Rattle.ft_core.specs.declared.request.Answer.{Answer}
-use Rattle.ft_core.specs.declared.request.Answer.TheVariants.{Txn, Granted, Waits, Dropped, Committed, Aborted, Undone, Refused}
+use Rattle.ft_core.specs.declared.request.Answer.TheVariants.{Txn, Granted, Waits, Dropped, Committed, Aborted, Undone, Cleared, Refused}
 use Rattle.ft_words.specs.Texts.{reply_text}
 
 -- each transaction's number after a space
@@ -34,4 +34,5 @@ text_of Dropped = codes "ok"
 text_of Committed = codes "ok"
 text_of (Aborted calls) = codes "ok"
 text_of (Undone stamp) = codes "undone " ++ decimal stamp
+text_of Cleared = codes "ok"
 text_of (Refused fault) = codes "refused " ++ fault_name fault

@@ -69,6 +69,8 @@ fn asked_alone(word: &[u8]) -> Option<Line>
 {
     if word == b"begin".as_slice() {
         Some(Line::Request(Request::Begin))
+    } else if word == b"checkpoint".as_slice() {
+        Some(Line::Request(Request::Checkpoint))
     } else if word == b"tree".as_slice() {
         Some(Line::Report(Report::Tree))
     } else if word == b"locks".as_slice() {

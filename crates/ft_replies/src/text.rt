@@ -18,7 +18,9 @@ impl fmt::Display for AnswerText<'_> {
             Answer::Txn(txn) => write!(f, "txn {}", txn.0),
             Answer::Granted { stamp, reply } => write!(f, "{stamp} {}", ReplyText(reply)),
             Answer::Waits { blockers } => write!(f, "waits{}", TxnList(blockers.as_slice())),
-            Answer::Dropped | Answer::Committed | Answer::Aborted(_) => f.write_str("ok"),
+            Answer::Dropped | Answer::Committed | Answer::Aborted(_) | Answer::Cleared => {
+                f.write_str("ok")
+            }
             Answer::Undone(stamp) => write!(f, "undone {stamp}"),
             Answer::Refused(fault) => write!(f, "refused {}", fault_name(*fault)),
         }

@@ -10,7 +10,7 @@ use Rattle.ft_core.specs.declared.fault.Fault.{Fault}
 use Rattle.ft_core.specs.declared.fault.Fault.TheVariants.{Ended, NoTxn, NoAsk, Memory}
 use Rattle.ft_core.specs.declared.request.Request.TheVariants.{Drop}
 use Rattle.ft_core.specs.declared.request.Answer.{Answer}
-use Rattle.ft_core.specs.declared.request.Answer.TheVariants.{Txn, Granted, Waits, Dropped, Committed, Aborted, Undone, Refused}
+use Rattle.ft_core.specs.declared.request.Answer.TheVariants.{Txn, Granted, Waits, Dropped, Committed, Aborted, Undone, Cleared, Refused}
 use Rattle.ft_core.specs.States.{State, history, fate_of}
 use Rattle.ft_core.specs.Steps.{IsStep, IsAnswered, exact_rule, fault_of_fate, fault_of_ask}
 use Rattle.ft_reports.specs.Reading.{HasEnded}
@@ -47,6 +47,7 @@ at_answer s s' t Dropped h = inr (t, h)
 at_answer s s' t Committed h = absurd h
 at_answer s s' t (Aborted n) h = absurd h
 at_answer s s' t (Undone k) h = absurd h
+at_answer s s' t Cleared h = absurd h
 at_answer s s' t (Refused fault) h = absurd h.1
 
 by_refusal : (s s' : State) (t : ℕ) (a : Answer) (o : Option Fault) → MatchOption o (IsAnswered exact_rule s (Drop t) a s') (λ fault. (a ≡ Refused fault) × (s' ≡ s)) → HasAtMostDropped s s'

@@ -27,12 +27,18 @@ fn main(rt: HostRuntime) -> ExitCode {
     let mut output = rt.stdout();
     let mut errors = rt.stderr();
     let status = match choice {
-        Choice::Play => play_status(alloc, &mut input, &mut output, &mut errors),
+        Choice::Play { rule } => play_status(alloc, rule, &mut input, &mut output, &mut errors),
         Choice::Dot => dot_status(alloc, &mut input, &mut output, &mut errors),
-        Choice::Jobs { file, turns, quiet } => match read_plan(&rt, file.as_str()) {
+        Choice::Jobs {
+            file,
+            turns,
+            quiet,
+            rule,
+        } => match read_plan(&rt, file.as_str()) {
             Ok(plan) => jobs_status(
                 &rt,
                 alloc,
+                rule,
                 plan.as_slice(),
                 turns,
                 screen(&rt, quiet),

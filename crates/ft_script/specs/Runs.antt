@@ -2,6 +2,7 @@
 use Rattle.std.specs.Prelude.{◌≡◌, ◌⊎◌, ◌<◌, ◌≤◌, ℕ, List, [], ◌∷◌, ◌++◌, length, Option}
 use Rattle.std.specs.List.{flat_map, AllByRecursion}
 use Rattle.std.specs.Io.KnownBytes.{Appends, Consumes, IsAtEnd, Keeps}
+use Rattle.ft_moss.specs.declared.rule.Rule.{Rule}
 use Rattle.ft_core.specs.States.{State, at_base, first_base}
 use Rattle.ft_script.specs.declared.playing.PlayFault.{PlayFault}
 use Rattle.ft_script.specs.declared.playing.PlayFault.TheVariants.{Memory, Read, Write, TooLong, Turns}
@@ -103,11 +104,11 @@ StopsAt fault left left_after held held_after old new = (bytes : List ℕ) × Co
 abbrev pub TakesAll : List ℕ → List ℕ → Option (List ℕ) → Option (List ℕ) → State → State → Type 0
 TakesAll bytes begun before after old new = (lines : List (List ℕ)) × Cuts bytes lines begun × IsFreeOf 10 begun × Fits begun × Plays lines before after old new
 
--- The same on a new core.
-abbrev pub PlaysAnew : Option (List ℕ) → Option (List ℕ) → Option (List ℕ) → Option (List ℕ) → Type 0
-PlaysAnew left left_after held held_after = (new : State) × PlaysAll left left_after held held_after (at_base first_base) new
+-- The same on a new core that grants calls by this rule.
+abbrev pub PlaysAnew : Rule → Option (List ℕ) → Option (List ℕ) → Option (List ℕ) → Option (List ℕ) → Type 0
+PlaysAnew rule left left_after held held_after = (new : State) × PlaysAll left left_after held held_after (at_base rule first_base) new
 
 -- There may have been no memory for the core.
-abbrev pub StopsAnew : PlayFault → Option (List ℕ) → Option (List ℕ) → Option (List ℕ) → Option (List ℕ) → Type 0
-StopsAnew fault left left_after held held_after =
-    ((fault ≡ Memory) × Keeps left left_after × Keeps held held_after) ⊎ ((new : State) × StopsAt fault left left_after held held_after (at_base first_base) new)
+abbrev pub StopsAnew : Rule → PlayFault → Option (List ℕ) → Option (List ℕ) → Option (List ℕ) → Option (List ℕ) → Type 0
+StopsAnew rule fault left left_after held held_after =
+    ((fault ≡ Memory) × Keeps left left_after × Keeps held held_after) ⊎ ((new : State) × StopsAt fault left left_after held held_after (at_base rule first_base) new)

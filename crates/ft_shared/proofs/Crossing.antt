@@ -38,7 +38,7 @@ Logs-send : IsSend Logs.the_row
 Logs-send = let chains = chains.the_send Logged.the_row Logged-send in search sendable depth 20
 
 Journal-send : IsSend Journal.the_row
-Journal-send = search (event.the_send, call.the_send, table.the_send, crosses, sendable) depth 40
+Journal-send = search (event.the_send, call.the_send, table.the_send, tree.the_send, crosses, sendable) depth 40
 
 pub Core-send : IsSend Core.the_row
 Core-send = search (Journal-send, tree.the_send, forest.the_send, locks.the_send, Logs-send, crosses, sendable) depth 40

@@ -7,7 +7,7 @@ ghost use Rattle.ft_status.specs.FaultLines.{fault_line, run_fault_line};
 ghost use Rattle.ft_script.specs.Runs.{PlaysAnew, StopsAnew, WritesFront};
 
 use crate::faults::{fault_line, run_fault_line};
-use ft_core::Core;
+use ft_core::{Core, Rule};
 use ft_dot::draw;
 use ft_outcome::{RunFault, run_plan};
 use ft_script::{PlayFault, play, write_out};
@@ -17,23 +17,24 @@ use std::sync::Wait;
 use std::thread::Threads;
 use std::time::Clock;
 
-/// Runs a script on a new core, and answers the status to end with: 0, or 1 after a fault, of
+/// Runs a script on a new core that grants calls by this rule, and answers the status to end with: 0, or 1 after a fault, of
 /// which a line tells on `errors`. Where that line can't be written, the status is the same.
 pub fn play_status<R: Read, W: Write, E: Write>(
     alloc: Global,
+    rule: Rule,
     reader: &mut R,
     writer: &mut W,
     errors: &mut E,
 ) -> u8
     ensures status { (result ≡ 0) ⊎ (result ≡ 1) }
     ensures quiet { result ≡ 0 → Keeps (E.contents errors.old) (E.contents errors.new) }
-    ensures ok { result ≡ 0 → PlaysAnew (R.remaining reader.old) (R.remaining reader.new)
+    ensures ok { result ≡ 0 → PlaysAnew rule (R.remaining reader.old) (R.remaining reader.new)
         (W.contents writer.old) (W.contents writer.new) }
-    ensures fault { result ≡ 1 → (fault : PlayFault) × StopsAnew fault (R.remaining reader.old)
+    ensures fault { result ≡ 1 → (fault : PlayFault) × StopsAnew rule fault (R.remaining reader.old)
         (R.remaining reader.new) (W.contents writer.old) (W.contents writer.new)
         × WritesFront (E.contents errors.old) (E.contents errors.new) (fault_line fault) }
 {
-    match play_anew(alloc, reader, writer) {
+    match play_anew(alloc, rule, reader, writer) {
         Ok(()) => 0,
         Err(fault) => failed(errors, fault_line(fault)),
     }
@@ -61,12 +62,13 @@ pub fn dot_status<R: Read, W: Write, E: Write>(
     }
 }
 
-/// Runs the jobs of a plan on a new core, and answers the status to end with: 0, or 1 after a fault, of which a line tells
+/// Runs the jobs of a plan on a new core that grants calls by this rule, and answers the status to end with: 0, or 1 after a fault, of which a line tells
 /// on `errors`. Where that line can't be written, the status is the same. How far the jobs have come is shown on a screen
 /// while they run, if there is one.
 pub fn jobs_status<R: Threads + Wait + Clock + Sync, S: Write + Send + Drop, W: Write, E: Write>(
     rt: &R,
     alloc: Global,
+    rule: Rule,
     plan: &[u8],
     turns: u64,
     screen: Option<S>,
@@ -80,7 +82,7 @@ pub fn jobs_status<R: Threads + Wait + Clock + Sync, S: Write + Send + Drop, W: 
     ensures fault { result ≡ 1 → (fault : RunFault) × StopsPlan fault plan.now (W.contents writer.old) (W.contents writer.new)
         × WritesFront (E.contents errors.old) (E.contents errors.new) (run_fault_line fault) }
 {
-    match run_plan(rt, alloc, plan, turns, screen, writer) {
+    match run_plan(rt, alloc, rule, plan, turns, screen, writer) {
         Ok(()) => 0,
         Err(fault) => failed(errors, run_fault_line(fault)),
     }
@@ -98,15 +100,16 @@ pub fn failed<E: Write>(errors: &mut E, line: &str) -> u8
 // Runs a script on a new core.
 fn play_anew<R: Read, W: Write>(
     alloc: Global,
+    rule: Rule,
     reader: &mut R,
     writer: &mut W,
 ) -> Result<(), PlayFault>
-    ensures ok { OnOk result (PlaysAnew (R.remaining reader.old) (R.remaining reader.new)
+    ensures ok { OnOk result (PlaysAnew rule (R.remaining reader.old) (R.remaining reader.new)
         (W.contents writer.old) (W.contents writer.new)) }
-    ensures fault { IfErr result (λ fault. StopsAnew fault (R.remaining reader.old)
+    ensures fault { IfErr result (λ fault. StopsAnew rule fault (R.remaining reader.old)
         (R.remaining reader.new) (W.contents writer.old) (W.contents writer.new)) }
 {
-    match Core::new(alloc) {
+    match Core::with_rule(alloc, rule) {
         Ok(mut core) => play(alloc, reader, writer, &mut core),
         Err(_) => Err(PlayFault::Memory),
     }

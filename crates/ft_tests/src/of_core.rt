@@ -2,7 +2,7 @@
 // printed.
 use crate::scripts::{Answers, Line, Wanted, plays};
 use ft_calls::Mode;
-use ft_core::{Answer, Core, Fault, LiveChild, Request, TxnId};
+use ft_core::{Answer, Core, Fault, LiveChild, Request, Rule, TxnId};
 use ft_locks::{LockKind, LockLine};
 use ft_path::Errno;
 use ft_tree::{Cell, TreeRow};
@@ -332,6 +332,37 @@ fn single_calls(rt: HostRuntime) -> Result<(), Fail> {
         Answer::Aborted(0),
     ];
     assert!(rt; runs(alloc, requests, &wanted)?);
+    Ok(())
+}
+
+/// Whether the tree of the base is that of the core, and nothing has happened since.
+fn is_at_base(core: &Core) -> Result<bool, Fail> {
+    let base = core.base().rows()?;
+    let tree = core.tree().rows()?;
+    Ok(base.as_slice() == tree.as_slice() && core.history().is_empty())
+}
+
+/// Carries a script out on a new core of this rule, and says whether each line is answered as it says, and the core then
+/// stands at its base, by the same rule.
+fn ends_at_base(alloc: Global, rule: Rule, script: &[(Line, Wanted)]) -> Result<bool, Fail> {
+    let mut core = Core::with_rule(alloc, rule)?;
+    Ok(plays(alloc, &mut core, script)? && is_at_base(&core)? && core.rule() == rule)
+}
+
+#[test]
+fn checkpoint_keeps_tree_and_rule(rt: HostRuntime) -> Result<(), Fail> {
+    let script = [
+        (Line::Begin, Wanted::Txn(1)),
+        (Line::Open(1, b"/f".as_slice()), Wanted::Number(2, 2)),
+        (Line::Checkpoint, Wanted::Refused(Fault::Live)),
+        (Line::Sub(1), Wanted::Txn(2)),
+        (Line::Unlink(2, b"/f".as_slice()), Wanted::Waits(1)),
+        (Line::Commit(2), Wanted::Committed),
+        (Line::Commit(1), Wanted::Committed),
+        (Line::Checkpoint, Wanted::Cleared),
+        (Line::Commit(1), Wanted::Refused(Fault::NoTxn)),
+    ];
+    assert!(rt; ends_at_base(rt.alloc(), Rule::Moss, &script)?);
     Ok(())
 }
 

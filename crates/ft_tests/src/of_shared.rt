@@ -29,6 +29,8 @@ fn answer<R: Wait>(rt: &R, shared: &Shared, request: Request) -> Result<Answer, 
         Request::Commit(txn) => shared.commit(rt, txn).map(|_| Answer::Committed),
         Request::Abort(txn) => Ok(Answer::Aborted(shared.abort(rt, txn)?)),
         Request::Undo(txn) => Ok(Answer::Undone(shared.undo_call(rt, txn)?)),
+        // (there is none behind a lock)
+        Request::Checkpoint => Err(Fault::Live),
     }
 }
 

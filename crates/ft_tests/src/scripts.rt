@@ -31,6 +31,7 @@ pub(crate) enum Line<'a> {
     Undo(u64),
     Commit(u64),
     Abort(u64),
+    Checkpoint,
 }
 
 /// An answer; of a granted call, its stamp.
@@ -50,6 +51,7 @@ pub(crate) enum Wanted<'a> {
     Committed,
     Aborted(u64),
     Undone(u64),
+    Cleared,
     Refused(Fault),
 }
 
@@ -120,6 +122,7 @@ fn request(alloc: Global, line: Line) -> Result<Request, Fail> {
         Line::Undo(txn) => Ok(Request::Undo(TxnId(txn))),
         Line::Commit(txn) => Ok(Request::Commit(TxnId(txn))),
         Line::Abort(txn) => Ok(Request::Abort(TxnId(txn))),
+        Line::Checkpoint => Ok(Request::Checkpoint),
         line => {
             let (txn, call) = path_call(alloc, line)?;
             Ok(Request::Ask(TxnId(txn), call))
@@ -168,6 +171,7 @@ fn is_answer(answer: &Answer, wanted: Wanted) -> bool {
             blockers.as_slice() == [TxnId(wanted)].as_slice()
         }
         (Answer::Dropped, Wanted::Dropped) => true,
+        (Answer::Cleared, Wanted::Cleared) => true,
         (Answer::Committed, Wanted::Committed) => true,
         (Answer::Aborted(count), Wanted::Aborted(wanted)) => *count == wanted,
         (Answer::Undone(stamp), Wanted::Undone(wanted)) => *stamp == wanted,

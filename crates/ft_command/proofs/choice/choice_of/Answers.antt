@@ -2,8 +2,5 @@ use Rattle.std.proofs.Common.{codes, rules}
 use Rattle.ft_command.proofs.Choosing.{is_named}
 use Rattle.ft_command.proofs.choice.choice_of.Goals as goal
 
-pub returns-in-Some-play : goal.returns-in-Some-play
-returns-in-Some-play c = is_named c.args.matches.now (codes "play") (search rules)
-
 pub returns-in-Some-dot : goal.returns-in-Some-dot
 returns-in-Some-dot c = is_named c.args.matches.now (codes "dot") (search rules)

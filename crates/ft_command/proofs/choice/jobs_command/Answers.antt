@@ -9,11 +9,13 @@ pub returns-clause-app : goal.returns-clause-app
 returns-clause-app c =
     let one_is = c.in_ok-arg.ensures.shape c.file_arg.ensures.local ∙ ap₂ with_rule (ap app_of_fields c.about.ensures ∙ c.new.ensures.app) c.file_arg.ensures.rule in
     let two_is = c.in_ok-arg-2.ensures.shape c.turns_arg.ensures.local ∙ ap₂ with_rule one_is c.turns_arg.ensures.rule in
-    IfOk-weaker c.arg-3.result _ _ (λ command h. h.shape c.quiet_arg.ensures.local ∙ ap₂ with_rule two_is c.quiet_arg.ensures.rule) c.arg-3.ensures
+    let three_is = c.in_ok-arg-3.ensures.shape c.quiet_arg.ensures.local ∙ ap₂ with_rule two_is c.quiet_arg.ensures.rule in
+    IfOk-weaker c.arg-4.result _ _ (λ command h. h.shape c.moss_arg.ensures.local ∙ ap₂ with_rule three_is c.moss_arg.ensures.rule) c.arg-4.ensures
 
 pub returns-clause-local : goal.returns-clause-local
 returns-clause-local c =
     let bare : (out-Command c.about.result).has_globals ≡ false = ap (λ f. f.has_globals) c.about.ensures ∙ c.new.ensures.local in
     let one = c.in_ok-arg.ensures.globals ∙ ap₂ (λ a b. a || b) bare c.file_arg.ensures.local in
     let two = c.in_ok-arg-2.ensures.globals ∙ ap₂ (λ a b. a || b) one c.turns_arg.ensures.local in
-    IfOk-weaker c.arg-3.result _ _ (λ command h. h.globals ∙ ap₂ (λ a b. a || b) two c.quiet_arg.ensures.local) c.arg-3.ensures
+    let three = c.in_ok-arg-3.ensures.globals ∙ ap₂ (λ a b. a || b) two c.quiet_arg.ensures.local in
+    IfOk-weaker c.arg-4.result _ _ (λ command h. h.globals ∙ ap₂ (λ a b. a || b) three c.moss_arg.ensures.local) c.arg-4.ensures

@@ -1,11 +1,11 @@
-use Rattle.std.proofs.Common.{◌≡◌, ◌&&◌, ◌||◌, not, Bool, true, false, refl, sym, ap, ◌∙◌}
+use Rattle.std.proofs.Common.{◌≡◌, ◌||◌, Bool, true, false, refl, sym, ap, ◌∙◌}
 use Rattle.std.specs.FinMap as finite
-use Rattle.ft_forest.specs.Transactions.{over_in}
-use Rattle.ft_moss.specs.Blocking.{is_in_way}
+use Rattle.ft_moss.specs.Blocking.{against, is_in_way}
 use Rattle.ft_moss.proofs.HolderLists.{get-seen}
 use Rattle.ft_moss.proofs.InTheWay.{listed_is}
 use Rattle.ft_moss.proofs.Places.{marks-found, marks-missing}
 use Rattle.ft_moss.proofs.Surveys.{none_noted, noted_both, holds_one}
+use Rattle.ft_locks.specs.declared.blocking.Asker.{Asker}
 use Rattle.ft_locks.proofs.blocking.survey_access.Goals.{in-Some+in_ok-note_list, in_default}
 use Rattle.ft_locks.proofs.blocking.survey_access.Goals as goal
 
@@ -13,16 +13,16 @@ pub returns-then-cover-clause-noted : goal.returns-then-cover-clause-noted
 returns-then-cover-clause-noted c =
     let m = c.args.holdings.now.cells in
     let a = c.args.access.now in
-    none_noted m c.args.forest.now c.args.txn c.requires a c.in-Some-get.own
-    (c.in-Some-get.ensures ∙ ap (finite.get c.in-Some.holders.now) c.txn.view_is ∙ marks-found m a.cell c.in-Some.holders.now c.in-Some.ensures c.args.txn)
+    none_noted c.args.asker.now.rule m c.args.forest.now c.args.asker.now.txn c.requires.alone c.requires.no_holder a c.in-Some-get.own
+    (c.in-Some-get.ensures ∙ ap (λ (a : Asker). finite.get c.in-Some.holders.now a.txn) c.asker.view_is ∙ marks-found m a.cell c.in-Some.holders.now c.in-Some.ensures c.args.asker.now.txn)
     (sym c.cover.ensures ∙ c.if-cover.true) c.args.found.now
 
 pub returns-then-cover-clause-held : goal.returns-then-cover-clause-held
 returns-then-cover-clause-held c has =
     let m = c.args.holdings.now.cells in
     let a = c.args.access.now in
-    holds_one m c.args.txn a c.in-Some-get.own
-    (c.in-Some-get.ensures ∙ ap (finite.get c.in-Some.holders.now) c.txn.view_is ∙ marks-found m a.cell c.in-Some.holders.now c.in-Some.ensures c.args.txn)
+    holds_one m c.args.asker.now.txn a c.in-Some-get.own
+    (c.in-Some-get.ensures ∙ ap (λ (a : Asker). finite.get c.in-Some.holders.now a.txn) c.asker.view_is ∙ marks-found m a.cell c.in-Some.holders.now c.in-Some.ensures c.args.asker.now.txn)
     (sym c.has.ensures ∙ has)
 
 pub returns-clause-noted : goal.returns-clause-noted
@@ -30,23 +30,23 @@ returns-clause-noted c =
     let m = c.args.holdings.now.cells in
     let a = c.args.access.now in
     let before = c.args.found.now in
-    noted_both before c.match-holders.found c.note_beside.new.found c.args.forest.now c.args.txn m a
+    let counted = against c.args.asker.now.rule c.args.forest.now c.args.asker.now.txn in
+    noted_both before c.match-holders.found c.note_beside.new.found counted m a
     (elim c.match-holders.branch [
       | in-Some+in_ok-note_list w ↦ λ u.
           ap (λ f. finite.contains_key f u) w.found-is
           ∙ w.in_ok-note_list.ensures u
-          ∙ ap (λ b. finite.contains_key before u || (not (over_in c.args.forest.now u c.args.txn) && b))
-          (listed_is w.as_slice.result.now w.as_slice.ensures.apart a.mode u
-          ∙ ap (λ o. is_in_way o a.mode) (sym (get-seen w.as_slice.result.now u) ∙ ap (λ o. finite.get o u) w.as_slice.ensures.holdings
+          ∙ ap (λ b. finite.contains_key before u || b)
+          (listed_is counted w.as_slice.result.now w.as_slice.ensures.apart a.mode u
+          ∙ ap (λ o. is_in_way counted u o a.mode) (sym (get-seen w.as_slice.result.now u) ∙ ap (λ o. finite.get o u) w.as_slice.ensures.holdings
           ∙ marks-found m a.cell w.in-Some.holders.now w.in-Some.ensures u))
       | in_default w ↦ λ u.
           ap (λ f. finite.contains_key f u) w.found-is
-          ∙ unnoted (finite.contains_key before u) (not (over_in c.args.forest.now u c.args.txn))
-          ∙ ap (λ o. finite.contains_key before u || (not (over_in c.args.forest.now u c.args.txn) && is_in_way o a.mode)) (sym (marks-missing m a.cell w.in_default.ensures u))
+          ∙ unnoted (finite.contains_key before u)
+          ∙ ap (λ o. finite.contains_key before u || is_in_way counted u o a.mode) (sym (marks-missing m a.cell w.in_default.ensures u))
     ])
     c.in_ok-note_beside.ensures
   where
-    unnoted : (a b : Bool) → a ≡ (a || (b && false))
-    unnoted true b = refl
-    unnoted false true = refl
-    unnoted false false = refl
+    unnoted : (a : Bool) → a ≡ (a || false)
+    unnoted true = refl
+    unnoted false = refl

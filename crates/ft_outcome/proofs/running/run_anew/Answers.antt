@@ -11,4 +11,4 @@ pub run_shown-requires-sync-M : goal.run_shown-requires-sync-M
 run_shown-requires-sync-M g c κs within = search (Shared-sync, crosses, sendable) depth 40
 
 pub unreachable-requires : goal.unreachable-requires
-unreachable-requires g c = none_is_live (subst (λ (s : State). SomeIsLive s) c.in-Ok.ensures c.in-Err.ensures.2)
+unreachable-requires g c = none_is_live c.args.rule (subst (λ (s : State). SomeIsLive s) c.in-Ok.ensures c.in-Err.ensures.2)

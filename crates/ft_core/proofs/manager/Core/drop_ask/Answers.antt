@@ -13,4 +13,4 @@ invariant_of-self c =
     let asks = finite.remove i.journal.asks c.args.txn in
     subst (λ (j : Journaled). IsCoreOf (state_of i.forest j) i.tree i.forest i.locks i.logs j) (sym c.drop_ask.ensures)
     (core-asks s.base (history s) s.asks s.last_txn s.last_stamp i.tree i.forest i.locks i.logs i.journal c.self.invariant asks
-    (dropped s.base (history s) s.asks s.last_txn s.last_stamp i.tree i.forest i.locks i.logs i.journal c.self.invariant c.args.txn) (record i.journal { asks = asks }) refl refl)
+    (dropped s.base (history s) s.asks s.last_txn s.last_stamp i.tree i.forest i.locks i.logs i.journal c.self.invariant c.args.txn) (record i.journal { asks = asks }) refl refl refl)

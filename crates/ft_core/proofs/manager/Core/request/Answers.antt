@@ -1,4 +1,5 @@
 use Rattle.std.proofs.Common.{◌≡◌, ◌+◌, sym, ap, subst, ◌∙◌}
+use Rattle.ft_moss.specs.Rules.{is_strict}
 use Rattle.ft_core.specs.States.{State, history, fate_of, has_most_calls, after_wait}
 use Rattle.ft_core.specs.Journals.{Journaled, is_full, state_of}
 use Rattle.ft_core.specs.Tries.{IsTried}
@@ -11,6 +12,9 @@ try_call-requires-clause-alone c =
     let i = c.self.inside in
     let s : State = state_of i.forest i.journal in
     alone-there c.call_laws.ensures c.lock_laws.ensures s.base (history s) s.asks s.last_txn s.last_stamp i.tree i.forest i.locks i.logs i.journal c.self.invariant c.args.txn
+
+pub try_call-requires-clause-no_holder : goal.try_call-requires-clause-no_holder
+try_call-requires-clause-no_holder c strict = c.self.invariant.no_holder (sym (ap is_strict (c.rule-rule.ensures ∙ ap (λ (q : Journaled). q.rule) c.reserve.ensures.same)) ∙ strict)
 
 pub invariant_of-self-in_err-tried : goal.invariant_of-self-in_err-tried
 invariant_of-self-in_err-tried c =
@@ -26,27 +30,27 @@ pub invariant_of-self-in-Made : goal.invariant_of-self-in-Made
 invariant_of-self-in-Made c =
     let i = c.self.inside in
     (tried-made c.call_laws.ensures c.lock_laws.ensures i.tree i.forest i.locks i.logs i.journal c.self.invariant c.args.self.now c.self.view_is c.args.txn c.args.call c.requires.live c.next_stamp-stamp.result (c.next_stamp-stamp.ensures ∙ ap (λ (q : Journaled). q.last_stamp + 1) c.reserve.ensures.same)
-    c.try_call.new.tree c.try_call.new.locks c.try_call.new.logs c.in-Made.field-0 (subst (IsTried i.tree c.try_call.new.tree i.locks c.try_call.new.locks i.logs c.try_call.new.logs i.forest c.args.txn c.next_stamp-stamp.result c.args.call) c.in-Made.is c.in_ok-tried.ensures.tried)
+    c.try_call.new.tree c.try_call.new.locks c.try_call.new.logs c.in-Made.field-0 (subst (IsTried i.journal.rule i.tree c.try_call.new.tree i.locks c.try_call.new.locks i.logs c.try_call.new.logs i.forest c.args.txn c.next_stamp-stamp.result c.args.call) c.in-Made.is (subst (λ r. IsTried r i.tree c.try_call.new.tree i.locks c.try_call.new.locks i.logs c.try_call.new.logs i.forest c.args.txn c.next_stamp-stamp.result c.args.call c.in_ok-tried.tried) (c.rule-rule.ensures ∙ ap (λ (q : Journaled). q.rule) c.reserve.ensures.same) c.in_ok-tried.ensures.tried))
     c.reserve.new.self c.grant.new.self c.reserve.ensures.same c.grant.ensures).0
 
 pub returns-in-Made-clause-asked : goal.returns-in-Made-clause-asked
 returns-in-Made-clause-asked c =
     let i = c.self.inside in
     (tried-made c.call_laws.ensures c.lock_laws.ensures i.tree i.forest i.locks i.logs i.journal c.self.invariant c.args.self.now c.self.view_is c.args.txn c.args.call c.requires.live c.next_stamp-stamp.result (c.next_stamp-stamp.ensures ∙ ap (λ (q : Journaled). q.last_stamp + 1) c.reserve.ensures.same)
-    c.try_call.new.tree c.try_call.new.locks c.try_call.new.logs c.in-Made.field-0 (subst (IsTried i.tree c.try_call.new.tree i.locks c.try_call.new.locks i.logs c.try_call.new.logs i.forest c.args.txn c.next_stamp-stamp.result c.args.call) c.in-Made.is c.in_ok-tried.ensures.tried)
+    c.try_call.new.tree c.try_call.new.locks c.try_call.new.logs c.in-Made.field-0 (subst (IsTried i.journal.rule i.tree c.try_call.new.tree i.locks c.try_call.new.locks i.logs c.try_call.new.logs i.forest c.args.txn c.next_stamp-stamp.result c.args.call) c.in-Made.is (subst (λ r. IsTried r i.tree c.try_call.new.tree i.locks c.try_call.new.locks i.logs c.try_call.new.logs i.forest c.args.txn c.next_stamp-stamp.result c.args.call c.in_ok-tried.tried) (c.rule-rule.ensures ∙ ap (λ (q : Journaled). q.rule) c.reserve.ensures.same) c.in_ok-tried.ensures.tried))
     c.reserve.new.self c.grant.new.self c.reserve.ensures.same c.grant.ensures).1
 
 pub invariant_of-self-in_err-wait-in-Blocked : goal.invariant_of-self-in_err-wait-in-Blocked
 invariant_of-self-in_err-wait-in-Blocked c =
     let i = c.self.inside in
-    let blocked = subst (IsTried i.tree c.try_call.new.tree i.locks c.try_call.new.locks i.logs c.try_call.new.logs i.forest c.args.txn c.next_stamp-stamp.result c.args.call) c.in-Blocked.is c.in_ok-tried.ensures.tried in
+    let blocked = subst (IsTried i.journal.rule i.tree c.try_call.new.tree i.locks c.try_call.new.locks i.logs c.try_call.new.logs i.forest c.args.txn c.next_stamp-stamp.result c.args.call) c.in-Blocked.is (subst (λ r. IsTried r i.tree c.try_call.new.tree i.locks c.try_call.new.locks i.logs c.try_call.new.logs i.forest c.args.txn c.next_stamp-stamp.result c.args.call c.in_ok-tried.tried) (c.rule-rule.ensures ∙ ap (λ (q : Journaled). q.rule) c.reserve.ensures.same) c.in_ok-tried.ensures.tried) in
     core-unmade c.call_laws.ensures c.lock_laws.ensures i.tree i.forest i.locks i.logs i.journal c.self.invariant c.try_call.new.tree c.try_call.new.locks c.try_call.new.logs c.wait.new.self blocked.unmade
     (subst (λ (q : Journaled). q ≡ record i.journal { room = q.room }) (sym c.in_err-wait-in-Blocked.ensures.err) c.reserve.ensures.same)
 
 pub invariant_of-self-in-Blocked : goal.invariant_of-self-in-Blocked
 invariant_of-self-in-Blocked c =
     let i = c.self.inside in
-    let blocked = subst (IsTried i.tree c.try_call.new.tree i.locks c.try_call.new.locks i.logs c.try_call.new.logs i.forest c.args.txn c.next_stamp-stamp.result c.args.call) c.in-Blocked.is c.in_ok-tried.ensures.tried in
+    let blocked = subst (IsTried i.journal.rule i.tree c.try_call.new.tree i.locks c.try_call.new.locks i.logs c.try_call.new.logs i.forest c.args.txn c.next_stamp-stamp.result c.args.call) c.in-Blocked.is (subst (λ r. IsTried r i.tree c.try_call.new.tree i.locks c.try_call.new.locks i.logs c.try_call.new.logs i.forest c.args.txn c.next_stamp-stamp.result c.args.call c.in_ok-tried.tried) (c.rule-rule.ensures ∙ ap (λ (q : Journaled). q.rule) c.reserve.ensures.same) c.in_ok-tried.ensures.tried) in
     core-waits c.call_laws.ensures c.lock_laws.ensures c.try_call.new.tree i.forest c.try_call.new.locks c.try_call.new.logs c.reserve.new.self
     (core-unmade c.call_laws.ensures c.lock_laws.ensures i.tree i.forest i.locks i.logs i.journal c.self.invariant c.try_call.new.tree c.try_call.new.locks c.try_call.new.logs c.reserve.new.self blocked.unmade c.reserve.ensures.same)
     c.args.txn c.args.call (ap (λ (q : Journaled). fate_of (state_of i.forest q) c.args.txn) c.reserve.ensures.same ∙ ap (λ (q : State). fate_of q c.args.txn) c.self.view_is ∙ c.requires.live)
@@ -55,7 +59,7 @@ invariant_of-self-in-Blocked c =
 pub returns-in_ok-wait-in-Blocked-clause-asked : goal.returns-in_ok-wait-in-Blocked-clause-asked
 returns-in_ok-wait-in-Blocked-clause-asked c =
     let i = c.self.inside in
-    let blocked = subst (IsTried i.tree c.try_call.new.tree i.locks c.try_call.new.locks i.logs c.try_call.new.logs i.forest c.args.txn c.next_stamp-stamp.result c.args.call) c.in-Blocked.is c.in_ok-tried.ensures.tried in (
+    let blocked = subst (IsTried i.journal.rule i.tree c.try_call.new.tree i.locks c.try_call.new.locks i.logs c.try_call.new.logs i.forest c.args.txn c.next_stamp-stamp.result c.args.call) c.in-Blocked.is (subst (λ r. IsTried r i.tree c.try_call.new.tree i.locks c.try_call.new.locks i.logs c.try_call.new.logs i.forest c.args.txn c.next_stamp-stamp.result c.args.call c.in_ok-tried.tried) (c.rule-rule.ensures ∙ ap (λ (q : Journaled). q.rule) c.reserve.ensures.same) c.in_ok-tried.ensures.tried) in (
       (λ none. blocked.some (sym c.from-blockers.ensures ∙ none)),
       c.from-blockers.ensures ∙ waits-for c.call_laws.ensures c.lock_laws.ensures i.tree i.forest i.locks i.logs i.journal c.self.invariant c.args.self.now c.self.view_is c.args.txn c.args.call c.next_stamp-stamp.result (c.next_stamp-stamp.ensures ∙ ap (λ (q : Journaled). q.last_stamp + 1) c.reserve.ensures.same) c.in-Blocked.blockers.items blocked.are,
       ap (state_of i.forest) c.in_ok-wait-in-Blocked.ensures.ok ∙ ap (λ (q : State). after_wait q c.args.txn c.args.call) (ap (state_of i.forest) c.reserve.ensures.same ∙ c.self.view_is),

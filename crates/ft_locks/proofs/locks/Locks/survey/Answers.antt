@@ -1,32 +1,30 @@
-use Rattle.std.proofs.Common.{Bool, true, false, not, ◌&&◌, ◌+◌, ◌≡◌, refl, sym, ap, subst, ◌∙◌, is_some, take, arith}
+use Rattle.std.proofs.Common.{◌+◌, ◌≡◌, refl, sym, ap, subst, ◌∙◌, is_some, take, arith}
 use Rattle.std.proofs.lemmas.Bool.{false≢true, and_parts}
 use Rattle.std.specs.List.{list_any}
 use Rattle.std.specs.Ordering.{nat_cmp}
 use Rattle.std.specs.FinMap as finite
 use Rattle.std.proofs.lemmas.List.{take_all}
-use Rattle.ft_forest.specs.Transactions.{over_in}
-use Rattle.ft_moss.specs.Blocking.{blocks}
+use Rattle.ft_moss.specs.Blocking.{against, blocks}
 use Rattle.ft_moss.specs.Locks.{AreBlockers}
 use Rattle.ft_moss.specs.Surveys.{HoldsAll}
 use Rattle.ft_moss.proofs.InTheWay.{are_blockers}
-use Rattle.ft_moss.proofs.Surveys.{alone_there, holds_none, holds_more, held_granted, noted_more}
+use Rattle.ft_moss.proofs.Surveys.{alone_there, no_holder_there, holds_none, holds_more, held_granted, noted_more}
 use Rattle.ft_locks.proofs.locks.Locks.survey.Goals.{then-has_all, else-has_all}
 use Rattle.ft_locks.proofs.locks.Locks.survey.Goals as goal
 
 pub loop-access-init : goal.loop-access-init
 loop-access-init c = record {
-  noted = λ u. ap (λ m. finite.contains_key m u) c.new-found.ensures ∙ ap is_some (finite.get-empty nat_cmp u) ∙ none (not (over_in c.args.forest.now u c.args.txn));
+  noted = λ u. ap (λ m. finite.contains_key m u) c.new-found.ensures ∙ ap is_some (finite.get-empty nat_cmp u);
   few = omega arith;
   all = λ _. refl;
   held = holds_none c.self.inside.holdings.cells c.args.txn;
 }
-  where
-    none : (b : Bool) → false ≡ (b && false)
-    none true = refl
-    none false = refl
 
 pub survey_access-requires : goal.survey_access-requires
-survey_access-requires c = alone_there c.args.self.now c.self.inside.holdings.cells c.self.inside.holdings.lists c.self.view_is c.args.forest.now c.args.txn c.requires
+survey_access-requires c = record {
+  alone = alone_there c.args.self.now c.self.inside.holdings.cells c.self.inside.holdings.lists c.self.view_is c.args.forest.now c.args.txn c.requires.alone;
+  no_holder = λ strict. no_holder_there c.args.self.now c.self.inside.holdings.cells c.self.inside.holdings.lists c.self.view_is c.args.forest.now (c.requires.no_holder strict);
+}
 
 pub loop-access-preserved : goal.loop-access-preserved
 loop-access-preserved c =
@@ -35,7 +33,7 @@ loop-access-preserved c =
     let i = c.loop-access.access-index in
     let was = c.loop-access.invariant in
     record {
-      noted = noted_more c.loop-access.found c.survey_access.new.found c.args.forest.now c.args.txn m xs i c.access-item.result c.loop-access-test.true c.access-item.is was.noted c.in_ok-is_held.ensures.noted;
+      noted = noted_more c.loop-access.found c.survey_access.new.found (against c.args.rule c.args.forest.now c.args.txn) m xs i c.access-item.result c.loop-access-test.true c.access-item.is was.noted c.in_ok-is_held.ensures.noted;
       few = elim c.if-has_all.branch [
         | then-has_all w ↦ omega (arith, was.few, w.held-is)
         | else-has_all w ↦ omega (arith, was.few, w.held-is)
@@ -56,9 +54,9 @@ loop-access-preserved c =
 
 pub returns-clause-blockers : goal.returns-clause-blockers
 returns-clause-blockers c =
-    subst (λ ys. AreBlockers c.args.self.now c.args.forest.now c.args.txn c.args.accesses.now ys) (sym c.in_ok-blockers.ensures)
-    (are_blockers c.args.self.now c.self.inside.holdings.cells c.self.inside.holdings.lists c.self.view_is c.args.forest.now c.args.txn c.args.accesses.now c.loop-access.found
-    (λ u. c.loop-access.invariant.noted u ∙ ap (λ xs. not (over_in c.args.forest.now u c.args.txn) && list_any (λ a. blocks c.self.inside.holdings.cells a u) xs)
+    subst (λ ys. AreBlockers c.args.rule c.args.self.now c.args.forest.now c.args.txn c.args.accesses.now ys) (sym c.in_ok-blockers.ensures)
+    (are_blockers c.args.rule c.args.forest.now c.args.txn c.args.self.now c.self.inside.holdings.cells c.self.inside.holdings.lists c.self.view_is c.args.accesses.now c.loop-access.found
+    (λ u. c.loop-access.invariant.noted u ∙ ap (λ xs. list_any (λ a. blocks (against c.args.rule c.args.forest.now c.args.txn) c.self.inside.holdings.cells a u) xs)
     (take_all c.loop-access.access-index c.args.accesses.now c.loop-access-test.false)))
 
 pub returns-clause-held : goal.returns-clause-held

@@ -1,0 +1,170 @@
+-- A checkpoint: the core starts again from its tree.
+use Rattle.std.proofs.Common.{◌≡◌, ◌+◌, ℕ, true, false, not, cond, List, [], ◌∷◌, Option, Some, None, Result, Ok, Err, is_some, length, arith, refl, sym, ap, subst, ◌∙◌}
+use Rattle.std.specs.Prelude.{nat_lt, MatchOption}
+use Rattle.std.proofs.lemmas.Bool.{false≢true, and_parts, lt-ltb}
+use Rattle.std.specs.Result.{IsErrAnd}
+use Rattle.std.specs.Ordering.{nat_cmp}
+use Rattle.std.specs.FinMap as finite
+use Rattle.ft_base.specs.Chains.{Lists}
+use Rattle.ft_laws.specs.Lists.{In}
+use Rattle.ft_laws.proofs.Tests.{by_test}
+use Rattle.ft_cells.specs.declared.cell.Cell.{Cell}
+use Rattle.ft_cells.specs.Cells.{Cells}
+use Rattle.ft_tree.specs.Sweep.{is_useless, at_place}
+use Rattle.ft_tree.specs.Tidy.{tidy}
+use Rattle.ft_posix.specs.declared.call.Call.{Call}
+use Rattle.ft_posix.specs.Posix.{posix_calls}
+use Rattle.ft_undo.specs.declared.logs.Logged.{Logged}
+use Rattle.ft_undo.specs.Logs.{AreLists}
+use Rattle.ft_forest.specs.declared.state.State.TheVariants.{Live as LiveState}
+use Rattle.ft_forest.specs.Transactions.{Transactions, none_since, state_in, last_in, parent_of, state_of as life_of}
+use Rattle.ft_moss.specs.Locks.{LockTable, no_locks, is_locked}
+use Rattle.ft_history.specs.History.{Base as HistoryBase, Fate, is_live, IsFresh, begun}
+use Rattle.ft_history.specs.History.Fate.{Live}
+use Rattle.ft_history.specs.Logs.{passing}
+use Rattle.ft_history.specs.Core.{checkpoint}
+use Rattle.ft_history.specs.Promises.{IsCheckpoint}
+use Rattle.ft_history.proofs.Living.{lived}
+use Rattle.ft_history.proofs.Methods.{core_checkpoint, core_new}
+use Rattle.ft_history.proofs.Words.{passing-In}
+use Rattle.ft_core.specs.declared.fault.Fault.{Fault}
+use Rattle.ft_core.specs.declared.fault.Fault.TheVariants.{Live as LiveFault, Memory}
+use Rattle.ft_core.specs.declared.request.Request.TheVariants.{Checkpoint}
+use Rattle.ft_core.specs.declared.request.Answer.{Answer}
+use Rattle.ft_core.specs.declared.request.Answer.TheVariants.{Cleared, Refused}
+use Rattle.ft_core.specs.Living.{SomeIsLive, NoneIsLive}
+use Rattle.ft_core.specs.States.{State, history, fate_of, tree_of, live_transactions, has_live, after_checkpoint}
+use Rattle.ft_core.specs.Steps.{BlockingRule, IsStep, IsAnswered, answer_with, fault_if}
+use Rattle.ft_core.specs.Journals.{Journaled, IsBaseTree, no_events, state_of}
+use Rattle.ft_core.specs.Kept.{fate_in, start_of, AreLogged, IsCoreOf}
+use Rattle.ft_core.specs.Laws.{CallLaws, LockLaws}
+use Rattle.ft_core.proofs.Cores.{none-in, unborn}
+use Rattle.ft_core.proofs.Ends.{live-is}
+use Rattle.ft_core.proofs.Joining.{start, values, past, sound_values, tree_is, free}
+
+-- In a list of those who are live.
+
+no-more : {A : Type 0} (x : A) (xs : List A) → nat_lt 0 (length (x ∷ xs)) ≡ true
+no-more x xs = lt-ltb 0 (length (x ∷ xs)) (omega arith)
+
+live-test : (o : Option Fate) → o ≡ Some Live → is_live o ≡ true
+live-test o e = ap is_live e
+
+module _ (W : CallLaws) (K : LockLaws) (cells : Cells) (forest : Transactions) (table : LockTable) (lists : Lists Logged) (j : Journaled) (core : IsCoreOf (state_of forest j) cells forest table lists j) where
+  abbrev s : State
+  s = state_of forest j
+
+  abbrev from : HistoryBase posix_calls
+  from = start W s.base (history s) s.last_txn s.last_stamp cells core.log core.kept
+
+  -- who is live is among those who were begun
+  pub some-lives : SomeIsLive s → has_live s ≡ true
+  some-lives one =
+      let sound = past W s.base (history s) s.last_txn s.last_stamp cells core.log core.kept in
+      let l = lived posix_calls s.base.last_txn (history s) one.0 one.1 in
+      there (live_transactions s) (passing-In (λ t. is_live (fate_of s t)) one.0 (begun posix_calls (history s)) (sound.numbers_all one.0 l.since l.begun) (live-test (fate_of s one.0) one.1))
+    where
+      there : (xs : List ℕ) → In one.0 xs → nat_lt 0 (length xs) ≡ true
+      there [] i = absurd i
+      there (x ∷ xs) i = no-more x xs
+
+  module _ (none : NoneIsLive s) where
+    -- nobody is live in the forest
+    pub none-in-forest : (x : ℕ) → state_in forest x ≡ Some LiveState → ⊥
+    none-in-forest x is = none (x, sym (core.transactions.fates x) ∙ ap fate_in is)
+
+    -- the tree may be the base
+    pub base-tree : (copy : Cells) (stamp : ℕ) → copy ≡ cells → stamp ≡ j.last_stamp → IsBaseTree copy stamp
+    base-tree copy stamp same last =
+        subst (λ c. IsBaseTree c stamp) (sym same) (subst (IsBaseTree cells) (sym last) (record { sound = core.kept.sound; free = free W s.base (history s) s.last_txn s.last_stamp cells core.log core.kept }))
+
+    -- The core from the new base: nobody has a lock, nothing can be taken back, and no place is of no use.
+    module _ (useless : (c : Cell) → is_useless cells c ≡ false) (fresh-lists : Lists Logged) (empty : AreLists fresh-lists (λ t. [])) (room : ℕ) where
+      abbrev q : Journaled
+      q = record (no_events j.rule (tidy cells) j.last_stamp) { room = room }
+
+      abbrev f : Transactions
+      f = none_since (last_in forest)
+
+      abbrev at : State
+      at = state_of f q
+
+      checked : IsCheckpoint posix_calls from (history s) cells core.log
+      checked = core_checkpoint posix_calls W.lawful from (values W s.base (history s) s.last_txn s.last_stamp cells core.log core.kept) (history s) core.kept.hidden cells core.log core.kept.core (λ t live. none (t, live))
+
+      same-base : checkpoint posix_calls from (history s) cells ≡ start_of at.base cells
+      same-base = λ i. record { store = cells; transaction = sym core.kept.started.last_txn_is i; stamp = sym core.kept.started.last_stamp_is i }
+
+      restarted : IsCoreOf at cells f no_locks fresh-lists q
+      restarted = record {
+        log = λ t. [];
+        kept = record {
+          started = record {
+            store = cells;
+            sound = core.kept.sound;
+            tree = refl;
+            fresh = subst (λ b. IsFresh posix_calls b) same-base (checked.fresh core.kept.started.fresh);
+            last_txn_is = omega arith;
+            last_stamp_is = refl;
+            counted = refl;
+            stamped = omega arith;
+          };
+          hidden = λ i. false;
+          core = core_new posix_calls W.lawful (start_of at.base cells) (sound_values cells core.kept.sound);
+          sound = core.kept.sound;
+        };
+        transactions = record {
+          base_is = refl;
+          last = refl;
+          parents = λ x. ap parent_of (none-in (last_in forest) x);
+          fates = λ x. ap (λ o. fate_in (life_of o)) (none-in (last_in forest) x) ∙ sym (unborn (last_in forest) x);
+        };
+        locks = K.first;
+        no_holder = λ strict. K.holders.first f;
+        logs = record { logged = λ t. subst (AreLogged []) (sym (empty t)) tt; placed = λ t e i. absurd i };
+        ready = λ t live. absurd (not_live (sym (unborn (last_in forest) t) ∙ live));
+        waiting = λ t some. absurd (false≢true (sym (ap is_some (finite.get-empty {X = Call} nat_cmp t)) ∙ some));
+        spare = omega arith;
+        accounted = λ c spare. absurd (false≢true (sym (useless c) ∙ (and_parts (is_useless cells c) (not (at_place (is_locked no_locks) c)) spare).0));
+      }
+        where
+          not_live : {x : Fate} → None ≡ Some x → ⊥
+          not_live e = cc
+
+    pub core-restarted : ((c : Cell) → is_useless cells c ≡ false) → (f' : Transactions) → f' ≡ none_since (last_in forest) → (copy : Cells) → copy ≡ cells → (rule : _) → rule ≡ j.rule → (stamp : ℕ) → stamp ≡ j.last_stamp
+        → (table' : LockTable) → table' ≡ no_locks → (lists' : Lists Logged) → AreLists lists' (λ t. []) → (j' : Journaled) → j' ≡ record (no_events rule (tidy copy) stamp) { room = j'.room } → IsCoreOf (state_of f' j') cells f' table' lists' j'
+    core-restarted useless f' first copy same rule is stamp last table' new lists' empty j' told =
+        subst (λ (k : Journaled). IsCoreOf (state_of f' k) cells f' table' lists' k) (sym (told ∙ (λ i. record (no_events (is i) (tidy (same i)) (last i)) { room = j'.room })))
+        (subst (λ (m : Transactions). IsCoreOf (state_of m (q useless lists' empty j'.room)) cells m table' lists' (q useless lists' empty j'.room)) (sym first)
+        (subst (λ (t : LockTable). IsCoreOf (at useless lists' empty j'.room) cells (f useless lists' empty j'.room) t lists' (q useless lists' empty j'.room)) (sym new) (restarted useless lists' empty j'.room)))
+
+    pub state-restarted : (f' : Transactions) → f' ≡ none_since (last_in forest) → (copy : Cells) → copy ≡ cells → (rule : _) → rule ≡ j.rule → (stamp : ℕ) → stamp ≡ j.last_stamp
+        → (j' : Journaled) → j' ≡ record (no_events rule (tidy copy) stamp) { room = j'.room } → state_of f' j' ≡ after_checkpoint s
+    state-restarted f' first copy same rule is stamp last j' told =
+        let tree : tidy copy ≡ tree_of s = ap tidy same ∙ tree_is W s.base (history s) s.last_txn s.last_stamp cells core.log core.kept in
+        let none_more : last_in forest + 0 ≡ last_in forest = omega arith in
+        (λ i. state_of (first i) (told i)) ∙ (λ i. record { rule = is i; base = record { tree = tree i; last_txn = last_in forest; last_stamp = last i }; events = []; asks = finite.empty; last_txn = none_more i; last_stamp = last i })
+
+-- Steps.
+
+no-lives : (s : State) → NoneIsLive s → has_live s ≡ false
+no-lives s none = ap (λ n. nat_lt 0 n) (nobody (begun posix_calls (history s)))
+  where
+    alive : (o : Option Fate) → is_live o ≡ true → o ≡ Some Live
+    alive o e = live-is o e
+
+    nobody : (xs : List ℕ) → length (passing (λ t. is_live (fate_of s t)) xs) ≡ 0
+    nobody [] = refl
+    nobody (x ∷ xs) = by_test (is_live (fate_of s x))
+        (λ k. absurd (none (x, alive (fate_of s x) k)))
+        (λ k. ap (λ b. length (cond b (x ∷ passing (λ t. is_live (fate_of s t)) xs) (passing (λ t. is_live (fate_of s t)) xs))) k ∙ nobody xs)
+
+pub step-live : (rule : BlockingRule) (s : State) → has_live s ≡ true → IsStep rule s Checkpoint (Refused LiveFault) s
+step-live rule s some = subst (λ b. MatchOption (fault_if b LiveFault None) (IsAnswered rule s Checkpoint (Refused LiveFault) s) (λ f. (Refused LiveFault ≡ Refused f) × (s ≡ s))) (sym some) (refl, refl)
+
+pub step-cleared : (rule : BlockingRule) (s s' : State) → NoneIsLive s → s' ≡ after_checkpoint s → IsStep rule s Checkpoint Cleared s'
+step-cleared rule s s' none is = subst (λ b. MatchOption (fault_if b LiveFault None) (IsAnswered rule s Checkpoint Cleared s') (λ f. (Cleared ≡ Refused f) × (s' ≡ s))) (sym (no-lives s none)) is
+
+pub step-wanting : {A : Type 0} (rule : BlockingRule) (s s' : State) (told : A → Answer) (result : Result A Fault) → NoneIsLive s → IsErrAnd result (λ fault. fault ≡ Memory) → s' ≡ s → IsStep rule s Checkpoint (answer_with told result) s'
+step-wanting rule s s' told (Ok x) none is same = absurd is
+step-wanting rule s s' told (Err y) none is same = subst (λ b. MatchOption (fault_if b LiveFault None) (IsAnswered rule s Checkpoint (Refused y) s') (λ f. (Refused y ≡ Refused f) × (s' ≡ s))) (sym (no-lives s none)) (is, tt, same)

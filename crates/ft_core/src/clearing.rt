@@ -1,0 +1,54 @@
+// Checkpoints.
+ghost use Rattle.std.specs.Prelude.{◌≡◌, OnOk, OnErr};
+ghost use Rattle.ft_core.specs.declared.request.Request.TheVariants.{Checkpoint};
+ghost use Rattle.ft_core.specs.declared.request.Answer.TheVariants.{Cleared};
+ghost use Rattle.ft_core.specs.Living.{NoneIsLive};
+ghost use Rattle.ft_core.specs.States.{after_checkpoint};
+ghost use Rattle.ft_core.specs.Steps.{IsStep, exact_rule, answer_with};
+
+use crate::fault::Fault;
+use crate::journal::Journal;
+use crate::laws::{call_laws, lock_laws};
+use crate::manager::Core;
+use ft_base::Memory;
+use ft_locks::Locks;
+use ft_undo::Logs;
+
+impl Core {
+    /// Makes the tree as it stands the base, and forgets the transactions and all that has happened: limits count from
+    /// here, and the next numbers go on. Takes the memory and the time of a copy of the tree.
+    ///
+    /// Refuses Live where a transaction is live. Want of memory changes nothing.
+    pub fn checkpoint(&mut self) -> Result<(), Fault>
+        ensures { IsStep exact_rule self.old Checkpoint (answer_with (λ done. Cleared) result) self.new }
+    {
+        call_laws();
+        lock_laws();
+        let _ = &self.tree;
+        if self.has_live() {
+            return Err(Fault::Live);
+        }
+        self.restart()?;
+        Ok(())
+    }
+
+    /// Makes the tree the base, where no transaction is live.
+    fn restart(&mut self) -> Result<(), Memory>
+        requires { NoneIsLive self.old }
+        ensures ok { OnOk result (self.new ≡ after_checkpoint self.old) }
+        ensures err { OnErr result (self.new ≡ self.old) }
+    {
+        call_laws();
+        lock_laws();
+        let locks = Locks::new(self.alloc)?;
+        self.tree.sweep(&mut self.locks);
+        let base = self.tree.copy()?;
+        let rule = self.journal.rule();
+        let stamp = self.journal.last_stamp();
+        self.forest.restart();
+        self.journal = Journal::new(self.alloc, rule, base, stamp);
+        self.locks = locks;
+        self.logs = Logs::new(self.alloc);
+        Ok(())
+    }
+}
