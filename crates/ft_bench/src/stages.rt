@@ -140,7 +140,7 @@ fn run_in(
     }
     if matches!(stage, Stage::Whole | Stage::Heap) {
         core.commit(txn)?;
-        let _ = core.sweep();
+        core.sweep();
     }
     Ok(count)
 }

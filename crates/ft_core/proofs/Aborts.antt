@@ -17,7 +17,7 @@ use Rattle.ft_undo.specs.declared.logs.Logged.{Logged}
 use Rattle.ft_undo.specs.Logs.{is_open, AreLists, AreOpen}
 use Rattle.ft_forest.specs.declared.state.State.{State as Life}
 use Rattle.ft_forest.specs.declared.state.State.TheVariants.{Live as LiveState, Committed as CommittedState, Aborted as AbortedState}
-use Rattle.ft_forest.specs.Transactions.{Transactions, parent_in, state_in, over_in, last_in, is_live as is_live_in, HasEnded, HasAborted, IsAborting}
+use Rattle.ft_forest.specs.Transactions.{Transactions, parent_in, state_in, over_in, is_live as is_live_in, HasEnded, HasAborted, IsAborting}
 use Rattle.ft_moss.specs.Locks.{LockTable, has_lock, is_locked, is_let_go, is_opened, AreReleased}
 use Rattle.ft_moss.specs.Law.{AreDropped}
 use Rattle.ft_moss.specs.Rules.{is_strict}
@@ -35,9 +35,9 @@ use Rattle.ft_history.proofs.Promises.{abort_count, newest_first}
 use Rattle.ft_history.proofs.Words.{by_number, put_same, put_other}
 use Rattle.ft_core.specs.declared.request.Event.TheVariants.{Abort}
 use Rattle.ft_core.specs.Histories.{History, told as told_of}
-use Rattle.ft_core.specs.States.{Base, Asks}
+use Rattle.ft_core.specs.States.{Base, Asks, fate_in}
 use Rattle.ft_core.specs.Journals.{Journaled, with_event, without, state_of}
-use Rattle.ft_core.specs.Kept.{Item, fate_in, ArePlaced, AreLogged, AreLogs, IsCoreAt, IsCoreOf}
+use Rattle.ft_core.specs.Kept.{Item, ArePlaced, AreLogged, AreLogs, IsCoreAt, IsCoreOf}
 use Rattle.ft_core.specs.Laws.{CallLaws, LockLaws}
 use Rattle.ft_core.specs.Taking.{taken_back, CanTakeBack}
 use Rattle.ft_core.proofs.Accounts.{still-accounted}
@@ -47,6 +47,7 @@ use Rattle.ft_core.proofs.Lists.{IsTaking, IsListTaken, list-taken}
 use Rattle.ft_core.proofs.Noted.{removed-same, removed-other, opened-other, open-other}
 use Rattle.ft_core.proofs.Owned.{write_line, has-lock}
 use Rattle.ft_core.proofs.Reverting.{placed-stays}
+use Rattle.ft_core.proofs.Gathered.{parts}
 
 fewer-pass : {A : Type 0} (p : A → Bool) (xs : List A) → length (passing p xs) ≤ length xs
 fewer-pass p [] = omega arith
@@ -54,14 +55,14 @@ fewer-pass p (x ∷ xs) = by_test (p x)
     (λ k. let ih = fewer-pass p xs in let here = ap (λ b. length (cond b (x ∷ passing p xs) (passing p xs))) k in omega arith)
     (λ k. let ih = fewer-pass p xs in let here = ap (λ b. length (cond b (x ∷ passing p xs) (passing p xs))) k in omega arith)
 
-module _ (W : CallLaws) (K : LockLaws) (base : Base) (h : History) (asks : Asks) (last_txn last_number : ℕ) (cells₀ : Cells) (forest₀ : Transactions) (table₀ : LockTable) (lists₀ : Lists Logged) (j₀ : Journaled) (core : IsCoreAt base h asks last_txn last_number cells₀ forest₀ table₀ lists₀ j₀) (t : ℕ) (live : IsLive posix_calls base.last_txn h t) where
+module _ (W : CallLaws) (K : LockLaws) {base : Base} {h : History} {asks : Asks} {last_txn last_number : ℕ} {cells₀ : Cells} {forest₀ : Transactions} {table₀ : LockTable} {lists₀ : Lists Logged} {j₀ : Journaled} (core : IsCoreAt base h asks last_txn last_number cells₀ forest₀ table₀ lists₀ j₀) (t : ℕ) (live : IsLive posix_calls base.last_txn h t) where
   abbrev from : HistoryBase posix_calls
-  from = start W base h last_txn last_number cells₀ core.log core.kept
+  from = start W core.kept
 
   -- m calls are taken back, and the parts are now these
   pub record IsOnWay (m : ℕ) (cells : Cells) (forest : Transactions) (table : LockTable) (lists : Lists Logged) (j : Journaled) : Type 0 where
     pub log : ℕ → List Item
-    pub taking : IsTaking W base h last_txn last_number cells₀ core.log core.kept t m cells log
+    pub taking : IsTaking W core.kept t m cells log
     pub logs : AreLogs cells log lists
     pub places : HasNamedPlaces cells
     pub forest_is : IsAborting forest₀ forest t
@@ -92,11 +93,11 @@ module _ (W : CallLaws) (K : LockLaws) (base : Base) (h : History) (asks : Asks)
   pub first : j₀.asks ≡ asks → IsOnWay 0 cells₀ forest₀ table₀ lists₀ j₀
   first same = record {
     log = core.log;
-    taking = abort_first posix_calls W.lawful from (values W base h last_txn last_number cells₀ core.log core.kept) h core.kept.hidden cells₀ core.log core.kept.core t;
+    taking = abort_first posix_calls W.lawful from (values W core.kept) h core.kept.hidden cells₀ core.log core.kept.core t;
     logs = core.logs;
-    places = named W base h last_txn last_number cells₀ core.log core.kept;
+    places = named W core.kept;
     forest_is = record { base = refl; last = refl; parents = λ x. refl; states = λ x. inl refl };
-    ended = λ x e. ended_list posix_calls W.lawful from (values W base h last_txn last_number cells₀ core.log core.kept) h core.kept.hidden cells₀ core.log core.kept.core x
+    ended = λ x e. ended_list posix_calls W.lawful from (values W core.kept) h core.kept.hidden cells₀ core.log core.kept.core x
         (λ now. false≢true (sym e ∙ sym (fate-of x) ∙ ap is_live now));
     gone = λ x. false;
     gone_is = λ x now. sym (none (over posix_calls h t x) (is_live_in (state_in forest₀ x)) (sym (fate-of x) ∙ ap is_live now));
@@ -123,11 +124,11 @@ module _ (W : CallLaws) (K : LockLaws) (base : Base) (h : History) (asks : Asks)
   -- there is a place for the event
   pub place-abort : 0 < j₀.spare
   place-abort =
-      let fewer = events-abort W base h last_txn last_number cells₀ core.log core.kept t live in
+      let fewer = events-abort W core.kept t live in
       let le = core.spare in
       omega arith
 
-  module _ (m : ℕ) (cells : Cells) (forest : Transactions) (table : LockTable) (lists : Lists Logged) (j : Journaled) (way : IsOnWay m cells forest table lists j) where
+  module _ {m : ℕ} {cells : Cells} {forest : Transactions} {table : LockTable} {lists : Lists Logged} {j : Journaled} (way : IsOnWay m cells forest table lists j) where
     parents : (x : ℕ) → parent_in forest x ≡ parent posix_calls h x
     parents x = way.forest_is.parents x ∙ core.transactions.parents x
 
@@ -143,7 +144,7 @@ module _ (W : CallLaws) (K : LockLaws) (base : Base) (h : History) (asks : Asks)
     -- what the calls of a transaction wrote whose turn has not come is locked still
     still-locked : (x : ℕ) → state_in forest x ≡ Some LiveState → (e : Item) → In e (way.log x) → (c : Cell) → writes_cell e.done.accesses c ≡ true → is_locked table c ≡ true
     still-locked x live_x e i c writes =
-        let lock = has-lock W K base h asks last_txn last_number cells₀ forest₀ table₀ lists₀ j₀ core x e (subst (In e) (way.waits x live_x) i) c writes in
+        let lock = has-lock W K core x e (subst (In e) (way.waits x live_x) i) c writes in
         let l = write_line x c lock.0 in
         let stays : way.gone x ≡ false = way.gone_is x (was-live x live_x) ∙ ap (λ o. over posix_calls h t x && not (is_live_in o)) live_x ∙ none (over posix_calls h t x) in
         K.locked table l (way.dropped l ∙ (λ k. not (stays k) && lock.1 k))
@@ -161,8 +162,8 @@ module _ (W : CallLaws) (K : LockLaws) (base : Base) (h : History) (asks : Asks)
         omega arith
 
     module _ (next : ℕ) (under : over_in forest t next ≡ true) (is_live : state_in forest next ≡ Some LiveState) (lowest : (x : ℕ) → over_in forest next x ≡ true → state_in forest x ≡ Some LiveState → x ≡ next) where
-      one : IsListTaken W base h last_txn last_number cells₀ core.log core.kept table t next m cells way.log (list_in lists next)
-      one = list-taken W base h last_txn last_number cells₀ core.log core.kept table t next (sym (over-is forest parents t next) ∙ under) (list_in lists next) m cells way.log (way.logs.logged next)
+      one : IsListTaken W core.kept table t next m cells way.log (list_in lists next)
+      one = list-taken W core.kept table t next (sym (over-is forest parents t next) ∙ under) (list_in lists next) m cells way.log (way.logs.logged next)
           (λ y a ne. way.ended y (not-live-in (state_in forest y) (λ now. ne (lowest y (over-is forest parents next y ∙ a) now))))
           (way.logs.placed next) (still-locked next is_live) way.places way.accounted way.taking
 
@@ -195,7 +196,7 @@ module _ (W : CallLaws) (K : LockLaws) (base : Base) (h : History) (asks : Asks)
         pub go-on : IsOnWay (m + length (list_in lists next)) cells' forest' table' lists' j'
         go-on = record {
           log = one.left;
-          taking = subst (λ s. IsTaking W base h last_txn last_number cells₀ core.log core.kept t (m + length (list_in lists next)) s one.left) (sym made) one.taking;
+          taking = subst (λ s. IsTaking W core.kept t (m + length (list_in lists next)) s one.left) (sym made) one.taking;
           logs = record {
             logged = λ u. subst (AreLogged (one.left u)) (sym (are u)) (by_number u next
                 (λ is. subst (λ es. AreLogged es (put (list_in lists) next [] u)) (sym (ap one.left is ∙ one.empty)) (subst (AreLogged []) (sym (put_same (list_in lists) next [] u is)) tt))
@@ -241,7 +242,7 @@ module _ (W : CallLaws) (K : LockLaws) (base : Base) (h : History) (asks : Asks)
       legal = (live, core.kept.core.legal)
 
       fates : (x : ℕ) → fate posix_calls base.last_txn after x ≡ cond (over posix_calls h t x && is_live (fate posix_calls base.last_txn h x)) (Some Aborted) (fate posix_calls base.last_txn h x)
-      fates = fate_rules posix_calls W.lawful from (values W base h last_txn last_number cells₀ core.log core.kept) h (WasAborted t) legal
+      fates = fate_rules posix_calls W.lawful from (values W core.kept) h (WasAborted t) legal
 
       below : (x : ℕ) → over posix_calls h t x ≡ true → is_live_in (state_in forest x) ≡ false
       below x a = not-live-in (state_in forest x) (none x (over-is forest parents t x ∙ a))
@@ -289,27 +290,27 @@ module _ (W : CallLaws) (K : LockLaws) (base : Base) (h : History) (asks : Asks)
               ∙ sym (ap (λ b. cond (not b) (finite.get asks x) None) out))
 
       ended : IsCore posix_calls from after core.kept.hidden cells way.log × (length (standing posix_calls after) + m ≡ length (standing posix_calls h)) × ((x : ℕ) → way.log x ≡ emptied (over posix_calls h) core.log t x)
-      ended = core_aborted posix_calls W.lawful from (values W base h last_txn last_number cells₀ core.log core.kept) h core.kept.hidden cells₀ core.log core.kept.core t m cells way.log live empty way.taking
+      ended = core_aborted posix_calls W.lawful from (values W core.kept) h core.kept.hidden cells₀ core.log core.kept.core t m cells way.log live empty way.taking
 
       -- so many calls are taken away
       pub count-is : m ≡ calls_below posix_calls h t
       count-is =
-          let order = newest_first posix_calls W.lawful from (values W base h last_txn last_number cells₀ core.log core.kept) h core.kept.core.legal t in
-          let calls = (abort_count posix_calls W.lawful from (values W base h last_txn last_number cells₀ core.log core.kept) h core.kept.core.legal t (newest_below posix_calls h t) live order).calls in
+          let order = newest_first posix_calls W.lawful from (values W core.kept) h core.kept.core.legal t in
+          let calls = (abort_count posix_calls W.lawful from (values W core.kept) h core.kept.core.legal t (newest_below posix_calls h t) live order).calls in
           let went = ended.1 in
           omega (arith, calls, went)
 
       pub core-abort : (j' : Journaled) → j' ≡ with_event j (Abort t) → IsCoreAt base after j.asks last_txn last_number cells forest table lists j'
       core-abort j' told = record {
         log = way.log;
-        kept = kept-ending W base h last_txn last_number cells₀ core.log core.kept (WasAborted t) (record { begun = refl; grants = refl; last_transaction = λ first. refl; last_stamp = λ first. refl }) cells way.log ended.0 way.places;
+        kept = kept-ending W core.kept (WasAborted t) (record { begun = refl; grants = refl; last_transaction = λ first. refl; last_stamp = λ first. refl }) cells way.log ended.0 way.places;
         transactions = record {
           base_is = done.base ∙ core.transactions.base_is;
           last = done.last ∙ core.transactions.last;
           parents = parents;
           fates = fates-are;
         };
-        locks = K.abort from (values W base h last_txn last_number cells₀ core.log core.kept) h table₀ core.locks t way.gone table legal (λ y now. way.gone_is y now ∙ dead y) way.dropped;
+        locks = K.abort from (values W core.kept) h table₀ core.locks t way.gone table legal (λ y now. way.gone_is y now ∙ dead y) way.dropped;
         no_holder = λ strict.
             K.holders.fewer table₀ table (λ l e. (and_parts (not (way.gone l.owner)) (has_lock table₀ l) (sym (way.dropped l) ∙ e)).1) forest₀ forest done.parents
             (core.no_holder (sym (ap is_strict (ap (λ (q : Journaled). q.rule) told ∙ ap (λ (q : Journaled). q.rule) way.journal)) ∙ strict));
@@ -325,7 +326,7 @@ module _ (W : CallLaws) (K : LockLaws) (base : Base) (h : History) (asks : Asks)
             (λ e. sym (fates-are x) ∙ ap fate_in (live-in (state_in forest x) e))
             (λ e. absurd (false≢true (sym (ap is_some (way.asks_ended x e)) ∙ some)));
         spare =
-            let fewer = events-abort W base h last_txn last_number cells₀ core.log core.kept t live in
+            let fewer = events-abort W core.kept t live in
             let le = core.spare in
             let same = ap (λ (q : Journaled). q.spare) told in
             let kept = ap (λ (q : Journaled). q.spare) way.journal in
@@ -354,5 +355,5 @@ open-closed lists middle new n a b x = b x ∙ ap (cond (x == n) false) (a x)
 -- An abort of t in a core is on its way: m calls are taken back, and the core's parts are now these.
 abbrev pub IsAbortOf : Cells → Transactions → LockTable → Lists Logged → Journaled → ℕ → ℕ → Cells → Transactions → LockTable → Lists Logged → Journaled → Type 0
 IsAbortOf cells₀ forest₀ table₀ lists₀ j₀ t m cells forest table lists j =
-    (W : CallLaws) (K : LockLaws) (core : IsCoreOf (state_of forest₀ j₀) cells₀ forest₀ table₀ lists₀ j₀) (live : IsLive posix_calls forest₀.base (told_of j₀.events) t)
-    → IsOnWay W K (state_of forest₀ j₀).base (told_of j₀.events) j₀.asks (last_in forest₀) j₀.last_stamp cells₀ forest₀ table₀ lists₀ j₀ core t live m cells forest table lists j
+    (W : CallLaws) (K : LockLaws) (core : IsCoreOf (state_of forest₀ j₀) (parts cells₀ forest₀ table₀ lists₀) j₀) (live : IsLive posix_calls forest₀.base (told_of j₀.events) t)
+    → IsOnWay W K core t live m cells forest table lists j

@@ -31,30 +31,32 @@ use Rattle.ft_core.specs.Histories.{History, Granted}
 use Rattle.ft_core.specs.declared.fault.Fault.{Fault}
 use Rattle.ft_core.specs.declared.fault.Fault.TheVariants.{Full, Deep}
 use Rattle.ft_core.specs.declared.request.Event.TheVariants.{Begin}
-use Rattle.ft_core.specs.States.{Base, Asks, State, history, fate_of, is_deepest, has_most_transactions, after_begin}
+use Rattle.ft_core.specs.States.{Base, Asks, State, fate_of, is_deepest, has_most_transactions, after_begin, fate_in}
 use Rattle.ft_core.specs.Steps.{fault_if, fault_of_fate, refusal_of, begin_request}
 use Rattle.ft_core.specs.Journals.{Journaled, with_begin, state_of}
-use Rattle.ft_core.specs.Kept.{fate_in, is_owned, events_kept, AreLogged, IsCoreAt, IsCoreOf}
+use Rattle.ft_core.specs.declared.parts.Parts.{Parts}
+use Rattle.ft_core.specs.Kept.{is_owned, events_kept, AreLogged, IsCoreAt, IsCoreOf}
 use Rattle.ft_core.specs.Opens.{AreAsBefore, IsOpenFor}
 use Rattle.ft_core.specs.Laws.{CallLaws, LockLaws}
 use Rattle.ft_core.proofs.Counts.{count-push, count-fewer}
 use Rattle.ft_core.proofs.Opening.{Subs}
 use Rattle.ft_core.proofs.Told.{told-push}
 use Rattle.ft_core.proofs.Joining.{start, values, past, may-begin, kept-begin}
+use Rattle.ft_core.proofs.Gathered.{parts}
 
 fate-cond : (b : Bool) (o : Option Life) → fate_in (cond b (Some LiveState) o) ≡ cond b (Some Live) (fate_in o)
 fate-cond true o = refl
 fate-cond false o = refl
 
-module _ (W : CallLaws) (K : LockLaws) (base : Base) (h : History) (asks : Asks) (last_txn last_number : ℕ) (cells : Cells) (forest : Transactions) (table : LockTable) (lists : Lists Logged) (j : Journaled) (core : IsCoreAt base h asks last_txn last_number cells forest table lists j) where
+module _ (W : CallLaws) (K : LockLaws) {base : Base} {h : History} {asks : Asks} {last_txn last_number : ℕ} {cells : Cells} {forest : Transactions} {table : LockTable} {lists : Lists Logged} {j : Journaled} (core : IsCoreAt base h asks last_txn last_number cells forest table lists j) where
   abbrev from : HistoryBase posix_calls
-  from = start W base h last_txn last_number cells core.log core.kept
+  from = start W core.kept
 
   with_values : HasSoundValues from.store
-  with_values = values W base h last_txn last_number cells core.log core.kept
+  with_values = values W core.kept
 
   sound : Sound posix_calls W.lawful from h
-  sound = past W base h last_txn last_number cells core.log core.kept
+  sound = past W core.kept
 
   pub numbers : AreNumbered posix_calls base.last_txn h
   numbers = numbered posix_calls W.lawful from with_values h core.kept.core.legal
@@ -77,7 +79,7 @@ module _ (W : CallLaws) (K : LockLaws) (base : Base) (h : History) (asks : Asks)
     after = WasBegun n up ∷ h
 
     may : MayBegin posix_calls base.last_txn h n up
-    may = may-begin W base h last_txn last_number cells core.log core.kept n up next live
+    may = may-begin W core.kept n up next live
 
     legal : Legal posix_calls from after
     legal = (may, core.kept.core.legal)
@@ -116,7 +118,7 @@ module _ (W : CallLaws) (K : LockLaws) (base : Base) (h : History) (asks : Asks)
     pub core-begin : (forest' : Transactions) → HasBegun forest forest' up → IsOpenFor j table lists n → (j' : Journaled) → j'.rule ≡ j.rule → j'.subs ≡ j.subs → j'.spare ≡ j.spare + 1 → IsCoreAt base after asks n last_number cells forest' table lists j'
     core-begin forest' has open_for j' rule subs more = record {
       log = core.log;
-      kept = kept-begin W base h last_txn last_number cells core.log core.kept n up next live;
+      kept = kept-begin W core.kept n up next live;
       transactions = record {
         base_is = has.base ∙ core.transactions.base_is;
         last = has.last ∙ number_is;
@@ -187,12 +189,14 @@ state-begun forest forest' up j j' subs room has is = λ i. record {
   last_stamp = (is i).last_stamp;
 }
 
-pub core-started : CallLaws → LockLaws → (cells : Cells) (forest forest' : Transactions) (table table' : LockTable) (lists lists' : Lists Logged) (j j1 j' : Journaled) (up : Option ℕ) → IsCoreOf (state_of forest j) cells forest table lists j
-    → refusal_of (state_of forest j) (begin_request up) ≡ None → AreAsBefore j j1 table table' lists lists' (last_in forest + 1) → IsOpenFor j1 table' lists' (last_in forest + 1) → HasBegun forest forest' up → j' ≡ with_begin j1 (last_in forest + 1) up → IsCoreOf (state_of forest' j') cells forest' table' lists' j'
-core-started W K cells forest forest' table table' lists lists' j j1 j' up core fine same open_for has is =
-    let s : State = state_of forest j in
-    let opened = core-opened W K s.base (history s) s.asks s.last_txn s.last_stamp cells forest table lists j core table' lists' j1 same in
-    let begun = core-begin W K s.base (history s) s.asks s.last_txn s.last_stamp cells forest table' lists' j1 opened (last_in forest + 1) up refl (live-parent s up fine) forest' has open_for j' (ap (λ (q : Journaled). q.rule) is) (ap (λ (q : Journaled). q.subs) is) (ap (λ (q : Journaled). q.spare) is) in
-    let told : IsCoreOf (after_begin s up) cells forest' table' lists' j' =
-    subst (λ h. IsCoreAt s.base h s.asks (last_in forest + 1) s.last_stamp cells forest' table' lists' j') (sym (told-push s.events (Begin (last_in forest + 1) up))) begun in
-    subst (λ q. IsCoreOf q cells forest' table' lists' j') (sym (state-begun forest forest' up j j' j1.subs j1.room has (is ∙ ap (λ (q : Journaled). with_begin q (last_in forest + 1) up) same.journal))) told
+pub core-started : CallLaws → LockLaws → (p p' : Parts) (j j1 j' : Journaled) (up : Option ℕ) → IsCoreOf (state_of p.forest j) p j
+    → refusal_of (state_of p.forest j) (begin_request up) ≡ None → AreAsBefore j j1 p.locks p'.locks p.logs p'.logs (last_in p.forest + 1) → IsOpenFor j1 p'.locks p'.logs (last_in p.forest + 1) → HasBegun p.forest p'.forest up → p'.tree ≡ p.tree → j' ≡ with_begin j1 (last_in p.forest + 1) up → IsCoreOf (state_of p'.forest j') p' j'
+core-started W K p p' j j1 j' up core fine same open_for has tree is =
+    let n = last_in p.forest + 1 in
+    let s : State = state_of p.forest j in
+    let opened = core-opened W K core p'.locks p'.logs j1 same in
+    let begun = core-begin W K opened n up refl (live-parent s up fine) p'.forest has open_for j' (ap (λ (q : Journaled). q.rule) is) (ap (λ (q : Journaled). q.subs) is) (ap (λ (q : Journaled). q.spare) is) in
+    let told : IsCoreOf (after_begin s up) (parts p.tree p'.forest p'.locks p'.logs) j' =
+    subst (λ h. IsCoreAt s.base h s.asks n s.last_stamp p.tree p'.forest p'.locks p'.logs j') (sym (told-push s.events (Begin n up))) begun in
+    subst (λ c. IsCoreOf (state_of p'.forest j') (parts c p'.forest p'.locks p'.logs) j') (sym tree)
+    (subst (λ q. IsCoreOf q (parts p.tree p'.forest p'.locks p'.logs) j') (sym (state-begun p.forest p'.forest up j j' j1.subs j1.room has (is ∙ ap (λ (q : Journaled). with_begin q n up) same.journal))) told)

@@ -1,6 +1,6 @@
 -- A checkpoint: the core starts again from its tree.
-use Rattle.std.proofs.Common.{◌≡◌, ◌+◌, ℕ, true, false, not, cond, List, [], ◌∷◌, Option, Some, None, Result, Ok, Err, is_some, length, arith, refl, sym, ap, subst, ◌∙◌}
-use Rattle.std.specs.Prelude.{nat_lt, MatchOption}
+use Rattle.std.proofs.Common.{◌≡◌, ◌+◌, ℕ, Bool, true, false, not, cond, List, [], ◌∷◌, Option, Some, None, Result, Ok, Err, is_some, length, arith, refl, sym, ap, subst, ◌∙◌}
+use Rattle.std.specs.Prelude.{nat_lt, MatchBool, MatchOption}
 use Rattle.std.proofs.lemmas.Bool.{false≢true, and_parts, lt-ltb}
 use Rattle.std.specs.Result.{IsErrAnd}
 use Rattle.std.specs.Ordering.{nat_cmp}
@@ -33,14 +33,16 @@ use Rattle.ft_core.specs.declared.request.Request.TheVariants.{Checkpoint}
 use Rattle.ft_core.specs.declared.request.Answer.{Answer}
 use Rattle.ft_core.specs.declared.request.Answer.TheVariants.{Cleared, Refused}
 use Rattle.ft_core.specs.Living.{SomeIsLive, NoneIsLive}
-use Rattle.ft_core.specs.States.{State, history, fate_of, tree_of, live_transactions, has_live, after_checkpoint}
+use Rattle.ft_core.specs.States.{State, history, fate_of, tree_of, live_transactions, has_live, after_checkpoint, fate_in}
 use Rattle.ft_core.specs.Steps.{BlockingRule, IsStep, IsAnswered, answer_with, fault_if}
 use Rattle.ft_core.specs.Journals.{Journaled, IsBaseTree, no_events, state_of}
-use Rattle.ft_core.specs.Kept.{fate_in, start_of, AreLogged, IsCoreOf}
+use Rattle.ft_core.specs.declared.parts.Parts.{Parts}
+use Rattle.ft_core.specs.Kept.{start_of, AreLogged, IsCoreOf}
 use Rattle.ft_core.specs.Laws.{CallLaws, LockLaws}
 use Rattle.ft_core.proofs.Cores.{none-in, unborn}
 use Rattle.ft_core.proofs.Ends.{live-is}
 use Rattle.ft_core.proofs.Joining.{start, values, past, sound_values, tree_is, free}
+use Rattle.ft_core.proofs.Gathered.{parts}
 
 -- In a list of those who are live.
 
@@ -50,17 +52,23 @@ no-more x xs = lt-ltb 0 (length (x ∷ xs)) (omega arith)
 live-test : (o : Option Fate) → o ≡ Some Live → is_live o ≡ true
 live-test o e = ap is_live e
 
-module _ (W : CallLaws) (K : LockLaws) (cells : Cells) (forest : Transactions) (table : LockTable) (lists : Lists Logged) (j : Journaled) (core : IsCoreOf (state_of forest j) cells forest table lists j) where
+module _ (W : CallLaws) (K : LockLaws) (p : Parts) (j : Journaled) (core : IsCoreOf (state_of p.forest j) p j) where
+  abbrev cells : Cells
+  cells = p.tree
+
+  abbrev forest : Transactions
+  forest = p.forest
+
   abbrev s : State
   s = state_of forest j
 
   abbrev from : HistoryBase posix_calls
-  from = start W s.base (history s) s.last_txn s.last_stamp cells core.log core.kept
+  from = start W core.kept
 
   -- who is live is among those who were begun
   pub some-lives : SomeIsLive s → has_live s ≡ true
   some-lives one =
-      let sound = past W s.base (history s) s.last_txn s.last_stamp cells core.log core.kept in
+      let sound = past W core.kept in
       let l = lived posix_calls s.base.last_txn (history s) one.0 one.1 in
       there (live_transactions s) (passing-In (λ t. is_live (fate_of s t)) one.0 (begun posix_calls (history s)) (sound.numbers_all one.0 l.since l.begun) (live-test (fate_of s one.0) one.1))
     where
@@ -76,7 +84,7 @@ module _ (W : CallLaws) (K : LockLaws) (cells : Cells) (forest : Transactions) (
     -- the tree may be the base
     pub base-tree : (copy : Cells) (stamp : ℕ) → copy ≡ cells → stamp ≡ j.last_stamp → IsBaseTree copy stamp
     base-tree copy stamp same last =
-        subst (λ c. IsBaseTree c stamp) (sym same) (subst (IsBaseTree cells) (sym last) (record { sound = core.kept.sound; free = free W s.base (history s) s.last_txn s.last_stamp cells core.log core.kept }))
+        subst (λ c. IsBaseTree c stamp) (sym same) (subst (IsBaseTree cells) (sym last) (record { sound = core.kept.sound; free = free W core.kept }))
 
     -- The core from the new base: nobody has a lock, nothing can be taken back, and no place is of no use.
     module _ (useless : (c : Cell) → is_useless cells c ≡ false) (fresh-lists : Lists Logged) (empty : AreLists fresh-lists (λ t. [])) (room : ℕ) where
@@ -90,12 +98,12 @@ module _ (W : CallLaws) (K : LockLaws) (cells : Cells) (forest : Transactions) (
       at = state_of f q
 
       checked : IsCheckpoint posix_calls from (history s) cells core.log
-      checked = core_checkpoint posix_calls W.lawful from (values W s.base (history s) s.last_txn s.last_stamp cells core.log core.kept) (history s) core.kept.hidden cells core.log core.kept.core (λ t live. none (t, live))
+      checked = core_checkpoint posix_calls W.lawful from (values W core.kept) (history s) core.kept.hidden cells core.log core.kept.core (λ t live. none (t, live))
 
       same-base : checkpoint posix_calls from (history s) cells ≡ start_of at.base cells
       same-base = λ i. record { store = cells; transaction = sym core.kept.started.last_txn_is i; stamp = sym core.kept.started.last_stamp_is i }
 
-      restarted : IsCoreOf at cells f no_locks fresh-lists q
+      restarted : IsCoreOf at (parts cells f no_locks fresh-lists) q
       restarted = record {
         log = λ t. [];
         kept = record {
@@ -108,6 +116,7 @@ module _ (W : CallLaws) (K : LockLaws) (cells : Cells) (forest : Transactions) (
             last_stamp_is = refl;
             counted = refl;
             stamped = omega arith;
+            within = core.kept.started.within;
           };
           hidden = λ i. false;
           core = core_new posix_calls W.lawful (start_of at.base cells) (sound_values cells core.kept.sound);
@@ -132,22 +141,22 @@ module _ (W : CallLaws) (K : LockLaws) (cells : Cells) (forest : Transactions) (
           not_live e = cc
 
     pub core-restarted : ((c : Cell) → is_useless cells c ≡ false) → (f' : Transactions) → f' ≡ none_since (last_in forest) → (copy : Cells) → copy ≡ cells → (rule : _) → rule ≡ j.rule → (stamp : ℕ) → stamp ≡ j.last_stamp
-        → (table' : LockTable) → table' ≡ no_locks → (lists' : Lists Logged) → AreLists lists' (λ t. []) → (j' : Journaled) → j' ≡ record (no_events rule (tidy copy) stamp) { room = j'.room } → IsCoreOf (state_of f' j') cells f' table' lists' j'
+        → (table' : LockTable) → table' ≡ no_locks → (lists' : Lists Logged) → AreLists lists' (λ t. []) → (j' : Journaled) → j' ≡ record (no_events rule (tidy copy) stamp) { room = j'.room } → IsCoreOf (state_of f' j') (parts cells f' table' lists') j'
     core-restarted useless f' first copy same rule is stamp last table' new lists' empty j' told =
-        subst (λ (k : Journaled). IsCoreOf (state_of f' k) cells f' table' lists' k) (sym (told ∙ (λ i. record (no_events (is i) (tidy (same i)) (last i)) { room = j'.room })))
-        (subst (λ (m : Transactions). IsCoreOf (state_of m (q useless lists' empty j'.room)) cells m table' lists' (q useless lists' empty j'.room)) (sym first)
-        (subst (λ (t : LockTable). IsCoreOf (at useless lists' empty j'.room) cells (f useless lists' empty j'.room) t lists' (q useless lists' empty j'.room)) (sym new) (restarted useless lists' empty j'.room)))
+        subst (λ (k : Journaled). IsCoreOf (state_of f' k) (parts cells f' table' lists') k) (sym (told ∙ (λ i. record (no_events (is i) (tidy (same i)) (last i)) { room = j'.room })))
+        (subst (λ (m : Transactions). IsCoreOf (state_of m (q useless lists' empty j'.room)) (parts cells m table' lists') (q useless lists' empty j'.room)) (sym first)
+        (subst (λ (t : LockTable). IsCoreOf (at useless lists' empty j'.room) (parts cells (f useless lists' empty j'.room) t lists') (q useless lists' empty j'.room)) (sym new) (restarted useless lists' empty j'.room)))
 
     pub state-restarted : (f' : Transactions) → f' ≡ none_since (last_in forest) → (copy : Cells) → copy ≡ cells → (rule : _) → rule ≡ j.rule → (stamp : ℕ) → stamp ≡ j.last_stamp
         → (j' : Journaled) → j' ≡ record (no_events rule (tidy copy) stamp) { room = j'.room } → state_of f' j' ≡ after_checkpoint s
     state-restarted f' first copy same rule is stamp last j' told =
-        let tree : tidy copy ≡ tree_of s = ap tidy same ∙ tree_is W s.base (history s) s.last_txn s.last_stamp cells core.log core.kept in
+        let tree : tidy copy ≡ tree_of s = ap tidy same ∙ tree_is W core.kept in
         let none_more : last_in forest + 0 ≡ last_in forest = omega arith in
         (λ i. state_of (first i) (told i)) ∙ (λ i. record { rule = is i; base = record { tree = tree i; last_txn = last_in forest; last_stamp = last i }; events = []; asks = finite.empty; last_txn = none_more i; last_stamp = last i })
 
 -- Steps.
 
-no-lives : (s : State) → NoneIsLive s → has_live s ≡ false
+pub no-lives : (s : State) → NoneIsLive s → has_live s ≡ false
 no-lives s none = ap (λ n. nat_lt 0 n) (nobody (begun posix_calls (history s)))
   where
     alive : (o : Option Fate) → is_live o ≡ true → o ≡ Some Live
@@ -158,6 +167,11 @@ no-lives s none = ap (λ n. nat_lt 0 n) (nobody (begun posix_calls (history s)))
     nobody (x ∷ xs) = by_test (is_live (fate_of s x))
         (λ k. absurd (none (x, alive (fate_of s x) k)))
         (λ k. ap (λ b. length (cond b (x ∷ passing (λ t. is_live (fate_of s t)) xs) (passing (λ t. is_live (fate_of s t)) xs))) k ∙ nobody xs)
+
+-- who finds a live one, or none, tells whether there is one
+pub lives : (b : Bool) (s : State) → (SomeIsLive s → has_live s ≡ true) → MatchBool b (SomeIsLive s) (NoneIsLive s) → b ≡ has_live s
+lives true s some found = sym (some found)
+lives false s some none = sym (no-lives s none)
 
 pub step-live : (rule : BlockingRule) (s : State) → has_live s ≡ true → IsStep rule s Checkpoint (Refused LiveFault) s
 step-live rule s some = subst (λ b. MatchOption (fault_if b LiveFault None) (IsAnswered rule s Checkpoint (Refused LiveFault) s) (λ f. (Refused LiveFault ≡ Refused f) × (s ≡ s))) (sym some) (refl, refl)

@@ -20,9 +20,9 @@ use Rattle.ft_history.proofs.Forest.{climb}
 use Rattle.ft_history.proofs.History.{Sound, owner_is_live}
 use Rattle.ft_history.proofs.Words.{by_list}
 use Rattle.ft_core.specs.Histories.{History}
-use Rattle.ft_core.specs.States.{Base, Asks}
+use Rattle.ft_core.specs.States.{Base, Asks, fate_in}
 use Rattle.ft_core.specs.Journals.{Journaled, with_none_kept}
-use Rattle.ft_core.specs.Kept.{fate_in, is_owned, events_kept, IsCoreAt}
+use Rattle.ft_core.specs.Kept.{is_owned, events_kept, IsCoreAt}
 use Rattle.ft_core.specs.Laws.{CallLaws}
 use Rattle.ft_core.proofs.Ends.{live-is, fate-live}
 use Rattle.ft_core.proofs.Joining.{start, values, past}
@@ -33,9 +33,9 @@ nothing-passes p (x ∷ xs) h = by_test (p x)
     (λ k. absurd (h.0 k))
     (λ k. ap (λ b. length (cond b (x ∷ passing p xs) (passing p xs))) k ∙ nothing-passes p xs h.1)
 
-module _ (W : CallLaws) (base : Base) (h : History) (asks : Asks) (last_txn last_number : ℕ) (cells : Cells) (forest : Transactions) (table : LockTable) (lists : Lists Logged) (j : Journaled) (core : IsCoreAt base h asks last_txn last_number cells forest table lists j) where
+module _ (W : CallLaws) {base : Base} {h : History} {asks : Asks} {last_txn last_number : ℕ} {cells : Cells} {forest : Transactions} {table : LockTable} {lists : Lists Logged} {j : Journaled} (core : IsCoreAt base h asks last_txn last_number cells forest table lists j) where
   abbrev from : HistoryBase posix_calls
-  from = start W base h last_txn last_number cells core.log core.kept
+  from = start W core.kept
 
   state-live : (x : ℕ) → IsLive posix_calls base.last_txn h x → state_in forest x ≡ Some LiveState
   state-live x now = fate-live (state_in forest x) (core.transactions.fates x ∙ now)
@@ -43,7 +43,7 @@ module _ (W : CallLaws) (base : Base) (h : History) (asks : Asks) (last_txn last
   -- the forest tells the live children
   pub no-child : (t : ℕ) → ((x : ℕ) → IsLiveChild forest t x → ⊥) → live_children posix_calls base.last_txn h t ≡ []
   no-child t none =
-      let all = children posix_calls W.lawful from (values W base h last_txn last_number cells core.log core.kept) h core.kept.core.legal t in
+      let all = children posix_calls W.lawful from (values W core.kept) h core.kept.core.legal t in
       by_list (live_children posix_calls base.last_txn h t)
       (λ e. e)
       (λ y ys e.
@@ -52,7 +52,7 @@ module _ (W : CallLaws) (base : Base) (h : History) (asks : Asks) (last_txn last
 
   pub some-child : (t x : ℕ) → IsLiveChild forest t x → nat_lt 0 (length (live_children posix_calls base.last_txn h t)) ≡ true
   some-child t x is =
-      let all = children posix_calls W.lawful from (values W base h last_txn last_number cells core.log core.kept) h core.kept.core.legal t in
+      let all = children posix_calls W.lawful from (values W core.kept) h core.kept.core.legal t in
       longer x (live_children posix_calls base.last_txn h t) ((all.exact x).1 (sym (core.transactions.fates x) ∙ ap fate_in is.live, sym (core.transactions.parents x) ∙ is.child))
     where
       longer : (x : ℕ) (xs : List ℕ) → In x xs → nat_lt 0 (length xs) ≡ true
@@ -66,7 +66,7 @@ module _ (W : CallLaws) (base : Base) (h : History) (asks : Asks) (last_txn last
   -- Where no top-level transaction is live, none is, and no event is to come but a begin.
   module _ (none : (x : ℕ) → IsLiveUnder forest None x → ⊥) where
     sound : Sound posix_calls W.lawful from h
-    sound = past W base h last_txn last_number cells core.log core.kept
+    sound = past W core.kept
 
     pub no-live : (x : ℕ) → IsLive posix_calls base.last_txn h x → ⊥
     no-live = climb (parent posix_calls h) sound.forest (λ x. IsLive posix_calls base.last_txn h x → ⊥)

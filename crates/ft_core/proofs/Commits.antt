@@ -30,11 +30,11 @@ use Rattle.ft_history.proofs.Words.{by_number, put_same, put_other, In-handed}
 use Rattle.ft_history.proofs.History.{Sound}
 use Rattle.ft_laws.proofs.Tests.{by_test}
 use Rattle.ft_core.specs.declared.request.Event.TheVariants.{Commit}
-use Rattle.ft_core.specs.Handing.{AreHandedUp, noted_up, MayHandUp}
+use Rattle.ft_core.specs.Handing.{AreHandedUp, MayHandUp}
 use Rattle.ft_core.specs.Histories.{History}
-use Rattle.ft_core.specs.States.{Base, Asks}
-use Rattle.ft_core.specs.Journals.{Journaled, with_event, without, with_sub}
-use Rattle.ft_core.specs.Kept.{Item, fate_in, AreLogged, IsCoreAt}
+use Rattle.ft_core.specs.States.{Base, Asks, fate_in}
+use Rattle.ft_core.specs.Journals.{Journaled, with_event, without, with_sub, noted_up, IsNoted}
+use Rattle.ft_core.specs.Kept.{Item, AreLogged, IsCoreAt}
 use Rattle.ft_core.specs.Laws.{CallLaws, LockLaws}
 use Rattle.ft_core.proofs.Accounts.{still-accounted}
 use Rattle.ft_core.proofs.Children.{no-child}
@@ -70,21 +70,21 @@ pub handed-opened : (old new : LockTable) (n : ℕ) (up : Option ℕ) → AreHan
 handed-opened old new n None h = opened-other old new n h.opened
 handed-opened old new n (Some p) h = opened-other old new n h.opened
 
-module _ (W : CallLaws) (K : LockLaws) (base : Base) (h : History) (asks : Asks) (last_txn last_number : ℕ) (cells : Cells) (forest : Transactions) (table : LockTable) (lists : Lists Logged) (j : Journaled) (core : IsCoreAt base h asks last_txn last_number cells forest table lists j) (t : ℕ) (live : IsLive posix_calls base.last_txn h t) (no_live : (x : ℕ) → IsLiveChild forest t x → ⊥) where
+module _ (W : CallLaws) (K : LockLaws) {base : Base} {h : History} {asks : Asks} {last_txn last_number : ℕ} {cells : Cells} {forest : Transactions} {table : LockTable} {lists : Lists Logged} {j : Journaled} (core : IsCoreAt base h asks last_txn last_number cells forest table lists j) (t : ℕ) (live : IsLive posix_calls base.last_txn h t) (no_live : (x : ℕ) → IsLiveChild forest t x → ⊥) where
   abbrev from : HistoryBase posix_calls
-  from = start W base h last_txn last_number cells core.log core.kept
+  from = start W core.kept
 
   abbrev after : History
   after = WasCommitted t ∷ h
 
   may : MayCommit posix_calls base.last_txn h t
-  may = record { live = live; no_child = no-child W base h asks last_txn last_number cells forest table lists j core t no_live }
+  may = record { live = live; no_child = no-child W core t no_live }
 
   legal : Legal posix_calls from after
   legal = (may, core.kept.core.legal)
 
   fates : (x : ℕ) → fate posix_calls base.last_txn after x ≡ put (fate posix_calls base.last_txn h) t (Some Committed) x
-  fates = fate_rules posix_calls W.lawful from (values W base h last_txn last_number cells core.log core.kept) h (WasCommitted t) legal
+  fates = fate_rules posix_calls W.lawful from (values W core.kept) h (WasCommitted t) legal
 
   committed : Some Committed ≡ Some Live → ⊥
   committed e = cc
@@ -100,17 +100,17 @@ module _ (W : CallLaws) (K : LockLaws) (base : Base) (h : History) (asks : Asks)
   -- a parent is another, and is live
   pub up-live : (p : ℕ) → parent posix_calls h t ≡ Some p → IsLive posix_calls base.last_txn h p × (t ≢ p)
   up-live p up =
-      let sound : Sound posix_calls W.lawful from h = past W base h last_txn last_number cells core.log core.kept in
+      let sound : Sound posix_calls W.lawful from h = past W core.kept in
       let lower = sound.forest t p up in
       (sound.live_up t p live up, λ is. let same : t ≡ p = is in absurd (omega arith))
 
   locks : (up : Option ℕ) → parent posix_calls h t ≡ up → (table' : LockTable) → AreHandedUp table table' t up → AreLocksOf after table'
-  locks None is table' h' = K.commit.top from (values W base h last_txn last_number cells core.log core.kept) h table core.locks t table' legal is h'
-  locks (Some p) is table' h' = K.commit.under from (values W base h last_txn last_number cells core.log core.kept) h table core.locks t p table' legal is h'
+  locks None is table' h' = K.commit.top from (values W core.kept) h table core.locks t table' legal is h'
+  locks (Some p) is table' h' = K.commit.under from (values W core.kept) h table core.locks t p table' legal is h'
 
   no_holder : (up : Option ℕ) → parent posix_calls h t ≡ up → (table' : LockTable) → AreHandedUp table table' t up → HasNoHolderAbove table forest → HasNoHolderAbove table' forest
   no_holder None is table' h' = K.holders.fewer table table' (λ l e. (and_parts (not (l.owner == t)) (has_lock table l) (sym (h'.lines l) ∙ e)).1) forest forest (λ x. refl)
-  no_holder (Some p) is table' h' = K.holders.inherited from (values W base h last_txn last_number cells core.log core.kept) h table core.locks core.kept.core.legal forest core.transactions.parents t p is table' h'
+  no_holder (Some p) is table' h' = K.holders.inherited from (values W core.kept) h table core.locks core.kept.core.legal forest core.transactions.parents t p is table' h'
 
   -- who inherits, and who is let go, knows what was known
   knows : (up : Option ℕ) → parent posix_calls h t ≡ up → (table' : LockTable) → AreHandedUp table table' t up → (c : Cell) → is_known table c ≡ true → is_known table' c ≡ true
@@ -153,10 +153,10 @@ module _ (W : CallLaws) (K : LockLaws) (base : Base) (h : History) (asks : Asks)
       let parent_is : parent posix_calls h t ≡ up = sym (up_is ∙ core.transactions.parents t) in
       record {
         log = handed core.log t up;
-        kept = kept-ending W base h last_txn last_number cells core.log core.kept (WasCommitted t) (record { begun = refl; grants = refl; last_transaction = λ first. refl; last_stamp = λ first. refl }) cells (handed core.log t up)
+        kept = kept-ending W core.kept (WasCommitted t) (record { begun = refl; grants = refl; last_transaction = λ first. refl; last_stamp = λ first. refl }) cells (handed core.log t up)
             (subst (λ o. IsCore posix_calls from after core.kept.hidden cells (handed core.log t o)) parent_is
-            (core_committed posix_calls W.lawful from (values W base h last_txn last_number cells core.log core.kept) h core.kept.hidden cells core.log core.kept.core t may))
-            (named W base h last_txn last_number cells core.log core.kept);
+            (core_committed posix_calls W.lawful from (values W core.kept) h core.kept.hidden cells core.log core.kept.core t may))
+            (named W core.kept);
         transactions = record {
           base_is = has.base ∙ core.transactions.base_is;
           last = has.last ∙ core.transactions.last;
@@ -183,7 +183,7 @@ module _ (W : CallLaws) (K : LockLaws) (base : Base) (h : History) (asks : Asks)
             (λ same. absurd (none (sym (ap is_some (removed-same asks t x same)) ∙ some)))
             (λ ne. still-live x ne (core.waiting x (sym (ap is_some (removed-other asks t x ne)) ∙ some)));
         spare =
-            let fewer = events-commit W base h last_txn last_number cells core.log core.kept t may in
+            let fewer = events-commit W core.kept t may in
             let le = core.spare in
             let same = ap (λ (q : Journaled). q.spare) is in
             let noted = spare-noted up in
@@ -195,23 +195,33 @@ module _ (W : CallLaws) (K : LockLaws) (base : Base) (h : History) (asks : Asks)
       none e = false≢true e
 
   -- and it may hand up what it has
-  pub may-hand : (up : Option ℕ) → up ≡ parent_in forest t → MayHandUp table lists j t up
+  pub may-hand : (up : Option ℕ) → up ≡ parent_in forest t → MayHandUp table lists t up
   may-hand up is = by_parent up (is ∙ core.transactions.parents t)
     where
-      some : {A : Type 0} (o : Option A) (x : A) → o ≡ Some x → IsSome o
-      some o x e = ap is_some e
-
-      by_parent : (up : Option ℕ) → up ≡ parent posix_calls h t → MayHandUp table lists j t up
+      by_parent : (up : Option ℕ) → up ≡ parent posix_calls h t → MayHandUp table lists t up
       by_parent None e = tt
       by_parent (Some p) e =
           let about = up-live p (sym e) in
           let ready = core.ready p about.0 in
-          (about.1, ready.locks, ready.log, some (finite.get j.subs p) _ ready.sub)
+          (about.1, ready.locks, ready.log)
+
+  -- something is noted of its parent
+  pub may-note : (up : Option ℕ) → up ≡ parent_in forest t → IsNoted j up
+  may-note up is = by_parent up (is ∙ core.transactions.parents t)
+    where
+      some : {A : Type 0} (o : Option A) (x : A) → o ≡ Some x → IsSome o
+      some o x e = ap is_some e
+
+      by_parent : (up : Option ℕ) → up ≡ parent posix_calls h t → IsNoted j up
+      by_parent None e = tt
+      by_parent (Some p) e =
+          let about = up-live p (sym e) in
+          some (finite.get j.subs p) _ (core.ready p about.0).sub
 
   -- there is a place for the event
   pub place-commit : (up : Option ℕ) (j' : Journaled) → j' ≡ without (noted_up j up) t → 0 < j'.spare
   place-commit up j' is =
-      let fewer = events-commit W base h last_txn last_number cells core.log core.kept t may in
+      let fewer = events-commit W core.kept t may in
       let le = core.spare in
       let same = ap (λ (q : Journaled). q.spare) is in
       let noted = spare-noted up in

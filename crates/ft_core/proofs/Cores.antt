@@ -24,12 +24,13 @@ use Rattle.ft_history.specs.History.Fate.{Live, Committed, Aborted}
 use Rattle.ft_history.proofs.Words.{by_number}
 use Rattle.ft_history.proofs.Methods.{core_new}
 use Rattle.ft_core.specs.Histories.{History}
-use Rattle.ft_core.specs.States.{Base, Asks}
+use Rattle.ft_core.specs.States.{Base, Asks, fate_in}
 use Rattle.ft_core.specs.Journals.{Journaled, no_events, state_of}
-use Rattle.ft_core.specs.Kept.{fate_in, start_of, AreLogged, IsCoreAt, IsCoreOf}
+use Rattle.ft_core.specs.Kept.{start_of, AreLogged, IsCoreAt, IsCoreOf}
 use Rattle.ft_core.specs.Laws.{CallLaws, LockLaws}
 use Rattle.ft_core.proofs.Accounts.{fresh-accounted}
 use Rattle.ft_core.proofs.Joining.{sound_values}
+use Rattle.ft_core.proofs.Gathered.{parts}
 
 pub none-in : (first x : ℕ) → transaction_in (none_since first) x ≡ None
 none-in first x = by_test (nat_lt first x) (λ k. ap (λ b. cond b (slice_get {X = Transaction} [] (x - (first + 1))) None) k ∙ refl) (λ k. ap (λ b. cond b (slice_get {X = Transaction} [] (x - (first + 1))) None) k)
@@ -41,7 +42,7 @@ unborn first x = by_test (nat_lt first x && nat_le x first)
 
 -- new: the root alone
 pub core-first : CallLaws → LockLaws → (rule : Rule) (cells : Cells) → cells ≡ fresh_cells → AreSoundCells cells → ((k : ℕ) → 2 ≤ k → IsFree cells k) → (lists : Lists Logged) → AreLists lists (λ t. []) → (room : ℕ)
-    → IsCoreOf (state_of (none_since 0) (record (no_events rule (tidy cells) 1) { room = room })) cells (none_since 0) no_locks lists (record (no_events rule (tidy cells) 1) { room = room })
+    → IsCoreOf (state_of (none_since 0) (record (no_events rule (tidy cells) 1) { room = room })) (parts cells (none_since 0) no_locks lists) (record (no_events rule (tidy cells) 1) { room = room })
 core-first W K rule cells fresh sound free lists none room = record {
   log = λ t. [];
   kept = record {
@@ -54,6 +55,7 @@ core-first W K rule cells fresh sound free lists none room = record {
       last_stamp_is = refl;
       counted = refl;
       stamped = refl;
+      within = omega arith;
     };
     hidden = λ i. false;
     core = core_new posix_calls W.lawful (start_of (record { tree = tidy cells; last_txn = 0; last_stamp = 1 }) cells) (sound_values cells sound);
@@ -78,15 +80,15 @@ core-first W K rule cells fresh sound free lists none room = record {
     not_live e = cc
 
 pub core-new : CallLaws → LockLaws → (rule : Rule) (cells : Cells) → cells ≡ fresh_cells → AreSoundCells cells → ((k : ℕ) → 2 ≤ k → IsFree cells k) → (lists : Lists Logged) → AreLists lists (λ t. []) → (forest : Transactions) → forest ≡ none_since 0
-    → (table : LockTable) → table ≡ no_locks → (base : Cells) → base ≡ cells → (j : Journaled) → j ≡ record (no_events rule (tidy base) 1) { room = j.room } → IsCoreOf (state_of forest j) cells forest table lists j
+    → (table : LockTable) → table ≡ no_locks → (base : Cells) → base ≡ cells → (j : Journaled) → j ≡ record (no_events rule (tidy base) 1) { room = j.room } → IsCoreOf (state_of forest j) (parts cells forest table lists) j
 core-new W K rule cells fresh sound free lists none forest first table empty base same j is =
     let q : Journaled = record (no_events rule (tidy cells) 1) { room = j.room } in
-    subst (λ (k : Journaled). IsCoreOf (state_of forest k) cells forest table lists k) (sym (is ∙ ap (λ b. record (no_events rule (tidy b) 1) { room = j.room }) same))
-    (subst (λ (m : Transactions). IsCoreOf (state_of m q) cells m table lists q) (sym first)
-    (subst (λ (t : LockTable). IsCoreOf (state_of (none_since 0) q) cells (none_since 0) t lists q) (sym empty)
+    subst (λ (k : Journaled). IsCoreOf (state_of forest k) (parts cells forest table lists) k) (sym (is ∙ ap (λ b. record (no_events rule (tidy b) 1) { room = j.room }) same))
+    (subst (λ (m : Transactions). IsCoreOf (state_of m q) (parts cells m table lists) q) (sym first)
+    (subst (λ (t : LockTable). IsCoreOf (state_of (none_since 0) q) (parts cells (none_since 0) t lists) q) (sym empty)
     (core-first W K rule cells fresh sound free lists none j.room)))
 
-module _ (base : Base) (h : History) (asks : Asks) (last_txn last_number : ℕ) (cells : Cells) (forest : Transactions) (table : LockTable) (lists : Lists Logged) (j : Journaled) (core : IsCoreAt base h asks last_txn last_number cells forest table lists j) where
+module _ {base : Base} {h : History} {asks : Asks} {last_txn last_number : ℕ} {cells : Cells} {forest : Transactions} {table : LockTable} {lists : Lists Logged} {j : Journaled} (core : IsCoreAt base h asks last_txn last_number cells forest table lists j) where
   -- others wait
   pub core-asks : (asks' : Asks) → ((t : ℕ) → is_some (finite.get asks' t) ≡ true → IsLive posix_calls base.last_txn h t) → (j' : Journaled) → j'.rule ≡ j.rule → j'.subs ≡ j.subs → j'.spare ≡ j.spare → IsCoreAt base h asks' last_txn last_number cells forest table lists j'
   core-asks asks' waiting j' rule subs spare = record {

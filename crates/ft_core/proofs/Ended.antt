@@ -1,5 +1,5 @@
 -- A core after the end of a transaction, or after an undo, and what the request is answered.
-use Rattle.std.proofs.Common.{◌≡◌, ℕ, true, false, List, [], ◌∷◌, ◌++◌, Option, Some, None, MatchOption, length, refl, sym, ap, subst, ◌∙◌}
+use Rattle.std.proofs.Common.{◌≡◌, ℕ, true, false, List, [], ◌∷◌, ◌++◌, Option, Some, None, Result, Ok, Err, IfOk, IfErr, OnOk, OnErr, MatchOption, length, refl, sym, ap, subst, ◌∙◌}
 use Rattle.std.specs.Prelude.{nat_lt}
 use Rattle.std.specs.FinMap as finite
 use Rattle.ft_base.specs.Chains.{Lists}
@@ -10,22 +10,22 @@ use Rattle.ft_forest.specs.Transactions.{Transactions, last_in}
 use Rattle.ft_moss.specs.Locks.{LockTable}
 use Rattle.ft_history.specs.History.Fate.{Live}
 use Rattle.ft_core.specs.declared.fault.Fault.{Fault}
-use Rattle.ft_core.specs.declared.fault.Fault.TheVariants.{ChildLive}
+use Rattle.ft_core.specs.declared.fault.Fault.TheVariants.{Memory, ChildLive}
 use Rattle.ft_core.specs.declared.request.Request.{Request}
 use Rattle.ft_core.specs.declared.request.Request.TheVariants.{Commit as CommitRequest, Abort as AbortRequest, Undo as UndoRequest}
 use Rattle.ft_core.specs.declared.request.Answer.{Answer}
-use Rattle.ft_core.specs.declared.request.Answer.TheVariants.{Committed, Aborted, Undone, Refused}
+use Rattle.ft_core.specs.declared.request.Answer.TheVariants.{Txn, Committed, Aborted, Undone, Refused}
 use Rattle.ft_core.specs.declared.request.Event.{Event}
 use Rattle.ft_core.specs.declared.request.Event.TheVariants.{Commit}
 use Rattle.ft_history.specs.Undoing.{undo_target}
 use Rattle.ft_history.specs.Undoing.Target.{Found}
-use Rattle.ft_core.specs.Handing.{noted_up}
 use Rattle.ft_core.specs.Histories.{Granted, as_happening}
-use Rattle.ft_core.specs.Journals.{Journaled, state_of, with_event, without}
+use Rattle.ft_core.specs.Journals.{Journaled, state_of, with_event, without, noted_up}
 use Rattle.ft_core.specs.Kept.{IsCoreAt, IsCoreOf}
-use Rattle.ft_core.specs.States.{State, Asks, history, fate_of, has_live_child, after_commit, after_abort, after_undo, count_standing}
-use Rattle.ft_core.specs.Steps.{BlockingRule, IsStep, IsAnswered, refusal_of, fault_if, fault_of_fate, fault_of_target, IsUndone}
+use Rattle.ft_core.specs.States.{State, Asks, history, fate_of, has_live_child, next_txn, after_begin, after_commit, after_abort, after_undo, count_standing}
+use Rattle.ft_core.specs.Steps.{BlockingRule, IsStep, IsAnswered, exact_rule, answer_with, begin_request, refusal_of, fault_if, fault_of_fate, fault_of_target, IsUndone}
 use Rattle.ft_core.proofs.Told.{told-push}
+use Rattle.ft_core.proofs.Gathered.{parts}
 
 -- the state with one event more, and these asks
 abbrev pub ended : State → Event → Asks → State
@@ -44,10 +44,10 @@ pub state-ended : (forest forest' : Transactions) (j j' : Journaled) (e : Event)
 state-ended forest forest' j j' e asks base last has =
     λ i. record { rule = has.rule i; base = record { tree = has.base_tree i; last_txn = base i; last_stamp = has.base_stamp i }; events = has.events i; asks = has.asks_are i; last_txn = last i; last_stamp = has.last_stamp i }
 
-pub core-ended : (s s' : State) (e : Event) (asks : Asks) (cells : Cells) (forest : Transactions) (table : LockTable) (lists : Lists Logged) (j : Journaled) → s' ≡ ended s e asks
-    → IsCoreAt s.base (as_happening e ∷ history s) asks s.last_txn s.last_stamp cells forest table lists j → IsCoreOf s' cells forest table lists j
-core-ended s s' e asks cells forest table lists j is core =
-    subst (λ (q : State). IsCoreOf q cells forest table lists j) (sym is)
+pub core-ended : (s s' : State) (e : Event) (asks : Asks) {cells : Cells} {forest : Transactions} {table : LockTable} {lists : Lists Logged} {j : Journaled} → s' ≡ ended s e asks
+    → IsCoreAt s.base (as_happening e ∷ history s) asks s.last_txn s.last_stamp cells forest table lists j → IsCoreOf s' (parts cells forest table lists) j
+core-ended s s' e asks {cells} {forest} {table} {lists} {j} is core =
+    subst (λ (q : State). IsCoreOf q (parts cells forest table lists) j) (sym is)
     (subst (λ h. IsCoreAt s.base h asks s.last_txn s.last_stamp cells forest table lists j) (sym (told-push s.events e)) core)
 
 pub told-commit : (j j' : Journaled) (t : ℕ) (up : Option ℕ) → j' ≡ with_event (without (noted_up j up) t) (Commit t) → HasTold j j' (Commit t) (finite.remove j.asks t)
@@ -73,7 +73,7 @@ told-less j₀ j j' e asks less are is = record {
 refused : (rule : BlockingRule) (s : State) (r : Request) (fault : Fault) → refusal_of s r ≡ Some fault → IsStep rule s r (Refused fault) s
 refused rule s r fault is = subst (λ (o : Option Fault). MatchOption o (IsAnswered rule s r (Refused fault) s) (λ f. (Refused fault ≡ Refused f) × (s ≡ s))) (sym is) (refl, refl)
 
-step-allowed : (rule : BlockingRule) (s s' : State) (r : Request) (a : Answer) → refusal_of s r ≡ None → IsAnswered rule s r a s' → IsStep rule s r a s'
+pub step-allowed : (rule : BlockingRule) (s s' : State) (r : Request) (a : Answer) → refusal_of s r ≡ None → IsAnswered rule s r a s' → IsStep rule s r a s'
 step-allowed rule s s' r a is answered = subst (λ (o : Option Fault). MatchOption o (IsAnswered rule s r a s') (λ f. (a ≡ Refused f) × (s' ≡ s))) (sym is) answered
 
 pub step-child : (rule : BlockingRule) (s : State) (t : ℕ) → fate_of s t ≡ Some Live → has_live_child s t ≡ true → IsStep rule s (CommitRequest t) (Refused ChildLive) s × IsStep rule s (UndoRequest t) (Refused ChildLive) s
@@ -95,3 +95,24 @@ step-undo rule s s' t k d live none found stamp is =
 
 pub longer-none : (xs : List ℕ) → xs ≡ [] → nat_lt 0 (length xs) ≡ false
 longer-none xs e = ap (λ ys. nat_lt 0 (length ys)) e
+
+-- who is live is not refused as one that is not
+pub live-refused : (s : State) (t : ℕ) (fault : Fault) → fate_of s t ≡ Some Live → fault_of_fate (fate_of s t) None ≡ Some fault → ⊥
+live-refused s t fault live is = none (subst (λ o. fault_of_fate o None ≡ Some fault) live is)
+  where
+    none : None ≡ Some fault → ⊥
+    none e = cc
+
+-- a begin that nothing refuses but, perhaps, want of memory
+pub step-begun : (s s' : State) (up : Option ℕ) (result : Result ℕ Fault) → refusal_of s (begin_request up) ≡ None → IfOk result (λ t. t ≡ next_txn s) → OnOk result (s' ≡ after_begin s up) → IfErr result (λ f. f ≡ Memory) → OnErr result (s' ≡ s)
+    → IsStep exact_rule s (begin_request up) (answer_with Txn result) s'
+step-begun s s' up (Ok t) fine number begun memory same = step-allowed exact_rule s s' (begin_request up) (Txn t) fine (by_parent up number begun)
+  where
+    by_parent : (up : Option ℕ) → t ≡ next_txn s → s' ≡ after_begin s up → IsAnswered exact_rule s (begin_request up) (Txn t) s'
+    by_parent None is begun = (is, begun)
+    by_parent (Some p) is begun = (is, begun)
+step-begun s s' up (Err f) fine number begun memory same = step-allowed exact_rule s s' (begin_request up) (Refused f) fine (by_parent up memory same)
+  where
+    by_parent : (up : Option ℕ) → f ≡ Memory → s' ≡ s → IsAnswered exact_rule s (begin_request up) (Refused f) s'
+    by_parent None is same = (is, tt, same)
+    by_parent (Some p) is same = (is, tt, same)

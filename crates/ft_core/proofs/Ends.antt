@@ -19,11 +19,11 @@ use Rattle.ft_history.proofs.Living.{lived}
 use Rattle.ft_history.proofs.History.{Sound, laws, stands, live_owner, commit_was_live, commit_owner, abort_was_live, abort_owner}
 use Rattle.ft_history.proofs.Methods.{core_sound}
 use Rattle.ft_core.specs.Histories.{History, Granted}
-use Rattle.ft_core.specs.States.{Base}
+use Rattle.ft_core.specs.States.{Base, fate_in}
 use Rattle.ft_forest.specs.declared.state.State.{State as Life}
 use Rattle.ft_forest.specs.declared.state.State.TheVariants.{Live as LiveState, Committed as CommittedState, Aborted as AbortedState}
 use Rattle.ft_forest.specs.Transactions.{is_live as is_live_in}
-use Rattle.ft_core.specs.Kept.{Item, IsStarted, IsKept, fate_in, is_owned, events_kept}
+use Rattle.ft_core.specs.Kept.{Item, IsStarted, IsKept, is_owned, events_kept}
 use Rattle.ft_core.specs.Laws.{CallLaws}
 use Rattle.ft_core.proofs.Counts.{taken, left as passed_over, count-fewer}
 use Rattle.ft_core.proofs.Joining.{start, values, past}
@@ -45,6 +45,7 @@ started-ending base h last_txn last_number e same started = record {
   last_stamp_is = started.last_stamp_is ∙ sym (same.last_stamp base.last_stamp);
   counted = ap (λ xs. base.last_txn + length xs) same.begun ∙ started.counted;
   stamped = ap (λ cs. base.last_stamp + length cs) same.grants ∙ started.stamped;
+  within = started.within;
 }
 
 -- one that passes does not any more
@@ -114,12 +115,12 @@ or_false : (a b : Bool) → (a || b) ≡ false → b ≡ false
 or_false true b e = absurd (false≢true (sym e))
 or_false false b e = e
 
-module _ (W : CallLaws) (base : Base) (h : History) (last_txn last_number : ℕ) (cells : Cells) (log : ℕ → List Item) (kept : IsKept base h last_txn last_number cells log) where
+module _ (W : CallLaws) {base : Base} {h : History} {last_txn last_number : ℕ} {cells : Cells} {log : ℕ → List Item} (kept : IsKept base h last_txn last_number cells log) where
   abbrev from : HistoryBase posix_calls
-  from = start W base h last_txn last_number cells log kept
+  from = start W kept
 
   sound : Sound posix_calls W.lawful from h
-  sound = past W base h last_txn last_number cells log kept
+  sound = past W kept
 
   -- the cells and the lists after such an event
   pub kept-ending : (e : Happening posix_calls) → IsEnding e h → (now : Cells) (left : ℕ → List Item) → IsCore posix_calls from (e ∷ h) kept.hidden now left → HasNamedPlaces now → IsKept base (e ∷ h) last_txn last_number now left
@@ -127,7 +128,7 @@ module _ (W : CallLaws) (base : Base) (h : History) (last_txn last_number : ℕ)
     started = started-ending base h last_txn last_number e same kept.started;
     hidden = kept.hidden;
     core = core;
-    sound = W.placed now (core_sound posix_calls W.lawful from (values W base h last_txn last_number cells log kept) (e ∷ h) kept.hidden now left core) named;
+    sound = W.placed now (core_sound posix_calls W.lawful from (values W kept) (e ∷ h) kept.hidden now left core) named;
   }
 
   pub named : HasNamedPlaces cells

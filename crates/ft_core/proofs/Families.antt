@@ -1,32 +1,29 @@
 -- The list of live children.
-use Rattle.std.proofs.Common.{◌≡◌, ◌==◌, ◌&&◌, ◌⊎◌, ◌↔◌, ℕ, zero, suc, Bool, true, List, [], ◌∷◌, Option, Some, None, inl, inr, arith, refl, sym, ap, subst, ◌∙◌}
-use Rattle.std.proofs.lemmas.Bool.{and_parts, eqb-true}
+use Rattle.std.proofs.Common.{◌≡◌, ◌==◌, ◌&&◌, ◌⊎◌, ◌↔◌, ℕ, zero, suc, Bool, true, false, cond, List, [], ◌∷◌, Option, Some, None, inl, inr, arith, refl, sym, ap, subst, ◌∙◌}
 use Rattle.std.specs.Prelude.{Contains}
-use Rattle.std.specs.List.{dedup, AllByRecursion}
-use Rattle.std.specs.List.Sorted.{IsSorted, IsPermutation, IsStrictlySortedBy}
+use Rattle.std.specs.List.{dedup, dedup_from, AllByRecursion, IsDistinct}
+use Rattle.std.specs.List.Sorted.{IsSorted, IsPermutation, IsStrictlySortedBy, IsStrictlyIncreasing}
 use Rattle.std.proofs.lemmas.List.Sorted.{Contains-permutation, IsPermutation-sym}
-use Rattle.std.proofs.lemmas.List.Kept.{Contains-dedup, Contains-from_dedup, IsStrictlySortedBy-dedup}
+use Rattle.std.proofs.lemmas.List.Kept.{IsStrictlySortedBy-dedup}
+use Rattle.std.proofs.lemmas.Map.Keys.{IsDistinct-cons, IsDistinct-head, IsDistinct-tail, IsDistinct-IsPermutation, IsDistinct-from_sorted, sorted_from_strictly_increasing}
 use Rattle.std.specs.Ordering.{nat_cmp, is_eq, eq_by_cmp, ordering_then}
 use Rattle.std.specs.declared.cmp.Ordering.{Ordering}
 use Rattle.std.specs.declared.cmp.Ordering.TheVariants.{Less, Equal, Greater}
 use Rattle.std.specs.Cmp.{IsTotalOrder, IsEquivalence, nat_cmp_total, on_total, then_total, eq_by_cmp_equiv, unsigned_tied}
-use Rattle.ft_base.specs.Chains.{Lists}
 use Rattle.ft_laws.specs.Lists.{Each, Pairs, In}
-use Rattle.ft_cells.specs.Cells.{Cells}
 use Rattle.ft_posix.specs.Posix.{posix_calls}
-use Rattle.ft_undo.specs.declared.logs.Logged.{Logged}
 use Rattle.ft_forest.specs.declared.state.State.TheVariants.{Live as LiveState}
 use Rattle.ft_forest.specs.Transactions.{Transactions, state_in, parent_in}
-use Rattle.ft_moss.specs.Locks.{LockTable}
 use Rattle.ft_history.specs.History.{parent}
 use Rattle.ft_history.specs.History.Fate.{Live}
 use Rattle.ft_history.proofs.Fates.{children}
 use Rattle.ft_core.specs.declared.reports.LiveChild.{LiveChild}
 use Rattle.ft_core.specs.Journals.{Journaled}
-use Rattle.ft_core.specs.Kept.{fate_in, IsCoreOf}
+use Rattle.ft_core.specs.declared.parts.Parts.{Parts}
+use Rattle.ft_core.specs.Kept.{IsCoreOf}
 use Rattle.ft_core.specs.Laws.{CallLaws}
 use Rattle.ft_core.specs.Reports.{child_cmp, AreLiveChildren, below, with_parents}
-use Rattle.ft_core.specs.States.{State, history, fate_of, live_children}
+use Rattle.ft_core.specs.States.{State, history, fate_of, live_children, fate_in}
 use Rattle.ft_core.proofs.Ends.{fate-live}
 use Rattle.ft_core.proofs.Joining.{start, values, past}
 
@@ -77,7 +74,7 @@ both-equal Less b = refl
 both-equal Equal b = refl
 both-equal Greater b = refl
 
-pub ties : (x y : LiveChild) → ((x.parent == y.parent) && (x.child == y.child)) ≡ eq_by_cmp child_cmp x y
+ties : (x y : LiveChild) → ((x.parent == y.parent) && (x.child == y.child)) ≡ eq_by_cmp child_cmp x y
 ties x y =
     sym (both-equal (nat_cmp x.parent y.parent) (nat_cmp x.child y.child)
     ∙ ap (λ b. b && is_eq (nat_cmp x.child y.child)) (unsigned_tied x.parent y.parent)
@@ -92,27 +89,71 @@ unfolding IsStrictlySortedBy
 strictly [] sorted = tt
 strictly (x ∷ xs) sorted = (each-below x xs sorted.0, strictly xs sorted.1)
 
-module _ (same : LiveChild → LiveChild → Bool) (tie : (x y : LiveChild) → same x y ≡ eq_by_cmp child_cmp x y) where
-  same-is : (x y : LiveChild) → same x y ≡ true → x ≡ y
-  same-is x y e =
-      let parts = and_parts (x.parent == y.parent) (x.child == y.child) (ties x y ∙ sym (tie x y) ∙ e) in
-      ap (λ p. record { parent = p; child = x.child }) (eqb-true x.parent y.parent parts.0) ∙ ap (λ c. record { parent = y.parent; child = c }) (eqb-true x.child y.child parts.1)
+abbrev same-child : LiveChild → LiveChild → Bool
+same-child = eq_by_cmp child_cmp
 
-  same-laws : IsEquivalence same
-  same-laws = subst IsEquivalence (λ k x y. sym (tie x y) k) (eq_by_cmp_equiv children_total)
+-- two of different children are not the same
+apart : (x y : LiveChild) → (x.child == y.child) ≡ false → same-child x y ≡ false
+apart x y e = sym (ties x y) ∙ ap (λ b. (x.parent == y.parent) && b) e ∙ with_false (x.parent == y.parent)
+  where
+    with_false : (b : Bool) → (b && false) ≡ false
+    with_false true = refl
+    with_false false = refl
 
-  -- sorted, and each once
-  pub ordered : (found sorted list : List LiveChild) → IsPermutation found sorted → IsSorted child_cmp sorted → list ≡ dedup same sorted
-      → Pairs (λ x y. child_cmp x y ≡ Less) list × ((x : LiveChild) → (In x list → In x found) × (In x found → In x list))
-  ordered found sorted list moved rises left = (
-    subst (Pairs (λ x y. child_cmp x y ≡ Less)) (sym left) (strictly (dedup same sorted) (IsStrictlySortedBy-dedup children_total tie sorted rises)),
-    λ x. (
-      λ i. standing-in found x (Contains-permutation sorted found x (IsPermutation-sym found sorted moved) (Contains-from_dedup same sorted x (contained (dedup same sorted) x (subst (In x) left i)))),
-      λ i. subst (In x) (sym left) (standing-in (dedup same sorted) x (Contains-dedup same-laws same-is sorted x (Contains-permutation found sorted x moved (contained found x i)))),
-    ),
-  )
+apart-below : (x : LiveChild) (o : Option ℕ) (c : ℕ) (rest : List LiveChild) → (x.child == c) ≡ false → AllByRecursion (λ y. same-child x y ≡ false) rest → AllByRecursion (λ y. same-child x y ≡ false) (below o c rest)
+apart-below x None c rest e all = all
+apart-below x (Some p) c rest e all = (apart x (record { parent = p; child = c }) e, all)
 
-module _ (W : CallLaws) (s : State) (cells : Cells) (forest : Transactions) (table : LockTable) (lists : Lists Logged) (j : Journaled) (core : IsCoreOf s cells forest table lists j) where
+apart-from : (m : Transactions) (x : LiveChild) (ys : List ℕ) → AllByRecursion (λ y. (x.child == y) ≡ false) ys → AllByRecursion (λ y. same-child x y ≡ false) (with_parents m ys)
+apart-from m x [] all = tt
+apart-from m x (y ∷ ys) all = apart-below x (parent_in m y) y (with_parents m ys) all.0 (apart-from m x ys all.1)
+
+once-below : (m : Transactions) (o : Option ℕ) (c : ℕ) (ys : List ℕ) → AllByRecursion (λ y. (c == y) ≡ false) ys → IsDistinct same-child (with_parents m ys) → IsDistinct same-child (below o c (with_parents m ys))
+once-below m None c ys all rest = rest
+once-below m (Some p) c ys all rest = IsDistinct-cons same-child (record { parent = p; child = c }) (with_parents m ys) (apart-from m (record { parent = p; child = c }) ys all) rest
+
+no-child_twice : IsDistinct same-child []
+unfolding IsDistinct
+no-child_twice = tt
+
+-- different transactions are different children
+listed-once : (m : Transactions) (xs : List ℕ) → IsDistinct ◌==◌ xs → IsDistinct same-child (with_parents m xs)
+listed-once m [] once = no-child_twice
+listed-once m (x ∷ xs) once = once-below m (parent_in m x) x xs (IsDistinct-head ◌==◌ x xs once) (listed-once m xs (IsDistinct-tail ◌==◌ x xs once))
+
+-- where none is the same as one before it, none is left out
+none-dropped : (x : LiveChild) (xs : List LiveChild) → IsDistinct same-child (x ∷ xs) → dedup_from same-child x xs ≡ x ∷ xs
+none-dropped x [] once = refl
+none-dropped x (y ∷ ys) once =
+    ap (λ b. cond b (dedup_from same-child x ys) (x ∷ dedup_from same-child y ys)) (same-laws.symm y x ∙ (IsDistinct-head same-child x (y ∷ ys) once).0)
+    ∙ ap (λ zs. x ∷ zs) (none-dropped y ys (IsDistinct-tail same-child x (y ∷ ys) once))
+  where
+    same-laws : IsEquivalence same-child
+    same-laws = eq_by_cmp_equiv children_total
+
+rising : (xs : List LiveChild) → IsDistinct same-child xs → IsSorted child_cmp xs → Pairs (λ x y. child_cmp x y ≡ Less) xs
+rising [] once sorted = tt
+rising (x ∷ xs) once sorted = subst (Pairs (λ x y. child_cmp x y ≡ Less)) (none-dropped x xs once) (strictly (dedup same-child (x ∷ xs)) (IsStrictlySortedBy-dedup children_total (λ y z. refl) (x ∷ xs) sorted))
+
+-- rising numbers differ
+rising-once : (xs : List ℕ) → IsStrictlyIncreasing xs → IsDistinct ◌==◌ xs
+rising-once xs rises = subst (λ e. IsDistinct e xs) (λ i x y. unsigned_tied x y i) (IsDistinct-from_sorted nat_cmp xs (sorted_from_strictly_increasing xs rises))
+
+-- what was listed once each, and then sorted, rises
+pub ordered : (m : Transactions) (live : List ℕ) (found sorted : List LiveChild) → IsStrictlyIncreasing live → found ≡ with_parents m live → IsPermutation found sorted → IsSorted child_cmp sorted
+    → Pairs (λ x y. child_cmp x y ≡ Less) sorted × ((x : LiveChild) → (In x sorted → In x found) × (In x found → In x sorted))
+ordered m live found sorted rises are moved order = (
+  rising sorted (IsDistinct-IsPermutation same-child (eq_by_cmp_equiv children_total).symm found sorted moved (subst (IsDistinct same-child) (sym are) (listed-once m live (rising-once live rises)))) order,
+  λ x. (
+    λ i. standing-in found x (Contains-permutation sorted found x (IsPermutation-sym found sorted moved) (contained sorted x i)),
+    λ i. standing-in sorted x (Contains-permutation found sorted x moved (contained found x i)),
+  ),
+)
+
+module _ (W : CallLaws) (s : State) (p : Parts) (j : Journaled) (core : IsCoreOf s p j) where
+  abbrev forest : Transactions
+  forest = p.forest
+
   pub all-children : (live : List ℕ) (found list : List LiveChild) → ((x : ℕ) → Contains live x → state_in forest x ≡ Some LiveState) → ((x : ℕ) → state_in forest x ≡ Some LiveState → Contains live x)
       → found ≡ with_parents forest live → Pairs (λ x y. child_cmp x y ≡ Less) list × ((x : LiveChild) → (In x list → In x found) × (In x found → In x list)) → AreLiveChildren s list
   all-children live found list sound all are told = record {
@@ -122,7 +163,7 @@ module _ (W : CallLaws) (s : State) (cells : Cells) (forest : Transactions) (tab
           let is = with-parent forest live x (subst (In x) are ((told.1 x).0 i)) in
           let now = sym (core.transactions.fates x.child) ∙ ap fate_in (sound x.child (contained live x.child is.0)) in
           let up = sym (core.transactions.parents x.child) ∙ is.1 in
-          ((past W s.base (history s) s.last_txn s.last_stamp cells core.log core.kept).live_up x.child x.parent now up, (is_child x.parent x.child).1 (now, up)),
+          ((past W core.kept).live_up x.child x.parent now up, (is_child x.parent x.child).1 (now, up)),
       λ k.
           let is = (is_child x.parent x.child).0 k.1 in
           (told.1 x).1 (subst (In x) (sym are) (parented forest live x (standing-in live x.child (all x.child (fate-live (state_in forest x.child) (core.transactions.fates x.child ∙ is.0)))) (core.transactions.parents x.child ∙ is.1))),
@@ -130,4 +171,4 @@ module _ (W : CallLaws) (s : State) (cells : Cells) (forest : Transactions) (tab
   }
     where
       is_child : (t x : ℕ) → In x (live_children s t) ↔ ((fate_of s x ≡ Some Live) × (parent posix_calls (history s) x ≡ Some t))
-      is_child t x = (children posix_calls W.lawful (start W s.base (history s) s.last_txn s.last_stamp cells core.log core.kept) (values W s.base (history s) s.last_txn s.last_stamp cells core.log core.kept) (history s) core.kept.core.legal t).exact x
+      is_child t x = (children posix_calls W.lawful (start W core.kept) (values W core.kept) (history s) core.kept.core.legal t).exact x

@@ -1,5 +1,5 @@
 -- What a granted call does to what a core keeps.
-use Rattle.std.proofs.Common.{◌≡◌, ◌<◌, ◌+◌, ℕ, true, List, [], ◌∷◌, ◌++◌, inl, inr, is_some, length, map, arith, refl, sym, ap, subst, ◌∙◌}
+use Rattle.std.proofs.Common.{◌≡◌, ◌<◌, ◌≤◌, ◌+◌, ℕ, true, List, [], ◌∷◌, ◌++◌, inl, inr, is_some, length, map, arith, refl, sym, ap, subst, ◌∙◌}
 use Rattle.std.specs.FinMap as finite
 use Rattle.std.specs.FinSet as set
 use Rattle.ft_base.specs.Chains.{Lists, list_in}
@@ -21,6 +21,7 @@ use Rattle.ft_posix.specs.Stored.{outcome}
 use Rattle.ft_posix.specs.RunLaws.{writes_cell}
 use Rattle.ft_posix.specs.Posix.{HasSoundValues, Stamped, as_place, posix, posix_calls}
 use Rattle.ft_undo.specs.declared.logs.Logged.{Logged}
+use Rattle.ft_forest.specs.declared.TheConstants.{LAST_NUMBER}
 use Rattle.ft_forest.specs.Transactions.{Transactions}
 use Rattle.ft_moss.specs.Locks.{LockTable, is_locked, is_let_go, AreBlockers}
 use Rattle.ft_moss.specs.Rules.{is_strict}
@@ -34,6 +35,7 @@ use Rattle.ft_history.proofs.Methods.{core_asked}
 use Rattle.ft_core.specs.Histories.{History, Granted, granted}
 use Rattle.ft_core.specs.States.{Base, Asks}
 use Rattle.ft_core.specs.Journals.{Journaled}
+use Rattle.ft_core.specs.declared.parts.Parts.{Parts}
 use Rattle.ft_core.specs.Kept.{Item, Change, is_owned, TakesBack, AreLogged, ArePlaced, IsCoreAt}
 use Rattle.ft_core.specs.Laws.{CallLaws, LockLaws}
 use Rattle.ft_core.specs.Makes.{IsMadeOn}
@@ -42,21 +44,31 @@ use Rattle.ft_core.proofs.Counts.{count-push}
 use Rattle.ft_core.proofs.Joining.{start, values, free, sound_values}
 use Rattle.ft_core.proofs.Written.{of-written}
 use Rattle.ft_core.proofs.Placing.{put-write, put-stays, as-left, left-stored, files-stored, placed-stays}
+use Rattle.ft_core.proofs.Gathered.{parts}
 
 length-push : {A : Type 0} (xs : List A) (x : A) (first last : ℕ) → first + length xs ≡ last → first + length (xs ++ x ∷ []) ≡ last + 1
 length-push [] x first last e = omega arith
 length-push (y ∷ ys) x first last e = let ih = length-push ys x (first + 1) last (omega arith) in omega arith
 
-module _ (W : CallLaws) (K : LockLaws) (base : Base) (h : History) (asks : Asks) (last_txn last_number : ℕ) (cells : Cells) (forest : Transactions) (table : LockTable) (lists : Lists Logged) (j : Journaled) (core : IsCoreAt base h asks last_txn last_number cells forest table lists j) where
+module _ (W : CallLaws) (K : LockLaws) {base : Base} {h : History} {asks : Asks} {last_txn last_number : ℕ} {cells : Cells} {forest : Transactions} {table : LockTable} {lists : Lists Logged} {j : Journaled} (core : IsCoreAt base h asks last_txn last_number cells forest table lists j) where
   abbrev from : HistoryBase posix_calls
-  from = start W base h last_txn last_number cells core.log core.kept
+  from = start W core.kept
 
   with_values : HasSoundValues from.store
-  with_values = values W base h last_txn last_number cells core.log core.kept
+  with_values = values W core.kept
 
-  module _ (t : ℕ) (call : Call) (reply : Reply) (accesses : List Access) (k : ℕ) (next : k ≡ last_number + 1) (live : IsLive posix_calls base.last_txn h t) (touched : accesses ≡ accesses_of cells k call) (answered : reply ≡ (outcome cells k call).reply)
+  module _ (t : ℕ) (call : Call) (reply : Reply) (accesses : List Access) (k : ℕ) (next : k ≡ last_number + 1) (few : k ≤ LAST_NUMBER) (live : IsLive posix_calls base.last_txn h t) (touched : accesses ≡ accesses_of cells k call) (answered : reply ≡ (outcome cells k call).reply)
       (unblocked : blockers_of posix_calls h t (map as_place accesses) ≡ [])
-      (cells' : Cells) (table' : LockTable) (lists' : Lists Logged) (made : IsMadeOn cells cells' (outcome cells k call).writes table table' lists lists' t k accesses) where
+      (p' : Parts) (made : IsMadeOn (parts cells forest table lists) p' (outcome cells k call).writes t k accesses) where
+    abbrev cells' : Cells
+    cells' = p'.tree
+
+    abbrev table' : LockTable
+    table' = p'.locks
+
+    abbrev lists' : Lists Logged
+    lists' = p'.logs
+
     abbrev c : Granted
     c = granted k t call reply accesses
 
@@ -76,7 +88,7 @@ module _ (W : CallLaws) (K : LockLaws) (base : Base) (h : History) (asks : Asks)
     later = let last = core.kept.started.last_stamp_is in omega arith
 
     is_free : IsFree cells k
-    is_free = free W base h last_txn last_number cells core.log core.kept k (omega arith)
+    is_free = free W core.kept k (omega arith)
 
     acted : posix_calls.act cells a ≡ cells'
     acted = sym (made.cells ∙ put-write cells writes)
@@ -146,6 +158,7 @@ module _ (W : CallLaws) (K : LockLaws) (base : Base) (h : History) (asks : Asks)
           last_stamp_is = refl;
           counted = core.kept.started.counted;
           stamped = length-push (grants posix_calls h) c base.last_stamp last_number core.kept.started.stamped ∙ sym next;
+          within = few;
         };
         hidden = core.kept.hidden;
         core = core';

@@ -1,5 +1,6 @@
 -- The core of ft_history at the calls on a tree is a core over the plain tree.
 use Rattle.std.proofs.Common.{◌≡◌, ◌<◌, ◌+◌, ℕ, suc, List, [], ◌∷◌, ◌++◌, Option, Some, length, arith, add-one, refl, sym, ap, subst, ◌∙◌}
+use Rattle.ft_laws.specs.Lists.{Pairs}
 use Rattle.ft_cells.specs.Cells.{Cells}
 use Rattle.ft_tree.specs.Sound.{AreSoundCells, IsFree}
 use Rattle.ft_tree.specs.Tidy.{tidy}
@@ -25,7 +26,7 @@ use Rattle.ft_core.specs.Laws.{CallLaws}
 pub sound_values : (cells : Cells) → AreSoundCells cells → HasSoundValues cells
 sound_values cells sound = record { with_places = cells; sound = sound; same = record { values = λ c. refl } }
 
-module _ (W : CallLaws) (base : Base) (h : History) (last_txn last_number : ℕ) (cells : Cells) (log : ℕ → List Item) (kept : IsKept base h last_txn last_number cells log) where
+module _ (W : CallLaws) {base : Base} {h : History} {last_txn last_number : ℕ} {cells : Cells} {log : ℕ → List Item} (kept : IsKept base h last_txn last_number cells log) where
   abbrev pub start : HistoryBase posix_calls
   start = start_of base kept.started.store
 
@@ -48,6 +49,9 @@ module _ (W : CallLaws) (base : Base) (h : History) (last_txn last_number : ℕ)
 
   pub replies_are : GiveReplies base.tree (standing posix_calls h)
   replies_are = subst (λ p. GiveReplies p (standing posix_calls h)) kept.started.tree plainly.replies
+
+  pub order_is : Pairs (λ b a. b.call.stamp < a.call.stamp) (standing posix_calls h)
+  order_is = past.runs.kept.rising
 
   -- a new stamp numbers nothing in the core's cells
   pub free : (k : ℕ) → last_number < k → IsFree cells k
@@ -80,6 +84,7 @@ module _ (W : CallLaws) (base : Base) (h : History) (last_txn last_number : ℕ)
       last_stamp_is = kept.started.last_stamp_is;
       counted = let all = kept.started.counted in length-push _ n base.last_txn last_txn all ∙ sym next;
       stamped = kept.started.stamped;
+      within = kept.started.within;
     };
     hidden = kept.hidden;
     core = core_begun posix_calls W.lawful start values h kept.hidden cells log kept.core n up (may-begin n up next live);

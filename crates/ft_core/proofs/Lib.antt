@@ -1,4 +1,5 @@
 mod Told
+mod Gathered
 mod Counts
 mod Joining
 mod Reporting
@@ -27,3 +28,5 @@ mod Families
 mod Written
 mod Sweeps
 mod Checkpoints
+mod Known
+mod Asked

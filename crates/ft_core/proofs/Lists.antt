@@ -25,10 +25,10 @@ use Rattle.ft_core.proofs.Accounts.{reverted-accounted}
 use Rattle.ft_core.proofs.Joining.{start, values}
 use Rattle.ft_core.proofs.Reverting.{StayPlaces, placed-stays, is_taken_back}
 
-module _ (W : CallLaws) (base : Base) (h : History) (last_txn last_number : ℕ) (cells : Cells) (log : ℕ → List Item) (kept : IsKept base h last_txn last_number cells log) where
+module _ (W : CallLaws) {base : Base} {h : History} {last_txn last_number : ℕ} {cells : Cells} {log : ℕ → List Item} (kept : IsKept base h last_txn last_number cells log) where
   -- m inverses are put to the cells on the way of an abort of t, and the cells and the lists are now these
   abbrev pub IsTaking : ℕ → ℕ → Cells → (ℕ → List Item) → Type 0
-  IsTaking t m now left = IsTakingBack posix_calls (start W base h last_txn last_number cells log kept) h kept.hidden log t m now left
+  IsTaking t m now left = IsTakingBack posix_calls (start W kept) h kept.hidden log t m now left
 
   -- The list of x, which is this one, is taken back.
   pub record IsListTaken (table : LockTable) (t x m : ℕ) (now : Cells) (lists : ℕ → List Item) (ys : List Logged) : Type 0 where
@@ -52,11 +52,11 @@ module _ (W : CallLaws) (base : Base) (h : History) (last_txn last_number : ℕ)
       (λ none. absurd (subst (λ l. AreLogged l (y ∷ ys)) none logged))
       (λ e es is.
       let both : TakesBack e y × AreLogged es ys = subst (λ l. AreLogged l (y ∷ ys)) is logged in
-      let step = abort_step posix_calls W.lawful (start W base h last_txn last_number cells log kept) (values W base h last_txn last_number cells log kept) h kept.hidden cells log kept.core t x m now lists e es under is below taking in
+      let step = abort_step posix_calls W.lawful (start W kept) (values W kept) h kept.hidden cells log kept.core t x m now lists e es under is below taking in
       let there : In e (lists x) = subst (In e) (sym is) (inl refl) in
       let one = is_taken_back W.setting now e y both.0 (placed e there) named step.0 in
-      let from = start W base h last_txn last_number cells log kept in
-      let base_sound = values W base h last_txn last_number cells log kept in
+      let from = start W kept in
+      let base_sound = values W kept in
       let loses : LosesOwn posix_calls now (posix_calls.revert now e.inverse) e.done = abort_loses posix_calls W.lawful from base_sound h kept.hidden cells log kept.core t x m now lists e es under is below taking in
       let sound : AreSoundCells (posix_calls.revert now e.inverse) = W.placed (posix_calls.revert now e.inverse) (abort_sound posix_calls W.lawful from base_sound h kept.hidden cells log kept.core t (suc m) (posix_calls.revert now e.inverse) (put lists x es) step.1) (subst HasNamedPlaces one.made one.named) in
       let now_accounted = reverted-accounted W now e (placed e there).own table (locked e there) loses sound accounted in

@@ -30,12 +30,12 @@ use Rattle.ft_core.proofs.Joining.{start, past}
 abbrev pub write_line : ℕ → Cell → LockKind → LockLine
 write_line t c kind = record { cell = c; owner = t; mode = WriteMode; kind = kind }
 
-module _ (W : CallLaws) (K : LockLaws) (base : Base) (h : History) (asks : Asks) (last_txn last_number : ℕ) (cells : Cells) (forest : Transactions) (table : LockTable) (lists : Lists Logged) (j : Journaled) (core : IsCoreAt base h asks last_txn last_number cells forest table lists j) where
+module _ (W : CallLaws) (K : LockLaws) {base : Base} {h : History} {asks : Asks} {last_txn last_number : ℕ} {cells : Cells} {forest : Transactions} {table : LockTable} {lists : Lists Logged} {j : Journaled} (core : IsCoreAt base h asks last_txn last_number cells forest table lists j) where
   abbrev from : HistoryBase posix_calls
-  from = start W base h last_txn last_number cells core.log core.kept
+  from = start W core.kept
 
   sound : Sound posix_calls W.lawful from h
-  sound = past W base h last_txn last_number cells core.log core.kept
+  sound = past W core.kept
 
   module _ (t : ℕ) (e : Item) (i : In e (core.log t)) where
     -- what can be taken back stands, and has an owner

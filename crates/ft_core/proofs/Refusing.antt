@@ -17,10 +17,10 @@ use Rattle.ft_core.specs.declared.request.Request.TheVariants.{Begin, Sub}
 use Rattle.ft_core.specs.declared.request.Answer.{Answer}
 use Rattle.ft_core.specs.declared.request.Answer.TheVariants.{Refused}
 use Rattle.ft_core.specs.Faults.{fault_from}
-use Rattle.ft_core.specs.States.{State, history, has_most_transactions, is_deepest}
+use Rattle.ft_core.specs.States.{State, history, has_most_transactions, is_deepest, fate_in}
 use Rattle.ft_core.specs.Opens.{add_refusal}
 use Rattle.ft_core.specs.Steps.{fault_if, fault_of_fate, refusal_of, begin_request, IsAnswered, IsStep, exact_rule, answer_with}
-use Rattle.ft_core.specs.Kept.{fate_in, IsStarted, AreTransactions}
+use Rattle.ft_core.specs.Kept.{IsStarted, AreTransactions}
 
 from-if : (b : Bool) (f : ForestFault) (later : Option ForestFault) → option_map fault_from (forest_fault_if b f later) ≡ fault_if b (fault_from f) (option_map fault_from later)
 from-if true f later = refl

@@ -23,11 +23,11 @@ use Rattle.ft_core.proofs.Children.{no-child}
 use Rattle.ft_core.proofs.Joining.{start, values}
 
 -- the locks of a core are so
-pub alone-there : CallLaws → LockLaws → (base : Base) (h : History) (asks : Asks) (last_txn last_number : ℕ) (cells : Cells) (forest : Transactions) (table : LockTable) (lists : Lists Logged) (j : Journaled)
+pub alone-there : CallLaws → LockLaws → {base : Base} {h : History} {asks : Asks} {last_txn last_number : ℕ} {cells : Cells} {forest : Transactions} {table : LockTable} {lists : Lists Logged} {j : Journaled}
     → IsCoreAt base h asks last_txn last_number cells forest table lists j → (t : ℕ) → IsAloneIfChildless table forest t
-alone-there W K base h asks last_txn last_number cells forest table lists j core t none =
-    K.alone (start W base h last_txn last_number cells core.log core.kept) (values W base h last_txn last_number cells core.log core.kept) h table core.locks core.kept.core.legal forest core.transactions.parents t
-    (no-child W base h asks last_txn last_number cells forest table lists j core t none)
+alone-there W K {h = h} {forest = forest} {table = table} core t none =
+    K.alone (start W core.kept) (values W core.kept) h table core.locks core.kept.core.legal forest core.transactions.parents t
+    (no-child W core t none)
 
 -- The first accesses were granted before, and the rest are granted now.
 pub granted-rest : (old new : LockTable) (t : ℕ) (xs : List Access) (k : ℕ) → AreGranted old old t (take k xs) → AreGranted old new t (drop k xs) → AreGranted old new t xs

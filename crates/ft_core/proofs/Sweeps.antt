@@ -38,6 +38,7 @@ use Rattle.ft_core.proofs.Accounts.{swept-accounted}
 use Rattle.ft_core.proofs.Joining.{start, values, past, free}
 use Rattle.ft_core.proofs.Owned.{owned-by, written-locked}
 use Rattle.ft_core.proofs.Written.{written-changes, set-once}
+use Rattle.ft_core.specs.declared.parts.Parts.{Parts}
 
 -- The cells of a file.
 
@@ -81,16 +82,15 @@ along-at P Q s [] p q c i = absurd i
 along-at P Q s (d ∷ ds) p q c (inl e) = (s, subst (P s) (sym e) p.0, subst (Q s) (sym e) q.0)
 along-at P Q s (d ∷ ds) p q c (inr i) = along-at P Q (posix_calls.act s d.call) ds p.1 q.1 c i
 
-module _ (W : CallLaws) (K : LockLaws) (base : Base) (h : History) (asks : Asks) (last_txn last_number : ℕ) (cells : Cells) (forest : Transactions) (table : LockTable) (lists : Lists Logged) (j : Journaled) (core : IsCoreAt base h asks last_txn last_number cells forest table lists j)
-    (new : Cells) (swept : IsSwept (is_locked table) cells new) (none_left : HasNoneToDrop (is_locked table) new) (sound' : AreSoundCells new) where
+module _ (W : CallLaws) (K : LockLaws) {base : Base} {h : History} {asks : Asks} {last_txn last_number : ℕ} {cells : Cells} {forest : Transactions} {table : LockTable} {lists : Lists Logged} {j : Journaled} (core : IsCoreAt base h asks last_txn last_number cells forest table lists j) (new : Cells) (swept : IsSwept (is_locked table) cells new) (none_left : HasNoneToDrop (is_locked table) new) (sound' : AreSoundCells new) where
   abbrev from : HistoryBase posix_calls
-  from = start W base h last_txn last_number cells core.log core.kept
+  from = start W core.kept
 
   with_values : HasSoundValues from.store
-  with_values = values W base h last_txn last_number cells core.log core.kept
+  with_values = values W core.kept
 
   sound : Sound posix_calls W.lawful from h
-  sound = past W base h last_txn last_number cells core.log core.kept
+  sound = past W core.kept
 
   abbrev hidden : ℕ → Bool
   hidden = core.kept.hidden
@@ -118,7 +118,7 @@ module _ (W : CallLaws) (K : LockLaws) (base : Base) (h : History) (asks : Asks)
       (λ k. not-stored new i k ∙ sym (by_test (finite.contains_key cells.files i)
       (λ was. by_test (nat_le i last_number)
       (λ old. absurd (false≢true (sym seen ∙ or_right (hidden i) (gone i && nat_le i last_number) (ap (λ b. (b && not (finite.contains_key new.files i)) && nat_le i last_number) was ∙ ap (λ b. not b && nat_le i last_number) k ∙ old))))
-      (λ later. (free W base h last_txn last_number cells core.log core.kept i (past-last i later)).unused (Bytes i) refl))
+      (λ later. (free W core.kept i (past-last i later)).unused (Bytes i) refl))
       (not-stored cells i)))
     where
       past-last : (i : ℕ) → nat_le i last_number ≡ false → last_number < i
@@ -187,10 +187,10 @@ module _ (W : CallLaws) (K : LockLaws) (base : Base) (h : History) (asks : Asks)
     was = core.logs.placed t e i
 
     owned : In e.done (standing posix_calls h) × (owner posix_calls h e.done ≡ Some t)
-    owned = owned-by W K base h asks last_txn last_number cells forest table lists j core t e i
+    owned = owned-by W K core t e i
 
     locked : (c : Cell) → writes_cell e.done.accesses c ≡ true → is_locked table c ≡ true
-    locked = written-locked W K base h asks last_txn last_number cells forest table lists j core t e i
+    locked = written-locked W K core t e i
 
     -- and names no file that is gone
     brings : (w : Change) → In w e.inverse.before → (k : ℕ) → gone k ≡ true → names_file w.cell w.value k ≡ false
@@ -239,11 +239,11 @@ module _ (W : CallLaws) (K : LockLaws) (base : Base) (h : History) (asks : Asks)
   }
 
 -- Where no transaction is live, no cell is locked.
-pub nobody-locks : (W : CallLaws) (K : LockLaws) (s : State) (cells : Cells) (forest : Transactions) (table : LockTable) (lists : Lists Logged) (j : Journaled) → IsCoreOf s cells forest table lists j → NoneIsLive s → (c : Cell) → is_locked table c ≡ false
-nobody-locks W K s cells forest table lists j core none c = by_test (is_locked table c)
+pub nobody-locks : (W : CallLaws) (K : LockLaws) (s : State) (p : Parts) (j : Journaled) → IsCoreOf s p j → NoneIsLive s → (c : Cell) → is_locked p.locks c ≡ false
+nobody-locks W K s p j core none c = by_test (is_locked p.locks c)
     (λ k.
-    let lock = K.known.locked table c k in
-    let from = start W s.base (history s) s.last_txn s.last_stamp cells core.log core.kept in
-    let with_values = values W s.base (history s) s.last_txn s.last_stamp cells core.log core.kept in
-    absurd (none (lock.0.owner, K.live from with_values (history s) table core.locks core.kept.core.legal lock.0 lock.1)))
+    let lock = K.known.locked p.locks c k in
+    let from = start W core.kept in
+    let with_values = values W core.kept in
+    absurd (none (lock.0.owner, K.live from with_values (history s) p.locks core.locks core.kept.core.legal lock.0 lock.1)))
     (λ k. k)

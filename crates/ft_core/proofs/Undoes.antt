@@ -45,9 +45,9 @@ use Rattle.ft_core.proofs.Joining.{start, values, past}
 use Rattle.ft_core.proofs.Owned.{written-locked}
 use Rattle.ft_core.proofs.Reverting.{placed-stays, is_taken_back}
 
-module _ (W : CallLaws) (K : LockLaws) (base : Base) (h : History) (asks : Asks) (last_txn last_number : ℕ) (cells : Cells) (forest : Transactions) (table : LockTable) (lists : Lists Logged) (j : Journaled) (core : IsCoreAt base h asks last_txn last_number cells forest table lists j) (t : ℕ) (live : IsLive posix_calls base.last_txn h t) where
+module _ (W : CallLaws) (K : LockLaws) {base : Base} {h : History} {asks : Asks} {last_txn last_number : ℕ} {cells : Cells} {forest : Transactions} {table : LockTable} {lists : Lists Logged} {j : Journaled} (core : IsCoreAt base h asks last_txn last_number cells forest table lists j) (t : ℕ) (live : IsLive posix_calls base.last_txn h t) where
   abbrev from : HistoryBase posix_calls
-  from = start W base h last_txn last_number cells core.log core.kept
+  from = start W core.kept
 
   -- the history's list and the logs' have the same newest
   pub record AreNewest (x : Logged) (xs : List Logged) : Type 0 where
@@ -84,14 +84,14 @@ module _ (W : CallLaws) (K : LockLaws) (base : Base) (h : History) (asks : Asks)
 
   pub target-found : (x : Logged) (xs : List Logged) → list_in lists t ≡ x ∷ xs → ((k : ℕ) → last_sub posix_calls base.last_stamp h t ≡ Some k → k < x.stamp) → (d : Granted) × (undo_target posix_calls h t ≡ Found d) × (d.call.stamp ≡ x.stamp)
   target-found x xs is later =
-      let law = target_by_stamps posix_calls W.lawful from (values W base h last_txn last_number cells core.log core.kept) h core.kept.core.legal t live in
+      let law = target_by_stamps posix_calls W.lawful from (values W core.kept) h core.kept.core.legal t live in
       let new = newest x xs is in
       let stamp = new.takes.stamp in
       (new.entry.done, law.found new.entry.done (map (λ (e : Item). e.done) new.rest) new.listed (λ k e. let lt = later k e in omega arith), sym stamp)
 
   pub target-since : (k : ℕ) → last_sub posix_calls base.last_stamp h t ≡ Some k → ((x : Logged) (xs : List Logged) → list_in lists t ≡ x ∷ xs → x.stamp ≤ k) → undo_target posix_calls h t ≡ SubSince
   target-since k e old =
-      let law = target_by_stamps posix_calls W.lawful from (values W base h last_txn last_number cells core.log core.kept) h core.kept.core.legal t live in
+      let law = target_by_stamps posix_calls W.lawful from (values W core.kept) h core.kept.core.legal t live in
       law.since k e (λ d ds listed. by_list (list_in lists t)
       (λ none. absurd (no_call (sym (unlisted none) ∙ listed)))
       (λ x xs is.
@@ -103,7 +103,7 @@ module _ (W : CallLaws) (K : LockLaws) (base : Base) (h : History) (asks : Asks)
 
   pub target-nothing : last_sub posix_calls base.last_stamp h t ≡ None → list_in lists t ≡ [] → undo_target posix_calls h t ≡ Nothing
   target-nothing e none =
-      let law = target_by_stamps posix_calls W.lawful from (values W base h last_txn last_number cells core.log core.kept) h core.kept.core.legal t live in
+      let law = target_by_stamps posix_calls W.lawful from (values W core.kept) h core.kept.core.legal t live in
       law.nothing e (unlisted none)
 
   -- The same of what is told of the list and of the last commit.
@@ -143,8 +143,8 @@ module _ (W : CallLaws) (K : LockLaws) (base : Base) (h : History) (asks : Asks)
 
   pub core-undo : ((x : ℕ) → IsLiveChild forest t x → ⊥) → (d : Granted) → undo_target posix_calls h t ≡ Found d → Undoes d
   core-undo no_live d found =
-      let may : MayUndo posix_calls base.last_txn h t d = record { live = live; no_child = no-child W base h asks last_txn last_number cells forest table lists j core t no_live; target = found } in
-      let done = core_undone posix_calls W.lawful from (values W base h last_txn last_number cells core.log core.kept) h core.kept.hidden cells core.log core.kept.core t d may in
+      let may : MayUndo posix_calls base.last_txn h t d = record { live = live; no_child = no-child W core t no_live; target = found } in
+      let done = core_undone posix_calls W.lawful from (values W core.kept) h core.kept.hidden cells core.log core.kept.core t d may in
       let e : Item = record { done = d; inverse = done.0 } in
       let es : List Item = done.1 in
       let legal : Legal posix_calls from (WasUndone d.call.stamp ∷ h) = ((t, d, may, refl), core.kept.core.legal) in
@@ -153,7 +153,7 @@ module _ (W : CallLaws) (K : LockLaws) (base : Base) (h : History) (asks : Asks)
       (λ x xs is.
       let both : TakesBack e x × AreLogged es xs = subst (λ fs. AreLogged fs (x ∷ xs)) done.2 (subst (AreLogged (core.log t)) is (core.logs.logged t)) in
       let there : In e (core.log t) = subst (In e) (sym done.2) (inl refl) in
-      let one = is_taken_back W.setting cells e x both.0 (core.logs.placed t e there) (named W base h last_txn last_number cells core.log core.kept) done.3 in
+      let one = is_taken_back W.setting cells e x both.0 (core.logs.placed t e there) (named W core.kept) done.3 in
       record {
         newest = x;
         rest = xs;
@@ -161,15 +161,15 @@ module _ (W : CallLaws) (K : LockLaws) (base : Base) (h : History) (asks : Asks)
         can = one.can;
         after = λ cells' made lists' are opened j' told.
             let reverted : cells' ≡ posix_calls.revert cells e.inverse = made ∙ one.made in
-            let kept : IsKept base (WasUndone d.call.stamp ∷ h) last_txn last_number cells' (put core.log t es) = kept-ending W base h last_txn last_number cells core.log core.kept (WasUndone d.call.stamp) (record { begun = refl; grants = refl; last_transaction = λ first. refl; last_stamp = λ first. refl }) cells' (put core.log t es)
+            let kept : IsKept base (WasUndone d.call.stamp ∷ h) last_txn last_number cells' (put core.log t es) = kept-ending W core.kept (WasUndone d.call.stamp) (record { begun = refl; grants = refl; last_transaction = λ first. refl; last_stamp = λ first. refl }) cells' (put core.log t es)
             (subst (λ s. IsCore posix_calls from (WasUndone d.call.stamp ∷ h) core.kept.hidden s (put core.log t es)) (sym reverted) done.4)
             (subst HasNamedPlaces (sym made) one.named) in
-            let loses : LosesOwn posix_calls cells (posix_calls.revert cells e.inverse) d = undo_loses posix_calls W.lawful from (values W base h last_txn last_number cells core.log core.kept) h core.kept.hidden cells core.log core.kept.core t d may done.0 es done.2 in
+            let loses : LosesOwn posix_calls cells (posix_calls.revert cells e.inverse) d = undo_loses posix_calls W.lawful from (values W core.kept) h core.kept.hidden cells core.log core.kept.core t d may done.0 es done.2 in
             record {
               log = put core.log t es;
               kept = kept;
               transactions = record { base_is = core.transactions.base_is; last = core.transactions.last; parents = core.transactions.parents; fates = core.transactions.fates };
-              locks = K.undo from (values W base h last_txn last_number cells core.log core.kept) h table core.locks d.call.stamp legal;
+              locks = K.undo from (values W core.kept) h table core.locks d.call.stamp legal;
               no_holder = λ strict. core.no_holder (sym (ap (λ (q : Journaled). is_strict q.rule) told) ∙ strict);
               logs = record {
                 logged = λ u. subst (AreLogged (put core.log t es u)) (sym (are u)) (logged-put core.log (list_in lists) core.logs.logged t es xs both.1 u);
@@ -180,22 +180,22 @@ module _ (W : CallLaws) (K : LockLaws) (base : Base) (h : History) (asks : Asks)
               ready = λ u now. let was = core.ready u now in record { locks = was.locks; log = opened u ∙ was.log; sub = ap (λ (q : Journaled). finite.get q.subs u) told ∙ was.sub };
               waiting = core.waiting;
               spare =
-                  let from_list = target_newest posix_calls W.lawful from (values W base h last_txn last_number cells core.log core.kept) h core.kept.core.legal t d live found in
-                  let there = ((past W base h last_txn last_number cells core.log core.kept).runs.kept.owned t d (subst (In d) (sym from_list.1) (inl refl))).0 in
-                  let fewer = events-undo W base h last_txn last_number cells core.log core.kept t d live there from_list.2 in
+                  let from_list = target_newest posix_calls W.lawful from (values W core.kept) h core.kept.core.legal t d live found in
+                  let there = ((past W core.kept).runs.kept.owned t d (subst (In d) (sym from_list.1) (inl refl))).0 in
+                  let fewer = events-undo W core.kept t d live there from_list.2 in
                   let le = core.spare in
                   let same = ap (λ (q : Journaled). q.spare) told in
                   omega arith;
               accounted = subst (IsAccounted (is_locked table) (is_let_go table)) (sym reverted)
-                  (reverted-accounted W cells e (core.logs.placed t e there).own table (written-locked W K base h asks last_txn last_number cells forest table lists j core t e there) loses (subst AreSoundCells reverted kept.sound) core.accounted);
+                  (reverted-accounted W cells e (core.logs.placed t e there).own table (written-locked W K core t e there) loses (subst AreSoundCells reverted kept.sound) core.accounted);
             };
       })
 
   -- there is a place for the event
   pub place-undo : (d : Granted) → undo_target posix_calls h t ≡ Found d → 0 < j.spare
   place-undo d found =
-      let from_list = target_newest posix_calls W.lawful from (values W base h last_txn last_number cells core.log core.kept) h core.kept.core.legal t d live found in
-      let there = ((past W base h last_txn last_number cells core.log core.kept).runs.kept.owned t d (subst (In d) (sym from_list.1) (inl refl))).0 in
-      let fewer = events-undo W base h last_txn last_number cells core.log core.kept t d live there from_list.2 in
+      let from_list = target_newest posix_calls W.lawful from (values W core.kept) h core.kept.core.legal t d live found in
+      let there = ((past W core.kept).runs.kept.owned t d (subst (In d) (sym from_list.1) (inl refl))).0 in
+      let fewer = events-undo W core.kept t d live there from_list.2 in
       let le = core.spare in
       omega arith

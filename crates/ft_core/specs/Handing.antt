@@ -1,23 +1,16 @@
 -- What a transaction hands to its parent when it commits, and at the top level to nobody. (Moss, Nested Transactions, MIT 1981, commit of a transaction.)
-use Rattle.std.specs.Prelude.{◌≡◌, ◌≢◌, ℕ, true, Option, Some, None, IsSome}
-use Rattle.std.specs.FinMap as finite
+use Rattle.std.specs.Prelude.{◌≡◌, ◌≢◌, ℕ, true, Option, Some, None}
 use Rattle.ft_base.specs.Chains.{Lists}
 use Rattle.ft_undo.specs.declared.logs.Logged.{Logged}
 use Rattle.ft_undo.specs.Logs.{is_open}
 use Rattle.ft_moss.specs.Locks.{LockTable, AreInherited, AreReleased, is_opened}
-use Rattle.ft_core.specs.Journals.{Journaled, with_sub}
 
 -- the parent inherits the locks, or they are released
 abbrev pub AreHandedUp : LockTable → LockTable → ℕ → Option ℕ → Type 0
 AreHandedUp old new txn None = AreReleased old new txn
 AreHandedUp old new txn (Some parent) = AreInherited old new txn parent
 
--- that a child commits is noted of the parent
-abbrev pub noted_up : Journaled → Option ℕ → Journaled
-noted_up j None = j
-noted_up j (Some parent) = with_sub j parent
-
 -- the parent, if there is one, is another, and there is room for what it is given
-abbrev pub MayHandUp : LockTable → Lists Logged → Journaled → ℕ → Option ℕ → Type 0
-MayHandUp table lists j txn None = Unit {0}
-MayHandUp table lists j txn (Some parent) = (txn ≢ parent) × (is_opened table parent ≡ true) × (is_open lists parent ≡ true) × IsSome (finite.get j.subs parent)
+abbrev pub MayHandUp : LockTable → Lists Logged → ℕ → Option ℕ → Type 0
+MayHandUp table lists txn None = Unit {0}
+MayHandUp table lists txn (Some parent) = (txn ≢ parent) × (is_opened table parent ≡ true) × (is_open lists parent ≡ true)

@@ -1,5 +1,5 @@
 -- What a journal is seen as: what has happened, and what is noted of the live transactions.
-use Rattle.std.specs.Prelude.{ℕ, ◌<◌, ◌+◌, ◌-◌, Bool, ◌||◌, nat_le, List, [], ◌∷◌, ◌++◌, Option, Some, refl}
+use Rattle.std.specs.Prelude.{ℕ, ◌<◌, ◌+◌, ◌-◌, Bool, ◌||◌, nat_le, List, [], ◌∷◌, ◌++◌, Option, Some, None, IsSome, refl}
 use Rattle.std.specs.Option.{option_flatten}
 use Rattle.std.specs.Ordering.{nat_cmp}
 use Rattle.std.specs.FinMap as finite
@@ -71,6 +71,16 @@ with_call j t call reply accesses = record j {
   room = j.room - 2;
 }
 
+-- the call that is asked for now, or else the one that is waited for
+abbrev pub asked_for : Option Call → Option Call → Option Call
+asked_for None pending = pending
+asked_for (Some call) pending = Some call
+
+-- t waits for a call that is asked for now, and else waits on
+abbrev pub with_ask : Journaled → ℕ → Option Call → Journaled
+with_ask j t None = j
+with_ask j t (Some call) = record j { asks = finite.insert j.asks t call }
+
 -- the event takes a place that was kept
 abbrev pub with_event : Journaled → Event → Journaled
 with_event j e = record j { events = j.events ++ e ∷ []; spare = j.spare - 1 }
@@ -82,6 +92,16 @@ without j t = record j { asks = finite.remove j.asks t; subs = finite.remove j.s
 -- a child of t commits
 abbrev pub with_sub : Journaled → ℕ → Journaled
 with_sub j t = record j { subs = finite.insert j.subs t (Some j.last_stamp) }
+
+-- that a child commits is noted of the parent, if there is one
+abbrev pub noted_up : Journaled → Option ℕ → Journaled
+noted_up j None = j
+noted_up j (Some parent) = with_sub j parent
+
+-- something is noted of the parent, if there is one
+abbrev pub IsNoted : Journaled → Option ℕ → Type 0
+IsNoted j None = Unit {0}
+IsNoted j (Some parent) = IsSome (finite.get j.subs parent)
 
 -- the state of transactions with their journal
 abbrev pub state_of : Transactions → Journaled → State

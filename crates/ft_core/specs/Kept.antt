@@ -1,5 +1,5 @@
 -- What a core keeps true of itself.
-use Rattle.std.specs.Prelude.{◌≡◌, ◌≤◌, ◌+◌, ℕ, Bool, true, false, ◌&&◌, is_some, List, [], ◌∷◌, Option, Some, None, length, map}
+use Rattle.std.specs.Prelude.{◌≡◌, ◌≤◌, ◌+◌, ℕ, Bool, true, false, ◌&&◌, is_some, List, [], ◌∷◌, Some, None, length, map}
 use Rattle.std.specs.FinMap as finite
 use Rattle.ft_base.specs.Chains.{Lists, list_in}
 use Rattle.ft_laws.specs.Lists.{Each, Pairs, In}
@@ -17,20 +17,19 @@ use Rattle.ft_posix.specs.RunLaws.{writes_cell}
 use Rattle.ft_undo.specs.declared.logs.Logged.{Logged}
 use Rattle.ft_undo.specs.Logs.{is_open}
 use Rattle.ft_undo.specs.Undone.{given_back, CanGiveAllBack}
-use Rattle.ft_forest.specs.declared.state.State.{State as Life}
-use Rattle.ft_forest.specs.declared.state.State.TheVariants.{Live as LiveState, Committed as CommittedState, Aborted as AbortedState}
+use Rattle.ft_forest.specs.declared.TheConstants.{LAST_NUMBER}
 use Rattle.ft_forest.specs.Transactions.{Transactions, parent_in, state_in, last_in}
 use Rattle.ft_moss.specs.Locks.{LockTable, is_locked, is_let_go, is_opened}
 use Rattle.ft_moss.specs.Law.{AreLocksOf}
 use Rattle.ft_moss.specs.Rules.{is_strict}
 use Rattle.ft_moss.specs.Surveys.{HasNoHolderAbove}
-use Rattle.ft_history.specs.History.{Base as HistoryBase, Fate, IsFresh, last_transaction, last_stamp, begun, parent, fate, owner_of, grants, is_live, IsLive, is_standing}
-use Rattle.ft_history.specs.History.Fate.{Live, Committed, Aborted}
+use Rattle.ft_history.specs.History.{Base as HistoryBase, IsFresh, last_transaction, last_stamp, begun, parent, fate, owner_of, grants, is_live, IsLive, is_standing}
 use Rattle.ft_history.specs.Core.{Entry, IsCore}
 use Rattle.ft_history.specs.Logs.{passing}
 use Rattle.ft_history.specs.Undoing.{last_sub}
 use Rattle.ft_core.specs.Histories.{History, Granted}
-use Rattle.ft_core.specs.States.{Base, State, Asks, history}
+use Rattle.ft_core.specs.declared.parts.Parts.{Parts}
+use Rattle.ft_core.specs.States.{Base, State, Asks, fate_in, history}
 use Rattle.ft_core.specs.Journals.{Journaled}
 
 -- a call that can be taken back, with its inverse
@@ -52,6 +51,7 @@ pub record IsStarted (base : Base) (h : History) (last_txn last_number : ℕ) : 
   -- no number is left out
   pub counted : base.last_txn + length (begun posix_calls h) ≡ last_txn
   pub stamped : base.last_stamp + length (grants posix_calls h) ≡ last_number
+  pub within : last_number ≤ LAST_NUMBER
 
 -- The cells are those of the standing calls, but for files that a sweep took away, and the lists can take back each call that has an owner.
 pub record IsKept (base : Base) (h : History) (last_txn last_number : ℕ) (cells : Cells) (log : ℕ → List Item) : Type 0 where
@@ -61,12 +61,6 @@ pub record IsKept (base : Base) (h : History) (last_txn last_number : ℕ) (cell
   pub sound : AreSoundCells cells
 
 -- The transactions of the history.
-
-abbrev pub fate_in : Option Life → Option Fate
-fate_in None = None
-fate_in (Some LiveState) = Some Live
-fate_in (Some CommittedState) = Some Committed
-fate_in (Some AbortedState) = Some Aborted
 
 pub record AreTransactions (base : Base) (h : History) (last_txn : ℕ) (forest : Transactions) : Type 0 where
   pub base_is : forest.base ≡ base.last_txn
@@ -149,5 +143,5 @@ pub record IsCoreAt (base : Base) (h : History) (asks : Asks) (last_txn last_num
   pub spare : events_kept base.last_txn h ≤ j.spare
   pub accounted : IsAccounted (is_locked table) (is_let_go table) cells
 
-abbrev pub IsCoreOf : State → Cells → Transactions → LockTable → Lists Logged → Journaled → Type 0
-IsCoreOf s cells forest table lists j = IsCoreAt s.base (history s) s.asks s.last_txn s.last_stamp cells forest table lists j
+abbrev pub IsCoreOf : State → Parts → Journaled → Type 0
+IsCoreOf s p j = IsCoreAt s.base (history s) s.asks s.last_txn s.last_stamp p.tree p.forest p.locks p.logs j

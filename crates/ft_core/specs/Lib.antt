@@ -15,3 +15,4 @@ pub mod Reports
 pub mod Taking
 pub mod Handing
 pub mod Sweeps
+pub mod Reached

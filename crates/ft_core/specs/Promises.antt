@@ -1,26 +1,33 @@
 -- What is promised of every state that a core can come to.
-use Rattle.std.specs.Prelude.{◌≡◌, ℕ, false, List, ◌∷◌, ◌++◌, Option, Some}
-use Rattle.ft_laws.specs.Lists.{Each}
+use Rattle.std.specs.Prelude.{◌≡◌, ◌<◌, ℕ, false, List, [], ◌∷◌, ◌++◌, Option, Some}
+use Rattle.ft_laws.specs.Lists.{Each, Pairs}
 use Rattle.ft_cells.specs.Cells.{Cells}
 use Rattle.ft_tree.specs.Tidy.{tidy}
 use Rattle.ft_posix.specs.Posix.{posix_calls}
 use Rattle.ft_posix.specs.RunLaws.{GiveReplies}
 use Rattle.ft_posix.specs.declared.call.Call.{Call}
+use Rattle.ft_posix.specs.declared.call.Reply.{Reply}
+use Rattle.ft_posix.specs.declared.call.Access.{Access}
 use Rattle.ft_history.specs.History.Fate.{Live}
 use Rattle.ft_history.specs.Undoing.{IsWithin}
 use Rattle.ft_core.specs.declared.request.Event.{Event}
-use Rattle.ft_core.specs.declared.request.Event.TheVariants.{Begin}
+use Rattle.ft_core.specs.declared.request.Event.TheVariants.{Begin, Call as CallEvent}
 use Rattle.ft_core.specs.Histories.{told}
-use Rattle.ft_core.specs.States.{State, history, fate_of, has_live_child, standing_calls, tree_of, after_grant}
+use Rattle.ft_core.specs.States.{State, history, fate_of, has_live_child, standing_calls, tree_of}
 
 -- The headline: the tree is what the plain tree holds after the standing calls alone, from the base, each with the reply that it got.
 pub record IsHeadline (s : State) (cells : Cells) : Type 0 where
   pub tree : tidy cells ≡ tree_of s
   pub replies : GiveReplies s.base.tree (standing_calls s)
+  pub order : Pairs (λ b a. b.call.stamp < a.call.stamp) (standing_calls s)
 
--- A call of t was the last event, and t has no live child.
-pub record IsJustMade (before s : State) (t : ℕ) (call : Call) : Type 0 where
-  pub made : s ≡ after_grant before t call
+-- The last event is a granted call of t with this stamp, before which the state was the one given, and t has no live child. Who waits for what does not matter.
+pub record IsJustMade (before s : State) (t k : ℕ) : Type 0 where
+  pub base : s.base ≡ before.base
+  pub call : Call
+  pub reply : Reply
+  pub accesses : List Access
+  pub made : s.events ≡ before.events ++ CallEvent k t call reply accesses ∷ []
   pub alone : has_live_child s t ≡ false
 
 -- t is live, and since its begin, before which the state was the one given, the calls, undos and aborts are of t's subtree alone. (A rule of this project.)

@@ -1,5 +1,5 @@
 -- What a core tells of its locks, of who waits for whom, and of live children.
-use Rattle.std.specs.Prelude.{◌≡◌, ◌↔◌, ℕ, true, Option, Some, None, List, [], ◌∷◌, map}
+use Rattle.std.specs.Prelude.{◌≡◌, ◌<◌, ◌↔◌, ℕ, true, Option, Some, None, List, [], ◌∷◌, map}
 use Rattle.std.specs.FinMap as finite
 use Rattle.std.specs.Ordering.{nat_cmp, ordering_then}
 use Rattle.std.specs.declared.cmp.Ordering.{Ordering}
@@ -34,6 +34,10 @@ waits s = waits_from s (finite.entries s.asks)
 
 abbrev pub as_wait : Pending → ℕ × List ℕ
 as_wait p = (p.txn, p.blockers.items)
+
+-- those in the way of it stand in rising order, each once
+abbrev pub HasRisingBlockers : Pending → Type 0
+HasRisingBlockers p = Pairs (λ x y. x < y) p.blockers.items
 
 -- by parent, and then by child
 abbrev pub child_cmp : LiveChild → LiveChild → Ordering

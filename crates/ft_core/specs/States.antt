@@ -1,16 +1,17 @@
 -- The state of a core.
-use Rattle.std.specs.Prelude.{ℕ, ◌+◌, Bool, not, ◌||◌, nat_le, nat_lt, List, [], ◌∷◌, ◌++◌, Option, length, refl}
+use Rattle.std.specs.Prelude.{ℕ, ◌+◌, Bool, not, ◌||◌, nat_le, nat_lt, List, [], ◌∷◌, ◌++◌, Option, Some, None, length, refl}
 use Rattle.std.specs.Ordering.{nat_cmp}
 use Rattle.std.specs.FinMap as finite
 use Rattle.std.specs.Coded.{Coded, code_by, coded×, coded_ℕ, coded_list}
 use base.Stored.{coded_unit}
 use Rattle.ft_cells.specs.contracts.entry.Entry as entry
 use Rattle.ft_cells.specs.Entries.{entry_cmp}
-use Rattle.ft_cells.specs.Cells.{fresh_cells}
+use Rattle.ft_cells.specs.Cells.{Cells, fresh_cells}
 use Rattle.ft_cells.specs.Plain.{PlainTree, NumberSet}
 use Rattle.ft_cells.specs.declared.open_file.OpenFile.{OpenFile}
 use Rattle.ft_cells.specs.contracts.open_file.OpenFile as open_file
 use Rattle.ft_tree.specs.Tidy.{tidy}
+use Rattle.ft_tree.specs.contracts.tree.Tree as tree
 use Rattle.ft_posix.specs.declared.call.Call.{Call}
 use Rattle.ft_posix.specs.declared.call.Reply.{Reply}
 use Rattle.ft_posix.specs.declared.call.Access.{Access}
@@ -18,11 +19,14 @@ use Rattle.ft_posix.specs.contracts.call.Call as call
 use Rattle.ft_posix.specs.Exec.{exec}
 use Rattle.ft_posix.specs.RunLaws.{accesses_in, tree_after}
 use Rattle.ft_posix.specs.Posix.{posix_calls}
+use Rattle.ft_history.specs.History.Fate.{Live, Committed, Aborted}
 use Rattle.ft_history.specs.History.{Fate, fate, is_live, over, begun, live_children as live_children_of, grants, standing}
 use Rattle.ft_history.specs.Logs.{passing}
 use Rattle.ft_history.specs.Promises.{calls_below}
 use Rattle.ft_moss.specs.declared.rule.Rule.{Rule}
 use Rattle.ft_moss.specs.contracts.rule.Rule as rule
+use Rattle.ft_forest.specs.declared.state.State.{State as Life}
+use Rattle.ft_forest.specs.declared.state.State.TheVariants.{Live as LiveState, Committed as CommittedState, Aborted as AbortedState}
 use Rattle.ft_forest.specs.declared.TheConstants.{MOST_TRANSACTIONS, MOST_DEPTH, LAST_NUMBER}
 use Rattle.ft_core.specs.declared.TheConstants.{MOST_CALLS}
 use Rattle.ft_core.specs.declared.request.Event.{Event}
@@ -71,6 +75,14 @@ coded_state =
     (λ s. (s.rule, (s.base, (s.events, (s.asks, (s.last_txn, s.last_stamp))))))
     (λ p. record { rule = p.0; base = p.1.0; events = p.1.1.0; asks = p.1.1.1.0; last_txn = p.1.1.1.1.0; last_stamp = p.1.1.1.1.1 }) (λ _. refl)
 
+-- What a core is: its state, and the cells in which its tree is stored. No call sees more of them than their tree; how many places they have is what a sweep changes.
+pub record StoredState : Type 0 where
+  pub state : State
+  pub cells : Cells
+
+abbrev pub coded_stored : Coded StoredState
+coded_stored = code_by (State × Cells) (coded× coded_state tree.the_row.coded) (λ s. (s.state, s.cells)) (λ p. record { state = p.0; cells = p.1 }) (λ _. refl)
+
 -- the root alone, of number 1; no transaction
 abbrev pub first_base : Base
 first_base = record { tree = tidy fresh_cells; last_txn = 0; last_stamp = 1 }
@@ -87,6 +99,13 @@ history s = told s.events
 -- what has become of a transaction begun since the base
 abbrev pub fate_of : State → ℕ → Option Fate
 fate_of s t = fate posix_calls s.base.last_txn (history s) t
+
+-- what is told of it
+abbrev pub fate_in : Option Life → Option Fate
+fate_in None = None
+fate_in (Some LiveState) = Some Live
+fate_in (Some CommittedState) = Some Committed
+fate_in (Some AbortedState) = Some Aborted
 
 -- the live children of a transaction, in rising order
 abbrev pub live_children : State → ℕ → List ℕ

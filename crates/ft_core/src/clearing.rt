@@ -8,7 +8,6 @@ ghost use Rattle.ft_core.specs.Steps.{IsStep, exact_rule, answer_with};
 
 use crate::fault::Fault;
 use crate::journal::Journal;
-use crate::laws::{call_laws, lock_laws};
 use crate::manager::Core;
 use ft_base::Memory;
 use ft_locks::Locks;
@@ -20,11 +19,8 @@ impl Core {
     ///
     /// Refuses Live where a transaction is live. Want of memory changes nothing.
     pub fn checkpoint(&mut self) -> Result<(), Fault>
-        ensures { IsStep exact_rule self.old Checkpoint (answer_with (λ done. Cleared) result) self.new }
+        ensures { IsStep exact_rule self.old.state Checkpoint (answer_with (λ done. Cleared) result) self.new.state }
     {
-        call_laws();
-        lock_laws();
-        let _ = &self.tree;
         if self.has_live() {
             return Err(Fault::Live);
         }
@@ -34,21 +30,19 @@ impl Core {
 
     /// Makes the tree the base, where no transaction is live.
     fn restart(&mut self) -> Result<(), Memory>
-        requires { NoneIsLive self.old }
-        ensures ok { OnOk result (self.new ≡ after_checkpoint self.old) }
-        ensures err { OnErr result (self.new ≡ self.old) }
+        requires { NoneIsLive self.old.state }
+        ensures ok { OnOk result (self.new.state ≡ after_checkpoint self.old.state) }
+        ensures err { OnErr result (self.new.state ≡ self.old.state) }
     {
-        call_laws();
-        lock_laws();
         let locks = Locks::new(self.alloc)?;
-        self.tree.sweep(&mut self.locks);
-        let base = self.tree.copy()?;
+        self.sweep();
+        let base = self.parts.tree.copy()?;
         let rule = self.journal.rule();
         let stamp = self.journal.last_stamp();
-        self.forest.restart();
         self.journal = Journal::new(self.alloc, rule, base, stamp);
-        self.locks = locks;
-        self.logs = Logs::new(self.alloc);
+        self.parts.forest.restart();
+        self.parts.locks = locks;
+        self.parts.logs = Logs::new(self.alloc);
         Ok(())
     }
 }

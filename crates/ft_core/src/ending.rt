@@ -1,6 +1,5 @@
 // How transactions end, and how a call is undone.
-ghost use Rattle.std.specs.Prelude.{◌≡◌, Some, IfOk, IfErr};
-ghost use Rattle.ft_posix.specs.declared.call.Call.{Call as CallOf};
+ghost use Rattle.std.specs.Prelude.{◌≡◌, ℕ, Some, IfOk, IfErr};
 ghost use Rattle.ft_posix.specs.Posix.{posix_calls};
 ghost use Rattle.ft_history.specs.History.Fate.{Live};
 ghost use Rattle.ft_history.specs.Undoing.{undo_target};
@@ -8,13 +7,11 @@ ghost use Rattle.ft_history.specs.Undoing.Target.{Found};
 ghost use Rattle.ft_core.specs.declared.request.Request.TheVariants.{Commit, Abort, Undo};
 ghost use Rattle.ft_core.specs.declared.request.Answer.TheVariants.{Committed, Aborted, Undone};
 ghost use Rattle.ft_core.specs.Histories.{Granted};
-ghost use Rattle.ft_core.specs.States.{State as StateOf, history, fate_of, tree_of, next_stamp, count_standing};
+ghost use Rattle.ft_core.specs.States.{State as StateOf, history, fate_of, tree_of, after_abort, count_standing};
 ghost use Rattle.ft_core.specs.Promises.{IsJustMade, RanAlone};
 ghost use Rattle.ft_core.specs.Steps.{IsStep, exact_rule, answer_with, fault_of_target};
 
-use crate::back::{hand_up, take_list, take_newest};
 use crate::fault::Fault;
-use crate::laws::{call_laws, lock_laws};
 use crate::manager::Core;
 use crate::request::Event;
 use ft_forest::TxnId;
@@ -25,23 +22,16 @@ impl Core {
     ///
     /// Refuses NoTxn, Ended, and ChildLive where it has a live child, in this order.
     pub fn commit(&mut self, txn: TxnId) -> Result<(), Fault>
-        ensures { IsStep exact_rule self.old (Commit txn) (answer_with (λ done. Committed) result) self.new }
+        ensures { IsStep exact_rule self.old.state (Commit txn) (answer_with (λ done. Committed) result) self.new.state }
     {
-        call_laws();
-        lock_laws();
         self.check_live(txn)?;
-        if self.forest.live_children(txn) > 0 {
+        if self.parts.forest.live_children(txn) > 0 {
             return Err(Fault::ChildLive);
         }
-        let parent = self.forest.parent(txn);
-        self.forest.commit(txn)?;
-        hand_up(
-            &mut self.journal,
-            &mut self.locks,
-            &mut self.logs,
-            txn,
-            parent,
-        );
+        let parent = self.parts.forest.parent(txn);
+        self.parts.forest.commit(txn)?;
+        self.parts.hand_up(txn, &parent);
+        self.journal.note_sub(parent);
         self.journal.forget(txn);
         self.journal.tell(Event::Commit { txn });
         self.give_places_back();
@@ -52,38 +42,36 @@ impl Core {
     ///
     /// Refuses NoTxn and Ended, in this order.
     pub fn abort(&mut self, txn: TxnId) -> Result<u64, Fault>
-        ensures step { IsStep exact_rule self.old (Abort txn) (answer_with Aborted result) self.new }
+        ensures step { IsStep exact_rule self.old.state (Abort txn) (answer_with Aborted result) self.new.state }
 
         // If it ran alone, the tree is that of its begin.
-        ensures alone { (before : StateOf) → RanAlone before self.old txn → (answer_with Aborted result ≡ Aborted (count_standing self.old txn)) × (tree_of self.new ≡ tree_of before) }
+        ensures alone { (before : StateOf) → RanAlone before self.old.state txn → (answer_with Aborted result ≡ Aborted (count_standing self.old.state txn)) × (tree_of self.new.state ≡ tree_of before) }
     {
-        call_laws();
-        let _ = &self.tree;
-        let count = self.abort_below(txn);
+        self.check_live(txn)?;
+        let count = self.abort_live(txn);
         self.give_places_back();
-        count
+        Ok(count)
     }
 
-    /// Takes back what the live transactions at or below one have done, each before its parent, and ends them.
-    fn abort_below(&mut self, txn: TxnId) -> Result<u64, Fault>
-        ensures { IsStep exact_rule self.old (Abort txn) (answer_with Aborted result) self.new }
+    /// Takes back what the live transactions at or below a live one have done, each before its parent, and ends them.
+    fn abort_live(&mut self, txn: TxnId) -> u64
+        requires { fate_of self.old.state txn ≡ Some Live }
+        ensures count { result ≡ count_standing self.old.state txn }
+        ensures ended { self.new.state ≡ after_abort self.old.state txn }
+        ensures alone { (before : StateOf) → RanAlone before self.old.state txn → tree_of (after_abort self.old.state txn) ≡ tree_of before }
     {
-        call_laws();
-        lock_laws();
-        self.check_live(txn)?;
-        // No more calls stand than stamps are given.
-        let _most = self.journal.last_stamp();
+        // (no more calls stand than stamps are given)
         let mut count = 0;
         let mut last = txn;
-        while let Some(next) = self.forest.abort_next(txn, last) {
-            count += take_list(&mut self.tree, &mut self.logs, next);
-            self.logs.close(next.0);
-            self.locks.release(next);
+        while let Some(next) = self.parts.forest.abort_next(txn, last) {
+            count += self.parts.take_list(next);
+            self.parts.logs.close(next.0);
+            self.parts.locks.release(next);
             self.journal.forget(next);
             last = next;
         }
         self.journal.tell(Event::Abort { txn });
-        Ok(count)
+        count
     }
 
     /// Undoes the last of a transaction's own standing calls, and answers its stamp. Takes no memory.
@@ -91,41 +79,29 @@ impl Core {
     /// Refuses NoTxn, Ended, ChildLive, and NothingToUndo where there is none or SubSince where a child has committed
     /// since, in this order.
     pub fn undo_call(&mut self, txn: TxnId) -> Result<u64, Fault>
-        ensures step { IsStep exact_rule self.old (Undo txn) (answer_with Undone result) self.new }
+        ensures step { IsStep exact_rule self.old.state (Undo txn) (answer_with Undone result) self.new.state }
 
         // The call just made is undone, and the tree is the one before it.
-        ensures just_made { (before : StateOf) (call : CallOf) → IsJustMade before self.old txn call → (answer_with Undone result ≡ Undone (next_stamp before)) × (tree_of self.new ≡ tree_of before) }
+        ensures just_made { (before : StateOf) (k : ℕ) → IsJustMade before self.old.state txn k → (answer_with Undone result ≡ Undone k) × (tree_of self.new.state ≡ tree_of before) }
     {
-        call_laws();
-        let _ = &self.tree;
-        self.undo_newest(txn)
-    }
-
-    fn undo_newest(&mut self, txn: TxnId) -> Result<u64, Fault>
-        ensures { IsStep exact_rule self.old (Undo txn) (answer_with Undone result) self.new }
-    {
-        call_laws();
-        lock_laws();
         self.check_live(txn)?;
-        if self.forest.live_children(txn) > 0 {
+        if self.parts.forest.live_children(txn) > 0 {
             return Err(Fault::ChildLive);
         }
         let stamp = self.undo_target(txn)?;
-        take_newest(&mut self.tree, &mut self.logs, txn);
+        self.parts.take_newest(txn);
         self.journal.tell(Event::Undo { stamp });
         Ok(stamp)
     }
 
     /// The stamp of the call that an undo takes back: the newest of the transaction's list, unless a child has committed since.
     fn undo_target(&self, txn: TxnId) -> Result<u64, Fault>
-        requires { fate_of self.now txn ≡ Some Live }
-        ensures found { IfOk result (λ stamp. (d : Granted) × (undo_target posix_calls (history self.now) txn ≡ Found d) × (d.call.stamp ≡ stamp)) }
-        ensures refused { IfErr result (λ fault. fault_of_target (undo_target posix_calls (history self.now) txn) ≡ Some fault) }
+        requires { fate_of self.now.state txn ≡ Some Live }
+        ensures found { IfOk result (λ stamp. (d : Granted) × (undo_target posix_calls (history self.now.state) txn ≡ Found d) × (d.call.stamp ≡ stamp)) }
+        ensures refused { IfErr result (λ fault. fault_of_target (undo_target posix_calls (history self.now.state) txn) ≡ Some fault) }
     {
-        call_laws();
-        lock_laws();
         let last_sub = self.journal.last_sub(txn);
-        match self.logs.newest(txn.0) {
+        match self.parts.logs.newest(txn.0) {
             Some(stamp) => match last_sub {
                 Some(sub) if stamp <= sub => Err(Fault::SubSince),
                 _ => Ok(stamp),
@@ -141,8 +117,7 @@ impl Core {
     fn give_places_back(&mut self)
         ensures { self.new ≡ self.old }
     {
-        call_laws();
-        if self.forest.youngest_child(None).is_none() {
+        if self.parts.forest.youngest_child(None).is_none() {
             self.journal.keep_none();
         }
     }

@@ -5,7 +5,7 @@ ghost use Rattle.std.specs.Option.{option_copied};
 ghost use Rattle.ft_tree.specs.Tidy.{tidy};
 ghost use Rattle.ft_posix.specs.declared.call.Call.{Call as CallOf};
 ghost use Rattle.ft_forest.specs.declared.TheConstants.{LAST_NUMBER as last_number};
-ghost use Rattle.ft_core.specs.Journals.{IsBaseTree, no_events, sub_in, is_full, with_begin, with_call, with_event, without, with_sub, with_none_kept};
+ghost use Rattle.ft_core.specs.Journals.{IsBaseTree, IsNoted, asked_for, no_events, sub_in, is_full, with_begin, with_call, with_ask, with_event, without, noted_up, with_none_kept};
 
 use crate::request::Event;
 use crate::{LAST_NUMBER, MOST_CALLS};
@@ -113,6 +113,20 @@ impl Journal {
         self.asks.get(txn.0)
     }
 
+    /// The call that is asked for now, or without one the call that the transaction waits for.
+    pub(crate) fn wanted<'a>(&'a self, txn: TxnId, asked: &'a Option<Call>) -> &'a Call
+        requires { IsSome (asked_for asked.now (finite.get self.now.asks txn)) }
+        ensures { asked_for asked.now (finite.get self.now.asks txn) ≡ Some result.now }
+    {
+        if let Some(call) = asked {
+            return call;
+        }
+        let Some(call) = self.asks.get(txn.0) else {
+            unreachable!();
+        };
+        call
+    }
+
     /// The last stamp when a child of a live transaction last committed.
     pub(crate) fn last_sub(&self, txn: TxnId) -> Option<u64>
         ensures { result ≡ sub_in self.now txn }
@@ -166,35 +180,24 @@ impl Journal {
         self.spare += 1;
     }
 
-    /// Tells that a call was granted. The transaction waits for nothing then.
-    pub(crate) fn grant(&mut self, txn: TxnId, call: Call, reply: Reply, accesses: Vec<Access>)
+    /// Tells that a call was granted: the one that was asked for now, or without one the call that the transaction waits
+    /// for. It waits for nothing then.
+    pub(crate) fn grant(
+        &mut self,
+        txn: TxnId,
+        asked: Option<Call>,
+        reply: Reply,
+        accesses: Vec<Access>,
+    )
         requires room { 2 ≤ self.old.room }
         requires few { is_full self.old ≡ false }
-        ensures { self.new ≡ with_call self.old txn call reply accesses.items }
+        requires some { IsSome (asked_for asked (finite.get self.old.asks txn)) }
+        ensures { (call : CallOf) → asked_for asked (finite.get self.old.asks txn) ≡ Some call → self.new ≡ with_call self.old txn call reply accesses.items }
     {
-        self.drop_ask(txn);
-        self.tell_call(txn, call, reply, accesses);
-    }
-
-    /// Tells that the call was granted that a transaction waits for.
-    pub(crate) fn grant_pending(&mut self, txn: TxnId, reply: Reply, accesses: Vec<Access>)
-        requires room { 2 ≤ self.old.room }
-        requires few { is_full self.old ≡ false }
-        requires pending { IsSome (finite.get self.old.asks txn) }
-        ensures { (call : CallOf) → finite.get self.old.asks txn ≡ Some call → self.new ≡ with_call self.old txn call reply accesses.items }
-    {
-        let Some(call) = self.asks.remove(txn.0) else {
+        let pending = self.take_ask(txn);
+        let Some(call) = asked.or(pending) else {
             unreachable!();
         };
-        self.tell_call(txn, call, reply, accesses);
-    }
-
-    /// Tells that a call was granted.
-    fn tell_call(&mut self, txn: TxnId, call: Call, reply: Reply, accesses: Vec<Access>)
-        requires room { 2 ≤ self.old.room }
-        requires few { is_full self.old ≡ false }
-        ensures { self.new ≡ record (with_call self.old txn call reply accesses.items) { asks = self.old.asks } }
-    {
         let stamp = self.last_stamp + 1;
         let event = Event::Call {
             stamp,
@@ -208,23 +211,34 @@ impl Journal {
         self.spare += 1;
     }
 
-    /// Notes that a transaction waits for a call.
-    pub(crate) fn wait(&mut self, txn: TxnId, call: Call) -> Result<(), Memory>
-        ensures ok { OnOk result (self.new ≡ record self.old { asks = finite.insert self.old.asks txn call }) }
+    /// Notes that a transaction waits for a call that was asked for now. Without one it waits on.
+    pub(crate) fn wait(&mut self, txn: TxnId, asked: Option<Call>) -> Result<(), Memory>
+        ensures ok { OnOk result (self.new ≡ with_ask self.old txn asked) }
         ensures err { OnErr result (self.new ≡ self.old) }
     {
-        self.asks.insert(txn.0, call)?;
+        if let Some(call) = asked {
+            self.asks.insert(txn.0, call)?;
+        }
         Ok(())
+    }
+
+    /// Takes out the call that a transaction waits for, where there is one.
+    fn take_ask(&mut self, txn: TxnId) -> Option<Call>
+        ensures taken { result ≡ finite.get self.old.asks txn }
+        ensures left { self.new ≡ record self.old { asks = finite.remove self.old.asks txn } }
+    {
+        // (mostly nobody waits, and then nothing is hashed)
+        if self.asks.is_empty() {
+            return None;
+        }
+        self.asks.remove(txn.0)
     }
 
     /// Forgets the call that a transaction waits for.
     pub(crate) fn drop_ask(&mut self, txn: TxnId)
         ensures { self.new ≡ record self.old { asks = finite.remove self.old.asks txn } }
     {
-        // (mostly nobody waits, and then nothing is hashed)
-        if !self.asks.is_empty() {
-            let _ = self.asks.remove(txn.0);
-        }
+        let _ = self.take_ask(txn);
     }
 
     /// Tells of the end of a transaction or of an undo, in a place that was kept.
@@ -244,12 +258,14 @@ impl Journal {
         self.subs.remove(txn.0);
     }
 
-    /// Notes that a child of a live transaction commits.
-    pub(crate) fn note_sub(&mut self, txn: TxnId)
-        requires { IsSome (finite.get self.old.subs txn) }
-        ensures { self.new ≡ with_sub self.old txn }
+    /// Notes of a live transaction that a child of it commits. Who commits at the top is nobody's child.
+    pub(crate) fn note_sub(&mut self, parent: Option<TxnId>)
+        requires { IsNoted self.old parent }
+        ensures { self.new ≡ noted_up self.old parent }
     {
-        self.subs.set(txn.0, Some(self.last_stamp));
+        if let Some(txn) = parent {
+            self.subs.set(txn.0, Some(self.last_stamp));
+        }
     }
 
     /// Gives the places back that were kept: nothing can end or be undone any more.

@@ -1,53 +1,30 @@
-// What is known of the calls and of their locks, in one place: the contracts of functions that do nothing.
-ghost use Rattle.ft_core.specs.Laws.{CallLaws, LockLaws};
+//! Laws of the histories that a core can have, and of its state: each is the contract of a function that does nothing.
+ghost use Rattle.ft_posix.specs.Posix.{posix_calls};
+ghost use Rattle.ft_history.specs.Promises.{Ownership, LogOrder, ExactLedger};
+ghost use Rattle.ft_core.specs.Reached.{IsReached};
 
-use ft_moss::laws::{
-    locks_aborted, locks_alone, locks_begun, locks_below_holders, locks_block, locks_committed,
-    locks_cover, locks_foreign, locks_granted, locks_known, locks_live, locks_lock, locks_released,
-    locks_undone, no_locks_at_first,
-};
-use ft_posix::laws::{
-    hiding, lawful, leaving, making, nameless, placed, places, plain_accesses, runs, setting,
-    soundness, tidying, useless, writes,
-};
+use crate::manager::Core;
 
-/// The laws of the calls.
-pub(crate) fn call_laws()
-    ensures { CallLaws }
+/// The ownership law: of two standing calls that conflict, if the earlier one can still be taken back then so can the later
+/// one, by the same transaction or one below it. So what stays never rests on what goes.
+pub fn ownership()
+    ensures { Ownership posix_calls }
+{}
+
+/// The log-order law: in each transaction's list a call stands in front of every older one with which it conflicts.
+pub fn log_order()
+    ensures { LogOrder posix_calls }
+{}
+
+/// There is one inverse for each standing call that has an owner, in its owner's list, and there are no others.
+pub fn exact_ledger()
+    ensures { ExactLedger posix_calls }
+{}
+
+/// The state of a core is one that legal requests lead to: its history is legal from a base that is a sound tree, and the
+/// laws above hold of it.
+pub fn reached(core: &Core)
+    ensures { IsReached core.now }
 {
-    lawful();
-    soundness();
-    tidying();
-    plain_accesses();
-    hiding();
-    runs();
-    placed();
-    setting();
-    places();
-    writes();
-    nameless();
-    leaving();
-    useless();
-    making();
-}
-
-/// The laws of their locks.
-pub(crate) fn lock_laws()
-    ensures { LockLaws }
-{
-    no_locks_at_first();
-    locks_begun();
-    locks_granted();
-    locks_undone();
-    locks_committed();
-    locks_aborted();
-    locks_released();
-    locks_block();
-    locks_foreign();
-    locks_alone();
-    locks_below_holders();
-    locks_cover();
-    locks_lock();
-    locks_live();
-    locks_known();
+    let _ = &core.parts;
 }

@@ -3,25 +3,24 @@
 #![tactic(auto)]
 
 mod asking;
-mod back;
 mod clearing;
 mod ending;
 mod fault;
 mod journal;
-mod laws;
+pub mod laws;
 mod manager;
+mod parts;
 mod reports;
 mod request;
 mod running;
 mod sweeping;
 
 pub use fault::Fault;
-pub use ft_forest::{LAST_NUMBER, MOST_DEPTH, MOST_TRANSACTIONS, TxnId};
+pub use ft_forest::{LAST_NUMBER, MOST_DEPTH, MOST_TRANSACTIONS, State, TxnId};
 pub use ft_moss::Rule;
 pub use manager::Core;
 pub use reports::{LiveChild, Pending};
 pub use request::{Answer, Event, Outcome, Request};
-pub use sweeping::Swept;
 
 /// The most granted calls since the base.
 pub const MOST_CALLS: u64 = 1_000_000;

@@ -1,5 +1,5 @@
 // The core: nested transactions over one tree.
-ghost use Rattle.std.specs.Prelude.{◌≡◌, ◌<◌, ◌+◌, Some, None, Option, MatchBool, MatchResult, IfOk, IfErr, OnOk, OnErr};
+ghost use Rattle.std.specs.Prelude.{◌≡◌, ◌<◌, ◌+◌, Some, None, Option, MatchBool, IfOk, IfErr, OnOk, OnErr};
 ghost use Rattle.ft_tree.specs.Tidy.{tidy};
 ghost use Rattle.ft_tree.specs.Sound.{IsSoundTree, AreSoundCells};
 ghost use Rattle.ft_core.specs.declared.fault.Fault.{Fault as FaultOf};
@@ -8,7 +8,7 @@ ghost use Rattle.ft_moss.specs.declared.rule.Rule.TheVariants.{Profile};
 ghost use Rattle.ft_history.specs.History.Fate.{Live};
 ghost use Rattle.ft_core.specs.declared.request.Request.TheVariants.{Begin, Sub, Drop as DropAsk};
 ghost use Rattle.ft_core.specs.declared.request.Answer.TheVariants.{Txn, Dropped};
-ghost use Rattle.ft_core.specs.States.{at_base, first_base, fate_of, next_txn, after_begin};
+ghost use Rattle.ft_core.specs.States.{at_base, first_base, fate_in, fate_of, has_live, next_txn, after_begin};
 ghost use Rattle.ft_core.specs.Journals.{IsBaseTree};
 ghost use Rattle.ft_core.specs.Living.{SomeIsLive, NoneIsLive};
 ghost use Rattle.ft_core.specs.Promises.{IsHeadline};
@@ -19,13 +19,12 @@ ghost use Rattle.ft_forest.specs.Refusals.{IsRefusal};
 
 use crate::fault::Fault;
 use crate::journal::Journal;
-use crate::laws::{call_laws, lock_laws};
+use crate::parts::Parts;
 use crate::request::Event;
 use ft_base::Memory;
 use ft_forest::{Forest, ForestFault, State, TxnId};
 use ft_locks::Locks;
 use ft_moss::Rule;
-use ft_posix::laws::plain_soundness;
 use ft_tree::Tree;
 use ft_undo::Logs;
 use std::alloc::Global;
@@ -38,10 +37,7 @@ use std::marker::Model;
 pub struct Core {
     pub(crate) alloc: Global,
     pub(crate) journal: Journal,
-    pub(crate) tree: Tree,
-    pub(crate) forest: Forest,
-    pub(crate) locks: Locks,
-    pub(crate) logs: Logs,
+    pub(crate) parts: Parts,
 }
 
 impl Drop for Core {
@@ -49,58 +45,60 @@ impl Drop for Core {
         let Core {
             alloc: _,
             journal: _,
-            tree: _,
-            forest: _,
-            locks: _,
-            logs: _,
+            parts: _,
         } = self;
     }
 }
 
 impl Model for Core {
-    ghost use Rattle.ft_core.specs.States.{State, coded_state};
+    ghost use Rattle.ft_core.specs.States.{StoredState, coded_stored};
     ghost use Rattle.ft_core.specs.Journals.{state_of};
     ghost use Rattle.ft_core.specs.Kept.{IsCoreOf};
 
-    ghost Value = { State };
+    ghost Value = { StoredState };
 
-    ghost coded = { coded_state };
+    ghost coded = { coded_stored };
 
-    ghost view = { λ a. state_of a.forest a.journal };
+    ghost view = { λ a. record { state = state_of a.parts.forest a.journal; cells = a.parts.tree } };
 
-    ghost invariant = { λ a. IsCoreOf (state_of a.forest a.journal) a.tree a.forest a.locks a.logs a.journal };
+    ghost invariant = { λ a. IsCoreOf (state_of a.parts.forest a.journal) a.parts a.journal };
 }
 
 impl Core {
     /// A core over the empty tree: the root alone. Its rule is `Rule::Profile`.
-    pub fn new(alloc: Global) -> Result<Core, Fault>
-        ensures { MatchResult result (λ core. core ≡ at_base Profile first_base) (λ fault. fault ≡ MemoryFault) }
+    pub fn new(alloc: Global) -> Result<Core, Memory>
+        ensures { IfOk result (λ core. core.state ≡ at_base Profile first_base) }
     {
         Core::with_rule(alloc, Rule::Profile)
     }
 
     /// A core over the empty tree that grants calls by this rule.
-    pub fn with_rule(alloc: Global, rule: Rule) -> Result<Core, Fault>
-        ensures { MatchResult result (λ core. core ≡ at_base rule first_base) (λ fault. fault ≡ MemoryFault) }
+    pub fn with_rule(alloc: Global, rule: Rule) -> Result<Core, Memory>
+        ensures { IfOk result (λ core. core.state ≡ at_base rule first_base) }
     {
-        call_laws();
-        lock_laws();
         let base = Tree::new(alloc)?;
         let tree = Tree::new(alloc)?;
         let locks = Locks::new(alloc)?;
         Ok(Core {
             alloc,
             journal: Journal::new(alloc, rule, base, 1),
-            tree,
-            forest: Forest::new(alloc, 0),
-            locks,
-            logs: Logs::new(alloc),
+            parts: Parts {
+                tree,
+                forest: Forest::new(alloc, 0),
+                locks,
+                logs: Logs::new(alloc),
+            },
         })
+    }
+
+    /// Where its memory comes from.
+    pub fn alloc(&self) -> Global {
+        self.alloc
     }
 
     /// By which rule calls are granted. It never changes.
     pub fn rule(&self) -> Rule
-        ensures { result ≡ self.now.rule }
+        ensures { result ≡ self.now.state.rule }
     {
         self.journal.rule()
     }
@@ -109,9 +107,9 @@ impl Core {
     ///
     /// Refuses Full where there are as many transactions as there may be.
     pub fn begin(&mut self) -> Result<TxnId, Fault>
-        ensures { IsStep exact_rule self.old Begin (answer_with Txn result) self.new }
+        ensures { IsStep exact_rule self.old.state Begin (answer_with Txn result) self.new.state }
     {
-        self.forest.check_begin()?;
+        self.parts.forest.check_begin()?;
         self.start(None)
     }
 
@@ -119,9 +117,9 @@ impl Core {
     ///
     /// Refuses NoTxn, Ended, Deep where the parent stands as deep as one may, and Full, in this order.
     pub fn sub(&mut self, txn: TxnId) -> Result<TxnId, Fault>
-        ensures { IsStep exact_rule self.old (Sub txn) (answer_with Txn result) self.new }
+        ensures { IsStep exact_rule self.old.state (Sub txn) (answer_with Txn result) self.new.state }
     {
-        self.forest.check_sub(txn)?;
+        self.parts.forest.check_sub(txn)?;
         self.start(Some(txn))
     }
 
@@ -129,7 +127,7 @@ impl Core {
     ///
     /// Refuses NoTxn, Ended and NoAsk, in this order.
     pub fn drop_ask(&mut self, txn: TxnId) -> Result<(), Fault>
-        ensures { IsStep exact_rule self.old (DropAsk txn) (answer_with (λ done. Dropped) result) self.new }
+        ensures { IsStep exact_rule self.old.state (DropAsk txn) (answer_with (λ done. Dropped) result) self.new.state }
     {
         self.check_live(txn)?;
         if self.journal.pending(txn).is_none() {
@@ -141,44 +139,50 @@ impl Core {
 
     /// The tree. Tidied it is what a plain tree holds after the standing calls alone, each with the reply that it got.
     pub fn tree(&self) -> &Tree
-        ensures headline { IsHeadline self.now result.now }
+        ensures stored { result.now ≡ self.now.cells }
+        ensures headline { IsHeadline self.now.state result.now }
         ensures sound { AreSoundCells result.now }
         ensures plain_sound { IsSoundTree (tidy result.now) }
     {
-        call_laws();
-        plain_soundness();
-        &self.tree
+        &self.parts.tree
     }
 
     /// The tree of the base: the root alone, until a checkpoint. No number above the base's last stamp stands in it.
     pub fn base(&self) -> &Tree
-        ensures tree { tidy result.now ≡ self.now.base.tree }
-        ensures base { IsBaseTree result.now self.now.base.last_stamp }
+        ensures tree { tidy result.now ≡ self.now.state.base.tree }
+        ensures base { IsBaseTree result.now self.now.state.base.last_stamp }
     {
         self.journal.base()
     }
 
     /// What has happened since the base, in order.
     pub fn history(&self) -> &[Event]
-        ensures { result.now ≡ self.now.events }
+        ensures { result.now ≡ self.now.state.events }
     {
         self.journal.events()
     }
 
     /// Whether a transaction is live.
     pub fn has_live(&self) -> bool
-        ensures { MatchBool result (SomeIsLive self.now) (NoneIsLive self.now) }
+        ensures found { MatchBool result (SomeIsLive self.now.state) (NoneIsLive self.now.state) }
+        ensures listed { result ≡ has_live self.now.state }
     {
-        call_laws();
-        self.forest.youngest_child(None).is_some()
+        self.parts.forest.youngest_child(None).is_some()
+    }
+
+    /// What has become of a transaction, where there is one of this number since the base.
+    pub fn state(&self, txn: TxnId) -> Option<State>
+        ensures { fate_in result ≡ fate_of self.now.state txn }
+    {
+        self.parts.forest.state(txn)
     }
 
     /// Refuses a transaction that is not live.
     pub(crate) fn check_live(&self, txn: TxnId) -> Result<(), Fault>
-        ensures live { OnOk result (fate_of self.now txn ≡ Some Live) }
-        ensures refused { IfErr result (λ fault. (later : Option FaultOf) → fault_of_fate (fate_of self.now txn) later ≡ Some fault) }
+        ensures live { OnOk result (fate_of self.now.state txn ≡ Some Live) }
+        ensures refused { IfErr result (λ fault. (later : Option FaultOf) → fault_of_fate (fate_of self.now.state txn) later ≡ Some fault) }
     {
-        match self.forest.state(txn) {
+        match self.state(txn) {
             None => Err(Fault::NoTxn),
             Some(State::Live) => Ok(()),
             Some(State::Committed | State::Aborted) => Err(Fault::Ended),
@@ -187,17 +191,16 @@ impl Core {
 
     /// Begins a transaction where there may be one more.
     fn start(&mut self, parent: Option<TxnId>) -> Result<TxnId, Fault>
-        requires { refusal_of self.old (begin_request parent) ≡ None }
-        ensures txn { IfOk result (λ txn. txn ≡ next_txn self.old) }
-        ensures begun { OnOk result (self.new ≡ after_begin self.old parent) }
+        requires { refusal_of self.old.state (begin_request parent) ≡ None }
+        ensures txn { IfOk result (λ txn. txn ≡ next_txn self.old.state) }
+        ensures begun { OnOk result (self.new.state ≡ after_begin self.old.state parent) }
         ensures memory { IfErr result (λ fault. fault ≡ MemoryFault) }
-        ensures same { OnErr result (self.new ≡ self.old) }
+        ensures same { OnErr result (self.new.state ≡ self.old.state) }
     {
-        lock_laws();
-        call_laws();
-        let next = self.forest.last() + 1;
-        open(&mut self.journal, &mut self.locks, &mut self.logs, next)?;
-        let txn = add(&mut self.forest, &parent)?;
+        let parts = &mut self.parts;
+        let next = parts.forest.last() + 1;
+        open(&mut self.journal, &mut parts.locks, &mut parts.logs, next)?;
+        let txn = add(&mut parts.forest, &parent)?;
         self.journal.begin(txn, parent);
         Ok(txn)
     }

@@ -14,9 +14,9 @@ impl Core {
     ///
     /// Want of memory for the answers is refused before the first request, with nothing changed.
     pub fn run(&mut self, requests: Vec<Request>) -> Result<Vec<Answer>, Memory>
-        ensures ok { IfOk result (λ answers. IsRun exact_rule self.old requests.items answers.items self.new) }
+        ensures ok { IfOk result (λ answers. IsRun exact_rule self.old.state requests.items answers.items self.new.state) }
         ensures err { OnErr result (self.new ≡ self.old) }
-        ensures headline { OnOk result (GiveReplies self.new.base.tree (standing_calls self.new)) }
+        ensures headline { OnOk result (GiveReplies self.new.state.base.tree (standing_calls self.new.state)) }
     {
         let mut answers = Vec::with_capacity(self.alloc, requests.len())?;
         for request in requests {
@@ -29,7 +29,7 @@ impl Core {
 
     /// Carries a request out.
     pub fn answer(&mut self, request: Request) -> Answer
-        ensures { IsStep exact_rule self.old request result self.new }
+        ensures { IsStep exact_rule self.old.state request result self.new.state }
     {
         match request {
             Request::Begin => match self.begin() {

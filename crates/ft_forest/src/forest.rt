@@ -1,5 +1,6 @@
 // The transactions of a core.
-ghost use Rattle.std.specs.Prelude.{◌≡◌, ◌≢◌, ◌<◌, ◌≤◌, ◌+◌, ◌^◌, ℕ, false, true, Some, None, Option, IsSome, IfSome, IfNone, IfOk, IfErr, OnOk, OnErr, MatchResult, length, Contains, ◌⊎◌};
+ghost use Rattle.std.specs.Prelude.{◌≡◌, ◌≢◌, ◌<◌, ◌≤◌, ◌+◌, ◌^◌, ◌==◌, ℕ, false, true, Some, None, Option, IsSome, IfSome, IfNone, IfOk, IfErr, OnOk, OnErr, MatchResult, length, Contains, ◌⊎◌};
+ghost use Rattle.std.specs.List.{IsDistinct};
 ghost use Rattle.std.specs.List.Sorted.{IsStrictlyIncreasing};
 ghost use Rattle.std.specs.Option.{option_map, ForSome};
 ghost use Rattle.ft_history.specs.Forest.{IsForest};
@@ -10,7 +11,7 @@ ghost use Rattle.ft_forest.specs.declared.state.State.TheVariants.{Live, Committ
 ghost use Rattle.ft_forest.specs.Transactions.{none_since, parent_in, state_in, last_in, over_in, depth_in, is_live_state, live_children_in, IsLiveChild, HasBegun, HasEnded, HasAborted, IsNextToEnd, IsYoungestChild, IsOlderSibling, Transactions, live_count, IsAborting, IsLastOf};
 ghost use Rattle.ft_forest.specs.Refusals.{refusal_of, begin_refusal, sub_refusal, commit_refusal, abort_refusal, IsRefusal};
 ghost use Rattle.ft_forest.specs.Records.{number_at};
-ghost use Rattle.ft_forest.specs.Places.{IsDepthBelow, IsStrictlyBelow};
+ghost use Rattle.ft_forest.specs.Places.{IsDepthBelow, IsBelowPlace};
 
 use crate::fault::ForestFault;
 use crate::records::Records;
@@ -164,23 +165,25 @@ impl Forest {
         let mut live = Vec::new(alloc);
         self.list_below(None, &mut live)?;
         live.sort()?;
-        // Each was listed once; from here on the list says so itself.
-        live.dedup();
         Ok(live)
     }
 
-    /// Lists what is live below a transaction; without one, all that is live.
-    fn list_below(&self, parent: Option<TxnId>, live: &mut Vec<TxnId>) -> Result<(), Memory>
+    /// Lists what is live below the transaction at a place, each once; without a place, all that
+    /// is live.
+    fn list_below(&self, parent: Option<usize>, live: &mut Vec<TxnId>) -> Result<(), Memory>
+        requires parent { ForSome parent (λ p. p < length self.now.list) }
+        requires fresh { (x : ℕ) → Contains live.old.items x → IsBelowPlace self.now parent x → ⊥ }
+        requires once { IsDistinct ◌==◌ live.old.items }
         ensures keeps { (x : ℕ) → Contains live.old.items x → Contains live.new.items x }
-        ensures sound { (x : ℕ) → Contains live.new.items x → Contains live.old.items x ⊎ (state_in self.now x ≡ Some Live) }
-        ensures all { OnOk result ((x : ℕ) → IsStrictlyBelow self.now parent x → state_in self.now x ≡ Some Live → Contains live.new.items x) }
+        ensures sound { (x : ℕ) → Contains live.new.items x → Contains live.old.items x ⊎ ((state_in self.now x ≡ Some Live) × IsBelowPlace self.now parent x) }
+        ensures all { OnOk result ((x : ℕ) → IsBelowPlace self.now parent x → state_in self.now x ≡ Some Live → Contains live.new.items x) }
+        ensures once { OnOk result (IsDistinct ◌==◌ live.new.items) }
     {
-        let _ = &self.base;
-        let mut next = self.youngest_child(parent);
-        while let Some(child) = next {
-            live.push(child)?;
-            self.list_below(Some(child), live)?;
-            next = self.older_sibling(child);
+        let mut next = self.records.youngest_of(parent);
+        while let Some(place) = next {
+            live.push(TxnId(self.base + 1 + place as u64))?;
+            self.list_below(Some(place), live)?;
+            next = self.records.list[place].older;
         }
         Ok(())
     }

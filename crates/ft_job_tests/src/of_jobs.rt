@@ -2,7 +2,7 @@
 ghost use Rattle.std.specs.Prelude.{◌≤◌};
 
 use ft_calls::{Call, Reply};
-use ft_core::{Core, Fault, Outcome, TxnId};
+use ft_core::{Core, Event, Fault, Outcome, TxnId};
 use ft_jobs::{End, Gate, JobFault, JobsOutcome, OpenGate, Plan, Report, run_jobs};
 use ft_path::Errno;
 use ft_shared::{Manager, Shared};
@@ -109,13 +109,23 @@ fn run_meeting<R: Threads + Wait + Clock + Sync>(
     Ok(run_jobs(rt, alloc, &plan, new_shared(alloc)?, gate, turns)?)
 }
 
+/// Whether the calls of a history have just these stamps, in this order.
+fn has_stamps(history: &[Event], stamps: &[u64]) -> bool {
+    let told = history.iter().filter_map(|event| match event {
+        Event::Call { stamp, .. } => Some(*stamp),
+        _ => None,
+    });
+    told.eq(stamps.iter().copied())
+}
+
 /// Whether the worked plan runs with jobs that meet at their second steps, and does all that it says.
 fn meets<R: Threads + Wait + Clock + Sync>(rt: &R, alloc: Global) -> Result<bool, Fail> {
     let gate = Meeting::up_to(3);
     let outcome = run_meeting(rt, alloc, WORKED, &gate, MEETING_TURNS)?;
     let rows = outcome.core.tree().rows()?.len();
     let have_made = outcome.reports.iter().all(|report| has_made(report));
-    Ok(have_made && rows == 9 && gate.met.load(Ordering::SeqCst) == 4)
+    let has_all = has_stamps(outcome.core.history(), &[2, 3, 4, 5, 6, 7, 8, 9]);
+    Ok(have_made && has_all && rows == 9 && gate.met.load(Ordering::SeqCst) == 4)
 }
 
 /// Whether a job has used up its turns behind its mkdir, or has committed, and found nothing of the other one.

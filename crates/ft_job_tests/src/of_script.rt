@@ -178,6 +178,29 @@ fn gives_narrow(
     Ok(found == end && writer.held.as_slice() == held.as_bytes())
 }
 
+// Whether a sweep of the core on which a script was played finds nothing more to drop.
+fn is_swept(alloc: Global, script: &str) -> Result<bool, Fail> {
+    let mut core = Core::new(alloc)?;
+    play(
+        alloc,
+        &mut script.as_bytes(),
+        &mut Vec::new(alloc),
+        &mut core,
+    )?;
+    Ok(core.sweep() == 0)
+}
+
+#[test]
+fn ends_are_swept(rt: HostRuntime) -> Result<(), Fail> {
+    for script in [
+        "begin\n1 mkdir /a\nabort 1\n",
+        "begin\n1 mkdir /a\n1 rmdir /a\ncommit 1\n",
+    ] {
+        assert!(rt; is_swept(rt.alloc(), script)?, "at {script:?}");
+    }
+    Ok(())
+}
+
 // ---- readers
 
 #[test]

@@ -38,13 +38,13 @@ pub fn run_jobs<M: Manager, G: Gate, R: Threads + Wait + Clock + Sync>(
     turns: u64,
 ) -> Result<JobsOutcome, JobFault>
     requires { 1 ≤ turns }
-    ensures ok { IfOk result (λ outcome. AreReports outcome.core plan.now outcome.reports.items) }
+    ensures ok { IfOk result (λ outcome. AreReports outcome.core.state plan.now outcome.reports.items) }
     ensures cause { IfErr result (λ fault. fault ≢ JobFault.BadPlan) }
 {
     let run = run_all(rt, alloc, plan.jobs(), &manager, gate, turns);
-    let mut core = manager.into_core();
+    let core = manager.into_core();
     let reports = run?;
-    if !are_reports(alloc, plan, &mut core, reports.as_slice())? {
+    if !are_reports(alloc, plan, &core, reports.as_slice())? {
         return Err(JobFault::Mismatch);
     }
     Ok(JobsOutcome { core, reports })

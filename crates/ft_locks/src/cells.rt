@@ -12,7 +12,7 @@ ghost use Rattle.ft_moss.specs.Blocking.{AreEntriesOf};
 ghost use Rattle.ft_locks.specs.EntryKeys.{key_at, listed_keys};
 ghost use Rattle.ft_locks.specs.Slots.{ArePlaced, HaveGap, ShowSame, with_place, is_names};
 ghost use Rattle.ft_moss.specs.Cells.{is_at, marks_at, passed_to, after_hand, holders_under, Keeps};
-ghost use Rattle.ft_moss.specs.Listing.{AreAdded};
+ghost use Rattle.ft_moss.specs.Listing.{AreAdded, once};
 ghost use Rattle.ft_moss.specs.Seen.{has_line};
 
 use crate::entry_keys::EntryKeys;
@@ -173,11 +173,10 @@ impl LockedCells {
         self.has_names
     }
 
-    /// Lists the locks on all cells.
+    /// Lists the locks on all cells, each once.
     pub(crate) fn list(&self, lines: &mut Vec<LockLine>) -> Result<(), Memory>
-        ensures { OnOk result (AreAdded lines.old.items lines.new.items (has_line self.now.cells)) }
+        ensures { OnOk result (AreAdded lines.old.items lines.new.items (λ l. once (has_line self.now.cells l))) }
     {
-        let _keys = &self.keys;
         list_cells(lines, &self.locked)
     }
 

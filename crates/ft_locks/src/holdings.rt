@@ -72,7 +72,7 @@ fn hand_all(cells: &mut LockedCells, keys: Values<'_, usize>, from: u64, to: u64
 impl Holdings {
     ghost use Rattle.std.specs.Prelude.{◌==◌, ◌&&◌, ◌||◌};
     ghost use Rattle.ft_moss.specs.Locks.{is_held, is_given, is_accessed, has_access};
-    ghost use Rattle.ft_moss.specs.Listing.{AreAdded};
+    ghost use Rattle.ft_moss.specs.Listing.{AreAdded, once};
     ghost use Rattle.ft_moss.specs.Seen.{has_line};
     ghost use Rattle.ft_moss.specs.Holdings.{after_back};
 
@@ -126,9 +126,9 @@ impl Holdings {
         &self.cells
     }
 
-    /// Lists all locks.
+    /// Lists all locks, each once.
     pub(crate) fn list(&self, lines: &mut Vec<LockLine>) -> Result<(), Memory>
-        ensures { OnOk result (AreAdded lines.old.items lines.new.items (has_line self.now.cells)) }
+        ensures { OnOk result (AreAdded lines.old.items lines.new.items (λ l. once (has_line self.now.cells l))) }
     {
         self.cells.list(lines)
     }

@@ -1,9 +1,9 @@
 // The locks, a line for each.
 ghost use Rattle.std.specs.Prelude.{◌&&◌, OnOk};
-ghost use Rattle.std.specs.List.{list_any};
+ghost use Rattle.std.specs.List.{count_by};
 ghost use Rattle.slab.specs.Slab.{entries};
 ghost use Rattle.ft_moss.specs.Marks.{has_mark};
-ghost use Rattle.ft_moss.specs.Listing.{same_line, AreAdded, is_by};
+ghost use Rattle.ft_moss.specs.Listing.{same_line, AreAdded, once, is_by};
 ghost use Rattle.ft_locks.specs.Slots.{is_on};
 
 use crate::cells::Locked;
@@ -22,7 +22,7 @@ fn list_lock(
     mode: Mode,
     kind: LockKind,
 ) -> Result<(), Memory>
-    ensures { OnOk result (AreAdded lines.old.items lines.new.items (λ l. same_line l (record { cell = cell.now; owner = holding.now.owner; mode = mode; kind = kind }) && has_mark holding.now.marks mode kind)) }
+    ensures { OnOk result (AreAdded lines.old.items lines.new.items (λ l. once (same_line l (record { cell = cell.now; owner = holding.now.owner; mode = mode; kind = kind }) && has_mark holding.now.marks mode kind))) }
 {
     if holding.marks.has(mode, kind) {
         let cell = cell.clone()?;
@@ -39,7 +39,7 @@ fn list_lock(
 
 /// Lists the locks of an owner on a cell.
 fn list_holding(lines: &mut Vec<LockLine>, cell: &Cell, holding: &Holding) -> Result<(), Memory>
-    ensures { OnOk result (AreAdded lines.old.items lines.new.items (λ l. is_by cell.now l holding.now)) }
+    ensures { OnOk result (AreAdded lines.old.items lines.new.items (λ l. once (is_by cell.now l holding.now))) }
 {
     list_lock(lines, cell, holding, Mode::Read, LockKind::Held)?;
     list_lock(lines, cell, holding, Mode::Read, LockKind::Retained)?;
@@ -49,7 +49,7 @@ fn list_holding(lines: &mut Vec<LockLine>, cell: &Cell, holding: &Holding) -> Re
 
 /// Lists the locks on a cell.
 fn list_cell(lines: &mut Vec<LockLine>, cell: &Cell, list: &[Holding]) -> Result<(), Memory>
-    ensures { OnOk result (AreAdded lines.old.items lines.new.items (λ l. list_any (is_by cell.now l) list.now)) }
+    ensures { OnOk result (AreAdded lines.old.items lines.new.items (λ l. count_by (is_by cell.now l) list.now)) }
 {
     for holding in list {
         list_holding(lines, cell, holding)?;
@@ -59,7 +59,7 @@ fn list_cell(lines: &mut Vec<LockLine>, cell: &Cell, list: &[Holding]) -> Result
 
 /// Lists the locks on all cells.
 pub(crate) fn list_cells(lines: &mut Vec<LockLine>, cells: &Slab<Locked>) -> Result<(), Memory>
-    ensures { OnOk result (AreAdded lines.old.items lines.new.items (λ l. list_any (λ e. is_on l e.1) (entries cells.now))) }
+    ensures { OnOk result (AreAdded lines.old.items lines.new.items (λ l. count_by (λ e. is_on l e.1) (entries cells.now))) }
 {
     for (_, locked) in cells.iter() {
         list_cell(lines, &locked.cell, locked.holders.as_slice())?;

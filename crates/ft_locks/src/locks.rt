@@ -184,8 +184,6 @@ impl Locks {
         let mut lines = Vec::new(self.alloc);
         self.holdings.list(&mut lines)?;
         lines.sort()?;
-        // Each was listed once; from here on the list says so itself.
-        lines.dedup();
         Ok(lines)
     }
 

@@ -1,6 +1,6 @@
 -- That no strict ancestor of an owner holds a conflicting lock is kept.
-use Rattle.std.proofs.Common.{◌≡◌, ◌≤◌, ℕ, Bool, true, false, not, ◌&&◌, ◌||◌, ◌==◌, List, [], ◌∷◌, inl, inr, Option, Some, refl, sym, ap, ◌∙◌, arith, eqb-true, eq-eqb, ne_eqb}
-use Rattle.std.proofs.lemmas.Bool.{false≢true, and_parts, and_from, or_cases, or_left, or_right}
+use Rattle.std.proofs.Common.{◌≡◌, ℕ, Bool, true, false, not, ◌&&◌, ◌||◌, ◌==◌, List, [], ◌∷◌, inl, inr, Some, refl, sym, ap, ◌∙◌, arith, eqb-true, eq-eqb, ne_eqb}
+use Rattle.std.proofs.lemmas.Bool.{false≢true, and_parts, or_cases, or_left, or_right}
 use Rattle.std.specs.List.{list_any}
 use Rattle.std.specs.FinSet as set
 use Rattle.ft_laws.specs.Laws.{Lawful}
@@ -9,7 +9,7 @@ use Rattle.ft_history.specs.Forest.{above}
 use Rattle.ft_history.specs.History.{Base, parent, over}
 use Rattle.ft_history.specs.Legal.{Legal}
 use Rattle.ft_history.proofs.Words.{by_number}
-use Rattle.ft_history.proofs.Forest.{ForestLaws, above_through}
+use Rattle.ft_history.proofs.Forest.{above_through}
 use Rattle.ft_history.proofs.Living.{lived}
 use Rattle.ft_history.proofs.History.{Sound, laws, begin_over}
 use Rattle.ft_history.proofs.Legal.{sound_all}
@@ -21,13 +21,13 @@ use Rattle.ft_posix.specs.declared.call.Mode.TheVariants.{Read as ReadMode, Writ
 use Rattle.ft_posix.specs.declared.call.Access.{Access}
 use Rattle.ft_posix.specs.Accesses.{is_write, conflict}
 use Rattle.ft_posix.specs.Posix.{as_place, posix_calls}
-use Rattle.ft_forest.specs.Transactions.{Transactions, parent_in, over_in}
+use Rattle.ft_forest.specs.Transactions.{Transactions, over_in}
 use Rattle.ft_moss.specs.declared.line.LockKind.TheVariants.{Held, Retained}
 use Rattle.ft_moss.specs.declared.line.LockLine.{LockLine}
 use Rattle.ft_moss.specs.declared.rule.Rule.{Rule}
 use Rattle.ft_moss.specs.Rules.{is_strict}
-use Rattle.ft_moss.specs.Locks.{LockTable, no_locks, line_cmp, has_lock, is_held, same_mode, owns_lock, has_access, is_given, line_access, AreGranted, AreInherited, AreBlockers}
-use Rattle.ft_moss.specs.Law.{History, AreLocksOf, HasParentsOf, HolderLaw}
+use Rattle.ft_moss.specs.Locks.{LockTable, line_cmp, has_lock, is_held, same_mode, owns_lock, has_access, is_given, line_access, AreGranted, AreInherited, AreBlockers}
+use Rattle.ft_moss.specs.Law.{History, HasParentsOf, HolderLaw}
 use Rattle.ft_moss.specs.Surveys.{HasNoHolderAbove}
 use Rattle.ft_moss.proofs.Following.{owner_law}
 

@@ -15,14 +15,14 @@ use Rattle.ft_outcome.specs.Texts.{outcome_text}
 
 -- the text of what came of jobs: their ends, the history of the core, and the tree of its standing calls
 abbrev pub text_of_outcome : List Job → JobsOutcome → List ℕ
-text_of_outcome jobs outcome = outcome_text jobs outcome.reports.items outcome.core.events (rows_of (tree_of outcome.core))
+text_of_outcome jobs outcome = outcome_text jobs outcome.reports.items outcome.core.state.events (rows_of (tree_of outcome.core.state))
 
 -- The text of what came of a plan: of jobs that have run, with reports of what happened.
 pub record IsTextOfPlan (bytes text : List ℕ) : Type 0 where
   pub jobs : List Job
   pub outcome : JobsOutcome
   pub plan : IsPlanOf bytes jobs
-  pub reports : AreReports outcome.core jobs outcome.reports.items
+  pub reports : AreReports outcome.core.state jobs outcome.reports.items
   pub told : text ≡ text_of_outcome jobs outcome
 
 -- the bytes are the plan of no jobs

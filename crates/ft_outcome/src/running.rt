@@ -108,7 +108,7 @@ fn run_anew<R: Threads + Wait + Clock + Sync, S: Write + Send + Drop>(
     screen: Option<S>,
 ) -> Result<JobsOutcome, JobFault>
     requires { 1 ≤ turns }
-    ensures ok { IfOk result (λ outcome. AreReports outcome.core plan.now outcome.reports.items) }
+    ensures ok { IfOk result (λ outcome. AreReports outcome.core.state plan.now outcome.reports.items) }
     ensures cause { IfErr result (λ fault. fault ≢ JobFault.BadPlan) }
 {
     let Ok(core) = Core::with_rule(alloc, rule) else {

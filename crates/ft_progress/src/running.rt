@@ -23,7 +23,7 @@ pub fn run_shown<M: Manager + Drop, R: Threads + Wait + Clock + Sync, S: Write +
     screen: Option<S>,
 ) -> Result<JobsOutcome, JobFault>
     requires { 1 ≤ turns }
-    ensures ok { IfOk result (λ outcome. AreReports outcome.core plan.now outcome.reports.items) }
+    ensures ok { IfOk result (λ outcome. AreReports outcome.core.state plan.now outcome.reports.items) }
     ensures cause { IfErr result (λ fault. fault ≢ JobFault.BadPlan) }
 {
     match (screen, Watch::new(alloc, plan.jobs())) {
@@ -43,7 +43,7 @@ fn run_watched<M: Manager + Drop, R: Threads + Wait + Clock + Sync, S: Write + S
     screen: S,
 ) -> Result<JobsOutcome, JobFault>
     requires { 1 ≤ turns }
-    ensures ok { IfOk result (λ outcome. AreReports outcome.core plan.now outcome.reports.items) }
+    ensures ok { IfOk result (λ outcome. AreReports outcome.core.state plan.now outcome.reports.items) }
     ensures cause { IfErr result (λ fault. fault ≢ JobFault.BadPlan) }
 {
     thread::scope(

@@ -13,7 +13,7 @@ use std::alloc::Global;
 /// What a line means. Its line feed is no part of it.
 ///
 /// Fails only for want of memory.
-pub(crate) fn meaning_of(alloc: Global, line: &[u8]) -> Result<Line, Memory>
+pub fn meaning_of(alloc: Global, line: &[u8]) -> Result<Line, Memory>
     ensures { IfOk result (λ meaning. meaning ≡ meaning_of line.now) }
 {
     let Some(words) = Words::of_line(line) else {

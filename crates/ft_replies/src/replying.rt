@@ -16,8 +16,8 @@ use std::alloc::Global;
 ///
 /// Fails only for want of memory: then the line was not carried out, or the memory was wanted for the text of its reply.
 pub fn reply_to(alloc: Global, line: &[u8], core: &mut Core) -> Result<String, Memory>
-    ensures ok { IfOk result (λ reply. GivesText core.old (meaning_of line.now) (string_bytes reply) core.new) }
-    ensures err { OnErr result ((core.new ≡ core.old) ⊎ ((text : List ℕ) × GivesText core.old (meaning_of line.now) text core.new)) }
+    ensures ok { IfOk result (λ reply. GivesText core.old.state (meaning_of line.now) (string_bytes reply) core.new.state) }
+    ensures err { OnErr result ((core.new.state ≡ core.old.state) ⊎ ((text : List ℕ) × GivesText core.old.state (meaning_of line.now) text core.new.state)) }
 {
     match meaning_of(alloc, line)? {
         Line::Silent => Ok(String::new(alloc)),
@@ -32,7 +32,7 @@ pub fn reply_to(alloc: Global, line: &[u8], core: &mut Core) -> Result<String, M
 
 // Carries out a request. What a commit or an abort has let go is swept, where it is not refused.
 fn carry_out(core: &mut Core, request: Request) -> Answer
-    ensures { IsLegal core.old request result core.new }
+    ensures { IsLegal core.old.state request result core.new.state }
 {
     let answer = core.answer(request);
     if matches!(answer, Answer::Committed | Answer::Aborted(_)) {

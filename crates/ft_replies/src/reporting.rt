@@ -15,7 +15,7 @@ use std::alloc::Global;
 ///
 /// Fails only for want of memory for its text.
 pub(crate) fn report_of(alloc: Global, report: Report, core: &Core) -> Result<String, Memory>
-    ensures { IfOk result (λ text. IsReport core.now report (string_bytes text)) }
+    ensures { IfOk result (λ text. IsReport core.now.state report (string_bytes text)) }
 {
     match report {
         Report::Tree => tree_report(alloc, core),
@@ -26,7 +26,7 @@ pub(crate) fn report_of(alloc: Global, report: Report, core: &Core) -> Result<St
 
 // What the tree holds.
 fn tree_report(alloc: Global, core: &Core) -> Result<String, Memory>
-    ensures { IfOk result (λ text. IsReport core.now Report.Tree (string_bytes text)) }
+    ensures { IfOk result (λ text. IsReport core.now.state Report.Tree (string_bytes text)) }
 {
     match core.tree().rows() {
         Ok(rows) => Ok(format!(in alloc; "{}\n", TreeText(rows.as_slice()))?),
@@ -36,7 +36,7 @@ fn tree_report(alloc: Global, core: &Core) -> Result<String, Memory>
 
 // Who has which lock.
 fn locks_report(alloc: Global, core: &Core) -> Result<String, Memory>
-    ensures { IfOk result (λ text. IsReport core.now Report.Locks (string_bytes text)) }
+    ensures { IfOk result (λ text. IsReport core.now.state Report.Locks (string_bytes text)) }
 {
     match core.lock_lines() {
         Ok(locks) => Ok(format!(in alloc; "{}\n", LocksText(locks.as_slice()))?),
@@ -46,7 +46,7 @@ fn locks_report(alloc: Global, core: &Core) -> Result<String, Memory>
 
 // Who waits for whom.
 fn waits_report(alloc: Global, core: &Core) -> Result<String, Memory>
-    ensures { IfOk result (λ text. IsReport core.now Report.Waits (string_bytes text)) }
+    ensures { IfOk result (λ text. IsReport core.now.state Report.Waits (string_bytes text)) }
 {
     match judged_edges(core) {
         Ok((edges, verdict)) => {

@@ -2,11 +2,11 @@
 use Rattle.std.proofs.Common.{◌≡◌, ℕ, Bool, true, false, cond, ◌||◌, ◌&&◌, ◌==◌, not, List, [], ◌∷◌, ◌++◌, Some, None, refl, sym, ap, ◌∙◌, ◌⊎◌, inl, inr, ⊎_elim, append_assoc, append-nil, subst}
 use Rattle.std.proofs.lemmas.Bool.{false≢true}
 use Rattle.std.specs.Prelude.{map}
-use Rattle.std.specs.List.{filter_map, cons_option, list_any, list_all}
+use Rattle.std.specs.List.{filter_map, cons_option, list_all}
 use Rattle.ft_laws.specs.Lists.{In}
 use Rattle.ft_laws.proofs.Lists.{In-front, In-back, In-cases}
 use Rattle.ft_posix.specs.Posix.{posix_calls}
-use Rattle.ft_history.specs.History.{parent, is_committed, grants}
+use Rattle.ft_history.specs.History.{parent, grants}
 use Rattle.ft_history.specs.History.Event.{Begin as WasBegun, Call as WasGranted, Undo as WasUndone, Commit as WasCommitted, Abort as WasAborted}
 use Rattle.ft_history.specs.Logs.{passing}
 use Rattle.ft_core.specs.declared.request.Event.{Event}
@@ -15,7 +15,7 @@ use Rattle.ft_core.specs.Histories.{History, Granted, granted, told, told_after}
 use Rattle.ft_reports.specs.declared.report.CallReport.{CallReport}
 use Rattle.ft_reports.specs.declared.report.Report.{Report}
 use Rattle.ft_reports.specs.Reports.{as_told, calls_of, is_from_least_on, is_reported}
-use Rattle.ft_reports.specs.Reading.{granted_by, parent_behind, is_commit_of, is_accounted}
+use Rattle.ft_reports.specs.Reading.{granted_by, parent_behind, is_accounted}
 
 -- ---- the calls of a transaction
 
@@ -66,28 +66,6 @@ parent_told h t (Abort u ∷ events) = parent_told (WasAborted u ∷ h) t events
 
 pub parent_is : (t : ℕ) (events : List Event) → parent posix_calls (told events) t ≡ parent_behind t None events
 parent_is t events = parent_told [] t events
-
--- ---- the commit
-
-or_swapped : (a b c : Bool) → ((a || b) || c) ≡ (b || (a || c))
-or_swapped true true c = refl
-or_swapped true false c = refl
-or_swapped false b c = refl
-
-committed_told : (h : History) (t : ℕ) (events : List Event) → is_committed posix_calls (told_after h events) t ≡ (is_committed posix_calls h t || list_any (is_commit_of t) events)
-committed_told h t [] = or_false (is_committed posix_calls h t)
-  where
-    or_false : (b : Bool) → b ≡ (b || false)
-    or_false true = refl
-    or_false false = refl
-committed_told h t (Commit u ∷ events) = committed_told (WasCommitted u ∷ h) t events ∙ or_swapped (t == u) (is_committed posix_calls h t) (list_any (is_commit_of t) events)
-committed_told h t (Begin u p ∷ events) = committed_told (WasBegun u p ∷ h) t events
-committed_told h t (CallEvent k u call reply accesses ∷ events) = committed_told (WasGranted (granted k u call reply accesses) ∷ h) t events
-committed_told h t (Undo k ∷ events) = committed_told (WasUndone k ∷ h) t events
-committed_told h t (Abort u ∷ events) = committed_told (WasAborted u ∷ h) t events
-
-pub committed_is : (t : ℕ) (events : List Event) → is_committed posix_calls (told events) t ≡ list_any (is_commit_of t) events
-committed_is t events = committed_told [] t events
 
 -- ---- all calls from the least reported transaction on
 

@@ -1,7 +1,5 @@
 -- How the events of a history are read, oldest first.
-use Rattle.std.specs.Prelude.{◌==◌, ◌||◌, not, ℕ, Bool, true, false, cond, List, [], ◌∷◌, Option, None, Some}
-use Rattle.ft_history.specs.History.{Fate}
-use Rattle.ft_history.specs.History.Fate.{Live, Committed as WasCommitted, Aborted as WasAborted}
+use Rattle.std.specs.Prelude.{◌==◌, ◌||◌, not, ℕ, Bool, true, cond, List, [], ◌∷◌, Option, None, Some}
 use Rattle.ft_core.specs.declared.request.Event.{Event}
 use Rattle.ft_core.specs.declared.request.Event.TheVariants.{Begin, Call as CallEvent, Undo, Commit, Abort}
 use Rattle.ft_reports.specs.declared.report.CallReport.{CallReport}
@@ -28,13 +26,6 @@ abbrev pub parent_behind : ℕ → Option ℕ → List Event → Option ℕ
 parent_behind t before [] = before
 parent_behind t before (e ∷ events) = parent_behind t (parent_after t before e) events
 
-abbrev pub is_commit_of : ℕ → Event → Bool
-is_commit_of t (Commit u) = t == u
-is_commit_of t (Begin u p) = false
-is_commit_of t (CallEvent stamp asker call reply accesses) = false
-is_commit_of t (Undo stamp) = false
-is_commit_of t (Abort u) = false
-
 -- the event is no call of a transaction from the least reported one on that no report has
 abbrev pub is_accounted : List Report → Event → Bool
 is_accounted reports (CallEvent stamp asker call reply accesses) = not (is_from_least_on reports asker) || is_reported reports asker
@@ -42,10 +33,3 @@ is_accounted reports (Begin u p) = true
 is_accounted reports (Undo stamp) = true
 is_accounted reports (Commit u) = true
 is_accounted reports (Abort u) = true
-
--- the transaction has committed or is aborted
-abbrev pub HasEnded : Option Fate → Type 0
-HasEnded None = ⊥
-HasEnded (Some Live) = ⊥
-HasEnded (Some WasCommitted) = Unit {0}
-HasEnded (Some WasAborted) = Unit {0}

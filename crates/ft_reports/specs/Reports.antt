@@ -1,5 +1,5 @@
 -- The reports of jobs are what happened.
-use Rattle.std.specs.Prelude.{◌≡◌, ◌==◌, ◌&&◌, ◌⊎◌, not, ℕ, Bool, true, false, cond, nat_le, nat_lt, List, [], ◌∷◌, length, Option, None, Some, IsSome, IfSome, MatchOption, option_and_then, map, All}
+use Rattle.std.specs.Prelude.{◌≡◌, ◌==◌, ◌&&◌, not, ℕ, Bool, true, false, cond, nat_le, nat_lt, List, [], ◌∷◌, length, Option, None, Some, IsSome, IfSome, MatchOption, option_and_then, map, All}
 use Rattle.std.specs.List.{list_any, position, slice_get}
 use Rattle.std.specs.Option.{option_map_or}
 use Rattle.std.specs.Str.{bytes_eq}
@@ -9,7 +9,7 @@ use Rattle.ft_history.specs.History.{Fate, parent, grants}
 use Rattle.ft_history.specs.History.Fate.{Committed as WasCommitted, Aborted as WasAborted}
 use Rattle.ft_history.specs.Logs.{passing}
 use Rattle.ft_core.specs.Histories.{History, Granted}
-use Rattle.ft_core.specs.States.{State, history, fate_of, after_drop}
+use Rattle.ft_core.specs.States.{State, history, fate_of}
 use Rattle.ft_plan.specs.declared.job.Job.{Job}
 use Rattle.ft_reports.specs.declared.report.CallReport.{CallReport}
 use Rattle.ft_reports.specs.declared.report.Report.{Report}
@@ -146,7 +146,3 @@ pub record AreReports (s : State) (jobs : List Job) (reports : List Report) : Ty
   pub distinct : have_own_txns reports ≡ true
   -- From the least of their transactions on, each call of the history is of one of them.
   pub all : (c : Granted) → In c (grants posix_calls (history s)) → is_from_least_on reports c.asker ≡ true → is_reported reports c.asker ≡ true
-
--- At most one transaction no longer waits for what it asked for, and nothing else has changed.
-abbrev pub HasAtMostDropped : State → State → Type 0
-HasAtMostDropped s s' = (s' ≡ s) ⊎ ((t : ℕ) × (s' ≡ after_drop s t))

@@ -1,8 +1,8 @@
 // Whether reports are what happened.
-ghost use Rattle.std.specs.Prelude.{◌≡◌, ◌↔◌, true, ℕ, All, MatchOption, IfOk, OnErr, IsTrue, option_copied};
+ghost use Rattle.std.specs.Prelude.{◌≡◌, ◌↔◌, true, ℕ, All, MatchOption, IfOk, IsTrue, option_copied};
 ghost use Rattle.std.specs.List.{list_all};
 ghost use Rattle.ft_core.specs.Histories.{told};
-ghost use Rattle.ft_reports.specs.Reports.{has_txn, has_txn_up_to, is_reported, is_from_least_on, have_own_txns, report_of, txn_of, IsNested, IsOfTxn, MayLackTxn, ends_committed, may_lack_txn, may_leave_subjobs, may_be_unstarted, IsReportAt, HasItsFate, AreReports, HasAtMostDropped};
+ghost use Rattle.ft_reports.specs.Reports.{has_txn, has_txn_up_to, is_reported, is_from_least_on, have_own_txns, report_of, txn_of, IsNested, IsOfTxn, MayLackTxn, ends_committed, may_lack_txn, may_leave_subjobs, may_be_unstarted, IsReportAt, HasItsFate, AreReports};
 ghost use Rattle.ft_reports.specs.Reading.{is_accounted};
 
 use crate::history::{are_calls_of, do_stamps_rise, has_ended, parent_of};
@@ -14,19 +14,15 @@ use ft_core::{Core, Event, TxnId};
 use ft_plan::{Job, Plan};
 use std::alloc::Global;
 
-/// Whether these are the reports of what happened to the jobs of a plan, in the core that they left. Where they are, nothing
-/// changes; where they are not, the core may have forgotten what one transaction waits for. Its only error is want of memory,
-/// which changes nothing.
+/// Whether these are the reports of what happened to the jobs of a plan, in the core that they left. Its only error is want
+/// of memory.
 pub fn are_reports(
     alloc: Global,
     plan: &Plan,
-    core: &mut Core,
+    core: &Core,
     reports: &[Report],
 ) -> Result<bool, Memory>
-    ensures exact { IfOk result (λ are. IsTrue are ↔ AreReports core.old plan.now reports.now) }
-    ensures same { IfOk result (λ are. IsTrue are → core.new ≡ core.old) }
-    ensures left { HasAtMostDropped core.old core.new }
-    ensures memory { OnErr result (core.new ≡ core.old) }
+    ensures { IfOk result (λ are. IsTrue are ↔ AreReports core.now.state plan.now reports.now) }
 {
     let jobs = plan.jobs();
     if reports.len() != jobs.len() || !have_own_txns(reports) || !have_their_fates(core, reports) {
@@ -39,11 +35,9 @@ pub fn are_reports(
     Ok(are_accounted(events, reports))
 }
 
-// Whether the transactions of the reports are committed or aborted as they say. Where they are, nothing changes.
-fn have_their_fates(core: &mut Core, reports: &[Report]) -> bool
-    ensures same { IsTrue result → core.new ≡ core.old }
-    ensures fates { IsTrue result ↔ All (HasItsFate core.old) reports.now }
-    ensures left { HasAtMostDropped core.old core.new }
+// Whether the transactions of the reports are committed or aborted as they say.
+fn have_their_fates(core: &Core, reports: &[Report]) -> bool
+    ensures { IsTrue result ↔ All (HasItsFate core.now.state) reports.now }
 {
     for report in reports {
         if !has_its_fate(core, report) {
@@ -53,11 +47,9 @@ fn have_their_fates(core: &mut Core, reports: &[Report]) -> bool
     true
 }
 
-// Whether the transaction of a report, if it has one, is committed or aborted as it says. Where it is, nothing changes.
-fn has_its_fate(core: &mut Core, report: &Report) -> bool
-    ensures same { IsTrue result → core.new ≡ core.old }
-    ensures fate { IsTrue result ↔ HasItsFate core.old report.now }
-    ensures left { HasAtMostDropped core.old core.new }
+// Whether the transaction of a report, if it has one, is committed or aborted as it says.
+fn has_its_fate(core: &Core, report: &Report) -> bool
+    ensures { IsTrue result ↔ HasItsFate core.now.state report.now }
 {
     match report.txn {
         None => true,

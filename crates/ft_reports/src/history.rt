@@ -1,16 +1,15 @@
 // What the history has of a transaction.
 ghost use Rattle.std.specs.Prelude.{◌≡◌, ◌↔◌, cond, Some, is_some, IsTrue};
-ghost use Rattle.std.specs.List.{list_any};
 ghost use Rattle.ft_posix.specs.Posix.{posix_calls};
-ghost use Rattle.ft_history.specs.History.{parent, is_committed};
+ghost use Rattle.ft_history.specs.History.{parent};
 ghost use Rattle.ft_history.specs.History.Fate.{Committed as WasCommitted, Aborted as WasAborted};
 ghost use Rattle.ft_core.specs.Histories.{told};
 ghost use Rattle.ft_core.specs.States.{fate_of};
-ghost use Rattle.ft_reports.specs.Reports.{calls_of, stamps_rise, HasAtMostDropped};
-ghost use Rattle.ft_reports.specs.Reading.{granted_by, parent_after, is_commit_of};
+ghost use Rattle.ft_reports.specs.Reports.{calls_of, stamps_rise};
+ghost use Rattle.ft_reports.specs.Reading.{granted_by, parent_after};
 
 use crate::report::CallReport;
-use ft_core::{Core, Event, Fault, TxnId};
+use ft_core::{Core, Event, State, TxnId};
 
 /// Whether these are all calls that a transaction was granted, in their order.
 pub fn are_calls_of(events: &[Event], txn: TxnId, calls: &[CallReport]) -> bool
@@ -91,41 +90,14 @@ fn parent_after(event: &Event, txn: TxnId, before: Option<TxnId>) -> Option<TxnI
     }
 }
 
-/// Whether a transaction has committed.
-#[tactic(auto, using(crate::proofs::Told::committed_is))]
-fn has_committed(events: &[Event], txn: TxnId) -> bool
-    ensures { result ≡ is_committed posix_calls (told events.now) txn }
+/// Whether a transaction has ended, committed or aborted as it says here.
+#[tactic(auto, using(crate::proofs::Ending::ended_is))]
+pub fn has_ended(core: &Core, txn: TxnId, committed: bool) -> bool
+    ensures { IsTrue result ↔ (fate_of core.now.state txn ≡ Some (cond committed WasCommitted WasAborted)) }
 {
-    is_commit_among(events, txn)
-}
-
-// Whether one of the events is the commit of the transaction.
-fn is_commit_among(events: &[Event], txn: TxnId) -> bool
-    ensures { result ≡ list_any (is_commit_of txn) events.now }
-{
-    events.iter().any(|event| is_commit_of(event, txn))
-}
-
-// Whether the event is the commit of the transaction.
-fn is_commit_of(event: &Event, txn: TxnId) -> bool
-    ensures { result ≡ is_commit_of txn event.now }
-{
-    match event {
-        Event::Commit { txn: ended } => txn == *ended,
-        _ => false,
+    match core.state(txn) {
+        Some(State::Committed) => committed,
+        Some(State::Aborted) => !committed,
+        Some(State::Live) | None => false,
     }
-}
-
-/// Whether a transaction has ended, committed or aborted as it says here. Where it has, nothing changes: one that has ended
-/// is refused whatever it asks for, and here it asks to forget what it waits for.
-#[tactic(auto, using(crate::proofs::Ending::ended_is, crate::proofs::Ending::fate_is, crate::proofs::Ending::at_most_dropped))]
-pub fn has_ended(core: &mut Core, txn: TxnId, committed: bool) -> bool
-    ensures same { IsTrue result → core.new ≡ core.old }
-    ensures fate { IsTrue result ↔ (fate_of core.old txn ≡ Some (cond committed WasCommitted WasAborted)) }
-    ensures left { HasAtMostDropped core.old core.new }
-{
-    if has_committed(core.history(), txn) != committed {
-        return false;
-    }
-    matches!(core.drop_ask(txn), Err(Fault::Ended))
 }

@@ -90,9 +90,9 @@ pub fn play<R: Read, W: Write>(
     core: &mut Core,
 ) -> Result<(), PlayFault>
     ensures ok { OnOk result (PlaysAll (R.remaining reader.old) (R.remaining reader.new)
-        (W.contents writer.old) (W.contents writer.new) core.old core.new) }
+        (W.contents writer.old) (W.contents writer.new) core.old.state core.new.state) }
     ensures fault { IfErr result (λ fault. StopsAt fault (R.remaining reader.old)
-        (R.remaining reader.new) (W.contents writer.old) (W.contents writer.new) core.old core.new) }
+        (R.remaining reader.new) (W.contents writer.old) (W.contents writer.new) core.old.state core.new.state) }
 {
     let mut reads_left = MOST_READS;
     play_within(alloc, reader, writer, core, &mut reads_left)
@@ -107,9 +107,9 @@ fn play_within<R: Read, W: Write>(
     reads_left: &mut u32,
 ) -> Result<(), PlayFault>
     ensures ok { OnOk result (PlaysAll (R.remaining reader.old) (R.remaining reader.new)
-        (W.contents writer.old) (W.contents writer.new) core.old core.new) }
+        (W.contents writer.old) (W.contents writer.new) core.old.state core.new.state) }
     ensures fault { IfErr result (λ fault. StopsAt fault (R.remaining reader.old)
-        (R.remaining reader.new) (W.contents writer.old) (W.contents writer.new) core.old core.new) }
+        (R.remaining reader.new) (W.contents writer.old) (W.contents writer.new) core.old.state core.new.state) }
     ensures turns { IsErrOf result PlayFault.Turns → reads_left.new ≡ 0 }
 {
     let mut room = room_for_chunk(alloc)?;
@@ -174,8 +174,8 @@ fn take_bytes<W: Write>(
     core: &mut Core,
 ) -> Result<(), PlayFault>
     requires { IsFreeOf 10 begun.old.items }
-    ensures ok { OnOk result (TakesAll (begun.old.items ++ bytes.now) begun.new.items (W.contents writer.old) (W.contents writer.new) core.old core.new) }
-    ensures fault { IfErr result (λ fault. Stopped fault ⊥ (begun.old.items ++ bytes.now) (W.contents writer.old) (W.contents writer.new) core.old core.new) }
+    ensures ok { OnOk result (TakesAll (begun.old.items ++ bytes.now) begun.new.items (W.contents writer.old) (W.contents writer.new) core.old.state core.new.state) }
+    ensures fault { IfErr result (λ fault. Stopped fault ⊥ (begun.old.items ++ bytes.now) (W.contents writer.old) (W.contents writer.new) core.old.state core.new.state) }
     ensures cause { IfErr result (λ fault. (fault ≢ PlayFault.Read) × (fault ≢ PlayFault.Turns)) }
 {
     let mut rest = bytes;
@@ -209,8 +209,8 @@ fn play_line<W: Write>(
     writer: &mut W,
     core: &mut Core,
 ) -> Result<(), PlayFault>
-    ensures ok { OnOk result (Plays (line.now ∷ []) (W.contents writer.old) (W.contents writer.new) core.old core.new) }
-    ensures fault { IfErr result (λ fault. StopsLine fault line.now (W.contents writer.old) (W.contents writer.new) core.old core.new) }
+    ensures ok { OnOk result (Plays (line.now ∷ []) (W.contents writer.old) (W.contents writer.new) core.old.state core.new.state) }
+    ensures fault { IfErr result (λ fault. StopsLine fault line.now (W.contents writer.old) (W.contents writer.new) core.old.state core.new.state) }
 {
     let reply = reply_to(alloc, line, core)?;
     write_out(writer, reply.as_bytes())

@@ -19,6 +19,7 @@ use Rattle.ft_undo.specs.contracts.logs.Logged as Logged
 use Rattle.ft_undo.specs.contracts.logs.Logs as Logs
 use Rattle.ft_core.proofs.request.Event.TheSendSync as event
 use Rattle.ft_core.specs.contracts.journal.Journal as Journal
+use Rattle.ft_core.specs.contracts.parts.Parts as Parts
 use Rattle.ft_core.specs.contracts.manager.Core as Core
 use Rattle.ft_shared.specs.contracts.shared.Shared as Shared
 
@@ -40,8 +41,11 @@ Logs-send = let chains = chains.the_send Logged.the_row Logged-send in search se
 Journal-send : IsSend Journal.the_row
 Journal-send = search (event.the_send, call.the_send, table.the_send, tree.the_send, crosses, sendable) depth 40
 
+Parts-send : IsSend Parts.the_field.row
+Parts-send = search (tree.the_send, forest.the_send, locks.the_send, Logs-send, crosses, sendable) depth 40
+
 pub Core-send : IsSend Core.the_row
-Core-send = search (Journal-send, tree.the_send, forest.the_send, locks.the_send, Logs-send, crosses, sendable) depth 40
+Core-send = search (Journal-send, Parts-send, crosses, sendable) depth 40
 
 pub Shared-sync : IsSync Shared.the_row
 Shared-sync = search (Core-send, crosses, sendable) depth 40

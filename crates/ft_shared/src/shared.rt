@@ -8,28 +8,36 @@ ghost use Rattle.ft_core.specs.Living.{SomeIsLive, NoneIsLive};
 ghost use Rattle.ft_core.specs.Steps.{IsStep, exact_rule, answer_with, outcome_answer};
 ghost use Rattle.ft_waits.specs.Edges.{AreEdgesOf};
 ghost use Rattle.ft_waits.specs.Waits.{IsVerdict};
-ghost use Rattle.ft_shared.specs.Behind.{IsOfCore, OfSomeCore, InSomeCore, IsAborted, IsUndone};
+ghost use Rattle.ft_core.specs.Reached.{IsReached};
+ghost use Rattle.ft_shared.specs.Behind.{OfSomeCore, InSomeCore, IsAborted, IsUndone};
 
+use ft_base::Memory;
 use ft_calls::Call;
-use ft_core::{Core, Fault, Outcome, TxnId};
-use ft_waits::{Edge, Verdict, judged_edges};
-use std::sync::{Condvar, Mutex, MutexGuard, Wait};
-use std::time::Duration;
+use ft_core::laws::reached;
+use ft_core::{Core, Fault, Outcome, State, TxnId};
+use ft_waits::{Edge, Verdict, edges, with_verdict};
+use std::alloc::Global;
+use std::sync::{Condvar, CondvarTimeouts, Mutex, MutexGuard, Wait};
+use std::time::{Clock, Duration};
 
 /// How long a waiting thread pauses at most before it asks again, in milliseconds.
 pub const MOST_PAUSE: u64 = 5;
 
 /// Transactions that threads share: a core behind a lock.
 ///
-/// Each call makes one call of the core, or reads it, in one holding of the lock. What stands behind the lock is a `Core`:
-/// whenever the lock is got, the tree is what a plain tree holds after the standing calls of the history alone. Which core it
-/// was, no clause can say: each says that the answer is a legal one of some core in some state. No clause says that a call
-/// returns.
+/// Each call makes one call of the core, or reads it, in one holding of the lock; a commit or an
+/// abort that is not refused also sweeps, in the same holding, what it has let go. What stands behind
+/// the lock is a `Core`: whenever the lock is got, its history is a legal one from a sound base, and
+/// its tree is what a plain tree holds after the standing calls alone. Which core it was, no clause
+/// can say: each says that the answer is a legal one of some core in some state that a core can come
+/// to. No clause says that a call returns.
 #[derive(Drop)]
 pub struct Shared {
     core: Mutex<Core>,
-    // Somebody has committed, aborted, undone a call or dropped one that was waited for.
-    moved: Condvar,
+    // For copies of calls, which are made before the lock is got.
+    alloc: Global,
+    // A transaction has committed or is aborted.
+    ended: Condvar,
 }
 
 /// A core that can't be shared, and why.
@@ -44,7 +52,7 @@ impl Shared {
     ///
     /// Refuses Live where a transaction is live, and hands the core back.
     pub fn new(core: Core) -> Result<Shared, Refused>
-        ensures { MatchResult result (λ shared. NoneIsLive core) (λ refused. (refused.core ≡ core) × (refused.fault ≡ LiveFault) × SomeIsLive core) }
+        ensures { MatchResult result (λ shared. NoneIsLive core.state) (λ refused. (refused.core ≡ core) × (refused.fault ≡ LiveFault) × SomeIsLive core.state) }
     {
         if core.has_live() {
             return Err(Refused {
@@ -53,8 +61,9 @@ impl Shared {
             });
         }
         Ok(Shared {
+            alloc: core.alloc(),
             core: Mutex::new(core),
-            moved: Condvar::new(),
+            ended: Condvar::new(),
         })
     }
 
@@ -88,9 +97,11 @@ impl Shared {
     /// Asks for a call up to so many times, until it is granted or refused, and answers that; else the last answer whom it
     /// waits for. What it waits for stays asked for.
     ///
-    /// Between two asks the lock is free, and the thread pauses until somebody has committed, aborted, undone a call or
-    /// dropped one, for `MOST_PAUSE` at most. Each ask copies the call. Refuses what `ask` refuses, in its order.
-    pub fn ask_wait<R: Wait>(
+    /// Between two asks the thread pauses, with the lock free: until one of those that the last answer
+    /// told it to wait for has committed or is aborted, or for `MOST_PAUSE` by the clock. Nothing else
+    /// that happens meanwhile ends the pause, so that it uses up no turn. The waiting takes no memory;
+    /// each ask copies the call, before it gets the lock. Refuses what `ask` refuses, in its order.
+    pub fn ask_wait<R: Wait + Clock>(
         &self,
         rt: &R,
         txn: TxnId,
@@ -101,13 +112,8 @@ impl Shared {
         ensures { InSomeCore (λ old new. IsStep exact_rule old (Ask txn call.now) (answer_with outcome_answer result) new) }
     {
         for _ in 1..turns {
-            let seen = self.moved.notifications();
             match self.turn(rt, txn, call) {
-                Ok(Outcome::Waits { .. }) => {
-                    // Nobody holds the lock here. Who has moved since `seen` ends the pause at once.
-                    self.moved
-                        .sleep(rt, seen, Duration::from_millis(MOST_PAUSE));
-                }
+                Ok(Outcome::Waits { blockers }) => self.pause(rt, blockers.as_slice()),
                 answer => return answer,
             }
         }
@@ -118,7 +124,21 @@ impl Shared {
     fn turn<R: Wait>(&self, rt: &R, txn: TxnId, call: &Call) -> Result<Outcome, Fault>
         ensures { InSomeCore (λ old new. IsStep exact_rule old (Ask txn call.now) (answer_with outcome_answer result) new) }
     {
-        self.held(rt).ask_copy(txn, call)
+        match call.copy(self.alloc) {
+            Ok(copy) => self.held(rt).ask(txn, copy),
+            // Other refusals stand before want of memory, and the core tells which.
+            Err(Memory) => self.held(rt).ask_copy(txn, call),
+        }
+    }
+
+    /// Pauses until one of these transactions is not live any more, or for `MOST_PAUSE`. The core is
+    /// looked at before each sleep, so that one that has ended since the ask is seen at once.
+    fn pause<R: Wait + Clock>(&self, rt: &R, blockers: &[TxnId]) {
+        let most = Duration::from_millis(MOST_PAUSE);
+        let core = self.core.lock(rt);
+        let _ = self
+            .ended
+            .wait_timeout_while(rt, core, most, |core| are_live(core, blockers));
     }
 
     /// Makes the call that a transaction waits for, or answers again which transactions it waits for.
@@ -136,11 +156,7 @@ impl Shared {
     pub fn drop_ask<R: Wait>(&self, rt: &R, txn: TxnId) -> Result<(), Fault>
         ensures { InSomeCore (λ old new. IsStep exact_rule old (DropAsk txn) (answer_with (λ done. Dropped) result) new) }
     {
-        let dropped = self.held(rt).drop_ask(txn);
-        if dropped.is_ok() {
-            self.moved.notify_all();
-        }
-        dropped
+        self.held(rt).drop_ask(txn)
     }
 
     /// Commits a transaction: its locks and what takes its calls back are its parent's from then on; at the top level its
@@ -150,11 +166,12 @@ impl Shared {
     pub fn commit<R: Wait>(&self, rt: &R, txn: TxnId) -> Result<(), Fault>
         ensures { InSomeCore (λ old new. IsStep exact_rule old (Commit txn) (answer_with (λ done. Committed) result) new) }
     {
-        let committed = self.held(rt).commit(txn);
-        if committed.is_ok() {
-            self.moved.notify_all();
-        }
-        committed
+        let mut core = self.held(rt);
+        core.commit(txn)?;
+        core.sweep();
+        drop(core);
+        self.ended.notify_all();
+        Ok(())
     }
 
     /// Aborts a transaction with all that is live below it, and answers how many standing calls it takes away. If it ran
@@ -164,11 +181,12 @@ impl Shared {
     pub fn abort<R: Wait>(&self, rt: &R, txn: TxnId) -> Result<u64, Fault>
         ensures { InSomeCore (λ old new. IsAborted old txn (answer_with Aborted result) new) }
     {
-        let aborted = self.held(rt).abort(txn);
-        if aborted.is_ok() {
-            self.moved.notify_all();
-        }
-        aborted
+        let mut core = self.held(rt);
+        let count = core.abort(txn)?;
+        core.sweep();
+        drop(core);
+        self.ended.notify_all();
+        Ok(count)
     }
 
     /// Undoes the last of a transaction's own standing calls, and answers its stamp. If it was just made, the tree is the
@@ -179,11 +197,7 @@ impl Shared {
     pub fn undo_call<R: Wait>(&self, rt: &R, txn: TxnId) -> Result<u64, Fault>
         ensures { InSomeCore (λ old new. IsUndone old txn (answer_with Undone result) new) }
     {
-        let undone = self.held(rt).undo_call(txn);
-        if undone.is_ok() {
-            self.moved.notify_all();
-        }
-        undone
+        self.held(rt).undo_call(txn)
     }
 
     /// Who waits for whom: the waits-for edges of the core, each once, in their order, and whether there is a cycle of just
@@ -195,23 +209,39 @@ impl Shared {
         ensures verdict { IfOk result (λ told. IsVerdict told.0.items told.1) }
         ensures fault { IfErr result (λ fault. fault ≡ MemoryFault) }
     {
-        let core = self.held(rt);
-        let told = judged_edges(&core)?;
-        Ok(told)
+        let edges = self.list_edges(rt)?;
+        Ok(with_verdict(edges)?)
+    }
+
+    /// The waits-for edges of the core, each once, in their order. The lock is free when they are told.
+    fn list_edges<R: Wait>(&self, rt: &R) -> Result<Vec<Edge>, Memory>
+        ensures { IfOk result (λ edges. OfSomeCore (λ state. AreEdgesOf state edges.items)) }
+    {
+        edges(&self.held(rt))
     }
 
     /// Ends the sharing, and gives the core back. Takes no memory.
     pub fn into_core(self) -> Core {
-        let Shared { core, moved: _ } = self;
+        let Shared {
+            core,
+            alloc: _,
+            ended: _,
+        } = self;
         core.into_inner()
     }
 
-    /// Gets the lock. The tree of the core that stands there is that of its history.
+    /// Gets the lock. The core that stands there is in a state that legal requests lead to.
     fn held<R: Wait>(&self, rt: &R) -> MutexGuard<'_, Core>
-        ensures { IsOfCore (mutex_guard_value result) }
+        ensures { IsReached (mutex_guard_value result) }
     {
         let core = self.core.lock(rt);
-        let _ = core.tree();
+        reached(&core);
         core
     }
+}
+
+/// Whether these transactions are all live.
+fn are_live(core: &Core, txns: &[TxnId]) -> bool {
+    txns.iter()
+        .all(|txn| matches!(core.state(*txn), Some(State::Live)))
 }

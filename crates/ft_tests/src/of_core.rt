@@ -175,7 +175,7 @@ struct SweptCore(Core);
 
 impl Answers for SweptCore {
     fn answer_to(&mut self, request: Request) -> Answer {
-        let _ = self.0.sweep();
+        self.0.sweep();
         self.0.answer(request)
     }
 }
@@ -213,10 +213,10 @@ fn sweep_before_each_request(rt: HostRuntime) -> Result<(), Fail> {
 /// Whether a sweep spares what the first transaction has made, and drops two places once it is aborted: that of the entry, and
 /// that of the directory.
 fn drops_two_after_abort(core: &mut Core) -> bool {
-    let before = core.sweep().dropped;
+    let before = core.sweep();
     let aborted = core.abort(TxnId(1));
-    let after = core.sweep().dropped;
-    before == 0 && aborted == Ok(1) && after == 2 && core.sweep().dropped == 0
+    let after = core.sweep();
+    before == 0 && aborted == Ok(1) && after == 2 && core.sweep() == 0
 }
 
 /// The same on a new core, behind a script.

@@ -1,53 +1,20 @@
-// Rows worked by hand, request by request through the lock; who waits for whom; threads that wait, and let others go on; what is
-// handed back.
-use crate::scripts::{Answers, Line, Wanted, plays};
+// Who waits for whom; threads that wait, and let others go on; what a sweep finds; what is handed
+// back. Scripts are case files, which ft_through plays.
 use ft_calls::Call;
-use ft_core::{Answer, Core, Fault, Outcome, Request, TxnId};
+use ft_core::{Core, Fault, Outcome, TxnId};
 use ft_path::FilePath;
-use ft_shared::{Manager, Refused, Shared};
+use ft_shared::{MOST_PAUSE, Manager, Refused, Shared};
 use ft_waits::{Edge, EdgeKind, Verdict};
 use std::alloc::Global;
 use std::sync::Wait;
 use std::test::Fail;
 use std::thread;
 use std::thread::Threads;
-use std::time::{Clock, Duration};
+use std::time::{Clock, Duration, Instant};
 
 fn stat_call(alloc: Global) -> Result<Call, Fail> {
     let path = FilePath::new(alloc, b"/a".as_slice())?;
     Ok(Call::Stat { path })
-}
-
-/// Carries a request out through the lock.
-fn answer<R: Wait>(rt: &R, shared: &Shared, request: Request) -> Result<Answer, Fault> {
-    match request {
-        Request::Begin => Ok(Answer::Txn(shared.begin(rt)?)),
-        Request::Sub(parent) => Ok(Answer::Txn(shared.sub(rt, parent)?)),
-        Request::Ask(txn, call) => Ok(Answer::from(shared.ask(rt, txn, call)?)),
-        Request::Retry(txn) => Ok(Answer::from(shared.retry(rt, txn)?)),
-        Request::Drop(txn) => shared.drop_ask(rt, txn).map(|_| Answer::Dropped),
-        Request::Commit(txn) => shared.commit(rt, txn).map(|_| Answer::Committed),
-        Request::Abort(txn) => Ok(Answer::Aborted(shared.abort(rt, txn)?)),
-        Request::Undo(txn) => Ok(Answer::Undone(shared.undo_call(rt, txn)?)),
-        // (there is none behind a lock)
-        Request::Checkpoint => Err(Fault::Live),
-    }
-}
-
-/// A core behind a lock, and what waits for it.
-#[derive(Drop)]
-struct Locked<'a, R> {
-    rt: &'a R,
-    shared: &'a Shared,
-}
-
-impl<'a, R: Wait> Answers for Locked<'a, R> {
-    fn answer_to(&mut self, request: Request) -> Answer {
-        match answer(self.rt, self.shared, request) {
-            Ok(answer) => answer,
-            Err(fault) => Answer::Refused(fault),
-        }
-    }
 }
 
 /// A new core behind a lock.
@@ -56,76 +23,6 @@ fn new_shared(alloc: Global) -> Result<Shared, Fault> {
         Ok(shared) => Ok(shared),
         Err(refused) => Err(refused.fault),
     }
-}
-
-/// Carries a script out on a new core.
-fn plays_anew<R: Wait>(rt: &R, alloc: Global, script: &[(Line, Wanted)]) -> Result<bool, Fail> {
-    let shared = new_shared(alloc)?;
-    let mut locked = Locked {
-        rt,
-        shared: &shared,
-    };
-    plays(alloc, &mut locked, script)
-}
-
-fn hands_locks_up<R: Wait>(rt: &R, alloc: Global) -> Result<bool, Fail> {
-    let script = [
-        (Line::Begin, Wanted::Txn(1)),
-        (Line::Sub(1), Wanted::Txn(2)),
-        (Line::Sub(1), Wanted::Txn(3)),
-        (Line::Open(2, b"/f".as_slice()), Wanted::Number(2, 2)),
-        (Line::Pwrite(2, 2, b"hi".as_slice()), Wanted::Number(3, 2)),
-        (Line::Pwrite(3, 2, b"XX".as_slice()), Wanted::Waits(2)),
-        (Line::Commit(2), Wanted::Committed),
-        (Line::Retry(3), Wanted::Number(4, 2)),
-        (Line::Abort(3), Wanted::Aborted(1)),
-        (Line::Pread(1, 2), Wanted::Bytes(5, b"hi".as_slice())),
-        (Line::Commit(1), Wanted::Committed),
-    ];
-    plays_anew(rt, alloc, &script)
-}
-
-fn refuses<R: Wait>(rt: &R, alloc: Global) -> Result<bool, Fail> {
-    let script = [
-        (Line::Begin, Wanted::Txn(1)),
-        (Line::Sub(1), Wanted::Txn(2)),
-        (Line::Commit(1), Wanted::Refused(Fault::ChildLive)),
-        (Line::Abort(1), Wanted::Aborted(0)),
-        (
-            Line::List(2, b"/".as_slice()),
-            Wanted::Refused(Fault::Ended),
-        ),
-        (Line::Commit(9), Wanted::Refused(Fault::NoTxn)),
-        (Line::Begin, Wanted::Txn(3)),
-        (Line::Retry(3), Wanted::Refused(Fault::NoAsk)),
-        (Line::Sub(3), Wanted::Txn(4)),
-        (Line::Mkdir(4, b"/a".as_slice()), Wanted::Done(2)),
-        (Line::List(3, b"/a".as_slice()), Wanted::Waits(4)),
-        (Line::Drop(3), Wanted::Dropped),
-        (Line::Drop(3), Wanted::Refused(Fault::NoAsk)),
-    ];
-    plays_anew(rt, alloc, &script)
-}
-
-fn walks_back<R: Wait>(rt: &R, alloc: Global) -> Result<bool, Fail> {
-    let script = [
-        (Line::Begin, Wanted::Txn(1)),
-        (Line::Open(1, b"/f".as_slice()), Wanted::Number(2, 2)),
-        (Line::Pwrite(1, 2, b"hi".as_slice()), Wanted::Number(3, 2)),
-        (Line::Undo(1), Wanted::Undone(3)),
-        (Line::Undo(1), Wanted::Undone(2)),
-        (Line::Undo(1), Wanted::Refused(Fault::NothingToUndo)),
-    ];
-    plays_anew(rt, alloc, &script)
-}
-
-#[test]
-fn rows_through_shared(rt: HostRuntime) -> Result<(), Fail> {
-    let alloc = rt.alloc();
-    assert!(rt; hands_locks_up(&rt, alloc)?);
-    assert!(rt; refuses(&rt, alloc)?);
-    assert!(rt; walks_back(&rt, alloc)?);
-    Ok(())
 }
 
 /// Whether two transactions alone wait for each other's locks.
@@ -149,29 +46,6 @@ fn tells_deadlock<R: Wait>(rt: &R, shared: &Shared) -> Result<bool, Fail> {
     Ok(is_deadlock(edges.as_slice(), &verdict))
 }
 
-fn waits_in_circle<R: Wait>(rt: &R, alloc: Global) -> Result<bool, Fail> {
-    let script = [
-        (Line::Begin, Wanted::Txn(1)),
-        (Line::Begin, Wanted::Txn(2)),
-        (Line::Mkdir(1, b"/a".as_slice()), Wanted::Done(2)),
-        (Line::Mkdir(2, b"/b".as_slice()), Wanted::Done(3)),
-        (Line::List(1, b"/b".as_slice()), Wanted::Waits(2)),
-        (Line::List(2, b"/a".as_slice()), Wanted::Waits(1)),
-    ];
-    let shared = new_shared(alloc)?;
-    let mut locked = Locked {
-        rt,
-        shared: &shared,
-    };
-    Ok(plays(alloc, &mut locked, &script)? && tells_deadlock(rt, &shared)?)
-}
-
-#[test]
-fn waits_through_shared(rt: HostRuntime) -> Result<(), Fail> {
-    assert!(rt; waits_in_circle(&rt, rt.alloc())?);
-    Ok(())
-}
-
 /// One transaction makes a directory, and another one is live.
 fn make_directory<R: Wait>(rt: &R, alloc: Global, shared: &Shared) -> Result<(), Fail> {
     let path = FilePath::new(alloc, b"/a".as_slice())?;
@@ -186,6 +60,28 @@ fn with_directory<R: Wait>(rt: &R, alloc: Global) -> Result<Shared, Fail> {
     let shared = new_shared(alloc)?;
     make_directory(rt, alloc, &shared)?;
     Ok(shared)
+}
+
+/// Each of two transactions waits for the other: it looks at what the other one has made.
+fn cross<R: Wait>(rt: &R, alloc: Global, shared: &Shared) -> Result<(), Fail> {
+    let path = FilePath::new(alloc, b"/b".as_slice())?;
+    let looked_at = path.try_clone()?;
+    let _ = shared.ask(rt, TxnId(2), Call::Mkdir { path })?;
+    let _ = shared.ask(rt, TxnId(1), Call::Stat { path: looked_at })?;
+    let _ = shared.ask(rt, TxnId(2), stat_call(alloc)?)?;
+    Ok(())
+}
+
+fn waits_in_circle<R: Wait>(rt: &R, alloc: Global) -> Result<bool, Fail> {
+    let shared = with_directory(rt, alloc)?;
+    cross(rt, alloc, &shared)?;
+    tells_deadlock(rt, &shared)
+}
+
+#[test]
+fn waits_through_shared(rt: HostRuntime) -> Result<(), Fail> {
+    assert!(rt; waits_in_circle(&rt, rt.alloc())?);
+    Ok(())
 }
 
 /// The second transaction waits for the first, which another thread commits a while later.
@@ -225,7 +121,7 @@ fn waiter_lets_others_go_on(rt: HostRuntime) -> Result<(), Fail> {
 }
 
 /// Whether a waiter waits for the first transaction all its turns long, and its ask stays.
-fn waits_in_vain<R: Wait>(rt: &R, shared: &Shared, call: &Call) -> bool {
+fn waits_in_vain<R: Wait + Clock>(rt: &R, shared: &Shared, call: &Call) -> bool {
     let is_waiting = match &shared.ask_wait(rt, TxnId(2), call, 3) {
         Ok(Outcome::Waits { blockers }) => blockers.as_slice() == [TxnId(1)].as_slice(),
         _ => false,
@@ -233,7 +129,7 @@ fn waits_in_vain<R: Wait>(rt: &R, shared: &Shared, call: &Call) -> bool {
     is_waiting && shared.drop_ask(rt, TxnId(2)) == Ok(())
 }
 
-fn uses_turns_up<R: Wait>(rt: &R, alloc: Global) -> Result<bool, Fail> {
+fn uses_turns_up<R: Wait + Clock>(rt: &R, alloc: Global) -> Result<bool, Fail> {
     let call = stat_call(alloc)?;
     let shared = with_directory(rt, alloc)?;
     Ok(waits_in_vain(rt, &shared, &call))
@@ -242,6 +138,78 @@ fn uses_turns_up<R: Wait>(rt: &R, alloc: Global) -> Result<bool, Fail> {
 #[test]
 fn turns_are_used_up(rt: HostRuntime) -> Result<(), Fail> {
     assert!(rt; uses_turns_up(&rt, rt.alloc())?);
+    Ok(())
+}
+
+/// How long a waiter waits that asks three times in vain.
+fn time_in_vain<R: Wait + Clock>(rt: &R, shared: &Shared, call: &Call) -> Option<Duration> {
+    let start = Instant::now(rt).ok()?;
+    match shared.ask_wait(rt, TxnId(2), call, 3) {
+        Ok(Outcome::Waits { .. }) => start.elapsed(rt).ok(),
+        _ => None,
+    }
+}
+
+/// Begins transactions and commits them, for a while.
+fn end_others<R: Wait + Clock>(rt: &R, shared: &Shared) -> Result<(), Fault> {
+    for _ in 0..40 {
+        let other = shared.begin(rt)?;
+        shared.commit(rt, other)?;
+        thread::sleep(rt, Duration::from_millis(1));
+    }
+    Ok(())
+}
+
+/// How long a waiter waits in vain beside a thread in which others end.
+fn time_beside_others<R: Threads + Wait + Clock + Sync>(
+    rt: &R,
+    shared: &Shared,
+    call: &Call,
+) -> (Option<Duration>, Result<(), Fault>) {
+    thread::join(
+        rt,
+        || time_in_vain(rt, shared, call),
+        || end_others(rt, shared),
+    )
+}
+
+/// Whether two pauses take their time by the clock while others end.
+fn pauses_its_time<R: Threads + Wait + Clock + Sync>(rt: &R, alloc: Global) -> Result<bool, Fail> {
+    let call = stat_call(alloc)?;
+    let shared = with_directory(rt, alloc)?;
+    let (waited, ended) = time_beside_others(rt, &shared, &call);
+    let least = Duration::from_millis(2 * MOST_PAUSE);
+    Ok(ended == Ok(()) && waited.is_some_and(|waited| waited >= least))
+}
+
+#[test]
+fn ends_of_others_use_up_no_turn(rt: HostRuntime) -> Result<(), Fail> {
+    assert!(rt; pauses_its_time(&rt, rt.alloc())?);
+    Ok(())
+}
+
+/// Whether a sweep finds nothing more to drop once the directory is gone by an abort.
+fn sweeps_at_abort<R: Wait>(rt: &R, alloc: Global) -> Result<bool, Fail> {
+    let shared = with_directory(rt, alloc)?;
+    let _ = shared.abort(rt, TxnId(1))?;
+    let mut core = shared.into_core();
+    Ok(core.sweep() == 0)
+}
+
+/// The same once it is removed, and the transaction has committed.
+fn sweeps_at_commit<R: Wait>(rt: &R, alloc: Global) -> Result<bool, Fail> {
+    let path = FilePath::new(alloc, b"/a".as_slice())?;
+    let shared = with_directory(rt, alloc)?;
+    let _ = shared.ask(rt, TxnId(1), Call::Rmdir { path })?;
+    shared.commit(rt, TxnId(1))?;
+    let mut core = shared.into_core();
+    Ok(core.sweep() == 0)
+}
+
+#[test]
+fn ends_are_swept(rt: HostRuntime) -> Result<(), Fail> {
+    assert!(rt; sweeps_at_abort(&rt, rt.alloc())?);
+    assert!(rt; sweeps_at_commit(&rt, rt.alloc())?);
     Ok(())
 }
 

@@ -268,20 +268,16 @@ smaller_set s t c is there =
 
 -- How many places went.
 
-below : (a b s : ℕ) → s ≡ min a b → s < b → s ≡ a
-below a b s is h = omega arith
-
--- as many as were counted, below the largest number
-pub counted-more : (top n r sum old now new : ℕ) → sum ≡ min (n + r) top → (n < top → old ≡ n + now) → now ≡ r + new → sum < top → old ≡ sum + new
+-- as many as were counted, where there are fewer than the largest number
+pub counted-more : (top n r sum old now new : ℕ) → sum ≡ min (n + r) top → (old < top → old ≡ n + now) → now ≡ r + new → old < top → old ≡ sum + new
 counted-more top n r sum old now new is were gone h =
-    let all : sum ≡ n + r = below (n + r) top sum is h in
-    were (left top n r sum all h) ∙ ap (λ x. n + x) gone ∙ again n r new ∙ ap (λ x. x + new) (sym all)
+    let o : old ≡ n + now = were h in
+    let few : n + r < top = omega arith in
+    let all : sum ≡ n + r = least (n + r) top sum is few in
+    omega arith
   where
-    left : (top n r sum : ℕ) → sum ≡ n + r → sum < top → n < top
-    left top n r sum e h = omega arith
-
-    again : (n r new : ℕ) → n + (r + new) ≡ (n + r) + new
-    again n r new = omega arith
+    least : (a b s : ℕ) → s ≡ min a b → a < b → s ≡ a
+    least a b s is h = omega arith
 
 one_less : (n a : ℕ) → (n == 0) ≡ false → a ≡ n - 1 → n ≡ 1 + a
 one_less zero a h is = unlike refl h

@@ -369,7 +369,7 @@ impl Tree {
         ensures tidy { tidy self.new ≡ tidy self.old }
         ensures sound { AreSoundCells self.old → AreSoundCells self.new }
         ensures told { keeps.new ≡ K.all_told keeps.old }
-        ensures count { result < 2 ^ 64 - 1 → places_in self.old ≡ result + places_in self.new }
+        ensures count { places_in self.old < 2 ^ 64 - 1 → places_in self.old ≡ result + places_in self.new }
     {
         let mut dropped: u64 = 0;
         while let Some(cell) = keeps.take_let_go() {

@@ -13,7 +13,6 @@ ghost use Rattle.ft_undo.specs.Undone.{given_back, CanGiveAllBack, AreAsLeft};
 use crate::undo::{Undo, apply};
 use ft_base::Memory;
 use ft_calls::{Call, Prepared, Reply, prepare};
-use ft_posix::laws::{freshness, soundness, telling, tidying};
 use ft_tree::Tree;
 use std::alloc::Global;
 
@@ -54,10 +53,6 @@ pub fn perform(
     ensures inverse { IfOk result (λ done. map given_back done.1 ≡ before posix tree.old (outcome tree.old stamp call.now).writes) }
     ensures may_revert { IfOk result (λ done. (cells : Cells) → AreAsLeft cells tree.new (map written_cell (outcome tree.old stamp call.now).writes) → CanGiveAllBack cells done.1) }
 {
-    soundness();
-    freshness();
-    tidying();
-    telling();
     let Prepared {
         accesses: _,
         intent,

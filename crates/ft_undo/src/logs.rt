@@ -11,7 +11,6 @@ ghost use Rattle.ft_undo.specs.Logged.{IsLogged};
 use crate::undo::Undo;
 use ft_base::{Chains, Memory};
 use ft_calls::Edits;
-use ft_posix::laws::{editing, restoring, setting};
 use ft_tree::Tree;
 use std::alloc::{AllocFailed, Global};
 use std::marker::Model;
@@ -118,9 +117,6 @@ impl Logs {
         ensures kept { OnErr result (AreLists self.new (list_in self.old)) }
         ensures opened { AreOpen self.new (is_open self.old) }
     {
-        editing();
-        setting();
-        restoring();
         let undo = Undo::new(alloc);
         if let Err(failed) = self.chains.push_front(txn, Logged { stamp, undo }) {
             drop(failed);

@@ -12,7 +12,6 @@ ghost use Rattle.ft_undo.specs.Undone.{back_of, given_back, restore, restored, C
 use ft_base::{Few, Memory};
 use ft_body::BodyUndo;
 use ft_calls::{Edit, Edits, Intent};
-use ft_posix::laws::{editing, restoring, setting};
 use ft_tree::{Cell, Entry, Node, OpenFile, Tree};
 use std::alloc::Global;
 use std::marker::Model;
@@ -80,8 +79,6 @@ impl Undo {
         ensures err { OnErr result (tree.new ≡ tree.old) }
         ensures none { OnErr result (self.new ≡ self.old) }
     {
-        setting();
-        restoring();
         let back = set(tree, edit)?;
         if let Err(failed) = self.items.push(back) {
             restore(tree, failed.value);
@@ -98,8 +95,6 @@ impl Undo {
         ensures applied { IsApplied tree.old edits.old tree.new self.new result }
         ensures taken { OnOk result (edits.new ≡ []) }
     {
-        setting();
-        restoring();
         while let Some(edit) = edits.pop_front() {
             if let Err(memory) = self.set(tree, edit) {
                 self.unwind(tree);
@@ -148,9 +143,6 @@ pub fn apply(alloc: Global, tree: &mut Tree, intent: Intent<'_>) -> Result<Undo,
     ensures can_take_back { IfOk result (λ undo. CanRestoreAll tree.new undo) }
     ensures taken_back { IfOk result (λ undo. restored tree.new undo ≡ tree.old) }
 {
-    editing();
-    setting();
-    restoring();
     let Intent { told: _, mut edits } = intent;
     let mut undo = Undo::new(alloc);
     undo.fill(tree, &mut edits)?;
@@ -176,7 +168,6 @@ fn set(tree: &mut Tree, edit: Edit<'_>) -> Result<Back, Memory>
     ensures back { IfOk result (λ back. back ≡ back_of tree.old edit.entry) }
     ensures err { OnErr result (tree.new ≡ tree.old) }
 {
-    setting();
     match edit {
         Edit::Entry { entry, to } => {
             let place = entry.clone()?;

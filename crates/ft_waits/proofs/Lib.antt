@@ -10,4 +10,5 @@ pub mod Named
 pub mod Ranked
 pub mod Ordered
 pub mod Waiting
+pub mod Once
 pub mod Judged

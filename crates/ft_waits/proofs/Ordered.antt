@@ -1,12 +1,13 @@
 -- The order of edges.
-use Rattle.std.proofs.Common.{◌≡◌, ℕ, Bool, true, false, eqb, List, [], ◌∷◌, Contains, length, ◌<◌, zero, suc, get_or, inl, inr, arith, refl, sym, ap, ◌∙◌, subst}
+use Rattle.std.proofs.Common.{◌≡◌, ◌≢◌, ℕ, Bool, true, false, cond, eqb, List, [], ◌∷◌, Contains, length, ◌<◌, zero, suc, get_or, inl, inr, arith, refl, sym, ap, ◌∙◌, subst}
 use Rattle.std.proofs.lemmas.Bool.{false≢true, eqb-true}
 use Rattle.std.specs.declared.cmp.Ordering.TheVariants.{Less}
 use Rattle.std.specs.Ordering.{nat_cmp, ordering_then}
 use Rattle.std.specs.Prelude.{◌&&◌}
-use Rattle.std.specs.List.{AllByRecursion, dedup}
+use Rattle.std.specs.List.{AllByRecursion, IsDistinct, dedup, dedup_from}
 use Rattle.std.specs.List.Sorted.{IsSorted, IsStrictlySortedBy, IsPermutation}
-use Rattle.std.proofs.lemmas.List.Kept.{IsStrictlySortedBy-dedup, Contains-dedup, Contains-from_dedup}
+use Rattle.std.proofs.lemmas.List.Kept.{IsStrictlySortedBy-dedup}
+use Rattle.std.proofs.lemmas.Map.Keys.{IsDistinct-IsPermutation}
 use Rattle.std.proofs.lemmas.List.Sorted.{Contains-permutation, IsPermutation-sym}
 use Rattle.ft_waits.specs.contracts.edge.EdgeOrd.TheImpl as edge_ord
 use Rattle.ft_waits.specs.contracts.edge.EdgeKindOrd.TheImpl as kind_ord
@@ -17,7 +18,8 @@ use Rattle.ft_waits.specs.contracts.edge.EdgeOrd.TheImpl.Laws.{total-law, matche
 use Rattle.ft_waits.specs.declared.edge.Edge.{Edge}
 use Rattle.ft_waits.specs.declared.edge.EdgeKind.{EdgeKind}
 use Rattle.ft_waits.specs.declared.edge.EdgeKind.TheVariants.{Lock, Child}
-use Rattle.ft_laws.specs.Lists.{Each, In}
+use Rattle.ft_laws.specs.Lists.{Each, Pairs, In}
+use Rattle.ft_laws.proofs.Tests.{by_test}
 use Rattle.ft_waits.specs.Edges.{edge_cmp, kind_rank, AreRising}
 
 both_true : (a b : Bool) → a && b ≡ true → (a ≡ true) × (b ≡ true)
@@ -70,18 +72,42 @@ contains_in [] x h = absurd h
 contains_in (y ∷ ys) x (inl is) = (zero, omega arith, sym is)
 contains_in (y ∷ ys) x (inr h) = let (k, low, is) = contains_in ys x h in (suc k, omega arith, is)
 
--- ---- what a sort and a dedup leave
+-- ---- what a sort leaves of edges that each stand there once
 
-module _ (old sorted new : List Edge) (moved : IsPermutation old sorted) (left : new ≡ dedup edge_same.ghosts.eq sorted) where
-  pub in_order : IsSorted edge_ord.ghosts.cmp sorted → AreRising new
-  in_order rises = subst (λ (es : List Edge). AreRising es) (sym left) (strictly _ (IsStrictlySortedBy-dedup total-law matches_eq-law sorted rises))
+abbrev same : Edge → Edge → Bool
+same = edge_same.ghosts.eq
 
-  pub none_new : (e : Edge) → In e new → In e old
-  none_new e there =
-      let kept = contains_in (dedup edge_same.ghosts.eq sorted) e (subst (λ (es : List Edge). In e es) left there) in
-      in_contained old e (Contains-permutation sorted old e (IsPermutation-sym old sorted moved) (Contains-from_dedup edge_same.ghosts.eq sorted e kept))
+differ : (x y : Edge) → x ≢ y → same x y ≡ false
+differ x y apart = by_test (same x y) (λ tied. absurd (apart (same_edge x y tied))) (λ untied. untied)
 
-  pub none_lost : (e : Edge) → In e old → In e new
-  none_lost e there =
-      let among = Contains-permutation old sorted e moved (contains_in old e there) in
-      subst (λ (es : List Edge). In e es) (sym left) (in_contained (dedup edge_same.ghosts.eq sorted) e (Contains-dedup laws-law same_edge sorted e among))
+differ_all : (x : Edge) (ys : List Edge) → Each (λ y. x ≢ y) ys → AllByRecursion (λ y. same x y ≡ false) ys
+differ_all x [] h = tt
+differ_all x (y ∷ ys) h = (differ x y h.0, differ_all x ys h.1)
+
+distinct : (xs : List Edge) → Pairs (λ x y. x ≢ y) xs → IsDistinct same xs
+unfolding IsDistinct
+distinct [] h = tt
+distinct (x ∷ xs) h = (differ_all x xs h.0, distinct xs h.1)
+
+-- there is nothing for a dedup to take away
+dedup_none : (x : Edge) (xs : List Edge) → IsDistinct same (x ∷ xs) → dedup same (x ∷ xs) ≡ x ∷ xs
+unfolding IsDistinct
+dedup_none x [] h = refl
+dedup_none x (y ∷ ys) h =
+    ap (λ b. cond b (dedup_from same x ys) (x ∷ dedup_from same y ys)) (laws-law.symm y x ∙ h.0.0) ∙ ap (λ es. x ∷ es) (dedup_none y ys h.1)
+
+dedup_itself : (xs : List Edge) → IsDistinct same xs → dedup same xs ≡ xs
+dedup_itself [] h = refl
+dedup_itself (x ∷ xs) h = dedup_none x xs h
+
+module _ (old sorted : List Edge) (moved : IsPermutation old sorted) where
+  pub in_order : Pairs (λ x y. x ≢ y) old → IsSorted edge_ord.ghosts.cmp sorted → AreRising sorted
+  in_order apart rises =
+      let still = IsDistinct-IsPermutation same laws-law.symm old sorted moved (distinct old apart) in
+      strictly sorted (subst (IsStrictlySortedBy edge_ord.ghosts.cmp) (dedup_itself sorted still) (IsStrictlySortedBy-dedup total-law matches_eq-law sorted rises))
+
+  pub none_new : (e : Edge) → In e sorted → In e old
+  none_new e there = in_contained old e (Contains-permutation sorted old e (IsPermutation-sym old sorted moved) (contains_in sorted e there))
+
+  pub none_lost : (e : Edge) → In e old → In e sorted
+  none_lost e there = in_contained sorted e (Contains-permutation old sorted e moved (contains_in old e there))

@@ -38,7 +38,7 @@ in_map f [] x h = absurd h
 in_map f (y ∷ xs) x (inl is) = inl (ap f is)
 in_map f (y ∷ xs) x (inr h) = inr (in_map f xs x h)
 
-from_map : {A B : Type 0} (f : A → B) (xs : List A) (b : B) → In b (map f xs) → (x : A) × In x xs × (b ≡ f x)
+pub from_map : {A B : Type 0} (f : A → B) (xs : List A) (b : B) → In b (map f xs) → (x : A) × In x xs × (b ≡ f x)
 from_map f [] b h = absurd h
 from_map f (y ∷ xs) b (inl is) = (y, inl refl, is)
 from_map f (y ∷ xs) b (inr h) = let (x, there, is) = from_map f xs b h in (x, inr there, is)
@@ -48,7 +48,7 @@ in_flat f [] x b h k = absurd h
 in_flat f (y ∷ xs) x b (inl is) k = in_left (f y) (flat_map f xs) b (subst (λ z. In b (f z)) is k)
 in_flat f (y ∷ xs) x b (inr h) k = in_right (f y) (flat_map f xs) b (in_flat f xs x b h k)
 
-from_flat : {A B : Type 0} (f : A → List B) (xs : List A) (b : B) → In b (flat_map f xs) → (x : A) × In x xs × In b (f x)
+pub from_flat : {A B : Type 0} (f : A → List B) (xs : List A) (b : B) → In b (flat_map f xs) → (x : A) × In x xs × In b (f x)
 from_flat f [] b h = absurd h
 from_flat f (y ∷ xs) b h = elim (in_append (f y) (flat_map f xs) b h) [
   | inl k ↦ (y, inl refl, k)

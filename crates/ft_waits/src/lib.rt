@@ -7,5 +7,5 @@ mod verdict;
 mod walk;
 
 pub use edge::{Edge, EdgeKind};
-pub use listing::{edges, judged_edges};
+pub use listing::{edges, judged_edges, with_verdict};
 pub use verdict::{Verdict, judge};

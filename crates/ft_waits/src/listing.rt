@@ -1,7 +1,7 @@
 // The waits-for edges of a core, and the verdict on them.
-ghost use Rattle.std.specs.Prelude.{◌≡◌, ◌++◌, ◌↔◌, IfOk, OnOk, map};
+ghost use Rattle.std.specs.Prelude.{◌≡◌, ◌≢◌, ◌++◌, ◌↔◌, IfOk, OnOk, map};
 ghost use Rattle.std.specs.List.{flat_map};
-ghost use Rattle.ft_laws.specs.Lists.{In};
+ghost use Rattle.ft_laws.specs.Lists.{In, Pairs};
 ghost use Rattle.ft_core.specs.Reports.{as_wait};
 ghost use Rattle.ft_waits.specs.declared.edge.Edge.{Edge as EdgeValue};
 ghost use Rattle.ft_waits.specs.Edges.{AreEdgesOf, AreRising};
@@ -19,14 +19,10 @@ use ft_core::{Core, LiveChild, Pending};
 /// to each live child. Want of memory is the only refusal. Beside what `Core::pending` and `Core::children` take, it takes
 /// the time to sort the edges.
 pub fn edges(core: &Core) -> Result<Vec<Edge>, Memory>
-    ensures { IfOk result (λ edges. AreEdgesOf core.now edges.items) }
+    ensures { IfOk result (λ edges. AreEdgesOf core.now.state edges.items) }
 {
-    let Ok(waits) = core.pending() else {
-        return Err(Memory);
-    };
-    let Ok(pairs) = core.children() else {
-        return Err(Memory);
-    };
+    let waits = core.pending()?;
+    let pairs = core.children()?;
     let mut edges = Vec::new(*waits.allocator());
     list_waits(&mut edges, waits.as_slice())?;
     list_children(&mut edges, pairs.as_slice())?;
@@ -38,10 +34,19 @@ pub fn edges(core: &Core) -> Result<Vec<Edge>, Memory>
 ///
 /// Want of memory is the only refusal.
 pub fn judged_edges(core: &Core) -> Result<(Vec<Edge>, Verdict), Memory>
-    ensures edges { IfOk result (λ told. AreEdgesOf core.now told.0.items) }
+    ensures edges { IfOk result (λ told. AreEdgesOf core.now.state told.0.items) }
     ensures verdict { IfOk result (λ told. IsVerdict told.0.items told.1) }
 {
-    let edges = edges(core)?;
+    with_verdict(edges(core)?)
+}
+
+/// These waits-for edges, and the verdict on them.
+///
+/// Want of memory is the only refusal.
+pub fn with_verdict(edges: Vec<Edge>) -> Result<(Vec<Edge>, Verdict), Memory>
+    ensures edges { IfOk result (λ told. told.0.items ≡ edges.items) }
+    ensures verdict { IfOk result (λ told. IsVerdict edges.items told.1) }
+{
     let verdict = judge(*edges.allocator(), edges.as_slice())?;
     Ok((edges, verdict))
 }
@@ -84,12 +89,11 @@ fn list_children(edges: &mut Vec<Edge>, pairs: &[LiveChild]) -> Result<(), Memor
     Ok(())
 }
 
-/// Puts edges in their order, each once.
+/// Puts edges in their order.
 fn put_in_order(edges: &mut Vec<Edge>)
+    requires { Pairs (λ x y. x ≢ y) edges.old.items }
     ensures order { AreRising edges.new.items }
     ensures same { (edge : EdgeValue) → In edge edges.new.items ↔ In edge edges.old.items }
 {
     edges.sort_unstable();
-    // Each was listed once; from here on the list says so itself.
-    edges.dedup();
 }

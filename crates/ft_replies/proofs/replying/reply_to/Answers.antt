@@ -13,4 +13,4 @@ pub returns-in_err-format-in-Request-clause-err : goal.returns-in_err-format-in-
 returns-in_err-format-in-Request-clause-err c =
     let text = text_of c.carry_out-answer.result ++ 10 ∷ [] in
     let is = sym c.in-Request.is ∙ c.in_ok-meaning_of.ensures in
-    on_err _ (inr (text, subst (λ (m : Line). GivesText c.args.core.now m text c.carry_out-answer.new.core) is (c.carry_out-answer.result, c.carry_out-answer.ensures, refl)))
+    on_err _ (inr (text, subst (λ (m : Line). GivesText c.args.core.now.state m text c.carry_out-answer.new.core.state) is (c.carry_out-answer.result, c.carry_out-answer.ensures, refl)))

@@ -6,7 +6,7 @@ use Rattle.ft_replies.proofs.reporting.locks_report.Goals as goal
 
 pub returns-in_ok-format-in-Ok : goal.returns-in_ok-format-in-Ok
 returns-in_ok-format-in-Ok c =
-    let state = c.args.core.now in
+    let state = c.args.core.now.state in
     let locks = c.as_slice.result.now in
     let are = subst (λ (lines : List LockLine). AreLockLines state lines) (sym c.as_slice.ensures.value) c.in-Ok.ensures in
     inl (locks_text locks, (locks, are, refl), search rules)

@@ -7,7 +7,7 @@ use Rattle.ft_replies.proofs.reporting.waits_report.Goals as goal
 
 pub returns-in_ok-format-in-Ok : goal.returns-in_ok-format-in-Ok
 returns-in_ok-format-in-Ok c =
-    let state = c.args.core.now in
+    let state = c.args.core.now.state in
     let edges = c.as_slice.result.now in
     let verdict = c.in-Ok.verdict in
     let are = subst (λ (es : List Edge). AreEdgesOf state es) (sym c.as_slice.ensures.value) c.in-Ok.ensures.edges in

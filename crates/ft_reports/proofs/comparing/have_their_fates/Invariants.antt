@@ -1,11 +1,8 @@
-use Rattle.std.proofs.Common.{◌≡◌, take}
+use Rattle.std.proofs.Common.{take}
 use Rattle.std.specs.Prelude.{All}
 use Rattle.ft_reports.specs.Reports.{HasItsFate}
 use Rattle.ft_reports.proofs.comparing.have_their_fates.Given as goal
 
 -- the reports so far say what became of their transactions
 abbrev pub invariant-loop-report : goal.invariant-loop-report
-invariant-loop-report l = record {
-  same : l.core ≡ l.initial.core;
-  fates : All (HasItsFate l.initial.core) (take l.report-index l.reports);
-}
+invariant-loop-report l = All (HasItsFate l.core.state) (take l.report-index l.reports)

@@ -18,21 +18,21 @@ loop-begun-preserved g c =
         so_far.0 ++ more,
         consumes_more (left c.args.reader.now) (left c.loop-begun.reader) (left c.read_some.new.reader) so_far.0 more so_far.1 c.in_ok-count.ensures.bytes,
         takes_more so_far.0 c.loop-begun.begun.items more c.take_bytes.new.begun.items (held c.args.writer.now) (held c.loop-begun.writer) (held c.take_bytes.new.writer)
-            c.args.core.now c.loop-begun.core c.take_bytes.new.core so_far.2 c.in_ok-take_bytes.ensures.ok,
+            c.args.core.now.state c.loop-begun.core.state c.take_bytes.new.core.state so_far.2 c.in_ok-take_bytes.ensures.ok,
       );
     }
 
 pub returns-in_err-room-clause-fault : goal.returns-in_err-room-clause-fault
 returns-in_err-room-clause-fault g c =
-    stops_at_first c.from_residual.result (g.R.Read.remaining c.args.reader.now) (g.W.Write.contents c.args.writer.now) c.args.core.now c.from_residual.ensures
+    stops_at_first c.from_residual.result (g.R.Read.remaining c.args.reader.now) (g.W.Write.contents c.args.writer.now) c.args.core.now.state c.from_residual.ensures
 
 pub returns-in_err-count-clause-fault : goal.returns-in_err-count-clause-fault
 returns-in_err-count-clause-fault g c =
     let so_far = c.loop-begun.invariant.taken in
     let left = g.R.Read.remaining in
     let held = g.W.Write.contents in
-    let old = c.args.core.now in
-    let core = c.loop-begun.core in
+    let old = c.args.core.now.state in
+    let core = c.loop-begun.core.state in
     passed_on c.from_residual-in_err-count.result
     (λ e. StopsAt e (left c.args.reader.now) (left c.read_some.new.reader) (held c.args.writer.now) (held c.loop-begun.writer) old core) c.in_err-count.field-0.0 c.from_residual-in_err-count.ensures
     (stops_at_read (left c.args.reader.now) (left c.loop-begun.reader) (left c.read_some.new.reader) so_far.0 c.loop-begun.begun.items
@@ -46,12 +46,12 @@ returns-in_err-take_bytes-clause-fault g c =
     let fault = c.in_err-take_bytes.field-0.0 in
     let left = g.R.Read.remaining in
     let held = g.W.Write.contents in
-    let old = c.args.core.now in
-    let new = c.take_bytes.new.core in
+    let old = c.args.core.now.state in
+    let new = c.take_bytes.new.core.state in
     passed_on c.from_residual-in_err-take_bytes.result
     (λ e. StopsAt e (left c.args.reader.now) (left c.read_some.new.reader) (held c.args.writer.now) (held c.take_bytes.new.writer) old new) fault c.from_residual-in_err-take_bytes.ensures
     (stops_at_bytes (left c.args.reader.now) (left c.loop-begun.reader) (left c.read_some.new.reader) so_far.0 c.loop-begun.begun.items
-    (held c.args.writer.now) (held c.loop-begun.writer) (held c.take_bytes.new.writer) old c.loop-begun.core new so_far.1 so_far.2
+    (held c.args.writer.now) (held c.loop-begun.writer) (held c.take_bytes.new.writer) old c.loop-begun.core.state new so_far.1 so_far.2
     fault more c.in_ok-count.ensures.bytes c.in_err-take_bytes.ensures.fault)
 
 pub returns-then-is_empty-clause-ok : goal.returns-then-is_empty-clause-ok
@@ -63,7 +63,7 @@ returns-then-is_empty-clause-ok g c =
     let last = subst (λ (n : ℕ). Consumes (left c.loop-begun.reader) (left c.read_some.new.reader) (take n c.read_some.new.buffer)) c.if-count-eq0.true c.in_ok-count.ensures.bytes in
     let end = c.in_ok-count.ensures.end c.if-count-eq0.true (omega (arith, c.loop-begun.invariant.room)) in
     plays_all (left c.args.reader.now) (left c.loop-begun.reader) (left c.read_some.new.reader) so_far.0 begun.items
-    (held c.args.writer.now) (held c.loop-begun.writer) (held c.loop-begun.writer) c.args.core.now c.loop-begun.core c.loop-begun.core so_far.1 so_far.2
+    (held c.args.writer.now) (held c.loop-begun.writer) (held c.loop-begun.writer) c.args.core.now.state c.loop-begun.core.state c.loop-begun.core.state so_far.1 so_far.2
     (none_left (vec_len begun) begun.items begun.ok.0 c.if-is_empty.ensures) last end
 
 pub returns-clause-ok : goal.returns-clause-ok
@@ -72,13 +72,13 @@ returns-clause-ok g c =
     let begun = c.loop-begun.begun in
     let left = g.R.Read.remaining in
     let held = g.W.Write.contents in
-    let core = c.loop-begun.core in
-    let new = c.play_line.new.core in
+    let core = c.loop-begun.core.state in
+    let new = c.play_line.new.core.state in
     let last = subst (λ (n : ℕ). Consumes (left c.loop-begun.reader) (left c.read_some.new.reader) (take n c.read_some.new.buffer)) c.if-count-eq0.true c.in_ok-count.ensures.bytes in
     let end = c.in_ok-count.ensures.end c.if-count-eq0.true (omega (arith, c.loop-begun.invariant.room)) in
     on_ok_weaker c.play_line.result
     (λ plays. plays_last (left c.args.reader.now) (left c.loop-begun.reader) (left c.read_some.new.reader) so_far.0 begun.items
-    (held c.args.writer.now) (held c.loop-begun.writer) (held c.play_line.new.writer) c.args.core.now core new so_far.1 so_far.2
+    (held c.args.writer.now) (held c.loop-begun.writer) (held c.play_line.new.writer) c.args.core.now.state core new so_far.1 so_far.2
     (some_left (vec_len begun) begun.items begun.ok.0 c.if-is_empty.ensures) last end
     (subst (λ (t : List ℕ). Plays (t ∷ []) (held c.loop-begun.writer) (held c.play_line.new.writer) core new) c.as_slice.ensures.value plays))
     c.play_line.ensures.ok
@@ -89,11 +89,11 @@ returns-clause-fault g c =
     let begun = c.loop-begun.begun in
     let left = g.R.Read.remaining in
     let held = g.W.Write.contents in
-    let core = c.loop-begun.core in
-    let new = c.play_line.new.core in
+    let core = c.loop-begun.core.state in
+    let new = c.play_line.new.core.state in
     let last = subst (λ (n : ℕ). Consumes (left c.loop-begun.reader) (left c.read_some.new.reader) (take n c.read_some.new.buffer)) c.if-count-eq0.true c.in_ok-count.ensures.bytes in
     let end = c.in_ok-count.ensures.end c.if-count-eq0.true (omega (arith, c.loop-begun.invariant.room)) in
     by_fault c.play_line.result c.play_line.ensures.fault
     (λ fault h. stops_at_last (left c.args.reader.now) (left c.loop-begun.reader) (left c.read_some.new.reader) so_far.0 begun.items
-    (held c.args.writer.now) (held c.loop-begun.writer) (held c.play_line.new.writer) c.args.core.now core new so_far.1 so_far.2
+    (held c.args.writer.now) (held c.loop-begun.writer) (held c.play_line.new.writer) c.args.core.now.state core new so_far.1 so_far.2
     fault last end (subst (λ (t : List ℕ). StopsLine fault t (held c.loop-begun.writer) (held c.play_line.new.writer) core new) c.as_slice.ensures.value h))

@@ -9,7 +9,7 @@ abbrev pub invariant-loop-begun : goal.invariant-loop-begun
 invariant-loop-begun g l = record {
   room : length l.chunk ≡ CHUNK;
   taken : (bytes : List ℕ) × Consumes (g.R.Read.remaining l.initial.reader) (g.R.Read.remaining l.reader) bytes
-      × TakesAll bytes l.begun.items (g.W.Write.contents l.initial.writer) (g.W.Write.contents l.writer) l.initial.core l.core;
+      × TakesAll bytes l.begun.items (g.W.Write.contents l.initial.writer) (g.W.Write.contents l.writer) l.initial.core.state l.core.state;
 }
 
 abbrev pub decreases-loop-begun : goal.decreases-loop-begun

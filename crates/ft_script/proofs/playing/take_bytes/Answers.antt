@@ -15,8 +15,8 @@ returns-in_err-lengthen-clause-fault g c =
     let bytes = c.args.begun.now.items ++ c.args.bytes.now in
     let before = g.W.Write.contents c.args.writer.now in
     let held = g.W.Write.contents c.loop-piece.writer in
-    let old = c.args.core.now in
-    let core = c.loop-piece.core in
+    let old = c.args.core.now.state in
+    let core = c.loop-piece.core.state in
     let fault = c.in_err-lengthen.field-0.0 in
     let rest = piece ++ 10 ∷ c.in-Some.behind.now in
     let cuts = subst (λ (t : List ℕ). Cuts bytes so_far.0 (begun ++ t)) parts.1 so_far.1 in
@@ -34,9 +34,9 @@ returns-in_err-play_line-clause-fault g c =
     let before = g.W.Write.contents c.args.writer.now in
     let held = g.W.Write.contents c.loop-piece.writer in
     let after = g.W.Write.contents c.play_line.new.writer in
-    let old = c.args.core.now in
-    let core = c.loop-piece.core in
-    let new = c.play_line.new.core in
+    let old = c.args.core.now.state in
+    let core = c.loop-piece.core.state in
+    let new = c.play_line.new.core.state in
     let fault = c.in_err-play_line.field-0.0 in
     let line = begun ++ piece in
     let line_is = c.in_ok-lengthen.ensures.ok in
@@ -61,8 +61,8 @@ loop-piece-preserved g c =
     let before = g.W.Write.contents c.args.writer.now in
     let held = g.W.Write.contents c.loop-piece.writer in
     let after = g.W.Write.contents c.play_line.new.writer in
-    let core = c.loop-piece.core in
-    let new = c.play_line.new.core in
+    let core = c.loop-piece.core.state in
+    let new = c.play_line.new.core.state in
     let line_is = c.in_ok-lengthen.ensures.ok in
     let lines = so_far.0 ++ (begun ++ piece) ∷ [] in
     let cuts = subst (λ (t : List ℕ). Cuts bytes so_far.0 (begun ++ t)) parts.1 so_far.1 in
@@ -72,7 +72,7 @@ loop-piece-preserved g c =
       lines,
       subst (λ (t : List ℕ). Cuts bytes lines (t ++ behind)) (sym c.clear.ensures.items) more,
       subst (IsFreeOf 10) (sym c.clear.ensures.items) refl,
-      plays_more so_far.0 ((begun ++ piece) ∷ []) before held after c.args.core.now core new so_far.3 plays,
+      plays_more so_far.0 ((begun ++ piece) ∷ []) before held after c.args.core.now.state core new so_far.3 plays,
     )
 
 pub returns-clause-fault : goal.returns-clause-fault
@@ -83,5 +83,5 @@ returns-clause-fault g c =
     let bytes = c.args.begun.now.items ++ c.args.bytes.now in
     let before = g.W.Write.contents c.args.writer.now in
     let held = g.W.Write.contents c.loop-piece.writer in
-    stopped_at_last_piece bytes so_far.0 (begun ++ rest) before held c.args.core.now c.loop-piece.core so_far.1 so_far.3 c.lengthen-2.result ⊥ c.lengthen-2.ensures.cause
+    stopped_at_last_piece bytes so_far.0 (begun ++ rest) before held c.args.core.now.state c.loop-piece.core.state so_far.1 so_far.3 c.lengthen-2.result ⊥ c.lengthen-2.ensures.cause
     (λ is. subst (λ (t : List ℕ). BeginsTooLong (begun ++ t)) (append-nil rest) (too_long begun rest [] so_far.2 c.in_default.ensures (c.lengthen-2.ensures.too_long.0 is)))

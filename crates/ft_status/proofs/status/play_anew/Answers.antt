@@ -10,7 +10,7 @@ returns-in-Ok-clause-ok g c =
     let left_after = g.R.Read.remaining c.play.new.reader in
     let held = g.W.Write.contents c.args.writer.now in
     let held_after = g.W.Write.contents c.play.new.writer in
-    on_ok_weaker c.play.result (λ plays. (c.play.new.core, subst (λ (old : State). PlaysAll left left_after held held_after old c.play.new.core) c.in-Ok.ensures plays)) c.play.ensures.ok
+    on_ok_weaker c.play.result (λ plays. (c.play.new.core.state, subst (λ (old : State). PlaysAll left left_after held held_after old c.play.new.core.state) c.in-Ok.ensures plays)) c.play.ensures.ok
 
 pub returns-in-Ok-clause-fault : goal.returns-in-Ok-clause-fault
 returns-in-Ok-clause-fault g c =
@@ -19,4 +19,4 @@ returns-in-Ok-clause-fault g c =
     let held = g.W.Write.contents c.args.writer.now in
     let held_after = g.W.Write.contents c.play.new.writer in
     MatchResult-weaker c.play.result c.play.ensures.fault (λ done h. h)
-    (λ fault stops. inr (c.play.new.core, subst (λ (old : State). StopsAt fault left left_after held held_after old c.play.new.core) c.in-Ok.ensures stops))
+    (λ fault stops. inr (c.play.new.core.state, subst (λ (old : State). StopsAt fault left left_after held held_after old c.play.new.core.state) c.in-Ok.ensures stops))

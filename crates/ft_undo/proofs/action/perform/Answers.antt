@@ -9,6 +9,9 @@ use Rattle.ft_posix.specs.Perform.{OnlyTells}
 use Rattle.ft_posix.specs.Posix.{posix}
 use Rattle.ft_posix.specs.Stored.{put_all}
 use Rattle.ft_undo.specs.Undone.{AreAsLeft}
+use Rattle.ft_posix.proofs.Changes.{call-changes, only_tells-none}
+use Rattle.ft_posix.proofs.Executed.{tidying}
+use Rattle.ft_posix.proofs.Kept.{soundness, freshness}
 use Rattle.ft_undo.proofs.action.perform.Goals as goal
 
 pub apply-requires : goal.apply-requires
@@ -28,11 +31,11 @@ returns c =
     record {
       reply = reply;
       stored = stored;
-      plain = c.tidying.ensures old k call sound free ∙ sym (λ i. (tidy (stored i), reply i));
+      plain = tidying old k call sound free ∙ sym (λ i. (tidy (stored i), reply i));
       refused = tt;
-      stays_sound = subst AreSoundCells (sym stored) (c.soundness.ensures old k call sound free);
-      stays_free = λ j too other. subst (λ (cells : Cells). IsFree cells j) (sym stored) (c.freshness.ensures old k call sound free j too other);
-      told_alone = λ tells. stored ∙ ap (put_all old) (c.telling.ensures old k call sound (subst OnlyTells reply tells));
+      stays_sound = subst AreSoundCells (sym stored) (soundness old k call sound free);
+      stays_free = λ j too other. subst (λ (cells : Cells). IsFree cells j) (sym stored) (freshness old k call sound free j too other);
+      told_alone = λ tells. stored ∙ ap (put_all old) (only_tells-none old k _ _ (call-changes old sound k call) (subst OnlyTells reply tells));
       left = subst (λ (o : Outcome). AreAsLeft c.apply.new.tree c.apply.new.tree (map written_cell o.writes)) comes made.left;
       inverse = made.inverse ∙ ap (λ (o : Outcome). before posix old o.writes) comes;
       may_revert = λ cells left. made.may_revert cells (subst (λ (o : Outcome). AreAsLeft cells c.apply.new.tree (map written_cell o.writes)) (sym comes) left);

@@ -8,6 +8,7 @@ use Rattle.ft_posix.specs.Comes.{write_of}
 use Rattle.ft_posix.specs.Stored.{put}
 use Rattle.ft_undo.specs.declared.undo.Back.TheVariants as back
 use Rattle.ft_undo.specs.Undone.{back_of}
+use Rattle.ft_posix.proofs.Setting.{setting}
 use Rattle.ft_undo.proofs.undo.set.Goals as goal
 
 -- the bytes that are set are the ones after the change
@@ -20,12 +21,12 @@ after_set setting old new i bytes is = ap (change (bytes_of old i)) (ap (λ (s :
 pub returns-in_ok-undo-in-Overwrite-clause-back : goal.returns-in_ok-undo-in-Overwrite-clause-back
 returns-in_ok-undo-in-Overwrite-clause-back c =
     let done = c.in_ok-undo-in-Overwrite in
-    ap (back.Bytes c.in-Overwrite.file) (done.ensures.undo ∙ after_set c.setting.ensures c.args.tree.now c.write_bytes.new.self c.in-Overwrite.file _ done.ensures.ok) ∙ sym (ap (back_of c.args.tree.now) c.in-Overwrite.is)
+    ap (back.Bytes c.in-Overwrite.file) (done.ensures.undo ∙ after_set setting c.args.tree.now c.write_bytes.new.self c.in-Overwrite.file _ done.ensures.ok) ∙ sym (ap (back_of c.args.tree.now) c.in-Overwrite.is)
 
 pub returns-in_ok-undo-in-Resize-clause-back : goal.returns-in_ok-undo-in-Resize-clause-back
 returns-in_ok-undo-in-Resize-clause-back c =
     let done = c.in_ok-undo-in-Resize in
-    ap (back.Bytes c.in-Resize.file) (done.ensures.undo ∙ after_set c.setting.ensures c.args.tree.now c.set_size.new.self c.in-Resize.file _ done.ensures.ok) ∙ sym (ap (back_of c.args.tree.now) c.in-Resize.is)
+    ap (back.Bytes c.in-Resize.file) (done.ensures.undo ∙ after_set setting c.args.tree.now c.set_size.new.self c.in-Resize.file _ done.ensures.ok) ∙ sym (ap (back_of c.args.tree.now) c.in-Resize.is)
 
 -- what makes an edit puts what it writes
 puts : (cells new : Cells) (edit made : Edit) → edit ≡ made → new ≡ put cells (write_of cells made) → new ≡ put cells (write_of cells edit)

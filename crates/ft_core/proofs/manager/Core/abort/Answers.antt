@@ -1,17 +1,20 @@
-use Rattle.std.proofs.Common.{sym, subst}
+use Rattle.std.proofs.Common.{None, ap, ◌∙◌}
 use Rattle.ft_core.specs.declared.request.Answer.TheVariants.{Aborted}
-use Rattle.ft_core.specs.declared.request.Request.TheVariants.{Abort}
-use Rattle.ft_core.specs.States.{State, history}
-use Rattle.ft_core.specs.Steps.{IsStep, exact_rule, answer_with}
-use Rattle.ft_core.specs.Kept.{IsKept}
-use Rattle.ft_core.proofs.Alone.{step-alone}
+use Rattle.ft_core.specs.States.{State, tree_of}
+use Rattle.ft_core.specs.Steps.{exact_rule}
+use Rattle.ft_core.proofs.Ended.{step-abort, live-refused}
+use Rattle.ft_core.proofs.Gathered.{state-is}
 use Rattle.ft_core.proofs.manager.Core.abort.Goals as goal
 
 pub returns-clause-step : goal.returns-clause-step
-returns-clause-step c = subst (λ (q : State). IsStep exact_rule c.args.self.now (Abort c.args.txn) (answer_with Aborted c.abort_below-count.result) q) (sym c.give_places_back.ensures) c.abort_below-count.ensures
+returns-clause-step c =
+    step-abort exact_rule c.args.self.now.state c.give_places_back.new.self.state c.args.txn c.abort_live-count.result c.in_ok-check_live.ensures.live c.abort_live-count.ensures.count (state-is c.give_places_back.ensures ∙ c.abort_live-count.ensures.ended)
 
 pub returns-clause-alone : goal.returns-clause-alone
-returns-clause-alone c = λ before alone.
-    step-alone c.call_laws.ensures exact_rule before c.args.self.now c.give_places_back.new.self c.args.txn (answer_with Aborted c.abort_below-count.result) c.self.inside.tree c.self.invariant.log
-    (subst (λ (s : State). IsKept s.base (history s) s.last_txn s.last_stamp c.self.inside.tree c.self.invariant.log) c.self.view_is c.self.invariant.kept) alone
-    (subst (λ (q : State). IsStep exact_rule c.args.self.now (Abort c.args.txn) (answer_with Aborted c.abort_below-count.result) q) (sym c.give_places_back.ensures) c.abort_below-count.ensures)
+returns-clause-alone c = λ before alone. (
+  ap Aborted c.abort_live-count.ensures.count,
+  ap (λ (s : State). tree_of s) (state-is c.give_places_back.ensures ∙ c.abort_live-count.ensures.ended) ∙ c.abort_live-count.ensures.alone before alone,
+)
+
+pub returns-in_err-check_live-clause-alone : goal.returns-in_err-check_live-clause-alone
+returns-in_err-check_live-clause-alone c = λ before alone. absurd (live-refused c.args.self.now.state c.args.txn c.in_err-check_live.field-0.0 alone.live (c.in_err-check_live.ensures.refused None))

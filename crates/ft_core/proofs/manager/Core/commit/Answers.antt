@@ -1,67 +1,79 @@
-use Rattle.std.proofs.Common.{◌≡◌, ◌∙◌, ℕ, Some, true, false, refl, ap, sym, arith}
+use Rattle.std.proofs.Common.{◌≡◌, ◌∙◌, ℕ, Some, true, false, refl, ap, sym, subst, arith}
 use Rattle.std.specs.FinMap as finite
 use Rattle.ft_posix.specs.Posix.{posix_calls}
 use Rattle.ft_forest.specs.Transactions.{IsLiveChild}
 use Rattle.ft_history.specs.History.{live_children}
 use Rattle.ft_history.specs.History.Fate.{Live}
 use Rattle.ft_core.specs.declared.request.Event.TheVariants.{Commit as CommitEvent}
-use Rattle.ft_core.specs.Handing.{noted_up}
-use Rattle.ft_core.specs.Journals.{Journaled, state_of, with_event, without}
+use Rattle.ft_core.specs.declared.parts.Parts.{Parts}
+use Rattle.ft_core.specs.Journals.{Journaled, state_of, with_event, without, noted_up}
+use Rattle.ft_core.specs.Kept.{IsCoreOf}
 use Rattle.ft_core.specs.States.{State, history, fate_of, has_live_child, after_commit}
 use Rattle.ft_core.specs.Steps.{exact_rule}
+use Rattle.ft_core.proofs.Gathered.{state-is}
+use Rattle.ft_core.proofs.Known.{call_laws, lock_laws}
 use Rattle.ft_core.proofs.Children.{no-child, some-child}
-use Rattle.ft_core.proofs.Commits.{core-commit, may-hand, place-commit}
+use Rattle.ft_core.proofs.Commits.{core-commit, may-hand, may-note, place-commit}
 use Rattle.ft_core.proofs.Ended.{core-ended, state-ended, told-commit, step-child, step-commit, longer-none}
 use Rattle.ft_core.proofs.manager.Core.commit.Goals as goal
 
 pub returns-then-live_children-gt0 : goal.returns-then-live_children-gt0
 returns-then-live_children-gt0 c =
     let i = c.self.inside in
-    let s : State = state_of i.forest i.journal in
+    let s : State = state_of i.parts.forest i.journal in
     let child = c.live_children.ensures.some (omega arith) in
-    let some : has_live_child s c.args.txn ≡ true = some-child c.call_laws.ensures s.base (history s) s.asks s.last_txn s.last_stamp i.tree i.forest i.locks i.logs i.journal c.self.invariant c.args.txn child.0 child.1 in
-    (step-child exact_rule c.args.self.now c.args.txn c.in_ok-check_live.ensures.live (ap (λ (q : State). has_live_child q c.args.txn) (sym c.self.view_is) ∙ some)).0
+    let some : has_live_child s c.args.txn ≡ true = some-child call_laws c.self.invariant c.args.txn child.0 child.1 in
+    (step-child exact_rule c.args.self.now.state c.args.txn c.in_ok-check_live.ensures.live (ap (λ (q : State). has_live_child q c.args.txn) (sym (state-is c.self.view_is)) ∙ some)).0
 
 pub hand_up-requires-clause-parent : goal.hand_up-requires-clause-parent
 hand_up-requires-clause-parent c =
     let i = c.self.inside in
-    let s : State = state_of i.forest i.journal in
-    let live : fate_of s c.args.txn ≡ Some Live = ap (λ (q : State). fate_of q c.args.txn) c.self.view_is ∙ c.in_ok-check_live.ensures.live in
-    let none : (x : ℕ) → IsLiveChild i.forest c.args.txn x → ⊥ = c.live_children.ensures.none (omega arith) in
-    may-hand c.call_laws.ensures c.lock_laws.ensures s.base (history s) s.asks s.last_txn s.last_stamp i.tree i.forest i.locks i.logs i.journal c.self.invariant c.args.txn live none c.parent-parent.result c.parent-parent.ensures.parent
+    let s : State = state_of i.parts.forest i.journal in
+    let live : fate_of s c.args.txn ≡ Some Live = ap (λ (q : State). fate_of q c.args.txn) (state-is c.self.view_is) ∙ c.in_ok-check_live.ensures.live in
+    let none : (x : ℕ) → IsLiveChild i.parts.forest c.args.txn x → ⊥ = c.live_children.ensures.none (omega arith) in
+    may-hand call_laws lock_laws c.self.invariant c.args.txn live none c.parent-parent.result c.parent-parent.ensures.parent
+
+pub note_sub-requires : goal.note_sub-requires
+note_sub-requires c =
+    let i = c.self.inside in
+    let s : State = state_of i.parts.forest i.journal in
+    let live : fate_of s c.args.txn ≡ Some Live = ap (λ (q : State). fate_of q c.args.txn) (state-is c.self.view_is) ∙ c.in_ok-check_live.ensures.live in
+    let none : (x : ℕ) → IsLiveChild i.parts.forest c.args.txn x → ⊥ = c.live_children.ensures.none (omega arith) in
+    may-note call_laws lock_laws c.self.invariant c.args.txn live none c.parent-parent.result c.parent-parent.ensures.parent
 
 pub tell-requires : goal.tell-requires
 tell-requires c =
     let i = c.self.inside in
-    let s : State = state_of i.forest i.journal in
-    let live : fate_of s c.args.txn ≡ Some Live = ap (λ (q : State). fate_of q c.args.txn) c.self.view_is ∙ c.in_ok-check_live.ensures.live in
-    let none : (x : ℕ) → IsLiveChild i.forest c.args.txn x → ⊥ = c.live_children.ensures.none (omega arith) in
-    place-commit c.call_laws.ensures c.lock_laws.ensures s.base (history s) s.asks s.last_txn s.last_stamp i.tree i.forest i.locks i.logs i.journal c.self.invariant c.args.txn live none c.parent-parent.result c.forget.new.self
-    (c.forget.ensures ∙ ap (λ (q : Journaled). without q c.args.txn) c.hand_up.ensures.noted)
+    let s : State = state_of i.parts.forest i.journal in
+    let live : fate_of s c.args.txn ≡ Some Live = ap (λ (q : State). fate_of q c.args.txn) (state-is c.self.view_is) ∙ c.in_ok-check_live.ensures.live in
+    let none : (x : ℕ) → IsLiveChild i.parts.forest c.args.txn x → ⊥ = c.live_children.ensures.none (omega arith) in
+    place-commit call_laws lock_laws c.self.invariant c.args.txn live none c.parent-parent.result c.forget.new.self
+    (c.forget.ensures ∙ ap (λ (q : Journaled). without q c.args.txn) c.note_sub.ensures)
 
 pub invariant_of-self-2 : goal.invariant_of-self-2
 invariant_of-self-2 c =
     let i = c.self.inside in
-    let s : State = state_of i.forest i.journal in
-    let live : fate_of s c.args.txn ≡ Some Live = ap (λ (q : State). fate_of q c.args.txn) c.self.view_is ∙ c.in_ok-check_live.ensures.live in
-    let none : (x : ℕ) → IsLiveChild i.forest c.args.txn x → ⊥ = c.live_children.ensures.none (omega arith) in
+    let s : State = state_of i.parts.forest i.journal in
+    let live : fate_of s c.args.txn ≡ Some Live = ap (λ (q : State). fate_of q c.args.txn) (state-is c.self.view_is) ∙ c.in_ok-check_live.ensures.live in
+    let none : (x : ℕ) → IsLiveChild i.parts.forest c.args.txn x → ⊥ = c.live_children.ensures.none (omega arith) in
     let told : c.tell.new.self ≡ with_event (without (noted_up i.journal c.parent-parent.result) c.args.txn) (CommitEvent c.args.txn) =
-    c.tell.ensures ∙ ap (λ (q : Journaled). with_event q (CommitEvent c.args.txn)) (c.forget.ensures ∙ ap (λ (q : Journaled). without q c.args.txn) c.hand_up.ensures.noted) in
-    core-ended s (state_of c.commit.new.self c.tell.new.self) (CommitEvent c.args.txn) (finite.remove i.journal.asks c.args.txn) i.tree c.commit.new.self c.hand_up.new.locks c.hand_up.new.logs c.tell.new.self
-    (state-ended i.forest c.commit.new.self i.journal c.tell.new.self (CommitEvent c.args.txn) (finite.remove i.journal.asks c.args.txn) c.in_ok-commit.ensures.committed.base c.in_ok-commit.ensures.committed.last
+    c.tell.ensures ∙ ap (λ (q : Journaled). with_event q (CommitEvent c.args.txn)) (c.forget.ensures ∙ ap (λ (q : Journaled). without q c.args.txn) c.note_sub.ensures) in
+    subst (λ (p : Parts). IsCoreOf (state_of p.forest c.tell.new.self) p c.tell.new.self) (sym c.hand_up.ensures.others)
+    (core-ended s (state_of c.commit.new.self c.tell.new.self) (CommitEvent c.args.txn) (finite.remove i.journal.asks c.args.txn)
+    (state-ended i.parts.forest c.commit.new.self i.journal c.tell.new.self (CommitEvent c.args.txn) (finite.remove i.journal.asks c.args.txn) c.in_ok-commit.ensures.committed.base c.in_ok-commit.ensures.committed.last
     (told-commit i.journal c.tell.new.self c.args.txn c.parent-parent.result told))
-    (core-commit c.call_laws.ensures c.lock_laws.ensures s.base (history s) s.asks s.last_txn s.last_stamp i.tree i.forest i.locks i.logs i.journal c.self.invariant c.args.txn live none refl c.parent-parent.result c.parent-parent.ensures.parent
-    c.commit.new.self c.in_ok-commit.ensures.committed c.hand_up.new.locks c.hand_up.ensures.locks c.hand_up.new.logs c.hand_up.ensures.lists c.hand_up.ensures.opened c.tell.new.self told)
+    (core-commit call_laws lock_laws c.self.invariant c.args.txn live none refl c.parent-parent.result c.parent-parent.ensures.parent
+    c.commit.new.self c.in_ok-commit.ensures.committed c.hand_up.new.self.locks c.hand_up.ensures.locks c.hand_up.new.self.logs c.hand_up.ensures.lists c.hand_up.ensures.opened c.tell.new.self told))
 
 pub returns : goal.returns
 returns c =
     let i = c.self.inside in
-    let s : State = state_of i.forest i.journal in
-    let childless = no-child c.call_laws.ensures s.base (history s) s.asks s.last_txn s.last_stamp i.tree i.forest i.locks i.logs i.journal c.self.invariant c.args.txn (c.live_children.ensures.none (omega arith)) in
-    let none : has_live_child s c.args.txn ≡ false = longer-none (live_children posix_calls i.forest.base (history s) c.args.txn) childless in
+    let s : State = state_of i.parts.forest i.journal in
+    let childless = no-child call_laws c.self.invariant c.args.txn (c.live_children.ensures.none (omega arith)) in
+    let none : has_live_child s c.args.txn ≡ false = longer-none (live_children posix_calls i.parts.forest.base (history s) c.args.txn) childless in
     let told : c.tell.new.self ≡ with_event (without (noted_up i.journal c.parent-parent.result) c.args.txn) (CommitEvent c.args.txn) =
-    c.tell.ensures ∙ ap (λ (q : Journaled). with_event q (CommitEvent c.args.txn)) (c.forget.ensures ∙ ap (λ (q : Journaled). without q c.args.txn) c.hand_up.ensures.noted) in
-    let state = state-ended i.forest c.commit.new.self i.journal c.tell.new.self (CommitEvent c.args.txn) (finite.remove i.journal.asks c.args.txn) c.in_ok-commit.ensures.committed.base c.in_ok-commit.ensures.committed.last
+    c.tell.ensures ∙ ap (λ (q : Journaled). with_event q (CommitEvent c.args.txn)) (c.forget.ensures ∙ ap (λ (q : Journaled). without q c.args.txn) c.note_sub.ensures) in
+    let state = state-ended i.parts.forest c.commit.new.self i.journal c.tell.new.self (CommitEvent c.args.txn) (finite.remove i.journal.asks c.args.txn) c.in_ok-commit.ensures.committed.base c.in_ok-commit.ensures.committed.last
     (told-commit i.journal c.tell.new.self c.args.txn c.parent-parent.result told) in
-    step-commit exact_rule c.args.self.now c.give_places_back.new.self c.args.txn c.in_ok-check_live.ensures.live (ap (λ (q : State). has_live_child q c.args.txn) (sym c.self.view_is) ∙ none)
-    (c.give_places_back.ensures ∙ state ∙ ap (λ (q : State). after_commit q c.args.txn) c.self.view_is)
+    step-commit exact_rule c.args.self.now.state c.give_places_back.new.self.state c.args.txn c.in_ok-check_live.ensures.live (ap (λ (q : State). has_live_child q c.args.txn) (sym (state-is c.self.view_is)) ∙ none)
+    (state-is c.give_places_back.ensures ∙ ap (λ (p : Parts). state_of p.forest c.tell.new.self) c.hand_up.ensures.others ∙ state ∙ ap (λ (q : State). after_commit q c.args.txn) (state-is c.self.view_is))

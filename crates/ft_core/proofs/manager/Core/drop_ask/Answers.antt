@@ -1,6 +1,5 @@
 use Rattle.std.proofs.Common.{refl, sym, subst}
 use Rattle.std.specs.FinMap as finite
-use Rattle.ft_core.specs.States.{history}
 use Rattle.ft_core.specs.Journals.{Journaled, state_of}
 use Rattle.ft_core.specs.Kept.{IsCoreOf}
 use Rattle.ft_core.proofs.Cores.{core-asks, dropped}
@@ -9,8 +8,6 @@ use Rattle.ft_core.proofs.manager.Core.drop_ask.Goals as goal
 pub invariant_of-self : goal.invariant_of-self
 invariant_of-self c =
     let i = c.self.inside in
-    let s = state_of i.forest i.journal in
     let asks = finite.remove i.journal.asks c.args.txn in
-    subst (λ (j : Journaled). IsCoreOf (state_of i.forest j) i.tree i.forest i.locks i.logs j) (sym c.drop_ask.ensures)
-    (core-asks s.base (history s) s.asks s.last_txn s.last_stamp i.tree i.forest i.locks i.logs i.journal c.self.invariant asks
-    (dropped s.base (history s) s.asks s.last_txn s.last_stamp i.tree i.forest i.locks i.logs i.journal c.self.invariant c.args.txn) (record i.journal { asks = asks }) refl refl refl)
+    subst (λ (j : Journaled). IsCoreOf (state_of i.parts.forest j) i.parts j) (sym c.drop_ask.ensures)
+    (core-asks c.self.invariant asks (dropped c.self.invariant c.args.txn) (record i.journal { asks = asks }) refl refl refl)

@@ -1,66 +1,88 @@
 use Rattle.std.proofs.Common.{◌≡◌, ◌+◌, sym, ap, subst, ◌∙◌}
+use Rattle.std.specs.FinMap as finite
 use Rattle.ft_moss.specs.Rules.{is_strict}
-use Rattle.ft_core.specs.States.{State, history, fate_of, has_most_calls, after_wait}
-use Rattle.ft_core.specs.Journals.{Journaled, is_full, state_of}
+use Rattle.ft_core.specs.States.{State, fate_of, has_most_calls, after_wait}
+use Rattle.ft_core.specs.Journals.{Journaled, asked_for, state_of}
 use Rattle.ft_core.specs.Tries.{IsTried}
-use Rattle.ft_core.proofs.Asks.{full-same, core-unmade, tried-made, waits-for, core-waits}
+use Rattle.ft_core.proofs.Asks.{full-same, core-unmade, tried-made, waits-for, core-waits, waits-on}
+use Rattle.ft_core.proofs.Gathered.{state-is}
+use Rattle.ft_core.proofs.Known.{call_laws, lock_laws}
 use Rattle.ft_core.proofs.Surveys.{alone-there}
 use Rattle.ft_core.proofs.manager.Core.request.Goals as goal
 
 pub try_call-requires-clause-alone : goal.try_call-requires-clause-alone
-try_call-requires-clause-alone c =
-    let i = c.self.inside in
-    let s : State = state_of i.forest i.journal in
-    alone-there c.call_laws.ensures c.lock_laws.ensures s.base (history s) s.asks s.last_txn s.last_stamp i.tree i.forest i.locks i.logs i.journal c.self.invariant c.args.txn
+try_call-requires-clause-alone c = alone-there call_laws lock_laws c.self.invariant c.args.txn
 
 pub try_call-requires-clause-no_holder : goal.try_call-requires-clause-no_holder
 try_call-requires-clause-no_holder c strict = c.self.invariant.no_holder (sym (ap is_strict (c.rule-rule.ensures ∙ ap (λ (q : Journaled). q.rule) c.reserve.ensures.same)) ∙ strict)
 
-pub invariant_of-self-in_err-tried : goal.invariant_of-self-in_err-tried
-invariant_of-self-in_err-tried c =
-    let i = c.self.inside in
-    core-unmade c.call_laws.ensures c.lock_laws.ensures i.tree i.forest i.locks i.logs i.journal c.self.invariant c.try_call.new.tree c.try_call.new.locks c.try_call.new.logs c.reserve.new.self c.in_err-tried.ensures.unmade c.reserve.ensures.same
-
-pub grant-requires-clause-few : goal.grant-requires-clause-few
-grant-requires-clause-few c =
-    let i = c.self.inside in
-    ap is_full c.reserve.ensures.same ∙ full-same c.call_laws.ensures c.lock_laws.ensures i.tree i.forest i.locks i.logs i.journal c.self.invariant ∙ ap has_most_calls c.self.view_is ∙ c.requires.few
+pub invariant_of-self-in_err-reply : goal.invariant_of-self-in_err-reply
+invariant_of-self-in_err-reply c = core-unmade call_laws lock_laws c.self.inside.parts c.self.inside.journal c.self.invariant c.try_call.new.self c.reserve.new.self c.in_err-reply.ensures.unmade c.reserve.ensures.same
 
 pub invariant_of-self-in-Made : goal.invariant_of-self-in-Made
 invariant_of-self-in-Made c =
     let i = c.self.inside in
-    (tried-made c.call_laws.ensures c.lock_laws.ensures i.tree i.forest i.locks i.logs i.journal c.self.invariant c.args.self.now c.self.view_is c.args.txn c.args.call c.requires.live c.next_stamp-stamp.result (c.next_stamp-stamp.ensures ∙ ap (λ (q : Journaled). q.last_stamp + 1) c.reserve.ensures.same)
-    c.try_call.new.tree c.try_call.new.locks c.try_call.new.logs c.in-Made.field-0 (subst (IsTried i.journal.rule i.tree c.try_call.new.tree i.locks c.try_call.new.locks i.logs c.try_call.new.logs i.forest c.args.txn c.next_stamp-stamp.result c.args.call) c.in-Made.is (subst (λ r. IsTried r i.tree c.try_call.new.tree i.locks c.try_call.new.locks i.logs c.try_call.new.logs i.forest c.args.txn c.next_stamp-stamp.result c.args.call c.in_ok-tried.tried) (c.rule-rule.ensures ∙ ap (λ (q : Journaled). q.rule) c.reserve.ensures.same) c.in_ok-tried.ensures.tried))
-    c.reserve.new.self c.grant.new.self c.reserve.ensures.same c.grant.ensures).0
+    let call = c.wanted-call.result.now in
+    let by_rule = ap (λ (q : Journaled). q.rule) c.reserve.ensures.same in
+    let stamp = c.next_stamp-stamp.ensures ∙ ap (λ (q : Journaled). q.last_stamp + 1) c.reserve.ensures.same in
+    let tried = subst (λ r. IsTried r i.parts c.try_call.new.self c.args.txn c.next_stamp-stamp.result call c.in_ok-reply.field-0) (c.rule-rule.ensures ∙ by_rule) c.in_ok-reply.ensures.tried in
+    let made = subst (IsTried i.journal.rule i.parts c.try_call.new.self c.args.txn c.next_stamp-stamp.result call) c.in-Made.is tried in
+    let few = full-same call_laws lock_laws i.parts i.journal c.self.invariant ∙ ap has_most_calls (state-is c.self.view_is) ∙ c.requires.few in
+    let told = tried-made call_laws lock_laws i.parts i.journal c.self.invariant c.args.self.now.state (state-is c.self.view_is) c.args.txn call c.requires.live few c.next_stamp-stamp.result stamp c.try_call.new.self c.in-Made.field-0 made
+    c.reserve.new.self c.grant.new.self c.reserve.ensures.same (c.grant.ensures call c.wanted-call.ensures) in
+    told.0
 
 pub returns-in-Made-clause-asked : goal.returns-in-Made-clause-asked
 returns-in-Made-clause-asked c =
     let i = c.self.inside in
-    (tried-made c.call_laws.ensures c.lock_laws.ensures i.tree i.forest i.locks i.logs i.journal c.self.invariant c.args.self.now c.self.view_is c.args.txn c.args.call c.requires.live c.next_stamp-stamp.result (c.next_stamp-stamp.ensures ∙ ap (λ (q : Journaled). q.last_stamp + 1) c.reserve.ensures.same)
-    c.try_call.new.tree c.try_call.new.locks c.try_call.new.logs c.in-Made.field-0 (subst (IsTried i.journal.rule i.tree c.try_call.new.tree i.locks c.try_call.new.locks i.logs c.try_call.new.logs i.forest c.args.txn c.next_stamp-stamp.result c.args.call) c.in-Made.is (subst (λ r. IsTried r i.tree c.try_call.new.tree i.locks c.try_call.new.locks i.logs c.try_call.new.logs i.forest c.args.txn c.next_stamp-stamp.result c.args.call c.in_ok-tried.tried) (c.rule-rule.ensures ∙ ap (λ (q : Journaled). q.rule) c.reserve.ensures.same) c.in_ok-tried.ensures.tried))
-    c.reserve.new.self c.grant.new.self c.reserve.ensures.same c.grant.ensures).1
+    let call = c.wanted-call.result.now in
+    let by_rule = ap (λ (q : Journaled). q.rule) c.reserve.ensures.same in
+    let stamp = c.next_stamp-stamp.ensures ∙ ap (λ (q : Journaled). q.last_stamp + 1) c.reserve.ensures.same in
+    let tried = subst (λ r. IsTried r i.parts c.try_call.new.self c.args.txn c.next_stamp-stamp.result call c.in_ok-reply.field-0) (c.rule-rule.ensures ∙ by_rule) c.in_ok-reply.ensures.tried in
+    let made = subst (IsTried i.journal.rule i.parts c.try_call.new.self c.args.txn c.next_stamp-stamp.result call) c.in-Made.is tried in
+    let few = full-same call_laws lock_laws i.parts i.journal c.self.invariant ∙ ap has_most_calls (state-is c.self.view_is) ∙ c.requires.few in
+    let told = tried-made call_laws lock_laws i.parts i.journal c.self.invariant c.args.self.now.state (state-is c.self.view_is) c.args.txn call c.requires.live few c.next_stamp-stamp.result stamp c.try_call.new.self c.in-Made.field-0 made
+    c.reserve.new.self c.grant.new.self c.reserve.ensures.same (c.grant.ensures call c.wanted-call.ensures) in (
+      call,
+      ap (λ (q : State). asked_for c.args.asked (finite.get q.asks c.args.txn)) (sym (ap (state_of i.parts.forest) c.reserve.ensures.same ∙ state-is c.self.view_is)) ∙ c.wanted-call.ensures,
+      told.1,
+    )
 
 pub invariant_of-self-in_err-wait-in-Blocked : goal.invariant_of-self-in_err-wait-in-Blocked
 invariant_of-self-in_err-wait-in-Blocked c =
     let i = c.self.inside in
-    let blocked = subst (IsTried i.journal.rule i.tree c.try_call.new.tree i.locks c.try_call.new.locks i.logs c.try_call.new.logs i.forest c.args.txn c.next_stamp-stamp.result c.args.call) c.in-Blocked.is (subst (λ r. IsTried r i.tree c.try_call.new.tree i.locks c.try_call.new.locks i.logs c.try_call.new.logs i.forest c.args.txn c.next_stamp-stamp.result c.args.call c.in_ok-tried.tried) (c.rule-rule.ensures ∙ ap (λ (q : Journaled). q.rule) c.reserve.ensures.same) c.in_ok-tried.ensures.tried) in
-    core-unmade c.call_laws.ensures c.lock_laws.ensures i.tree i.forest i.locks i.logs i.journal c.self.invariant c.try_call.new.tree c.try_call.new.locks c.try_call.new.logs c.wait.new.self blocked.unmade
+    let call = c.wanted-call.result.now in
+    let by_rule = ap (λ (q : Journaled). q.rule) c.reserve.ensures.same in
+    let tried = subst (λ r. IsTried r i.parts c.try_call.new.self c.args.txn c.next_stamp-stamp.result call c.in_ok-reply.field-0) (c.rule-rule.ensures ∙ by_rule) c.in_ok-reply.ensures.tried in
+    let blocked = subst (IsTried i.journal.rule i.parts c.try_call.new.self c.args.txn c.next_stamp-stamp.result call) c.in-Blocked.is tried in
+    core-unmade call_laws lock_laws i.parts i.journal c.self.invariant c.try_call.new.self c.wait.new.self blocked.unmade
     (subst (λ (q : Journaled). q ≡ record i.journal { room = q.room }) (sym c.in_err-wait-in-Blocked.ensures.err) c.reserve.ensures.same)
 
 pub invariant_of-self-in-Blocked : goal.invariant_of-self-in-Blocked
 invariant_of-self-in-Blocked c =
     let i = c.self.inside in
-    let blocked = subst (IsTried i.journal.rule i.tree c.try_call.new.tree i.locks c.try_call.new.locks i.logs c.try_call.new.logs i.forest c.args.txn c.next_stamp-stamp.result c.args.call) c.in-Blocked.is (subst (λ r. IsTried r i.tree c.try_call.new.tree i.locks c.try_call.new.locks i.logs c.try_call.new.logs i.forest c.args.txn c.next_stamp-stamp.result c.args.call c.in_ok-tried.tried) (c.rule-rule.ensures ∙ ap (λ (q : Journaled). q.rule) c.reserve.ensures.same) c.in_ok-tried.ensures.tried) in
-    core-waits c.call_laws.ensures c.lock_laws.ensures c.try_call.new.tree i.forest c.try_call.new.locks c.try_call.new.logs c.reserve.new.self
-    (core-unmade c.call_laws.ensures c.lock_laws.ensures i.tree i.forest i.locks i.logs i.journal c.self.invariant c.try_call.new.tree c.try_call.new.locks c.try_call.new.logs c.reserve.new.self blocked.unmade c.reserve.ensures.same)
-    c.args.txn c.args.call (ap (λ (q : Journaled). fate_of (state_of i.forest q) c.args.txn) c.reserve.ensures.same ∙ ap (λ (q : State). fate_of q c.args.txn) c.self.view_is ∙ c.requires.live)
+    let call = c.wanted-call.result.now in
+    let by_rule = ap (λ (q : Journaled). q.rule) c.reserve.ensures.same in
+    let tried = subst (λ r. IsTried r i.parts c.try_call.new.self c.args.txn c.next_stamp-stamp.result call c.in_ok-reply.field-0) (c.rule-rule.ensures ∙ by_rule) c.in_ok-reply.ensures.tried in
+    let blocked = subst (IsTried i.journal.rule i.parts c.try_call.new.self c.args.txn c.next_stamp-stamp.result call) c.in-Blocked.is tried in
+    let live = (λ x. fate_of (state_of (blocked.unmade.forest x) (c.reserve.ensures.same x)) c.args.txn) ∙ ap (λ (q : State). fate_of q c.args.txn) (state-is c.self.view_is) ∙ c.requires.live in
+    core-waits call_laws lock_laws c.try_call.new.self c.reserve.new.self (core-unmade call_laws lock_laws i.parts i.journal c.self.invariant c.try_call.new.self c.reserve.new.self blocked.unmade c.reserve.ensures.same) c.args.txn c.args.asked live
     c.wait.new.self c.in_ok-wait-in-Blocked.ensures.ok
 
 pub returns-in_ok-wait-in-Blocked-clause-asked : goal.returns-in_ok-wait-in-Blocked-clause-asked
 returns-in_ok-wait-in-Blocked-clause-asked c =
     let i = c.self.inside in
-    let blocked = subst (IsTried i.journal.rule i.tree c.try_call.new.tree i.locks c.try_call.new.locks i.logs c.try_call.new.logs i.forest c.args.txn c.next_stamp-stamp.result c.args.call) c.in-Blocked.is (subst (λ r. IsTried r i.tree c.try_call.new.tree i.locks c.try_call.new.locks i.logs c.try_call.new.logs i.forest c.args.txn c.next_stamp-stamp.result c.args.call c.in_ok-tried.tried) (c.rule-rule.ensures ∙ ap (λ (q : Journaled). q.rule) c.reserve.ensures.same) c.in_ok-tried.ensures.tried) in (
-      (λ none. blocked.some (sym c.from-blockers.ensures ∙ none)),
-      c.from-blockers.ensures ∙ waits-for c.call_laws.ensures c.lock_laws.ensures i.tree i.forest i.locks i.logs i.journal c.self.invariant c.args.self.now c.self.view_is c.args.txn c.args.call c.next_stamp-stamp.result (c.next_stamp-stamp.ensures ∙ ap (λ (q : Journaled). q.last_stamp + 1) c.reserve.ensures.same) c.in-Blocked.blockers.items blocked.are,
-      ap (state_of i.forest) c.in_ok-wait-in-Blocked.ensures.ok ∙ ap (λ (q : State). after_wait q c.args.txn c.args.call) (ap (state_of i.forest) c.reserve.ensures.same ∙ c.self.view_is),
+    let call = c.wanted-call.result.now in
+    let by_rule = ap (λ (q : Journaled). q.rule) c.reserve.ensures.same in
+    let stamp = c.next_stamp-stamp.ensures ∙ ap (λ (q : Journaled). q.last_stamp + 1) c.reserve.ensures.same in
+    let tried = subst (λ r. IsTried r i.parts c.try_call.new.self c.args.txn c.next_stamp-stamp.result call c.in_ok-reply.field-0) (c.rule-rule.ensures ∙ by_rule) c.in_ok-reply.ensures.tried in
+    let blocked = subst (IsTried i.journal.rule i.parts c.try_call.new.self c.args.txn c.next_stamp-stamp.result call) c.in-Blocked.is tried in
+    let same : state_of c.try_call.new.self.forest c.reserve.new.self ≡ c.args.self.now.state = (λ x. state_of (blocked.unmade.forest x) (c.reserve.ensures.same x)) ∙ state-is c.self.view_is in (
+      call,
+      ap (λ (q : State). asked_for c.args.asked (finite.get q.asks c.args.txn)) (sym same) ∙ c.wanted-call.ensures,
+      (
+        (λ none. blocked.some (sym c.from-blockers.ensures ∙ none)),
+        c.from-blockers.ensures ∙ waits-for call_laws lock_laws i.parts i.journal c.self.invariant c.args.self.now.state (state-is c.self.view_is) c.args.txn call c.next_stamp-stamp.result stamp c.in-Blocked.blockers.items blocked.are,
+        ap (state_of c.try_call.new.self.forest) c.in_ok-wait-in-Blocked.ensures.ok ∙ waits-on c.try_call.new.self.forest c.reserve.new.self c.args.txn c.args.asked call c.wanted-call.ensures ∙ ap (λ (q : State). after_wait q c.args.txn call) same,
+      ),
     )

@@ -15,8 +15,8 @@ loop-request-preserved c =
     let items : c.push.new.self.items ≡ c.loop-request.answers.items ++ c.answer-answer.result ∷ [] =
     c.push.ensures.items ∙ ap (λ b. if b then (c.loop-request.answers.items ++ c.answer-answer.result ∷ []) else c.loop-request.answers.items) fits in
     record {
-      ran = subst (λ (answers : List Answer). IsRun exact_rule c.args.self.now (c.loop-request.yielded ++ c.in-Some.request ∷ []) answers c.answer-answer.new.self) (sym items)
-          (run-push exact_rule c.args.self.now c.loop-request.yielded c.loop-request.answers.items c.loop-request.self c.in-Some.request c.answer-answer.result c.answer-answer.new.self c.loop-request.invariant.ran c.answer-answer.ensures);
+      ran = subst (λ (answers : List Answer). IsRun exact_rule c.args.self.now.state (c.loop-request.yielded ++ c.in-Some.request ∷ []) answers c.answer-answer.new.self.state) (sym items)
+          (run-push exact_rule c.args.self.now.state c.loop-request.yielded c.loop-request.answers.items c.loop-request.self.state c.in-Some.request c.answer-answer.result c.answer-answer.new.self.state c.loop-request.invariant.ran c.answer-answer.ensures);
       rest = append_assoc c.loop-request.yielded (c.in-Some.request ∷ []) (into_iter_items c.next.new.self) ∙ ap (λ (rs : List Request). c.loop-request.yielded ++ rs) (sym rest) ∙ c.loop-request.invariant.rest;
       room = let upper = c.push.ensures.upper_bound in let capacity = c.push.ensures.capacity in omega arith;
     }

@@ -1,10 +1,16 @@
 use Rattle.std.proofs.Common.{subst}
+use Rattle.ft_posix.proofs.PlainSound.{plain_soundness}
 use Rattle.ft_core.specs.Promises.{IsHeadline}
-use Rattle.ft_core.proofs.Joining.{tree_is, replies_are}
+use Rattle.ft_core.proofs.Gathered.{state-is}
+use Rattle.ft_core.proofs.Known.{call_laws}
+use Rattle.ft_core.proofs.Joining.{tree_is, replies_are, order_is}
 use Rattle.ft_core.proofs.manager.Core.tree.Goals as goal
 
 pub returns-clause-headline : goal.returns-clause-headline
 returns-clause-headline c =
     let core = c.self.invariant in
-    subst (λ s. IsHeadline s c.self.inside.tree) c.self.view_is
-    (record { tree = tree_is c.call_laws.ensures _ _ _ _ _ core.log core.kept; replies = replies_are c.call_laws.ensures _ _ _ _ _ core.log core.kept })
+    subst (λ s. IsHeadline s c.self.inside.parts.tree) (state-is c.self.view_is)
+    (record { tree = tree_is call_laws core.kept; replies = replies_are call_laws core.kept; order = order_is call_laws core.kept })
+
+pub returns-clause-plain_sound : goal.returns-clause-plain_sound
+returns-clause-plain_sound c = plain_soundness c.self.inside.parts.tree c.self.invariant.kept.sound

@@ -1,9 +1,7 @@
-use Rattle.std.proofs.lemmas.List.Filters.{dedup_is}
-use Rattle.ft_moss.specs.Listing.{same_line}
 use Rattle.ft_locks.proofs.Listed.{all_listed}
 use Rattle.ft_locks.proofs.locks.Locks.lines.Goals as goal
 
 pub returns : goal.returns
 returns c =
-    all_listed c.args.self.now c.self.inside.holdings.cells c.self.inside.holdings.lists c.new-lines.result.items c.list.new.lines.items c.sort.new.self.items c.dedup.new.self.items
-    c.self.view_is c.new-lines.ensures.items c.in_ok-list.ensures c.sort.ensures.permutation c.in_ok-sort.ensures.sorted (dedup_is same_line c.sort.new.self.items c.dedup.new.self.items c.dedup.ensures.filtered)
+    all_listed c.args.self.now c.self.inside.holdings.cells c.self.inside.holdings.lists c.new-lines.result.items c.list.new.lines.items c.sort.new.self.items
+    c.self.view_is c.new-lines.ensures.items c.in_ok-list.ensures c.sort.ensures.permutation c.in_ok-sort.ensures.sorted

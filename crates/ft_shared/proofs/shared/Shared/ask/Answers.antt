@@ -1,7 +1,6 @@
 use Rattle.std.proofs.Common.{sym, subst}
-use Rattle.ft_core.specs.States.{State}
-use Rattle.ft_shared.specs.Behind.{IsOfCore}
+use Rattle.ft_core.specs.Reached.{IsReached}
 use Rattle.ft_shared.proofs.shared.Shared.ask.Goals as goal
 
 pub returns : goal.returns
-returns g c = (c.deref_mut.result.now, subst (λ (s : State). IsOfCore s) (sym c.deref_mut.ensures.value) c.held.ensures, (c.ask.new.self, c.ask.ensures))
+returns g c = (c.deref_mut.result.now, subst IsReached (sym c.deref_mut.ensures.value) c.held.ensures, (c.ask.new.self.state, c.ask.ensures))

@@ -2,6 +2,9 @@ use Rattle.std.proofs.Common.{refl, ap, subst, ◌∙◌}
 use Rattle.ft_base.specs.Chains.{Lists, list_in}
 use Rattle.ft_undo.specs.declared.logs.Logged.{Logged}
 use Rattle.ft_undo.specs.Logs.{is_open, AreLists}
+use Rattle.ft_posix.proofs.Setting.{setting}
+use Rattle.ft_posix.proofs.Restoring.{restoring}
+use Rattle.ft_posix.proofs.Applying.{editing}
 use Rattle.ft_undo.proofs.Applied.{made, left, inverse, may_revert, can_take_back, taken_back}
 use Rattle.ft_undo.proofs.Keeping.{newest-there, newest-is, kept-as, kept-open, dropped-lists}
 use Rattle.ft_undo.proofs.logs.Logs.apply.Goals as goal
@@ -38,12 +41,12 @@ returns-clause-made c =
     let there = ap (λ m. is_open m c.args.txn) c.self.view_is ∙ c.requires.open in
     let stamp = ap (λ (l : Logged). l.stamp) (newest-is c.self.inside.chains c.push_front.new.self c.args.txn _ c.in_default.ensures.ok c.first_mut.result c.unwrap-logged.result c.first_mut.ensures.value c.unwrap-logged.ensures) in
     record {
-      cells = made c.editing.ensures c.setting.ensures old edits c.requires.apart c.fill.new.tree c.fill.new.self cells backs;
-      left = left c.editing.ensures c.setting.ensures old edits c.requires.apart c.fill.new.tree c.fill.new.self cells backs c.requires.places;
+      cells = made editing setting old edits c.requires.apart c.fill.new.tree c.fill.new.self cells backs;
+      left = left editing setting old edits c.requires.apart c.fill.new.tree c.fill.new.self cells backs c.requires.places;
       undo = c.fill.new.self;
-      inverse = inverse c.editing.ensures c.setting.ensures old edits c.requires.apart c.fill.new.tree c.fill.new.self cells backs;
-      may_revert = may_revert c.editing.ensures c.setting.ensures old edits c.requires.apart c.fill.new.tree c.fill.new.self cells backs;
-      can_take_back = can_take_back c.editing.ensures c.setting.ensures old edits c.requires.apart c.fill.new.tree c.fill.new.self cells backs c.restoring.ensures c.requires.places;
-      taken_back = taken_back c.editing.ensures c.setting.ensures old edits c.requires.apart c.fill.new.tree c.fill.new.self cells backs c.restoring.ensures c.requires.places;
+      inverse = inverse editing setting old edits c.requires.apart c.fill.new.tree c.fill.new.self cells backs;
+      may_revert = may_revert editing setting old edits c.requires.apart c.fill.new.tree c.fill.new.self cells backs;
+      can_take_back = can_take_back editing setting old edits c.requires.apart c.fill.new.tree c.fill.new.self cells backs restoring c.requires.places;
+      taken_back = taken_back editing setting old edits c.requires.apart c.fill.new.tree c.fill.new.self cells backs restoring c.requires.places;
       listed = kept-as c.self.inside.chains c.push_front.new.self c.args.txn _ c.in_default.ensures.ok there _ _ refl c.args.self.now c.args.stamp c.self.view_is stamp;
     }

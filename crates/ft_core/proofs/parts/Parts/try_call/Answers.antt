@@ -1,0 +1,26 @@
+use Rattle.std.proofs.Common.{[], eqb-true, vec_len, ap, sym, subst, ◌∙◌}
+use Rattle.std.proofs.lemmas.List.{nil_from_length}
+use Rattle.ft_posix.specs.Outcomes.{Outcome}
+use Rattle.ft_posix.specs.Stored.{outcome}
+use Rattle.ft_moss.specs.Locks.{AreBlockers}
+use Rattle.ft_core.specs.Makes.{IsMadeOn}
+use Rattle.ft_core.proofs.parts.Parts.try_call.Goals as goal
+
+pub returns-clause-tried : goal.returns-clause-tried
+returns-clause-tried c =
+    let old = c.args.self.now in
+    let new = c.make.new.self in
+    let t = c.args.asker.txn in
+    let k = c.args.asker.stamp in
+    let seen = c.in_ok-prepared.ensures.accesses in
+    let comes = c.in_ok-prepared.ensures.outcome in
+    let found = c.in_ok-blockers.field-0.blockers in
+    record {
+      free = subst (λ xs. AreBlockers c.args.rule old.locks old.forest t xs []) (c.as_slice.ensures.value ∙ seen)
+          (subst (λ ys. AreBlockers c.args.rule old.locks old.forest t c.as_slice.result.now ys) (nil_from_length found.items (sym found.ok.0 ∙ eqb-true (vec_len found) 0 (sym c.if-not-is_empty.ensures))) c.in_ok-blockers.ensures.blockers);
+      twice = c.in_ok-made.ensures.twice;
+      reply = c.in_ok-made.ensures.reply ∙ ap (λ o. o.reply) comes;
+      accesses = c.in_ok-made.ensures.accesses ∙ seen;
+      made_on = subst (IsMadeOn old new (outcome old.tree k c.args.call.now).writes t k) seen
+          (subst (λ (o : Outcome). IsMadeOn old new o.writes t k c.in_ok-prepared.prepared.accesses.items) comes c.in_ok-made.ensures.made);
+    }

@@ -1,0 +1,67 @@
+// A script, played through a lock.
+use crate::locked::{carry_out, new_shared};
+use anyhow::Result;
+use ft_core::Core;
+use ft_replies::{AnswerText, Line, Report, WaitsText, meaning_of, reply_to};
+use ft_script::write_out;
+use ft_shared::Shared;
+use std::alloc::Global;
+use std::io::Write;
+use std::sync::Wait;
+
+/// Plays a script, line by line, and writes the replies.
+pub fn play<R: Wait, W: Write>(rt: &R, alloc: Global, script: &[u8], writer: &mut W) -> Result<()> {
+    let shared = new_shared(alloc)?;
+    let lines: Vec<&[u8]> = script.split(|byte| *byte == b'\n').collect(alloc)?;
+    for (place, line) in lines.iter().enumerate() {
+        let before = &lines.as_slice()[..place];
+        let reply = reply_through(rt, alloc, &shared, before, line)?;
+        write_out(writer, reply.as_bytes())?;
+    }
+    Ok(())
+}
+
+/// Carries out one line, and gives the text of its reply.
+fn reply_through<R: Wait>(
+    rt: &R,
+    alloc: Global,
+    shared: &Shared,
+    before: &[&[u8]],
+    line: &[u8],
+) -> Result<String> {
+    match meaning_of(alloc, line)? {
+        Line::Request(request) => {
+            let answer = carry_out(rt, shared, request)?;
+            Ok(format!(in alloc; "{}\n", AnswerText(&answer))?)
+        }
+        Line::Report(Report::Waits) => waits_reply(rt, alloc, shared),
+        Line::Report(Report::Tree | Report::Locks) => {
+            let mut core = core_after(rt, alloc, before)?;
+            Ok(reply_to(alloc, line, &mut core)?)
+        }
+        // These are the same on any core.
+        Line::Silent | Line::Bad => Ok(reply_to(alloc, line, &mut Core::new(alloc)?)?),
+    }
+}
+
+/// Who waits for whom behind the lock.
+fn waits_reply<R: Wait>(rt: &R, alloc: Global, shared: &Shared) -> Result<String> {
+    let (edges, verdict) = shared.waits(rt)?;
+    let text = WaitsText {
+        edges: edges.as_slice(),
+        verdict: &verdict,
+    };
+    Ok(format!(in alloc; "{text}\n")?)
+}
+
+/// A core that has come to the end of these lines through a lock of its own. While a core stands
+/// behind a lock, neither its tree nor its locks can be read, so they are read from this one.
+fn core_after<R: Wait>(rt: &R, alloc: Global, lines: &[&[u8]]) -> Result<Core> {
+    let shared = new_shared(alloc)?;
+    for line in lines {
+        if let Line::Request(request) = meaning_of(alloc, line)? {
+            carry_out(rt, &shared, request)?;
+        }
+    }
+    Ok(shared.into_core())
+}
