@@ -15,10 +15,11 @@ use std::marker::Model;
 
 /// For each open owner a list of values, the newest first.
 ///
-/// A value moves from the front of one list to that of another, and a whole list in front of another,
-/// without memory. Each call takes the same time, however many owners are open and however long their
-/// lists are. All values stand in one slab, whose places are used again. Owners are numbered one after
-/// another: there is a place for 0, and for each number from the first that was opened to the greatest.
+/// A value moves from the front of one list to that of another, and a whole list in front of
+/// another, without memory. Each call takes the same time, however many owners are open and however
+/// long their lists are. All values stand in one slab, whose places are used again. Owners are
+/// numbered one after another: there is a place for 0, and for each number from the first that was
+/// opened to the greatest.
 #[derive(Drop)]
 pub struct Chains<T> {
     nodes: Slab<Node<T>>,
@@ -59,7 +60,8 @@ impl<T> Chains<T> {
         self.ends.contains(owner)
     }
 
-    /// Opens an owner, with an empty list; one that is open keeps its list. Only a new owner can want memory.
+    /// Opens an owner, with an empty list; one that is open keeps its list. Only a new owner can
+    /// want memory.
     pub fn open(&mut self, owner: u64) -> Result<(), Memory>
         ensures ok { OnOk result (self.new ≡ finite.insert self.old owner (list_in self.old owner)) }
         ensures err { OnErr result (self.new ≡ self.old) }
@@ -172,7 +174,8 @@ impl<T> Chains<T> {
         set_next(&mut self.nodes, front.last, next);
     }
 
-    /// Puts the newest value of a list, where there is one, in front of another list. Takes no memory.
+    /// Puts the newest value of a list, where there is one, in front of another list. Takes no
+    /// memory.
     pub fn move_front(&mut self, source: u64, target: u64)
         requires target_open { IsOpen self.old target }
         requires apart { source ≢ target }

@@ -11,10 +11,11 @@ use std::marker::Model;
 
 /// A map from numbers that are given one after another, which clauses see as a finite map.
 ///
-/// Each value stands in a list at its number, so nothing is hashed, and each call takes the same time
-/// however many numbers there are. There is a place for 0, and one for each number from the first that
-/// was given a value up to the greatest, which stays; so a number far above all others is refused for
-/// want of memory. A number below the first makes places in front, and moves all others.
+/// Each value stands in a list at its number, so nothing is hashed, and each call takes the same
+/// time however many numbers there are. There is a place for 0, and one for each number from the
+/// first that was given a value up to the greatest, which stays; so a number far above all others
+/// is refused for want of memory. A number below the first makes places in front, and moves all
+/// others.
 #[derive(Drop)]
 pub struct DenseTable<V> {
     zero: Option<V>,
@@ -61,8 +62,8 @@ impl<V: Copy> DenseTable<V> {
         self.get(key).is_some()
     }
 
-    /// Sets the value at a key. Only a key greater than all that ever had one, or less than the first
-    /// of them, can want memory, and then nothing has changed.
+    /// Sets the value at a key. Only a key greater than all that ever had one, or less than the
+    /// first of them, can want memory, and then nothing has changed.
     pub fn insert(&mut self, key: u64, value: V) -> Result<(), Memory>
         ensures ok { OnOk result (self.new ≡ finite.insert self.old key value) }
         ensures err { OnErr result (self.new ≡ self.old) }

@@ -1,5 +1,5 @@
-//! What every crate above uses: the error for want of memory, a list that clauses see as a list, a short list,
-//! a table that clauses see as a finite map, and lists by owner, linked in one slab.
+//! What every crate above uses: the error for want of memory, a list that clauses see as a list, a
+//! short list, a table that clauses see as a finite map, and lists by owner, linked in one slab.
 #![tactic(auto)]
 
 mod chains;

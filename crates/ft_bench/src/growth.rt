@@ -90,7 +90,8 @@ impl Growth {
         Ok(accesses.len())
     }
 
-    /// Makes a call on a copy, and takes it back there where that is asked for. Says whether it has done what it was asked for.
+    /// Makes a call on a copy, and takes it back there where that is asked for. Says whether it has
+    /// done what it was asked for.
     pub fn does_on_copy(&self, call: &Call, is_taken_back: bool) -> Result<bool, Failed> {
         let mut copy = self.tree.copy()?;
         let (reply, undo) = perform(self.alloc, &mut copy, self.next, call)?;

@@ -60,8 +60,8 @@ impl Table {
         self.grant(txn, [Access { cell, mode }].as_slice())
     }
 
-    /// Makes the accesses of a file with this number, and asks for them where that is measured. Says whether nobody was in
-    /// the way.
+    /// Makes the accesses of a file with this number, and asks for them where that is measured.
+    /// Says whether nobody was in the way.
     fn take(
         &mut self,
         alloc: Global,

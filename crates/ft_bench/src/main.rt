@@ -1,6 +1,7 @@
 //! The program `ft_bench`: `ft_bench WHAT COUNT SIZE` makes a tree of SIZE directories with three
-//! components, by itself or through a core, or a table of SIZE locks, and then does COUNT times WHAT to it. It is run under a tool that counts
-//! instructions: what one call takes is the difference between two runs that differ in COUNT.
+//! components, by itself or through a core, or a table of SIZE locks, and then does COUNT times
+//! WHAT to it. It is run under a tool that counts instructions: what one call takes is the
+//! difference between two runs that differ in COUNT.
 #![tactic(auto)]
 
 mod failed;

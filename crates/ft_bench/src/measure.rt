@@ -105,8 +105,8 @@ fn number(growth: &mut Growth, call: &Call) -> Result<u64, Failed> {
     }
 }
 
-/// Does a measure as often as `count` says, over a tree of this size, each time at another directory: how often it went
-/// well.
+/// Does a measure as often as `count` says, over a tree of this size, each time at another
+/// directory: how often it went well.
 fn run_on(
     alloc: Global,
     growth: &mut Growth,

@@ -3,7 +3,8 @@ use crate::failed::Failed;
 use ft_path::{FilePath, PathFault};
 use std::alloc::Global;
 
-/// Where a directory stands: ten in each of the second level, and a hundred of these in each of the first.
+/// Where a directory stands: ten in each of the second level, and a hundred of these in each of the
+/// first.
 #[derive(Clone, Copy)]
 pub struct Place {
     first: u64,
@@ -11,7 +12,8 @@ pub struct Place {
     third: u64,
 }
 
-/// How many components of a path are meant, or a new name beside the directories of the third level.
+/// How many components of a path are meant, or a new name beside the directories of the third
+/// level.
 #[derive(Clone, Copy)]
 pub enum Level {
     First,
@@ -36,7 +38,8 @@ impl Place {
         Place::of(index.wrapping_mul(7919).checked_rem(size).unwrap_or(0))
     }
 
-    /// From which level on the directory is the first one there, so that those above it have to be made too.
+    /// From which level on the directory is the first one there, so that those above it have to be
+    /// made too.
     pub fn new_levels(self) -> &'static [Level] {
         match (self.second, self.third) {
             (0, 0) => &[Level::First, Level::Second, Level::Third],

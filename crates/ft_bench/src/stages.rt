@@ -121,7 +121,8 @@ fn repeat(
     Ok(())
 }
 
-/// Does a stage as often as `count` says, in a transaction of a core that has made directories, as many as `size`.
+/// Does a stage as often as `count` says, in a transaction of a core that has made directories, as
+/// many as `size`.
 fn run_in(
     alloc: Global,
     core: &mut Core,

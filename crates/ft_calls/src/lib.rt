@@ -1,5 +1,5 @@
-//! The seventeen calls, carried out as far as a look at the tree: what a call accesses, what it is to set, and what
-//! it answers, found out before anything is changed.
+//! The seventeen calls, carried out as far as a look at the tree: what a call accesses, what it is
+//! to set, and what it answers, found out before anything is changed.
 //!
 //! What each call does is said by `ft_posix`.
 #![tactic(auto)]
@@ -12,7 +12,7 @@ mod offsets;
 mod preparing;
 
 pub use ft_posix::{
-    Access, Call, Edit, Edits, Intent, LAST_OFFSET, MOST_LINKS, Mode, OpenFlags, Reply, Told,
-    Whence,
+    Access, Call, Edit, Edits, Intent, LAST_OFFSET, MOST_LINKS, Mode, OpenFlags, Reply,
+    StampedCall, Told, Whence,
 };
 pub use preparing::{Prepared, accesses, prepare};

@@ -5,5 +5,6 @@ pub mod CellOrder
 pub mod Cells
 pub mod Looks
 pub mod Plain
+pub mod PlainCode
 pub mod Rows
 pub mod Openings

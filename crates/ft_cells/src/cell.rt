@@ -94,7 +94,8 @@ impl PartialEq for Cell {
 
     fn eq(&self, other: &Cell) -> bool {
         match self {
-            // This is how tables look for entries; most names differ in how they begin, as one number.
+            // This is how tables look for entries; most names differ in how they begin, as one
+            // number.
             Cell::Entry(entry) => other.cmp_entry(entry.as_ref()).is_eq(),
             _ => self.cmp(other).is_eq(),
         }

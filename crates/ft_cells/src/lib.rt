@@ -1,11 +1,12 @@
-//! The cells of a tree: what each is named and may hold, and how a directory, a file and the open file descriptions
-//! store theirs.
+//! The cells of a tree: what each is named and may hold, and how a directory, a file and the open
+//! file descriptions store theirs.
 //!
 //! The rules are those of POSIX.1-2017, Base Definitions, 3 (Definitions: Directory, Directory
-//! Entry, Empty Directory, File, Link Count, Open File Description, Parent Directory). That directories, files and
-//! descriptors have numbers is a rule of this project.
+//! Entry, Empty Directory, File, Link Count, Open File Description, Parent Directory). That
+//! directories, files and descriptors have numbers is a rule of this project.
 //!
-//! The definitions stand in `specs`, and the lemmas in `proofs` are there to be cited by the crate that keeps the tree.
+//! The definitions stand in `specs`, and the lemmas in `proofs` are there to be cited by the crate
+//! that keeps the tree.
 #![tactic(auto)]
 
 mod cell;

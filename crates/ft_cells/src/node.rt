@@ -45,8 +45,8 @@ impl Node {
 /// Where a walk ends (POSIX.1-2017, Base Definitions, 4.13 Pathname Resolution).
 #[derive(Clone, Copy, Debug)]
 pub enum Spot<'a> {
-    /// At a last name that is neither `.` nor `..`, with its directory; it leads to `node`, or is no
-    /// entry there.
+    /// At a last name that is neither `.` nor `..`, with its directory; it leads to `node`, or is
+    /// no entry there.
     Named {
         entry: EntryRef<'a>,
         node: Option<Node>,

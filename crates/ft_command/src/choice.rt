@@ -19,8 +19,9 @@ pub enum Choice {
     },
     /// Draw the last report on who waits for whom.
     Dot,
-    /// Run the jobs of the plan in a file. A call of theirs asks at most so many times, at least once. How far they have come
-    /// is not shown where it is to be quiet. Their core grants calls by this rule.
+    /// Run the jobs of the plan in a file. A call of theirs asks at most so many times, at least
+    /// once. How far they have come is not shown where it is to be quiet. Their core grants calls
+    /// by this rule.
     Jobs {
         file: String,
         turns: u64,
@@ -97,8 +98,8 @@ fn asked_rule(found: &ArgMatches) -> Rule
     }
 }
 
-// The file and the turns that `jobs` was given, and whether it is to be quiet. There may be no memory for the name of the
-// file. (The crate that reads the words lets no 0 through.)
+// The file and the turns that `jobs` was given, and whether it is to be quiet. There may be no
+// memory for the name of the file. (The crate that reads the words lets no 0 through.)
 fn asked_of_jobs(alloc: Global, found: &ArgMatches) -> Option<(String, u64, bool)>
     ensures { IfSome result (λ asked. TellsJobs (rows_of (found_of found.now)) (string_bytes asked.0) asked.1 asked.2) }
 {

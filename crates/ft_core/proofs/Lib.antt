@@ -1,7 +1,7 @@
-mod Told
+pub mod Told
 mod Gathered
 mod Counts
-mod Joining
+pub mod Joining
 mod Reporting
 mod Begins
 mod Opening
@@ -28,5 +28,5 @@ mod Families
 mod Written
 mod Sweeps
 mod Checkpoints
-mod Known
+pub mod Known
 mod Asked

@@ -6,6 +6,7 @@ use Rattle.std.specs.FinMap as finite
 use Rattle.std.specs.Coded.{Coded, code_by, coded×, coded_ℕ, coded_list, coded_option}
 use Rattle.ft_cells.specs.Cells.{Cells}
 use Rattle.ft_cells.specs.Plain.{PlainTree}
+use Rattle.ft_cells.specs.PlainCode.{coded_tree}
 use Rattle.ft_tree.specs.Sound.{AreSoundCells, IsFree}
 use Rattle.ft_posix.specs.declared.call.Call.{Call}
 use Rattle.ft_posix.specs.declared.call.Reply.{Reply}
@@ -18,7 +19,7 @@ use Rattle.ft_core.specs.declared.TheConstants.{MOST_CALLS}
 use Rattle.ft_core.specs.declared.request.Event.{Event}
 use Rattle.ft_core.specs.declared.request.Event.TheVariants.{Begin, Call as CallEvent}
 use Rattle.ft_core.specs.contracts.request.Event as event
-use Rattle.ft_core.specs.States.{State, Asks, coded_asks, coded_tree}
+use Rattle.ft_core.specs.States.{State, Asks, coded_asks}
 
 pub record Journaled : Type 0 where
   pub rule : Rule

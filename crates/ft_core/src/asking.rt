@@ -18,8 +18,9 @@ use ft_calls::Call;
 use ft_forest::TxnId;
 
 impl Core {
-    /// Makes a call in a transaction, or answers which transactions it waits for: those who own a conflicting lock and are
-    /// neither the asker nor an ancestor of it, and by `Rule::Moss` the ancestors that hold one too, in rising order.
+    /// Makes a call in a transaction, or answers which transactions it waits for: those who own a
+    /// conflicting lock and are neither the asker nor an ancestor of it, and by `Rule::Moss` the
+    /// ancestors that hold one too, in rising order.
     ///
     /// Refuses NoTxn, Ended, and Full where as many calls are granted as may be, in this order.
     pub fn ask(&mut self, txn: TxnId, call: Call) -> Result<Outcome, Fault>
@@ -42,9 +43,11 @@ impl Core {
         self.request(txn, Some(copy))
     }
 
-    /// Makes the call that a transaction waits for, or answers again which transactions it waits for.
+    /// Makes the call that a transaction waits for, or answers again which transactions it waits
+    /// for.
     ///
-    /// Refuses NoTxn, Ended, NoAsk, and Full where as many calls are granted as may be, in this order.
+    /// Refuses NoTxn, Ended, NoAsk, and Full where as many calls are granted as may be, in this
+    /// order.
     pub fn retry(&mut self, txn: TxnId) -> Result<Outcome, Fault>
         ensures { IsStep exact_rule self.old.state (Retry txn) (answer_with outcome_answer result) self.new.state }
     {
@@ -68,8 +71,8 @@ impl Core {
         Ok(())
     }
 
-    /// Makes a call where there may be one more, or notes that the transaction waits for it: the call that is asked for
-    /// now, or without one the call that the transaction waits for already.
+    /// Makes a call where there may be one more, or notes that the transaction waits for it: the
+    /// call that is asked for now, or without one the call that the transaction waits for already.
     fn request(&mut self, txn: TxnId, asked: Option<Call>) -> Result<Outcome, Fault>
         requires few { has_most_calls self.old.state ≡ false }
         requires live { fate_of self.old.state txn ≡ Some Live }

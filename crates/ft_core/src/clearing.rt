@@ -14,8 +14,9 @@ use ft_locks::Locks;
 use ft_undo::Logs;
 
 impl Core {
-    /// Makes the tree as it stands the base, and forgets the transactions and all that has happened: limits count from
-    /// here, and the next numbers go on. Takes the memory and the time of a copy of the tree.
+    /// Makes the tree as it stands the base, and forgets the transactions and all that has
+    /// happened: limits count from here, and the next numbers go on. Takes the memory and the time
+    /// of a copy of the tree.
     ///
     /// Refuses Live where a transaction is live. Want of memory changes nothing.
     pub fn checkpoint(&mut self) -> Result<(), Fault>

@@ -17,8 +17,9 @@ use crate::request::Event;
 use ft_forest::TxnId;
 
 impl Core {
-    /// Commits a transaction: its locks and what takes its calls back are its parent's from then on; at the top level its
-    /// locks are let go, and its calls cannot be taken back any more. Takes no memory.
+    /// Commits a transaction: its locks and what takes its calls back are its parent's from then
+    /// on; at the top level its locks are let go, and its calls cannot be taken back any more.
+    /// Takes no memory.
     ///
     /// Refuses NoTxn, Ended, and ChildLive where it has a live child, in this order.
     pub fn commit(&mut self, txn: TxnId) -> Result<(), Fault>
@@ -38,7 +39,8 @@ impl Core {
         Ok(())
     }
 
-    /// Aborts a transaction with all that is live below it, and answers how many standing calls it takes away. Takes no memory.
+    /// Aborts a transaction with all that is live below it, and answers how many standing calls it
+    /// takes away. Takes no memory.
     ///
     /// Refuses NoTxn and Ended, in this order.
     pub fn abort(&mut self, txn: TxnId) -> Result<u64, Fault>
@@ -53,7 +55,8 @@ impl Core {
         Ok(count)
     }
 
-    /// Takes back what the live transactions at or below a live one have done, each before its parent, and ends them.
+    /// Takes back what the live transactions at or below a live one have done, each before its
+    /// parent, and ends them.
     fn abort_live(&mut self, txn: TxnId) -> u64
         requires { fate_of self.old.state txn ≡ Some Live }
         ensures count { result ≡ count_standing self.old.state txn }
@@ -74,10 +77,11 @@ impl Core {
         count
     }
 
-    /// Undoes the last of a transaction's own standing calls, and answers its stamp. Takes no memory.
+    /// Undoes the last of a transaction's own standing calls, and answers its stamp. Takes no
+    /// memory.
     ///
-    /// Refuses NoTxn, Ended, ChildLive, and NothingToUndo where there is none or SubSince where a child has committed
-    /// since, in this order.
+    /// Refuses NoTxn, Ended, ChildLive, and NothingToUndo where there is none or SubSince where a
+    /// child has committed since, in this order.
     pub fn undo_call(&mut self, txn: TxnId) -> Result<u64, Fault>
         ensures step { IsStep exact_rule self.old.state (Undo txn) (answer_with Undone result) self.new.state }
 
@@ -94,7 +98,8 @@ impl Core {
         Ok(stamp)
     }
 
-    /// The stamp of the call that an undo takes back: the newest of the transaction's list, unless a child has committed since.
+    /// The stamp of the call that an undo takes back: the newest of the transaction's list, unless
+    /// a child has committed since.
     fn undo_target(&self, txn: TxnId) -> Result<u64, Fault>
         requires { fate_of self.now.state txn ≡ Some Live }
         ensures found { IfOk result (λ stamp. (d : Granted) × (undo_target posix_calls (history self.now.state) txn ≡ Found d) × (d.call.stamp ≡ stamp)) }

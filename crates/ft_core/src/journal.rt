@@ -180,8 +180,8 @@ impl Journal {
         self.spare += 1;
     }
 
-    /// Tells that a call was granted: the one that was asked for now, or without one the call that the transaction waits
-    /// for. It waits for nothing then.
+    /// Tells that a call was granted: the one that was asked for now, or without one the call that
+    /// the transaction waits for. It waits for nothing then.
     pub(crate) fn grant(
         &mut self,
         txn: TxnId,
@@ -258,7 +258,8 @@ impl Journal {
         self.subs.remove(txn.0);
     }
 
-    /// Notes of a live transaction that a child of it commits. Who commits at the top is nobody's child.
+    /// Notes of a live transaction that a child of it commits. Who commits at the top is nobody's
+    /// child.
     pub(crate) fn note_sub(&mut self, parent: Option<TxnId>)
         requires { IsNoted self.old parent }
         ensures { self.new ≡ noted_up self.old parent }

@@ -1,28 +1,32 @@
-//! Laws of the histories that a core can have, and of its state: each is the contract of a function that does nothing.
+//! Laws of the histories that a core can have, and of its state: each is the contract of a function
+//! that does nothing.
 ghost use Rattle.ft_posix.specs.Posix.{posix_calls};
 ghost use Rattle.ft_history.specs.Promises.{Ownership, LogOrder, ExactLedger};
 ghost use Rattle.ft_core.specs.Reached.{IsReached};
 
 use crate::manager::Core;
 
-/// The ownership law: of two standing calls that conflict, if the earlier one can still be taken back then so can the later
-/// one, by the same transaction or one below it. So what stays never rests on what goes.
+/// The ownership law: of two standing calls that conflict, if the earlier one can still be taken
+/// back then so can the later one, by the same transaction or one below it. So what stays never
+/// rests on what goes.
 pub fn ownership()
     ensures { Ownership posix_calls }
 {}
 
-/// The log-order law: in each transaction's list a call stands in front of every older one with which it conflicts.
+/// The log-order law: in each transaction's list a call stands in front of every older one with
+/// which it conflicts.
 pub fn log_order()
     ensures { LogOrder posix_calls }
 {}
 
-/// There is one inverse for each standing call that has an owner, in its owner's list, and there are no others.
+/// There is one inverse for each standing call that has an owner, in its owner's list, and there
+/// are no others.
 pub fn exact_ledger()
     ensures { ExactLedger posix_calls }
 {}
 
-/// The state of a core is one that legal requests lead to: its history is legal from a base that is a sound tree, and the
-/// laws above hold of it.
+/// The state of a core is one that legal requests lead to: its history is legal from a base that is
+/// a sound tree, and the laws above hold of it.
 pub fn reached(core: &Core)
     ensures { IsReached core.now }
 {

@@ -1,5 +1,5 @@
-//! The manager of nested transactions over a tree: it grants calls, keeps their history, undoes calls, and takes an
-//! aborted subtree's calls away.
+//! The manager of nested transactions over a tree: it grants calls, keeps their history, undoes
+//! calls, and takes an aborted subtree's calls away.
 #![tactic(auto)]
 
 mod asking;

@@ -5,10 +5,12 @@ ghost use Rattle.ft_tree.specs.Sound.{IsSoundTree, AreSoundCells};
 ghost use Rattle.ft_core.specs.declared.fault.Fault.{Fault as FaultOf};
 ghost use Rattle.ft_core.specs.declared.fault.Fault.TheVariants.{Memory as MemoryFault};
 ghost use Rattle.ft_moss.specs.declared.rule.Rule.TheVariants.{Profile};
+ghost use Rattle.ft_posix.specs.Posix.{posix_calls};
+ghost use Rattle.ft_history.specs.History.{parent as parent_of};
 ghost use Rattle.ft_history.specs.History.Fate.{Live};
 ghost use Rattle.ft_core.specs.declared.request.Request.TheVariants.{Begin, Sub, Drop as DropAsk};
 ghost use Rattle.ft_core.specs.declared.request.Answer.TheVariants.{Txn, Dropped};
-ghost use Rattle.ft_core.specs.States.{at_base, first_base, fate_in, fate_of, has_live, next_txn, after_begin};
+ghost use Rattle.ft_core.specs.States.{at_base, first_base, fate_in, fate_of, has_live, history, next_txn, after_begin};
 ghost use Rattle.ft_core.specs.Journals.{IsBaseTree};
 ghost use Rattle.ft_core.specs.Living.{SomeIsLive, NoneIsLive};
 ghost use Rattle.ft_core.specs.Promises.{IsHeadline};
@@ -32,8 +34,9 @@ use std::marker::Model;
 
 /// A tree with its transactions.
 ///
-/// Clauses see its state: the base, what has happened since, the pending asks and the last numbers. Its tree is that of
-/// its state: what a plain tree holds after the standing calls alone, in the order of their stamps.
+/// Clauses see its state: the base, what has happened since, the pending asks and the last numbers.
+/// Its tree is that of its state: what a plain tree holds after the standing calls alone, in the
+/// order of their stamps.
 pub struct Core {
     pub(crate) alloc: Global,
     pub(crate) journal: Journal,
@@ -115,7 +118,8 @@ impl Core {
 
     /// Begins a subtransaction.
     ///
-    /// Refuses NoTxn, Ended, Deep where the parent stands as deep as one may, and Full, in this order.
+    /// Refuses NoTxn, Ended, Deep where the parent stands as deep as one may, and Full, in this
+    /// order.
     pub fn sub(&mut self, txn: TxnId) -> Result<TxnId, Fault>
         ensures { IsStep exact_rule self.old.state (Sub txn) (answer_with Txn result) self.new.state }
     {
@@ -137,7 +141,8 @@ impl Core {
         Ok(())
     }
 
-    /// The tree. Tidied it is what a plain tree holds after the standing calls alone, each with the reply that it got.
+    /// The tree. Tidied it is what a plain tree holds after the standing calls alone, each with the
+    /// reply that it got.
     pub fn tree(&self) -> &Tree
         ensures stored { result.now ≡ self.now.cells }
         ensures headline { IsHeadline self.now.state result.now }
@@ -147,7 +152,8 @@ impl Core {
         &self.parts.tree
     }
 
-    /// The tree of the base: the root alone, until a checkpoint. No number above the base's last stamp stands in it.
+    /// The tree of the base: the root alone, until a checkpoint. No number above the base's last
+    /// stamp stands in it.
     pub fn base(&self) -> &Tree
         ensures tree { tidy result.now ≡ self.now.state.base.tree }
         ensures base { IsBaseTree result.now self.now.state.base.last_stamp }
@@ -175,6 +181,14 @@ impl Core {
         ensures { fate_in result ≡ fate_of self.now.state txn }
     {
         self.parts.forest.state(txn)
+    }
+
+    /// The parent of a subtransaction; none of a top-level one, nor where there is no transaction of
+    /// this number since the base.
+    pub fn parent(&self, txn: TxnId) -> Option<TxnId>
+        ensures { result ≡ parent_of posix_calls (history self.now.state) txn }
+    {
+        self.parts.forest.parent(txn)
     }
 
     /// Refuses a transaction that is not live.
@@ -219,8 +233,8 @@ fn add(forest: &mut Forest, parent: &Option<TxnId>) -> Result<TxnId, ForestFault
     }
 }
 
-/// Makes the places of a transaction that is to begin: in the locks, in the logs, and of its begin and its end. Those that
-/// are made stay where memory is wanting; nothing is seen of them.
+/// Makes the places of a transaction that is to begin: in the locks, in the logs, and of its begin
+/// and its end. Those that are made stay where memory is wanting; nothing is seen of them.
 fn open(journal: &mut Journal, locks: &mut Locks, logs: &mut Logs, next: u64) -> Result<(), Memory>
     requires { 0 < next }
     ensures same { AreAsBefore journal.old journal.new locks.old locks.new logs.old logs.new next }

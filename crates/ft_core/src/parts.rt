@@ -61,8 +61,9 @@ pub(crate) enum Tried {
 }
 
 impl Parts {
-    /// Who is in the way of a call with these accesses by a rule, and for how many of them, from the first on, the asker
-    /// holds the locks already. Where it has live children they may share its cells, and then none is told to be held.
+    /// Who is in the way of a call with these accesses by a rule, and for how many of them, from
+    /// the first on, the asker holds the locks already. Where it has live children they may share
+    /// its cells, and then none is told to be held.
     pub(crate) fn survey(
         &self,
         txn: TxnId,
@@ -107,8 +108,9 @@ impl Parts {
         Ok(Tried::Made(made))
     }
 
-    /// Makes a call on the tree, gives its asker its locks, of which it holds those of so many accesses, from the first
-    /// on, already, and keeps what takes it back. Where memory is wanting nothing has changed.
+    /// Makes a call on the tree, gives its asker its locks, of which it holds those of so many
+    /// accesses, from the first on, already, and keeps what takes it back. Where memory is wanting
+    /// nothing has changed.
     fn make(
         &mut self,
         alloc: Global,
@@ -155,7 +157,8 @@ impl Parts {
         })
     }
 
-    /// Takes a transaction's list back, from its newest end, and answers how many calls that were. Takes no memory.
+    /// Takes a transaction's list back, from its newest end, and answers how many calls that were.
+    /// Takes no memory.
     pub(crate) fn take_list(&mut self, txn: TxnId) -> u64
         requires can { CanTakeBack (list_in self.old.logs txn) self.old.tree }
         requires few { length (list_in self.old.logs txn) < 2 ^ 64 }
@@ -186,8 +189,8 @@ impl Parts {
         }
     }
 
-    /// Gives the parent of a transaction that commits its locks and what takes its calls back; without a parent, both are
-    /// let go. Takes no memory.
+    /// Gives the parent of a transaction that commits its locks and what takes its calls back;
+    /// without a parent, both are let go. Takes no memory.
     pub(crate) fn hand_up(&mut self, txn: TxnId, parent: &Option<TxnId>)
         requires locks { is_opened self.old.locks txn ≡ true }
         requires logs { is_open self.old.logs txn ≡ true }

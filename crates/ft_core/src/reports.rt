@@ -17,7 +17,8 @@ pub struct Pending {
     pub blockers: Vec<TxnId>,
 }
 
-/// A live transaction, and a live child of it. They stand in the order of parents, and then of children.
+/// A live transaction, and a live child of it. They stand in the order of parents, and then of
+/// children.
 #[derive(Clone, Copy, Debug, PartialEq, Eq, PartialOrd, Ord)]
 pub struct LiveChild {
     pub parent: TxnId,
@@ -32,8 +33,8 @@ impl Core {
         self.parts.locks.lines()
     }
 
-    /// Each transaction that waits for a call, in rising order, with those that are in the way of it now. There may be none
-    /// any more: then a retry makes the call.
+    /// Each transaction that waits for a call, in rising order, with those that are in the way of
+    /// it now. There may be none any more: then a retry makes the call.
     pub fn pending(&self) -> Result<Vec<Pending>, Memory>
         ensures list { IfOk result (λ list. map as_wait list.items ≡ waits self.now.state) }
         ensures rising { IfOk result (λ list. Each HasRisingBlockers list.items) }
@@ -43,7 +44,8 @@ impl Core {
         Ok(list)
     }
 
-    /// Each live transaction with each live child, in their order. Takes the time to sort the live transactions.
+    /// Each live transaction with each live child, in their order. Takes the time to sort the live
+    /// transactions.
     pub fn children(&self) -> Result<Vec<LiveChild>, Memory>
         ensures { IfOk result (λ list. AreLiveChildren self.now.state list.items) }
     {

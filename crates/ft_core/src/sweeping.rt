@@ -8,12 +8,13 @@ use crate::manager::Core;
 use crate::parts::Parts;
 
 impl Core {
-    /// Drops places of the tree that are of no use any more, among those that were let go since the last sweep: empty ones,
-    /// and those of files and directories that are gone. Answers how many it dropped, or the largest number where there
-    /// were more. Takes no memory, and the time of what was let go.
+    /// Drops places of the tree that are of no use any more, among those that were let go since the
+    /// last sweep: empty ones, and those of files and directories that are gone. Answers how many
+    /// it dropped, or the largest number where there were more. Takes no memory, and the time of
+    /// what was let go.
     ///
-    /// What an undo or an abort may need stays, and nothing is seen of a sweep: the state is the same. Where no transaction
-    /// is live, no place of no use is left.
+    /// What an undo or an abort may need stays, and nothing is seen of a sweep: the state is the
+    /// same. Where no transaction is live, no place of no use is left.
     pub fn sweep(&mut self) -> u64
         ensures same { self.new.state ≡ self.old.state }
         ensures count { places_in self.old.cells < 2 ^ 64 - 1 → places_in self.old.cells ≡ result + places_in self.new.cells }

@@ -22,10 +22,11 @@ use ft_base::Memory;
 use std::alloc::Global;
 use std::marker::Model;
 
-/// The transactions begun since a base: how they stand above one another, and what has become of each.
+/// The transactions begun since a base: how they stand above one another, and what has become of
+/// each.
 ///
-/// Their numbers go on from the base's last one. A call takes the same time however many transactions there are,
-/// except where it says so.
+/// Their numbers go on from the base's last one. A call takes the same time however many
+/// transactions there are, except where it says so.
 pub struct Forest {
     base: u64,
     records: Records,
@@ -65,8 +66,8 @@ impl Forest {
         }
     }
 
-    /// Forgets all transactions, none of which is live, and gives their memory back. Their numbers go on from the last one.
-    /// Takes no memory.
+    /// Forgets all transactions, none of which is live, and gives their memory back. Their numbers
+    /// go on from the last one. Takes no memory.
     pub fn restart(&mut self)
         requires { (x : ℕ) → state_in self.old x ≢ Some Live }
         ensures { self.new ≡ none_since (last_in self.old) }
@@ -94,7 +95,8 @@ impl Forest {
         Some(self.records.list[place].state)
     }
 
-    /// The parent of a transaction; none of a top-level one, nor where there is no transaction of this number.
+    /// The parent of a transaction; none of a top-level one, nor where there is no transaction of
+    /// this number.
     pub fn parent(&self, txn: TxnId) -> Option<TxnId>
         ensures parent { result ≡ parent_in self.now txn }
 
@@ -132,7 +134,8 @@ impl Forest {
         }
     }
 
-    /// The youngest live child of a transaction; without one, the youngest live transaction at the top level.
+    /// The youngest live child of a transaction; without one, the youngest live transaction at the
+    /// top level.
     pub fn youngest_child(&self, parent: Option<TxnId>) -> Option<TxnId>
         ensures { IsYoungestChild self.now parent result }
     {
@@ -145,7 +148,8 @@ impl Forest {
         }
     }
 
-    /// The next older live sibling of a live transaction, at the top level the next older live one there.
+    /// The next older live sibling of a live transaction, at the top level the next older live one
+    /// there.
     pub fn older_sibling(&self, txn: TxnId) -> Option<TxnId>
         requires { state_in self.now txn ≡ Some Live }
         ensures { IsOlderSibling self.now txn result }
@@ -188,10 +192,12 @@ impl Forest {
         Ok(())
     }
 
-    /// The next transaction that an abort ends: a live one at or below `txn` that has no live child.
+    /// The next transaction that an abort ends: a live one at or below `txn` that has no live
+    /// child.
     ///
-    /// There is none where nothing at or below `txn` is live. Takes the time of its depth below `txn`; who ends one after
-    /// another asks at the parent of the one before, and takes the time of all that are ended.
+    /// There is none where nothing at or below `txn` is live. Takes the time of its depth below
+    /// `txn`; who ends one after another asks at the parent of the one before, and takes the time
+    /// of all that are ended.
     pub fn next_to_end(&self, txn: TxnId) -> Option<TxnId>
         ensures next { IfSome result (λ next. IsNextToEnd self.now txn next) }
         ensures none { IfNone result ((x : ℕ) → over_in self.now txn x ≡ true → state_in self.now x ≢ Some Live) }
@@ -218,7 +224,8 @@ impl Forest {
 
     /// Begins a top-level transaction, with the next number.
     ///
-    /// Refuses Full where there are 100,000 since the base, or the number 2^63 - 1 is given. Want of memory changes nothing.
+    /// Refuses Full where there are 100,000 since the base, or the number 2^63 - 1 is given. Want
+    /// of memory changes nothing.
     pub fn begin(&mut self) -> Result<TxnId, ForestFault>
         ensures begun { OnOk result (HasBegun self.old self.new None) }
         ensures number { IfOk result (λ txn. txn ≡ last_in self.old + 1) }
@@ -243,7 +250,8 @@ impl Forest {
 
     /// Begins a subtransaction, with the next number.
     ///
-    /// Refuses NoTxn, Ended, Deep where the parent stands at depth 64, and Full, in this order. Want of memory changes nothing.
+    /// Refuses NoTxn, Ended, Deep where the parent stands at depth 64, and Full, in this order.
+    /// Want of memory changes nothing.
     pub fn sub(&mut self, txn: TxnId) -> Result<TxnId, ForestFault>
         ensures begun { OnOk result (HasBegun self.old self.new (Some txn)) }
         ensures number { IfOk result (λ child. child ≡ last_in self.old + 1) }
@@ -256,9 +264,11 @@ impl Forest {
         self.add(Some(parent), depth + 1)
     }
 
-    /// Commits a transaction, relative to its parent: an abort above it takes its calls away all the same.
+    /// Commits a transaction, relative to its parent: an abort above it takes its calls away all
+    /// the same.
     ///
-    /// Refuses NoTxn, Ended, and ChildLive where it has a live child, in this order. Takes no memory.
+    /// Refuses NoTxn, Ended, and ChildLive where it has a live child, in this order. Takes no
+    /// memory.
     pub fn commit(&mut self, txn: TxnId) -> Result<(), ForestFault>
         ensures committed { OnOk result (HasEnded self.old self.new txn Committed) }
         ensures refused { MatchResult result (λ _. commit_refusal self.old txn ≡ None) (λ fault. commit_refusal self.old txn ≡ Some fault) }
@@ -272,9 +282,11 @@ impl Forest {
         Ok(())
     }
 
-    /// Aborts a transaction with all that is live below it, each before its parent; what had committed stays committed.
+    /// Aborts a transaction with all that is live below it, each before its parent; what had
+    /// committed stays committed.
     ///
-    /// Refuses NoTxn and Ended, in this order. Takes no memory, and the time of the live transactions at or below it.
+    /// Refuses NoTxn and Ended, in this order. Takes no memory, and the time of the live
+    /// transactions at or below it.
     pub fn abort(&mut self, txn: TxnId) -> Result<(), ForestFault>
         ensures aborted { OnOk result (HasAborted self.old self.new txn) }
         ensures refused { MatchResult result (λ _. abort_refusal self.old txn ≡ None) (λ fault. abort_refusal self.old txn ≡ Some fault) }
@@ -288,11 +300,11 @@ impl Forest {
         Ok(())
     }
 
-    /// Aborts the next transaction that an abort of `txn` ends, and answers it: a live one at or below `txn` that has no
-    /// live child. There is none where nothing at or below `txn` is live.
+    /// Aborts the next transaction that an abort of `txn` ends, and answers it: a live one at or
+    /// below `txn` that has no live child. There is none where nothing at or below `txn` is live.
     ///
-    /// `last` is the one that was ended before, and at first `txn` itself. Takes no memory; all together take the time of
-    /// what is ended.
+    /// `last` is the one that was ended before, and at first `txn` itself. Takes no memory; all
+    /// together take the time of what is ended.
     pub fn abort_next(&mut self, txn: TxnId, last: TxnId) -> Option<TxnId>
         requires { IsLastOf self.old txn last }
         ensures next { IfSome result (λ next. IsNextToEnd self.old txn next) }
@@ -315,7 +327,8 @@ impl Forest {
         Some(next)
     }
 
-    /// Where an abort of `txn` that ended `last` before looks for the next: at its parent, and at first at `txn`.
+    /// Where an abort of `txn` that ended `last` before looks for the next: at its parent, and at
+    /// first at `txn`.
     fn search_from(&self, txn: TxnId, last: TxnId) -> TxnId
         requires { IsLastOf self.now txn last }
         ensures below { over_in self.now txn result ≡ true }

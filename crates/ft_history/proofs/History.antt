@@ -86,7 +86,7 @@ module _ (C : Calls) (L : Lawful C) (base : Base C) where
     owner_there x k = ap (λ b. cond b None (nearest (parent C h) (is_committed C h) x)) k
 
     -- an aborted one above an owner is above the asker
-    gone_above : (g : List (Event C)) (o x : ℕ) → over C h o x ≡ true → some_abort C g (λ u. over C h u o) ≡ true → some_abort C g (λ u. over C h u x) ≡ true
+    pub gone_above : (g : List (Event C)) (o x : ℕ) → over C h o x ≡ true → some_abort C g (λ u. over C h u o) ≡ true → some_abort C g (λ u. over C h u x) ≡ true
     gone_above [] o x a k = absurd (false≢true k)
     gone_above (Begin n p ∷ g) o x a k = gone_above g o x a k
     gone_above (Call c ∷ g) o x a k = gone_above g o x a k

@@ -34,13 +34,13 @@ module _ (up : ℕ → Option ℕ) (lower : IsForest up) where
       (λ p e. let lt = lower x p e in
       ap (λ o. map_or x o (last_up up j)) e ∙ last_steps j k p (omega arith) (omega arith) ∙ sym (ap (λ o. map_or x o (last_up up k)) e))
 
-  root_top : (x : ℕ) → up x ≡ None → root up x ≡ x
+  pub root_top : (x : ℕ) → up x ≡ None → root up x ≡ x
   root_top x e = last_steps x (suc x) x (omega arith) (omega arith) ∙ ap (λ o. map_or x o (last_up up x)) e
 
-  root_child : (x p : ℕ) → up x ≡ Some p → root up x ≡ root up p
+  pub root_child : (x p : ℕ) → up x ≡ Some p → root up x ≡ root up p
   root_child x p e = let lt = lower x p e in last_steps x (suc x) x (omega arith) (omega arith) ∙ ap (λ o. map_or x o (last_up up x)) e ∙ last_steps x p p (omega arith) (omega arith)
 
-  root_is_top : (x : ℕ) → up (root up x) ≡ None
+  pub root_is_top : (x : ℕ) → up (root up x) ≡ None
   root_is_top = climb up lower (λ x. up (root up x) ≡ None) (λ x e. ap up (root_top x e) ∙ e) (λ x p e ih. ap up (root_child x p e) ∙ ih)
 
   -- what is above has the same root
@@ -154,7 +154,7 @@ module _ (C : Calls) (L : Lawful C) (base : Base C) (base_sound : C.IsSound base
       (λ t p e ih live. ap (is_committed C h) (root_child (parent C h) sound.forest t p e) ∙ ih (sound.live_up t p live e))
 
   -- a committed top-level transaction is listed
-  committed_listed : (h : List (Event C)) → Legal C base h → (r : ℕ) → r ≤ last_transaction C base.transaction h → parent C h r ≡ None → is_committed C h r ≡ true → In r (committed_roots C h)
+  pub committed_listed : (h : List (Event C)) → Legal C base h → (r : ℕ) → r ≤ last_transaction C base.transaction h → parent C h r ≡ None → is_committed C h r ≡ true → In r (committed_roots C h)
   committed_listed [] legal r le top k = absurd (false≢true k)
   committed_listed (Begin n p ∷ h) legal r le top k = by_number r n
       (λ e. absurd (false≢true (sym (new_open h legal.1 r (let next = legal.0.next in omega arith)) ∙ k)))

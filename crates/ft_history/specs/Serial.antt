@@ -67,6 +67,11 @@ module _ (C : Calls) where
   abbrev pub Serial : Type 0
   Serial = OfHistories C IsSerial
 
-  -- What has committed stays: whatever happens next, the committed part grows at its end alone.
-  abbrev pub CommittedGrows : Type 0
-  CommittedGrows = (base : Base C) → C.IsSound base.store → (h : List (Event C)) (e : Event C) → Legal C base (e ∷ h) → (more : List (Done C)) × (committed_part (e ∷ h) ≡ committed_part h ++ more)
+  -- the calls that an event adds to the committed part: where a top-level transaction commits, those below it
+  abbrev pub newly_committed : List (Event C) → Event C → List (Done C)
+  newly_committed h (Commit t) = cond (is_some (parent C h t)) [] (calls_under h t)
+  newly_committed h other = []
+
+  -- What has committed stays: an event leaves the committed part as it is, and the commit of a top-level transaction adds the calls below it at the end.
+  abbrev pub CommittedSteps : Type 0
+  CommittedSteps = (base : Base C) → C.IsSound base.store → (h : List (Event C)) (e : Event C) → Legal C base (e ∷ h) → committed_part (e ∷ h) ≡ committed_part h ++ newly_committed h e

@@ -1,10 +1,10 @@
-//! What happens under nested transactions, and what every history of it keeps: who owns which calls,
-//! which calls stand, what an undo and an abort take back, and that the store, changed in place, is
-//! always that of the standing calls alone.
+//! What happens under nested transactions, and what every history of it keeps: who owns which
+//! calls, which calls stand, what an undo and an abort take back, and that the store, changed in
+//! place, is always that of the standing calls alone.
 //!
-//! The definitions are in `specs`, the theorems for any lawful calls in `proofs`. Each function here
-//! has no body to run: its `ensures` is a theorem, at a tiny tree of directories and files, for every
-//! base and every legal history from it.
+//! The definitions are in `specs`, the theorems for any lawful calls in `proofs`. Each function
+//! here has no body to run: its `ensures` is a theorem, at a tiny tree of directories and files,
+//! for every base and every legal history from it.
 #![tactic(auto)]
 
 ghost use Rattle.std.specs.Prelude.{◌≡◌, Some, None, [], ◌∷◌};
@@ -13,27 +13,27 @@ ghost use Rattle.ft_history.specs.Example.{start, neighbour, with_file, interlea
 ghost use Rattle.ft_history.specs.History.{standing};
 ghost use Rattle.ft_history.specs.Legal.{Legal};
 ghost use Rattle.ft_history.specs.Promises.{AbortAlone, AbortCount, AbortKeeps, AbortOrder, AskKeeps, BeginKeeps, Blockers, CheckpointKeeps, CommitKeeps, ExactLedger, FateRules, Headline, JustMade, LiveChildren, LiveOwners, LockRules, LogOrder, NewestFirst, Numbered, Ownership, SubCommits, SweepKeeps, TargetByStamps, UndoKeeps};
-ghost use Rattle.ft_history.specs.Serial.{CommittedGrows, Serial, SerialOrder};
+ghost use Rattle.ft_history.specs.Serial.{CommittedSteps, Serial, SerialOrder};
 ghost use Rattle.ft_history.specs.Sharing.{Sharing};
 ghost use Rattle.ft_history.specs.Without.{AbortLeavesDescendants, AbortOldestFirst, AbortOwnAlone, AbortRising, CommitInFront, LocksLetGo, RevertOverChild, SerialReversed, SweepLocked, UndoOverChild, UndoPastCommit, WeakOwnership};
 ghost use Rattle.ft_laws.specs.Tiny.{tiny_calls};
 ghost use Rattle.ft_laws.specs.Tiny.Cell.{Entry};
 ghost use Rattle.ft_laws.specs.Tiny.Node.{FileNode};
 
-/// After every legal history the store, which was changed in place, is that of the standing calls alone,
-/// made one after another from the base, each with the reply that it got.
+/// After every legal history the store, which was changed in place, is that of the standing calls
+/// alone, made one after another from the base, each with the reply that it got.
 pub fn headline()
     ensures { Headline tiny_calls }
 {}
 
-/// Of two standing calls that conflict, if the earlier one has an owner then the later one has one too,
-/// and the earlier one's is at or above it.
+/// Of two standing calls that conflict, if the earlier one has an owner then the later one has one
+/// too, and the earlier one's is at or above it.
 pub fn ownership()
     ensures { Ownership tiny_calls }
 {}
 
-/// Transactions are numbered one after another from the base's last number on, and a later number has
-/// neither a parent nor an end.
+/// Transactions are numbered one after another from the base's last number on, and a later number
+/// has neither a parent nor an end.
 pub fn numbered()
     ensures { Numbered tiny_calls }
 {}
@@ -43,32 +43,33 @@ pub fn children()
     ensures { LiveChildren tiny_calls }
 {}
 
-/// What each event does to the transactions: a new one is live, a commit makes its own committed, an
-/// abort makes aborted what is live at or below it.
+/// What each event does to the transactions: a new one is live, a commit makes its own committed,
+/// an abort makes aborted what is live at or below it.
 pub fn fate_rules()
     ensures { FateRules tiny_calls }
 {}
 
-/// What each event does to the locks, held and retained: Moss's rules of grant, inheritance and abort.
+/// What each event does to the locks, held and retained: Moss's rules of grant, inheritance and
+/// abort.
 pub fn lock_rules()
     ensures { LockRules tiny_calls }
 {}
 
-/// Of two owners of conflicting locks one is at or above the other, so one without a live child shares
-/// them with its ancestors alone.
+/// Of two owners of conflicting locks one is at or above the other, so one without a live child
+/// shares them with its ancestors alone.
 pub fn lock_sharing()
     ensures { Sharing tiny_calls }
 {}
 
-/// The blockers of a call, each once and in the order of their numbers, are all who own a conflicting
-/// lock and are neither the asker nor above it; by Moss's own rule for holders, those above it who hold
-/// one as well.
+/// The blockers of a call, each once and in the order of their numbers, are all who own a
+/// conflicting lock and are neither the asker nor above it; by Moss's own rule for holders, those
+/// above it who hold one as well.
 pub fn blockers()
     ensures { Blockers tiny_calls }
 {}
 
-/// The owner of a granted call is live, at or above its asker, so who owns a lock is live; and a live
-/// transaction owns its calls itself.
+/// The owner of a granted call is live, at or above its asker, so who owns a lock is live; and a
+/// live transaction owns its calls itself.
 pub fn live_owners()
     ensures { LiveOwners tiny_calls }
 {}
@@ -78,8 +79,8 @@ pub fn log_order()
     ensures { LogOrder tiny_calls }
 {}
 
-/// An abort of any live transaction, amid the calls of others, leaves the store of the standing calls
-/// that remain, in whichever order it takes the lists, each before that of its parent.
+/// An abort of any live transaction, amid the calls of others, leaves the store of the standing
+/// calls that remain, in whichever order it takes the lists, each before that of its parent.
 pub fn abort_order()
     ensures { AbortOrder tiny_calls }
 {}
@@ -89,8 +90,8 @@ pub fn newest_first()
     ensures { NewestFirst tiny_calls }
 {}
 
-/// The call just made is what an undo comes upon where its asker has no live child, and the undo gives
-/// back the store before it.
+/// The call just made is what an undo comes upon where its asker has no live child, and the undo
+/// gives back the store before it.
 pub fn just_made()
     ensures { JustMade tiny_calls }
 {}
@@ -111,22 +112,22 @@ pub fn exact_ledger()
     ensures { ExactLedger tiny_calls }
 {}
 
-/// Of two standing calls that conflict, either both have one root, or the earlier one's root committed,
-/// and the later one's did so later or not at all.
+/// Of two standing calls that conflict, either both have one root, or the earlier one's root
+/// committed, and the later one's did so later or not at all.
 pub fn serial_order()
     ensures { SerialOrder tiny_calls }
 {}
 
-/// The committed transactions in order of commit, then the other calls: this list has each standing call
-/// once, and made so they leave the same store and get the same replies.
+/// The committed transactions in order of commit, then the other calls: this list has each standing
+/// call once, and made so they leave the same store and get the same replies.
 pub fn serial_store()
     ensures { Serial tiny_calls }
 {}
 
-/// What has committed stays: whatever happens next, the committed part of the serial list only grows
-/// at its end.
-pub fn committed_grows()
-    ensures { CommittedGrows tiny_calls }
+/// What has committed stays: an event leaves the committed part of the serial list as it is, and the
+/// commit of a top-level transaction adds the standing calls below it at the end.
+pub fn committed_steps()
+    ensures { CommittedSteps tiny_calls }
 {}
 
 /// The newest of a live transaction's list and the last commit of a child decide what an undo comes
@@ -173,8 +174,8 @@ pub fn checkpoint_keeps()
     ensures { CheckpointKeeps tiny_calls }
 {}
 
-/// There are such histories: here a child makes a directory and commits, its parent makes a file in it,
-/// undoes that and aborts, amid the call of a third transaction, whose file alone is left.
+/// There are such histories: here a child makes a directory and commits, its parent makes a file in
+/// it, undoes that and aborts, amid the call of a third transaction, whose file alone is left.
 pub fn interleaved_history()
     ensures legal { Legal tiny_calls start interleaved }
     ensures standing { standing tiny_calls interleaved ≡ neighbour ∷ [] }
@@ -184,9 +185,9 @@ pub fn interleaved_history()
     ensures left { (machine tiny_calls start interleaved).store (Entry 1 1) ≡ Some (FileNode 3) }
 {}
 
-/// An abort is false in any other way: each list oldest first; the lists by rising number; without the
-/// calls of committed children; without those of live descendants; and with a child's list placed in
-/// front of its parent's at the commit.
+/// An abort is false in any other way: each list oldest first; the lists by rising number; without
+/// the calls of committed children; without those of live descendants; and with a child's list
+/// placed in front of its parent's at the commit.
 pub fn aborts_need_their_order()
     ensures oldest_first { AbortOldestFirst tiny_calls → ⊥ }
     ensures rising { AbortRising tiny_calls → ⊥ }
@@ -195,8 +196,8 @@ pub fn aborts_need_their_order()
     ensures in_front { CommitInFront tiny_calls → ⊥ }
 {}
 
-/// An undo is false of another target: of a call though a child is live, whose inverse need not fit the
-/// store any more, or of one that a child's commit came after.
+/// An undo is false of another target: of a call though a child is live, whose inverse need not fit
+/// the store any more, or of one that a child's commit came after.
 pub fn undos_need_their_target()
     ensures misfit { RevertOverChild tiny_calls → ⊥ }
     ensures live_child { UndoOverChild tiny_calls → ⊥ }

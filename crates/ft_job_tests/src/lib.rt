@@ -1,5 +1,5 @@
-//! Tests of the crates that play scripts and run jobs, and of the command line, in one crate: a crate with tests is proved a
-//! second time with them.
+//! Tests of the crates that play scripts and run jobs, and of the command line, in one crate: a
+//! crate with tests is proved a second time with them.
 #![tactic(auto)]
 
 #[cfg(test)]

@@ -14,7 +14,8 @@ use std::test::Fail;
 use std::thread::{self, Threads};
 use std::time::{Clock, Duration};
 
-/// How often a job looks for the other one at a meeting, and how often its calls are asked for there.
+/// How often a job looks for the other one at a meeting, and how often its calls are asked for
+/// there.
 const MEETING_TURNS: u64 = 10_000;
 
 /// How often calls are asked for under a manager that lies, where some wait in vain.
@@ -35,8 +36,8 @@ fn new_shared(alloc: Global) -> Result<Shared, Fail> {
 /// Two jobs, each of which asks for what the other one has made.
 const CROSSED: &[u8] = b"job a\nmkdir /x\nstat /y\ncommit\njob b\nmkdir /y\nstat /x\ncommit\n";
 
-/// A gate at which two jobs meet before their second step: each waits until the other one has come there too. The first job
-/// meets the last one, and so on inwards.
+/// A gate at which two jobs meet before their second step: each waits until the other one has come
+/// there too. The first job meets the last one, and so on inwards.
 #[derive(Drop)]
 struct Meeting {
     last: u64,
@@ -118,7 +119,8 @@ fn has_stamps(history: &[Event], stamps: &[u64]) -> bool {
     told.eq(stamps.iter().copied())
 }
 
-/// Whether the worked plan runs with jobs that meet at their second steps, and does all that it says.
+/// Whether the worked plan runs with jobs that meet at their second steps, and does all that it
+/// says.
 fn meets<R: Threads + Wait + Clock + Sync>(rt: &R, alloc: Global) -> Result<bool, Fail> {
     let gate = Meeting::up_to(3);
     let outcome = run_meeting(rt, alloc, WORKED, &gate, MEETING_TURNS)?;
@@ -128,7 +130,8 @@ fn meets<R: Threads + Wait + Clock + Sync>(rt: &R, alloc: Global) -> Result<bool
     Ok(have_made && has_all && rows == 9 && gate.met.load(Ordering::SeqCst) == 4)
 }
 
-/// Whether a job has used up its turns behind its mkdir, or has committed, and found nothing of the other one.
+/// Whether a job has used up its turns behind its mkdir, or has committed, and found nothing of the
+/// other one.
 fn has_crossed(report: &Report) -> bool {
     match (report.end, report.calls.as_slice()) {
         (End::Waited, [made]) => made.reply == Reply::Done,
@@ -139,7 +142,8 @@ fn has_crossed(report: &Report) -> bool {
     }
 }
 
-/// Whether, of two jobs that wait for each other, one uses up its turns at least, and the other may go on.
+/// Whether, of two jobs that wait for each other, one uses up its turns at least, and the other may
+/// go on.
 fn crosses<R: Threads + Wait + Clock + Sync>(rt: &R, alloc: Global) -> Result<bool, Fail> {
     let gate = Meeting::up_to(1);
     let outcome = run_meeting(rt, alloc, CROSSED, &gate, FEW_TURNS)?;

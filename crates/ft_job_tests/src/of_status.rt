@@ -54,8 +54,8 @@ impl Write for Narrow {
     }
 }
 
-// Whether the script of a reader ends with this status and these replies, and this is what the writer of errors then
-// holds.
+// Whether the script of a reader ends with this status and these replies, and this is what the
+// writer of errors then holds.
 fn ends_with<R: Read>(
     alloc: Global,
     reader: &mut R,

@@ -1,4 +1,5 @@
-// Where the jobs of a plan stand: subjobs wait here for their parents, and parents for their subjobs.
+// Where the jobs of a plan stand: subjobs wait here for their parents, and parents for their
+// subjobs.
 use ft_base::{Memory, Sequence};
 use ft_core::TxnId;
 use ft_reports::{End, Report};
@@ -68,7 +69,8 @@ impl Board {
         self.moved.notify_all();
     }
 
-    /// Waits until a job has come to its subjobs, and answers its transaction; none where it has ended before.
+    /// Waits until a job has come to its subjobs, and answers its transaction; none where it has
+    /// ended before.
     pub fn wait_for_subs<R: Wait>(&self, rt: &R, job: usize) -> Option<TxnId> {
         let places = self.moved.wait_while(rt, self.places.lock(rt), |places| {
             matches!(places.phase(job), Phase::Ahead)

@@ -42,8 +42,8 @@ pub fn run_job<M: Manager, G: Gate, R: Wait + Clock>(rt: &R, work: &Work<'_, M, 
     work.gate.ended(rt, at as u64);
 }
 
-// Begins a job's transaction: at the top, or, once its parent has come to its subjobs, under that one's. Where it has none,
-// the answer is how the job ends.
+// Begins a job's transaction: at the top, or, once its parent has come to its subjobs, under that
+// one's. Where it has none, the answer is how the job ends.
 fn begin<M: Manager, G: Gate, R: Wait + Clock>(
     rt: &R,
     work: &Work<'_, M, G>,
@@ -134,8 +134,8 @@ impl Run {
         abort(rt, work, self.txn)
     }
 
-    // Asks for the call of a step, and answers the descriptor that it opened, or 0. The entry's place and the call's copy are
-    // made before, so that a call that is granted is reported.
+    // Asks for the call of a step, and answers the descriptor that it opened, or 0. The entry's
+    // place and the call's copy are made before, so that a call that is granted is reported.
     fn ask<M: Manager, G: Gate, R: Wait + Clock>(
         &mut self,
         rt: &R,

@@ -1,4 +1,5 @@
-//! Jobs that run side by side, each in a thread and a transaction of its own, and report what has become of them.
+//! Jobs that run side by side, each in a thread and a transaction of its own, and report what has
+//! become of them.
 #![tactic(auto)]
 
 mod board;

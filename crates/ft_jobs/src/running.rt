@@ -23,12 +23,13 @@ pub struct JobsOutcome {
     pub reports: Vec<Report>,
 }
 
-/// Runs the jobs of a plan, each in a thread and in a transaction of its own: a top job in one at the top, a subjob, once its
-/// parent has come to its `subs`, in one under its parent's. Each call is asked for so many times until it is granted.
+/// Runs the jobs of a plan, each in a thread and in a transaction of its own: a top job in one at
+/// the top, a subjob, once its parent has come to its `subs`, in one under its parent's. Each call
+/// is asked for so many times until it is granted.
 ///
-/// At the end the reports are compared with the history, whatever the manager answered. Answers Mismatch where they are not
-/// what happened, and Thread where a thread could not be started, after those that were have ended. At a fault the core is
-/// dropped. Any other fault is Memory.
+/// At the end the reports are compared with the history, whatever the manager answered. Answers
+/// Mismatch where they are not what happened, and Thread where a thread could not be started, after
+/// those that were have ended. At a fault the core is dropped. Any other fault is Memory.
 pub fn run_jobs<M: Manager, G: Gate, R: Threads + Wait + Clock + Sync>(
     rt: &R,
     alloc: Global,
@@ -77,8 +78,8 @@ fn run_all<M: Manager, G: Gate, R: Threads + Wait + Clock + Sync>(
     Ok(board.into_reports())
 }
 
-// Starts a thread for each job, and waits until all have ended. Whether all could be started: behind one that could not, no
-// other is.
+// Starts a thread for each job, and waits until all have ended. Whether all could be started:
+// behind one that could not, no other is.
 fn start_all<M: Manager, G: Gate, R: Threads + Wait + Clock + Sync>(
     rt: &R,
     work: &Work<'_, M, G>,

@@ -2,9 +2,9 @@
 //! follows for runs of them from a short list of laws. The transactions of the crates above rest on
 //! it: a call is undone, and a transaction aborted, amid the calls of others.
 //!
-//! The definitions are in `specs`, the theorems for any lawful calls in `proofs`. Each function here
-//! has no body to run: its `ensures` is a theorem, at a tiny tree of directories and files, for every
-//! store, call and run of it.
+//! The definitions are in `specs`, the theorems for any lawful calls in `proofs`. Each function
+//! here has no body to run: its `ensures` is a theorem, at a tiny tree of directories and files,
+//! for every store, call and run of it.
 #![tactic(auto)]
 
 ghost use Rattle.ft_laws.specs.Effects.{calls_of};
@@ -30,8 +30,8 @@ pub fn deletion()
     ensures { Deletion tiny_calls }
 {}
 
-/// The inverse of a call that conflicts with no later one may be applied, which is to leave the call
-/// out.
+/// The inverse of a call that conflicts with no later one may be applied, which is to leave the
+/// call out.
 pub fn undoing()
     ensures { Undoing tiny_calls }
 {}
@@ -56,8 +56,8 @@ pub fn stays_hidden()
     ensures { StaysHidden tiny_calls }
 {}
 
-/// The inverse of a call that touched nothing hidden may be applied too, which is a deletion and brings
-/// no hidden file back.
+/// The inverse of a call that touched nothing hidden may be applied too, which is a deletion and
+/// brings no hidden file back.
 pub fn undoing_hidden()
     ensures { UndoingHidden tiny_calls }
 {}
@@ -92,12 +92,12 @@ pub fn runs_need_premises()
     ensures rank { SortAny tiny_calls → ⊥ }
 {}
 
-/// What the laws of calls are without a part is false: the frame law by the written cells alone;
-/// a sound tree after a directory went with what was in it; freshness of a stamp that was used; an
-/// inverse that forgets a file's links, or that may be put only where the cells are as they were before
-/// its call; a call that comes upon files by name alone; a rename that touches the file that it moves.
-/// And where the names of a directory don't overlap its entries, where what is written counts as read,
-/// or where what is read isn't accessed, calls can't be exchanged.
+/// What the laws of calls are without a part is false: the frame law by the written cells alone; a
+/// sound tree after a directory went with what was in it; freshness of a stamp that was used; an
+/// inverse that forgets a file's links, or that may be put only where the cells are as they were
+/// before its call; a call that comes upon files by name alone; a rename that touches the file that
+/// it moves. And where the names of a directory don't overlap its entries, where what is written
+/// counts as read, or where what is read isn't accessed, calls can't be exchanged.
 pub fn laws_need_premises()
     ensures frame { FrameByWrites tiny_calls → ⊥ }
     ensures sound { StaysSound (calls_of full_removed) → ⊥ }

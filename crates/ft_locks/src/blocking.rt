@@ -147,9 +147,9 @@ pub(crate) fn note_access(
     note_beside(holdings, found, forest, asker, access)
 }
 
-/// The same, and whether the asker holds the lock of the access, by one look at its cell: where a lock
-/// of the asker's own covers the access, only ancestors have a lock that conflicts with it, and by
-/// Moss's rule none of them holds one.
+/// The same, and whether the asker holds the lock of the access, by one look at its cell: where a
+/// lock of the asker's own covers the access, only ancestors have a lock that conflicts with it,
+/// and by Moss's rule none of them holds one.
 pub(crate) fn survey_access(
     holdings: &Holdings,
     found: &mut Table<()>,

@@ -164,8 +164,8 @@ impl LockedCells {
         self.entries.of(dir)
     }
 
-    /// Whether the names of some directory may be in the table. Where they are not, nobody who looks at
-    /// an entry has to look for them.
+    /// Whether the names of some directory may be in the table. Where they are not, nobody who
+    /// looks at an entry has to look for them.
     pub(crate) fn may_have_names(&self) -> bool
         ensures { result ≡ false → (d : ℕ) → finite.get self.now.cells (Names d) ≡ None }
     {
@@ -180,8 +180,8 @@ impl LockedCells {
         list_cells(lines, &self.locked)
     }
 
-    /// Gives an owner a place on a cell, with these locks, where it has none. Want of memory changes
-    /// nothing.
+    /// Gives an owner a place on a cell, with these locks, where it has none. Want of memory
+    /// changes nothing.
     pub(crate) fn place(&mut self, cell: &Cell, owner: u64, marks: Marks) -> Result<Place, Memory>
         ensures key { IfOk result (λ place. finite.get self.new.at place.key ≡ Some cell.now) }
         ensures had { IfOk result (λ place. place.had ≡ marks_at self.old.cells cell.now owner) }
@@ -212,8 +212,8 @@ impl LockedCells {
         }
     }
 
-    /// Gives an owner's place on the cell under a key to another, and answers whether that one had a
-    /// place there already. Takes no memory.
+    /// Gives an owner's place on the cell under a key to another, and answers whether that one had
+    /// a place there already. Takes no memory.
     pub(crate) fn hand_over(&mut self, key: usize, from: u64, to: u64) -> bool
         requires there { IsSomeAnd (finite.get self.old.at key) (λ cell. IsSome (marks_at self.old.cells cell from)) }
         requires apart { from ≢ to }

@@ -49,8 +49,8 @@ impl EntryKeys {
         }
     }
 
-    /// Takes the key at a place of a directory's list out, and answers the key that stands there from
-    /// then on, if there is one. Takes no memory.
+    /// Takes the key at a place of a directory's list out, and answers the key that stands there
+    /// from then on, if there is one. Takes no memory.
     pub(crate) fn remove(&mut self, dir: u64, place: usize) -> Option<usize>
         requires { IsSome (key_at self.old.keys dir place) }
         ensures none { IfNone result ((t : ℕ × ℕ) → key_at self.new.keys t.0 t.1 ≡ cond (same_spot (dir, place) t) None (key_at self.old.keys t.0 t.1)) }

@@ -20,8 +20,8 @@ use std::marker::Model;
 
 /// Which owner has a place on which cell, and with which locks.
 ///
-/// A cell's owners are found by its hash, and an owner's cells by its list, which has their keys: so
-/// what is done to one owner costs its own places and no others, and hashes none.
+/// A cell's owners are found by its hash, and an owner's cells by its list, which has their keys:
+/// so what is done to one owner costs its own places and no others, and hashes none.
 #[derive(Drop)]
 pub(crate) struct Holdings {
     cells: LockedCells,
@@ -133,8 +133,8 @@ impl Holdings {
         self.cells.list(lines)
     }
 
-    /// Gives an owner a place on a cell, with these locks, in front of its others, where it has none;
-    /// where it has one, answers its locks. Want of memory changes nothing.
+    /// Gives an owner a place on a cell, with these locks, in front of its others, where it has
+    /// none; where it has one, answers its locks. Want of memory changes nothing.
     pub(crate) fn place(
         &mut self,
         owner: u64,
@@ -216,8 +216,8 @@ impl Holdings {
         self.chains.splice(from, to);
     }
 
-    /// Gives each place of an owner to another. Takes no memory, and where that one has none yet, no
-    /// look at the lists of the owners for each place.
+    /// Gives each place of an owner to another. Takes no memory, and where that one has none yet,
+    /// no look at the lists of the owners for each place.
     pub(crate) fn hand_over(&mut self, from: u64, to: u64)
         requires there { IsOpen self.old.lists from }
         requires open { IsOpen self.old.lists to }
@@ -244,9 +244,9 @@ impl Holdings {
         }
     }
 
-    /// Gives an owner a place on each cell that is accessed, with the lock of the access where it had
-    /// none. Answers whether it has all these locks now: one on a cell where it had a place may be
-    /// lacking still. Want of memory changes nothing.
+    /// Gives an owner a place on each cell that is accessed, with the lock of the access where it
+    /// had none. Answers whether it has all these locks now: one on a cell where it had a place may
+    /// be lacking still. Want of memory changes nothing.
     pub(crate) fn reserve(&mut self, owner: u64, accesses: &[Access]) -> Result<bool, Memory>
         requires { IsOpen self.old.lists owner }
         ensures lines { OnOk result ((l : LockLine) → (has_line self.new.cells l || is_given owner accesses.now l) ≡ (has_line self.old.cells l || is_given owner accesses.now l)) }

@@ -1,4 +1,5 @@
-//! The locks of transactions on cells: which transaction holds or retains which access, and who is in the way of a call.
+//! The locks of transactions on cells: which transaction holds or retains which access, and who is
+//! in the way of a call.
 //!
 //! What a lock is, and what becomes of it, is said by `ft_moss`.
 #![tactic(auto)]

@@ -86,8 +86,8 @@ impl Locks {
     }
 
     /// Who is in the way of a call with these accesses: the owners of conflicting locks that are
-    /// neither the asker nor an ancestor of it, and by `Rule::Moss` the ancestors of it that hold one
-    /// too, in rising order and each once.
+    /// neither the asker nor an ancestor of it, and by `Rule::Moss` the ancestors of it that hold
+    /// one too, in rising order and each once.
     pub fn blockers(
         &self,
         forest: &Forest,
@@ -105,8 +105,8 @@ impl Locks {
         noted(self.alloc, &found)
     }
 
-    /// Who is in the way of a call with these accesses by a rule, and for how many of them, from the
-    /// first on, the asker holds the locks already.
+    /// Who is in the way of a call with these accesses by a rule, and for how many of them, from
+    /// the first on, the asker holds the locks already.
     ///
     /// A cell on which a lock of the asker's own covers the access is looked at once, and not those
     /// that overlap it: nobody but an ancestor has a lock there that conflicts, and where all calls

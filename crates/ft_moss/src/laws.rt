@@ -64,7 +64,8 @@ pub fn locks_block()
     lawful();
 }
 
-/// A call is granted only where nobody owns a conflicting lock but its asker and the ancestors of it.
+/// A call is granted only where nobody owns a conflicting lock but its asker and the ancestors of
+/// it.
 pub fn locks_foreign()
     ensures { ForeignLaw }
 {

@@ -92,7 +92,8 @@ impl Marks {
         self.read_held || self.read_retained || self.write_held || self.write_retained
     }
 
-    /// Whether one of them conflicts with such an access to an overlapping cell: one of the two writes.
+    /// Whether one of them conflicts with such an access to an overlapping cell: one of the two
+    /// writes.
     pub fn are_in_the_way(self, mode: Mode) -> bool
         ensures { result ≡ are_in_the_way self mode }
     {

@@ -39,11 +39,13 @@ impl From<JobFault> for RunFault {
     }
 }
 
-/// Reads a plan, runs its jobs on a new core that grants calls by this rule, each in a thread of its own, and writes what they came to. A call of theirs
-/// asks at most so many times. How far they have come is shown on a screen while they run, if there is one.
+/// Reads a plan, runs its jobs on a new core that grants calls by this rule, each in a thread of
+/// its own, and writes what they came to. A call of theirs asks at most so many times. How far they
+/// have come is shown on a screen while they run, if there is one.
 ///
 /// A fault ends the run.
-/// - Jobs: the bytes are no plan, or memory was wanted, a thread could not be started, or what the jobs report is not what
+/// - Jobs: the bytes are no plan, or memory was wanted, a thread could not be started, or what the
+///   jobs report is not what
 ///   happened. Nothing was written.
 /// - Write: a write failed, was interrupted or took nothing. A part of the text was written.
 pub fn run_plan<R: Threads + Wait + Clock + Sync, S: Write + Send + Drop, W: Write>(

@@ -10,8 +10,8 @@ use ft_tree::TreeRow;
 use ft_words::{CallText, ReplyText, TreeText};
 use std::fmt;
 
-/// What jobs came to: what became of each, the calls that were granted, and what the tree holds. Each line has its line
-/// feed.
+/// What jobs came to: what became of each, the calls that were granted, and what the tree holds.
+/// Each line has its line feed.
 #[derive(Clone, Copy)]
 pub struct OutcomeText<'a> {
     /// The jobs of the plan.

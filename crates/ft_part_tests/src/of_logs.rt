@@ -1,4 +1,5 @@
-// The undo logs by a worked example: two calls of transaction 1 and one of its child 2, which commits.
+// The undo logs by a worked example: two calls of transaction 1 and one of its child 2, which
+// commits.
 ghost use Rattle.ft_tree.specs.Sound.{AreSoundCells, IsFree};
 
 use ft_base::Memory;

@@ -1,5 +1,5 @@
-// Paths and their limits by outside examples, and what no clause says: printed text, and the numbers of faults.
-// What has a destructor is held by the test alone; helpers take it by reference.
+// Paths and their limits by outside examples, and what no clause says: printed text, and the
+// numbers of faults. What has a destructor is held by the test alone; helpers take it by reference.
 use ft_base::Memory;
 use ft_path::{Errno, FilePath, Name, Parts, PartsFault, PathFault};
 use std::alloc::{AllocError, Global};

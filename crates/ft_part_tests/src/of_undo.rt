@@ -1,5 +1,5 @@
-// What `perform` answers and does, what `revert` takes back on a copy, and which cells are touched, by worked rows. Call by call they are
-// played by case files.
+// What `perform` answers and does, what `revert` takes back on a copy, and which cells are touched,
+// by worked rows. Call by call they are played by case files.
 ghost use Rattle.std.specs.Prelude.{◌≢◌, ◌≤◌, ℕ, OnOk};
 ghost use Rattle.ft_tree.specs.Sound.{AreSoundCells, IsFree};
 
@@ -113,8 +113,8 @@ fn is_reply(reply: &Reply, wanted: ReplyRef) -> bool {
     }
 }
 
-/// Makes calls one after another on a new tree, with stamps from 2 on. Fails at the first that cannot
-/// be taken back, or is not answered as it says.
+/// Makes calls one after another on a new tree, with stamps from 2 on. Fails at the first that
+/// cannot be taken back, or is not answered as it says.
 fn make_calls(alloc: Global, calls: &[(CallRef, ReplyRef)]) -> Result<(), Fail> {
     let mut tree = Tree::new(alloc)?;
     make_calls_on(alloc, &mut tree, calls)

@@ -5,8 +5,8 @@ ghost use Rattle.ft_path.specs.Front.{front_of};
 /// How many bytes make the front of a text.
 pub(crate) const FRONT: usize = 8;
 
-/// The first eight bytes as the digits of a number, the first of them the greatest, with zeros where
-/// there are fewer.
+/// The first eight bytes as the digits of a number, the first of them the greatest, with zeros
+/// where there are fewer.
 pub(crate) fn front_of(bytes: &[u8]) -> u64
     ensures { result ≡ front_of bytes.now }
 {

@@ -17,8 +17,8 @@ use std::marker::Model;
 
 /// The name of a file in a directory: 1 to 255 bytes, none of them null or a slash.
 ///
-/// `.` and `..` are names. Names are ordered by their bytes. It keeps how these begin as a number, by
-/// which most names are told apart at once.
+/// `.` and `..` are names. Names are ordered by their bytes. It keeps how these begin as a number,
+/// by which most names are told apart at once.
 #[derive(Debug, Drop)]
 pub struct Name {
     bytes: SmallVec<u8, SHORT_NAME>,

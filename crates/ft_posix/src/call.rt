@@ -26,27 +26,27 @@ pub enum Call {
     /// Removes an empty directory and its entry, and answers `Done` (POSIX.1-2017, System
     /// Interfaces, rmdir).
     ///
-    /// Fails with the fault of the text; EINVAL for a last `.`; ENOTEMPTY for a last `..`; EBUSY for
-    /// the root, a path without components; the fault of the look-up; ENOENT where the last name is
-    /// missing; ENOTDIR where it is a file; ENOTEMPTY where the directory has an entry. ENOTEMPTY
-    /// for `..` and EBUSY for the root are choices of this project.
+    /// Fails with the fault of the text; EINVAL for a last `.`; ENOTEMPTY for a last `..`; EBUSY
+    /// for the root, a path without components; the fault of the look-up; ENOENT where the last
+    /// name is missing; ENOTDIR where it is a file; ENOTEMPTY where the directory has an entry.
+    /// ENOTEMPTY for `..` and EBUSY for the root are choices of this project.
     Rmdir {
         path: FilePath,
     },
     /// Answers all names of a directory at once, as `Names`. POSIX has no such call: it stands for
     /// opendir and a readdir of all entries but `.` and `..`.
     ///
-    /// Fails with the fault of the text; that of the look-up; ENOENT where the last name is missing;
-    /// ENOTDIR where it is a file.
+    /// Fails with the fault of the text; that of the look-up; ENOENT where the last name is
+    /// missing; ENOTDIR where it is a file.
     List {
         path: FilePath,
     },
-    /// Opens a file, and answers the new descriptor as `Number`: the call's stamp. Its description is
-    /// at offset 0 (POSIX.1-2017, System Interfaces, open).
+    /// Opens a file, and answers the new descriptor as `Number`: the call's stamp. Its description
+    /// is at offset 0 (POSIX.1-2017, System Interfaces, open).
     ///
-    /// With `create` a missing file is made, whose number is the stamp too; with `trunc` an existing
-    /// one is cut to nothing; with `append` each write goes to its end. `append` without writing is
-    /// kept and has no other effect.
+    /// With `create` a missing file is made, whose number is the stamp too; with `trunc` an
+    /// existing one is cut to nothing; with `append` each write goes to its end. `append` without
+    /// writing is kept and has no other effect.
     ///
     /// Fails with the fault of the text; EINVAL for `trunc` without writing; the fault of the
     /// look-up; ENOENT where the last name is missing and `create` is not there, or a slash stands
@@ -75,10 +75,10 @@ pub enum Call {
         fd: u64,
         len: u64,
     },
-    /// Writes at the offset, or with append at the end of the file, as many bytes as have room below
-    /// the size limit, and answers how many as `Number`; a gap before them is filled with zeros, and
-    /// the offset becomes the end of what was written. No bytes change nothing (POSIX.1-2017, System
-    /// Interfaces, write).
+    /// Writes at the offset, or with append at the end of the file, as many bytes as have room
+    /// below the size limit, and answers how many as `Number`; a gap before them is filled with
+    /// zeros, and the offset becomes the end of what was written. No bytes change nothing
+    /// (POSIX.1-2017, System Interfaces, write).
     ///
     /// Fails with EBADF where the descriptor is not open, or not for writing; EFBIG where there are
     /// bytes and the place is at the size limit or past it.
@@ -96,8 +96,8 @@ pub enum Call {
         off: i64,
         len: u64,
     },
-    /// Writes at `off`, with append too, and leaves the offset; else as `Write` (POSIX.1-2017, System
-    /// Interfaces, pwrite).
+    /// Writes at `off`, with append too, and leaves the offset; else as `Write` (POSIX.1-2017,
+    /// System Interfaces, pwrite).
     ///
     /// Fails with EBADF where the descriptor is not open, or not for writing; EINVAL where `off` is
     /// negative; EFBIG where there are bytes and `off` is at the size limit or past it.
@@ -119,9 +119,9 @@ pub enum Call {
     /// Cuts a file to a length, or adds zeros up to it, and answers `Done` (POSIX.1-2017, System
     /// Interfaces, truncate).
     ///
-    /// Fails with the fault of the text; EINVAL where `len` is negative; EFBIG where it is above the
-    /// size limit; the fault of the look-up; ENOENT where the last name is missing; EISDIR for a
-    /// directory.
+    /// Fails with the fault of the text; EINVAL where `len` is negative; EFBIG where it is above
+    /// the size limit; the fault of the look-up; ENOENT where the last name is missing; EISDIR for
+    /// a directory.
     Truncate {
         len: i64,
         path: FilePath,
@@ -136,7 +136,8 @@ pub enum Call {
     },
     /// What a path leads to, as `Info` (POSIX.1-2017, System Interfaces, stat).
     ///
-    /// Fails with the fault of the text; that of the look-up; ENOENT where the last name is missing.
+    /// Fails with the fault of the text; that of the look-up; ENOENT where the last name is
+    /// missing.
     Stat {
         path: FilePath,
     },
@@ -149,9 +150,9 @@ pub enum Call {
     /// Makes another entry for a file, and answers `Done` (POSIX.1-2017, System Interfaces, link).
     ///
     /// Fails with the fault of the text of `old`, then of `new`; the fault of the look-up of `old`;
-    /// ENOENT where it is missing; EPERM where it is a directory; the fault of the look-up of `new`;
-    /// EEXIST where it leads to a directory or file; ENOENT where it is missing and a slash stands
-    /// behind it; EMLINK where the file has 1,000 links.
+    /// ENOENT where it is missing; EPERM where it is a directory; the fault of the look-up of
+    /// `new`; EEXIST where it leads to a directory or file; ENOENT where it is missing and a slash
+    /// stands behind it; EMLINK where the file has 1,000 links.
     Link {
         old: FilePath,
         new: FilePath,
@@ -159,19 +160,19 @@ pub enum Call {
     /// Removes an entry of a file, and answers `Done`. A file without entries lives on while a
     /// descriptor has it open (POSIX.1-2017, System Interfaces, unlink).
     ///
-    /// Fails with the fault of the text; that of the look-up; ENOENT where the last name is missing;
-    /// EPERM for a directory.
+    /// Fails with the fault of the text; that of the look-up; ENOENT where the last name is
+    /// missing; EPERM for a directory.
     Unlink {
         path: FilePath,
     },
-    /// Gives a file or a directory another name, in place of what had that name, and answers `Done`.
-    /// Where both names lead to the same file or directory, nothing changes (POSIX.1-2017, System
-    /// Interfaces, rename).
+    /// Gives a file or a directory another name, in place of what had that name, and answers
+    /// `Done`. Where both names lead to the same file or directory, nothing changes (POSIX.1-2017,
+    /// System Interfaces, rename).
     ///
     /// Fails with the fault of the text of `old`, then of `new`; EINVAL where the last component of
     /// one of them is `.` or `..`; EBUSY where one of them is the root; the fault of the look-up of
-    /// `old`; ENOENT where it is missing; the fault of the look-up of `new`; ENOTDIR where `old` is a
-    /// file, `new` is missing and a slash stands behind it; EISDIR for a file in place of a
+    /// `old`; ENOENT where it is missing; the fault of the look-up of `new`; ENOTDIR where `old` is
+    /// a file, `new` is missing and a slash stands behind it; EISDIR for a file in place of a
     /// directory, and ENOTDIR for a directory in place of a file; EINVAL for a directory that would
     /// come to stand below itself; ENOTEMPTY in place of a directory that has an entry. EINVAL for
     /// dots and EBUSY are choices of this project.
@@ -287,8 +288,9 @@ pub enum Reply {
     Number(u64),
     /// The bytes that were read.
     Bytes(Sequence<u8>),
-    /// What a path leads to or a descriptor has open: a directory or a file, its number, its count of
-    /// links and its size in bytes. A directory has one link and size 0, a choice of this project.
+    /// What a path leads to or a descriptor has open: a directory or a file, its number, its count
+    /// of links and its size in bytes. A directory has one link and size 0, a choice of this
+    /// project.
     Info {
         kind: Kind,
         number: u64,

@@ -162,8 +162,8 @@ impl<'c> Intent<'c> {
     ghost use Rattle.ft_posix.specs.Comes.{reply_of};
     ghost use Rattle.ft_posix.specs.Perform.{IsList};
 
-    /// The reply of the call. A list is read off the tree, which is as it was looked at. Only a list
-    /// takes memory, and want of it is the one refusal.
+    /// The reply of the call. A list is read off the tree, which is as it was looked at. Only a
+    /// list takes memory, and want of it is the one refusal.
     pub fn reply(&self, alloc: Global, tree: &Tree) -> Result<Reply, Memory>
         ensures reply { IfOk result (λ reply. reply ≡ reply_of tree.now self.now.told) }
         ensures lists { OnErr result (IsList (reply_of tree.now self.now.told)) }

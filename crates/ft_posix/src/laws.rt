@@ -50,10 +50,10 @@ pub fn others_kept()
 {}
 
 /// The calls are lawful, as `ft_laws` asks: what it proves of runs of calls holds of these. Among
-/// the laws are two of files. A call touches the links or the bytes of a file only where it made the
-/// file, or an entry or a description that it accesses names it. And a call that takes an entry or a
-/// description of a file away touches the file, or leaves the name in another cell that it writes, as
-/// a rename does.
+/// the laws are two of files. A call touches the links or the bytes of a file only where it made
+/// the file, or an entry or a description that it accesses names it. And a call that takes an entry
+/// or a description of a file away touches the file, or leaves the name in another cell that it
+/// writes, as a rename does.
 pub fn lawful()
     ensures { Lawful posix_calls }
 {}
@@ -110,8 +110,8 @@ pub fn hiding()
 {}
 
 /// Calls that run from sound cells with the replies that they got leave sound cells, and run on the
-/// plain tree alike: each gives its reply, and the tree after them is that of the cells. Their stamps
-/// are distinct and number nothing before.
+/// plain tree alike: each gives its reply, and the tree after them is that of the cells. Their
+/// stamps are distinct and number nothing before.
 pub fn runs()
     ensures { RunLaw }
 {}
@@ -137,8 +137,8 @@ pub fn leaving()
     ensures { LeavingLaw }
 {}
 
-/// A call that leaves an empty place, or a file or a directory that is not there any more, accesses a
-/// cell of its place, or it was so before the call.
+/// A call that leaves an empty place, or a file or a directory that is not there any more, accesses
+/// a cell of its place, or it was so before the call.
 pub fn useless()
     ensures { UselessLaw }
 {}

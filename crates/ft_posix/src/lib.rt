@@ -1,21 +1,23 @@
 //! The calls on a tree as values, what POSIX says that each of them does, and the laws of them.
 //!
 //! The rules are those of POSIX.1-2017, System Interfaces (mkdir, rmdir, open, close, read, write,
-//! pread, pwrite, lseek, truncate, ftruncate, stat, fstat, link, unlink, rename), over Base Definitions, 4.13 (Pathname
-//! Resolution). The order in which errors are tested is this project's own, and so is `List`, which
-//! stands for opendir and readdir.
+//! pread, pwrite, lseek, truncate, ftruncate, stat, fstat, link, unlink, rename), over Base
+//! Definitions, 4.13 (Pathname Resolution). The order in which errors are tested is this project's
+//! own, and so is `List`, which stands for opendir and readdir.
 //!
-//! The definitions stand in `specs`, the laws are contracts in `laws`, and the lemmas in `proofs` are there to be
-//! cited by the crates that carry the calls out.
+//! The definitions stand in `specs`, the laws are contracts in `laws`, and the lemmas in `proofs`
+//! are there to be cited by the crates that carry the calls out.
 #![tactic(auto)]
 
 mod call;
 mod copying;
 mod intent;
 pub mod laws;
+mod stamped;
 
 pub use call::{Access, Call, Mode, OpenFlags, Reply, Whence};
 pub use intent::{Edit, Edits, Intent, Stop, Told};
+pub use stamped::StampedCall;
 
 /// The largest count of a file's links.
 pub const MOST_LINKS: u64 = 1_000;

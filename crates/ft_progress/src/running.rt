@@ -11,7 +11,8 @@ use std::sync::Wait;
 use std::thread::{self, Threads};
 use std::time::Clock;
 
-/// Runs the jobs of a plan as `run_jobs` does, and meanwhile shows on a screen, if there is one, how far they have come.
+/// Runs the jobs of a plan as `run_jobs` does, and meanwhile shows on a screen, if there is one,
+/// how far they have come.
 ///
 /// Where there is no memory or no thread to show it, it is not shown.
 pub fn run_shown<M: Manager + Drop, R: Threads + Wait + Clock + Sync, S: Write + Send + Drop>(

@@ -7,7 +7,8 @@ use std::io::{self, Write};
 use std::sync::{Condvar, Mutex, Wait};
 use std::time::{Clock, Duration};
 
-// How long a line stands at least before it is written anew, in milliseconds. The first is written after as long.
+// How long a line stands at least before it is written anew, in milliseconds. The first is written
+// after as long.
 const PAUSE: u64 = 100;
 
 // The most bytes of a line: what goes on one line of a terminal.
@@ -16,7 +17,8 @@ const LONGEST_LINE: usize = 79;
 // Goes to the first column, and erases the line.
 const ERASED: &[u8] = b"\r\x1b[K";
 
-/// How far the jobs of a plan have come. It is a gate that lets each step pass at once, and takes note of it.
+/// How far the jobs of a plan have come. It is a gate that lets each step pass at once, and takes
+/// note of it.
 ///
 /// No clause says what it shows.
 #[derive(Drop)]
@@ -65,8 +67,9 @@ impl<'a> Watch<'a> {
         })
     }
 
-    /// Shows how far the jobs have come, on a line of a screen that it writes anew ten times a second at most, until
-    /// `stop` is called; then the line is erased. Where it was called within the first tenth of a second, nothing is written.
+    /// Shows how far the jobs have come, on a line of a screen that it writes anew ten times a
+    /// second at most, until `stop` is called; then the line is erased. Where it was called within
+    /// the first tenth of a second, nothing is written.
     ///
     /// A line that can't be made or written is left out.
     pub fn show<R: Wait + Clock, S: Write>(&self, rt: &R, alloc: Global, screen: &mut S) {
@@ -91,7 +94,8 @@ impl<'a> Watch<'a> {
         self.over.notify_all();
     }
 
-    /// How far the jobs have come, as text. Those wait that are at the same call as at the look before.
+    /// How far the jobs have come, as text. Those wait that are at the same call as at the look
+    /// before.
     pub fn line<R: Wait>(&self, rt: &R, alloc: Global) -> Result<String, AllocError> {
         let mut noted = self.noted.lock(rt);
         let waiting = names_of_waiting(alloc, self.jobs, noted.places.as_slice())?;
@@ -155,7 +159,8 @@ impl Noted {
         }
     }
 
-    // Notes that somebody has looked: who asks now waits at the next look, unless the job has gone on.
+    // Notes that somebody has looked: who asks now waits at the next look, unless the job has gone
+    // on.
     fn look(&mut self) {
         for place in &mut self.places {
             if *place == Place::Asks {

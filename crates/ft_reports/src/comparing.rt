@@ -14,8 +14,8 @@ use ft_core::{Core, Event, TxnId};
 use ft_plan::{Job, Plan};
 use std::alloc::Global;
 
-/// Whether these are the reports of what happened to the jobs of a plan, in the core that they left. Its only error is want
-/// of memory.
+/// Whether these are the reports of what happened to the jobs of a plan, in the core that they
+/// left. Its only error is want of memory.
 pub fn are_reports(
     alloc: Global,
     plan: &Plan,
@@ -105,8 +105,8 @@ fn is_report_at(
     )
 }
 
-// Whether a report has just the calls that its transaction was granted, which is nested as the job is. Without a
-// transaction, whether there may be none, and no calls.
+// Whether a report has just the calls that its transaction was granted, which is nested as the job
+// is. Without a transaction, whether there may be none, and no calls.
 fn is_of_txn(events: &[Event], jobs: &[Job], reports: &[Report], job: &Job, report: &Report) -> bool
     ensures { IsTrue result ↔ MatchOption report.now.txn (MayLackTxn report.now) (IsOfTxn (told events.now) jobs.now reports.now job.now report.now) }
 {

@@ -1,4 +1,5 @@
-//! What becomes of jobs: reports of them, which calls the steps of a job ask for, and whether reports are what happened.
+//! What becomes of jobs: reports of them, which calls the steps of a job ask for, and whether
+//! reports are what happened.
 #![tactic(auto)]
 
 mod comparing;

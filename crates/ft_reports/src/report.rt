@@ -12,7 +12,8 @@ pub enum End {
     Aborted,
     /// The turns of a call were used up, and then its transaction was aborted.
     Waited,
-    /// It was refused something, and then its transaction was aborted, if it had one that was still live.
+    /// It was refused something, and then its transaction was aborted, if it had one that was still
+    /// live.
     Refused(Fault),
     /// The job that it is a subjob of ended before it came to its subjobs.
     NotStarted,

@@ -8,7 +8,8 @@ use ft_calls::{Call, Reply};
 use ft_plan::Step;
 use std::alloc::Global;
 
-/// The call that a step asks for, where the steps opened these descriptors; none where it asks for none.
+/// The call that a step asks for, where the steps opened these descriptors; none where it asks for
+/// none.
 pub fn asked(alloc: Global, step: &Step, descriptors: &[u64]) -> Result<Option<Call>, Memory>
     ensures { IfOk result (λ call. call ≡ asked_by descriptors.now step.now) }
 {
@@ -136,8 +137,8 @@ fn extent_of(
     Ok(Extent::Whole)
 }
 
-/// Whether the calls of a report are those of the steps of its job: all of them where its last step ended the job, and else
-/// the first of them.
+/// Whether the calls of a report are those of the steps of its job: all of them where its last step
+/// ended the job, and else the first of them.
 pub fn is_done(alloc: Global, steps: &[Step], report: &Report) -> Result<bool, Memory>
     ensures { IfOk result (λ done. IsTrue done ↔ IsDone steps.now report.now.end report.now.calls) }
 {
@@ -147,8 +148,8 @@ pub fn is_done(alloc: Global, steps: &[Step], report: &Report) -> Result<bool, M
     Ok(is_at_end(steps, report.end, extent))
 }
 
-// Whether a job with calls to this extent may have ended so: where the end names a step, that is the last one, and all calls
-// were made.
+// Whether a job with calls to this extent may have ended so: where the end names a step, that is
+// the last one, and all calls were made.
 fn is_at_end(steps: &[Step], end: End, extent: Extent) -> bool
     ensures { IsTrue result ↔ IsAtEnd steps.now end extent }
 {

@@ -1,7 +1,7 @@
 //! The program `ft_run`: `ft_run play` runs a script of transactions on a tree of directories, from
-//! standard input to standard output; `ft_run dot` draws the last report on who waits for whom among the
-//! replies that such a run wrote; `ft_run jobs FILE` runs the jobs of a plan in threads, and prints what they
-//! came to.
+//! standard input to standard output; `ft_run dot` draws the last report on who waits for whom
+//! among the replies that such a run wrote; `ft_run jobs FILE` runs the jobs of a plan in threads,
+//! and prints what they came to.
 //!
 //! It ends with status 0, also after a help text, with 1 after a fault, of which a line
 //! `fault: NAME` tells on standard error, and with 2 where the command line asks for nothing that
@@ -65,7 +65,8 @@ fn words_given(rt: &HostRuntime) -> io::Result<Vec<String>> {
     Ok(env::args(rt)?.skip(1).collect(rt.alloc())?)
 }
 
-// Where it is shown how far jobs have come: on standard error, where that is a terminal, unless nothing is to be shown.
+// Where it is shown how far jobs have come: on standard error, where that is a terminal, unless
+// nothing is to be shown.
 fn screen(rt: &HostRuntime, quiet: bool) -> Option<Stderr> {
     let errors = rt.stderr();
     if quiet || !errors.is_terminal() {

@@ -1,4 +1,5 @@
-//! Scripts: lines that ask for transactions and calls, read, carried out one after another, and answered.
+//! Scripts: lines that ask for transactions and calls, read, carried out one after another, and
+//! answered.
 #![tactic(auto)]
 
 mod playing;

@@ -1,4 +1,5 @@
-//! Transactions that threads share: a core behind a lock, and the trait of what job threads ask of it.
+//! Transactions that threads share: a core behind a lock, and the trait of what job threads ask of
+//! it.
 #![tactic(auto)]
 
 mod manager;

@@ -9,7 +9,8 @@ use std::time::Clock;
 
 /// What job threads ask of the transactions that they share.
 ///
-/// No answer is promised to be true: who takes a manager has to find out for itself, when it has the core back.
+/// No answer is promised to be true: who takes a manager has to find out for itself, when it has
+/// the core back.
 pub trait Manager: Sync {
     /// Begins a top-level transaction.
     fn begin<R: Wait>(&self, rt: &R) -> Result<TxnId, Fault>;
@@ -30,7 +31,8 @@ pub trait Manager: Sync {
     /// Commits a transaction.
     fn commit<R: Wait>(&self, rt: &R, txn: TxnId) -> Result<(), Fault>;
 
-    /// Aborts a transaction with all that is live below it, and answers how many standing calls it takes away.
+    /// Aborts a transaction with all that is live below it, and answers how many standing calls it
+    /// takes away.
     fn abort<R: Wait>(&self, rt: &R, txn: TxnId) -> Result<u64, Fault>;
 
     /// Ends the manager, and gives the core back.

@@ -26,11 +26,11 @@ pub const MOST_PAUSE: u64 = 5;
 /// Transactions that threads share: a core behind a lock.
 ///
 /// Each call makes one call of the core, or reads it, in one holding of the lock; a commit or an
-/// abort that is not refused also sweeps, in the same holding, what it has let go. What stands behind
-/// the lock is a `Core`: whenever the lock is got, its history is a legal one from a sound base, and
-/// its tree is what a plain tree holds after the standing calls alone. Which core it was, no clause
-/// can say: each says that the answer is a legal one of some core in some state that a core can come
-/// to. No clause says that a call returns.
+/// abort that is not refused also sweeps, in the same holding, what it has let go. What stands
+/// behind the lock is a `Core`: whenever the lock is got, its history is a legal one from a sound
+/// base, and its tree is what a plain tree holds after the standing calls alone. Which core it was,
+/// no clause can say: each says that the answer is a legal one of some core in some state that a
+/// core can come to. No clause says that a call returns.
 #[derive(Drop)]
 pub struct Shared {
     core: Mutex<Core>,
@@ -78,7 +78,8 @@ impl Shared {
 
     /// Begins a subtransaction.
     ///
-    /// Refuses NoTxn, Ended, Deep where the parent stands as deep as one may, and Full, in this order.
+    /// Refuses NoTxn, Ended, Deep where the parent stands as deep as one may, and Full, in this
+    /// order.
     pub fn sub<R: Wait>(&self, rt: &R, parent: TxnId) -> Result<TxnId, Fault>
         ensures { InSomeCore (λ old new. IsStep exact_rule old (Sub parent) (answer_with Txn result) new) }
     {
@@ -94,13 +95,14 @@ impl Shared {
         self.held(rt).ask(txn, call)
     }
 
-    /// Asks for a call up to so many times, until it is granted or refused, and answers that; else the last answer whom it
-    /// waits for. What it waits for stays asked for.
+    /// Asks for a call up to so many times, until it is granted or refused, and answers that; else
+    /// the last answer whom it waits for. What it waits for stays asked for.
     ///
-    /// Between two asks the thread pauses, with the lock free: until one of those that the last answer
-    /// told it to wait for has committed or is aborted, or for `MOST_PAUSE` by the clock. Nothing else
-    /// that happens meanwhile ends the pause, so that it uses up no turn. The waiting takes no memory;
-    /// each ask copies the call, before it gets the lock. Refuses what `ask` refuses, in its order.
+    /// Between two asks the thread pauses, with the lock free: until one of those that the last
+    /// answer told it to wait for has committed or is aborted, or for `MOST_PAUSE` by the clock.
+    /// Nothing else that happens meanwhile ends the pause, so that it uses up no turn. The waiting
+    /// takes no memory; each ask copies the call, before it gets the lock. Refuses what `ask`
+    /// refuses, in its order.
     pub fn ask_wait<R: Wait + Clock>(
         &self,
         rt: &R,
@@ -131,8 +133,8 @@ impl Shared {
         }
     }
 
-    /// Pauses until one of these transactions is not live any more, or for `MOST_PAUSE`. The core is
-    /// looked at before each sleep, so that one that has ended since the ask is seen at once.
+    /// Pauses until one of these transactions is not live any more, or for `MOST_PAUSE`. The core
+    /// is looked at before each sleep, so that one that has ended since the ask is seen at once.
     fn pause<R: Wait + Clock>(&self, rt: &R, blockers: &[TxnId]) {
         let most = Duration::from_millis(MOST_PAUSE);
         let core = self.core.lock(rt);
@@ -141,9 +143,11 @@ impl Shared {
             .wait_timeout_while(rt, core, most, |core| are_live(core, blockers));
     }
 
-    /// Makes the call that a transaction waits for, or answers again which transactions it waits for.
+    /// Makes the call that a transaction waits for, or answers again which transactions it waits
+    /// for.
     ///
-    /// Refuses NoTxn, Ended, NoAsk, and Full where as many calls are granted as may be, in this order.
+    /// Refuses NoTxn, Ended, NoAsk, and Full where as many calls are granted as may be, in this
+    /// order.
     pub fn retry<R: Wait>(&self, rt: &R, txn: TxnId) -> Result<Outcome, Fault>
         ensures { InSomeCore (λ old new. IsStep exact_rule old (Retry txn) (answer_with outcome_answer result) new) }
     {
@@ -159,8 +163,9 @@ impl Shared {
         self.held(rt).drop_ask(txn)
     }
 
-    /// Commits a transaction: its locks and what takes its calls back are its parent's from then on; at the top level its
-    /// locks are let go, and its calls cannot be taken back any more. Takes no memory.
+    /// Commits a transaction: its locks and what takes its calls back are its parent's from then
+    /// on; at the top level its locks are let go, and its calls cannot be taken back any more.
+    /// Takes no memory.
     ///
     /// Refuses NoTxn, Ended, and ChildLive where it has a live child, in this order.
     pub fn commit<R: Wait>(&self, rt: &R, txn: TxnId) -> Result<(), Fault>
@@ -174,8 +179,8 @@ impl Shared {
         Ok(())
     }
 
-    /// Aborts a transaction with all that is live below it, and answers how many standing calls it takes away. If it ran
-    /// alone, the tree is that of its begin. Takes no memory.
+    /// Aborts a transaction with all that is live below it, and answers how many standing calls it
+    /// takes away. If it ran alone, the tree is that of its begin. Takes no memory.
     ///
     /// Refuses NoTxn and Ended, in this order.
     pub fn abort<R: Wait>(&self, rt: &R, txn: TxnId) -> Result<u64, Fault>
@@ -189,19 +194,19 @@ impl Shared {
         Ok(count)
     }
 
-    /// Undoes the last of a transaction's own standing calls, and answers its stamp. If it was just made, the tree is the
-    /// one before it. Takes no memory.
+    /// Undoes the last of a transaction's own standing calls, and answers its stamp. If it was just
+    /// made, the tree is the one before it. Takes no memory.
     ///
-    /// Refuses NoTxn, Ended, ChildLive, and NothingToUndo where there is none or SubSince where a child has committed
-    /// since, in this order.
+    /// Refuses NoTxn, Ended, ChildLive, and NothingToUndo where there is none or SubSince where a
+    /// child has committed since, in this order.
     pub fn undo_call<R: Wait>(&self, rt: &R, txn: TxnId) -> Result<u64, Fault>
         ensures { InSomeCore (λ old new. IsUndone old txn (answer_with Undone result) new) }
     {
         self.held(rt).undo_call(txn)
     }
 
-    /// Who waits for whom: the waits-for edges of the core, each once, in their order, and whether there is a cycle of just
-    /// these.
+    /// Who waits for whom: the waits-for edges of the core, each once, in their order, and whether
+    /// there is a cycle of just these.
     ///
     /// Want of memory is the only refusal.
     pub fn waits<R: Wait>(&self, rt: &R) -> Result<(Vec<Edge>, Verdict), Fault>
@@ -213,7 +218,8 @@ impl Shared {
         Ok(with_verdict(edges)?)
     }
 
-    /// The waits-for edges of the core, each once, in their order. The lock is free when they are told.
+    /// The waits-for edges of the core, each once, in their order. The lock is free when they are
+    /// told.
     fn list_edges<R: Wait>(&self, rt: &R) -> Result<Vec<Edge>, Memory>
         ensures { IfOk result (λ edges. OfSomeCore (λ state. AreEdgesOf state edges.items)) }
     {

@@ -1,4 +1,5 @@
-//! What the commands of the program come to: the status to end with, and the line that tells of a fault.
+//! What the commands of the program come to: the status to end with, and the line that tells of a
+//! fault.
 #![tactic(auto)]
 
 mod faults;

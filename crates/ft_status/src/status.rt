@@ -17,8 +17,9 @@ use std::sync::Wait;
 use std::thread::Threads;
 use std::time::Clock;
 
-/// Runs a script on a new core that grants calls by this rule, and answers the status to end with: 0, or 1 after a fault, of
-/// which a line tells on `errors`. Where that line can't be written, the status is the same.
+/// Runs a script on a new core that grants calls by this rule, and answers the status to end with:
+/// 0, or 1 after a fault, of which a line tells on `errors`. Where that line can't be written, the
+/// status is the same.
 pub fn play_status<R: Read, W: Write, E: Write>(
     alloc: Global,
     rule: Rule,
@@ -40,8 +41,9 @@ pub fn play_status<R: Read, W: Write, E: Write>(
     }
 }
 
-/// Draws the last report on who waits for whom, and answers the status to end with: 0, or 1 after a fault, of which a
-/// line tells on `errors`. Where that line can't be written, the status is the same.
+/// Draws the last report on who waits for whom, and answers the status to end with: 0, or 1 after a
+/// fault, of which a line tells on `errors`. Where that line can't be written, the status is the
+/// same.
 pub fn dot_status<R: Read, W: Write, E: Write>(
     alloc: Global,
     reader: &mut R,
@@ -62,9 +64,10 @@ pub fn dot_status<R: Read, W: Write, E: Write>(
     }
 }
 
-/// Runs the jobs of a plan on a new core that grants calls by this rule, and answers the status to end with: 0, or 1 after a fault, of which a line tells
-/// on `errors`. Where that line can't be written, the status is the same. How far the jobs have come is shown on a screen
-/// while they run, if there is one.
+/// Runs the jobs of a plan on a new core that grants calls by this rule, and answers the status to
+/// end with: 0, or 1 after a fault, of which a line tells on `errors`. Where that line can't be
+/// written, the status is the same. How far the jobs have come is shown on a screen while they run,
+/// if there is one.
 pub fn jobs_status<R: Threads + Wait + Clock + Sync, S: Write + Send + Drop, W: Write, E: Write>(
     rt: &R,
     alloc: Global,

@@ -1,4 +1,5 @@
-//! Tests of the core and of what stands right on it, in one crate: a crate with tests is proved a second time with them.
+//! Tests of the core and of what stands right on it, in one crate: a crate with tests is proved a
+//! second time with them.
 #![tactic(auto)]
 
 #[cfg(test)]

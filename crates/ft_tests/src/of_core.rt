@@ -1,5 +1,5 @@
-// Scripts worked by hand, one call of the core a request; lists of requests; the numbers of the faults, and what is
-// printed.
+// Scripts worked by hand, one call of the core a request; lists of requests; the numbers of the
+// faults, and what is printed.
 use crate::scripts::{Answers, Line, Wanted, plays};
 use ft_calls::Mode;
 use ft_core::{Answer, Core, Fault, LiveChild, Request, Rule, TxnId};
@@ -107,8 +107,8 @@ fn abort_in_log_order(rt: HostRuntime) -> Result<(), Fail> {
     Ok(())
 }
 
-/// Carries a script out on a new core, and says whether each line is answered as it says, so many events stand then, and the tree
-/// holds the root alone.
+/// Carries a script out on a new core, and says whether each line is answered as it says, so many
+/// events stand then, and the tree holds the root alone.
 fn walks_back(alloc: Global, script: &[(Line, Wanted)], events: usize) -> Result<bool, Fail> {
     let mut core = Core::new(alloc)?;
     Ok(plays(alloc, &mut core, script)? && core.history().len() == events && is_bare(&core)?)
@@ -180,7 +180,8 @@ impl Answers for SweptCore {
     }
 }
 
-/// Carries a script out on a new core with a sweep before each line, and says whether the tree holds the root alone then.
+/// Carries a script out on a new core with a sweep before each line, and says whether the tree
+/// holds the root alone then.
 fn sweeps_to_nothing(alloc: Global, script: &[(Line, Wanted)]) -> Result<bool, Fail> {
     let mut swept = SweptCore(Core::new(alloc)?);
     Ok(plays(alloc, &mut swept, script)? && is_bare(&swept.0)?)
@@ -210,8 +211,8 @@ fn sweep_before_each_request(rt: HostRuntime) -> Result<(), Fail> {
     Ok(())
 }
 
-/// Whether a sweep spares what the first transaction has made, and drops two places once it is aborted: that of the entry, and
-/// that of the directory.
+/// Whether a sweep spares what the first transaction has made, and drops two places once it is
+/// aborted: that of the entry, and that of the directory.
 fn drops_two_after_abort(core: &mut Core) -> bool {
     let before = core.sweep();
     let aborted = core.abort(TxnId(1));
@@ -268,7 +269,8 @@ fn small_calls(rt: HostRuntime) -> Result<(), Fail> {
     Ok(())
 }
 
-/// Whether these are the write locks of a transaction on the entry `a` of the root and on a directory's parent.
+/// Whether these are the write locks of a transaction on the entry `a` of the root and on a
+/// directory's parent.
 fn are_locks(lines: &[LockLine], txn: u64, kind: LockKind) -> bool {
     let all = lines.iter().all(|line| line.owner == TxnId(txn)
         && line.mode == Mode::Write
@@ -285,7 +287,8 @@ fn are_locks(lines: &[LockLine], txn: u64, kind: LockKind) -> bool {
     }
 }
 
-/// Whether the second transaction holds those locks, and its parent retains them once it has committed.
+/// Whether the second transaction holds those locks, and its parent retains them once it has
+/// committed.
 fn hands_locks_up(core: &mut Core) -> Result<bool, Fail> {
     let are_held = are_locks(core.lock_lines()?.as_slice(), 2, LockKind::Held);
     core.commit(TxnId(2))?;
@@ -342,8 +345,8 @@ fn is_at_base(core: &Core) -> Result<bool, Fail> {
     Ok(base.as_slice() == tree.as_slice() && core.history().is_empty())
 }
 
-/// Carries a script out on a new core of this rule, and says whether each line is answered as it says, and the core then
-/// stands at its base, by the same rule.
+/// Carries a script out on a new core of this rule, and says whether each line is answered as it
+/// says, and the core then stands at its base, by the same rule.
 fn ends_at_base(alloc: Global, rule: Rule, script: &[(Line, Wanted)]) -> Result<bool, Fail> {
     let mut core = Core::with_rule(alloc, rule)?;
     Ok(plays(alloc, &mut core, script)? && is_at_base(&core)? && core.rule() == rule)

@@ -1,4 +1,5 @@
-// A small language of scripts, for tests: requests and the answers that they are to get, from whoever answers them.
+// A small language of scripts, for tests: requests and the answers that they are to get, from
+// whoever answers them.
 use ft_calls::{Call, Reply};
 use ft_core::{Answer, Fault, Request, TxnId};
 use ft_path::{Errno, FilePath, Name};

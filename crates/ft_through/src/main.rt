@@ -1,5 +1,5 @@
-//! The program `ft_through`: it plays the script on standard input as `ft_run play` does, but through
-//! a lock, request by request, and prints the same replies.
+//! The program `ft_through`: it plays the script on standard input as `ft_run play` does, but
+//! through a lock, request by request, and prints the same replies.
 //!
 //! A script that asks for a checkpoint ends it, since there is none through a lock.
 #![tactic(auto)]

@@ -1,10 +1,10 @@
-//! A tree of directories and files by its stored cells: where a path leads, what stands where, which
-//! descriptors are open, and one cell set at a time.
+//! A tree of directories and files by its stored cells: where a path leads, what stands where,
+//! which descriptors are open, and one cell set at a time.
 //!
 //! The rules are those of POSIX.1-2017, Base Definitions, 3 (Definitions: Directory, Directory
-//! Entry, Empty Directory, File, Link Count, Open File Description, Parent Directory, Root Directory)
-//! and 4.13 (Pathname Resolution). That directories, files and descriptors have numbers, and the root
-//! number 1, are rules of this project.
+//! Entry, Empty Directory, File, Link Count, Open File Description, Parent Directory, Root
+//! Directory) and 4.13 (Pathname Resolution). That directories, files and descriptors have numbers,
+//! and the root number 1, are rules of this project.
 #![tactic(auto)]
 
 mod keeps;

@@ -39,7 +39,8 @@ pub const ROOT: u64 = 1;
 /// entries, which may be empty; for each file the count of its links, and its bytes; and a place
 /// for the open file description of each descriptor, which may be empty. Its plain tree is what
 /// they are when tidied, without the empty places and without files that neither an entry nor a
-/// description names. It may have any number of each, and keeps the allocator that it was made with.
+/// description names. It may have any number of each, and keeps the allocator that it was made
+/// with.
 pub struct Tree {
     alloc: Global,
     directories: Table<Directory>,
@@ -86,8 +87,8 @@ impl Tree {
         })
     }
 
-    /// What a name leads to in a directory: nothing, where it is no entry of it or where `dir` is no
-    /// directory that is stored. `.` and `..` are not looked up, but names like others.
+    /// What a name leads to in a directory: nothing, where it is no entry of it or where `dir` is
+    /// no directory that is stored. `.` and `..` are not looked up, but names like others.
     ///
     /// POSIX.1-2017, Base Definitions, 3 (Directory Entry).
     pub fn entry(&self, dir: u64, name: &Name) -> Option<Node>
@@ -96,8 +97,8 @@ impl Tree {
         self.directories.get(dir)?.entry(name)
     }
 
-    /// The directory that has a directory's entry. The root has none, and so has a number that is no
-    /// directory.
+    /// The directory that has a directory's entry. The root has none, and so has a number that is
+    /// no directory.
     ///
     /// POSIX.1-2017, Base Definitions, 3 (Parent Directory), where the root may be its own parent:
     /// to go up from the root is the walk's part.
@@ -184,9 +185,9 @@ impl Tree {
         }
     }
 
-    /// Sets what an entry leads to, or that it is none. Its directory has to be stored, and no other
-    /// cell changes: that the tree stays one is the caller's part. Answers what stood in the entry's
-    /// place, or nothing where that is new.
+    /// Sets what an entry leads to, or that it is none. Its directory has to be stored, and no
+    /// other cell changes: that the tree stays one is the caller's part. Answers what stood in the
+    /// entry's place, or nothing where that is new.
     ///
     /// Only a place that is new can want memory, and then nothing has changed. An entry that is
     /// emptied leaves its place, so that it can be set again without memory.
@@ -210,7 +211,8 @@ impl Tree {
 
     /// Sets the directory that has a directory's entry, or that there is none. A directory that was
     /// not stored comes without entries, and no other cell changes: that the tree stays one is the
-    /// caller's part. Answers which parent was stored, or nothing where the directory's place is new.
+    /// caller's part. Answers which parent was stored, or nothing where the directory's place is
+    /// new.
     ///
     /// Only a place that is new can want memory, and then nothing has changed. A directory whose
     /// parent is taken away leaves its place, so that it can be set again without memory.
@@ -250,11 +252,12 @@ impl Tree {
         Ok(None)
     }
 
-    /// Writes bytes to a file at an offset, as many as have room below the size limit, with zeros in
-    /// a gap before them; where none has room, nothing changes. The file has to be stored, and no
-    /// other cell changes. Answers how many were taken, and what takes the write back.
+    /// Writes bytes to a file at an offset, as many as have room below the size limit, with zeros
+    /// in a gap before them; where none has room, nothing changes. The file has to be stored, and
+    /// no other cell changes. Answers how many were taken, and what takes the write back.
     ///
-    /// Refuses want of memory, and then nothing has changed. A write that changes nothing takes none.
+    /// Refuses want of memory, and then nothing has changed. A write that changes nothing takes
+    /// none.
     pub fn write_bytes(
         &mut self,
         file: u64,
@@ -356,9 +359,9 @@ impl Tree {
     /// cells that were let go: of entries and descriptors the empty ones, of directories those that
     /// are not there and have no place of an entry, and of files those that neither an entry nor a
     /// description names. A directory's place is kept while one of its entries' places is, and a
-    /// file's while its links or its bytes are. The tree stays what it is. Answers how many places it
-    /// dropped, or the largest number where there were more. Takes no memory, and the time of what was
-    /// let go.
+    /// file's while its links or its bytes are. The tree stays what it is. Answers how many places
+    /// it dropped, or the largest number where there were more. Takes no memory, and the time of
+    /// what was let go.
     ///
     /// POSIX.1-2017, System Interfaces, unlink and close: a file that no name and no description
     /// leads to is gone.

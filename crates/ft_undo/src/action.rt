@@ -24,9 +24,9 @@ use std::alloc::Global;
 /// that is in the tree. The tree is sound before and after, and each number but the stamp that was
 /// free stays so. A call that fails, or only tells, changes nothing.
 ///
-/// What takes it back gives each cell that the call wrote its value from before. Each of these cells
-/// has its place after the call, and `revert` may do so wherever each has its place and holds what the
-/// call left in it.
+/// What takes it back gives each cell that the call wrote its value from before. Each of these
+/// cells has its place after the call, and `revert` may do so wherever each has its place and holds
+/// what the call left in it.
 ///
 /// The one refusal is want of memory, and then nothing has changed.
 pub fn perform(

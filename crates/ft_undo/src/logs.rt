@@ -77,8 +77,8 @@ impl Logs {
         self.chains.open(txn)
     }
 
-    /// Puts what takes a call back into a transaction's list, as its newest. Want of memory hands it
-    /// back, and changes nothing.
+    /// Puts what takes a call back into a transaction's list, as its newest. Want of memory hands
+    /// it back, and changes nothing.
     pub fn push(&mut self, txn: u64, stamp: u64, undo: Undo) -> Result<(), AllocFailed<Undo>>
         requires { is_open self.old txn ≡ true }
         ensures lists { OnOk result (AreLists self.new (pushed (list_in self.old) txn (record { stamp = stamp; undo = undo }))) }
@@ -96,8 +96,9 @@ impl Logs {
         }
     }
 
-    /// Takes out the edits of a call that was looked at and makes them, and keeps what takes them back
-    /// as the newest of a transaction's list, in its place there. Each written cell has its place then.
+    /// Takes out the edits of a call that was looked at and makes them, and keeps what takes them
+    /// back as the newest of a transaction's list, in its place there. Each written cell has its
+    /// place then.
     ///
     /// The one refusal is want of memory: what was done is taken back, and nothing has changed.
     pub fn apply(

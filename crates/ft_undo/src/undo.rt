@@ -87,8 +87,8 @@ impl Undo {
         Ok(())
     }
 
-    /// Makes edits one after the other, and keeps what takes them back. Where memory is wanting, what
-    /// was done is taken back, and nothing is kept.
+    /// Makes edits one after the other, and keeps what takes them back. Where memory is wanting,
+    /// what was done is taken back, and nothing is kept.
     pub(crate) fn fill(&mut self, tree: &mut Tree, edits: &mut Edits<'_>) -> Result<(), Memory>
         requires empty { self.old ≡ [] }
         requires places { CanEditAll tree.old edits.old }
@@ -115,8 +115,8 @@ impl Undo {
         }
     }
 
-    /// Takes back what was done of a call that wants memory, the last edit first: nothing has changed
-    /// then, and no place is left that was new. Takes no memory.
+    /// Takes back what was done of a call that wants memory, the last edit first: nothing has
+    /// changed then, and no place is left that was new. Takes no memory.
     pub fn take_back(self, tree: &mut Tree)
         requires { CanRestoreAll tree.old self }
         ensures { tree.new ≡ restored tree.old self }
@@ -126,10 +126,10 @@ impl Undo {
     }
 }
 
-/// Makes the edits of a call that was looked at, and answers what takes them back. Each written cell
-/// has its place then. `revert` may take them back wherever each of these cells has its place and
-/// holds what the edits left in it. At once they can be taken back as if they had never been, by
-/// `Undo::take_back`.
+/// Makes the edits of a call that was looked at, and answers what takes them back. Each written
+/// cell has its place then. `revert` may take them back wherever each of these cells has its place
+/// and holds what the edits left in it. At once they can be taken back as if they had never been,
+/// by `Undo::take_back`.
 ///
 /// The one refusal is want of memory: what was done is taken back, and nothing has changed.
 pub fn apply(alloc: Global, tree: &mut Tree, intent: Intent<'_>) -> Result<Undo, Memory>

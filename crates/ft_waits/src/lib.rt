@@ -1,4 +1,5 @@
-//! Who waits for whom: the waits-for edges between transactions, and whether there is a cycle of them.
+//! Who waits for whom: the waits-for edges between transactions, and whether there is a cycle of
+//! them.
 #![tactic(auto)]
 
 mod edge;

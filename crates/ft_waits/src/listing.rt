@@ -15,9 +15,9 @@ use ft_core::{Core, LiveChild, Pending};
 
 /// The waits-for edges of a core as it is now, each once, in their order.
 ///
-/// One goes from each transaction with a pending ask to each that is in the way of it, and one from each live transaction
-/// to each live child. Want of memory is the only refusal. Beside what `Core::pending` and `Core::children` take, it takes
-/// the time to sort the edges.
+/// One goes from each transaction with a pending ask to each that is in the way of it, and one from
+/// each live transaction to each live child. Want of memory is the only refusal. Beside what
+/// `Core::pending` and `Core::children` take, it takes the time to sort the edges.
 pub fn edges(core: &Core) -> Result<Vec<Edge>, Memory>
     ensures { IfOk result (λ edges. AreEdgesOf core.now.state edges.items) }
 {
@@ -30,7 +30,8 @@ pub fn edges(core: &Core) -> Result<Vec<Edge>, Memory>
     Ok(edges)
 }
 
-/// The waits-for edges of a core as it is now, each once, in their order, and the verdict on just these.
+/// The waits-for edges of a core as it is now, each once, in their order, and the verdict on just
+/// these.
 ///
 /// Want of memory is the only refusal.
 pub fn judged_edges(core: &Core) -> Result<(Vec<Edge>, Verdict), Memory>

@@ -16,16 +16,18 @@ use std::alloc::Global;
 pub enum Verdict {
     /// Each member waits for the next, and the last for the first. The least comes first.
     Cycle(Sequence<TxnId>),
-    /// All transactions that the edges name, in rising order, each with its rank: 0 where it waits for none, else one
-    /// more than the greatest rank of those that it waits for.
+    /// All transactions that the edges name, in rising order, each with its rank: 0 where it waits
+    /// for none, else one more than the greatest rank of those that it waits for.
     Ranked(Sequence<(TxnId, u64)>),
 }
 
-/// Judges waits-for edges: in any order, however often each stands there, between transactions of any numbers.
+/// Judges waits-for edges: in any order, however often each stands there, between transactions of
+/// any numbers.
 ///
-/// Answers a cycle where there is one, and else the ranks. Which cycle it is, where there are several, is left open. An
-/// edge from a transaction to itself is a cycle of one member. Want of memory is the only refusal. Takes time near
-/// linear in the number of edges, and a depth of calls that does not grow with it.
+/// Answers a cycle where there is one, and else the ranks. Which cycle it is, where there are
+/// several, is left open. An edge from a transaction to itself is a cycle of one member. Want of
+/// memory is the only refusal. Takes time near linear in the number of edges, and a depth of calls
+/// that does not grow with it.
 pub fn judge(alloc: Global, edges: &[Edge]) -> Result<Verdict, Memory>
     ensures cycle { IfOk result (IfCycle (IsCycle edges.now)) }
     ensures distinct { IfOk result (IfCycle (IsDistinct nat_eq)) }

@@ -135,8 +135,8 @@ impl<'a> Walk<'a> {
         Some(Step::new(self.edges, txn))
     }
 
-    /// Passes the edges out of the last transaction on the path that lead to ranked ones, up to one that does not, and
-    /// tells where that one leads.
+    /// Passes the edges out of the last transaction on the path that lead to ranked ones, up to one
+    /// that does not, and tells where that one leads.
     fn advance(&self, top: &mut Step) -> Option<TxnId>
         requires { Stands self.now (self.now.path.items ++ top.old ∷ []) }
         ensures txn { top.new.txn ≡ top.old.txn }

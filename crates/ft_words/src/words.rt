@@ -26,8 +26,8 @@ impl<'a> Words<'a> {
         Words { rest: Some(text) }
     }
 
-    /// The words of a line, the one carriage return at its end left out. A line has none where it is
-    /// empty or a comment, which begins with `#`.
+    /// The words of a line, the one carriage return at its end left out. A line has none where it
+    /// is empty or a comment, which begins with `#`.
     pub fn of_line(line: &'a [u8]) -> Option<Words<'a>>
         ensures { result ≡ words_of_line line.entry.now }
     {

@@ -1,0 +1,31 @@
+-- Which views are meant, and what a front is seen as.
+use Rattle.std.specs.Prelude.{List, refl}
+use Rattle.std.specs.FinMap as finite
+use Rattle.std.specs.Coded.{Coded, code_by, coded×, coded_list}
+use Rattle.logbook.specs.Pages.{Book, book_coded}
+use Rattle.ft_cells.specs.Plain.{PlainTree}
+use Rattle.ft_posix.specs.declared.stamped.StampedCall.{StampedCall}
+use Rattle.ft_posix.specs.contracts.stamped.StampedCall as stamped
+
+-- their book, and the tree from which its calls start
+pub record Views : Type 0 where
+  pub book : Book
+  pub base : PlainTree
+
+-- what a name names before it is picked
+abbrev pub no_views : Views
+no_views = record {
+  book = record { number = 0; log_name = 0; cells_name = 0 };
+  base = record { edges = finite.empty; dirs = finite.empty; files = finite.empty; opens = finite.empty };
+}
+
+-- a beginning of a book's history
+pub record Fronted : Type 0 where
+  pub book : Book
+  pub calls : List StampedCall
+
+abbrev pub coded_calls : Coded (List StampedCall)
+coded_calls = coded_list stamped.the_row.coded
+
+abbrev pub coded_fronted : Coded Fronted
+coded_fronted = code_by (Book × List StampedCall) (coded× book_coded coded_calls) (λ f. (f.book, f.calls)) (λ p. record { book = p.0; calls = p.1 }) (λ _. refl)

@@ -1,0 +1,12 @@
+pub mod Listing
+pub mod Lasting
+pub mod Going
+pub mod Reaching
+pub mod Placing
+pub mod Walking
+pub mod Passing
+pub mod Taking
+pub mod Committing
+pub mod Opening
+pub mod Running
+pub mod Moving

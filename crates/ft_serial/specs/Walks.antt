@@ -1,0 +1,125 @@
+-- How a walk along the events of a core stands.
+use Rattle.std.specs.Prelude.{◌≡◌, ◌<◌, ℕ, Bool, true, false, not, cond, ◌&&◌, List, [], ◌∷◌, ◌++◌, Option, Some, None, Result, Ok, Err, map, length, reverse, take, slice_get}
+use Rattle.std.specs.Ordering.{nat_cmp}
+use Rattle.std.specs.FinMap as finite
+use Rattle.ft_base.specs.declared.memory.Memory.{Memory}
+use Rattle.ft_laws.specs.Lists.{Each, Pairs, In}
+use Rattle.ft_posix.specs.declared.call.Call.{Call as CallOf}
+use Rattle.ft_posix.specs.declared.call.Reply.{Reply}
+use Rattle.ft_posix.specs.declared.call.Access.{Access}
+use Rattle.ft_posix.specs.declared.stamped.StampedCall.{StampedCall}
+use Rattle.ft_posix.specs.Posix.{posix_calls}
+use Rattle.ft_history.specs.Forest.{root}
+use Rattle.ft_history.specs.Logs.{joined}
+use Rattle.ft_history.specs.History.{Fate, parent, is_committed, is_gone, is_undone, grants}
+use Rattle.ft_history.specs.History.Fate.{Live as IsLive, Committed as IsCommitted, Aborted as IsAborted}
+use Rattle.ft_history.specs.Serial.{root_of, committed_part}
+use Rattle.ft_core.specs.declared.request.Event.{Event}
+use Rattle.ft_core.specs.declared.request.Event.TheVariants.{Begin, Call, Undo, Commit, Abort}
+use Rattle.ft_core.specs.Histories.{History, Granted, told}
+use Rattle.ft_core.specs.States.{State}
+use Rattle.ft_serial.specs.declared.walk.Walk.{Walk}
+use Rattle.ft_serial.specs.Serials.{stamped, committed_in}
+use Rattle.ft_serial.specs.Places.{places_in, places_under}
+
+-- the stamps of calls that were undone
+abbrev pub Stamps : Type 0
+Stamps = finite.FinMap nat_cmp (Unit {0})
+
+abbrev pub is_aborted : Option Fate → Bool
+is_aborted None = false
+is_aborted (Some IsLive) = false
+is_aborted (Some IsCommitted) = false
+is_aborted (Some IsAborted) = true
+
+-- what is made of the stamp, the asker and the call, where an event grants a call
+abbrev pub by_call : {A : Type 0} → A → (ℕ → ℕ → CallOf → A) → Option Event → A
+by_call other made None = other
+by_call other made (Some (Begin txn parent)) = other
+by_call other made (Some (Call stamp txn call reply accesses)) = made stamp txn call
+by_call other made (Some (Undo stamp)) = other
+by_call other made (Some (Commit txn)) = other
+by_call other made (Some (Abort txn)) = other
+
+-- the call that an event grants
+abbrev pub call_of : Option Event → Option StampedCall
+call_of = by_call None (λ stamp txn call. Some (record { stamp = stamp; call = call }))
+
+-- without the stamp of a call
+abbrev pub without_call : Stamps → Option StampedCall → Stamps
+without_call undone None = undone
+without_call undone (Some call) = finite.remove undone call.stamp
+
+-- without those of the calls at these places among the events
+abbrev pub without_calls : Stamps → List Event → List ℕ → Stamps
+without_calls undone events [] = undone
+without_calls undone events (place ∷ places) = without_calls (without_call undone (call_of (slice_get events place))) events places
+
+-- a call is not undone, and nobody at or above its asker is aborted
+abbrev pub stands : (ℕ → Bool) → History → ℕ → ℕ → Bool
+stands undone h stamp txn = not (undone stamp) && not (is_gone posix_calls h txn)
+
+-- of the call that an event grants, where it stands, the top-level transaction
+abbrev pub standing_top : (ℕ → Bool) → History → Option Event → Option ℕ
+standing_top undone h = by_call None (λ stamp txn call. cond (stands undone h stamp txn) (Some (root (parent posix_calls h) txn)) None)
+
+-- the call itself
+abbrev pub standing_call : (ℕ → Bool) → History → Option Event → Option StampedCall
+standing_call undone h = by_call None (λ stamp txn call. cond (stands undone h stamp txn) (Some (record { stamp = stamp; call = call })) None)
+
+-- it stands, and its top-level transaction has not committed
+abbrev pub is_open_call : (ℕ → Bool) → History → Option Event → Bool
+is_open_call undone h = by_call false (λ stamp txn call. stands undone h stamp txn && not (is_committed posix_calls h (root (parent posix_calls h) txn)))
+
+abbrev pub option_list : Option StampedCall → List StampedCall
+option_list None = []
+option_list (Some call) = call ∷ []
+
+-- the call at a place among the events, where it stands in the history
+abbrev pub call_at : History → List Event → ℕ → List StampedCall
+call_at h events place = option_list (standing_call (is_undone posix_calls h) h (slice_get events place))
+
+-- the top-level transaction has neither committed nor been aborted
+pub record IsOpen (h : History) (top : ℕ) : Type 0 where
+  pub uncommitted : is_committed posix_calls h top ≡ false
+  pub there : is_gone posix_calls h top ≡ false
+
+-- the top-level transaction of the call at this place among the events has committed, and it is known whether the call was undone
+pub record HasCommitted (undone : Stamps) (h : History) (events : List Event) (place : ℕ) : Type 0 where
+  pub within : place < length events
+  pub committed : (stamp txn : ℕ) (call : CallOf) (reply : Reply) (accesses : List Access) → slice_get events place ≡ Some (Call stamp txn call reply accesses) → is_committed posix_calls h (root (parent posix_calls h) txn) ≡ true
+  pub known : (stamp txn : ℕ) (call : CallOf) (reply : Reply) (accesses : List Access) → slice_get events place ≡ Some (Call stamp txn call reply accesses) → finite.contains_key undone stamp ≡ is_undone posix_calls h stamp
+
+-- The walk has gone over these events, which are the history, and given these calls out.
+pub record IsWalkBy (walk : Walk) (h : History) (events : List Event) (given : List StampedCall) : Type 0 where
+  pub passed : walk.passed ≡ length events
+  -- It knows no stamp that was not undone,
+  pub undone : (stamp : ℕ) → finite.contains_key walk.undone stamp ≡ true → is_undone posix_calls h stamp ≡ true
+  -- which calls were undone of the top-level transactions that have not ended,
+  pub known : (c : Granted) → In c (grants posix_calls h) → IsOpen h (root_of posix_calls h c) → finite.contains_key walk.undone c.call.stamp ≡ is_undone posix_calls h c.call.stamp
+  -- the places of the calls of each of them,
+  pub under : (top : ℕ) → IsOpen h top → places_in walk.under top ≡ places_under h events top
+  -- and those of the one that committed last, the newest first,
+  pub closing : Each (HasCommitted walk.undone h events) walk.closing.items
+  pub falling : Pairs (λ x y. y < x) walk.closing.items
+  -- of which are all committed calls that were not given out.
+  pub split : map stamped (committed_part posix_calls h) ≡ given ++ joined (call_at h events) (reverse walk.closing.items)
+
+abbrev pub IsWalk : Walk → List Event → List StampedCall → Type 0
+IsWalk walk events given = IsWalkBy walk (told events) events given
+
+-- it has gone over the first events of the state
+abbrev pub IsWalkOf : Walk → State → List StampedCall → Type 0
+IsWalkOf walk s given = IsWalk walk (take walk.passed s.events) given
+
+-- What comes of the next call of the transaction that committed last: it is given out, or there is none.
+abbrev pub IsTaken : Walk → State → List StampedCall → Result (Option StampedCall) Memory → Type 0
+IsTaken walk s given (Ok (Some call)) = IsWalkOf walk s (given ++ call ∷ [])
+IsTaken walk s given (Ok None) = IsWalkOf walk s given × (walk.closing.items ≡ [])
+IsTaken walk s given (Err memory) = IsWalkOf walk s given
+
+-- What comes of the next committed call: it is given out, or all were.
+abbrev pub IsNext : Walk → State → List StampedCall → Result (Option StampedCall) Memory → Type 0
+IsNext walk s given (Ok (Some call)) = IsWalkOf walk s (given ++ call ∷ [])
+IsNext walk s given (Ok None) = IsWalk walk s.events given × (given ≡ committed_in s.events)
+IsNext walk s given (Err memory) = IsWalkOf walk s given

@@ -1,0 +1,78 @@
+// The serial order of a core.
+ghost use Rattle.std.specs.Prelude.{◌≡◌, ◌++◌, [], IfOk, OnOk, map, slice_get};
+ghost use Rattle.std.specs.FinMap as finite;
+ghost use Rattle.ft_core.specs.States.{history};
+ghost use Rattle.ft_core.specs.Reached.{IsReached};
+ghost use Rattle.ft_posix.specs.Posix.{posix_calls};
+ghost use Rattle.ft_history.specs.History.{is_committed};
+ghost use Rattle.ft_history.specs.Serial.{open_part};
+ghost use Rattle.ft_serial.specs.Serials.{serial_calls, stamped};
+ghost use Rattle.ft_serial.specs.Walks.{is_open_call, IsWalk};
+
+use crate::places::copy_at;
+use crate::walk::Walk;
+use ft_base::Memory;
+use ft_calls::StampedCall;
+use ft_core::laws::reached;
+use ft_core::{Core, State, TxnId};
+
+/// All standing calls in the serial order: those of the top-level transactions that have
+/// committed, in the order of the commits, and behind them all others; the calls of one
+/// transaction, and those others, in the order of their stamps.
+///
+/// Want of memory is the only refusal. Takes the time of the history, and for each call that of its
+/// asker's depth.
+pub fn serial(core: &Core) -> Result<Vec<StampedCall>, Memory>
+    ensures { IfOk result (λ calls. calls.items ≡ serial_calls core.now.state) }
+{
+    reached(core);
+    let mut walk = Walk::new(core.alloc());
+    let mut calls = Vec::new(core.alloc());
+    while let Some(call) = walk.next(core)? {
+        calls.push(call)?;
+    }
+    list_open(core, &walk, &mut calls)?;
+    Ok(calls)
+}
+
+/// Lists the standing calls whose top-level transaction has not committed, in the order of their
+/// stamps.
+fn list_open(core: &Core, walk: &Walk, calls: &mut Vec<StampedCall>) -> Result<(), Memory>
+    requires reached { IsReached core.now }
+    requires walk { IsWalk walk.now core.now.state.events calls.old.items }
+    ensures { OnOk result (calls.new.items ≡ calls.old.items ++ map stamped (open_part posix_calls (history core.now.state))) }
+{
+    let events = core.history();
+    for place in 0..events.len() {
+        if is_open_at(core, walk, place) {
+            if let Some(call) = copy_at(core.alloc(), events, place)? {
+                calls.push(call)?;
+            }
+        }
+    }
+    Ok(())
+}
+
+/// Whether a call was granted at a place among the events that stands, and whose top-level
+/// transaction has not committed.
+fn is_open_at(core: &Core, walk: &Walk, place: usize) -> bool
+    requires { IsReached core.now }
+    ensures { result ≡ is_open_call (finite.contains_key walk.now.undone) (history core.now.state) (slice_get core.now.state.events place) }
+{
+    match walk.standing_top(core, place) {
+        Some(top) => !has_committed(core, top),
+        None => false,
+    }
+}
+
+/// Whether a transaction has committed.
+fn has_committed(core: &Core, txn: TxnId) -> bool
+    requires { IsReached core.now }
+    ensures { result ≡ is_committed posix_calls (history core.now.state) txn }
+{
+    match core.state(txn) {
+        Some(State::Committed) => true,
+        Some(State::Live | State::Aborted) => false,
+        None => false,
+    }
+}

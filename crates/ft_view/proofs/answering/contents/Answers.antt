@@ -1,0 +1,19 @@
+use Rattle.std.proofs.Common.{rules, ◌≡◌, ℕ, List, IfOk, subst, ap, ◌∙◌}
+use Rattle.ft_tree.specs.Tidy.{tidy}
+use Rattle.ft_posix.specs.declared.call.Reply.{Reply}
+use Rattle.ft_posix.specs.declared.intent.Told.{Told}
+use Rattle.ft_posix.specs.Comes.{reply_of}
+use Rattle.ft_posix.specs.Stored.{outcome}
+use Rattle.ft_view.specs.declared.TheConstants.{READING}
+use Rattle.ft_view.specs.Reading.{open_to_read, contents_on}
+use Rattle.ft_view.proofs.Reading.{contents_are}
+use Rattle.ft_view.proofs.answering.contents.Goals as goal
+
+pub returns : goal.returns
+returns c =
+    let cells = c.args.tree.now in
+    let copied : c.in_ok-try_clone.field-0 ≡ c.args.path.now = search rules in
+    let comes = c.in_ok-intent.ensures.outcome ∙ ap (λ (path : List ℕ). outcome cells READING (open_to_read path)) copied in
+    let same : reply_of cells c.whole-intent.result ≡ contents_on (tidy cells) c.args.path.now =
+    ap (λ (told : Told). reply_of cells told) c.whole-intent.ensures ∙ contents_are cells c.requires c.args.path.now c.in_ok-intent.field-0.intent comes in
+    subst (λ (reply : Reply). IfOk c.reply.result (λ told. told ≡ reply)) same c.reply.ensures.reply

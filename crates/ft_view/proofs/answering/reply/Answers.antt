@@ -1,0 +1,17 @@
+use Rattle.std.proofs.Common.{◌≡◌, IfOk, subst, sym, ap, ◌∙◌, arith}
+use Rattle.ft_tree.specs.Tidy.{tidy}
+use Rattle.ft_posix.specs.declared.call.Reply.{Reply}
+use Rattle.ft_posix.specs.Comes.{reply_of}
+use Rattle.ft_posix.specs.Outcomes.{Outcome}
+use Rattle.ft_posix.proofs.Executed.{tidying}
+use Rattle.ft_view.specs.Replay.{reply_on}
+use Rattle.ft_view.specs.declared.TheConstants.{READING}
+use Rattle.ft_view.proofs.answering.reply.Goals as goal
+
+pub returns : goal.returns
+returns c =
+    let cells = c.args.tree.now in
+    let call = c.args.call.now in
+    let plain = tidying cells READING call c.requires.sound (c.requires.free READING (omega arith)) in
+    let same : reply_of cells c.in_ok-intent.field-0.intent.told ≡ reply_on (tidy cells) call = ap (λ (o : Outcome). o.reply) c.in_ok-intent.ensures.outcome ∙ sym (ap (λ p. p.1) plain) in
+    subst (λ (reply : Reply). IfOk c.reply.result (λ told. told ≡ reply)) same c.reply.ensures.reply

@@ -1,0 +1,3 @@
+pub mod Replay
+pub mod Reading
+pub mod Shown

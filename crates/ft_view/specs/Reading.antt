@@ -1,0 +1,51 @@
+-- What a reader asks, and what a tree answers to it.
+use Rattle.std.specs.Prelude.{ℕ, ◌+◌, false, List, ◌∷◌, Option, Some, None}
+use Rattle.ft_body.specs.declared.TheConstants.{SIZE_LIMIT}
+use Rattle.ft_cells.specs.declared.open_file.AccessMode.TheVariants.{ReadOnly}
+use Rattle.ft_cells.specs.Plain.{PlainTree}
+use Rattle.ft_posix.specs.declared.call.Call.{Call}
+use Rattle.ft_posix.specs.declared.call.Call.TheVariants.{Stat as StatCall, List as ListCall, Open as OpenCall, Read as ReadCall}
+use Rattle.ft_posix.specs.declared.call.Reply.{Reply}
+use Rattle.ft_posix.specs.declared.call.Reply.TheVariants.{Number}
+use Rattle.ft_posix.specs.declared.intent.Edit.{Edit}
+use Rattle.ft_posix.specs.declared.intent.Edit.TheVariants.{Open}
+use Rattle.ft_posix.specs.declared.intent.Told.{Told}
+use Rattle.ft_posix.specs.declared.intent.Told.TheVariants.{BytesOf}
+use Rattle.ft_posix.specs.declared.intent.Intent.{Intent}
+use Rattle.ft_posix.specs.Exec.{exec}
+use Rattle.ft_view.specs.declared.TheConstants.{READING}
+use Rattle.ft_view.specs.declared.answering.Question.{Question}
+use Rattle.ft_view.specs.declared.answering.Question.TheVariants.{Stat, List as ListDir, File}
+use Rattle.ft_view.specs.Replay.{reply_on}
+
+-- the call that opens a file for reading, with no flag
+abbrev pub open_to_read : List ℕ → Call
+open_to_read path = OpenCall path ReadOnly false false false false
+
+-- what a Read of the whole file replies after an Open that has replied this, or the error of the Open
+abbrev pub read_whole : PlainTree → Reply → Reply
+read_whole p (Number fd) = (exec p (READING + 1) (ReadCall fd SIZE_LIMIT)).1
+read_whole p reply = reply
+
+-- what is replied to one who opens the file of a path for reading, and then reads all of it
+abbrev pub contents_on : PlainTree → List ℕ → Reply
+contents_on p path = let opened = exec p READING (open_to_read path) in read_whole opened.0 opened.1
+
+-- what is answered to a question
+abbrev pub answer_on : PlainTree → Question → Reply
+answer_on p (Stat path) = reply_on p (StatCall path.now)
+answer_on p (ListDir path) = reply_on p (ListCall path.now)
+answer_on p (File path) = contents_on p path.now
+
+-- the file of the description that stands first among what is to be set
+abbrev pub opened_in : List Edit → Option ℕ
+opened_in (Open fd (Some description) ∷ edits) = Some description.file
+opened_in edits = None
+
+-- what is told of a file that is opened: all its bytes
+abbrev pub whole_told : Option ℕ → Told → Told
+whole_told None told = told
+whole_told (Some file) told = BytesOf file 0 SIZE_LIMIT
+
+abbrev pub whole_of : Intent → Told
+whole_of intent = whole_told (opened_in intent.edits) intent.told

@@ -1,0 +1,29 @@
+-- The replay of a list of calls on the plain tree, and what is answered then.
+use Rattle.std.specs.Prelude.{◌≤◌, ℕ, List, [], ◌∷◌}
+use Rattle.ft_cells.specs.Cells.{Cells}
+use Rattle.ft_cells.specs.Plain.{PlainTree}
+use Rattle.ft_tree.specs.Sound.{AreSoundCells, IsFree}
+use Rattle.ft_posix.specs.declared.call.Call.{Call}
+use Rattle.ft_posix.specs.declared.call.Reply.{Reply}
+use Rattle.ft_posix.specs.declared.stamped.StampedCall.{StampedCall}
+use Rattle.ft_posix.specs.Exec.{exec}
+use Rattle.ft_view.specs.declared.TheConstants.{READING}
+
+-- the plain tree after the calls, one after another
+abbrev pub replayed : PlainTree → List StampedCall → PlainTree
+replayed p [] = p
+replayed p (c ∷ cs) = replayed (exec p c.stamp c.call).0 cs
+
+-- what each of them replies
+abbrev pub replies_of : PlainTree → List StampedCall → List Reply
+replies_of p [] = []
+replies_of p (c ∷ cs) = (exec p c.stamp c.call).1 ∷ replies_of (exec p c.stamp c.call).0 cs
+
+-- what a call replies on a tree; its number is that of no call that was made
+abbrev pub reply_on : PlainTree → Call → Reply
+reply_on p call = (exec p READING call).1
+
+-- Sound cells that a reader may ask: the numbers with which it asks number nothing in them.
+pub record IsReadable (cells : Cells) : Type 0 where
+  pub sound : AreSoundCells cells
+  pub free : (k : ℕ) → READING ≤ k → IsFree cells k

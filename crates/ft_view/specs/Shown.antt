@@ -1,0 +1,32 @@
+-- What is shown to readers.
+use Rattle.std.specs.Prelude.{◌≡◌, [], refl}
+use Rattle.std.specs.Coded.{Coded, code_by, coded×}
+use Rattle.ft_cells.specs.Plain.{PlainTree}
+use Rattle.ft_cells.specs.PlainCode.{coded_tree}
+use Rattle.ft_posix.specs.declared.stamped.StampedCall.{StampedCall}
+use Rattle.ft_posix.specs.Exec.{exec}
+use Rattle.ft_book.specs.Names.{Views, Fronted, coded_fronted}
+use Rattle.ft_view.specs.Replay.{replayed}
+
+-- a plain tree, and a list of a book
+pub record Shown : Type 0 where
+  pub tree : PlainTree
+  pub front : Fronted
+
+abbrev pub coded_shown : Coded Shown
+coded_shown = code_by (PlainTree × Fronted) (coded× coded_tree coded_fronted) (λ s. (s.tree, s.front)) (λ p. record { tree = p.0; front = p.1 }) (λ _. refl)
+
+-- The list is one of the book of these views, and the tree is its replay from their base.
+pub record IsViewOf (opened : Views) (s : Shown) : Type 0 where
+  pub book : s.front.book ≡ opened.book
+  pub tree : s.tree ≡ replayed opened.base s.front.calls
+
+-- What a reader knows is a list of the book of these views, and so is the empty list from which others start.
+pub record IsReaderOf (opened : Views) (known nothing : Fronted) : Type 0 where
+  pub seen : known.book ≡ opened.book
+  pub start : nothing.book ≡ opened.book
+  pub empty : nothing.calls ≡ []
+
+-- the tree with one call more made, and the list that the call ends
+abbrev pub advanced : Shown → StampedCall → Fronted → Shown
+advanced s c front = record { tree = (exec s.tree c.stamp c.call).0; front = front }
