@@ -1,5 +1,5 @@
 // The core: nested transactions over one tree.
-ghost use Rattle.std.specs.Prelude.{◌≡◌, ◌<◌, ◌+◌, Some, None, Option, MatchBool, IfOk, IfErr, OnOk, OnErr};
+ghost use Rattle.std.specs.Prelude.{◌≡◌, ◌<◌, ◌≤◌, ◌+◌, Some, None, Option, MatchBool, IfOk, IfErr, OnOk, OnErr};
 ghost use Rattle.ft_tree.specs.Tidy.{tidy};
 ghost use Rattle.ft_tree.specs.Sound.{IsSoundTree, AreSoundCells};
 ghost use Rattle.ft_core.specs.declared.fault.Fault.{Fault as FaultOf};
@@ -18,6 +18,7 @@ ghost use Rattle.ft_core.specs.Steps.{IsStep, exact_rule, fault_of_fate, answer_
 ghost use Rattle.ft_core.specs.Opens.{AreAsBefore, IsOpenFor, add_refusal};
 ghost use Rattle.ft_forest.specs.Transactions.{last_in, HasBegun};
 ghost use Rattle.ft_forest.specs.Refusals.{IsRefusal};
+ghost use Rattle.ft_forest.specs.declared.TheConstants.{LAST_NUMBER as last_number};
 
 use crate::fault::Fault;
 use crate::journal::Journal;
@@ -153,10 +154,11 @@ impl Core {
     }
 
     /// The tree of the base: the root alone, until a checkpoint. No number above the base's last
-    /// stamp stands in it.
+    /// stamp stands in it, and that is no greater than `LAST_NUMBER`.
     pub fn base(&self) -> &Tree
         ensures tree { tidy result.now ≡ self.now.state.base.tree }
         ensures base { IsBaseTree result.now self.now.state.base.last_stamp }
+        ensures last { self.now.state.base.last_stamp ≤ last_number }
     {
         self.journal.base()
     }

@@ -8,6 +8,7 @@ use ft_path::Errno;
 use ft_shared::{Manager, Shared};
 use ft_tree::Kind;
 use std::alloc::Global;
+use std::marker::Brand;
 use std::sync::Wait;
 use std::sync::atomic::{AtomicU64, Ordering};
 use std::test::Fail;
@@ -27,7 +28,7 @@ const WORKED: &[u8] =
 
 /// A core behind a lock.
 fn new_shared(alloc: Global) -> Result<Shared, Fail> {
-    match Shared::new(Core::new(alloc)?) {
+    match Shared::<Brand>::new(Core::new(alloc)?) {
         Ok(shared) => Ok(shared),
         Err(_) => Err(Fail::from("a transaction is live")),
     }
@@ -225,9 +226,9 @@ impl Manager for Lying {
         self.shared.abort(rt, txn)
     }
 
-    fn into_core(self) -> Core {
+    fn into_core<R: Wait>(self, rt: &R) -> Core {
         let Lying { shared, lie: _ } = self;
-        shared.into_core()
+        shared.into_core(rt)
     }
 }
 

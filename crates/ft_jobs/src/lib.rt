@@ -10,4 +10,4 @@ mod running;
 pub use ft_plan::{Job, JobFault, JobName, LONGEST_PLAN, Plan, Step};
 pub use ft_reports::{CallReport, End, Report};
 pub use gate::{Gate, OpenGate};
-pub use running::{JobsOutcome, run_jobs};
+pub use running::{JobsOutcome, report_jobs, run_jobs};

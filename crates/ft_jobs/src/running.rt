@@ -1,12 +1,12 @@
 // All jobs of a plan, side by side.
-ghost use Rattle.std.specs.Prelude.{◌≢◌, ◌≤◌, IfOk, IfErr};
+ghost use Rattle.std.specs.Prelude.{◌≡◌, ◌≢◌, ◌≤◌, IfOk, IfErr, IsErrOf};
 ghost use Rattle.ft_reports.specs.Reports.{AreReports};
 
 use crate::board::Board;
 use crate::gate::Gate;
 use crate::job_run::{Work, run_job};
 use ft_core::Core;
-use ft_plan::{Job, JobFault, Plan};
+use ft_plan::{JobFault, Plan};
 use ft_reports::{Report, are_reports};
 use ft_shared::Manager;
 use std::alloc::Global;
@@ -21,6 +21,30 @@ pub struct JobsOutcome {
     pub core: Core,
     /// A report of each job, in the order of the plan.
     pub reports: Vec<Report>,
+}
+
+impl JobsOutcome {
+    /// The reports of the jobs of a plan, with the core that they left, once they are compared with
+    /// its history.
+    ///
+    /// Answers Mismatch where they are not what happened. At a fault the core is dropped. Any other
+    /// fault is Memory.
+    pub fn compared(
+        alloc: Global,
+        plan: &Plan,
+        core: Core,
+        reports: Vec<Report>,
+    ) -> Result<JobsOutcome, JobFault>
+        ensures same { IfOk result (λ outcome. (outcome.core ≡ core) × (outcome.reports ≡ reports)) }
+        ensures ok { IfOk result (λ outcome. AreReports outcome.core.state plan.now outcome.reports.items) }
+        ensures mismatch { IsErrOf result JobFault.Mismatch → ¬ AreReports core.state plan.now reports.items }
+        ensures cause { IfErr result (λ fault. fault ≢ JobFault.BadPlan) }
+    {
+        if !are_reports(alloc, plan, &core, reports.as_slice())? {
+            return Err(JobFault::Mismatch);
+        }
+        Ok(JobsOutcome { core, reports })
+    }
 }
 
 /// Runs the jobs of a plan, each in a thread and in a transaction of its own: a top job in one at
@@ -42,20 +66,20 @@ pub fn run_jobs<M: Manager, G: Gate, R: Threads + Wait + Clock + Sync>(
     ensures ok { IfOk result (λ outcome. AreReports outcome.core.state plan.now outcome.reports.items) }
     ensures cause { IfErr result (λ fault. fault ≢ JobFault.BadPlan) }
 {
-    let run = run_all(rt, alloc, plan.jobs(), &manager, gate, turns);
-    let core = manager.into_core();
-    let reports = run?;
-    if !are_reports(alloc, plan, &core, reports.as_slice())? {
-        return Err(JobFault::Mismatch);
-    }
-    Ok(JobsOutcome { core, reports })
+    let run = report_jobs(rt, alloc, plan, &manager, gate, turns);
+    let core = manager.into_core(rt);
+    JobsOutcome::compared(alloc, plan, core, run?)
 }
 
-// Runs the jobs, and answers what they report.
-fn run_all<M: Manager, G: Gate, R: Threads + Wait + Clock + Sync>(
+/// Runs the jobs of a plan as `run_jobs` does, and answers what they report, which is compared with
+/// nothing.
+///
+/// Answers Thread where a thread could not be started, after those that were have ended. Any other
+/// fault is Memory.
+pub fn report_jobs<M: Manager, G: Gate, R: Threads + Wait + Clock + Sync>(
     rt: &R,
     alloc: Global,
-    jobs: &[Job],
+    plan: &Plan,
     manager: &M,
     gate: &G,
     turns: u64,
@@ -63,6 +87,7 @@ fn run_all<M: Manager, G: Gate, R: Threads + Wait + Clock + Sync>(
     requires { 1 ≤ turns }
     ensures { IfErr result (λ fault. fault ≢ JobFault.BadPlan) }
 {
+    let jobs = plan.jobs();
     let board = Board::new(alloc, jobs.len())?;
     let work = Work {
         alloc,

@@ -12,6 +12,7 @@ use ft_script::write_out;
 use ft_shared::Shared;
 use std::alloc::Global;
 use std::io::Write;
+use std::marker::Brand;
 use std::sync::Wait;
 use std::thread::Threads;
 use std::time::Clock;
@@ -116,7 +117,7 @@ fn run_anew<R: Threads + Wait + Clock + Sync, S: Write + Send + Drop>(
     let Ok(core) = Core::with_rule(alloc, rule) else {
         return Err(JobFault::Memory);
     };
-    match Shared::new(core) {
+    match Shared::<Brand>::new(core) {
         Ok(shared) => run_shown(rt, alloc, plan, shared, turns, screen),
         Err(_) => unreachable!(),
     }

@@ -3,7 +3,7 @@ ghost use Rattle.std.specs.Prelude.{◌≢◌, ◌≤◌, IfOk, IfErr};
 ghost use Rattle.ft_reports.specs.Reports.{AreReports};
 
 use crate::watch::Watch;
-use ft_jobs::{JobFault, JobsOutcome, OpenGate, Plan, run_jobs};
+use ft_jobs::{JobFault, JobsOutcome, OpenGate, Plan, Report, report_jobs, run_jobs};
 use ft_shared::Manager;
 use std::alloc::Global;
 use std::io::Write;
@@ -15,7 +15,7 @@ use std::time::Clock;
 /// how far they have come.
 ///
 /// Where there is no memory or no thread to show it, it is not shown.
-pub fn run_shown<M: Manager + Drop, R: Threads + Wait + Clock + Sync, S: Write + Send + Drop>(
+pub fn run_shown<M: Manager, R: Threads + Wait + Clock + Sync, S: Write + Send + Drop>(
     rt: &R,
     alloc: Global,
     plan: &Plan,
@@ -34,7 +34,7 @@ pub fn run_shown<M: Manager + Drop, R: Threads + Wait + Clock + Sync, S: Write +
 }
 
 // Runs them under a watch, which another thread shows.
-fn run_watched<M: Manager + Drop, R: Threads + Wait + Clock + Sync, S: Write + Send + Drop>(
+fn run_watched<M: Manager, R: Threads + Wait + Clock + Sync, S: Write + Send + Drop>(
     rt: &R,
     alloc: Global,
     plan: &Plan,
@@ -47,6 +47,24 @@ fn run_watched<M: Manager + Drop, R: Threads + Wait + Clock + Sync, S: Write + S
     ensures ok { IfOk result (λ outcome. AreReports outcome.core.state plan.now outcome.reports.items) }
     ensures cause { IfErr result (λ fault. fault ≢ JobFault.BadPlan) }
 {
+    let run = report_watched(rt, alloc, plan, &manager, turns, watch, screen);
+    let core = manager.into_core(rt);
+    JobsOutcome::compared(alloc, plan, core, run?)
+}
+
+// Runs them so, and answers what they report.
+fn report_watched<M: Manager, R: Threads + Wait + Clock + Sync, S: Write + Send + Drop>(
+    rt: &R,
+    alloc: Global,
+    plan: &Plan,
+    manager: &M,
+    turns: u64,
+    watch: &Watch<'_>,
+    screen: S,
+) -> Result<Vec<Report>, JobFault>
+    requires { 1 ≤ turns }
+    ensures { IfErr result (λ fault. fault ≢ JobFault.BadPlan) }
+{
     thread::scope(
         thread::scope_env(),
         rt,
@@ -55,7 +73,7 @@ fn run_watched<M: Manager + Drop, R: Threads + Wait + Clock + Sync, S: Write + S
         {
             let mut screen = screen;
             let _ = scope.spawn(move || watch.show(rt, alloc, &mut screen));
-            let run = run_jobs(rt, alloc, plan, manager, watch, turns);
+            let run = report_jobs(rt, alloc, plan, manager, watch, turns);
             watch.stop(rt);
             run
         },

@@ -10,7 +10,7 @@ use Rattle.ft_core.specs.Histories.{told}
 use Rattle.ft_core.specs.States.{StoredState, State}
 use Rattle.ft_core.specs.Reached.{IsReached}
 use Rattle.ft_serial.specs.declared.walk.Walk.{Walk}
-use Rattle.ft_serial.specs.Serials.{committed_calls}
+use Rattle.ft_serial.specs.Serials.{committed_calls, committed_in}
 use Rattle.ft_serial.specs.Commits.{but_last, given_by}
 use Rattle.ft_serial.specs.Walks.{call_at, IsWalk, IsWalkOf, IsNext}
 use Rattle.ft_serial.proofs.Taking.{given-first}
@@ -96,3 +96,6 @@ module _ (core : StoredState) (reached : IsReached core) (w w' : Walk) (seen : L
 
   pub calls-first : IsPrefix (given_by w' (take w'.passed now.state.events)) (committed_calls core.state)
   calls-first = subst (λ (xs : List StampedCall). IsPrefix xs (committed_calls core.state)) (sym new-is) (given-first core reached w' (given_after old r) after)
+
+  pub calls-kept : IsPrefix (given_by w' (take w'.passed now.state.events)) (committed_in (take w'.passed now.state.events))
+  calls-kept = (joined (call_at (told (take w'.passed now.state.events)) (take w'.passed now.state.events)) (reverse w'.closing.items), sym still-walk.split)

@@ -1,5 +1,6 @@
 -- What has committed stays.
-use Rattle.std.proofs.Common.{◌≡◌, ◌≢◌, ℕ, List, [], ◌∷◌, ◌++◌, Option, Some, None, MatchOption, refl, sym, ap, ◌∙◌, subst, append-nil}
+use Rattle.std.proofs.Common.{◌≡◌, ◌≢◌, ℕ, Bool, true, false, List, [], ◌∷◌, ◌++◌, Option, Some, None, MatchOption, refl, sym, ap, ◌∙◌, subst, append-nil}
+use Rattle.std.proofs.lemmas.Bool.{false≢true}
 use mathlib.Core.List.{IsPrefix}
 use Rattle.ft_posix.specs.declared.call.Call.{Call}
 use Rattle.ft_posix.specs.Posix.{posix_calls}
@@ -14,14 +15,15 @@ use Rattle.ft_core.specs.declared.request.Answer.TheVariants.{Txn, Granted, Wait
 use Rattle.ft_core.specs.declared.request.Event.{Event}
 use Rattle.ft_core.specs.declared.request.Event.TheVariants.{Begin as BeginEvent, Call as CallEvent, Undo as UndoEvent, Commit as CommitEvent, Abort as AbortEvent}
 use Rattle.ft_core.specs.Histories.{told}
-use Rattle.ft_core.specs.States.{State, history, next_txn, next_stamp, reply_of, accesses_now, after_grant, after_wait}
-use Rattle.ft_core.specs.Steps.{BlockingRule, exact_rule, refusal_of, IsAsked, IsUndone, IsAnswered}
-use Rattle.ft_serial.specs.Serials.{committed_in, CommittedStays}
+use Rattle.ft_core.specs.States.{State, StoredState, history, next_txn, next_stamp, reply_of, accesses_now, after_grant, after_wait}
+use Rattle.ft_core.specs.Reached.{IsReached}
+use Rattle.ft_core.specs.Steps.{BlockingRule, exact_rule, refusal_of, IsAsked, IsUndone, IsAnswered, IsStep}
+use Rattle.ft_serial.specs.Serials.{committed_in, committed_calls, CommittedStays}
 use Rattle.ft_serial.proofs.Lasting.{committed-first}
 use Rattle.ft_serial.proofs.Reaching.{start, values}
 
 -- the base stays, and so do the events from before
-abbrev Moved : State → State → Type 0
+abbrev pub Moved : State → State → Type 0
 Moved s s' = (s'.base ≡ s.base) × IsPrefix s.events s'.events
 
 stays : (s s' : State) → s'.base ≡ s.base → s'.events ≡ s.events → Moved s s'
@@ -71,13 +73,25 @@ moved : (rule : BlockingRule) (s : State) (r : Request) (a : Answer) (s' : State
 moved rule s r a s' None ne h = answered rule s r a s' ne h
 moved rule s r a s' (Some fault) ne h = same s s' h.1
 
+abbrev pub is_checkpoint : Request → Bool
+is_checkpoint Checkpoint = true
+is_checkpoint other = false
+
+-- whatever is asked but a checkpoint
+pub goes-on : (s s' : State) (r : Request) (a : Answer) → is_checkpoint r ≡ false → IsStep exact_rule s r a s' → Moved s s'
+goes-on s s' r a ne step = moved exact_rule s r a s' (refusal_of s r) (λ e. false≢true (sym ne ∙ ap is_checkpoint e)) step
+
+-- the committed calls among the first events stand first
+pub first-committed : (core : StoredState) → IsReached core → (events : List Event) → IsPrefix events core.state.events → IsPrefix (committed_in events) (committed_calls core.state)
+first-committed core reached events first =
+    let more = committed-first (start core reached) (values core reached) events first.0 (subst (λ (es : List Event). Legal posix_calls (start core reached) (told es)) (sym first.1) reached.legal) in
+    (more.0, sym more.1 ∙ ap committed_in first.1)
+
 pub committed-stays : CommittedStays
 committed-stays s new r a reached ne step =
     let m = moved exact_rule s r a new.state (refusal_of s r) ne step in
-    let events : IsPrefix s.events new.state.events = m.1 in
-    let more = committed-first (start new reached) (values new reached) s.events events.0 (subst (λ (es : List Event). Legal posix_calls (start new reached) (told es)) (sym events.1) reached.legal) in
     record {
       base = m.0;
-      events = events;
-      committed = (more.0, sym more.1 ∙ ap committed_in events.1);
+      events = m.1;
+      committed = first-committed new reached s.events m.1;
     }

@@ -1,7 +1,7 @@
 // The committed calls of a core, one after another.
 ghost use Rattle.std.specs.Prelude.{◌≡◌, ◌++◌, ◌∷◌, [], IfOk, IfSome, IfNone, OnErr};
 ghost use mathlib.Core.List.{IsPrefix};
-ghost use Rattle.ft_serial.specs.Serials.{committed_calls};
+ghost use Rattle.ft_serial.specs.Serials.{committed_calls, committed_in};
 
 use crate::walk::Walk;
 use ft_base::Memory;
@@ -68,6 +68,7 @@ impl Commits {
         // What was gone over and given out stands first in the core.
         ensures events { IsPrefix self.new.events core.now.state.events }
         ensures given { IsPrefix self.new.given (committed_calls core.now.state) }
+        ensures kept { IsPrefix self.new.given (committed_in self.new.events) }
     {
         reached(core);
         let next = self.walk.next(core);

@@ -1,5 +1,6 @@
 -- A core may go from thread to thread, and threads may share one that stands behind a lock. The check finds this of a type by
 -- itself, but not of one that holds a snapshot, which has no bytes, nor of what such a type stands in.
+use denote.RattleType.{RattleType}
 use denote.Param.Send.{IsSend, IsSync, sendable}
 use Rattle.std.proofs.Crossing.{crosses}
 use Rattle.ft_base.proofs.chains.Chains.TheSendSync as chains
@@ -21,6 +22,17 @@ use Rattle.ft_core.proofs.request.Event.TheSendSync as event
 use Rattle.ft_core.specs.contracts.journal.Journal as Journal
 use Rattle.ft_core.specs.contracts.parts.Parts as Parts
 use Rattle.ft_core.specs.contracts.manager.Core as Core
+use Rattle.ft_book.specs.declared.book.Naming as naming
+use Rattle.left_right.proofs.writer.Writer.TheSendSync as writer
+use Rattle.ft_posix.proofs.stamped.StampedCall.TheSendSync as stamped
+use Rattle.ft_book.proofs.book.Book.TheSendSync as book
+use Rattle.ft_book.proofs.book.Front.TheSendSync as front
+use Rattle.ft_view.proofs.view.View.TheSendSync as view
+use Rattle.ft_view.proofs.view.Published.TheSendSync as published
+use Rattle.ft_serial.proofs.walk.Walk.TheSendSync as walk
+use Rattle.ft_serial.specs.contracts.commits.Commits as Commits
+use Rattle.ft_shared.specs.contracts.publisher.Publisher as Publisher
+use Rattle.ft_shared.specs.contracts.behind.Behind as Behind
 use Rattle.ft_shared.specs.contracts.shared.Shared as Shared
 
 BodyUndo-send : IsSend BodyUndo.the_row
@@ -47,5 +59,15 @@ Parts-send = search (tree.the_send, forest.the_send, locks.the_send, Logs-send, 
 pub Core-send : IsSend Core.the_row
 Core-send = search (Journal-send, Parts-send, crosses, sendable) depth 40
 
-pub Shared-sync : IsSync Shared.the_row
-Shared-sync = search (Core-send, crosses, sendable) depth 40
+Commits-send : IsSend Commits.the_row
+Commits-send = search (walk.the_field_send, crosses, sendable) depth 40
+
+module _ (J : RattleType) (views : naming.Ghosts J.Denot) where
+  Publisher-send : IsSend (Publisher.the_row J views)
+  Publisher-send = search (writer.the_field_send, Commits-send, book.the_send, front.the_send, view.the_send, view.the_sync, published.the_send, stamped.the_send, crosses, sendable) depth 60
+
+  Behind-send : IsSend (Behind.the_row J views)
+  Behind-send = search (Core-send, Publisher-send, crosses, sendable) depth 40
+
+  pub Shared-sync : IsSync (Shared.the_row J views)
+  Shared-sync = search (Behind-send, crosses, sendable) depth 40

@@ -1,1 +1,4 @@
+pub mod Staying
+pub mod Feeding
+pub mod Readable
 pub mod Crossing

@@ -1,1 +1,3 @@
 pub mod Behind
+pub mod Publishing
+pub mod Opening

@@ -1,9 +1,15 @@
-//! Transactions that threads share: a core behind a lock, and the trait of what job threads ask of
-//! it.
+//! Transactions that threads share: a core behind a lock, with views of what has committed where
+//! they are wanted, and the trait of what job threads ask of it.
 #![tactic(auto)]
 
+mod behind;
+pub mod laws;
 mod manager;
+mod opened;
+mod publisher;
 mod shared;
 
 pub use manager::Manager;
+pub use opened::{Cause, Opened, ViewsRefused, with_views};
+pub use publisher::MOST_READERS;
 pub use shared::{MOST_PAUSE, Refused, Shared};

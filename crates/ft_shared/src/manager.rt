@@ -4,6 +4,7 @@ ghost use Rattle.std.specs.Prelude.{◌≤◌};
 use crate::shared::Shared;
 use ft_calls::Call;
 use ft_core::{Core, Fault, Outcome, TxnId};
+use ft_view::Naming;
 use std::sync::Wait;
 use std::time::Clock;
 
@@ -36,10 +37,10 @@ pub trait Manager: Sync {
     fn abort<R: Wait>(&self, rt: &R, txn: TxnId) -> Result<u64, Fault>;
 
     /// Ends the manager, and gives the core back.
-    fn into_core(self) -> Core;
+    fn into_core<R: Wait>(self, rt: &R) -> Core;
 }
 
-impl Manager for Shared {
+impl<J: Naming> Manager for Shared<J> {
     fn begin<R: Wait>(&self, rt: &R) -> Result<TxnId, Fault> {
         self.begin(rt)
     }
@@ -66,7 +67,7 @@ impl Manager for Shared {
         self.abort(rt, txn)
     }
 
-    fn into_core(self) -> Core {
-        self.into_core()
+    fn into_core<R: Wait>(self, rt: &R) -> Core {
+        self.into_core(rt)
     }
 }

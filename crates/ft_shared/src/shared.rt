@@ -1,7 +1,7 @@
 // A core behind a lock.
-ghost use Rattle.std.specs.Prelude.{◌≡◌, ◌≤◌, MatchResult, IfOk, IfErr};
+ghost use Rattle.std.specs.Prelude.{◌≡◌, ◌≤◌, ◌⊎◌, length, MatchResult, IfOk, IfErr};
 ghost use Rattle.std.specs.Sync.Mutex.{mutex_guard_value};
-ghost use Rattle.ft_core.specs.declared.fault.Fault.TheVariants.{Memory as MemoryFault, Live as LiveFault};
+ghost use Rattle.ft_core.specs.declared.fault.Fault.TheVariants.{Memory as MemoryFault, Live as LiveFault, NoViews};
 ghost use Rattle.ft_core.specs.declared.request.Request.TheVariants.{Begin, Sub, Ask, Retry, Drop as DropAsk, Commit, Abort, Undo};
 ghost use Rattle.ft_core.specs.declared.request.Answer.TheVariants.{Txn, Dropped, Committed, Aborted, Undone};
 ghost use Rattle.ft_core.specs.Living.{SomeIsLive, NoneIsLive};
@@ -9,14 +9,17 @@ ghost use Rattle.ft_core.specs.Steps.{IsStep, exact_rule, answer_with, outcome_a
 ghost use Rattle.ft_waits.specs.Edges.{AreEdgesOf};
 ghost use Rattle.ft_waits.specs.Waits.{IsVerdict};
 ghost use Rattle.ft_core.specs.Reached.{IsReached};
+ghost use Rattle.ft_serial.specs.Serials.{committed_calls};
 ghost use Rattle.ft_shared.specs.Behind.{OfSomeCore, InSomeCore, IsAborted, IsUndone};
 
+use crate::behind::Behind;
 use ft_base::Memory;
 use ft_calls::Call;
-use ft_core::laws::reached;
 use ft_core::{Core, Fault, Outcome, State, TxnId};
+use ft_view::{Naming, Receipt};
 use ft_waits::{Edge, Verdict, edges, with_verdict};
 use std::alloc::Global;
+use std::marker::Brand;
 use std::sync::{Condvar, CondvarTimeouts, Mutex, MutexGuard, Wait};
 use std::time::{Clock, Duration};
 
@@ -31,9 +34,8 @@ pub const MOST_PAUSE: u64 = 5;
 /// base, and its tree is what a plain tree holds after the standing calls alone. Which core it was,
 /// no clause can say: each says that the answer is a legal one of some core in some state that a
 /// core can come to. No clause says that a call returns.
-#[derive(Drop)]
-pub struct Shared {
-    core: Mutex<Core>,
+pub struct Shared<J: Naming = Brand> {
+    behind: Mutex<Behind<J>>,
     // For copies of calls, which are made before the lock is got.
     alloc: Global,
     // A transaction has committed or is aborted.
@@ -47,11 +49,11 @@ pub struct Refused {
     pub fault: Fault,
 }
 
-impl Shared {
+impl<J: Naming> Shared<J> {
     /// Puts a core behind a lock. Takes no memory.
     ///
     /// Refuses Live where a transaction is live, and hands the core back.
-    pub fn new(core: Core) -> Result<Shared, Refused>
+    pub fn new(core: Core) -> Result<Shared<J>, Refused>
         ensures { MatchResult result (λ shared. NoneIsLive core.state) (λ refused. (refused.core ≡ core) × (refused.fault ≡ LiveFault) × SomeIsLive core.state) }
     {
         if core.has_live() {
@@ -60,11 +62,16 @@ impl Shared {
                 fault: Fault::Live,
             });
         }
-        Ok(Shared {
-            alloc: core.alloc(),
-            core: Mutex::new(core),
+        Ok(Shared::over(Behind::alone(core)))
+    }
+
+    /// Puts a core, with its views where it has any, behind a lock.
+    pub(crate) fn over(behind: Behind<J>) -> Shared<J> {
+        Shared {
+            alloc: behind.core().alloc(),
+            behind: Mutex::new(behind),
             ended: Condvar::new(),
-        })
+        }
     }
 
     /// Begins a top-level transaction.
@@ -73,7 +80,10 @@ impl Shared {
     pub fn begin<R: Wait>(&self, rt: &R) -> Result<TxnId, Fault>
         ensures { InSomeCore (λ old new. IsStep exact_rule old Begin (answer_with Txn result) new) }
     {
-        self.held(rt).begin()
+        let mut behind = self.held(rt);
+        let answer = behind.begin();
+        MutexGuard::unlock(behind);
+        answer
     }
 
     /// Begins a subtransaction.
@@ -83,7 +93,10 @@ impl Shared {
     pub fn sub<R: Wait>(&self, rt: &R, parent: TxnId) -> Result<TxnId, Fault>
         ensures { InSomeCore (λ old new. IsStep exact_rule old (Sub parent) (answer_with Txn result) new) }
     {
-        self.held(rt).sub(parent)
+        let mut behind = self.held(rt);
+        let answer = behind.sub(parent);
+        MutexGuard::unlock(behind);
+        answer
     }
 
     /// Makes a call in a transaction, or answers which transactions it waits for.
@@ -92,7 +105,10 @@ impl Shared {
     pub fn ask<R: Wait>(&self, rt: &R, txn: TxnId, call: Call) -> Result<Outcome, Fault>
         ensures { InSomeCore (λ old new. IsStep exact_rule old (Ask txn call) (answer_with outcome_answer result) new) }
     {
-        self.held(rt).ask(txn, call)
+        let mut behind = self.held(rt);
+        let answer = behind.ask(txn, call);
+        MutexGuard::unlock(behind);
+        answer
     }
 
     /// Asks for a call up to so many times, until it is granted or refused, and answers that; else
@@ -127,20 +143,34 @@ impl Shared {
         ensures { InSomeCore (λ old new. IsStep exact_rule old (Ask txn call.now) (answer_with outcome_answer result) new) }
     {
         match call.copy(self.alloc) {
-            Ok(copy) => self.held(rt).ask(txn, copy),
+            Ok(copy) => self.ask(rt, txn, copy),
             // Other refusals stand before want of memory, and the core tells which.
-            Err(Memory) => self.held(rt).ask_copy(txn, call),
+            Err(Memory) => self.ask_copy(rt, txn, call),
         }
+    }
+
+    /// Makes a copy of a call, as `ask` makes a call. The copy is made while the lock is held.
+    fn ask_copy<R: Wait>(&self, rt: &R, txn: TxnId, call: &Call) -> Result<Outcome, Fault>
+        ensures { InSomeCore (λ old new. IsStep exact_rule old (Ask txn call.now) (answer_with outcome_answer result) new) }
+    {
+        let mut behind = self.held(rt);
+        let answer = behind.ask_copy(txn, call);
+        MutexGuard::unlock(behind);
+        answer
     }
 
     /// Pauses until one of these transactions is not live any more, or for `MOST_PAUSE`. The core
     /// is looked at before each sleep, so that one that has ended since the ask is seen at once.
     fn pause<R: Wait + Clock>(&self, rt: &R, blockers: &[TxnId]) {
         let most = Duration::from_millis(MOST_PAUSE);
-        let core = self.core.lock(rt);
-        let _ = self
-            .ended
-            .wait_timeout_while(rt, core, most, |core| are_live(core, blockers));
+        let behind = self.behind.lock(rt);
+        let (behind, _) = self.ended.wait_timeout_while(
+            rt,
+            behind,
+            most,
+            |behind| are_live(behind.core(), blockers),
+        );
+        MutexGuard::unlock(behind);
     }
 
     /// Makes the call that a transaction waits for, or answers again which transactions it waits
@@ -151,7 +181,10 @@ impl Shared {
     pub fn retry<R: Wait>(&self, rt: &R, txn: TxnId) -> Result<Outcome, Fault>
         ensures { InSomeCore (λ old new. IsStep exact_rule old (Retry txn) (answer_with outcome_answer result) new) }
     {
-        self.held(rt).retry(txn)
+        let mut behind = self.held(rt);
+        let answer = behind.retry(txn);
+        MutexGuard::unlock(behind);
+        answer
     }
 
     /// Forgets the call that a transaction waits for. Takes no memory.
@@ -160,7 +193,10 @@ impl Shared {
     pub fn drop_ask<R: Wait>(&self, rt: &R, txn: TxnId) -> Result<(), Fault>
         ensures { InSomeCore (λ old new. IsStep exact_rule old (DropAsk txn) (answer_with (λ done. Dropped) result) new) }
     {
-        self.held(rt).drop_ask(txn)
+        let mut behind = self.held(rt);
+        let answer = behind.drop_ask(txn);
+        MutexGuard::unlock(behind);
+        answer
     }
 
     /// Commits a transaction: its locks and what takes its calls back are its parent's from then
@@ -171,12 +207,13 @@ impl Shared {
     pub fn commit<R: Wait>(&self, rt: &R, txn: TxnId) -> Result<(), Fault>
         ensures { InSomeCore (λ old new. IsStep exact_rule old (Commit txn) (answer_with (λ done. Committed) result) new) }
     {
-        let mut core = self.held(rt);
-        core.commit(txn)?;
-        core.sweep();
-        drop(core);
-        self.ended.notify_all();
-        Ok(())
+        let mut behind = self.held(rt);
+        let answer = behind.commit(txn);
+        MutexGuard::unlock(behind);
+        if answer.is_ok() {
+            self.ended.notify_all();
+        }
+        answer
     }
 
     /// Aborts a transaction with all that is live below it, and answers how many standing calls it
@@ -186,12 +223,13 @@ impl Shared {
     pub fn abort<R: Wait>(&self, rt: &R, txn: TxnId) -> Result<u64, Fault>
         ensures { InSomeCore (λ old new. IsAborted old txn (answer_with Aborted result) new) }
     {
-        let mut core = self.held(rt);
-        let count = core.abort(txn)?;
-        core.sweep();
-        drop(core);
-        self.ended.notify_all();
-        Ok(count)
+        let mut behind = self.held(rt);
+        let answer = behind.abort(txn);
+        MutexGuard::unlock(behind);
+        if answer.is_ok() {
+            self.ended.notify_all();
+        }
+        answer
     }
 
     /// Undoes the last of a transaction's own standing calls, and answers its stamp. If it was just
@@ -202,7 +240,10 @@ impl Shared {
     pub fn undo_call<R: Wait>(&self, rt: &R, txn: TxnId) -> Result<u64, Fault>
         ensures { InSomeCore (λ old new. IsUndone old txn (answer_with Undone result) new) }
     {
-        self.held(rt).undo_call(txn)
+        let mut behind = self.held(rt);
+        let answer = behind.undo_call(txn);
+        MutexGuard::unlock(behind);
+        answer
     }
 
     /// Who waits for whom: the waits-for edges of the core, each once, in their order, and whether
@@ -223,26 +264,49 @@ impl Shared {
     fn list_edges<R: Wait>(&self, rt: &R) -> Result<Vec<Edge>, Memory>
         ensures { IfOk result (λ edges. OfSomeCore (λ state. AreEdgesOf state edges.items)) }
     {
-        edges(&self.held(rt))
+        let behind = self.held(rt);
+        let edges = edges(behind.core());
+        MutexGuard::unlock(behind);
+        edges
     }
 
-    /// Ends the sharing, and gives the core back. Takes no memory.
-    pub fn into_core(self) -> Core {
+    /// Publishes the committed calls that are not published yet, and answers how many are published
+    /// then, with a receipt of that list. Readers who learn the receipt see no older one from then
+    /// on.
+    ///
+    /// It holds the lock while it replays the new calls, and while a reader that came before still
+    /// looks at the list before: a reader holds it up for one `stat`, `list` or `read_file`, and
+    /// takes no lock meanwhile. Refuses NoViews where the core has none, and then want of memory,
+    /// and then nothing more is published.
+    pub fn publish<R: Wait>(&self, rt: &R) -> Result<(u64, Receipt<J>), Fault>
+        ensures count { IfOk result (λ told. told.0 ≡ length told.1) }
+        ensures committed { IfOk result (λ told. OfSomeCore (λ state. (state.base.tree ≡ J.opened.base) × (told.1 ≡ committed_calls state))) }
+        ensures fault { IfErr result (λ fault. (fault ≡ NoViews) ⊎ (fault ≡ MemoryFault)) }
+    {
+        let mut behind = self.held(rt);
+        let answer = behind.publish(rt);
+        MutexGuard::unlock(behind);
+        answer
+    }
+
+    /// Ends the sharing, and gives the core back. It waits for the readers that read; readers
+    /// answer NoReader from then on. Takes no memory.
+    pub fn into_core<R: Wait>(self, rt: &R) -> Core {
         let Shared {
-            core,
+            behind,
             alloc: _,
             ended: _,
         } = self;
-        core.into_inner()
+        behind.into_inner().end(rt)
     }
 
     /// Gets the lock. The core that stands there is in a state that legal requests lead to.
-    fn held<R: Wait>(&self, rt: &R) -> MutexGuard<'_, Core>
-        ensures { IsReached (mutex_guard_value result) }
+    fn held<R: Wait>(&self, rt: &R) -> MutexGuard<'_, Behind<J>>
+        ensures { IsReached (mutex_guard_value result).core }
     {
-        let core = self.core.lock(rt);
-        reached(&core);
-        core
+        let behind = self.behind.lock(rt);
+        behind.stands();
+        behind
     }
 }
 

@@ -7,6 +7,8 @@ mod of_core;
 #[cfg(test)]
 mod of_shared;
 #[cfg(test)]
+mod of_views;
+#[cfg(test)]
 mod of_waits;
 #[cfg(test)]
 mod scripts;

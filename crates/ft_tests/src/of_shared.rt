@@ -6,6 +6,7 @@ use ft_path::FilePath;
 use ft_shared::{MOST_PAUSE, Manager, Refused, Shared};
 use ft_waits::{Edge, EdgeKind, Verdict};
 use std::alloc::Global;
+use std::marker::Brand;
 use std::sync::Wait;
 use std::test::Fail;
 use std::thread;
@@ -19,7 +20,7 @@ fn stat_call(alloc: Global) -> Result<Call, Fail> {
 
 /// A new core behind a lock.
 fn new_shared(alloc: Global) -> Result<Shared, Fault> {
-    match Shared::new(Core::new(alloc)?) {
+    match Shared::<Brand>::new(Core::new(alloc)?) {
         Ok(shared) => Ok(shared),
         Err(refused) => Err(refused.fault),
     }
@@ -58,8 +59,13 @@ fn make_directory<R: Wait>(rt: &R, alloc: Global, shared: &Shared) -> Result<(),
 /// A core in which transaction 1 has made a directory, and transaction 2 is live.
 fn with_directory<R: Wait>(rt: &R, alloc: Global) -> Result<Shared, Fail> {
     let shared = new_shared(alloc)?;
-    make_directory(rt, alloc, &shared)?;
-    Ok(shared)
+    match make_directory(rt, alloc, &shared) {
+        Ok(()) => Ok(shared),
+        Err(fail) => {
+            shared.into_core(rt);
+            Err(fail)
+        }
+    }
 }
 
 /// Each of two transactions waits for the other: it looks at what the other one has made.
@@ -72,10 +78,17 @@ fn cross<R: Wait>(rt: &R, alloc: Global, shared: &Shared) -> Result<(), Fail> {
     Ok(())
 }
 
+/// Whether a core in which they do so tells it.
+fn tells_crossing<R: Wait>(rt: &R, alloc: Global, shared: &Shared) -> Result<bool, Fail> {
+    cross(rt, alloc, shared)?;
+    tells_deadlock(rt, shared)
+}
+
 fn waits_in_circle<R: Wait>(rt: &R, alloc: Global) -> Result<bool, Fail> {
     let shared = with_directory(rt, alloc)?;
-    cross(rt, alloc, &shared)?;
-    tells_deadlock(rt, &shared)
+    let is_told = tells_crossing(rt, alloc, &shared);
+    shared.into_core(rt);
+    is_told
 }
 
 #[test]
@@ -111,7 +124,9 @@ fn goes_on<R: Threads + Wait + Clock + Sync>(rt: &R, shared: &Shared, call: &Cal
 fn lets_go_on<R: Threads + Wait + Clock + Sync>(rt: &R, alloc: Global) -> Result<bool, Fail> {
     let call = stat_call(alloc)?;
     let shared = with_directory(rt, alloc)?;
-    Ok(goes_on(rt, &shared, &call))
+    let has_gone_on = goes_on(rt, &shared, &call);
+    shared.into_core(rt);
+    Ok(has_gone_on)
 }
 
 #[test]
@@ -132,7 +147,9 @@ fn waits_in_vain<R: Wait + Clock>(rt: &R, shared: &Shared, call: &Call) -> bool 
 fn uses_turns_up<R: Wait + Clock>(rt: &R, alloc: Global) -> Result<bool, Fail> {
     let call = stat_call(alloc)?;
     let shared = with_directory(rt, alloc)?;
-    Ok(waits_in_vain(rt, &shared, &call))
+    let has_waited = waits_in_vain(rt, &shared, &call);
+    shared.into_core(rt);
+    Ok(has_waited)
 }
 
 #[test]
@@ -178,6 +195,7 @@ fn pauses_its_time<R: Threads + Wait + Clock + Sync>(rt: &R, alloc: Global) -> R
     let call = stat_call(alloc)?;
     let shared = with_directory(rt, alloc)?;
     let (waited, ended) = time_beside_others(rt, &shared, &call);
+    shared.into_core(rt);
     let least = Duration::from_millis(2 * MOST_PAUSE);
     Ok(ended == Ok(()) && waited.is_some_and(|waited| waited >= least))
 }
@@ -191,18 +209,25 @@ fn ends_of_others_use_up_no_turn(rt: HostRuntime) -> Result<(), Fail> {
 /// Whether a sweep finds nothing more to drop once the directory is gone by an abort.
 fn sweeps_at_abort<R: Wait>(rt: &R, alloc: Global) -> Result<bool, Fail> {
     let shared = with_directory(rt, alloc)?;
-    let _ = shared.abort(rt, TxnId(1))?;
-    let mut core = shared.into_core();
+    let aborted = shared.abort(rt, TxnId(1));
+    let mut core = shared.into_core(rt);
+    let _ = aborted?;
     Ok(core.sweep() == 0)
+}
+
+/// The first transaction removes its directory, and commits.
+fn remove_directory<R: Wait>(rt: &R, shared: &Shared, path: FilePath) -> Result<(), Fault> {
+    let _ = shared.ask(rt, TxnId(1), Call::Rmdir { path })?;
+    shared.commit(rt, TxnId(1))
 }
 
 /// The same once it is removed, and the transaction has committed.
 fn sweeps_at_commit<R: Wait>(rt: &R, alloc: Global) -> Result<bool, Fail> {
     let path = FilePath::new(alloc, b"/a".as_slice())?;
     let shared = with_directory(rt, alloc)?;
-    let _ = shared.ask(rt, TxnId(1), Call::Rmdir { path })?;
-    shared.commit(rt, TxnId(1))?;
-    let mut core = shared.into_core();
+    let removed = remove_directory(rt, &shared, path);
+    let mut core = shared.into_core(rt);
+    removed?;
     Ok(core.sweep() == 0)
 }
 
@@ -214,17 +239,20 @@ fn ends_are_swept(rt: HostRuntime) -> Result<(), Fail> {
 }
 
 /// A transaction that makes a directory, and a subtransaction, by the trait alone.
-fn managed<R: Wait + Clock, M: Manager + Drop>(
-    rt: &R,
-    manager: M,
-    call: &Call,
-) -> Result<Core, Fault> {
+fn manage<R: Wait + Clock, M: Manager>(rt: &R, manager: &M, call: &Call) -> Result<(), Fault> {
     let top = manager.begin(rt)?;
     let below = manager.sub(rt, top)?;
     let _ = manager.ask_wait(rt, top, call, 1)?;
     let _ = manager.abort(rt, below)?;
-    manager.commit(rt, top)?;
-    Ok(manager.into_core())
+    manager.commit(rt, top)
+}
+
+/// The core in which that was done.
+fn managed<R: Wait + Clock, M: Manager>(rt: &R, manager: M, call: &Call) -> Result<Core, Fault> {
+    let done = manage(rt, &manager, call);
+    let core = manager.into_core(rt);
+    done?;
+    Ok(core)
 }
 
 /// Whether the core has its five events when it comes back.
@@ -246,9 +274,12 @@ fn is_handed_back(refused: &Refused) -> bool {
     refused.fault == Fault::Live && refused.core.history().len() == 1
 }
 
-fn is_refused(core: Core) -> bool {
-    match Shared::new(core) {
-        Ok(_) => false,
+fn is_refused<R: Wait>(rt: &R, core: Core) -> bool {
+    match Shared::<Brand>::new(core) {
+        Ok(shared) => {
+            shared.into_core(rt);
+            false
+        }
         Err(refused) => is_handed_back(&refused),
     }
 }
@@ -257,6 +288,6 @@ fn is_refused(core: Core) -> bool {
 fn single_calls(rt: HostRuntime) -> Result<(), Fail> {
     let mut core = Core::new(rt.alloc())?;
     assert_eq!(rt; core.begin(), Ok(TxnId(1)));
-    assert!(rt; is_refused(core));
+    assert!(rt; is_refused(&rt, core));
     Ok(())
 }

@@ -132,12 +132,13 @@ fn request(alloc: Global, line: Line) -> Result<Request, Fail> {
 }
 
 /// Whether the names are these, one behind the other.
-fn are_names(names: &[(Name, Kind)], wanted: &[u8]) -> bool {
+pub(crate) fn are_names(names: &[(Name, Kind)], wanted: &[u8]) -> bool {
     let all = names.iter().flat_map(|(name, _)| name.as_bytes());
     all.copied().eq(wanted.iter().copied())
 }
 
-fn is_reply(stamp: u64, reply: &Reply, wanted: Wanted) -> bool {
+/// Whether a reply is the one that is wanted, with this number: the stamp of a granted call.
+pub(crate) fn is_reply(stamp: u64, reply: &Reply, wanted: Wanted) -> bool {
     match (reply, wanted) {
         (Reply::Done, Wanted::Done(wanted)) => stamp == wanted,
         (Reply::Failed(errno), Wanted::Failed(number, wanted)) => {

@@ -3,11 +3,12 @@ use anyhow::{Result, bail};
 use ft_core::{Answer, Core, Fault, Request};
 use ft_shared::Shared;
 use std::alloc::Global;
+use std::marker::Brand;
 use std::sync::Wait;
 
 /// A new core behind a lock.
 pub fn new_shared(alloc: Global) -> Result<Shared, Fault> {
-    Shared::new(Core::new(alloc)?).map_err(|refused| refused.fault)
+    Shared::<Brand>::new(Core::new(alloc)?).map_err(|refused| refused.fault)
 }
 
 /// Carries a request out through the lock. Fails for a checkpoint alone.

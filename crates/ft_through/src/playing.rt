@@ -12,10 +12,23 @@ use std::sync::Wait;
 /// Plays a script, line by line, and writes the replies.
 pub fn play<R: Wait, W: Write>(rt: &R, alloc: Global, script: &[u8], writer: &mut W) -> Result<()> {
     let shared = new_shared(alloc)?;
+    let played = play_through(rt, alloc, &shared, script, writer);
+    shared.into_core(rt);
+    played
+}
+
+/// Plays the lines of a script through the lock.
+fn play_through<R: Wait, W: Write>(
+    rt: &R,
+    alloc: Global,
+    shared: &Shared,
+    script: &[u8],
+    writer: &mut W,
+) -> Result<()> {
     let lines: Vec<&[u8]> = script.split(|byte| *byte == b'\n').collect(alloc)?;
     for (place, line) in lines.iter().enumerate() {
         let before = &lines.as_slice()[..place];
-        let reply = reply_through(rt, alloc, &shared, before, line)?;
+        let reply = reply_through(rt, alloc, shared, before, line)?;
         write_out(writer, reply.as_bytes())?;
     }
     Ok(())
@@ -58,10 +71,18 @@ fn waits_reply<R: Wait>(rt: &R, alloc: Global, shared: &Shared) -> Result<String
 /// behind a lock, neither its tree nor its locks can be read, so they are read from this one.
 fn core_after<R: Wait>(rt: &R, alloc: Global, lines: &[&[u8]]) -> Result<Core> {
     let shared = new_shared(alloc)?;
+    let carried_out = carry_out_all(rt, alloc, &shared, lines);
+    let core = shared.into_core(rt);
+    carried_out?;
+    Ok(core)
+}
+
+/// Carries out the requests of these lines through the lock.
+fn carry_out_all<R: Wait>(rt: &R, alloc: Global, shared: &Shared, lines: &[&[u8]]) -> Result<()> {
     for line in lines {
         if let Line::Request(request) = meaning_of(alloc, line)? {
-            carry_out(rt, &shared, request)?;
+            carry_out(rt, shared, request)?;
         }
     }
-    Ok(shared.into_core())
+    Ok(())
 }

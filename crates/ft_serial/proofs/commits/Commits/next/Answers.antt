@@ -2,7 +2,7 @@ use Rattle.std.proofs.Common.{sym, ap, subst, ◌∙◌}
 use mathlib.Core.List.{IsPrefix}
 use Rattle.ft_serial.specs.Commits.{GoneOver, events_seen}
 use Rattle.ft_serial.specs.Walks.{IsNext}
-use Rattle.ft_serial.proofs.Committing.{given_after, step, new-is, still-walk, events-first, calls-first, call-is, none-same, none-all, err-same}
+use Rattle.ft_serial.proofs.Committing.{given_after, step, new-is, still-walk, events-first, calls-first, calls-kept, call-is, none-same, none-all, err-same}
 use Rattle.ft_serial.proofs.commits.Commits.next.Goals as goal
 
 pub invariant_of-self : goal.invariant_of-self
@@ -55,4 +55,10 @@ pub returns-clause-given : goal.returns-clause-given
 returns-clause-given c =
     let core = c.args.core.now in
     calls-first core c.reached.ensures c.self.inside.walk c.next-next.new.self (events_seen c.self.inside.seen) c.next-next.result
+    (subst (λ (v : GoneOver). IsPrefix v.events core.state.events) (sym c.self.view_is) c.requires) c.self.invariant c.next-next.ensures c.of.result.value c.of.ensures
+
+pub returns-clause-kept : goal.returns-clause-kept
+returns-clause-kept c =
+    let core = c.args.core.now in
+    calls-kept core c.reached.ensures c.self.inside.walk c.next-next.new.self (events_seen c.self.inside.seen) c.next-next.result
     (subst (λ (v : GoneOver). IsPrefix v.events core.state.events) (sym c.self.view_is) c.requires) c.self.invariant c.next-next.ensures c.of.result.value c.of.ensures

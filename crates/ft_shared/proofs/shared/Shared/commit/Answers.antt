@@ -1,12 +1,10 @@
 use Rattle.std.proofs.Common.{sym, subst}
-use Rattle.std.proofs.lemmas.Result.{err_from_is_err_and}
 use Rattle.ft_core.specs.Reached.{IsReached}
+use Rattle.ft_shared.specs.Publishing.{Backed}
 use Rattle.ft_shared.proofs.shared.Shared.commit.Goals as goal
 
-pub returns-in_err-commit : goal.returns-in_err-commit
-returns-in_err-commit g c =
-    let told = err_from_is_err_and c.from_residual.result c.from_residual.ensures.1 in
-    rw (told.1, told.2) (c.deref_mut.result.now, subst IsReached (sym c.deref_mut.ensures.value) c.held-core.ensures, (c.commit.new.self.state, c.in_err-commit.ensures))
+pub returns-then-is_ok : goal.returns-then-is_ok
+returns-then-is_ok g c = (c.deref_mut.result.now.core, subst (λ (b : Backed). IsReached b.core) (sym c.deref_mut.ensures.value) c.held-behind.ensures, (c.commit-answer.new.self.core.state, c.commit-answer.ensures.step))
 
-pub returns : goal.returns
-returns g c = (c.deref_mut.result.now, subst IsReached (sym c.deref_mut.ensures.value) c.held-core.ensures, (c.commit.new.self.state, c.in_ok-commit.ensures))
+pub returns-else-is_ok : goal.returns-else-is_ok
+returns-else-is_ok g c = (c.deref_mut.result.now.core, subst (λ (b : Backed). IsReached b.core) (sym c.deref_mut.ensures.value) c.held-behind.ensures, (c.commit-answer.new.self.core.state, c.commit-answer.ensures.step))

@@ -1,6 +1,7 @@
 use Rattle.std.proofs.Common.{sym, subst}
 use Rattle.ft_core.specs.Reached.{IsReached}
+use Rattle.ft_shared.specs.Publishing.{Backed}
 use Rattle.ft_shared.proofs.shared.Shared.undo_call.Goals as goal
 
 pub returns : goal.returns
-returns g c = (c.deref_mut.result.now, subst IsReached (sym c.deref_mut.ensures.value) c.held.ensures, (c.undo_call.new.self.state, (c.undo_call.ensures.step, c.undo_call.ensures.just_made)))
+returns g c = (c.deref_mut.result.now.core, subst (λ (b : Backed). IsReached b.core) (sym c.deref_mut.ensures.value) c.held-behind.ensures, (c.undo_call-answer.new.self.core.state, c.undo_call-answer.ensures.step))

@@ -1,0 +1,35 @@
+-- Views that were opened, and are not named yet.
+use Rattle.std.specs.Prelude.{◌≡◌, [], refl}
+use Rattle.std.specs.Coded.{Coded, code_by, coded×}
+use Rattle.logbook.specs.Pages.{Book, book_coded}
+use Rattle.ft_core.specs.declared.fault.Fault.TheVariants.{Live}
+use Rattle.ft_core.specs.Living.{SomeIsLive, NoneIsLive}
+use Rattle.ft_core.specs.States.{State, StoredState, coded_stored}
+use Rattle.ft_book.specs.Names.{Views, Fronted}
+use Rattle.ft_view.specs.Shown.{Shown}
+use Rattle.ft_view.specs.declared.reader.ViewFault.TheVariants.{Memory}
+use Rattle.ft_shared.specs.declared.opened.Cause.{Cause}
+use Rattle.ft_shared.specs.declared.opened.Cause.TheVariants.{Fault as FaultCause, View as ViewCause}
+
+pub record Opening : Type 0 where
+  pub core : StoredState
+  pub book : Book
+
+abbrev pub coded_opening : Coded Opening
+coded_opening = code_by (StoredState × Book) (coded× coded_stored book_coded) (λ o. (o.core, o.book)) (λ p. record { core = p.0; book = p.1 }) (λ _. refl)
+
+-- Both copies are the core's base, with nothing in their list.
+pub record IsOpened (core : State) (book : Book) (nothing : Fronted) (first second : Shown) : Type 0 where
+  pub of_book : nothing.book ≡ book
+  pub empty : nothing.calls ≡ []
+  pub one : first ≡ record { tree = core.base.tree; front = nothing }
+  pub other : second ≡ record { tree = core.base.tree; front = nothing }
+
+-- the views that were opened, as one names them
+abbrev pub named_by : Opening → Views
+named_by o = record { book = o.book; base = o.core.state.base.tree }
+
+-- Why a core in this state has no views: a transaction is live; or none is, and there was no memory.
+abbrev pub IsRefused : State → Cause → Type 0
+IsRefused s (FaultCause fault) = (fault ≡ Live) × SomeIsLive s
+IsRefused s (ViewCause fault) = (fault ≡ Memory) × NoneIsLive s

@@ -1,0 +1,95 @@
+-- What is published, and what the writer of the views was given.
+use Rattle.std.specs.Prelude.{◌≡◌, ◌⊎◌, ℕ, List, [], ◌∷◌, ◌++◌, drop, fold, refl, Option, Some, None, Result, OnOk, OnErr}
+use mathlib.Core.List.{IsPrefix}
+use Rattle.std.specs.Coded.{Coded, code_by, coded×, coded_list, coded_option}
+use Rattle.logbook.specs.Pages.{Book}
+use Rattle.ft_base.specs.declared.memory.Memory.{Memory}
+use Rattle.ft_cells.specs.Plain.{PlainTree}
+use Rattle.ft_posix.specs.declared.stamped.StampedCall.{StampedCall}
+use Rattle.ft_posix.specs.contracts.stamped.StampedCall as stamped
+use Rattle.ft_core.specs.declared.fault.Fault.{Fault}
+use Rattle.ft_core.specs.declared.fault.Fault.TheVariants.{Memory as MemoryFault, NoViews}
+use Rattle.ft_core.specs.States.{State, StoredState, coded_stored}
+use Rattle.ft_book.specs.Names.{Views, Fronted, coded_calls}
+use Rattle.ft_view.specs.declared.view.Published.{Published}
+use Rattle.ft_view.specs.Shown.{Shown, IsViewOf, advanced}
+use Rattle.ft_core.specs.declared.request.Event.{Event}
+use Rattle.ft_core.specs.contracts.request.Event as event
+use Rattle.ft_serial.specs.Commits.{GoneOver}
+use Rattle.ft_serial.specs.Serials.{committed_in}
+
+abbrev pub Calls : Type 0
+Calls = List StampedCall
+
+-- what a publisher has: the list that readers see, the list that the writer was given, the list of the book, a call that was taken from the core and not yet given to the writer, and what was taken from the core
+pub record Publishing : Type 0 where
+  pub published : Calls
+  pub fed : Calls
+  pub told : Calls
+  pub held : Option StampedCall
+  pub commits : GoneOver
+
+-- as a list
+abbrev pub listed : Option StampedCall → Calls
+listed None = []
+listed (Some call) = call ∷ []
+
+abbrev pub step : Shown → Published → Shown
+step v p = advanced v p.call p.front
+
+-- what readers take once what is pending is shown
+abbrev pub ahead : Shown → ℕ → List Published → Shown
+ahead shown behind log = fold step shown (drop behind log)
+
+-- What is pending may be shown: it makes a view of these.
+pub record IsPublishable (opened : Views) (shown : Shown) (behind : ℕ) (log : List Published) : Type 0 where
+  pub next : IsViewOf opened (ahead shown behind log)
+
+-- The view with what was pending is shown, and nothing is pending; or nothing has changed.
+pub record IsPublished (shown : Shown) (behind : ℕ) (log : List Published) (shown' : Shown) (behind' : ℕ) (log' : List Published) (result : Result (Unit {0}) Memory) : Type 0 where
+  pub ok : OnOk result ((shown' ≡ ahead shown behind log) × (drop behind' log' ≡ []))
+  pub err : OnErr result ((shown' ≡ shown) × (drop behind' log' ≡ drop behind log))
+
+-- What is shown is a view of these, and so it is with what is pending, which makes it the list that the writer was given; the book has the same list, or the call too that is held; and all that was taken from the core was given or is held, and has committed there.
+pub record IsPublishing (opened : Views) (book : Book) (shown : Shown) (behind : ℕ) (log : List Published) (fed told : Fronted) (held : Option StampedCall) (commits : GoneOver) : Type 0 where
+  pub of_book : book ≡ opened.book
+  pub fed_of : fed.book ≡ opened.book
+  pub told_of : told.book ≡ opened.book
+  pub view : IsViewOf opened shown
+  pub next : IsViewOf opened (ahead shown behind log)
+  pub pending : (ahead shown behind log).front.calls ≡ fed.calls
+  pub shorter : IsPrefix shown.front.calls fed.calls
+  pub more : (told.calls ≡ fed.calls) ⊎ (told.calls ≡ fed.calls ++ listed held)
+  pub given : commits.given ≡ fed.calls ++ listed held
+  pub stands : IsPrefix commits.given (committed_in commits.events)
+
+pub record Backed : Type 0 where
+  pub core : StoredState
+  pub published : Option Calls
+
+abbrev pub published_in : Option Publishing → Option Calls
+published_in None = None
+published_in (Some p) = Some p.published
+
+-- The views start from the core's base, and what was gone over of its events is a beginning of them.
+pub record IsPublisherOf (start : PlainTree) (core : State) (p : Publishing) : Type 0 where
+  pub base : core.base.tree ≡ start
+  pub passed : IsPrefix p.commits.events core.events
+
+abbrev pub ArePublished : PlainTree → State → Option Publishing → Type 0
+ArePublished start core None = Unit {0}
+ArePublished start core (Some p) = IsPublisherOf start core p
+
+-- why nothing was published
+abbrev pub fault_of_publish : Option Calls → Fault
+fault_of_publish None = NoViews
+fault_of_publish (Some calls) = MemoryFault
+
+abbrev pub coded_gone_over : Coded GoneOver
+coded_gone_over = code_by (List Event × Calls) (coded× (coded_list event.the_row.coded) coded_calls) (λ g. (g.events, g.given)) (λ p. record { events = p.0; given = p.1 }) (λ _. refl)
+
+abbrev pub coded_publishing : Coded Publishing
+coded_publishing = code_by (Calls × (Calls × (Calls × (Option StampedCall × GoneOver)))) (coded× coded_calls (coded× coded_calls (coded× coded_calls (coded× (coded_option stamped.the_row.coded) coded_gone_over)))) (λ l. (l.published, (l.fed, (l.told, (l.held, l.commits))))) (λ p. record { published = p.0; fed = p.1.0; told = p.1.1.0; held = p.1.1.1.0; commits = p.1.1.1.1 }) (λ _. refl)
+
+abbrev pub coded_backed : Coded Backed
+coded_backed = code_by (StoredState × Option Calls) (coded× coded_stored (coded_option coded_calls)) (λ b. (b.core, b.published)) (λ p. record { core = p.0; published = p.1 }) (λ _. refl)

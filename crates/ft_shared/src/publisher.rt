@@ -1,0 +1,238 @@
+// What publishes the committed calls of a core.
+ghost use Rattle.std.specs.Prelude.{◌≡◌, ◌++◌, ◌∷◌, [], length, None, MatchBool, IfOk, IsSome, OnOk, OnErr};
+ghost use mathlib.Core.List.{IsPrefix};
+ghost use Rattle.ft_serial.specs.Serials.{committed_calls, committed_in};
+ghost use Rattle.ft_shared.specs.Publishing.{IsPublishable, IsPublished, listed};
+
+use core::mem::replace_with;
+use ft_base::Memory;
+use ft_book::{Book, Front, Naming};
+use ft_calls::StampedCall;
+use ft_core::Core;
+use ft_serial::Commits;
+use ft_view::{Inner, Published, Receipt, Shows, View, ViewFault, Writing};
+use std::alloc::Global;
+use std::marker::Model;
+use std::sync::Wait;
+
+/// The most readers of a core's views at one time.
+pub const MOST_READERS: usize = 64;
+
+/// What publishes the committed calls of a core. It is not `Drop`: end it by `end`.
+pub(crate) struct Publisher<J: Naming> {
+    book: Book,
+    writer: Writing<J>,
+    // Which committed calls were taken from the core.
+    commits: Commits,
+    // The list that the writer was given.
+    fed: Front,
+    // The list that the book has: the same, or one call more, where there was no memory to give it.
+    told: Front,
+    // A call that was taken from the core, and not yet given to the writer.
+    held: Option<StampedCall>,
+}
+
+impl<J: Naming> Model for Publisher<J> {
+    ghost use Rattle.ft_shared.specs.Publishing.{Publishing, coded_publishing, IsPublishing};
+
+    ghost Value = { Publishing };
+
+    ghost coded = { coded_publishing };
+
+    ghost view = { λ a. record { published = a.writer.desk.shown.value.front.calls; fed = a.fed.calls; told = a.told.calls; held = a.held; commits = a.commits } };
+
+    ghost invariant = { λ a. IsPublishing J.opened a.book a.writer.desk.shown.value a.writer.behind a.writer.log.items a.fed a.told a.held a.commits };
+}
+
+/// What a publisher is made of: a book, the front that has seen nothing of it, and two equal views
+/// of the base.
+#[derive(Drop)]
+pub(crate) struct Blank {
+    pub(crate) book: Book,
+    pub(crate) nothing: Front,
+    pub(crate) first: View,
+    pub(crate) second: View,
+}
+
+impl<J: Naming> Publisher<J> {
+    /// Nothing is published.
+    pub(crate) fn new(alloc: Global, blank: Blank) -> Result<Publisher<J>, Memory>
+        requires book { (blank.book ≡ J.opened.book) × (blank.nothing.book ≡ J.opened.book) }
+        requires nothing { blank.nothing.calls ≡ [] }
+        requires first { blank.first ≡ record { tree = J.opened.base; front = blank.nothing } }
+        requires second { blank.second ≡ record { tree = J.opened.base; front = blank.nothing } }
+        ensures published { IfOk result (λ publisher. publisher.published ≡ []) }
+        ensures passed { IfOk result (λ publisher. publisher.commits.events ≡ []) }
+    {
+        let Blank {
+            book,
+            nothing,
+            first,
+            second,
+        } = blank;
+        match Writing::new(alloc, first, second, MOST_READERS) {
+            Ok(writer) => Ok(Publisher {
+                book,
+                writer,
+                commits: Commits::new(alloc),
+                fed: nothing.again(),
+                told: nothing,
+                held: None,
+            }),
+            Err(_) => Err(Memory),
+        }
+    }
+
+    /// What looks at the views. Refuses NoReader.
+    pub(crate) fn reader(&self) -> Result<Inner<J>, ViewFault> {
+        self.writer
+            .factory()
+            .reader()
+            .map_err(|_| ViewFault::NoReader)
+    }
+
+    /// What is published had committed when the core was last gone over. It does nothing.
+    pub(crate) fn stands(&self)
+        ensures { IsPrefix self.now.published (committed_in self.now.commits.events) }
+    {
+        let _ = &self.writer;
+    }
+
+    /// Publishes the whole committed part of the core, and answers how many calls that has, with
+    /// the receipt of it. After want of memory readers see what they saw.
+    pub(crate) fn publish<R: Wait>(
+        &mut self,
+        rt: &R,
+        core: &Core,
+    ) -> Result<(u64, Receipt<J>), Memory>
+        requires { IsPrefix self.old.commits.events core.now.state.events }
+        ensures passed { IsPrefix self.new.commits.events core.now.state.events }
+        ensures whole { OnOk result (self.new.published ≡ committed_calls core.now.state) }
+        ensures count { IfOk result (λ told. told.0 ≡ length (committed_calls core.now.state)) }
+        ensures receipt { IfOk result (λ told. told.1 ≡ committed_calls core.now.state) }
+        ensures same { OnErr result (self.new.published ≡ self.old.published) }
+    {
+        self.feed(core)?;
+        self.show(rt)?;
+        Ok((self.fed.len(), Receipt::new(self.fed.again())))
+    }
+
+    /// Gives the writer all committed calls that it has not got.
+    fn feed(&mut self, core: &Core) -> Result<(), Memory>
+        requires { IsPrefix self.old.commits.events core.now.state.events }
+        ensures passed { IsPrefix self.new.commits.events core.now.state.events }
+        ensures published { self.new.published ≡ self.old.published }
+        ensures all { OnOk result (self.new.fed ≡ committed_calls core.now.state) }
+    {
+        self.give()?;
+        while self.take_next(core)? {
+            self.give()?;
+        }
+        Ok(())
+    }
+
+    /// Takes the next of the committed calls from the core, and answers whether there is one.
+    fn take_next(&mut self, core: &Core) -> Result<bool, Memory>
+        requires passed { IsPrefix self.old.commits.events core.now.state.events }
+        requires nothing { self.old.held ≡ None }
+        ensures passed { IsPrefix self.new.commits.events core.now.state.events }
+        ensures published { self.new.published ≡ self.old.published }
+        ensures taken { OnOk result (self.new.commits.given ≡ self.old.commits.given ++ listed self.new.held) }
+        ensures first { IsPrefix self.new.commits.given (committed_calls core.now.state) }
+        ensures more { IfOk result (λ more. MatchBool more (IsSome self.new.held) (self.new.fed ≡ committed_calls core.now.state)) }
+    {
+        self.held = self.commits.next(core)?;
+        Ok(self.held.is_some())
+    }
+}
+
+impl<J: Naming> Publisher<J> {
+    /// Gives the writer the call that is held, where one is. After want of memory it is held still.
+    fn give(&mut self) -> Result<(), Memory>
+        ensures others { (self.new.published ≡ self.old.published) × (self.new.commits ≡ self.old.commits) }
+        ensures given { OnOk result (self.new.held ≡ None) }
+    {
+        self.tell()?;
+        self.append()
+    }
+
+    /// Tells the book the call that is held, where it has not been told of it.
+    fn tell(&mut self) -> Result<(), Memory>
+        ensures others { (self.new.published ≡ self.old.published) × (self.new.fed ≡ self.old.fed) × (self.new.held ≡ self.old.held) × (self.new.commits ≡ self.old.commits) }
+        ensures told { OnOk result (self.new.told ≡ self.old.fed ++ listed self.old.held) }
+    {
+        let Some(call) = &self.held else {
+            return Ok(());
+        };
+        if self.told.len() > self.fed.len() {
+            return Ok(());
+        }
+        // The book has gone on without this publisher only where another one had it, and none has.
+        let Some(told) = self.told.with(&self.book, call) else {
+            return Err(Memory);
+        };
+        self.told = told;
+        Ok(())
+    }
+
+    /// Gives the writer the call that is held, of which the book was told.
+    fn append(&mut self) -> Result<(), Memory>
+        requires { self.old.told ≡ self.old.fed ++ listed self.old.held }
+        ensures others { (self.new.published ≡ self.old.published) × (self.new.commits ≡ self.old.commits) }
+        ensures fed { OnOk result ((self.new.fed ≡ self.old.fed ++ listed self.old.held) × (self.new.held ≡ None)) }
+        ensures same { OnErr result ((self.new.fed ≡ self.old.fed) × (self.new.held ≡ self.old.held)) }
+    {
+        let Some(call) = self.held.take() else {
+            return Ok(());
+        };
+        let front = self.told.again();
+        match self.writer.append(Published { call, front }) {
+            Ok(()) => {
+                self.fed = self.told.again();
+                Ok(())
+            }
+            Err(Published { call, front: _ }) => {
+                self.held = Some(call);
+                Err(Memory)
+            }
+        }
+    }
+
+    /// Shows readers what the writer was given. It waits for those that read the other copy.
+    fn show<R: Wait>(&mut self, rt: &R) -> Result<(), Memory>
+        ensures others { (self.new.fed ≡ self.old.fed) × (self.new.commits ≡ self.old.commits) }
+        ensures shown { OnOk result (self.new.published ≡ self.old.fed) }
+        ensures same { OnErr result (self.new.published ≡ self.old.published) }
+    {
+        replace_with(
+            &mut self.writer,
+            rt,
+            |writer: Writing<J>, rt: &R| -> (Writing<J>, Result<(), Memory>)
+                requires { IsPublishable J.opened writer.desk.shown.value writer.behind writer.log.items }
+                ensures { IsPublished writer.desk.shown.value writer.behind writer.log.items result.0.desk.shown.value result.0.behind result.0.log.items result.1 }
+            { shown(writer, rt) },
+        )
+    }
+
+    /// Ends the views. It waits for those that read.
+    pub(crate) fn end<R: Wait>(self, rt: &R) {
+        let Publisher {
+            book: _,
+            writer,
+            commits: _,
+            fed: _,
+            told: _,
+            held: _,
+        } = self;
+        drop(writer.take(rt));
+    }
+}
+
+/// Shows what is pending.
+fn shown<J: Naming, R: Wait>(writer: Writing<J>, rt: &R) -> (Writing<J>, Result<(), Memory>)
+    requires { IsPublishable J.opened writer.desk.shown.value writer.behind writer.log.items }
+    ensures { IsPublished writer.desk.shown.value writer.behind writer.log.items result.0.desk.shown.value result.0.behind result.0.log.items result.1 }
+{
+    let (writer, shown) = writer.publish_as::<Shows<J>, R>(rt);
+    (writer, shown.map_err(|_| Memory))
+}

@@ -1,0 +1,85 @@
+// What is counted.
+ghost use Rattle.std.specs.Prelude.{◌≡◌};
+ghost use Rattle.ft_shared.specs.Opening.{named_by};
+
+use crate::counts::Counts;
+use anyhow::{Result, bail};
+use ft_calls::Call;
+use ft_path::FilePath;
+use ft_shared::{Opened, Shared};
+use ft_view::{Naming, Reader};
+use std::alloc::Global;
+use std::sync::Wait;
+
+/// Does all of it, and answers how many calls are published then.
+pub fn work<J: Naming, R: Wait>(
+    rt: &R,
+    alloc: Global,
+    counts: Counts,
+    opened: Opened,
+) -> Result<u64>
+    requires { named_by opened ≡ J.opened }
+{
+    let Ok((shared, mut reader)) = opened.named::<J, R>(rt) else {
+        bail!("the views have no name");
+    };
+    let told = work_through(rt, alloc, counts, &shared, &mut reader);
+    shared.into_core(rt);
+    told
+}
+
+fn work_through<J: Naming, R: Wait>(
+    rt: &R,
+    alloc: Global,
+    counts: Counts,
+    shared: &Shared<J>,
+    reader: &mut Reader<J>,
+) -> Result<u64> {
+    make(rt, alloc, counts, shared)?;
+    let path = FilePath::new(alloc, b"/0".as_slice())?;
+    let published = read(reader, counts.reads, &path)?;
+    ask(rt, counts.asks, &path, shared)?;
+    Ok(published)
+}
+
+/// Makes the directories, and publishes them.
+fn make<J: Naming, R: Wait>(
+    rt: &R,
+    alloc: Global,
+    counts: Counts,
+    shared: &Shared<J>,
+) -> Result<()> {
+    for number in 0..counts.makes {
+        let text = format!(in alloc; "/{number}")?;
+        let path = FilePath::new(alloc, text.as_bytes())?;
+        let txn = shared.begin(rt)?;
+        let _ = shared.ask(rt, txn, Call::Mkdir { path })?;
+        shared.commit(rt, txn)?;
+        if counts.publishes_at(number + 1) {
+            shared.publish(rt)?;
+        }
+    }
+    Ok(())
+}
+
+/// Stats so many times, and answers how many calls the list has then.
+fn read<J: Naming>(reader: &mut Reader<J>, reads: u64, path: &FilePath) -> Result<u64> {
+    let mut published = 0;
+    for _ in 0..reads {
+        let (calls, _) = reader.stat(path)?;
+        published = calls;
+    }
+    Ok(published)
+}
+
+/// Asks for a stat so many times, in one transaction.
+fn ask<J: Naming, R: Wait>(rt: &R, asks: u64, path: &FilePath, shared: &Shared<J>) -> Result<()> {
+    let txn = shared.begin(rt)?;
+    for _ in 0..asks {
+        let call = Call::Stat {
+            path: path.try_clone()?,
+        };
+        let _ = shared.ask(rt, txn, call)?;
+    }
+    Ok(shared.commit(rt, txn)?)
+}
