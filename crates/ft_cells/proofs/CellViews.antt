@@ -1,4 +1,4 @@
--- What stands in a directory that is not stored, and a directory or file written as it was.
+-- What stands in a directory that is not stored, and what is set as it was.
 use Rattle.std.proofs.Common.{◌≡◌, ℕ, Bool, true, false, Result, Ok, Err, List, [], ◌∷◌, length, arith, Some, None, cond, unwrap_or, refl, sym, ap, eq-eqb, subst, IsSome, ◌∙◌, Ordering}
 use Rattle.std.specs.Prelude.{OnOk, IsOk}
 use Rattle.std.proofs.lemmas.Bool.{false≢true}
@@ -10,8 +10,7 @@ use Rattle.std.specs.Option.{option_flatten}
 use Rattle.std.specs.List.{filter_map}
 use Rattle.std.specs.FinMap.{FinMap, same_map, get, insert, empty, entries, get-empty, get-insert, len-empty, len-entries}
 use Rattle.std.proofs.lemmas.Map.Lookups.{exact_unsigned}
-use Rattle.ft_body.specs.Bytes.{BodyChange}
-use Rattle.ft_cells.specs.Cells.{Cells, FileCells, no_dir, no_file, dir_entry, dir_names, entry_of, names_of, bytes_of, put_file, filled}
+use Rattle.ft_cells.specs.Cells.{Cells, no_dir, dir_entry, dir_names, entry_of, names_of, filled}
 use Rattle.ft_cells.proofs.MapViews.{insert-same}
 
 no_items : {A : Type 0} (xs : List A) → 0 ≡ length xs → xs ≡ []
@@ -52,19 +51,3 @@ put-twice old mid new d x y (Err memory) is put place =
     let there : get mid d ≡ Some x =
     ap (λ m. get m d) is ∙ get-insert nat_cmp_total old d x d ∙ ap (λ b. cond b (Some x) (get old d)) (unsigned_tied d d ∙ eq-eqb d d refl) in
     absurd (false≢true (place (subst IsSome (sym there) refl)))
-
-abbrev pub change : List ℕ → List ℕ → BodyChange
-change before after = record { before = before; after = after }
-
--- what is stored of a file that is set
-get-put_file : (cells : Cells) (i : ℕ) (x : FileCells) → get (put_file cells i x).files i ≡ Some x
-get-put_file cells i x =
-    get-insert nat_cmp_total cells.files i x i ∙ ap (λ b. cond b (Some x) (get cells.files i)) (unsigned_tied i i ∙ eq-eqb i i refl)
-
--- the change of a stored file's bytes is that of the cells
-pub change-put : (cells now : Cells) (i : ℕ) (x y : FileCells) → cells ≡ now → Some x ≡ get cells.files i
-    → change x.bytes y.bytes ≡ change (bytes_of now i) (bytes_of (put_file cells i y) i)
-change-put cells now i x y same is =
-    let before : x.bytes ≡ bytes_of now i = ap (λ o. (unwrap_or o no_file).bytes) is ∙ ap (λ (c : Cells). bytes_of c i) same in
-    let after : y.bytes ≡ bytes_of (put_file cells i y) i = ap (λ o. (unwrap_or o no_file).bytes) (sym (get-put_file cells i y)) in
-    (λ j. change (before j) (after j))

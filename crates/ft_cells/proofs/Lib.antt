@@ -1,9 +1,6 @@
 pub mod Conjunction
 pub mod MapViews
 pub mod InOrder
-pub mod Places
 pub mod CellViews
-pub mod Clones
 pub mod Splits
 pub mod Gathered
-pub mod Opened

@@ -7,4 +7,3 @@ pub mod Looks
 pub mod Plain
 pub mod PlainCode
 pub mod Rows
-pub mod Openings

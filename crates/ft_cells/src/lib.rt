@@ -1,28 +1,21 @@
-//! The cells of a tree: what each is named and may hold, and how a directory, a file and the open
-//! file descriptions store theirs.
+//! The cells of a tree: what each is named and may hold.
 //!
 //! The rules are those of POSIX.1-2017, Base Definitions, 3 (Definitions: Directory, Directory
 //! Entry, Empty Directory, File, Link Count, Open File Description, Parent Directory). That
 //! directories, files and descriptors have numbers is a rule of this project.
 //!
-//! The definitions stand in `specs`, and the lemmas in `proofs` are there to be cited by the crate
-//! that keeps the tree.
+//! The definitions stand in `specs`, and the lemmas in `proofs` are there to be cited by the crates
+//! that store the cells and keep the tree.
 #![tactic(auto)]
 
 mod cell;
-mod descriptions;
-mod directory;
 mod entry;
-mod file;
 mod node;
 mod open_file;
 mod row;
 
 pub use cell::Cell;
-pub use descriptions::Descriptions;
-pub use directory::Directory;
 pub use entry::{Entry, EntryRef};
-pub use file::File;
 pub use node::{Found, Kind, Node, Spot};
 pub use open_file::{AccessMode, OpenFile};
 pub use row::TreeRow;

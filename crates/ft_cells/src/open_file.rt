@@ -1,9 +1,4 @@
 // Open file descriptions.
-ghost use Rattle.std.specs.Prelude.{◌≡◌};
-ghost use Rattle.ft_cells.specs.Cells.{is_open};
-
-use ft_base::Table;
-
 /// How a file is open (POSIX.1-2017, Base Definitions, fcntl.h: O_RDONLY, O_WRONLY and O_RDWR).
 #[derive(Clone, Copy, Debug, PartialEq, Eq)]
 pub enum AccessMode {
@@ -51,18 +46,4 @@ pub struct OpenFile {
     pub append: bool,
     /// The offset, in bytes, at which the next read or write is.
     pub offset: u64,
-}
-
-/// Whether some descriptor has a file open.
-pub(crate) fn is_open(opens: &Table<Option<OpenFile>>, file: u64) -> bool
-    ensures { result ≡ is_open opens.now file }
-{
-    for (_, place) in opens.iter() {
-        if let Some(open) = place {
-            if open.file == file {
-                return true;
-            }
-        }
-    }
-    false
 }

@@ -154,12 +154,18 @@ impl Journal {
         self.last_stamp + 1
     }
 
-    /// Makes the places of one more event, and of the one that ends or undoes it.
+    /// Makes the places of one more event, and of the one that ends or undoes it. Where they are
+    /// missing, an eighth of all is made besides, so that few stay free.
     pub(crate) fn reserve(&mut self) -> Result<(), Memory>
         ensures same { self.new ≡ record self.old { room = self.new.room } }
         ensures room { OnOk result (2 ≤ self.new.room) }
     {
-        self.events.reserve(self.spare + 2)?;
+        let wanted = self.spare + 2;
+        if wanted <= self.events.capacity() - self.events.len() {
+            return Ok(());
+        }
+        let more = self.events.capacity() / 8;
+        self.events.reserve_exact(wanted + more)?;
         Ok(())
     }
 

@@ -69,7 +69,7 @@ fn note_holders(
     ensures { OnOk result (AreNoted found.old found.new (is_holder_in_way (against asker.now.rule forest.now asker.now.txn) (option_copied holders.entry) mode)) }
 {
     match holders {
-        Some(holders) => note_list(found, forest, asker, holders.as_slice(), mode),
+        Some(holders) => note_list(found, forest, asker, holders.ahead(mode), mode),
         None => Ok(()),
     }
 }
@@ -169,7 +169,7 @@ pub(crate) fn survey_access(
                 return Ok(own.has(mode, LockKind::Held));
             }
         }
-        note_list(found, forest, asker, holders.as_slice(), mode)?;
+        note_list(found, forest, asker, holders.ahead(mode), mode)?;
     }
     note_beside(holdings, found, forest, asker, access)?;
     Ok(false)

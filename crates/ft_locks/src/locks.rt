@@ -20,7 +20,9 @@ use std::marker::Model;
 ///
 /// It is seen as the set of its locks in their order (`LockLine`), with the cells that were let go
 /// and the transactions that are open. To look at a cell takes the time to hash it; what is done to
-/// one transaction takes the time of its own locks, however many others there are.
+/// one transaction takes the time of its own locks, however many others there are, on the same
+/// cells too. Who asks to read a cell looks at none that came to read it after its last writer; who
+/// asks to write it looks at all that have locks on it.
 pub struct Locks {
     alloc: Global,
     holdings: Holdings,

@@ -20,14 +20,14 @@ use ft_base::Memory;
 use ft_body::SIZE_LIMIT;
 use ft_path::{FilePath, Name, Parts, PartsFault};
 use ft_posix::{Access, Edit, Edits, Stop};
-use ft_tree::{Cell, EntryRef, Node, OpenFile, ROOT, Reader, Spot, Tree, walk};
+use ft_tree::{Cell, Cursor, EntryRef, Node, OpenFile, ROOT, Reader, Spot, Tree, walk};
 use std::alloc::Global;
 use std::marker::Model;
 
 /// A tree that is looked at, and which of its cells were.
 #[derive(Drop)]
 pub struct Look<'t> {
-    tree: &'t Tree,
+    cursor: Cursor<'t>,
     touched: Touched,
 }
 
@@ -38,7 +38,7 @@ impl<'t> Model for Look<'t> {
 
     ghost coded = { coded_looking };
 
-    ghost view = { λ a. record { cells = a.tree.now; modes = a.touched } };
+    ghost view = { λ a. record { cells = a.cursor; modes = a.touched } };
 }
 
 impl<'t> Look<'t> {
@@ -47,7 +47,7 @@ impl<'t> Look<'t> {
         ensures { result ≡ record { cells = tree.entry.now; modes = finite.empty } }
     {
         Look {
-            tree,
+            cursor: Cursor::new(tree),
             touched: Touched::new(alloc),
         }
     }
@@ -57,7 +57,7 @@ impl<'t> Look<'t> {
         ensures { Finds self.old (look_at (Links file)) self.new result }
     {
         self.touched.read(Cell::Links(file))?;
-        Ok(self.tree.links(file))
+        Ok(self.cursor.links(file))
     }
 
     /// The open file description of a descriptor.
@@ -65,7 +65,7 @@ impl<'t> Look<'t> {
         ensures { Finds self.old (look_at (Fd fd)) self.new result }
     {
         self.touched.read(Cell::Fd(fd))?;
-        Ok(self.tree.open_file(fd))
+        Ok(self.cursor.tree().open_file(fd))
     }
 
     /// Whether a directory has no entry.
@@ -73,7 +73,7 @@ impl<'t> Look<'t> {
         ensures { Finds self.old (is_bare dir) self.new result }
     {
         self.touched.read(Cell::Names(dir))?;
-        Ok(self.tree.is_empty_dir(dir))
+        Ok(self.cursor.is_empty_dir(dir))
     }
 
     /// Notes that the names of a directory are looked at.
@@ -90,7 +90,7 @@ impl<'t> Look<'t> {
         ensures limit { IfOk result (λ size. size ≤ SIZE_LIMIT) }
     {
         self.touched.read(Cell::Bytes(file))?;
-        Ok(size_of(self.tree, file))
+        Ok(size_of(&self.cursor, file))
     }
 
     /// Where a path's components lead.
@@ -108,7 +108,7 @@ impl<'t> Look<'t> {
         ensures { Finds self.old (climb (stored_dirs self.old.cells) moved dir) self.new result }
     {
         let mut at = dir;
-        for _ in 0..self.tree.stored_dirs() {
+        for _ in 0..self.cursor.tree().stored_dirs() {
             if at == moved {
                 return Ok(true);
             }
@@ -126,11 +126,11 @@ impl<'t> Look<'t> {
         ensures within { AreWithin edits.now }
     {
         let Look {
-            tree: _,
+            cursor: _,
             mut touched,
         } = self;
         note_edits(&mut touched, edits)?;
-        Ok(touched.into_accesses())
+        touched.into_accesses()
     }
 }
 
@@ -149,21 +149,21 @@ impl<'t> Reader for Look<'t> {
 
     fn entry(&mut self, dir: u64, name: &Name) -> Result<Option<Node>, Memory> {
         self.touched.read_entry(EntryRef { dir, name })?;
-        Ok(self.tree.entry(dir, name))
+        Ok(self.cursor.entry(dir, name))
     }
 
     fn parent(&mut self, dir: u64) -> Result<Option<u64>, Memory> {
         self.touched.read(Cell::Parent(dir))?;
-        Ok(self.tree.parent(dir))
+        Ok(self.cursor.parent(dir))
     }
 }
 
 /// The size of a file, in bytes.
-fn size_of(tree: &Tree, file: u64) -> u64
-    ensures size { result ≡ length (bytes_of tree.now file) }
+fn size_of(cursor: &Cursor<'_>, file: u64) -> u64
+    ensures size { result ≡ length (bytes_of cursor.now file) }
     ensures limit { result ≤ SIZE_LIMIT }
 {
-    match tree.body(file) {
+    match cursor.body(file) {
         Some(body) => body.len(),
         None => 0,
     }

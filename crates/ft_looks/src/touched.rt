@@ -1,10 +1,12 @@
 // The cells that a call touches, as they are found out.
-ghost use Rattle.std.specs.Prelude.{◌≡◌, OnOk};
+ghost use Rattle.std.specs.Prelude.{◌≡◌, true, false, IfOk, OnOk, if◌then◌else◌};
 ghost use Rattle.std.specs.FinMap as finite;
 ghost use Rattle.ft_cells.specs.Entries.{entry_in};
+ghost use Rattle.ft_cells.specs.CellOrder.{same_cell};
 ghost use Rattle.ft_cells.specs.declared.cell.Cell.TheVariants.{Entry};
 ghost use Rattle.ft_posix.specs.declared.call.Mode.TheVariants.{Read as ReadMode, Write as WriteMode};
-ghost use Rattle.ft_posix.specs.Accesses.{listed, place_in, is_noted};
+ghost use Rattle.ft_posix.specs.Accesses.{listed, place_in, is_noted, AreInOrder};
+ghost use Rattle.ft_looks.specs.Notes.{with_notes, AreInOrderIf};
 
 use ft_base::Memory;
 use ft_posix::{Access, Mode};
@@ -13,29 +15,38 @@ use std::alloc::Global;
 use std::cmp::Ordering;
 use std::marker::Model;
 
+/// How many accesses are moved at most to put another in before them.
+const NEAR: usize = 8;
+
 /// The cells that a call reads and writes, each once: one that is read and then written is written.
 ///
-/// They stand in the order of cells. A call touches few, so that they are looked through from the
-/// first on. It reads before it writes, so that a read is never noted behind a write of the same
-/// cell.
+/// Most come in about the order of cells. So the accesses are kept in that order, and a cell is
+/// looked for at the end and then by halves. Where one belongs far before the end, the order is
+/// given up: from then on each is pushed, and they are sorted when all are known. So noting costs
+/// at most the logarithm of what was noted, in whatever order cells come; once the order is given
+/// up, a cell that is noted again takes room again. A call reads before it writes, so that a read
+/// is never noted behind a write of the same cell.
 #[derive(Drop)]
 pub(crate) struct Touched {
     list: Vec<Access>,
+    /// Whether the list has each cell once, in the order of cells.
+    is_in_order: bool,
 }
 
 impl Model for Touched {
     ghost use Rattle.std.specs.FinMap as finite;
     ghost use Rattle.ft_cells.specs.contracts.cell.Cell as cell;
     ghost use Rattle.ft_posix.specs.contracts.call.Mode as mode;
-    ghost use Rattle.ft_posix.specs.Accesses.{Modes, as_entries, AreInOrder};
+    ghost use Rattle.ft_posix.specs.Accesses.{Modes};
+    ghost use Rattle.ft_looks.specs.Notes.{with_notes, AreInOrderIf};
 
     ghost Value = { Modes };
 
     ghost coded = { finite.code cell.the_row.coded mode.the_row.coded };
 
-    ghost view = { λ a. finite.from_sorted (as_entries a.list.items) };
+    ghost view = { λ a. with_notes finite.empty a.list.items };
 
-    ghost invariant = { λ a. AreInOrder a.list.items };
+    ghost invariant = { λ a. AreInOrderIf a.is_in_order a.list.items };
 }
 
 impl Touched {
@@ -45,6 +56,7 @@ impl Touched {
     {
         Touched {
             list: Vec::new(alloc),
+            is_in_order: true,
         }
     }
 
@@ -76,75 +88,147 @@ impl Touched {
         self.note_entry(entry, Mode::Write)
     }
 
-    /// The accesses, in the order of their cells. Takes no memory.
-    pub(crate) fn into_accesses(self) -> Vec<Access>
-        ensures { result.items ≡ listed self }
+    /// The accesses, in the order of their cells. Takes memory only where that order was given up.
+    pub(crate) fn into_accesses(self) -> Result<Vec<Access>, Memory>
+        ensures { IfOk result (λ list. list.items ≡ listed self) }
     {
-        let Self { list } = self;
-        list
+        let Self {
+            mut list,
+            is_in_order,
+        } = self;
+        if is_in_order {
+            return Ok(list);
+        }
+        list.sort_by(|one, other| one.cell.cmp(&other.cell))?;
+        list.dedup_by(merge);
+        Ok(list)
     }
 
     /// Notes how a cell is touched.
     fn note(&mut self, cell: Cell, mode: Mode) -> Result<(), Memory>
         ensures { OnOk result (self.new ≡ finite.insert self.old cell mode) }
     {
+        if !self.is_in_order {
+            self.list.push(Access { cell, mode })?;
+            return Ok(());
+        }
         let (at, is_noted) = place_of(self.list.as_slice(), &cell);
         if is_noted {
             self.list[at].mode = mode;
             return Ok(());
         }
-        self.list.insert(at, Access { cell, mode })?;
-        Ok(())
+        put(
+            &mut self.list,
+            &mut self.is_in_order,
+            at,
+            Access { cell, mode },
+        )
     }
 
-    /// Notes how an entry is touched. Its name is copied only where it was not noted yet.
+    /// Notes how an entry is touched. While the order is kept, its name is copied only where it was
+    /// not noted yet.
     fn note_entry(&mut self, entry: EntryRef<'_>, mode: Mode) -> Result<(), Memory>
         ensures { OnOk result (self.new ≡ finite.insert self.old (Entry (entry_in entry.entry)) mode) }
     {
+        if !self.is_in_order {
+            let cell = Cell::Entry(entry.to_entry()?);
+            self.list.push(Access { cell, mode })?;
+            return Ok(());
+        }
         let (at, is_noted) = place_of_entry(self.list.as_slice(), entry);
         if is_noted {
             self.list[at].mode = mode;
             return Ok(());
         }
         let cell = Cell::Entry(entry.to_entry()?);
-        if at == self.list.len() {
-            // (most come behind all others, where nothing has to be moved for them)
-            self.list.push(Access { cell, mode })?;
-            return Ok(());
-        }
-        self.list.insert(at, Access { cell, mode })?;
-        Ok(())
+        put(
+            &mut self.list,
+            &mut self.is_in_order,
+            at,
+            Access { cell, mode },
+        )
     }
 }
 
-/// How many accesses stand before a cell's, and whether it has one.
+/// Whether an access is of the cell of the one kept before it, which then gets its mode.
+fn merge(later: &mut Access, kept: &mut Access) -> bool
+    ensures same { result ≡ same_cell later.old.cell kept.old.cell }
+    ensures kept { kept.new ≡ (if result then record { cell = kept.old.cell; mode = later.old.mode } else kept.old) }
+    ensures later { later.new ≡ later.old }
+{
+    let is_same = later.cell == kept.cell;
+    if is_same {
+        kept.mode = later.mode;
+    }
+    is_same
+}
+
+/// How many accesses stand before a cell's, and whether it has one: most come behind all others,
+/// which is tried first, and the place of another is found by halves.
 fn place_of(list: &[Access], cell: &Cell) -> (usize, bool)
+    requires { AreInOrder list.now }
     ensures place { result.0 ≡ place_in cell.now list.now }
     ensures noted { result.1 ≡ is_noted cell.now list.now }
 {
-    let mut at = 0;
-    for access in list {
-        match cell.cmp(&access.cell) {
-            Ordering::Less => return (at, false),
+    let mut from = 0;
+    let mut to = list.len();
+    let mut at = to.saturating_sub(1);
+    while from < to {
+        match cell.cmp(&list[at].cell) {
+            Ordering::Less => to = at,
             Ordering::Equal => return (at, true),
-            Ordering::Greater => at += 1,
+            Ordering::Greater => from = at + 1,
         }
+        at = from + (to - from) / 2;
     }
-    (at, false)
+    (from, false)
 }
 
 /// The same of an entry's cell.
 fn place_of_entry(list: &[Access], entry: EntryRef<'_>) -> (usize, bool)
+    requires { AreInOrder list.now }
     ensures place { result.0 ≡ place_in (Entry (entry_in entry.entry)) list.now }
     ensures noted { result.1 ≡ is_noted (Entry (entry_in entry.entry)) list.now }
 {
-    let mut at = 0;
-    for access in list {
-        match access.cell.cmp_entry(entry) {
-            Ordering::Less => return (at, false),
+    let mut from = 0;
+    let mut to = list.len();
+    let mut at = to.saturating_sub(1);
+    while from < to {
+        match list[at].cell.cmp_entry(entry) {
+            Ordering::Less => to = at,
             Ordering::Equal => return (at, true),
-            Ordering::Greater => at += 1,
+            Ordering::Greater => from = at + 1,
         }
+        at = from + (to - from) / 2;
     }
-    (at, false)
+    (from, false)
+}
+
+/// Puts an access into a list in order that has none of its cell, where so many stand before it. If
+/// it belongs far before the end, it is pushed, and the order is given up.
+// (inline, since an access is large, and would be moved once more)
+#[inline(always)]
+fn put(
+    list: &mut Vec<Access>,
+    is_in_order: &mut bool,
+    at: usize,
+    access: Access,
+) -> Result<(), Memory>
+    requires said { is_in_order.old ≡ true }
+    requires order { AreInOrder list.old.items }
+    requires place { at ≡ place_in access.cell list.old.items }
+    requires missing { is_noted access.cell list.old.items ≡ false }
+    ensures order { AreInOrderIf is_in_order.new list.new.items }
+    ensures noted { OnOk result (with_notes finite.empty list.new.items ≡ finite.insert (with_notes finite.empty list.old.items) access.cell access.mode) }
+{
+    let behind = list.len() - at;
+    if behind == 0 {
+        list.push(access)?;
+    } else if behind <= NEAR {
+        list.insert(at, access)?;
+    } else {
+        list.push(access)?;
+        *is_in_order = false;
+    }
+    Ok(())
 }

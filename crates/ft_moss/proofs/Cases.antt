@@ -2,7 +2,7 @@
 use Rattle.std.proofs.Common.{◌≡◌, false, Option, Some, None, is_some, refl, sym, Result, Ok, Err}
 use Rattle.std.proofs.lemmas.Bool.{false≢true}
 use Rattle.std.specs.Option.{IfSome, IfNone}
-use Rattle.std.specs.Result.{OnOk, OnErr}
+use Rattle.std.specs.Result.{is_err, OnOk, OnErr}
 
 -- what holds anyway holds at an error
 pub on_any : {X E : Type 0} (r : Result X E) (P : Type 0) → P → OnErr r P
@@ -16,6 +16,10 @@ on_any_ok (Err e) P p = tt
 pub ok_then : {X E : Type 0} (r : Result X E) (P Q : Type 0) → (P → Q) → OnOk r P → OnOk r Q
 ok_then (Ok x) P Q f p = f p
 ok_then (Err e) P Q f p = tt
+
+pub ok_of : {X E : Type 0} (r : Result X E) (P : Type 0) → is_err r ≡ false → OnOk r P → P
+ok_of (Ok x) P e p = p
+ok_of (Err e) P is p = absurd (false≢true (sym is))
 
 pub err_then : {X E : Type 0} (r : Result X E) (P Q : Type 0) → (P → Q) → OnErr r P → OnErr r Q
 err_then (Ok x) P Q f p = tt

@@ -5,7 +5,7 @@ use Rattle.std.specs.Ordering.{nat_cmp, eq_by_cmp}
 use Rattle.std.specs.Cmp.{nat_cmp_total, nat_eq_equiv, eq_by_cmp_equiv, unsigned_tied, Equal-is}
 use Rattle.std.proofs.lemmas.List.{set_split, take-append-drop, append-nil}
 use Rattle.std.proofs.Math.Seq.{drop-cons}
-use Rattle.std.specs.List.{remove, find, position, position_or_len, list_any}
+use Rattle.std.specs.List.{find, position, position_or_len, list_any}
 use Rattle.std.proofs.lemmas.List.Folds.{find_at}
 use Rattle.std.proofs.lemmas.List.Quantifiers.{position-Some}
 use Rattle.std.proofs.lemmas.Option.{slice_get_past}
@@ -20,7 +20,7 @@ use Rattle.ft_moss.specs.Holders.{Owners, as_entries, marks_in, place_in, AreApa
 abbrev pub blank : Holding
 blank = record { owner = 0; marks = no_marks }
 
-abbrev ties : ℕ → ℕ → Bool
+abbrev pub ties : ℕ → ℕ → Bool
 ties = eq_by_cmp nat_cmp
 
 none_either : (b : Bool) (o : Option Marks) → cond b o o ≡ o
@@ -32,7 +32,7 @@ either_first true true x more apart = absurd (apart refl refl)
 either_first true false x more apart = refl
 either_first false b x more apart = refl
 
-tied_same : (a b : ℕ) → ties a b ≡ true → a ≡ b
+pub tied_same : (a b : ℕ) → ties a b ≡ true → a ≡ b
 tied_same a b e = finite.nat_cmp-IsAntisymmetric a b ((Equal-is (nat_cmp a b)).0 e)
 
 none_of : (b : Bool) (n : ℕ) → None ≡ cond b (Some n) None → b ≡ false
@@ -44,7 +44,7 @@ missed_head true h more e = absurd (false≢true (sym (ap is_some e)))
 missed_head false h more e = (refl, e)
 
 -- a first entry that leaves nothing: it is another's
-not_first : (b : Bool) (m : Marks) (more : Option Marks) → cond b (Some m) more ≡ None → (b ≡ false) × (more ≡ None)
+pub not_first : (b : Bool) (m : Marks) (more : Option Marks) → cond b (Some m) more ≡ None → (b ≡ false) × (more ≡ None)
 not_first true m more e = absurd (false≢true (sym (ap is_some e)))
 not_first false m more e = (refl, e)
 
@@ -152,13 +152,6 @@ module _ (m : Owners) (list : List Holding) (is : seen list ≡ m) where
         ∙ ap (cond (ties q y.owner) (Some y.marks)) (get-others q)
         ∙ sym (finite.get-insert nat_cmp_total (finite.remove m (get_or list i d).owner) y.owner y.marks q))
 
-    -- its place taken out
-    pub apart-remove : AreApart (remove list i)
-    apart-remove = here.apart
-
-    pub seen-remove : seen (remove list i) ≡ finite.remove m (get_or list i d).owner
-    seen-remove = same_owners _ _ (λ q. get-seen (remove list i) q ∙ get-others q)
-
   -- a place behind all others
   pub seen-push : (x : Holding) → marks_in list x.owner ≡ None → seen (list ++ x ∷ []) ≡ finite.insert m x.owner x.marks
   seen-push x none = same_owners _ _ (λ q. get-seen (list ++ x ∷ []) q
@@ -179,10 +172,6 @@ put_again m u x = same_owners _ _ (λ q.
     covered : (b : Bool) (q : ℕ) → ties q u ≡ b → cond (ties q u) (Some x) (finite.get (finite.remove m u) q) ≡ cond (ties q u) (Some x) (finite.get m q)
     covered true q e = ap (λ b. cond b (Some x) (finite.get (finite.remove m u) q)) e ∙ sym (ap (λ b. cond b (Some x) (finite.get m q)) e)
     covered false q e = ap (cond (ties q u) (Some x)) (finite.get-remove nat_cmp_total m u q ∙ ap (λ b. cond b None (finite.get m q)) e)
-
--- A list as the code reads it.
-abbrev pub read : (list ys : List Holding) (q : ℕ) (r : Option ℕ) → r ≡ place_in ys q → ys ≡ list → r ≡ place_in list q
-read list ys q r e same = e ∙ ap (λ l. place_in l q) same
 
 -- where a search finds no place, the owner has nothing
 pub none_there : (list : List Holding) (q : ℕ) → None ≡ place_in list q → marks_in list q ≡ None
@@ -211,12 +200,6 @@ none_at m list q is none = get-list m list is q ∙ none
 module _ (m : Owners) (list : List Holding) (is : seen list ≡ m) (apart : AreApart list) (i q : ℕ) (at : IsPlaceOf list i q) where
   pub got : (d : Holding) → finite.get m q ≡ Some (get_or list i d).marks
   got d = ap (finite.get m) (sym (at.owned d)) ∙ get-here m list is i d apart at.within
-
-  pub removed : AreApart (remove list i)
-  removed = (placed list i blank apart at.within).apart
-
-  pub seen-removed : seen (remove list i) ≡ finite.remove m q
-  seen-removed = seen-remove m list is i blank apart at.within ∙ ap (finite.remove m) (at.owned blank)
 
   own : (d y : Holding) → y.owner ≡ q → marks_in (others list i) y.owner ≡ None
   own d y same = ap (marks_in (others list i)) (same ∙ sym (at.owned d)) ∙ (placed list i d apart at.within).absent
@@ -262,19 +245,8 @@ remove_after m from to x apart = same_owners _ _ (λ u.
     ∙ either_first (ties u from) (ties u to) x (finite.get m u) (λ a b. apart (sym (tied_same u from a) ∙ tied_same u to b))
     ∙ sym (finite.get-insert nat_cmp_total (finite.remove m from) to x u ∙ ap (cond (ties u to) (Some x)) (finite.get-remove nat_cmp_total m from u)))
 
--- a search that finds no place
-pub nothing_found : (m : Owners) (list ys : List Holding) (q : ℕ) → seen list ≡ m → None ≡ place_in ys q → ys ≡ list → finite.get m q ≡ None
-nothing_found m list ys q is e same = none_at m list q is (none_there list q (read list ys q None e same))
-
 pub nothing_marked : (m : Owners) (q : ℕ) (marks : Marks) → finite.get m q ≡ None → m ≡ marked m q marks
 nothing_marked m q marks none = sym (ap (marked_at m q marks) none)
-
-not_there : {P : Type 0} (o : Option Marks) → o ≡ None → IsSome o → P
-not_there o none some = absurd (false≢true (sym (ap is_some none) ∙ some))
-
--- a search for an owner that is there finds it
-pub never_missing : {P : Type 0} (m : Owners) (list ys : List Holding) (q : ℕ) → seen list ≡ m → None ≡ place_in ys q → ys ≡ list → IsSome (finite.get m q) → P
-never_missing m list ys q is e same = not_there (finite.get m q) (nothing_found m list ys q is e same)
 
 pub turned : (b : Bool) {x : Bool} → not b ≡ x → b ≡ not x
 turned true e = ap not e
@@ -381,3 +353,72 @@ owner_passes p none (h ∷ more) apart u = by_owner (h.owner == u) refl (owner_p
     by_owner false e later =
         (λ j. e j && p (Some h.marks) || later u j)
         ∙ sym (ap (λ b. p (cond b (Some h.marks) (marks_in more u))) (ties_are ∙ e))
+
+-- A list whose last one goes.
+pub front_apart : (rest : List Holding) (h : Holding) → AreApart (rest ++ h ∷ []) → AreApart rest
+front_apart rest h apart = subst AreApart (append-nil rest) (apart-middle rest [] h apart).0
+
+module _ (m : Owners) (rest : List Holding) (h : Holding) (is : seen (rest ++ h ∷ []) ≡ m) (apart : AreApart (rest ++ h ∷ [])) where
+  last_none : marks_in rest h.owner ≡ None
+  last_none = ap (λ l. marks_in l h.owner) (sym (append-nil rest)) ∙ (apart-middle rest [] h apart).1
+
+  pushed : m ≡ finite.insert (seen rest) h.owner h.marks
+  pushed = sym is ∙ seen-push (seen rest) rest refl h last_none
+
+  pub last_had : finite.get m h.owner ≡ Some h.marks
+  last_had = ap (λ n. finite.get n h.owner) pushed ∙ finite.get-insert nat_cmp_total (seen rest) h.owner h.marks h.owner
+      ∙ ap (λ b. cond b (Some h.marks) (finite.get (seen rest) h.owner)) ((eq_by_cmp_equiv nat_cmp_total).refl h.owner)
+
+  pub last_taken : seen rest ≡ finite.remove m h.owner
+  last_taken = same_owners _ _ (λ q.
+      by_owner q (ties q h.owner) refl
+      ∙ sym (ap (cond (ties q h.owner) None) (ap (λ n. finite.get n q) pushed ∙ finite.get-insert nat_cmp_total (seen rest) h.owner h.marks q))
+      ∙ sym (finite.get-remove nat_cmp_total m h.owner q))
+    where
+      by_owner : (q : ℕ) (b : Bool) → ties q h.owner ≡ b → finite.get (seen rest) q ≡ cond (ties q h.owner) None (cond (ties q h.owner) (Some h.marks) (finite.get (seen rest) q))
+      by_owner q true e = get-seen rest q ∙ ap (marks_in rest) (tied_same q h.owner e) ∙ last_none ∙ sym (ap (λ b. cond b None (cond (ties q h.owner) (Some h.marks) (finite.get (seen rest) q))) e)
+      by_owner q false e = sym (ap (λ b. cond b None (cond b (Some h.marks) (finite.get (seen rest) q))) e)
+
+-- one that goes, and the last one that comes in its place
+pub refilled : (m : Owners) (q u : ℕ) (x : Marks) → finite.get m u ≡ Some x → (u ≡ q → ⊥) → finite.insert (finite.remove (finite.remove m u) q) u x ≡ finite.remove m q
+refilled m q u x had apart = same_owners _ _ (λ k.
+    finite.get-insert nat_cmp_total (finite.remove (finite.remove m u) q) u x k
+    ∙ ap (cond (ties k u) (Some x)) (finite.get-remove nat_cmp_total (finite.remove m u) q k ∙ ap (cond (ties k q) None) (finite.get-remove nat_cmp_total m u k))
+    ∙ by_owner k (ties k u) refl (ties k q) refl
+    ∙ sym (finite.get-remove nat_cmp_total m q k))
+  where
+    by_owner : (k : ℕ) (a : Bool) → ties k u ≡ a → (b : Bool) → ties k q ≡ b → cond (ties k u) (Some x) (cond (ties k q) None (cond (ties k u) None (finite.get m k))) ≡ cond (ties k q) None (finite.get m k)
+    by_owner k true e true f = absurd (apart (sym (tied_same k u e) ∙ tied_same k q f))
+    by_owner k true e false f =
+        ap (λ b. cond b (Some x) (cond (ties k q) None (cond (ties k u) None (finite.get m k)))) e
+        ∙ sym had ∙ ap (finite.get m) (sym (tied_same k u e)) ∙ sym (ap (λ b. cond b None (finite.get m k)) f)
+    by_owner k false e b f = ap (λ d. cond d (Some x) (cond (ties k q) None (cond d None (finite.get m k)))) e
+
+-- what a list as the code reads it tells
+pub place_read : (list ys : List Holding) (i q : ℕ) → IsPlaceOf ys i q → ys ≡ list → IsPlaceOf list i q
+place_read list ys i q at same = subst (λ l. IsPlaceOf l i q) same at
+
+pub absent_read : (list ys : List Holding) (q : ℕ) → marks_in ys q ≡ None → ys ≡ list → marks_in list q ≡ None
+absent_read list ys q none same = subst (λ l. marks_in l q ≡ None) same none
+
+-- an owner that the map does not have stands not in the list
+pub absent_in : (m : Owners) (list ys : List Holding) → seen list ≡ m → ys ≡ list → (q : ℕ) → finite.get m q ≡ None → marks_in ys q ≡ None
+absent_in m list ys is same q none = ap (λ l. marks_in l q) same ∙ sym (get-list m list is q) ∙ none
+
+pub none_is : (o : Option Marks) → is_some o ≡ false → o ≡ None
+none_is None e = refl
+none_is (Some x) e = absurd (false≢true (sym e))
+
+pub never_none : {P : Type 0} (o : Option Marks) → o ≡ None → IsSome o → P
+never_none o none some = absurd (false≢true (sym (ap is_some none) ∙ some))
+
+-- what is left when one goes
+pub gone_itself : (m : Owners) (u : ℕ) → finite.get (finite.remove m u) u ≡ None
+gone_itself m u = finite.get-remove nat_cmp_total m u u ∙ ap (λ b. cond b None (finite.get m u)) ((eq_by_cmp_equiv nat_cmp_total).refl u)
+
+pub there_still : (m : Owners) (q u : ℕ) → IsSome (finite.get m q) → (u ≡ q → ⊥) → IsSome (finite.get (finite.remove m u) q)
+there_still m q u some apart = by_owner (ties q u) refl
+  where
+    by_owner : (b : Bool) → ties q u ≡ b → is_some (finite.get (finite.remove m u) q) ≡ true
+    by_owner true e = absurd (apart (sym (tied_same q u e)))
+    by_owner false e = ap is_some (finite.get-remove nat_cmp_total m u q ∙ ap (λ b. cond b None (finite.get m q)) e) ∙ some

@@ -34,7 +34,7 @@ use Rattle.ft_base.specs.Chains.{Lists}
 use Rattle.ft_moss.specs.declared.line.LockLine.{LockLine}
 use Rattle.ft_moss.specs.Locks.{LockTable, has_lock, is_held, line_access, counts, IsInTheWay, AreBlockers}
 use Rattle.ft_moss.specs.Seen.{has_mark_of, has_line, table_of}
-use Rattle.ft_moss.specs.Holders.{marks_in, AreApart}
+use Rattle.ft_moss.specs.Holders.{Owners, marks_in, AreApart}
 use Rattle.ft_moss.specs.Cells.{Cells, Keyed, marks_at, holders_of, holders_under}
 use Rattle.ft_moss.specs.Blocking.{Found, Counted, against, is_in_way, way, is_listed_in_way, is_holder_in_way, is_entry_of, AreEntriesOf, beside, blocks}
 use Rattle.ft_moss.proofs.HolderLists.{blank, owner_passes}
@@ -92,6 +92,60 @@ module _ (old now : Found) (counted : Counted) (list : List Holding) (i : ℕ) (
 -- a list in which no owner stands twice, read one owner at a time
 pub listed_is : (counted : Counted) (list : List Holding) → AreApart list → (mode : Mode) (u : ℕ) → is_listed_in_way counted list mode u ≡ is_in_way counted u (marks_in list u) mode
 listed_is counted list apart mode u = owner_passes (λ o. is_in_way counted u o mode) refl list apart u
+
+-- of the locks that an owner has on a cell, those that count are among them
+fewer : (rule : Rule) (forest : Transactions) (txn u : ℕ) (m : Marks) (mode : Mode) → are_in_the_way m mode ≡ false → are_in_the_way (against rule forest txn u m) mode ≡ false
+fewer rule forest txn u m mode no_way = by_over (over_in forest u txn)
+  where
+    first : (a b : Bool) → (a || b) ≡ false → a ≡ false
+    first true b e = e
+    first false b e = refl
+
+    nothing_more : (a : Bool) → (a || false) ≡ a
+    nothing_more true = refl
+    nothing_more false = refl
+
+    held : (k : Mode) → are_in_the_way m k ≡ false → are_in_the_way (held_of m) k ≡ false
+    held ReadMode e = nothing_more m.write_held ∙ first m.write_held m.write_retained e
+    held WriteMode e = by_marks m.read_held m.read_retained m.write_held m.write_retained e
+      where
+        by_marks : (a b c d : Bool) → (a || b || c || d) ≡ false → (a || false || c || false) ≡ false
+        by_marks true b c d e = e
+        by_marks false true c d e = absurd (false≢true (sym e))
+        by_marks false false true d e = e
+        by_marks false false false d e = refl
+
+    none : (k : Mode) → are_in_the_way no_marks k ≡ false
+    none ReadMode = refl
+    none WriteMode = refl
+
+    by_rule : (b : Bool) → are_in_the_way (cond b (held_of m) no_marks) mode ≡ false
+    by_rule true = held mode no_way
+    by_rule false = none mode
+
+    by_over : (b : Bool) → are_in_the_way (cond b (cond (is_strict rule && not (u == txn)) (held_of m) no_marks) m) mode ≡ false
+    by_over true = by_rule (is_strict rule && not (u == txn))
+    by_over false = no_way
+
+-- Of a list of some of the owners of a cell, among them all whose locks conflict: it tells who is in the way.
+module _ (rule : Rule) (forest : Transactions) (txn : ℕ) (list : List Holding) (owners : Owners) (mode : Mode)
+    (all : (u : ℕ) (m : Marks) → finite.get owners u ≡ Some m → are_in_the_way m mode ≡ true → marks_in list u ≡ Some m)
+    (had : (u : ℕ) (m : Marks) → marks_in list u ≡ Some m → finite.get owners u ≡ Some m) (apart : AreApart list) where
+  abbrev those : Counted
+  those = against rule forest txn
+
+  pub ahead_is : (u : ℕ) → is_listed_in_way those list mode u ≡ is_in_way those u (finite.get owners u) mode
+  ahead_is u = listed_is those list apart mode u ∙ by_marks (finite.get owners u) refl (marks_in list u) refl
+    where
+      by_way : (m : Marks) → finite.get owners u ≡ Some m → (b : Bool) → are_in_the_way m mode ≡ b → (o : Option Marks) → marks_in list u ≡ o → is_in_way those u o mode ≡ are_in_the_way (those u m) mode
+      by_way m e true way o is = ap (λ k. is_in_way those u k mode) (sym is ∙ all u m e way)
+      by_way m e false way None is = sym (fewer rule forest txn u m mode way)
+      by_way m e false way (Some k) is = ap (λ k. is_in_way those u k mode) (sym (had u k is) ∙ e)
+
+      by_marks : (o : Option Marks) → finite.get owners u ≡ o → (k : Option Marks) → marks_in list u ≡ k → is_in_way those u k mode ≡ is_in_way those u o mode
+      by_marks None e None is = refl
+      by_marks None e (Some k) is = absurd (false≢true (ap is_some (sym e ∙ had u k is)))
+      by_marks (Some m) e k is = by_way m e (are_in_the_way m mode) refl k is
 
 -- What counts of one owner.
 

@@ -1,4 +1,6 @@
 pub mod HolderLists
+pub mod HolderPlaces
+pub mod HolderReaders
 pub mod Cases
 pub mod Paired
 pub mod CellViews

@@ -1,11 +1,13 @@
 -- Who has locks on one cell, and which.
-use Rattle.std.specs.Prelude.{◌≡◌, ℕ, List, [], ◌∷◌, map, ◌<◌, length, get_or, position, ◌==◌, Option, Some, None, unwrap_or}
+use Rattle.std.specs.Prelude.{◌≡◌, ℕ, List, [], ◌∷◌, map, ◌<◌, length, get_or, position, ◌==◌, Option, Some, None, unwrap_or, false, drop, ◌+◌, refl}
 use Rattle.std.specs.Ordering.{nat_cmp}
-use Rattle.std.specs.Coded.{Coded, coded_ℕ}
+use Rattle.std.specs.Coded.{Coded, code_by, coded×, coded_ℕ}
+use Rattle.std.specs.List.{list_any}
 use Rattle.std.specs.FinMap as finite
 use Rattle.ft_moss.specs.declared.marks.Marks.{Marks}
 use Rattle.ft_moss.specs.contracts.marks.Marks as marks
-use Rattle.ft_moss.specs.Marks.{no_marks, with_marks}
+use Rattle.ft_posix.specs.declared.call.Mode.TheVariants.{Read as ReadMode}
+use Rattle.ft_moss.specs.Marks.{no_marks, with_marks, are_in_the_way}
 use Rattle.ft_moss.specs.declared.holders.Holding.{Holding}
 
 -- the locks of each owner that has a place there
@@ -47,3 +49,34 @@ marked owners owner marks = marked_at owners owner marks (finite.get owners owne
 -- one owner's place is another's from then on, with these locks beside what that one had
 abbrev pub handed : Owners → ℕ → ℕ → Marks → Owners
 handed owners from to marks = finite.insert (finite.remove owners from) to (with_marks (unwrap_or (finite.get owners to) no_marks) marks)
+
+-- the places of owners in a list, by their numbers
+abbrev pub Places : Type 0
+Places = finite.FinMap nat_cmp ℕ
+
+-- what is kept of a list: the place of each owner, and the last place at which one may write
+pub record Indexed : Type 0 where
+  pub places : Places
+  pub last_writer : ℕ
+
+abbrev pub coded_indexed : Coded Indexed
+coded_indexed = code_by (Places × ℕ) (coded× (finite.code coded_ℕ coded_ℕ) coded_ℕ) (λ k. (k.places, k.last_writer)) (λ p. record { places = p.0; last_writer = p.1 }) (λ _. refl)
+
+-- each owner in the list has its place here, and nobody else one
+pub record AreFound (t : Places) (list : List Holding) : Type 0 where
+  pub there : (u i : ℕ) → finite.get t u ≡ Some i → IsPlaceOf list i u
+  pub missing : (u : ℕ) → finite.get t u ≡ None → marks_in list u ≡ None
+
+-- from this place on nobody in the list is in the way of one that reads
+abbrev pub ReadFrom : ℕ → List Holding → Type 0
+ReadFrom place list = list_any (λ h. are_in_the_way h.marks ReadMode) (drop place list) ≡ false
+
+-- it is kept of this list
+pub record IsIndexOf (x : Indexed) (list : List Holding) : Type 0 where
+  pub found : AreFound x.places list
+  pub readers : ReadFrom (x.last_writer + 1) list
+
+-- the same, if it is kept
+abbrev pub IsIndexIf : Option Indexed → List Holding → Type 0
+IsIndexIf None list = Unit {0}
+IsIndexIf (Some x) list = IsIndexOf x list

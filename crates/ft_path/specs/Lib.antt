@@ -2,3 +2,4 @@ pub mod Errno
 pub mod FilePath
 pub mod Front
 pub mod Name
+pub mod Kept

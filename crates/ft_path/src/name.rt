@@ -4,12 +4,13 @@ ghost use Rattle.std.proofs.Common.{ap};
 ghost use Rattle.std.specs.Ordering.{nat_cmp};
 ghost use Rattle.std.specs.Cmp.{partial_equiv_from_equiv};
 ghost use Rattle.std.specs.Cmp.Lexicographic.{slice_cmp, pointwise, bytes_decides, nat_list_cmp_total, nat_list_eq_equiv, texts_ties, texts_po};
+ghost use Rattle.ft_path.specs.Front.{front_of, AreBytes};
 ghost use Rattle.ft_path.specs.Name.{IsName, is_dot, is_dot_dot};
 
 use crate::SHORT_NAME;
-use crate::front::{FRONT, front_of};
+use crate::bytes::Bytes;
+use crate::front::FRONT;
 use ft_base::Memory;
-use smallvec::SmallVec;
 use std::alloc::{AllocError, Global};
 use std::cmp::Ordering;
 use std::hash::{Hash, Hasher};
@@ -17,36 +18,35 @@ use std::marker::Model;
 
 /// The name of a file in a directory: 1 to 255 bytes, none of them null or a slash.
 ///
-/// `.` and `..` are names. Names are ordered by their bytes. It keeps how these begin as a number,
+/// `.` and `..` are names. Names are ordered by their bytes: first by how these begin, as a number,
 /// by which most names are told apart at once.
 #[derive(Debug, Drop)]
 pub struct Name {
-    bytes: SmallVec<u8, SHORT_NAME>,
-    front: u64,
+    bytes: Bytes,
 }
 
 impl Model for Name {
     ghost use Rattle.std.specs.Prelude.{◌≡◌, ℕ, List};
     ghost use Rattle.ft_path.specs.Name.{IsName};
-    ghost use Rattle.ft_path.specs.Front.{front_of, AreBytes};
+    ghost use Rattle.ft_path.specs.Front.{AreBytes};
+    ghost use Rattle.ft_path.specs.Kept.{kept, Fits};
 
     ghost Value = { List ℕ };
 
-    ghost view = { λ a. a.bytes.items };
+    ghost view = { λ a. kept a.bytes };
 
-    ghost invariant = { λ a. IsName a.bytes.items × AreBytes a.bytes.items × (a.front ≡ front_of a.bytes.items) };
+    ghost invariant = { λ a. IsName (kept a.bytes) × AreBytes (kept a.bytes) × Fits a.bytes };
 }
 
 impl Name {
-    /// The name that has these bytes. Up to 22 of them take no memory.
+    /// The name that has these bytes. Up to `SHORT_NAME` of them take no memory.
     pub fn from_bytes(alloc: Global, bytes: &[u8]) -> Result<Name, Memory>
         requires { IsName bytes.now }
         ensures name { IfOk result (λ name. name ≡ bytes.now) }
         ensures short { length bytes.now ≤ SHORT_NAME → IsOk result }
     {
-        let front = front_of(bytes);
-        let bytes = SmallVec::from_slice(alloc, bytes)?;
-        Ok(Name { bytes, front })
+        let bytes = Bytes::copy_of(alloc, bytes)?;
+        Ok(Name { bytes })
     }
 
     /// Its bytes.
@@ -71,7 +71,7 @@ impl Name {
         self.as_bytes() == b"..".as_slice()
     }
 
-    /// Another name of the same bytes. Up to 22 of them take no memory.
+    /// Another name of the same bytes. Up to `SHORT_NAME` of them take no memory.
     pub fn try_clone(&self) -> Result<Name, Memory>
         ensures name { IfOk result (λ name. name ≡ self.now) }
         ensures short { length self.now ≤ SHORT_NAME → IsOk result }
@@ -83,18 +83,24 @@ impl Name {
     fn is_front(&self) -> bool
         ensures { IsTrue result ↔ (length self.now ≤ 8) }
     {
-        self.bytes.len() <= FRONT
+        self.as_bytes().len() <= FRONT
+    }
+
+    /// How it begins, as a number.
+    fn front(&self) -> u64
+        ensures value { result ≡ front_of self.now }
+        ensures bytes { AreBytes self.now }
+        ensures valid { IsName self.now }
+    {
+        self.bytes.front()
     }
 
     fn copied(&self) -> Result<Name, AllocError>
         ensures name { IfOk result (λ name. name ≡ self.now) }
         ensures short { length self.now ≤ SHORT_NAME → IsOk result }
     {
-        let bytes = SmallVec::from_slice(*self.bytes.allocator(), self.as_bytes())?;
-        Ok(Name {
-            bytes,
-            front: self.front,
-        })
+        let bytes = self.bytes.copied()?;
+        Ok(Name { bytes })
     }
 }
 
@@ -150,7 +156,7 @@ impl Ord for Name {
     ghost matches_eq = { texts_ties };
 
     fn cmp(&self, other: &Name) -> Ordering {
-        match self.front.cmp(&other.front) {
+        match self.front().cmp(&other.front()) {
             Ordering::Equal if self.is_front() && other.is_front() => Ordering::Equal,
             Ordering::Equal => self.as_bytes().cmp(other.as_bytes()),
             order => order,

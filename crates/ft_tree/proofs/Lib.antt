@@ -5,3 +5,4 @@ pub mod Swept
 pub mod Spared
 pub mod SweptTidy
 pub mod Sweeps
+pub mod Changes

@@ -7,11 +7,13 @@
 //! and the root number 1, are rules of this project.
 #![tactic(auto)]
 
+mod cursor;
 mod keeps;
 mod reader;
 mod rows;
 mod tree;
 
+pub use cursor::Cursor;
 pub use ft_cells::{AccessMode, Cell, Entry, EntryRef, Found, Kind, Node, OpenFile, Spot, TreeRow};
 pub use keeps::Keeps;
 pub use reader::{Reader, walk};

@@ -6,18 +6,15 @@ ghost use Rattle.ft_tree.specs.Tidy.{dirs_from, edges_from, files_from, opens_fr
 
 use crate::tree::ROOT;
 use ft_base::{Memory, Table};
-use ft_cells::{Descriptions, Directory, File, OpenFile, TreeRow};
+use ft_cells::{OpenFile, TreeRow};
+use ft_inodes::{Descriptions, Inodes};
 use std::alloc::Global;
 
 /// Puts the directories that are there behind the rows.
-pub(crate) fn push_dirs(
-    alloc: Global,
-    rows: &mut Vec<TreeRow>,
-    directories: &Table<Directory>,
-) -> Result<(), Memory>
-    ensures { OnOk result (rows.new.items ≡ rows.old.items ++ dir_rows (dirs_from (finite.entries directories.now))) }
+pub(crate) fn push_dirs(rows: &mut Vec<TreeRow>, inodes: &Inodes) -> Result<(), Memory>
+    ensures { OnOk result (rows.new.items ≡ rows.old.items ++ dir_rows (dirs_from (finite.entries inodes.now.directories))) }
 {
-    for (number, directory) in directories.sorted(alloc)? {
+    for (number, directory) in inodes.directories() {
         if number == ROOT || directory.parent().is_some() {
             rows.push(TreeRow::Dir { number })?;
         }
@@ -26,14 +23,10 @@ pub(crate) fn push_dirs(
 }
 
 /// Puts the entries of all directories behind the rows.
-pub(crate) fn push_edges(
-    alloc: Global,
-    rows: &mut Vec<TreeRow>,
-    directories: &Table<Directory>,
-) -> Result<(), Memory>
-    ensures { OnOk result (rows.new.items ≡ rows.old.items ++ edge_rows (edges_from (finite.entries directories.now))) }
+pub(crate) fn push_edges(rows: &mut Vec<TreeRow>, inodes: &Inodes) -> Result<(), Memory>
+    ensures { OnOk result (rows.new.items ≡ rows.old.items ++ edge_rows (edges_from (finite.entries inodes.now.directories))) }
 {
-    for (number, directory) in directories.sorted(alloc)? {
+    for (number, directory) in inodes.directories() {
         directory.push_edges(number, rows)?;
     }
     Ok(())
@@ -41,14 +34,13 @@ pub(crate) fn push_edges(
 
 /// Puts the files that are there behind the rows.
 pub(crate) fn push_files(
-    alloc: Global,
     rows: &mut Vec<TreeRow>,
-    files: &Table<File>,
+    inodes: &Inodes,
     opens: &Descriptions,
 ) -> Result<(), Memory>
-    ensures { OnOk result (rows.new.items ≡ rows.old.items ++ file_rows (files_from opens.now (finite.entries files.now))) }
+    ensures { OnOk result (rows.new.items ≡ rows.old.items ++ file_rows (files_from opens.now (finite.entries inodes.now.files))) }
 {
-    for (number, file) in files.sorted(alloc)? {
+    for (number, file) in inodes.files() {
         if file.links() > 0 || opens.is_open(number) {
             let size = file.body().len();
             let bytes = file.body().read_at(0, size)?;

@@ -1,6 +1,6 @@
 // A tree by its cells.
 ghost use Rattle.std.specs.Prelude.{◌≡◌, ◌↔◌, ◌<◌, ◌≤◌, ◌+◌, ◌-◌, ◌^◌, ℕ, [], length, IsTrue, IsOk, IfOk, OnOk, OnErr, Option};
-ghost use Rattle.std.specs.Option.{option_copied};
+ghost use Rattle.std.specs.Option.{option_copied, option_map};
 ghost use Rattle.std.specs.FinMap as map;
 ghost use Rattle.ft_cells.specs.Nodes.{with_kinds};
 ghost use Rattle.ft_cells.specs.Looks.{answer};
@@ -17,17 +17,16 @@ ghost use Rattle.ft_tree.specs.Sound.{AreSoundCells, IsFree};
 ghost use Rattle.std.specs.FinSet as set;
 ghost use Rattle.ft_tree.specs.Sweep.{is_useless, is_spare, one_if, at_place, drop_spare, swept_at, dropped_at, places_in, IsSwept, IsSweptClean, IsAccounted, HasNoneToDrop};
 
+use crate::cursor::Cursor;
 use crate::keeps::Keeps;
-use crate::reader::{Reader, walk};
+use crate::reader::walk;
 use crate::rows::{push_dirs, push_edges, push_files, push_opens};
-use ft_base::{Memory, Table};
+use ft_base::Memory;
 use ft_body::{Body, BodyUndo};
-use ft_cells::{
-    Cell, Descriptions, Directory, Entry, File, Found, Kind, Node, OpenFile, Spot, TreeRow,
-};
+use ft_cells::{Cell, Entry, Found, Kind, Node, OpenFile, Spot, TreeRow};
+use ft_inodes::{Descriptions, Directory, File, Hint, Inodes};
 use ft_path::{Errno, Name, Parts};
 use std::alloc::Global;
-use std::convert::Infallible;
 use std::marker::Model;
 
 /// The number of the root directory. Every walk begins there.
@@ -43,18 +42,19 @@ pub const ROOT: u64 = 1;
 /// with.
 pub struct Tree {
     alloc: Global,
-    directories: Table<Directory>,
-    files: Table<File>,
+    inodes: Inodes,
     opens: Descriptions,
+    /// Where the directory or the file stands that was changed last.
+    near: Hint,
 }
 
 impl Drop for Tree {
     fn drop(self) {
         let Tree {
             alloc: _,
-            directories: _,
-            files: _,
+            inodes: _,
             opens: _,
+            near: _,
         } = self;
     }
 }
@@ -66,7 +66,7 @@ impl Model for Tree {
 
     ghost coded = { coded_cells };
 
-    ghost view = { λ a. record { directories = a.directories; files = a.files; opens = a.opens } };
+    ghost view = { λ a. record { directories = a.inodes.directories; files = a.inodes.files; opens = a.opens } };
 }
 
 impl Tree {
@@ -77,13 +77,13 @@ impl Tree {
         ensures sound { IfOk result (λ tree. AreSoundCells tree) }
         ensures free { IfOk result (λ tree. (k : ℕ) → 2 ≤ k → IsFree tree k) }
     {
-        let mut directories = Table::new(alloc);
-        directories.insert(ROOT, Directory::new(alloc, None))?;
+        let mut inodes = Inodes::new(alloc);
+        let near = inodes.add_directory(ROOT, Directory::new(alloc, None))?;
         Ok(Tree {
             alloc,
-            directories,
-            files: Table::new(alloc),
+            inodes,
             opens: Descriptions::new(alloc),
+            near,
         })
     }
 
@@ -94,7 +94,10 @@ impl Tree {
     pub fn entry(&self, dir: u64, name: &Name) -> Option<Node>
         ensures { result ≡ entry_of self.now dir name.now }
     {
-        self.directories.get(dir)?.entry(name)
+        match self.child(dir, name, self.near) {
+            Some((node, _)) => Some(node),
+            None => None,
+        }
     }
 
     /// The directory that has a directory's entry. The root has none, and so has a number that is
@@ -105,7 +108,7 @@ impl Tree {
     pub fn parent(&self, dir: u64) -> Option<u64>
         ensures { result ≡ parent_of self.now dir }
     {
-        self.directories.get(dir)?.parent()
+        self.parent_near(dir, self.near)
     }
 
     /// What a number stands for: a directory where it is the root or has a parent, a file where an
@@ -128,20 +131,14 @@ impl Tree {
     pub fn links(&self, file: u64) -> u64
         ensures { result ≡ links_of self.now file }
     {
-        match self.files.get(file) {
-            Some(stored) => stored.links(),
-            None => 0,
-        }
+        self.links_near(file, self.near)
     }
 
     /// The bytes of a file, where it is stored.
     pub fn body(&self, file: u64) -> Option<&Body>
         ensures { option_copied result ≡ body_in self.now file }
     {
-        match self.files.get(file) {
-            Some(stored) => Some(stored.body()),
-            None => None,
-        }
+        self.body_near(file, self.near)
     }
 
     /// The open file description of a descriptor, where it is open.
@@ -158,7 +155,7 @@ impl Tree {
     pub fn stored_dirs(&self) -> usize
         ensures { result ≡ stored_dirs self.now }
     {
-        self.directories.len()
+        self.inodes.directory_count()
     }
 
     /// Whether a directory has no entry. A number that is no directory has none.
@@ -167,10 +164,7 @@ impl Tree {
     pub fn is_empty_dir(&self, dir: u64) -> bool
         ensures { IsTrue result ↔ (names_of self.now dir ≡ []) }
     {
-        match self.directories.get(dir) {
-            Some(directory) => directory.is_empty(),
-            None => true,
-        }
+        self.is_empty_near(dir, self.near)
     }
 
     /// The names of a directory with the kinds of what they lead to, in the order of their bytes.
@@ -179,7 +173,7 @@ impl Tree {
     pub fn names(&self, dir: u64) -> Result<Vec<(Name, Kind)>, Memory>
         ensures { IfOk result (λ names. names.items ≡ with_kinds (names_of self.now dir)) }
     {
-        match self.directories.get(dir) {
+        match self.inodes.directory(dir, self.near) {
             Some(directory) => directory.names(self.alloc),
             None => Ok(Vec::new(self.alloc)),
         }
@@ -203,8 +197,10 @@ impl Tree {
         ensures place { HasEntryPlace self.old entry.dir entry.name → IsOk result }
     {
         let Entry { dir, name } = entry;
-        match self.directories.get_mut(dir) {
-            Some(directory) => directory.set_entry(name, to),
+        let leads = self.hint_to(to);
+        self.near = self.inodes.hint_of(Node::Dir(dir), self.near);
+        match self.inodes.directory_mut(dir, self.near) {
+            Some(directory) => directory.set_entry(name, to, leads),
             None => unreachable!(),
         }
     }
@@ -226,11 +222,13 @@ impl Tree {
         ensures err { OnErr result (self.new ≡ self.old) }
         ensures place { HasDirPlace self.old dir → IsOk result }
     {
-        if let Some(directory) = self.directories.get_mut(dir) {
+        self.near = self.inodes.hint_of(Node::Dir(dir), self.near);
+        if let Some(directory) = self.inodes.directory_mut(dir, self.near) {
             return Ok(Some(directory.set_parent(parent)));
         }
-        self.directories
-            .insert(dir, Directory::new(self.alloc, parent))?;
+        self.near = self
+            .inodes
+            .add_directory(dir, Directory::new(self.alloc, parent))?;
         Ok(None)
     }
 
@@ -245,10 +243,11 @@ impl Tree {
         ensures err { OnErr result (self.new ≡ self.old) }
         ensures place { HasFilePlace self.old file → IsOk result }
     {
-        if let Some(stored) = self.files.get_mut(file) {
+        self.near = self.inodes.hint_of(Node::File(file), self.near);
+        if let Some(stored) = self.inodes.file_mut(file, self.near) {
             return Ok(Some(stored.set_links(links)));
         }
-        self.files.insert(file, File::new(self.alloc, links))?;
+        self.near = self.inodes.add_file(file, File::new(self.alloc, links))?;
         Ok(None)
     }
 
@@ -272,7 +271,8 @@ impl Tree {
         ensures err { OnErr result (self.new ≡ self.old) }
         ensures nothing { fitting bytes.now offset ≡ [] → IsOk result }
     {
-        match self.files.get_mut(file) {
+        self.near = self.inodes.hint_of(Node::File(file), self.near);
+        match self.inodes.file_mut(file, self.near) {
             Some(stored) => stored.write_at(offset, bytes),
             None => unreachable!(),
         }
@@ -291,7 +291,8 @@ impl Tree {
         ensures err { OnErr result (self.new ≡ self.old) }
         ensures same { length (bytes_of self.old file) ≡ size → IsOk result }
     {
-        match self.files.get_mut(file) {
+        self.near = self.inodes.hint_of(Node::File(file), self.near);
+        match self.inodes.file_mut(file, self.near) {
             Some(stored) => stored.set_len(size),
             None => unreachable!(),
         }
@@ -304,7 +305,8 @@ impl Tree {
         requires left { bytes_of self.old file ≡ undo.after }
         ensures { self.new ≡ put_bytes self.old file undo.before }
     {
-        match self.files.get_mut(file) {
+        self.near = self.inodes.hint_of(Node::File(file), self.near);
+        match self.inodes.file_mut(file, self.near) {
             Some(stored) => stored.undo(undo),
             None => unreachable!(),
         }
@@ -337,16 +339,16 @@ impl Tree {
     {
         match cell {
             Cell::Entry(entry) => {
-                if let Some(directory) = self.directories.get_mut(entry.dir) {
+                if let Some(directory) = self.inodes.directory_mut(entry.dir, self.near) {
                     directory.drop_place(&entry.name);
                 }
             }
             Cell::Names(_) => {}
             Cell::Parent(dir) => {
-                self.directories.remove(*dir);
+                self.inodes.drop_directory(*dir);
             }
             Cell::Links(file) | Cell::Bytes(file) => {
-                self.files.remove(*file);
+                self.inodes.drop_file(*file);
                 self.opens.forget(*file);
             }
             Cell::Fd(fd) => {
@@ -432,7 +434,7 @@ impl Tree {
     fn is_empty_entry(&self, entry: &Entry) -> bool
         ensures { result ≡ is_useless self.now (EntryCell entry.now) }
     {
-        match self.directories.get(entry.dir) {
+        match self.inodes.directory(entry.dir, self.near) {
             Some(directory) => directory.has_empty(&entry.name),
             None => false,
         }
@@ -442,7 +444,7 @@ impl Tree {
     fn is_bare_dir(&self, dir: u64) -> bool
         ensures { result ≡ is_useless self.now (Parent dir) }
     {
-        match self.directories.get(dir) {
+        match self.inodes.directory(dir, self.near) {
             Some(directory) => {
                 dir != ROOT && directory.parent().is_none() && directory.has_no_place()
             }
@@ -454,7 +456,7 @@ impl Tree {
     fn is_dead_file(&self, file: u64) -> bool
         ensures { result ≡ is_useless self.now (Links file) }
     {
-        self.files.contains(file) && !self.has_file(file)
+        self.inodes.file(file, self.near).is_some() && !self.has_file(file)
     }
 
     /// Whether a descriptor has a place, and is not open.
@@ -469,8 +471,8 @@ impl Tree {
     pub fn lookup(&self, parts: &Parts) -> Result<Found, Errno>
         ensures { result ≡ found (answer (walk parts.now.names parts.now.trailing) (view_of self.now)) }
     {
-        let mut tree = self;
-        let Ok(end) = walk(&mut tree, parts.names.as_slice(), parts.trailing);
+        let mut cursor = Cursor::new(self);
+        let Ok(end) = walk(&mut cursor, parts.names.as_slice(), parts.trailing);
         match end {
             Ok(Spot::Named { entry, node }) => Ok(Found::Place {
                 dir: entry.dir,
@@ -490,9 +492,9 @@ impl Tree {
         ensures { IfOk result (λ rows. rows.items ≡ rows_of (tidy self.now)) }
     {
         let mut rows = Vec::new(self.alloc);
-        push_dirs(self.alloc, &mut rows, &self.directories)?;
-        push_edges(self.alloc, &mut rows, &self.directories)?;
-        push_files(self.alloc, &mut rows, &self.files, &self.opens)?;
+        push_dirs(&mut rows, &self.inodes)?;
+        push_edges(&mut rows, &self.inodes)?;
+        push_files(&mut rows, &self.inodes, &self.opens)?;
         push_opens(self.alloc, &mut rows, self.opens.places())?;
         Ok(rows)
     }
@@ -502,22 +504,73 @@ impl Tree {
     pub fn copy(&self) -> Result<Tree, Memory>
         ensures { IfOk result (λ copy. copy ≡ self.now) }
     {
-        let directories = self.directories.clone()?;
-        let files = self.files.clone()?;
+        let inodes = self.inodes.clone()?;
         let opens = self.opens.clone()?;
         Ok(Tree {
             alloc: self.alloc,
-            directories,
-            files,
+            inodes,
             opens,
+            near: self.near,
         })
+    }
+
+    /// What `entry` answers, and where that may stand, where the directory may stand at `near`.
+    pub(crate) fn child(&self, dir: u64, name: &Name, near: Hint) -> Option<(Node, Hint)>
+        ensures { option_map (λ child. child.0) result ≡ entry_of self.now dir name.now }
+    {
+        self.inodes.directory(dir, near)?.child(name)
+    }
+
+    /// What `parent` answers, where the directory may stand at `near`.
+    pub(crate) fn parent_near(&self, dir: u64, near: Hint) -> Option<u64>
+        ensures { result ≡ parent_of self.now dir }
+    {
+        self.inodes.directory(dir, near)?.parent()
+    }
+
+    /// What `links` answers, where the file may stand at `near`.
+    pub(crate) fn links_near(&self, file: u64, near: Hint) -> u64
+        ensures { result ≡ links_of self.now file }
+    {
+        match self.inodes.file(file, near) {
+            Some(stored) => stored.links(),
+            None => 0,
+        }
+    }
+
+    /// What `body` answers, where the file may stand at `near`.
+    pub(crate) fn body_near(&self, file: u64, near: Hint) -> Option<&Body>
+        ensures { option_copied result ≡ body_in self.now file }
+    {
+        match self.inodes.file(file, near) {
+            Some(stored) => Some(stored.body()),
+            None => None,
+        }
+    }
+
+    /// What `is_empty_dir` answers, where the directory may stand at `near`.
+    pub(crate) fn is_empty_near(&self, dir: u64, near: Hint) -> bool
+        ensures { IsTrue result ↔ (names_of self.now dir ≡ []) }
+    {
+        match self.inodes.directory(dir, near) {
+            Some(directory) => directory.is_empty(),
+            None => true,
+        }
+    }
+
+    /// Where what an entry leads to stands.
+    fn hint_to(&self, to: Option<Node>) -> Hint {
+        match to {
+            Some(node) => self.inodes.hint_of(node, self.near),
+            None => self.near,
+        }
     }
 
     /// Whether a number is a directory that is there.
     fn has_dir(&self, number: u64) -> bool
         ensures { result ≡ has_dir self.now number }
     {
-        match self.directories.get(number) {
+        match self.inodes.directory(number, self.near) {
             Some(directory) => number == ROOT || directory.parent().is_some(),
             None => false,
         }
@@ -542,26 +595,5 @@ fn keeps_place<K: Keeps>(keeps: &K, cell: &Cell) -> bool
         Cell::Links(file) => keeps.keeps(cell) || keeps.keeps(&Cell::Bytes(*file)),
         Cell::Bytes(file) => keeps.keeps(&Cell::Links(*file)) || keeps.keeps(cell),
         Cell::Fd(_) => keeps.keeps(cell),
-    }
-}
-
-/// A tree that is read, and no account kept of what is read.
-impl<'t> Reader for &'t Tree {
-    ghost use Rattle.std.specs.Prelude.{refl};
-
-    type Want = Infallible;
-
-    ghost cells = { λ tree. tree.now };
-
-    ghost noted = { λ tree _. tree };
-
-    ghost stays = { λ _ _. refl };
-
-    fn entry(&mut self, dir: u64, name: &Name) -> Result<Option<Node>, Infallible> {
-        Ok(Tree::entry(self, dir, name))
-    }
-
-    fn parent(&mut self, dir: u64) -> Result<Option<u64>, Infallible> {
-        Ok(Tree::parent(self, dir))
     }
 }

@@ -1,5 +1,5 @@
 // How the edits of a call are made, and taken back.
-ghost use Rattle.std.specs.Prelude.{◌≡◌, [], ◌∷◌, ◌++◌, map, IfOk, OnOk, OnErr};
+ghost use Rattle.std.specs.Prelude.{◌≡◌, [], length, map, IfOk, OnOk, OnErr};
 ghost use Rattle.ft_posix.specs.Stored.{put, put_all};
 ghost use Rattle.ft_laws.specs.Effects.{before};
 ghost use Rattle.ft_cells.specs.Cells.{Cells};
@@ -9,7 +9,7 @@ ghost use Rattle.ft_posix.specs.Comes.{write_of, writes_of};
 ghost use Rattle.ft_posix.specs.Edits.{CanEdit, CanEditAll, Apart};
 ghost use Rattle.ft_undo.specs.Undone.{back_of, given_back, restore, restored, CanGiveBack, CanGiveAllBack, CanRestoreAll, AreAsLeft, IsApplied};
 
-use ft_base::{Few, Memory};
+use ft_base::Memory;
 use ft_body::BodyUndo;
 use ft_calls::{Edit, Edits, Intent};
 use ft_tree::{Cell, Entry, Node, OpenFile, Tree};
@@ -46,10 +46,11 @@ pub enum Back {
     },
 }
 
-/// What takes a call back. It takes no memory to do so.
+/// What takes a call back. It takes no memory to do so. Of a call that changed nothing it has none,
+/// and of another just the room for its edits.
 #[derive(Drop)]
 pub struct Undo {
-    items: Few<Back>,
+    items: Vec<Back>,
 }
 
 impl Model for Undo {
@@ -58,7 +59,7 @@ impl Model for Undo {
 
     ghost Value = { List Back };
 
-    ghost view = { λ a. a.items };
+    ghost view = { λ a. a.items.items };
 }
 
 impl Undo {
@@ -67,24 +68,8 @@ impl Undo {
         ensures { result ≡ [] }
     {
         Undo {
-            items: Few::new(alloc),
+            items: Vec::new(alloc),
         }
-    }
-
-    /// Makes one edit more. Where memory is wanting nothing has changed.
-    fn set(&mut self, tree: &mut Tree, edit: Edit<'_>) -> Result<(), Memory>
-        requires { CanEdit tree.old edit }
-        ensures after { OnOk result (tree.new ≡ put tree.old (write_of tree.old edit.entry)) }
-        ensures back { OnOk result (self.new ≡ self.old ++ back_of tree.old edit.entry ∷ []) }
-        ensures err { OnErr result (tree.new ≡ tree.old) }
-        ensures none { OnErr result (self.new ≡ self.old) }
-    {
-        let back = set(tree, edit)?;
-        if let Err(failed) = self.items.push(back) {
-            restore(tree, failed.value);
-            return Err(Memory);
-        }
-        Ok(())
     }
 
     /// Makes edits one after the other, and keeps what takes them back. Where memory is wanting,
@@ -95,24 +80,17 @@ impl Undo {
         ensures applied { IsApplied tree.old edits.old tree.new self.new result }
         ensures taken { OnOk result (edits.new ≡ []) }
     {
+        self.items.reserve_exact(count(edits))?;
         while let Some(edit) = edits.pop_front() {
-            if let Err(memory) = self.set(tree, edit) {
-                self.unwind(tree);
-                return Err(memory);
+            match set(tree, edit) {
+                Ok(back) => self.items.push_reserved(back),
+                Err(memory) => {
+                    unwind(tree, &mut self.items);
+                    return Err(memory);
+                }
             }
         }
         Ok(())
-    }
-
-    /// Takes back all that is kept, the last edit first, and keeps nothing. Takes no memory.
-    fn unwind(&mut self, tree: &mut Tree)
-        requires { CanRestoreAll tree.old self.old }
-        ensures tree { tree.new ≡ restored tree.old self.old }
-        ensures none { self.new ≡ [] }
-    {
-        while let Some(back) = self.items.pop() {
-            restore(tree, back);
-        }
     }
 
     /// Takes back what was done of a call that wants memory, the last edit first: nothing has
@@ -122,7 +100,7 @@ impl Undo {
         ensures { tree.new ≡ restored tree.old self }
     {
         let mut undo = self;
-        undo.unwind(tree);
+        unwind(tree, &mut undo.items);
     }
 }
 
@@ -155,10 +133,24 @@ pub fn revert(tree: &mut Tree, undo: Undo)
     requires { CanGiveAllBack tree.old undo }
     ensures { tree.new ≡ put_all tree.old (map given_back undo) }
 {
-    let Undo { mut items } = undo;
-    while let Some(back) = items.pop_front() {
+    let Undo { items } = undo;
+    for back in items {
         give_back(tree, back);
     }
+}
+
+/// How many edits there are.
+fn count(edits: &Edits<'_>) -> usize
+    ensures { result ≡ length edits.now }
+{
+    let items = edits.as_items();
+    if items.first().is_none() {
+        return 0;
+    }
+    if items.second().is_none() {
+        return 1;
+    }
+    2 + items.others().len()
 }
 
 /// Makes one edit, and answers what takes it back. Where memory is wanting nothing has changed.
@@ -194,6 +186,17 @@ fn set(tree: &mut Tree, edit: Edit<'_>) -> Result<Back, Memory>
             let was = tree.set_open_file(fd, to)?;
             Ok(Back::Open { fd, was })
         }
+    }
+}
+
+/// Takes back all that is kept, the last edit first, and keeps nothing. Takes no memory.
+fn unwind(tree: &mut Tree, backs: &mut Vec<Back>)
+    requires { CanRestoreAll tree.old backs.old.items }
+    ensures tree { tree.new ≡ restored tree.old backs.old.items }
+    ensures none { backs.new.items ≡ [] }
+{
+    while let Some(back) = backs.pop() {
+        restore(tree, back);
     }
 }
 

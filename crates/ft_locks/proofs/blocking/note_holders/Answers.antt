@@ -4,8 +4,7 @@ use Rattle.std.specs.Ordering.{nat_cmp}
 use Rattle.std.specs.FinMap as finite
 use Rattle.ft_moss.specs.Blocking.{against, is_in_way, is_holder_in_way}
 use Rattle.ft_moss.proofs.Cases.{ok_then}
-use Rattle.ft_moss.proofs.HolderLists.{get-seen}
-use Rattle.ft_moss.proofs.InTheWay.{listed_is, noted_none}
+use Rattle.ft_moss.proofs.InTheWay.{ahead_is, noted_none}
 use Rattle.ft_locks.proofs.blocking.note_holders.Goals as goal
 
 pub returns-in-Some : goal.returns-in-Some
@@ -13,8 +12,7 @@ returns-in-Some c =
     let counted = against c.args.asker.now.rule c.args.forest.now c.args.asker.now.txn in
     ok_then c.note_list.result _ _
     (λ (noted : _) u. noted u ∙ ap (λ b. finite.contains_key c.args.found.now u || b)
-    (listed_is counted c.as_slice.result.now c.as_slice.ensures.apart c.args.mode u
-    ∙ ap (λ o. is_in_way counted u o c.args.mode) (sym (get-seen c.as_slice.result.now u) ∙ ap (λ m. finite.get m u) c.as_slice.ensures.holdings))
+    (ahead_is c.args.asker.now.rule c.args.forest.now c.args.asker.now.txn c.ahead.result.now c.in-Some.holders.now c.args.mode c.ahead.ensures.all c.ahead.ensures.had c.ahead.ensures.apart u)
     ∙ ap (λ o. finite.contains_key c.args.found.now u || is_holder_in_way counted (option_copied o) c.args.mode u) (sym c.in-Some.is))
     c.note_list.ensures
 

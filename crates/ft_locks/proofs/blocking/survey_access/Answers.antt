@@ -1,8 +1,7 @@
 use Rattle.std.proofs.Common.{◌≡◌, ◌||◌, Bool, true, false, refl, sym, ap, ◌∙◌}
 use Rattle.std.specs.FinMap as finite
 use Rattle.ft_moss.specs.Blocking.{against, is_in_way}
-use Rattle.ft_moss.proofs.HolderLists.{get-seen}
-use Rattle.ft_moss.proofs.InTheWay.{listed_is}
+use Rattle.ft_moss.proofs.InTheWay.{ahead_is}
 use Rattle.ft_moss.proofs.Places.{marks-found, marks-missing}
 use Rattle.ft_moss.proofs.Surveys.{none_noted, noted_both, holds_one}
 use Rattle.ft_locks.specs.declared.blocking.Asker.{Asker}
@@ -37,9 +36,8 @@ returns-clause-noted c =
           ap (λ f. finite.contains_key f u) w.found-is
           ∙ w.in_ok-note_list.ensures u
           ∙ ap (λ b. finite.contains_key before u || b)
-          (listed_is counted w.as_slice.result.now w.as_slice.ensures.apart a.mode u
-          ∙ ap (λ o. is_in_way counted u o a.mode) (sym (get-seen w.as_slice.result.now u) ∙ ap (λ o. finite.get o u) w.as_slice.ensures.holdings
-          ∙ marks-found m a.cell w.in-Some.holders.now w.in-Some.ensures u))
+          (ahead_is c.args.asker.now.rule c.args.forest.now c.args.asker.now.txn w.ahead.result.now w.in-Some.holders.now a.mode w.ahead.ensures.all w.ahead.ensures.had w.ahead.ensures.apart u
+          ∙ ap (λ o. is_in_way counted u o a.mode) (marks-found m a.cell w.in-Some.holders.now w.in-Some.ensures u))
       | in_default w ↦ λ u.
           ap (λ f. finite.contains_key f u) w.found-is
           ∙ unnoted (finite.contains_key before u)

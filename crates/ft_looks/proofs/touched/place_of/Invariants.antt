@@ -1,11 +1,14 @@
-use Rattle.std.proofs.Common.{◌≡◌, ◌+◌, drop}
-use Rattle.ft_posix.specs.Accesses.{place_in, is_noted}
+use Rattle.std.proofs.Common.{◌-◌, ◌≤◌, ◌<◌, length}
+use Rattle.ft_looks.proofs.Searching.{IsBetween}
 use Rattle.ft_looks.proofs.touched.place_of.Given as goal
 
--- the cell stands among the accesses left
-abbrev pub invariant-loop-access : goal.invariant-loop-access
-invariant-loop-access l = record {
-  place : l.at + place_in l.fn.cell (drop l.access-index l.fn.list) ≡ place_in l.fn.cell l.fn.list;
-  noted : is_noted l.fn.cell (drop l.access-index l.fn.list) ≡ is_noted l.fn.cell l.fn.list;
-  index : l.at ≡ l.access-index;
+-- the cell's place lies in the part that is left
+abbrev pub invariant-loop-from : goal.invariant-loop-from
+invariant-loop-from l = record {
+  between : IsBetween l.fn.cell l.fn.list l.from l.to;
+  within : l.to ≤ length l.fn.list;
+  tried : l.from < l.to → (l.from ≤ l.at) × (l.at < l.to);
 }
+
+abbrev pub decreases-loop-from : goal.decreases-loop-from
+decreases-loop-from l = l.to - l.from

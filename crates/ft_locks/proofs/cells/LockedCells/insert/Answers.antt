@@ -12,7 +12,7 @@ use Rattle.ft_locks.proofs.Slots.{at-none, at-put, cells-put, cells-index, keyed
 use Rattle.ft_locks.proofs.EntryKeys.{placed-put, placed-same}
 use Rattle.ft_locks.proofs.Nameless.{nameless-put, nameless-same, no-left, no-right}
 use Rattle.ft_locks.proofs.cells.LockedCells.insert.Goals as goal
-use Rattle.ft_locks.proofs.cells.LockedCells.insert.Goals.{in-Heap-5, in-Inline-5}
+use Rattle.ft_locks.proofs.cells.LockedCells.insert.Goals.{in-Some-5, in-None-5}
 
 index_put : (es fs : List (Cell × ℕ)) (name c : Cell) (j k : ℕ) → name ≡ c → j ≡ k → ((q : Cell) → key_in fs q ≡ cond (same_cell name q) (Some j) (key_in es q))
     → (q : Cell) → key_in fs q ≡ cond (same_cell c q) (Some k) (key_in es q)
@@ -93,7 +93,7 @@ returns-in-Err-clause-err c =
     let back = index-back c.self.inside.keys.entries c.insert.new.self.entries c.remove.new.self.entries c.args.cell.now c.vacant_key-key.result absent put out in
     let cells = ap (λ (s : Slab Locked). cells_of s c.remove.new.self.entries) c.in_ok-reserve.ensures.rest_kept ∙ cells-index c.self.inside.locked c.self.inside.keys.entries c.remove.new.self.entries back in
     let at = ap (λ (s : Slab Locked). at_of s) c.in_ok-reserve.ensures.rest_kept in
-    elim c.match-holders-5.branch [
-      | in-Heap-5 w ↦ w.self-is ∙ (λ i. record { cells = cells i; at = at i }) ∙ c.self.view_is
-      | in-Inline-5 w ↦ w.self-is ∙ (λ i. record { cells = cells i; at = at i }) ∙ c.self.view_is
+    elim c.match-holders-10.branch [
+      | in-Some-5 w ↦ w.self-is ∙ (λ i. record { cells = cells i; at = at i }) ∙ c.self.view_is
+      | in-None-5 w ↦ w.self-is ∙ (λ i. record { cells = cells i; at = at i }) ∙ c.self.view_is
     ]

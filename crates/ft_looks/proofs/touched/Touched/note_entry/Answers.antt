@@ -1,48 +1,29 @@
-use Rattle.std.proofs.Common.{ap, ◌∙◌}
+use Rattle.std.proofs.Common.{◌≡◌, true, ◌++◌, ◌∷◌, [], ap, ◌∙◌, rules}
 use Rattle.ft_cells.specs.Entries.{entry_in}
 use Rattle.ft_cells.specs.declared.cell.Cell.TheVariants.{Entry}
-use Rattle.std.specs.List.{insert}
-use Rattle.ft_posix.proofs.Placing.{access, at-within, behind, at-below, note-again, note-new}
+use Rattle.std.specs.Prelude.{slice_set}
+use Rattle.std.specs.FinMap as finite
+use Rattle.ft_posix.proofs.Placing.{access, at-below}
+use Rattle.ft_looks.proofs.Noted.{in_order-said, said-in_order, noted-again, push-noted}
 use Rattle.ft_looks.proofs.touched.Touched.note_entry.Goals as goal
 
 pub index_mut-requires : goal.index_mut-requires
 index_mut-requires c = at-below (Entry (entry_in c.args.entry)) _ _ _ _ (record { seen_is = c.as_slice.ensures.value; place = c.place_of_entry-at.ensures.place; noted = c.place_of_entry-at.ensures.noted }) _ c.as_slice.ensures.len c.if-is_noted.true
 
-pub invariant_of-self : goal.invariant_of-self
-invariant_of-self c =
-    (note-again (Entry (entry_in c.args.entry)) _ _ _ _ (record { seen_is = c.as_slice.ensures.value; place = c.place_of_entry-at.ensures.place; noted = c.place_of_entry-at.ensures.noted })
-    c.args.mode _ c.self.invariant c.self.view_is c.if-is_noted.true c.index_mut.result.now _ c.index_mut.ensures.value).0
+pub invariant_of-self-then-is_noted : goal.invariant_of-self-then-is_noted
+invariant_of-self-then-is_noted c =
+    let said : c.self.inside.is_in_order ≡ true = search rules in
+    let order = in_order-said _ c.self.inside.list.items said c.self.invariant in
+    said-in_order c.self.inside.is_in_order (slice_set c.self.inside.list.items c.place_of_entry-at.result.0 (access c.index_mut.result.now.cell c.args.mode)) (noted-again (Entry (entry_in c.args.entry)) c.args.mode _ c.self.inside.list.items _ _ _ (record { seen_is = c.as_slice.ensures.value; place = c.place_of_entry-at.ensures.place; noted = c.place_of_entry-at.ensures.noted }) order c.self.view_is c.if-is_noted.true c.index_mut.result.now _ c.index_mut.ensures.value).0
 
 pub returns-then-is_noted : goal.returns-then-is_noted
 returns-then-is_noted c =
-    (note-again (Entry (entry_in c.args.entry)) _ _ _ _ (record { seen_is = c.as_slice.ensures.value; place = c.place_of_entry-at.ensures.place; noted = c.place_of_entry-at.ensures.noted })
-    c.args.mode _ c.self.invariant c.self.view_is c.if-is_noted.true c.index_mut.result.now _ c.index_mut.ensures.value).1
+    let said : c.self.inside.is_in_order ≡ true = search rules in
+    let order = in_order-said _ c.self.inside.list.items said c.self.invariant in
+    (noted-again (Entry (entry_in c.args.entry)) c.args.mode _ c.self.inside.list.items _ _ _ (record { seen_is = c.as_slice.ensures.value; place = c.place_of_entry-at.ensures.place; noted = c.place_of_entry-at.ensures.noted }) order c.self.view_is c.if-is_noted.true c.index_mut.result.now _ c.index_mut.ensures.value).1
 
-pub insert-requires : goal.insert-requires
-insert-requires c = at-within (Entry (entry_in c.args.entry)) _ _ _ _ (record { seen_is = c.as_slice.ensures.value; place = c.place_of_entry-at.ensures.place; noted = c.place_of_entry-at.ensures.noted }) _ c.as_slice.ensures.len
-
-pub invariant_of-self-2 : goal.invariant_of-self-2
-invariant_of-self-2 c =
-    (note-new (Entry (entry_in c.args.entry)) _ _ _ _ (record { seen_is = c.as_slice.ensures.value; place = c.place_of_entry-at.ensures.place; noted = c.place_of_entry-at.ensures.noted })
-    c.args.mode _ c.self.invariant c.self.view_is c.if-is_noted.false c.insert.new.self.items
-    (c.in_ok-insert.ensures.items ∙ ap (λ entry. insert c.self.inside.list.items c.place_of_entry-at.result.0 (access (Entry entry) c.args.mode)) c.in_ok-to_entry.ensures)).0
-
-pub returns : goal.returns
-returns c =
-    (note-new (Entry (entry_in c.args.entry)) _ _ _ _ (record { seen_is = c.as_slice.ensures.value; place = c.place_of_entry-at.ensures.place; noted = c.place_of_entry-at.ensures.noted })
-    c.args.mode _ c.self.invariant c.self.view_is c.if-is_noted.false c.insert.new.self.items
-    (c.in_ok-insert.ensures.items ∙ ap (λ entry. insert c.self.inside.list.items c.place_of_entry-at.result.0 (access (Entry entry) c.args.mode)) c.in_ok-to_entry.ensures)).1
-
-pub invariant_of-self-then-at-len : goal.invariant_of-self-then-at-len
-invariant_of-self-then-at-len c =
-    (note-new (Entry (entry_in c.args.entry)) _ _ _ _ (record { seen_is = c.as_slice.ensures.value; place = c.place_of_entry-at.ensures.place; noted = c.place_of_entry-at.ensures.noted })
-    c.args.mode _ c.self.invariant c.self.view_is c.if-is_noted.false c.push.new.self.items
-    (c.in_ok-push.ensures.items ∙ behind c.self.inside.list.items c.place_of_entry-at.result.0 _ (c.if-at-len.true ∙ c.len.ensures ∙ c.self.inside.list.ok.0)
-    ∙ ap (λ entry. insert c.self.inside.list.items c.place_of_entry-at.result.0 (access (Entry entry) c.args.mode)) c.in_ok-to_entry.ensures)).0
-
-pub returns-then-at-len : goal.returns-then-at-len
-returns-then-at-len c =
-    (note-new (Entry (entry_in c.args.entry)) _ _ _ _ (record { seen_is = c.as_slice.ensures.value; place = c.place_of_entry-at.ensures.place; noted = c.place_of_entry-at.ensures.noted })
-    c.args.mode _ c.self.invariant c.self.view_is c.if-is_noted.false c.push.new.self.items
-    (c.in_ok-push.ensures.items ∙ behind c.self.inside.list.items c.place_of_entry-at.result.0 _ (c.if-at-len.true ∙ c.len.ensures ∙ c.self.inside.list.ok.0)
-    ∙ ap (λ entry. insert c.self.inside.list.items c.place_of_entry-at.result.0 (access (Entry entry) c.args.mode)) c.in_ok-to_entry.ensures)).1
+pub returns-then-not-self : goal.returns-then-not-self
+returns-then-not-self c =
+    push-noted finite.empty (Entry (entry_in c.args.entry)) c.args.mode c.self.inside.list.items c.push.new.self.items
+    (c.in_ok-push.ensures.items ∙ ap (λ entry. c.self.inside.list.items ++ access (Entry entry) c.args.mode ∷ []) c.in_ok-to_entry.ensures)
+    ∙ ap (λ m. finite.insert m (Entry (entry_in c.args.entry)) c.args.mode) c.self.view_is

@@ -1,19 +1,28 @@
-use Rattle.std.proofs.Common.{Some, subst, sym, ap, ◌∙◌}
-use Rattle.ft_moss.specs.Holders.{AreApart}
-use Rattle.ft_moss.proofs.HolderLists.{seen, nothing_found, remove_none, found_at, read, removed, seen-removed}
+use Rattle.std.proofs.Common.{IsSome, is_some, subst, sym, ap, ◌∙◌}
+use Rattle.std.specs.Ordering.{nat_cmp}
+use Rattle.std.specs.FinMap as finite
+use Rattle.ft_moss.proofs.HolderLists.{none_is, never_none, remove_none, refilled, gone_itself, there_still}
 use Rattle.ft_moss.proofs.holders.Holders.remove.Goals as goal
 
-pub invariant_of-self : goal.invariant_of-self
-invariant_of-self c =
-    let at = found_at c.self.inside.list.items c.args.owner c.in-Some.place (read _ _ _ (Some c.in-Some.place) c.in-Some.ensures c.as_slice.ensures) in
-    subst AreApart (sym c.remove.ensures.items) (removed c.args.self.now c.self.inside.list.items c.self.view_is c.self.invariant c.in-Some.place c.args.owner at)
+pub returns-then-is_none : goal.returns-then-is_none
+returns-then-is_none c = sym (remove_none c.args.self.now c.args.owner (sym c.get.ensures ∙ none_is c.get.result c.if-is_none.ensures))
 
-pub returns-in-Some : goal.returns-in-Some
-returns-in-Some c =
-    let at = found_at c.self.inside.list.items c.args.owner c.in-Some.place (read _ _ _ (Some c.in-Some.place) c.in-Some.ensures c.as_slice.ensures) in
-    ap seen c.remove.ensures.items ∙ seen-removed c.args.self.now c.self.inside.list.items c.self.view_is c.self.invariant c.in-Some.place c.args.owner at
+pub rename-requires-clause-there : goal.rename-requires-clause-there
+rename-requires-clause-there c =
+    subst (λ m. IsSome (finite.get m c.args.owner)) (sym c.in-Some.ensures.taken)
+    (there_still c.args.self.now c.args.owner c.in-Some.last.owner (ap is_some (sym c.get.ensures) ∙ c.if-is_none.ensures) c.if-last-owner.true)
+
+pub rename-requires-clause-absent : goal.rename-requires-clause-absent
+rename-requires-clause-absent c = ap (λ m. finite.get m c.in-Some.last.owner) c.in-Some.ensures.taken ∙ gone_itself c.args.self.now c.in-Some.last.owner
+
+pub returns-then-last-owner : goal.returns-then-last-owner
+returns-then-last-owner c =
+    c.rename.ensures ∙ ap (λ m. finite.insert (finite.remove m c.args.owner) c.in-Some.last.owner c.in-Some.last.marks) c.in-Some.ensures.taken
+    ∙ refilled c.args.self.now c.args.owner c.in-Some.last.owner c.in-Some.last.marks c.in-Some.ensures.had c.if-last-owner.true
+
+pub returns-else-last-owner : goal.returns-else-last-owner
+returns-else-last-owner c = c.in-Some.ensures.taken ∙ ap (finite.remove c.args.self.now) c.if-last-owner.false
 
 pub returns-in_default : goal.returns-in_default
 returns-in_default c =
-    sym (remove_none c.args.self.now c.args.owner
-    (nothing_found c.args.self.now c.self.inside.list.items c.as_slice.result.now c.args.owner c.self.view_is c.in_default.ensures c.as_slice.ensures))
+    never_none _ (ap (λ m. finite.get m c.args.owner) c.in_default.ensures.none ∙ finite.get-empty nat_cmp c.args.owner) (ap is_some (sym c.get.ensures) ∙ c.if-is_none.ensures)

@@ -8,4 +8,4 @@ use Rattle.ft_tree.proofs.tree.Tree.lookup.Goals as goal
 pub returns-in-Err : goal.returns-in-Err
 returns-in-Err c =
     ap (λ end. found (seen end)) (sym c.in-Err.is) ∙ ap found c.in-Ok.ensures.end
-    ∙ ap (λ names. found (answer (walk names c.args.parts.now.trailing) (view_of c.args.self.now))) c.as_slice.ensures
+    ∙ (λ i. found (answer (walk (c.as_slice.ensures i) c.args.parts.now.trailing) (view_of (c.new-cursor.ensures i))))

@@ -8,13 +8,13 @@ use Rattle.ft_tree.proofs.tree.Tree.rows.Goals as goal
 
 pub returns : goal.returns
 returns c =
-    let dirs = dir_rows (dirs_from (finite.entries c.self.inside.directories)) in
-    let edges = edge_rows (edges_from (finite.entries c.self.inside.directories)) in
-    let files = file_rows (files_from c.self.inside.opens (finite.entries c.self.inside.files)) in
+    let dirs = dir_rows (dirs_from (finite.entries c.self.inside.inodes.directories)) in
+    let edges = edge_rows (edges_from (finite.entries c.self.inside.inodes.directories)) in
+    let files = file_rows (files_from c.self.inside.opens (finite.entries c.self.inside.inodes.files)) in
     let opens = open_rows (opens_from (finite.entries c.self.inside.opens)) in
     c.in_ok-push_opens.ensures
     ∙ ap (λ m. c.push_files.new.rows.items ++ open_rows (opens_from (finite.entries m))) c.places.ensures
     ∙ ap (λ rows. rows ++ opens) (c.in_ok-push_files.ensures
     ∙ ap (λ rows. rows ++ files) (c.in_ok-push_edges.ensures
     ∙ ap (λ rows. rows ++ edges) (c.in_ok-push_dirs.ensures ∙ ap (λ rows. rows ++ dirs) c.new-rows.ensures.items)))
-    ∙ rows-tidy (record { directories = c.self.inside.directories; files = c.self.inside.files; opens = c.self.inside.opens }) ∙ ap (λ (cells : Cells). rows_of (tidy cells)) c.self.view_is
+    ∙ rows-tidy (record { directories = c.self.inside.inodes.directories; files = c.self.inside.inodes.files; opens = c.self.inside.opens }) ∙ ap (λ (cells : Cells). rows_of (tidy cells)) c.self.view_is

@@ -1,0 +1,4 @@
+pub mod Openings
+pub mod Stored
+pub mod Keyed
+pub mod Lending

@@ -1,0 +1,31 @@
+-- What is stored of directories and files, by number.
+use Rattle.std.specs.Prelude.{ℕ, refl}
+use Rattle.std.specs.Ordering.{nat_cmp}
+use Rattle.std.specs.FinMap as map
+use Rattle.std.specs.Coded.{Coded, code_by, coded×, coded_ℕ}
+use Rattle.ft_cells.specs.Cells.{DirCells, FileCells, coded_dir_cells, coded_file_cells}
+
+pub record InodeCells : Type 0 where
+  pub directories : map.FinMap nat_cmp DirCells
+  pub files : map.FinMap nat_cmp FileCells
+
+abbrev pub coded_inode_cells : Coded InodeCells
+coded_inode_cells =
+    code_by (map.FinMap nat_cmp DirCells × map.FinMap nat_cmp FileCells)
+    (coded× (map.code coded_ℕ coded_dir_cells) (map.code coded_ℕ coded_file_cells))
+    (λ c. (c.directories, c.files)) (λ p. record { directories = p.0; files = p.1 }) (λ _. refl)
+
+abbrev pub no_inode : InodeCells
+no_inode = record { directories = map.empty; files = map.empty }
+
+abbrev pub with_directory : InodeCells → ℕ → DirCells → InodeCells
+with_directory c n d = record { directories = map.insert c.directories n d; files = c.files }
+
+abbrev pub with_file : InodeCells → ℕ → FileCells → InodeCells
+with_file c n f = record { directories = c.directories; files = map.insert c.files n f }
+
+abbrev pub without_directory : InodeCells → ℕ → InodeCells
+without_directory c n = record { directories = map.remove c.directories n; files = c.files }
+
+abbrev pub without_file : InodeCells → ℕ → InodeCells
+without_file c n = record { directories = c.directories; files = map.remove c.files n }

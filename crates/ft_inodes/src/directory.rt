@@ -1,0 +1,261 @@
+// One directory: the directory that has its entry, and the places of its entries.
+ghost use Rattle.std.specs.Prelude.{◌≡◌, ◌↔◌, [], ◌++◌, ◌==◌, ◌&&◌, IsTrue, IsOk, is_some, is_none, IfOk, OnOk, OnErr, Option};
+ghost use Rattle.std.specs.List.{list_all, filter_map};
+ghost use Rattle.std.specs.Ordering.{nat_cmp};
+ghost use Rattle.std.specs.Cmp.Lexicographic.{slice_cmp};
+ghost use Rattle.std.specs.BTreeMap.{IsOrdered, values};
+ghost use Rattle.std.specs.FinMap as map;
+ghost use Rattle.ft_cells.specs.Nodes.{with_kinds};
+ghost use Rattle.ft_cells.specs.Rows.{named_rows};
+ghost use Rattle.std.specs.Option.{option_flatten, option_map, option_copied};
+ghost use Rattle.ft_cells.specs.Cells.{DirCells, coded_dir_cells, dir_entry, put_dir_entry, put_dir_parent, without_dir_place, HasPlace, filled, dir_names};
+
+use crate::hint::Hint;
+use ft_base::Memory;
+use ft_cells::{EntryRef, Kind, Node, TreeRow};
+use ft_path::Name;
+use std::alloc::{AllocError, Global};
+use std::collections::BTreeMap;
+use std::marker::Model;
+use std::mem;
+
+/// A directory, stored: where it stands, and its entries, of whose places some may be empty.
+#[derive(Drop)]
+pub struct Directory {
+    parent: Option<u64>,
+    entries: BTreeMap<Name, Option<Child>>,
+}
+
+/// What an entry leads to, and where that stood when the entry was set.
+#[derive(Drop)]
+pub(crate) struct Child {
+    node: Node,
+    near: Hint,
+}
+
+impl Model for Child {
+    ghost use Rattle.ft_cells.specs.declared.node.Node.{Node};
+    ghost use Rattle.ft_cells.specs.Nodes.{coded_node};
+
+    ghost Value = { Node };
+
+    ghost coded = { coded_node };
+
+    ghost view = { λ a. a.node };
+}
+
+impl Clone for Child {
+    ghost is_clone = { λ child copy. copy ≡ child };
+
+    fn clone(&self) -> Result<Child, AllocError> {
+        Ok(Child {
+            node: self.node,
+            near: self.near,
+        })
+    }
+}
+
+impl Model for Directory {
+    ghost Value = { DirCells };
+
+    ghost coded = { coded_dir_cells };
+
+    ghost view = { λ a. record { parent = a.parent; entries = map.from_entries a.entries.entries } };
+}
+
+impl Directory {
+    /// A directory without entries. Takes no memory.
+    pub fn new(alloc: Global, parent: Option<u64>) -> Directory
+        ensures { result ≡ record { parent = parent; entries = map.empty } }
+    {
+        Directory {
+            parent,
+            entries: BTreeMap::new(alloc),
+        }
+    }
+
+    /// The directory that has its entry.
+    pub fn parent(&self) -> Option<u64>
+        ensures { result ≡ self.now.parent }
+    {
+        self.parent
+    }
+
+    /// What a name leads to.
+    pub fn entry(&self, name: &Name) -> Option<Node>
+        ensures { result ≡ dir_entry self.now name.now }
+    {
+        match self.child(name) {
+            Some((node, _)) => Some(node),
+            None => None,
+        }
+    }
+
+    /// What a name leads to, and where that may stand.
+    pub fn child(&self, name: &Name) -> Option<(Node, Hint)>
+        ensures { option_map (λ child. child.0) result ≡ dir_entry self.now name.now }
+    {
+        child_in(self.entries.get(name))
+    }
+
+    /// Sets the directory that has its entry, and answers which one it was.
+    pub fn set_parent(&mut self, parent: Option<u64>) -> Option<u64>
+        ensures was { result ≡ self.old.parent }
+        ensures set { self.new ≡ put_dir_parent self.old parent }
+    {
+        mem::replace(&mut self.parent, parent)
+    }
+
+    /// Sets an entry, with where what it leads to may stand, and answers what stood in its place, if
+    /// that was there. Only a place that is new can want memory.
+    pub fn set_entry(
+        &mut self,
+        name: Name,
+        to: Option<Node>,
+        near: Hint,
+    ) -> Result<Option<Option<Node>>, Memory>
+        ensures was { IfOk result (λ was. was ≡ map.get self.old.entries name) }
+        ensures ok { OnOk result (self.new ≡ put_dir_entry self.old name to) }
+        ensures err { OnErr result (self.new ≡ self.old) }
+        ensures place { HasPlace self.old name → IsOk result }
+    {
+        Ok(node_in(self.entries.insert(name, child_of(to, near))?))
+    }
+
+    /// Takes the place of an entry away.
+    pub fn drop_place(&mut self, name: &Name)
+        ensures { self.new ≡ without_dir_place self.old name.now }
+    {
+        self.entries.remove(name);
+    }
+
+    /// Whether a name has a place, and is no entry.
+    pub fn has_empty(&self, name: &Name) -> bool
+        ensures { result ≡ (map.contains_key self.now.entries name.now && is_none (dir_entry self.now name.now)) }
+    {
+        is_empty_place(self.entries.get(name))
+    }
+
+    /// Whether no entry has a place.
+    pub fn has_no_place(&self) -> bool
+        ensures { result ≡ (map.len self.now.entries == 0) }
+    {
+        self.entries.is_empty()
+    }
+
+    /// Its names in order, with the kinds of what they lead to.
+    pub fn names(&self, alloc: Global) -> Result<Vec<(Name, Kind)>, Memory>
+        ensures { IfOk result (λ names. names.items ≡ with_kinds (dir_names self.now)) }
+    {
+        full_places(alloc, &self.entries)
+    }
+
+    /// Whether it has no entry.
+    pub fn is_empty(&self) -> bool
+        ensures { IsTrue result ↔ (dir_names self.now ≡ []) }
+    {
+        all_empty(&self.entries)
+    }
+
+    /// Puts its entries behind the rows, as those of directory `number`.
+    pub fn push_edges(&self, number: u64, rows: &mut Vec<TreeRow>) -> Result<(), Memory>
+        ensures { OnOk result (rows.new.items ≡ rows.old.items ++ named_rows number (dir_names self.now)) }
+    {
+        push_places(number, &self.entries, rows)
+    }
+}
+
+impl Clone for Directory {
+    ghost is_clone = { λ directory copy. copy ≡ directory };
+
+    fn clone(&self) -> Result<Directory, AllocError> {
+        let entries = self.entries.clone()?;
+        Ok(Directory {
+            parent: self.parent,
+            entries,
+        })
+    }
+}
+
+/// What is to stand in a place, with where that may stand.
+fn child_of(to: Option<Node>, near: Hint) -> Option<Child>
+    ensures { result ≡ to }
+{
+    match to {
+        Some(node) => Some(Child { node, near }),
+        None => None,
+    }
+}
+
+/// What stood in a place, where that was there.
+fn node_in(was: Option<Option<Child>>) -> Option<Option<Node>>
+    ensures { result ≡ was }
+{
+    match was {
+        Some(Some(child)) => Some(Some(child.node)),
+        Some(None) => Some(None),
+        None => None,
+    }
+}
+
+/// What stands in a place, and where that may stand.
+fn child_in(place: Option<&Option<Child>>) -> Option<(Node, Hint)>
+    ensures { option_map (λ child. child.0) result ≡ option_flatten (option_copied place.entry) }
+{
+    match place {
+        Some(Some(child)) => Some((child.node, child.near)),
+        _ => None,
+    }
+}
+
+/// Whether there is a place, and nothing in it.
+fn is_empty_place(place: Option<&Option<Child>>) -> bool
+    ensures { result ≡ (is_some (option_copied place.entry) && is_none (option_flatten (option_copied place.entry))) }
+{
+    matches!(place, Some(None))
+}
+
+/// Whether each place is empty.
+fn all_empty(places: &BTreeMap<Name, Option<Child>>) -> bool
+    ensures all { result ≡ list_all (λ place. is_none place) (values places.now) }
+    ensures ordered { IsOrdered (slice_cmp nat_cmp) places.now }
+{
+    places.values().all(|place| place.is_none())
+}
+
+/// The names that stand in places, in order, with the kinds of what they lead to.
+fn full_places(
+    alloc: Global,
+    places: &BTreeMap<Name, Option<Child>>,
+) -> Result<Vec<(Name, Kind)>, Memory>
+    ensures names { IfOk result (λ names. names.items ≡ with_kinds (filter_map filled places.now.entries)) }
+    ensures ordered { OnOk result (IsOrdered (slice_cmp nat_cmp) places.now) }
+{
+    let mut names = Vec::new(alloc);
+    for (name, place) in places {
+        if let Some(child) = place {
+            names.push((name.clone()?, child.node.kind()))?;
+        }
+    }
+    Ok(names)
+}
+
+/// Puts the entries that stand in places of directory `dir` behind the rows.
+fn push_places(
+    dir: u64,
+    places: &BTreeMap<Name, Option<Child>>,
+    rows: &mut Vec<TreeRow>,
+) -> Result<(), Memory>
+    ensures rows { OnOk result (rows.new.items ≡ rows.old.items ++ named_rows dir (filter_map filled places.now.entries)) }
+    ensures ordered { OnOk result (IsOrdered (slice_cmp nat_cmp) places.now) }
+{
+    for (name, place) in places {
+        if let Some(child) = place {
+            rows.push(TreeRow::Edge {
+                entry: EntryRef { dir, name }.to_entry()?,
+                number: child.node.number(),
+            })?;
+        }
+    }
+    Ok(())
+}

@@ -1,0 +1,232 @@
+// The store of directories and files: each stands in a slab, and an index has its key.
+ghost use Rattle.std.specs.Prelude.{◌≡◌, ◌↔◌, ℕ, true, cond, option_copied, None, Some, OnOk, OnErr};
+ghost use Rattle.std.specs.Option.{option_copied_mut};
+ghost use Rattle.std.specs.Ordering.{nat_cmp};
+ghost use Rattle.std.specs.Borrow.{sem};
+ghost use Rattle.std.specs.BTreeMap.{is_at, IsUnchanged};
+ghost use Rattle.std.specs.FinMap as map;
+ghost use Rattle.slab.specs.Slab.{get, SameValues};
+ghost use Rattle.ft_inodes.specs.Stored.{no_inode, with_directory, with_file, without_directory, without_file};
+ghost use Rattle.ft_cells.specs.Nodes.{number_of};
+ghost use Rattle.ft_inodes.specs.Keyed.{key_in, is_node, IsAdded};
+
+use crate::directory::Directory;
+use crate::file::File;
+use crate::hint::Hint;
+use crate::inode::Inode;
+use crate::listed::{Directories, Files};
+use ft_base::Memory;
+use ft_cells::Node;
+use slab::Slab;
+use std::alloc::{AllocError, Global};
+use std::collections::BTreeMap;
+use std::marker::Model;
+
+/// The directories and files of a tree, each under its number.
+///
+/// All stand in one slab, whose keys are used again, and an index in the order of the numbers has
+/// the key of each. To find one of them takes constant time where the hint is right, and else, as
+/// to add one or to take one out, the time to look its number up: the logarithm of how many there
+/// are.
+#[derive(Drop)]
+pub struct Inodes {
+    slab: Slab<Inode>,
+    directories: BTreeMap<u64, usize>,
+    files: BTreeMap<u64, usize>,
+}
+
+impl Model for Inodes {
+    ghost use Rattle.ft_inodes.specs.Stored.{InodeCells, coded_inode_cells};
+    ghost use Rattle.ft_inodes.specs.Keyed.{shown_by, dir_in, file_in, is_dir, is_file, Leads};
+
+    ghost Value = { InodeCells };
+
+    ghost coded = { coded_inode_cells };
+
+    ghost view = { λ a. record { directories = shown_by dir_in a.slab a.directories.entries; files = shown_by file_in a.slab a.files.entries } };
+
+    ghost invariant = { λ a. Leads is_dir a.slab a.directories.entries × Leads is_file a.slab a.files.entries };
+}
+
+impl Inodes {
+    ghost use Rattle.ft_inodes.specs.Lending.{LendsDirectory, LendsFile};
+
+    /// No directory and no file. Takes no memory.
+    pub fn new(alloc: Global) -> Inodes
+        ensures { result ≡ no_inode }
+    {
+        Inodes {
+            slab: Slab::new(alloc),
+            directories: BTreeMap::new(alloc),
+            files: BTreeMap::new(alloc),
+        }
+    }
+
+    /// Where a directory or a file stands, or else `near`, where it is not stored.
+    pub fn hint_of(&self, node: Node, near: Hint) -> Hint {
+        let key = match node {
+            Node::Dir(number) => key_of(&self.slab, &self.directories, Node::Dir(number), near),
+            Node::File(number) => key_of(&self.slab, &self.files, Node::File(number), near),
+        };
+        match key {
+            Some(key) => Hint { key },
+            None => near,
+        }
+    }
+
+    /// The directory of a number.
+    pub fn directory(&self, number: u64, near: Hint) -> Option<&Directory>
+        ensures { option_copied result ≡ map.get self.now.directories number }
+    {
+        let key = key_of(&self.slab, &self.directories, Node::Dir(number), near)?;
+        self.slab.get(key)?.directory()
+    }
+
+    /// The file of a number.
+    pub fn file(&self, number: u64, near: Hint) -> Option<&File>
+        ensures { option_copied result ≡ map.get self.now.files number }
+    {
+        let key = key_of(&self.slab, &self.files, Node::File(number), near)?;
+        self.slab.get(key)?.file()
+    }
+
+    /// The directory of a number, to be written: what is left behind the reference is the number's
+    /// directory from then on. Takes no memory.
+    pub fn directory_mut(&mut self, number: u64, near: Hint) -> Option<&mut Directory>
+        ensures* writes_back { sem 𝓛 (LendsDirectory self.entry number result) }
+        ensures value { option_copied_mut result ≡ map.get self.old.directories number }
+    {
+        let key = key_of(&self.slab, &self.directories, Node::Dir(number), near)?;
+        let inode = self.slab.get_mut(key).unwrap();
+        Some(inode.directory_mut())
+    }
+
+    /// The file of a number, to be written: what is left behind the reference is the number's file
+    /// from then on. Takes no memory.
+    pub fn file_mut(&mut self, number: u64, near: Hint) -> Option<&mut File>
+        ensures* writes_back { sem 𝓛 (LendsFile self.entry number result) }
+        ensures value { option_copied_mut result ≡ map.get self.old.files number }
+    {
+        let key = key_of(&self.slab, &self.files, Node::File(number), near)?;
+        let inode = self.slab.get_mut(key).unwrap();
+        Some(inode.file_mut())
+    }
+
+    /// Adds a directory, under a number that no directory has, and answers where it stands. Want of
+    /// memory changes nothing.
+    pub fn add_directory(&mut self, number: u64, directory: Directory) -> Result<Hint, Memory>
+        requires { map.get self.old.directories number ≡ None }
+        ensures ok { OnOk result (self.new ≡ with_directory self.old number directory) }
+        ensures err { OnErr result (self.new ≡ self.old) }
+    {
+        let inode = Inode::Directory(number, directory);
+        add(&mut self.slab, &mut self.directories, number, inode)
+    }
+
+    /// Adds a file, under a number that no file has, and answers where it stands. Want of memory
+    /// changes nothing.
+    pub fn add_file(&mut self, number: u64, file: File) -> Result<Hint, Memory>
+        requires { map.get self.old.files number ≡ None }
+        ensures ok { OnOk result (self.new ≡ with_file self.old number file) }
+        ensures err { OnErr result (self.new ≡ self.old) }
+    {
+        let inode = Inode::File(number, file);
+        add(&mut self.slab, &mut self.files, number, inode)
+    }
+
+    /// Drops the directory of a number, where there is one. Takes no memory.
+    pub fn drop_directory(&mut self, number: u64)
+        ensures { self.new ≡ without_directory self.old number }
+    {
+        take_out(&mut self.slab, &mut self.directories, number);
+    }
+
+    /// Drops the file of a number, where there is one. Takes no memory.
+    pub fn drop_file(&mut self, number: u64)
+        ensures { self.new ≡ without_file self.old number }
+    {
+        take_out(&mut self.slab, &mut self.files, number);
+    }
+
+    /// How many directories there are.
+    pub fn directory_count(&self) -> usize
+        ensures { result ≡ map.len self.now.directories }
+    {
+        self.directories.len()
+    }
+
+    /// The directories with their numbers, in rising order of the numbers. Takes no memory.
+    pub fn directories(&self) -> Directories<'_>
+        ensures { result ≡ map.entries self.now.directories }
+    {
+        Directories {
+            slab: &self.slab,
+            keys: self.directories.iter(),
+        }
+    }
+
+    /// The files with their numbers, in rising order of the numbers. Takes no memory.
+    pub fn files(&self) -> Files<'_>
+        ensures { result ≡ map.entries self.now.files }
+    {
+        Files {
+            slab: &self.slab,
+            keys: self.files.iter(),
+        }
+    }
+}
+
+impl Clone for Inodes {
+    ghost is_clone = { λ inodes copy. copy ≡ inodes };
+
+    fn clone(&self) -> Result<Inodes, AllocError> {
+        let slab = self.slab.clone()?;
+        let directories = self.directories.clone()?;
+        let files = self.files.clone()?;
+        Ok(Inodes {
+            slab,
+            directories,
+            files,
+        })
+    }
+}
+
+/// The key of a directory or file, through its index: the one hinted at where it stands there.
+fn key_of(slab: &Slab<Inode>, index: &BTreeMap<u64, usize>, node: Node, near: Hint) -> Option<usize>
+    requires { (key : ℕ) → (key_in index.now.entries (number_of node) ≡ Some key) ↔ (is_node node (get slab.now key) ≡ true) }
+    ensures { result ≡ key_in index.now.entries (number_of node) }
+{
+    match slab.get(near.key) {
+        Some(inode) if inode.is(node) => Some(near.key),
+        _ => index.get(&node.number()).copied(),
+    }
+}
+
+/// Puts an inode under a key that was free, to which its number leads from then on. Want of memory
+/// changes nothing.
+fn add(
+    slab: &mut Slab<Inode>,
+    index: &mut BTreeMap<u64, usize>,
+    number: u64,
+    inode: Inode,
+) -> Result<Hint, Memory>
+    ensures ok { OnOk result (IsAdded slab.old slab.new index.old.entries index.new.entries number inode) }
+    ensures err { OnErr result (SameValues slab.old slab.new) }
+    ensures err_index { OnErr result (IsUnchanged index.old index.new) }
+{
+    slab.reserve(1)?;
+    index.insert(number, slab.vacant_key())?;
+    let key = slab.insert_reserved(inode);
+    Ok(Hint { key })
+}
+
+/// Takes a number with its inode out, where it leads to one.
+fn take_out(slab: &mut Slab<Inode>, index: &mut BTreeMap<u64, usize>, number: u64)
+    ensures slots { (key : ℕ) → (key_in index.old.entries number ≡ Some key → ⊥) → get slab.new key ≡ get slab.old key }
+    ensures emptied { (key : ℕ) → key_in index.old.entries number ≡ Some key → get slab.new key ≡ None }
+    ensures index { (q : ℕ) → key_in index.new.entries q ≡ cond (is_at (nat_cmp number) q) None (key_in index.old.entries q) }
+{
+    if let Some(key) = index.remove(&number) {
+        slab.try_remove(key);
+    }
+}

@@ -1,0 +1,38 @@
+use Rattle.std.proofs.Common.{◌<◌, length, arith, refl, sym, ◌∙◌}
+use Rattle.ft_cells.specs.Entries.{entry_in}
+use Rattle.ft_cells.specs.declared.cell.Cell.TheVariants.{Entry}
+use Rattle.ft_looks.proofs.Searching.{anywhere, lowered, raised, equal_at, halved}
+use Rattle.ft_looks.proofs.touched.place_of_entry.Goals as goal
+use Rattle.ft_looks.proofs.touched.place_of_entry.Goals.{in-Less, in-Greater}
+
+pub loop-from-init : goal.loop-from-init
+loop-from-init c = record {
+  between = anywhere (Entry (entry_in c.args.entry)) c.args.list.now _ refl;
+  within = omega arith;
+  tried = λ left. (omega arith, omega arith);
+}
+
+pub returns-in-Equal-clause-place : goal.returns-in-Equal-clause-place
+returns-in-Equal-clause-place c =
+    let within : c.loop-from.at < length c.args.list.now = (let tried = c.loop-from.invariant.tried c.loop-from-test.true in omega arith) in
+    (equal_at (Entry (entry_in c.args.entry)) c.args.list.now c.loop-from.at c.index-list-at.result c.requires within (sym c.cmp_entry.ensures ∙ c.in-Equal.is)).0
+
+pub returns-in-Equal-clause-noted : goal.returns-in-Equal-clause-noted
+returns-in-Equal-clause-noted c =
+    let within : c.loop-from.at < length c.args.list.now = (let tried = c.loop-from.invariant.tried c.loop-from-test.true in omega arith) in
+    (equal_at (Entry (entry_in c.args.entry)) c.args.list.now c.loop-from.at c.index-list-at.result c.requires within (sym c.cmp_entry.ensures ∙ c.in-Equal.is)).1
+
+pub loop-from-preserved : goal.loop-from-preserved
+loop-from-preserved c =
+    let within : c.loop-from.at < length c.args.list.now = (let tried = c.loop-from.invariant.tried c.loop-from-test.true in omega arith) in
+    record {
+      between = elim c.match-cmp_entry.branch [
+        | in-Less w ↦ lowered (Entry (entry_in c.args.entry)) c.args.list.now _ _ c.loop-from.at c.index-list-at.result c.loop-from.invariant.between within (sym c.cmp_entry.ensures ∙ w.in-Less.is) _ _ w.from-is w.to-is
+        | in-Greater w ↦ raised (Entry (entry_in c.args.entry)) c.args.list.now _ _ c.loop-from.at c.index-list-at.result c.requires c.loop-from.invariant.between within (sym c.cmp_entry.ensures ∙ w.in-Greater.is) _ _ w.from-is w.to-is
+      ];
+      within = elim c.match-cmp_entry.branch [
+        | in-Less w ↦ omega (arith, w.to-is, within)
+        | in-Greater w ↦ omega (arith, w.to-is, c.loop-from.invariant.within)
+      ];
+      tried = λ left. halved _ _ left;
+    }

@@ -1,0 +1,19 @@
+-- The bytes of a name as they are kept.
+use Rattle.std.specs.Prelude.{◌≡◌, ◌≤◌, ℕ, List, take, drop}
+use Rattle.std.specs.List.{AllByRecursion}
+use Rattle.ft_path.specs.declared.TheConstants.{SHORT_NAME}
+use Rattle.ft_path.specs.declared.bytes.Bytes.{Bytes}
+use Rattle.ft_path.specs.declared.bytes.Bytes.TheVariants.{Short, Long}
+
+-- the bytes
+abbrev pub kept : Bytes → List ℕ
+kept (Short len place) = take len place
+kept (Long long) = long.value.items
+
+abbrev pub AreZeros : List ℕ → Type 0
+AreZeros bytes = AllByRecursion (λ byte. byte ≡ 0) bytes
+
+-- in place there are no more than there is room for, and zeros behind them
+abbrev pub Fits : Bytes → Type 0
+Fits (Short len place) = (len ≤ SHORT_NAME) × AreZeros (drop len place)
+Fits (Long long) = Unit {0}

@@ -1,0 +1,112 @@
+// A tree that is read, one place after another.
+ghost use Rattle.std.specs.Prelude.{◌≡◌, ◌↔◌, [], IsTrue, refl};
+ghost use Rattle.std.specs.Option.{option_copied};
+ghost use Rattle.ft_cells.specs.Cells.{entry_of, parent_of, links_of, names_of, body_in};
+
+use crate::reader::Reader;
+use crate::tree::Tree;
+use ft_body::Body;
+use ft_cells::Node;
+use ft_inodes::Hint;
+use ft_path::Name;
+use std::convert::Infallible;
+use std::marker::Model;
+
+/// A tree that is read, and where in it something was found last.
+///
+/// To read on from there, as a walk does, takes no look-up of a number.
+#[derive(Drop)]
+pub struct Cursor<'t> {
+    tree: &'t Tree,
+    near: Hint,
+}
+
+impl<'t> Model for Cursor<'t> {
+    ghost use Rattle.ft_cells.specs.Cells.{Cells, coded_cells};
+
+    ghost Value = { Cells };
+
+    ghost coded = { coded_cells };
+
+    ghost view = { λ a. a.tree.now };
+}
+
+impl<'t> Cursor<'t> {
+    /// A tree of which nothing was read yet.
+    pub fn new(tree: &'t Tree) -> Cursor<'t>
+        ensures { result ≡ tree.entry.now }
+    {
+        Cursor {
+            tree,
+            near: Hint::first(),
+        }
+    }
+
+    /// The tree.
+    pub fn tree(&self) -> &'t Tree
+        ensures { result.now ≡ self.now }
+    {
+        self.tree
+    }
+
+    /// What a name leads to in a directory, as `Tree::entry`.
+    pub fn entry(&mut self, dir: u64, name: &Name) -> Option<Node>
+        ensures node { result ≡ entry_of self.old dir name.now }
+        ensures same { self.new ≡ self.old }
+    {
+        match self.tree.child(dir, name, self.near) {
+            Some((node, near)) => {
+                self.near = near;
+                Some(node)
+            }
+            None => None,
+        }
+    }
+
+    /// The directory that has a directory's entry, as `Tree::parent`.
+    pub fn parent(&self, dir: u64) -> Option<u64>
+        ensures { result ≡ parent_of self.now dir }
+    {
+        self.tree.parent_near(dir, self.near)
+    }
+
+    /// How many entries name a file, as `Tree::links`.
+    pub fn links(&self, file: u64) -> u64
+        ensures { result ≡ links_of self.now file }
+    {
+        self.tree.links_near(file, self.near)
+    }
+
+    /// The bytes of a file, where it is stored, as `Tree::body`.
+    pub fn body(&self, file: u64) -> Option<&'t Body>
+        ensures { option_copied result ≡ body_in self.now file }
+    {
+        self.tree.body_near(file, self.near)
+    }
+
+    /// Whether a directory has no entry, as `Tree::is_empty_dir`.
+    pub fn is_empty_dir(&self, dir: u64) -> bool
+        ensures { IsTrue result ↔ (names_of self.now dir ≡ []) }
+    {
+        self.tree.is_empty_near(dir, self.near)
+    }
+}
+
+/// A tree that is read, and no account kept of what is read.
+impl<'t> Reader for Cursor<'t> {
+    type Want = Infallible;
+
+    ghost cells = { λ cursor. cursor };
+
+    ghost noted = { λ cursor _. cursor };
+
+    ghost stays = { λ _ _. refl };
+
+    fn entry(&mut self, dir: u64, name: &Name) -> Result<Option<Node>, Infallible> {
+        Ok(Cursor::entry(self, dir, name))
+    }
+
+    fn parent(&mut self, dir: u64) -> Result<Option<u64>, Infallible> {
+        Ok(Cursor::parent(self, dir))
+    }
+}
