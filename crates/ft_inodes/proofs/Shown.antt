@@ -1,5 +1,5 @@
 -- What the store answers, from what stands in its slots.
-use Rattle.std.proofs.Common.{◌≡◌, ℕ, Bool, List, [], ◌∷◌, Option, Some, None, IsSome, Result, Ok, Err, OnOk, OnErr, length, suc, refl, sym, ap, subst, ◌∙◌}
+use Rattle.std.proofs.Common.{◌≡◌, ℕ, Bool, List, [], ◌∷◌, Option, Some, None, is_some, IsSome, Result, Ok, Err, OnOk, OnErr, length, suc, refl, sym, ap, subst, ◌∙◌}
 use Rattle.std.proofs.lemmas.Bool.{false≢true}
 use Rattle.std.specs.Borrow.{MutBor}
 use Rattle.std.specs.Option.{option_map, option_copied_mut}
@@ -36,6 +36,14 @@ module _ {X : Type 0} (seen : Option Inode → X) (s : Slab Inode) (index : List
           where
             not_both : {x : X} → Some x ≡ None → ⊥
             not_both h = cc
+
+    -- a number is stored where it has a key
+    pub some-shown : (o : Option ℕ) → o ≡ key_in index n → is_some o ≡ finite.contains_key m n
+    some-shown o at = sym (still_some o) ∙ ap (λ o. is_some (option_map (λ key. seen (get s key)) o)) at ∙ ap is_some (sym (get-shown seen s index n)) ∙ ap (λ m. finite.contains_key m n) is
+      where
+        still_some : (o : Option ℕ) → is_some (option_map (λ key. seen (get s key)) o) ≡ is_some o
+        still_some None = refl
+        still_some (Some key) = refl
 
   keys-listed : (es : List (ℕ × ℕ)) → keys_of (listed_by seen s es) ≡ keys_of es
   keys-listed [] = refl

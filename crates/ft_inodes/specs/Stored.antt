@@ -1,8 +1,10 @@
 -- What is stored of directories and files, by number.
-use Rattle.std.specs.Prelude.{ℕ, refl}
+use Rattle.std.specs.Prelude.{ℕ, Bool, refl}
 use Rattle.std.specs.Ordering.{nat_cmp}
 use Rattle.std.specs.FinMap as map
 use Rattle.std.specs.Coded.{Coded, code_by, coded×, coded_ℕ}
+use Rattle.ft_cells.specs.declared.node.Node.{Node}
+use Rattle.ft_cells.specs.declared.node.Node.TheVariants.{Dir, File}
 use Rattle.ft_cells.specs.Cells.{DirCells, FileCells, coded_dir_cells, coded_file_cells}
 
 pub record InodeCells : Type 0 where
@@ -17,6 +19,11 @@ coded_inode_cells =
 
 abbrev pub no_inode : InodeCells
 no_inode = record { directories = map.empty; files = map.empty }
+
+-- a directory or a file has its number
+abbrev pub is_stored : InodeCells → Node → Bool
+is_stored c (Dir n) = map.contains_key c.directories n
+is_stored c (File n) = map.contains_key c.files n
 
 abbrev pub with_directory : InodeCells → ℕ → DirCells → InodeCells
 with_directory c n d = record { directories = map.insert c.directories n d; files = c.files }

@@ -9,6 +9,7 @@ ghost use Rattle.ft_cells.specs.contracts.open_file.OpenFile as open_file;
 ghost use Rattle.ft_cells.specs.Cells.{Opens, is_open};
 ghost use Rattle.ft_inodes.specs.Openings.{openings, AreCounts, described, one_of};
 
+use crate::hint::{Hint, Hinted, seen_in, value_in, with_hint};
 use ft_base::{Memory, Table};
 use ft_cells::OpenFile;
 use std::alloc::{AllocError, Global};
@@ -20,7 +21,7 @@ use std::marker::Model;
 /// memory for a count was wanting once, the places are gone through instead.
 #[derive(Drop)]
 pub struct Descriptions {
-    places: Table<Option<OpenFile>>,
+    places: Table<Option<Hinted<OpenFile>>>,
     counts: Table<u64>,
     is_counted: bool,
 }
@@ -48,7 +49,7 @@ impl Descriptions {
     }
 
     /// All places.
-    pub fn places(&self) -> &Table<Option<OpenFile>>
+    pub fn places(&self) -> &Table<Option<Hinted<OpenFile>>>
         ensures { result.now ≡ self.now }
     {
         &self.places
@@ -58,7 +59,17 @@ impl Descriptions {
     pub fn get(&self, fd: u64) -> Option<OpenFile>
         ensures { result ≡ option_flatten (map.get self.now fd) }
     {
-        self.places.get(fd).copied().flatten()
+        match self.seen(fd) {
+            Some((open, _)) => Some(open),
+            None => None,
+        }
+    }
+
+    /// The description of a descriptor, and where its file may stand.
+    pub fn seen(&self, fd: u64) -> Option<(OpenFile, Hint)>
+        ensures { option_map (λ seen. seen.0) result ≡ option_flatten (map.get self.now fd) }
+    {
+        seen_in(self.places.get(fd))
     }
 
     /// Whether some descriptor has a file open.
@@ -71,15 +82,20 @@ impl Descriptions {
         is_open(&self.places, file)
     }
 
-    /// Sets a place, and gives back what stood there, if it was there. Only a place that is new can
-    /// want memory.
-    pub fn set(&mut self, fd: u64, to: Option<OpenFile>) -> Result<Option<Option<OpenFile>>, Memory>
+    /// Sets a place, with where the file may stand, and gives back what stood there, if it was
+    /// there. Only a place that is new can want memory.
+    pub fn set(
+        &mut self,
+        fd: u64,
+        to: Option<OpenFile>,
+        near: Hint,
+    ) -> Result<Option<Option<OpenFile>>, Memory>
         ensures was { IfOk result (λ was. was ≡ map.get self.old fd) }
         ensures ok { OnOk result (self.new ≡ map.insert self.old fd to) }
         ensures err { OnErr result (self.new ≡ self.old) }
         ensures place { IsSome (map.get self.old fd) → IsOk result }
     {
-        let was = self.places.insert(fd, to)?;
+        let was = value_in(self.places.insert(fd, with_hint(to, near))?);
         if self.is_counted {
             self.is_counted = recount(&mut self.counts, file_of(was.flatten()), file_of(to));
         }
@@ -90,7 +106,7 @@ impl Descriptions {
     pub fn remove(&mut self, fd: u64)
         ensures { self.new ≡ map.remove self.old fd }
     {
-        let was = self.places.remove(fd);
+        let was = value_in(self.places.remove(fd));
         if self.is_counted {
             self.is_counted = recount(&mut self.counts, file_of(was.flatten()), None);
         }
@@ -121,12 +137,12 @@ impl Clone for Descriptions {
 }
 
 /// Whether some descriptor has a file open.
-fn is_open(places: &Table<Option<OpenFile>>, file: u64) -> bool
+fn is_open(places: &Table<Option<Hinted<OpenFile>>>, file: u64) -> bool
     ensures { result ≡ is_open places.now file }
 {
     for (_, place) in places.iter() {
         if let Some(open) = place {
-            if open.file == file {
+            if open.value().file == file {
                 return true;
             }
         }

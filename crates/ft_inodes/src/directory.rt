@@ -10,7 +10,7 @@ ghost use Rattle.ft_cells.specs.Rows.{named_rows};
 ghost use Rattle.std.specs.Option.{option_flatten, option_map, option_copied};
 ghost use Rattle.ft_cells.specs.Cells.{DirCells, coded_dir_cells, dir_entry, put_dir_entry, put_dir_parent, without_dir_place, HasPlace, filled, dir_names};
 
-use crate::hint::Hint;
+use crate::hint::{Hint, Hinted, seen_in, value_in, with_hint};
 use ft_base::Memory;
 use ft_cells::{EntryRef, Kind, Node, TreeRow};
 use ft_path::Name;
@@ -23,36 +23,7 @@ use std::mem;
 #[derive(Drop)]
 pub struct Directory {
     parent: Option<u64>,
-    entries: BTreeMap<Name, Option<Child>>,
-}
-
-/// What an entry leads to, and where that stood when the entry was set.
-#[derive(Drop)]
-pub(crate) struct Child {
-    node: Node,
-    near: Hint,
-}
-
-impl Model for Child {
-    ghost use Rattle.ft_cells.specs.declared.node.Node.{Node};
-    ghost use Rattle.ft_cells.specs.Nodes.{coded_node};
-
-    ghost Value = { Node };
-
-    ghost coded = { coded_node };
-
-    ghost view = { λ a. a.node };
-}
-
-impl Clone for Child {
-    ghost is_clone = { λ child copy. copy ≡ child };
-
-    fn clone(&self) -> Result<Child, AllocError> {
-        Ok(Child {
-            node: self.node,
-            near: self.near,
-        })
-    }
+    entries: BTreeMap<Name, Option<Hinted<Node>>>,
 }
 
 impl Model for Directory {
@@ -95,7 +66,7 @@ impl Directory {
     pub fn child(&self, name: &Name) -> Option<(Node, Hint)>
         ensures { option_map (λ child. child.0) result ≡ dir_entry self.now name.now }
     {
-        child_in(self.entries.get(name))
+        seen_in(self.entries.get(name))
     }
 
     /// Sets the directory that has its entry, and answers which one it was.
@@ -106,8 +77,8 @@ impl Directory {
         mem::replace(&mut self.parent, parent)
     }
 
-    /// Sets an entry, with where what it leads to may stand, and answers what stood in its place, if
-    /// that was there. Only a place that is new can want memory.
+    /// Sets an entry, with where what it leads to may stand, and answers what stood in its place,
+    /// if that was there. Only a place that is new can want memory.
     pub fn set_entry(
         &mut self,
         name: Name,
@@ -119,7 +90,7 @@ impl Directory {
         ensures err { OnErr result (self.new ≡ self.old) }
         ensures place { HasPlace self.old name → IsOk result }
     {
-        Ok(node_in(self.entries.insert(name, child_of(to, near))?))
+        Ok(value_in(self.entries.insert(name, with_hint(to, near))?))
     }
 
     /// Takes the place of an entry away.
@@ -177,46 +148,15 @@ impl Clone for Directory {
     }
 }
 
-/// What is to stand in a place, with where that may stand.
-fn child_of(to: Option<Node>, near: Hint) -> Option<Child>
-    ensures { result ≡ to }
-{
-    match to {
-        Some(node) => Some(Child { node, near }),
-        None => None,
-    }
-}
-
-/// What stood in a place, where that was there.
-fn node_in(was: Option<Option<Child>>) -> Option<Option<Node>>
-    ensures { result ≡ was }
-{
-    match was {
-        Some(Some(child)) => Some(Some(child.node)),
-        Some(None) => Some(None),
-        None => None,
-    }
-}
-
-/// What stands in a place, and where that may stand.
-fn child_in(place: Option<&Option<Child>>) -> Option<(Node, Hint)>
-    ensures { option_map (λ child. child.0) result ≡ option_flatten (option_copied place.entry) }
-{
-    match place {
-        Some(Some(child)) => Some((child.node, child.near)),
-        _ => None,
-    }
-}
-
 /// Whether there is a place, and nothing in it.
-fn is_empty_place(place: Option<&Option<Child>>) -> bool
+fn is_empty_place(place: Option<&Option<Hinted<Node>>>) -> bool
     ensures { result ≡ (is_some (option_copied place.entry) && is_none (option_flatten (option_copied place.entry))) }
 {
     matches!(place, Some(None))
 }
 
 /// Whether each place is empty.
-fn all_empty(places: &BTreeMap<Name, Option<Child>>) -> bool
+fn all_empty(places: &BTreeMap<Name, Option<Hinted<Node>>>) -> bool
     ensures all { result ≡ list_all (λ place. is_none place) (values places.now) }
     ensures ordered { IsOrdered (slice_cmp nat_cmp) places.now }
 {
@@ -226,7 +166,7 @@ fn all_empty(places: &BTreeMap<Name, Option<Child>>) -> bool
 /// The names that stand in places, in order, with the kinds of what they lead to.
 fn full_places(
     alloc: Global,
-    places: &BTreeMap<Name, Option<Child>>,
+    places: &BTreeMap<Name, Option<Hinted<Node>>>,
 ) -> Result<Vec<(Name, Kind)>, Memory>
     ensures names { IfOk result (λ names. names.items ≡ with_kinds (filter_map filled places.now.entries)) }
     ensures ordered { OnOk result (IsOrdered (slice_cmp nat_cmp) places.now) }
@@ -234,7 +174,7 @@ fn full_places(
     let mut names = Vec::new(alloc);
     for (name, place) in places {
         if let Some(child) = place {
-            names.push((name.clone()?, child.node.kind()))?;
+            names.push((name.clone()?, child.value().kind()))?;
         }
     }
     Ok(names)
@@ -243,7 +183,7 @@ fn full_places(
 /// Puts the entries that stand in places of directory `dir` behind the rows.
 fn push_places(
     dir: u64,
-    places: &BTreeMap<Name, Option<Child>>,
+    places: &BTreeMap<Name, Option<Hinted<Node>>>,
     rows: &mut Vec<TreeRow>,
 ) -> Result<(), Memory>
     ensures rows { OnOk result (rows.new.items ≡ rows.old.items ++ named_rows dir (filter_map filled places.now.entries)) }
@@ -253,7 +193,7 @@ fn push_places(
         if let Some(child) = place {
             rows.push(TreeRow::Edge {
                 entry: EntryRef { dir, name }.to_entry()?,
-                number: child.node.number(),
+                number: child.value().number(),
             })?;
         }
     }

@@ -1,12 +1,12 @@
 // The store of directories and files: each stands in a slab, and an index has its key.
-ghost use Rattle.std.specs.Prelude.{◌≡◌, ◌↔◌, ℕ, true, cond, option_copied, None, Some, OnOk, OnErr};
+ghost use Rattle.std.specs.Prelude.{◌≡◌, ◌↔◌, ℕ, true, cond, is_some, option_copied, None, Some, OnOk, OnErr};
 ghost use Rattle.std.specs.Option.{option_copied_mut};
 ghost use Rattle.std.specs.Ordering.{nat_cmp};
 ghost use Rattle.std.specs.Borrow.{sem};
 ghost use Rattle.std.specs.BTreeMap.{is_at, IsUnchanged};
 ghost use Rattle.std.specs.FinMap as map;
 ghost use Rattle.slab.specs.Slab.{get, SameValues};
-ghost use Rattle.ft_inodes.specs.Stored.{no_inode, with_directory, with_file, without_directory, without_file};
+ghost use Rattle.ft_inodes.specs.Stored.{no_inode, is_stored, with_directory, with_file, without_directory, without_file};
 ghost use Rattle.ft_cells.specs.Nodes.{number_of};
 ghost use Rattle.ft_inodes.specs.Keyed.{key_in, is_node, IsAdded};
 
@@ -62,16 +62,21 @@ impl Inodes {
         }
     }
 
-    /// Where a directory or a file stands, or else `near`, where it is not stored.
-    pub fn hint_of(&self, node: Node, near: Hint) -> Hint {
-        let key = match node {
+    /// Where a directory or a file stands; nothing, where it is not stored. A number above all
+    /// others, as what is new has, is not looked up.
+    pub fn find(&self, node: Node, near: Hint) -> Option<Hint>
+        ensures { is_some result ≡ is_stored self.now node }
+    {
+        match node {
             Node::Dir(number) => key_of(&self.slab, &self.directories, Node::Dir(number), near),
             Node::File(number) => key_of(&self.slab, &self.files, Node::File(number), near),
-        };
-        match key {
-            Some(key) => Hint { key },
-            None => near,
         }
+        .map(|key| Hint { key })
+    }
+
+    /// Where a directory or a file stands, or else `near`, where it is not stored.
+    pub fn hint_of(&self, node: Node, near: Hint) -> Hint {
+        self.find(node, near).unwrap_or(near)
     }
 
     /// The directory of a number.
@@ -198,8 +203,19 @@ fn key_of(slab: &Slab<Inode>, index: &BTreeMap<u64, usize>, node: Node, near: Hi
 {
     match slab.get(near.key) {
         Some(inode) if inode.is(node) => Some(near.key),
-        _ => index.get(&node.number()).copied(),
+        _ => looked_up(index, node.number()),
     }
+}
+
+/// The key of a number. One that is above all others is not looked for.
+fn looked_up(index: &BTreeMap<u64, usize>, number: u64) -> Option<usize>
+    ensures { result ≡ key_in index.now.entries number }
+{
+    let (last, _) = index.last_key_value()?;
+    if number > *last {
+        return None;
+    }
+    index.get(&number).copied()
 }
 
 /// Puts an inode under a key that was free, to which its number leads from then on. Want of memory

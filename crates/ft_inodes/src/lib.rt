@@ -17,6 +17,6 @@ mod listed;
 pub use descriptions::Descriptions;
 pub use directory::Directory;
 pub use file::File;
-pub use hint::Hint;
+pub use hint::{Hint, Hinted};
 pub use inodes::Inodes;
 pub use listed::{Directories, Files};

@@ -60,8 +60,8 @@ again : (b : Bool) (x y : Mode) (o : Option Mode) → cond b (Some y) (cond b (S
 again true x y o = refl
 again false x y o = refl
 
-noted-again : (m : Modes) (c : Cell) (x y : Mode) → finite.insert (finite.insert m c x) c y ≡ finite.insert m c y
-noted-again m c x y = finite.same_map cell_cmp_total cell_cmp_exact _ _ (λ q.
+noted-twice : (m : Modes) (c : Cell) (x y : Mode) → finite.insert (finite.insert m c x) c y ≡ finite.insert m c y
+noted-twice m c x y = finite.same_map cell_cmp_total cell_cmp_exact _ _ (λ q.
     finite.get-insert cell_cmp_total _ c y q ∙ ap (cond (eq_by_cmp cell_cmp q c) (Some y)) (finite.get-insert cell_cmp_total m c x q)
     ∙ again (eq_by_cmp cell_cmp q c) x y (finite.get m q) ∙ sym (finite.get-insert cell_cmp_total m c y q))
 
@@ -111,7 +111,7 @@ module _ {S : Type 0} (R : S → Access → Access → Bool → S → Access →
             let left : IsMerged x more ys = merged t x more ys (subst (λ l. DedupsFrom R t l more ys) (k ∙ ap (λ c. access c x.mode) (sym same)) rest) up.1 in
             record {
               order = left.order;
-              same = λ m. left.same m ∙ ap (λ n. with_notes n more) (sym (noted-again m x.cell a.mode x.mode) ∙ ap (λ c. finite.insert (finite.insert m c a.mode) x.cell x.mode) same);
+              same = λ m. left.same m ∙ ap (λ n. with_notes n more) (sym (noted-twice m x.cell a.mode x.mode) ∙ ap (λ c. finite.insert (finite.insert m c a.mode) x.cell x.mode) same);
               below = λ c h. left.below c (ap (cell_cmp c) same ∙ h);
             }
         | false ↦ λ e kept rest.

@@ -72,9 +72,9 @@ put-noted c x items new at order place none is =
     still-noted c x _ items new order refl (note-new c items items at false (record { seen_is = refl; place = place; noted = sym none }) x (map_of items) order refl refl new is)
 
 -- one that gets another mode is noted so
-pub noted-again : (c : Cell) (x : Mode) (old : Modes) (items seen : List Access) (at : ℕ) (b : Bool) → IsFoundAt c items seen at b → AreInOrder items → with_notes finite.empty items ≡ old → b ≡ true
+pub set-noted : (c : Cell) (x : Mode) (old : Modes) (items seen : List Access) (at : ℕ) (b : Bool) → IsFoundAt c items seen at b → AreInOrder items → with_notes finite.empty items ≡ old → b ≡ true
     → (there d : Access) → there ≡ slice_index_or items at d → AreInOrder (slice_set items at (access there.cell x)) × (with_notes finite.empty (slice_set items at (access there.cell x)) ≡ finite.insert old c x)
-noted-again c x old items seen at b found order view sure there d is =
+set-noted c x old items seen at b found order view sure there d is =
     still-noted c x old items _ order view (note-again c items seen at b found x (map_of items) order refl sure there d is)
 
 -- one that is pushed is noted

@@ -65,7 +65,7 @@ impl<'t> Look<'t> {
         ensures { Finds self.old (look_at (Fd fd)) self.new result }
     {
         self.touched.read(Cell::Fd(fd))?;
-        Ok(self.cursor.tree().open_file(fd))
+        Ok(self.cursor.open_file(fd))
     }
 
     /// Whether a directory has no entry.

@@ -2,11 +2,11 @@
 ghost use Rattle.std.specs.Prelude.{◌≡◌, true, false, IfOk, OnOk, if◌then◌else◌};
 ghost use Rattle.std.specs.FinMap as finite;
 ghost use Rattle.ft_cells.specs.Entries.{entry_in};
-ghost use Rattle.ft_cells.specs.CellOrder.{same_cell};
+ghost use Rattle.ft_cells.specs.CellOrder.{cell_cmp, same_cell};
 ghost use Rattle.ft_cells.specs.declared.cell.Cell.TheVariants.{Entry};
 ghost use Rattle.ft_posix.specs.declared.call.Mode.TheVariants.{Read as ReadMode, Write as WriteMode};
 ghost use Rattle.ft_posix.specs.Accesses.{listed, place_in, is_noted, AreInOrder};
-ghost use Rattle.ft_looks.specs.Notes.{with_notes, AreInOrderIf};
+ghost use Rattle.ft_looks.specs.Notes.{with_notes, cell_of, AreInOrderIf};
 
 use ft_base::Memory;
 use ft_posix::{Access, Mode};
@@ -64,28 +64,28 @@ impl Touched {
     pub(crate) fn read(&mut self, cell: Cell) -> Result<(), Memory>
         ensures { OnOk result (self.new ≡ finite.insert self.old cell ReadMode) }
     {
-        self.note(cell, Mode::Read)
+        self.note(CellOrEntry::Cell(cell), Mode::Read)
     }
 
     /// Notes that an entry is looked at.
     pub(crate) fn read_entry(&mut self, entry: EntryRef<'_>) -> Result<(), Memory>
         ensures { OnOk result (self.new ≡ finite.insert self.old (Entry (entry_in entry.entry)) ReadMode) }
     {
-        self.note_entry(entry, Mode::Read)
+        self.note(CellOrEntry::Entry(entry), Mode::Read)
     }
 
     /// Notes that a cell is given a value.
     pub(crate) fn write(&mut self, cell: Cell) -> Result<(), Memory>
         ensures { OnOk result (self.new ≡ finite.insert self.old cell WriteMode) }
     {
-        self.note(cell, Mode::Write)
+        self.note(CellOrEntry::Cell(cell), Mode::Write)
     }
 
     /// Notes that an entry is given a value.
     pub(crate) fn write_entry(&mut self, entry: EntryRef<'_>) -> Result<(), Memory>
         ensures { OnOk result (self.new ≡ finite.insert self.old (Entry (entry_in entry.entry)) WriteMode) }
     {
-        self.note_entry(entry, Mode::Write)
+        self.note(CellOrEntry::Entry(entry), Mode::Write)
     }
 
     /// The accesses, in the order of their cells. Takes memory only where that order was given up.
@@ -105,18 +105,20 @@ impl Touched {
     }
 
     /// Notes how a cell is touched.
-    fn note(&mut self, cell: Cell, mode: Mode) -> Result<(), Memory>
-        ensures { OnOk result (self.new ≡ finite.insert self.old cell mode) }
+    fn note(&mut self, touched: CellOrEntry<'_>, mode: Mode) -> Result<(), Memory>
+        ensures { OnOk result (self.new ≡ finite.insert self.old (cell_of touched.entry) mode) }
     {
         if !self.is_in_order {
+            let cell = touched.into_cell()?;
             self.list.push(Access { cell, mode })?;
             return Ok(());
         }
-        let (at, is_noted) = place_of(self.list.as_slice(), &cell);
+        let (at, is_noted) = place_of(self.list.as_slice(), &touched);
         if is_noted {
             self.list[at].mode = mode;
             return Ok(());
         }
+        let cell = touched.into_cell()?;
         put(
             &mut self.list,
             &mut self.is_in_order,
@@ -124,29 +126,35 @@ impl Touched {
             Access { cell, mode },
         )
     }
+}
 
-    /// Notes how an entry is touched. While the order is kept, its name is copied only where it was
-    /// not noted yet.
-    fn note_entry(&mut self, entry: EntryRef<'_>, mode: Mode) -> Result<(), Memory>
-        ensures { OnOk result (self.new ≡ finite.insert self.old (Entry (entry_in entry.entry)) mode) }
+/// A cell that is touched. The name of an entry is borrowed, and copied only where the cell is put
+/// into the list.
+#[derive(Drop)]
+enum CellOrEntry<'a> {
+    Cell(Cell),
+    Entry(EntryRef<'a>),
+}
+
+impl CellOrEntry<'_> {
+    /// How it stands to a cell in the order of cells.
+    fn cmp(&self, cell: &Cell) -> Ordering
+        ensures { result ≡ cell_cmp (cell_of self.now) cell.now }
     {
-        if !self.is_in_order {
-            let cell = Cell::Entry(entry.to_entry()?);
-            self.list.push(Access { cell, mode })?;
-            return Ok(());
+        match self {
+            CellOrEntry::Cell(own) => own.cmp(cell),
+            CellOrEntry::Entry(entry) => cell.cmp_entry(*entry),
         }
-        let (at, is_noted) = place_of_entry(self.list.as_slice(), entry);
-        if is_noted {
-            self.list[at].mode = mode;
-            return Ok(());
+    }
+
+    /// The cell. Only an entry's takes memory, for its name.
+    fn into_cell(self) -> Result<Cell, Memory>
+        ensures { IfOk result (λ cell. cell ≡ cell_of self.entry) }
+    {
+        match self {
+            CellOrEntry::Cell(cell) => Ok(cell),
+            CellOrEntry::Entry(entry) => Ok(Cell::Entry(entry.to_entry()?)),
         }
-        let cell = Cell::Entry(entry.to_entry()?);
-        put(
-            &mut self.list,
-            &mut self.is_in_order,
-            at,
-            Access { cell, mode },
-        )
     }
 }
 
@@ -165,36 +173,16 @@ fn merge(later: &mut Access, kept: &mut Access) -> bool
 
 /// How many accesses stand before a cell's, and whether it has one: most come behind all others,
 /// which is tried first, and the place of another is found by halves.
-fn place_of(list: &[Access], cell: &Cell) -> (usize, bool)
+fn place_of(list: &[Access], touched: &CellOrEntry<'_>) -> (usize, bool)
     requires { AreInOrder list.now }
-    ensures place { result.0 ≡ place_in cell.now list.now }
-    ensures noted { result.1 ≡ is_noted cell.now list.now }
+    ensures place { result.0 ≡ place_in (cell_of touched.now) list.now }
+    ensures noted { result.1 ≡ is_noted (cell_of touched.now) list.now }
 {
     let mut from = 0;
     let mut to = list.len();
     let mut at = to.saturating_sub(1);
     while from < to {
-        match cell.cmp(&list[at].cell) {
-            Ordering::Less => to = at,
-            Ordering::Equal => return (at, true),
-            Ordering::Greater => from = at + 1,
-        }
-        at = from + (to - from) / 2;
-    }
-    (from, false)
-}
-
-/// The same of an entry's cell.
-fn place_of_entry(list: &[Access], entry: EntryRef<'_>) -> (usize, bool)
-    requires { AreInOrder list.now }
-    ensures place { result.0 ≡ place_in (Entry (entry_in entry.entry)) list.now }
-    ensures noted { result.1 ≡ is_noted (Entry (entry_in entry.entry)) list.now }
-{
-    let mut from = 0;
-    let mut to = list.len();
-    let mut at = to.saturating_sub(1);
-    while from < to {
-        match list[at].cell.cmp_entry(entry) {
+        match touched.cmp(&list[at].cell) {
             Ordering::Less => to = at,
             Ordering::Equal => return (at, true),
             Ordering::Greater => from = at + 1,

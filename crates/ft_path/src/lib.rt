@@ -23,6 +23,6 @@ pub const LONGEST_NAME: usize = 255;
 /// The most bytes that a path has: {PATH_MAX} is 4,096, and counts the null byte at the end.
 pub const LONGEST_PATH: usize = 4095;
 
-/// A name of at most so many bytes takes no memory. They stand in the name itself, with one byte for
-/// how many they are and one that tells them from bytes on the heap, which makes 24.
+/// A name of at most so many bytes takes no memory. They stand in the name itself, with one byte
+/// for how many they are and one that tells them from bytes on the heap, which makes 24.
 pub const SHORT_NAME: usize = 22;

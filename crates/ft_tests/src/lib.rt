@@ -7,8 +7,4 @@ mod of_core;
 #[cfg(test)]
 mod of_shared;
 #[cfg(test)]
-mod of_views;
-#[cfg(test)]
 mod of_waits;
-#[cfg(test)]
-mod scripts;

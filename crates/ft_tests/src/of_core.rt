@@ -1,19 +1,13 @@
 // Scripts worked by hand, one call of the core a request; lists of requests; the numbers of the
 // faults, and what is printed.
-use crate::scripts::{Answers, Line, Wanted, plays};
 use ft_calls::Mode;
 use ft_core::{Answer, Core, Fault, LiveChild, Request, Rule, TxnId};
 use ft_locks::{LockKind, LockLine};
 use ft_path::Errno;
+use ft_test_scripts::{Answers, Line, Wanted, plays};
 use ft_tree::{Cell, TreeRow};
 use std::alloc::Global;
 use std::test::Fail;
-
-impl Answers for Core {
-    fn answer_to(&mut self, request: Request) -> Answer {
-        self.answer(request)
-    }
-}
 
 /// Carries a script out on a new core, and says whether each line is answered as it says.
 fn plays_anew(alloc: Global, script: &[(Line, Wanted)]) -> Result<bool, Fail> {

@@ -1,12 +1,12 @@
 // A tree that is read, one place after another.
 ghost use Rattle.std.specs.Prelude.{◌≡◌, ◌↔◌, [], IsTrue, refl};
 ghost use Rattle.std.specs.Option.{option_copied};
-ghost use Rattle.ft_cells.specs.Cells.{entry_of, parent_of, links_of, names_of, body_in};
+ghost use Rattle.ft_cells.specs.Cells.{entry_of, parent_of, links_of, names_of, body_in, open_of};
 
 use crate::reader::Reader;
 use crate::tree::Tree;
 use ft_body::Body;
-use ft_cells::Node;
+use ft_cells::{Node, OpenFile};
 use ft_inodes::Hint;
 use ft_path::Name;
 use std::convert::Infallible;
@@ -61,6 +61,16 @@ impl<'t> Cursor<'t> {
             }
             None => None,
         }
+    }
+
+    /// The open file description of a descriptor, as `Tree::open_file`.
+    pub fn open_file(&mut self, fd: u64) -> Option<OpenFile>
+        ensures open { result ≡ open_of self.old fd }
+        ensures same { self.new ≡ self.old }
+    {
+        let (open, near) = self.tree.opened(fd)?;
+        self.near = near;
+        Some(open)
     }
 
     /// The directory that has a directory's entry, as `Tree::parent`.

@@ -7,7 +7,7 @@ ghost use Rattle.ft_tree.specs.Tidy.{dirs_from, edges_from, files_from, opens_fr
 use crate::tree::ROOT;
 use ft_base::{Memory, Table};
 use ft_cells::{OpenFile, TreeRow};
-use ft_inodes::{Descriptions, Inodes};
+use ft_inodes::{Descriptions, Hinted, Inodes};
 use std::alloc::Global;
 
 /// Puts the directories that are there behind the rows.
@@ -58,12 +58,13 @@ pub(crate) fn push_files(
 pub(crate) fn push_opens(
     alloc: Global,
     rows: &mut Vec<TreeRow>,
-    opens: &Table<Option<OpenFile>>,
+    opens: &Table<Option<Hinted<OpenFile>>>,
 ) -> Result<(), Memory>
     ensures { OnOk result (rows.new.items ≡ rows.old.items ++ open_rows (opens_from (finite.entries opens.now))) }
 {
     for (fd, place) in opens.sorted(alloc)? {
-        if let Some(open) = place {
+        if let Some(hinted) = place {
+            let open = hinted.value();
             rows.push(TreeRow::Fd {
                 fd,
                 file: open.file,

@@ -197,7 +197,7 @@ impl Tree {
         ensures place { HasEntryPlace self.old entry.dir entry.name → IsOk result }
     {
         let Entry { dir, name } = entry;
-        let leads = self.hint_to(to);
+        let leads = self.hint_to(to, self.near);
         self.near = self.inodes.hint_of(Node::Dir(dir), self.near);
         match self.inodes.directory_mut(dir, self.near) {
             Some(directory) => directory.set_entry(name, to, leads),
@@ -222,14 +222,17 @@ impl Tree {
         ensures err { OnErr result (self.new ≡ self.old) }
         ensures place { HasDirPlace self.old dir → IsOk result }
     {
-        self.near = self.inodes.hint_of(Node::Dir(dir), self.near);
-        if let Some(directory) = self.inodes.directory_mut(dir, self.near) {
-            return Ok(Some(directory.set_parent(parent)));
+        let Some(near) = self.inodes.find(Node::Dir(dir), self.near) else {
+            self.near = self
+                .inodes
+                .add_directory(dir, Directory::new(self.alloc, parent))?;
+            return Ok(None);
+        };
+        self.near = near;
+        match self.inodes.directory_mut(dir, near) {
+            Some(directory) => Ok(Some(directory.set_parent(parent))),
+            None => unreachable!(),
         }
-        self.near = self
-            .inodes
-            .add_directory(dir, Directory::new(self.alloc, parent))?;
-        Ok(None)
     }
 
     /// Sets how many entries name a file. A file that was not stored comes without bytes, and no
@@ -243,12 +246,15 @@ impl Tree {
         ensures err { OnErr result (self.new ≡ self.old) }
         ensures place { HasFilePlace self.old file → IsOk result }
     {
-        self.near = self.inodes.hint_of(Node::File(file), self.near);
-        if let Some(stored) = self.inodes.file_mut(file, self.near) {
-            return Ok(Some(stored.set_links(links)));
+        let Some(near) = self.inodes.find(Node::File(file), self.near) else {
+            self.near = self.inodes.add_file(file, File::new(self.alloc, links))?;
+            return Ok(None);
+        };
+        self.near = near;
+        match self.inodes.file_mut(file, near) {
+            Some(stored) => Ok(Some(stored.set_links(links))),
+            None => unreachable!(),
         }
-        self.near = self.inodes.add_file(file, File::new(self.alloc, links))?;
-        Ok(None)
     }
 
     /// Writes bytes to a file at an offset, as many as have room below the size limit, with zeros
@@ -328,7 +334,12 @@ impl Tree {
         ensures err { OnErr result (self.new ≡ self.old) }
         ensures place { HasOpenPlace self.old fd → IsOk result }
     {
-        self.opens.set(fd, to)
+        let near = match self.opens.seen(fd) {
+            Some((_, near)) => near,
+            None => self.near,
+        };
+        self.near = self.hint_to(to.map(|open| Node::File(open.file)), near);
+        self.opens.set(fd, to, self.near)
     }
 
     /// Takes the place of a cell away, with all that stands in it: a directory's with its entries,
@@ -521,6 +532,13 @@ impl Tree {
         self.inodes.directory(dir, near)?.child(name)
     }
 
+    /// What `open_file` answers, and where its file may stand.
+    pub(crate) fn opened(&self, fd: u64) -> Option<(OpenFile, Hint)>
+        ensures { option_map (λ opened. opened.0) result ≡ open_of self.now fd }
+    {
+        self.opens.seen(fd)
+    }
+
     /// What `parent` answers, where the directory may stand at `near`.
     pub(crate) fn parent_near(&self, dir: u64, near: Hint) -> Option<u64>
         ensures { result ≡ parent_of self.now dir }
@@ -558,11 +576,11 @@ impl Tree {
         }
     }
 
-    /// Where what an entry leads to stands.
-    fn hint_to(&self, to: Option<Node>) -> Hint {
+    /// Where what an entry or a description leads to stands, or else `near`.
+    fn hint_to(&self, to: Option<Node>, near: Hint) -> Hint {
         match to {
-            Some(node) => self.inodes.hint_of(node, self.near),
-            None => self.near,
+            Some(node) => self.inodes.hint_of(node, near),
+            None => near,
         }
     }
 

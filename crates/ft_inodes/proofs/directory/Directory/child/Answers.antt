@@ -9,4 +9,4 @@ use Rattle.ft_inodes.proofs.directory.Directory.child.Goals as goal
 pub returns : goal.returns
 returns c =
     let place = c.get.ensures.value ∙ sym (get-view nat_list_cmp_total c.self.inside.entries.entries c.args.name.now) in
-    c.child_in.ensures ∙ ap option_flatten place ∙ ap (λ d. dir_entry d c.args.name.now) c.self.view_is
+    c.seen_in.ensures ∙ ap option_flatten place ∙ ap (λ d. dir_entry d c.args.name.now) c.self.view_is

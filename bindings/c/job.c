@@ -1,0 +1,269 @@
+/* job: carries out a job of steps on a tree in memory, and prints the tree that it leaves.
+ *
+ *     job < FILE
+ *
+ * A line of FILE is one of these; words are separated by spaces, and # begins a comment:
+ *
+ *     step NAME         the lines up to the next step belong to this one
+ *     mkdir PATH        makes a directory
+ *     put PATH TEXT     makes a file of the rest of the line
+ *     add PATH TEXT     adds the rest of the line to a file
+ *     copy FROM TO      copies a file
+ *     move FROM TO      renames a file or a directory
+ *     remove PATH       removes a file
+ *     need PATH         fails where the path leads to nothing
+ *
+ * Each step is a transaction inside that of the job. One that fails is taken back, with all it has
+ * done so far; the others stay. The status is 0 where no step has failed, 1 where one has, and
+ * 2 where the job could not be carried out.
+ */
+#include <nuzolged.h>
+
+#include <inttypes.h>
+#include <stdio.h>
+#include <stdlib.h>
+
+enum { LONGEST_LINE = 4096, LONGEST_NAME = 255, LONGEST_FILE = 1048576 };
+
+/* A job: its tree, its transaction, and the step at which it is. */
+typedef struct job {
+    nuz_tree tree;
+    uint64_t txn;
+    uint64_t step;  /* the transaction of the step; 0 before the first, and once it has failed */
+    unsigned failures;
+    char name[LONGEST_LINE];
+} job;
+
+/* What a line of a step does, given its two words, and what came in its way: a code. */
+typedef uint32_t (*action)(job *, const char *, const char *);
+
+/* ---- actions */
+
+static uint32_t do_mkdir(job *job, const char *path, const char *rest) {
+    (void)rest;
+    return nuz_mkdir(&job->tree, job->step, NUZ_S(path)).code;
+}
+
+/* Opens a file, writes these bytes to it, and closes it. */
+static uint32_t write_file(job *job, const char *path, const uint8_t *bytes, size_t len,
+                           bool add) {
+    nuz_tree *tree = &job->tree;
+    nuz_answer opened =
+        nuz_open(tree, job->step, NUZ_S(path), NUZ_WRITE_ONLY, true, !add, false, add);
+    if (opened.code != 0) {
+        return opened.code;
+    }
+    /* (a file that is full takes fewer bytes, and then none, which is EFBIG) */
+    for (size_t done = 0; done < len;) {
+        nuz_answer written = nuz_write(tree, job->step, opened.number, bytes + done, len - done);
+        if (written.code != 0) {
+            return written.code;
+        }
+        done += written.number;
+    }
+    return nuz_close(tree, job->step, opened.number).code;
+}
+
+static uint32_t do_put(job *job, const char *path, const char *rest) {
+    return write_file(job, path, NUZ_S(rest), false);
+}
+
+static uint32_t do_add(job *job, const char *path, const char *rest) {
+    return write_file(job, path, NUZ_S(rest), true);
+}
+
+static uint32_t do_copy(job *job, const char *from, const char *to) {
+    static uint8_t bytes[LONGEST_FILE];
+    nuz_answer opened = nuz_open(&job->tree, job->step, NUZ_S(from), NUZ_READ_ONLY, false, false,
+                                 false, false);
+    if (opened.code != 0) {
+        return opened.code;
+    }
+    nuz_answer got = nuz_read(&job->tree, job->step, opened.number, bytes, sizeof bytes);
+    if (got.code != 0) {
+        return got.code;
+    }
+    uint32_t code = nuz_close(&job->tree, job->step, opened.number).code;
+    return code != 0 ? code : write_file(job, to, bytes, got.number, false);
+}
+
+static uint32_t do_move(job *job, const char *from, const char *to) {
+    return nuz_rename(&job->tree, job->step, NUZ_S(from), NUZ_S(to)).code;
+}
+
+static uint32_t do_remove(job *job, const char *path, const char *rest) {
+    (void)rest;
+    return nuz_unlink(&job->tree, job->step, NUZ_S(path)).code;
+}
+
+static uint32_t do_need(job *job, const char *path, const char *rest) {
+    (void)rest;
+    return nuz_stat(&job->tree, job->step, NUZ_S(path)).code;
+}
+
+static const struct {
+    const char *word;
+    action act;
+} ACTIONS[] = {
+    { "mkdir", do_mkdir }, { "put", do_put },       { "add", do_add },   { "copy", do_copy },
+    { "move", do_move },   { "remove", do_remove }, { "need", do_need },
+};
+
+/* The action of a word, or NULL. */
+static action action_of(const char *word) {
+    for (size_t i = 0; i < sizeof ACTIONS / sizeof *ACTIONS; i++) {
+        if (strcmp(word, ACTIONS[i].word) == 0) {
+            return ACTIONS[i].act;
+        }
+    }
+    return NULL;
+}
+
+/* ---- steps */
+
+/* Gives up: nothing of a job of which this is answered can be told. */
+static void give_up(const char *what, uint32_t code) {
+    fprintf(stderr, "job: %s: code %" PRIu32 "\n", what, code);
+    exit(2);
+}
+
+/* Commits the step at which the job is, if there is one. */
+static void end_step(job *job) {
+    if (job->step == 0) {
+        return;
+    }
+    uint32_t code = nuz_commit(&job->tree, job->step).code;
+    if (code != 0) {
+        give_up("commit", code);
+    }
+    printf("%s: done\n", job->name);
+    job->step = 0;
+}
+
+/* Takes back the step at which the job is, and says at which line, and why. */
+static void fail_step(job *job, const char *word, const char *path, uint32_t code) {
+    nuz_answer aborted = nuz_abort(&job->tree, job->step);
+    if (aborted.code != 0) {
+        give_up("abort", aborted.code);
+    }
+    const char *why = code < NUZ_MEMORY ? strerror((int)code) : "refused";
+    printf("%s: failed at %s %s: %s; calls taken back: %" PRIu64 "\n", job->name, word, path, why,
+           aborted.number);
+    job->step = 0;
+    job->failures++;
+}
+
+static void begin_step(job *job, const char *name) {
+    end_step(job);
+    nuz_answer begun = nuz_sub(&job->tree, job->txn);
+    if (begun.code != 0) {
+        give_up("step", begun.code);
+    }
+    job->step = begun.number;
+    snprintf(job->name, sizeof job->name, "%s", name);
+}
+
+/* Carries out a line. Those behind the failure of a step are passed over. */
+static void do_line(job *job, char *line) {
+    line[strcspn(line, "\n")] = '\0';
+    char *word = strtok(line, " ");
+    if (word == NULL || word[0] == '#') {
+        return;
+    }
+    char *path = strtok(NULL, " ");
+    char *rest = strtok(NULL, "");
+    if (path == NULL) {
+        give_up(word, NUZ_BAD);
+    }
+    if (strcmp(word, "step") == 0) {
+        begin_step(job, path);
+        return;
+    }
+    action act = action_of(word);
+    if (act == NULL) {
+        give_up(word, NUZ_BAD);
+    }
+    if (job->step != 0) {
+        uint32_t code = act(job, path, rest != NULL ? rest : "");
+        if (code != 0) {
+            fail_step(job, word, path, code);
+        }
+    }
+}
+
+/* ---- the tree that is left */
+
+/* Prints the bytes of a file behind its name. */
+static void print_file(job *job, const char *path) {
+    static uint8_t bytes[LONGEST_FILE];
+    nuz_answer opened = nuz_open(&job->tree, job->txn, NUZ_S(path), NUZ_READ_ONLY, false, false,
+                                 false, false);
+    nuz_answer got = nuz_read(&job->tree, job->txn, opened.number, bytes, sizeof bytes);
+    if (got.code != 0) {
+        give_up(path, got.code);
+    }
+    nuz_close(&job->tree, job->txn, opened.number);
+    printf("%s: %.*s\n", path, (int)got.number, (const char *)bytes);
+}
+
+/* A name of a directory. */
+typedef struct entry {
+    nuz_answer told;
+    char name[LONGEST_NAME];
+} entry;
+
+static void print_below(job *job, const char *path);
+
+/* Prints what a name of a directory leads to. The path of the directory ends with a slash. */
+static void print_entry(job *job, const char *directory, const entry *entry) {
+    char path[LONGEST_LINE];
+    bool is_dir = entry->told.kind == NUZ_DIR;
+    int size = snprintf(path, sizeof path, "%s%.*s%s", directory, (int)entry->told.size,
+                        entry->name, is_dir ? "/" : "");
+    if (size < 0 || (size_t)size >= sizeof path) {
+        give_up(directory, NUZ_BAD);
+    }
+    if (!is_dir) {
+        print_file(job, path);
+        return;
+    }
+    puts(path);
+    print_below(job, path);
+}
+
+/* Prints what is below a directory. The names are taken before another request is made. */
+static void print_below(job *job, const char *path) {
+    uint64_t count = nuz_list(&job->tree, job->txn, NUZ_S(path)).number;
+    entry *entries = calloc(count + 1, sizeof *entries);
+    if (entries == NULL) {
+        give_up(path, NUZ_MEMORY);
+    }
+    for (uint64_t i = 0; i < count; i++) {
+        entries[i].told = nuz_name(&job->tree, i, (uint8_t *)entries[i].name, LONGEST_NAME);
+    }
+    for (uint64_t i = 0; i < count; i++) {
+        print_entry(job, path, &entries[i]);
+    }
+    free(entries);
+}
+
+int main(void) {
+    static job job = { .tree = NUZ_TREE_INIT };
+    uint32_t code = nuz_tree_open(&job.tree, NUZ_PROFILE);
+    if (code != 0) {
+        give_up("open", code);
+    }
+    job.txn = nuz_begin(&job.tree).number;
+    char line[LONGEST_LINE];
+    while (fgets(line, sizeof line, stdin) != NULL) {
+        do_line(&job, line);
+    }
+    end_step(&job);
+    print_below(&job, "/");
+    code = nuz_commit(&job.tree, job.txn).code;
+    nuz_tree_close(&job.tree);
+    if (code != 0) {
+        give_up("commit", code);
+    }
+    return job.failures == 0 ? EXIT_SUCCESS : EXIT_FAILURE;
+}

@@ -1,0 +1,265 @@
+/* nuzolged.h: a POSIX file tree in memory, under nested transactions.
+ *
+ * Link libnuzolged: the static library with the heap of its toolchain, or the shared object of both.
+ * It needs memcpy, memmove, memset, malloc, realloc and free, and nothing else of the C library.
+ *
+ * A function carries out one request, whole, or changes nothing, and its answer says which. The
+ * library starts no thread, takes no lock, calls nobody back, and never ends the process.
+ *
+ * What the caller owes, and nothing checks:
+ *
+ * - A nuz_tree is NUZ_TREE_INIT, or as a function of this header has left it. It is not copied: one
+ *   nuz_tree owns one tree. It may go to another thread.
+ * - One function of a tree runs at a time. Threads that share a tree take a lock around each call,
+ *   and around a call with the nuz_name, nuz_blocker, nuz_bytes or nuz_reply that belong to it.
+ * - A pointer comes with a length, and has at least so many bytes behind it. It is not null, also
+ *   where the length is 0. What a function writes to lies apart from all else that it is given.
+ * - No function is called from a signal handler, nor in a child of fork before exec, where the
+ *   process has threads.
+ *
+ * The caller keeps all that it passes: paths, bytes and lines are copied, and no pointer is kept.
+ * The tree keeps all that it holds: no pointer into it is given out.
+ *
+ * The names of directories and files are bytes, of no encoding. A path is absolute or not, which is
+ * the same here: there is no working directory but the root.
+ */
+#ifndef NUZOLGED_H
+#define NUZOLGED_H
+
+#include <stdbool.h>
+#include <stddef.h>
+#include <stdint.h>
+#include <string.h>
+
+#ifdef __cplusplus
+extern "C" {
+#endif
+
+/* A handle: a tree, or none. It is closed while it is NUZ_TREE_INIT, and after nuz_tree_close. */
+typedef struct nuz_tree {
+    void *at;
+} nuz_tree;
+
+#define NUZ_TREE_INIT { NULL }
+
+/* What a request came to. Members that a function does not speak of are 0. */
+typedef struct nuz_answer {
+    uint32_t code;   /* 0, an errno, or one of the codes below */
+    uint32_t kind;   /* NUZ_DIR or NUZ_FILE */
+    uint64_t stamp;  /* of a call that was granted: its place among all of them */
+    uint64_t number; /* a transaction, a descriptor, an offset, a count, or the number of a file */
+    uint64_t links;  /* how many names a file has */
+    uint64_t size;   /* how many bytes there are */
+} nuz_answer;
+
+/* The codes of an answer.
+ *
+ * 0          The request was carried out; a call was granted, and has its stamp.
+ * 1 to 75    An errno, as Linux numbers them (errno.h). The call was granted, has its stamp, failed,
+ *            and changed nothing. Only calls answer one.
+ * 1001 on    The request is refused. Nothing has changed.
+ * 1100       NUZ_WAITS. The call waits for transactions, which nuz_blocker tells. It is kept:
+ *            nuz_retry makes it, and nuz_drop forgets it; a further call replaces it.
+ * 1200       NUZ_CLOSED. The handle holds no tree. Nothing has changed.
+ * 1201       NUZ_BAD. A path has a null byte, or another argument is none that there is, as the
+ *            function says. Nothing has changed.
+ */
+enum {
+    NUZ_MEMORY = 1001,          /* there was no memory */
+    NUZ_NO_TXN = 1002,          /* no transaction has this number since the last checkpoint */
+    NUZ_ENDED = 1003,           /* the transaction has committed or is aborted */
+    NUZ_CHILD_LIVE = 1004,      /* the transaction has a live subtransaction */
+    NUZ_NOTHING_TO_UNDO = 1005, /* the transaction has no call that could be undone */
+    NUZ_SUB_SINCE = 1006,       /* a subtransaction has committed since its last call */
+    NUZ_FULL = 1007,            /* a limit is reached: of transactions or calls; a checkpoint helps */
+    NUZ_DEEP = 1008,            /* the transaction stands as deep as one may */
+    NUZ_LIVE = 1009,            /* a transaction is live */
+    NUZ_NO_ASK = 1010,          /* the transaction waits for no call */
+    NUZ_WAITS = 1100,
+    NUZ_CLOSED = 1200,
+    NUZ_BAD = 1201
+};
+
+/* Kinds. */
+enum { NUZ_DIR = 1, NUZ_FILE = 2 };
+
+/* The rules of nuz_tree_open. Under both a call waits where a transaction has a conflicting lock
+ * that is neither the caller nor above it. Under NUZ_MOSS it waits too for a transaction above it
+ * that holds such a lock itself, and does not only keep it for one below that has committed. */
+enum { NUZ_PROFILE = 0, NUZ_MOSS = 1 };
+
+/* The access of nuz_open, as O_RDONLY, O_WRONLY and O_RDWR. */
+enum { NUZ_READ_ONLY = 0, NUZ_WRITE_ONLY = 1, NUZ_READ_WRITE = 2 };
+
+/* The whence of nuz_lseek, as SEEK_SET, SEEK_CUR and SEEK_END. */
+enum { NUZ_SET = 0, NUZ_CUR = 1, NUZ_END = 2 };
+
+/* A C string as the two arguments of a path, a line or bytes. */
+#define NUZ_S(text) (const uint8_t *)(text), strlen(text)
+
+/* ---- trees */
+
+/* Opens a tree: the root alone, and no transaction. The handle owns it until nuz_tree_close. What
+ * the handle held is freed. Answers 0; NUZ_MEMORY; or NUZ_BAD where there is no such rule: then the
+ * handle holds what it held. */
+uint32_t nuz_tree_open(nuz_tree *tree, uint32_t rule);
+
+/* Frees the tree, with all transactions, live ones too. The handle is closed; a closed one stays
+ * so, so that closing twice does no harm. */
+void nuz_tree_close(nuz_tree *tree);
+
+/* ---- transactions
+ *
+ * Each of these answers NUZ_CLOSED, the refusals that it names, in their order, or what it says. */
+
+/* Begins a transaction: number is that of the transaction. The caller ends it, by a commit or an
+ * abort. Refused: NUZ_FULL, NUZ_MEMORY. */
+nuz_answer nuz_begin(nuz_tree *tree);
+
+/* Begins a subtransaction of txn: number is that of the subtransaction. Refused: NUZ_NO_TXN,
+ * NUZ_ENDED, NUZ_DEEP, NUZ_FULL, NUZ_MEMORY. */
+nuz_answer nuz_sub(nuz_tree *tree, uint64_t txn);
+
+/* Commits txn: hands what it did to the transaction around it, or to the tree. Takes no memory.
+ * Refused: NUZ_NO_TXN, NUZ_ENDED, NUZ_CHILD_LIVE. */
+nuz_answer nuz_commit(nuz_tree *tree, uint64_t txn);
+
+/* Aborts txn with all that is live below it, and takes back what they did, and what committed
+ * subtransactions of it did: number is how many calls. Takes no memory. Refused: NUZ_NO_TXN,
+ * NUZ_ENDED. */
+nuz_answer nuz_abort(nuz_tree *tree, uint64_t txn);
+
+/* Takes back the last of txn's own calls that stand: stamp is that of the call. Takes no memory.
+ * Refused: NUZ_NO_TXN, NUZ_ENDED, NUZ_CHILD_LIVE, then NUZ_SUB_SINCE or NUZ_NOTHING_TO_UNDO. */
+nuz_answer nuz_undo(nuz_tree *tree, uint64_t txn);
+
+/* Forgets the call that txn waits for. Takes no memory. Refused: NUZ_NO_TXN, NUZ_ENDED,
+ * NUZ_NO_ASK. */
+nuz_answer nuz_drop(nuz_tree *tree, uint64_t txn);
+
+/* Makes the call that txn waits for, and answers as that call; or it waits further, by NUZ_WAITS.
+ * The bytes of a read are fetched by nuz_bytes, the names of a list by nuz_name. Refused:
+ * NUZ_NO_TXN, NUZ_ENDED, NUZ_NO_ASK, NUZ_FULL, NUZ_MEMORY. */
+nuz_answer nuz_retry(nuz_tree *tree, uint64_t txn);
+
+/* Makes the tree as it stands the beginning, and forgets the transactions and what has happened:
+ * limits count from here, and numbers go on. Refused: NUZ_LIVE, NUZ_MEMORY. */
+nuz_answer nuz_checkpoint(nuz_tree *tree);
+
+/* ---- calls
+ *
+ * Each makes one call inside txn, and is what POSIX.1-2017 says of the function of that name.
+ * Each answers NUZ_CLOSED; NUZ_BAD where a path has a null byte; the refusals NUZ_NO_TXN,
+ * NUZ_ENDED, NUZ_FULL, in this order, and NUZ_MEMORY; NUZ_WAITS; or was granted, with its stamp: 0,
+ * or one of the errnos that it names. A path also gives ENOENT, ENOTDIR and ENAMETOOLONG.
+ *
+ * Want of memory for the copy of a path or of bytes is answered before it is looked for the
+ * transaction. */
+
+/* Makes a directory. EEXIST. */
+nuz_answer nuz_mkdir(nuz_tree *tree, uint64_t txn, const uint8_t *path, size_t len);
+
+/* Removes an empty directory. EINVAL, ENOTEMPTY, EBUSY. */
+nuz_answer nuz_rmdir(nuz_tree *tree, uint64_t txn, const uint8_t *path, size_t len);
+
+/* The names of a directory, without . and ..: number is how many, and nuz_name tells each. */
+nuz_answer nuz_list(nuz_tree *tree, uint64_t txn, const uint8_t *path, size_t len);
+
+/* What a path leads to: kind, number, links and size. A directory has one link and size 0. */
+nuz_answer nuz_stat(nuz_tree *tree, uint64_t txn, const uint8_t *path, size_t len);
+
+/* Removes a name of a file. The file lives while a descriptor has it open. EPERM. */
+nuz_answer nuz_unlink(nuz_tree *tree, uint64_t txn, const uint8_t *path, size_t len);
+
+/* Cuts a file to size bytes, or adds zeros up to them. EINVAL, EFBIG, EISDIR. */
+nuz_answer nuz_truncate(nuz_tree *tree, uint64_t txn, const uint8_t *path, size_t len,
+                        int64_t size);
+
+/* Gives a file a further name. EPERM, EEXIST, EMLINK. */
+nuz_answer nuz_link(nuz_tree *tree, uint64_t txn, const uint8_t *from, size_t from_len,
+                    const uint8_t *to, size_t to_len);
+
+/* Gives a file or a directory another name, in place of what had that name. EINVAL, EBUSY, EISDIR,
+ * ENOTEMPTY. */
+nuz_answer nuz_rename(nuz_tree *tree, uint64_t txn, const uint8_t *from, size_t from_len,
+                      const uint8_t *to, size_t to_len);
+
+/* Opens a file at offset 0: number is the descriptor. access is NUZ_READ_ONLY, NUZ_WRITE_ONLY or
+ * NUZ_READ_WRITE, and NUZ_BAD is answered for another; the others are as O_CREAT, O_EXCL, O_TRUNC
+ * and O_APPEND, and are 0 or 1. A descriptor is the tree's: any transaction may use it once that of
+ * its open has committed. The caller closes it. EINVAL, EEXIST, EISDIR. */
+nuz_answer nuz_open(nuz_tree *tree, uint64_t txn, const uint8_t *path, size_t len, uint32_t access,
+                    bool create, bool excl, bool trunc, bool append);
+
+/* Closes a descriptor. EBADF. */
+nuz_answer nuz_close(nuz_tree *tree, uint64_t txn, uint64_t fd);
+
+/* What a descriptor has open: kind, number, links and size. EBADF. */
+nuz_answer nuz_fstat(nuz_tree *tree, uint64_t txn, uint64_t fd);
+
+/* Cuts the file of a descriptor to size bytes, or adds zeros up to them. EBADF, EINVAL, EFBIG. */
+nuz_answer nuz_ftruncate(nuz_tree *tree, uint64_t txn, uint64_t fd, int64_t size);
+
+/* Sets the offset of a descriptor: number is the new one. whence is NUZ_SET, NUZ_CUR or NUZ_END,
+ * and NUZ_BAD is answered for another. EBADF, EINVAL, EOVERFLOW. */
+nuz_answer nuz_lseek(nuz_tree *tree, uint64_t txn, uint64_t fd, int64_t off, uint32_t whence);
+
+/* Reads at the offset as many bytes as buffer has room for, and moves the offset: number is how
+ * many there were, which stand at the front of buffer. The rest of buffer is untouched, and all of
+ * it where the answer is another. Where it waits, the bytes come by nuz_retry and nuz_bytes.
+ * EBADF. */
+nuz_answer nuz_read(nuz_tree *tree, uint64_t txn, uint64_t fd, uint8_t *buffer, size_t room);
+
+/* The same at off, and the offset stays. EBADF, EINVAL. */
+nuz_answer nuz_pread(nuz_tree *tree, uint64_t txn, uint64_t fd, uint8_t *buffer, size_t room,
+                     int64_t off);
+
+/* Writes at the offset, or at the end of a file that is open for appending, as many bytes as have
+ * room in the file, and moves the offset: number is how many. EBADF, EFBIG. */
+nuz_answer nuz_write(nuz_tree *tree, uint64_t txn, uint64_t fd, const uint8_t *bytes, size_t len);
+
+/* The same at off, and the offset stays. EBADF, EINVAL, EFBIG. */
+nuz_answer nuz_pwrite(nuz_tree *tree, uint64_t txn, uint64_t fd, const uint8_t *bytes, size_t len,
+                      int64_t off);
+
+/* ---- parts of the last answer
+ *
+ * They read the answer to the last request of this tree that was carried out, refused or made to
+ * wait, and change nothing. (One that was answered NUZ_BAD, or that had no memory for a copy of its
+ * path or bytes, was none.) Each answers 0; NUZ_CLOSED; or NUZ_BAD where that answer has no such
+ * part. */
+
+/* A name of a list, counted from 0, in the order of bytes: kind, and in size how long it is. As
+ * much of it as has room is copied to buffer, whose rest is untouched; there is no null byte behind
+ * it. A name has 1 to 255 bytes. */
+nuz_answer nuz_name(nuz_tree *tree, size_t index, uint8_t *buffer, size_t room);
+
+/* A transaction for which the call waits, counted from 0, in rising order: number is that of the
+ * transaction. */
+nuz_answer nuz_blocker(nuz_tree *tree, size_t index);
+
+/* The bytes of a read: size is how many. As many of them as have room are copied to buffer, whose
+ * rest is untouched. For a read that nuz_retry has made, and for one by nuz_request. */
+nuz_answer nuz_bytes(nuz_tree *tree, uint8_t *buffer, size_t room);
+
+/* ---- lines of a script
+ *
+ * The same requests as text, and reports, which have no other form (docs/SCRIPT.md). */
+
+/* Carries out one line, without its line feed. A request is answered as its function answers it. A
+ * report, `tree`, `locks` or `waits`, changes nothing of the tree, and is answered 0; so is an empty
+ * line or a comment, which asks for nothing: size is how long the reply is. NUZ_BAD: the line asks
+ * for none of these. NUZ_MEMORY too where there was none for the words of the line, or for the text
+ * of a report; where there was none for what a report tells of, its reply is `refused Memory`. */
+nuz_answer nuz_request(nuz_tree *tree, const uint8_t *line, size_t len);
+
+/* The text of the reply to the last request, whether it was a line or not, each of its lines with
+ * its line feed: size is how many bytes. As many of them as have room are copied to buffer, whose
+ * rest is untouched. NUZ_MEMORY: there was none for the text; ask again. */
+nuz_answer nuz_reply(nuz_tree *tree, uint8_t *buffer, size_t room);
+
+#ifdef __cplusplus
+}
+#endif
+
+#endif

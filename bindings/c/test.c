@@ -1,0 +1,691 @@
+/* Calls every function of nuzolged.h, and compares what it answers with what the header says.
+ *
+ *     test [TREES]
+ *
+ * TREES is how many trees are opened and closed one after another in flat memory, 100,000 if it is
+ * not given; where it is, what takes long is left out. The last line is 'N passed, M failed', and
+ * the status is 0 where none failed.
+ *
+ * It is linked with --wrap=malloc and --wrap=realloc, so that memory runs out when a test says so.
+ */
+#include <nuzolged.h>
+
+#include <errno.h>
+#include <fcntl.h>
+#include <inttypes.h>
+#include <stdio.h>
+#include <stdlib.h>
+
+/* Ends a test, which has failed, where this does not hold. */
+#define CHECK(holds)                                                       \
+    do {                                                                   \
+        if (!(holds)) {                                                    \
+            fprintf(stderr, "line %d: not so: %s\n", __LINE__, #holds);   \
+            return false;                                                  \
+        }                                                                  \
+    } while (0)
+
+static uint64_t most_trees = 100000;
+static bool is_short;
+
+/* ---- memory that runs out */
+
+/* How many allocations succeed before one fails; with -1 all do. */
+static long allocations_left = -1;
+
+void *__real_malloc(size_t size);
+void *__real_realloc(void *old, size_t size);
+void *__wrap_malloc(size_t size);
+void *__wrap_realloc(void *old, size_t size);
+
+static bool runs_out(void) {
+    if (allocations_left < 0) {
+        return false;
+    }
+    if (allocations_left == 0) {
+        return true;
+    }
+    allocations_left--;
+    return false;
+}
+
+void *__wrap_malloc(size_t size) {
+    return runs_out() ? NULL : __real_malloc(size);
+}
+
+void *__wrap_realloc(void *old, size_t size) {
+    return runs_out() ? NULL : __real_realloc(old, size);
+}
+
+/* ---- what the tests begin with */
+
+/* Opens the tree of a test. */
+static bool opened(nuz_tree *tree) {
+    return nuz_tree_open(tree, NUZ_PROFILE) == 0;
+}
+
+/* Opens a file that may be there: its descriptor, or 0. */
+static uint64_t open_file(nuz_tree *tree, uint64_t txn, const char *path) {
+    nuz_answer answer =
+        nuz_open(tree, txn, NUZ_S(path), NUZ_READ_WRITE, true, false, false, false);
+    return answer.code == 0 ? answer.number : 0;
+}
+
+/* Makes a file of these bytes, closed. */
+static bool make_file(nuz_tree *tree, uint64_t txn, const char *path, const char *bytes) {
+    uint64_t fd = open_file(tree, txn, path);
+    return nuz_write(tree, txn, fd, NUZ_S(bytes)).number == strlen(bytes)
+        && nuz_close(tree, txn, fd).code == 0;
+}
+
+/* Whether the reply to the last request is this text. */
+static bool replied(nuz_tree *tree, const char *text) {
+    uint8_t buffer[1024];
+    nuz_answer reply = nuz_reply(tree, buffer, sizeof buffer);
+    return reply.code == 0 && reply.size == strlen(text)
+        && memcmp(buffer, text, reply.size) == 0;
+}
+
+/* Whether a line is carried out with this reply. */
+static bool says(nuz_tree *tree, const char *line, const char *text) {
+    return nuz_request(tree, NUZ_S(line)).code != NUZ_BAD && replied(tree, text);
+}
+
+/* Whether the n-th name of the last list is this one, of this kind. */
+static bool is_name(nuz_tree *tree, size_t index, const char *name, uint32_t kind) {
+    uint8_t buffer[255];
+    nuz_answer told = nuz_name(tree, index, buffer, sizeof buffer);
+    return told.code == 0 && told.kind == kind && told.size == strlen(name)
+        && memcmp(buffer, name, told.size) == 0;
+}
+
+/* ---- handles */
+
+static bool closed_handle_is_told(void) {
+    nuz_tree t = NUZ_TREE_INIT;
+    uint8_t b[4] = "keep";
+    const uint8_t *p = (const uint8_t *)"/a";
+    CHECK(nuz_begin(&t).code == NUZ_CLOSED && nuz_sub(&t, 1).code == NUZ_CLOSED);
+    CHECK(nuz_commit(&t, 1).code == NUZ_CLOSED && nuz_abort(&t, 1).code == NUZ_CLOSED);
+    CHECK(nuz_undo(&t, 1).code == NUZ_CLOSED && nuz_retry(&t, 1).code == NUZ_CLOSED);
+    CHECK(nuz_drop(&t, 1).code == NUZ_CLOSED && nuz_checkpoint(&t).code == NUZ_CLOSED);
+    CHECK(nuz_mkdir(&t, 1, p, 2).code == NUZ_CLOSED && nuz_rmdir(&t, 1, p, 2).code == NUZ_CLOSED);
+    CHECK(nuz_list(&t, 1, p, 2).code == NUZ_CLOSED && nuz_stat(&t, 1, p, 2).code == NUZ_CLOSED);
+    CHECK(nuz_unlink(&t, 1, p, 2).code == NUZ_CLOSED);
+    CHECK(nuz_truncate(&t, 1, p, 2, 0).code == NUZ_CLOSED);
+    CHECK(nuz_link(&t, 1, p, 2, p, 2).code == NUZ_CLOSED);
+    CHECK(nuz_rename(&t, 1, p, 2, p, 2).code == NUZ_CLOSED);
+    CHECK(nuz_open(&t, 1, p, 2, 0, false, false, false, false).code == NUZ_CLOSED);
+    CHECK(nuz_close(&t, 1, 1).code == NUZ_CLOSED && nuz_fstat(&t, 1, 1).code == NUZ_CLOSED);
+    CHECK(nuz_ftruncate(&t, 1, 1, 0).code == NUZ_CLOSED);
+    CHECK(nuz_lseek(&t, 1, 1, 0, NUZ_SET).code == NUZ_CLOSED);
+    CHECK(nuz_read(&t, 1, 1, b, sizeof b).code == NUZ_CLOSED);
+    CHECK(nuz_pread(&t, 1, 1, b, sizeof b, 0).code == NUZ_CLOSED);
+    CHECK(nuz_write(&t, 1, 1, b, sizeof b).code == NUZ_CLOSED);
+    CHECK(nuz_pwrite(&t, 1, 1, b, sizeof b, 0).code == NUZ_CLOSED);
+    CHECK(nuz_name(&t, 0, b, sizeof b).code == NUZ_CLOSED);
+    CHECK(nuz_blocker(&t, 0).code == NUZ_CLOSED);
+    CHECK(nuz_bytes(&t, b, sizeof b).code == NUZ_CLOSED);
+    CHECK(nuz_request(&t, NUZ_S("begin")).code == NUZ_CLOSED);
+    CHECK(nuz_reply(&t, b, sizeof b).code == NUZ_CLOSED);
+    CHECK(memcmp(b, "keep", 4) == 0 && t.at == NULL);
+    return true;
+}
+
+static bool handle_is_closed_twice(void) {
+    nuz_tree t = NUZ_TREE_INIT;
+    nuz_tree_close(&t);
+    CHECK(opened(&t) && t.at != NULL);
+    CHECK(nuz_begin(&t).number == 1);
+    nuz_tree_close(&t);
+    CHECK(t.at == NULL && nuz_abort(&t, 1).code == NUZ_CLOSED);
+    nuz_tree_close(&t);
+    CHECK(t.at == NULL);
+    CHECK(opened(&t) && nuz_begin(&t).number == 1);
+    nuz_tree_close(&t);
+    return true;
+}
+
+static bool open_handle_is_opened_anew(void) {
+    nuz_tree t = NUZ_TREE_INIT;
+    CHECK(nuz_tree_open(&t, 2) == NUZ_BAD && t.at == NULL);
+    CHECK(opened(&t));
+    CHECK(nuz_begin(&t).number == 1 && nuz_mkdir(&t, 1, NUZ_S("/a")).code == 0);
+    CHECK(nuz_tree_open(&t, 2) == NUZ_BAD);
+    CHECK(nuz_stat(&t, 1, NUZ_S("/a")).code == 0);
+    CHECK(opened(&t));
+    CHECK(nuz_stat(&t, 1, NUZ_S("/a")).code == NUZ_NO_TXN);
+    nuz_tree_close(&t);
+    return true;
+}
+
+/* The memory that this process has now, in pages; -1 where that is not told. */
+static long pages_of_memory(void) {
+    long pages = -1;
+    FILE *told = fopen("/proc/self/statm", "r");
+    if (told != NULL) {
+        if (fscanf(told, "%*d %ld", &pages) != 1) {
+            pages = -1;
+        }
+        fclose(told);
+    }
+    return pages;
+}
+
+static bool open_and_close(uint64_t count) {
+    for (uint64_t i = 0; i < count; i++) {
+        nuz_tree t = NUZ_TREE_INIT;
+        CHECK(opened(&t) && nuz_begin(&t).number == 1);
+        CHECK(make_file(&t, 1, "/f", "some bytes"));
+        nuz_tree_close(&t);
+    }
+    return true;
+}
+
+static bool trees_are_closed_in_flat_memory(void) {
+    CHECK(open_and_close(most_trees / 100));
+    long before = pages_of_memory();
+    CHECK(open_and_close(most_trees - most_trees / 100));
+    /* (ten bytes of each tree would be as much) */
+    CHECK(is_short || (before > 0 && pages_of_memory() - before < 250));
+    return true;
+}
+
+static bool trees_are_apart(void) {
+    nuz_tree a = NUZ_TREE_INIT, b = NUZ_TREE_INIT;
+    CHECK(opened(&a) && opened(&b));
+    CHECK(nuz_begin(&a).number == 1 && nuz_begin(&b).number == 1);
+    CHECK(nuz_mkdir(&a, 1, NUZ_S("/a")).code == 0);
+    CHECK(nuz_stat(&b, 1, NUZ_S("/a")).code == ENOENT);
+    nuz_tree_close(&a);
+    CHECK(nuz_commit(&b, 1).code == 0);
+    nuz_tree_close(&b);
+    return true;
+}
+
+/* ---- transactions */
+
+static bool transactions_nest(void) {
+    nuz_tree t = NUZ_TREE_INIT;
+    CHECK(opened(&t));
+    CHECK(nuz_begin(&t).number == 1 && nuz_sub(&t, 1).number == 2);
+    nuz_answer made = nuz_mkdir(&t, 2, NUZ_S("/a"));
+    CHECK(made.code == 0 && made.stamp == 2 && made.number == 0 && made.kind == 0);
+    CHECK(nuz_commit(&t, 2).code == 0 && nuz_sub(&t, 1).number == 3);
+    CHECK(nuz_mkdir(&t, 3, NUZ_S("/a/b")).stamp == 3);
+    nuz_answer failed = nuz_mkdir(&t, 3, NUZ_S("/a/b"));
+    CHECK(failed.code == EEXIST && failed.stamp == 4);
+    nuz_answer aborted = nuz_abort(&t, 3);
+    CHECK(aborted.code == 0 && aborted.number == 2 && aborted.stamp == 0);
+    CHECK(nuz_stat(&t, 1, NUZ_S("/a/b")).code == ENOENT);
+    CHECK(nuz_abort(&t, 1).number == 2);
+    CHECK(says(&t, "tree", "tree 1\ndir 1\n"));
+    nuz_tree_close(&t);
+    return true;
+}
+
+static bool calls_are_undone(void) {
+    nuz_tree t = NUZ_TREE_INIT;
+    CHECK(opened(&t) && nuz_begin(&t).number == 1);
+    CHECK(nuz_mkdir(&t, 1, NUZ_S("/a")).stamp == 2);
+    CHECK(nuz_mkdir(&t, 1, NUZ_S("/b")).stamp == 3);
+    nuz_answer undone = nuz_undo(&t, 1);
+    CHECK(undone.code == 0 && undone.stamp == 3 && undone.number == 0);
+    CHECK(nuz_undo(&t, 1).stamp == 2);
+    CHECK(nuz_undo(&t, 1).code == NUZ_NOTHING_TO_UNDO);
+    CHECK(says(&t, "tree", "tree 1\ndir 1\n"));
+    nuz_tree_close(&t);
+    return true;
+}
+
+static bool refusals_are_told(void) {
+    nuz_tree t = NUZ_TREE_INIT;
+    CHECK(opened(&t) && nuz_begin(&t).number == 1);
+    CHECK(nuz_sub(&t, 9).code == NUZ_NO_TXN && nuz_commit(&t, 9).code == NUZ_NO_TXN);
+    CHECK(nuz_abort(&t, 0).code == NUZ_NO_TXN && nuz_undo(&t, 9).code == NUZ_NO_TXN);
+    CHECK(nuz_mkdir(&t, UINT64_MAX, NUZ_S("/a")).code == NUZ_NO_TXN);
+    CHECK(nuz_retry(&t, 1).code == NUZ_NO_ASK && nuz_drop(&t, 1).code == NUZ_NO_ASK);
+    CHECK(nuz_checkpoint(&t).code == NUZ_LIVE);
+    CHECK(nuz_sub(&t, 1).number == 2);
+    CHECK(nuz_commit(&t, 1).code == NUZ_CHILD_LIVE && nuz_undo(&t, 1).code == NUZ_CHILD_LIVE);
+    CHECK(nuz_commit(&t, 2).code == 0 && nuz_commit(&t, 2).code == NUZ_ENDED);
+    CHECK(nuz_undo(&t, 1).code == NUZ_SUB_SINCE);
+    nuz_answer refused = nuz_mkdir(&t, 2, NUZ_S("/a"));
+    CHECK(refused.code == NUZ_ENDED && refused.stamp == 0 && refused.number == 0);
+    nuz_tree_close(&t);
+    return true;
+}
+
+static bool depth_is_limited(void) {
+    nuz_tree t = NUZ_TREE_INIT;
+    CHECK(opened(&t) && nuz_begin(&t).number == 1);
+    uint64_t deepest = 1;
+    for (nuz_answer below = nuz_sub(&t, 1); below.code == 0; below = nuz_sub(&t, deepest)) {
+        deepest = below.number;
+    }
+    CHECK(deepest == 64 && nuz_sub(&t, deepest).code == NUZ_DEEP);
+    CHECK(nuz_abort(&t, 1).code == 0 && nuz_commit(&t, deepest).code == NUZ_ENDED);
+    nuz_tree_close(&t);
+    return true;
+}
+
+static bool checkpoint_forgets(void) {
+    nuz_tree t = NUZ_TREE_INIT;
+    CHECK(opened(&t) && nuz_begin(&t).number == 1);
+    CHECK(nuz_mkdir(&t, 1, NUZ_S("/a")).code == 0 && nuz_commit(&t, 1).code == 0);
+    CHECK(nuz_checkpoint(&t).code == 0 && nuz_commit(&t, 1).code == NUZ_NO_TXN);
+    CHECK(nuz_begin(&t).number == 2 && nuz_stat(&t, 2, NUZ_S("/a")).stamp == 3);
+    nuz_tree_close(&t);
+    return true;
+}
+
+static bool transactions_are_used_up(void) {
+    nuz_tree t = NUZ_TREE_INIT;
+    CHECK(opened(&t));
+    for (uint64_t txn = 1; !is_short && txn <= 100000; txn++) {
+        CHECK(nuz_begin(&t).number == txn && nuz_abort(&t, txn).code == 0);
+    }
+    CHECK(is_short || nuz_begin(&t).code == NUZ_FULL);
+    CHECK(nuz_checkpoint(&t).code == 0 && nuz_begin(&t).code == 0);
+    nuz_tree_close(&t);
+    return true;
+}
+
+/* ---- calls on paths */
+
+static bool directories_are_made_and_removed(void) {
+    nuz_tree t = NUZ_TREE_INIT;
+    CHECK(opened(&t) && nuz_begin(&t).number == 1);
+    CHECK(nuz_mkdir(&t, 1, NUZ_S("/b")).code == 0 && nuz_mkdir(&t, 1, NUZ_S("a")).code == 0);
+    CHECK(nuz_mkdir(&t, 1, NUZ_S("/b/\xff")).code == 0 && make_file(&t, 1, "/c", ""));
+    nuz_answer listed = nuz_list(&t, 1, NUZ_S("/"));
+    CHECK(listed.code == 0 && listed.number == 3);
+    CHECK(is_name(&t, 0, "a", NUZ_DIR) && is_name(&t, 1, "b", NUZ_DIR));
+    CHECK(is_name(&t, 2, "c", NUZ_FILE) && nuz_name(&t, 3, (uint8_t[1]){ 0 }, 1).code == NUZ_BAD);
+    CHECK(nuz_list(&t, 1, NUZ_S("/b")).number == 1 && is_name(&t, 0, "\xff", NUZ_DIR));
+    nuz_answer told = nuz_stat(&t, 1, NUZ_S("/b"));
+    CHECK(told.code == 0 && told.kind == NUZ_DIR && told.number == 2 && told.links == 1);
+    CHECK(told.size == 0 && nuz_rmdir(&t, 1, NUZ_S("/b")).code == ENOTEMPTY);
+    CHECK(nuz_rmdir(&t, 1, NUZ_S("/b/\xff")).code == 0 && nuz_rmdir(&t, 1, NUZ_S("/b")).code == 0);
+    CHECK(nuz_stat(&t, 1, NUZ_S("/b")).code == ENOENT);
+    nuz_tree_close(&t);
+    return true;
+}
+
+static bool names_of_files_change(void) {
+    nuz_tree t = NUZ_TREE_INIT;
+    CHECK(opened(&t) && nuz_begin(&t).number == 1);
+    CHECK(make_file(&t, 1, "/f", "four"));
+    CHECK(nuz_link(&t, 1, NUZ_S("/f"), NUZ_S("/g")).code == 0);
+    nuz_answer told = nuz_stat(&t, 1, NUZ_S("/g"));
+    CHECK(told.kind == NUZ_FILE && told.number == 2 && told.links == 2 && told.size == 4);
+    CHECK(nuz_rename(&t, 1, NUZ_S("/g"), NUZ_S("/h")).code == 0);
+    CHECK(nuz_unlink(&t, 1, NUZ_S("/f")).code == 0);
+    CHECK(nuz_truncate(&t, 1, NUZ_S("/h"), 2).code == 0);
+    told = nuz_stat(&t, 1, NUZ_S("/h"));
+    CHECK(told.number == 2 && told.links == 1 && told.size == 2);
+    CHECK(nuz_list(&t, 1, NUZ_S("/")).number == 1 && is_name(&t, 0, "h", NUZ_FILE));
+    nuz_tree_close(&t);
+    return true;
+}
+
+static bool names_are_cut_to_the_room(void) {
+    nuz_tree t = NUZ_TREE_INIT;
+    uint8_t b[6] = "......";
+    CHECK(opened(&t) && nuz_begin(&t).number == 1 && make_file(&t, 1, "/name", ""));
+    CHECK(nuz_list(&t, 1, NUZ_S("/")).number == 1);
+    CHECK(nuz_name(&t, 0, b, 0).size == 4 && memcmp(b, "......", 6) == 0);
+    CHECK(nuz_name(&t, 0, b, 2).size == 4 && memcmp(b, "na....", 6) == 0);
+    CHECK(nuz_name(&t, 0, b, 6).size == 4 && memcmp(b, "name..", 6) == 0);
+    nuz_tree_close(&t);
+    return true;
+}
+
+static bool bad_arguments_are_told(void) {
+    nuz_tree t = NUZ_TREE_INIT;
+    const uint8_t *nul = (const uint8_t *)"/a\0b", *p = (const uint8_t *)"/a";
+    CHECK(opened(&t) && nuz_begin(&t).number == 1);
+    CHECK(nuz_mkdir(&t, 1, nul, 4).code == NUZ_BAD && nuz_rmdir(&t, 1, nul, 4).code == NUZ_BAD);
+    CHECK(nuz_list(&t, 1, nul, 4).code == NUZ_BAD && nuz_stat(&t, 1, nul, 4).code == NUZ_BAD);
+    CHECK(nuz_unlink(&t, 1, nul, 4).code == NUZ_BAD);
+    CHECK(nuz_truncate(&t, 1, nul, 4, 0).code == NUZ_BAD);
+    CHECK(nuz_link(&t, 1, nul, 4, p, 2).code == NUZ_BAD);
+    CHECK(nuz_link(&t, 1, p, 2, nul, 4).code == NUZ_BAD);
+    CHECK(nuz_rename(&t, 1, nul, 4, p, 2).code == NUZ_BAD);
+    CHECK(nuz_rename(&t, 1, p, 2, nul, 4).code == NUZ_BAD);
+    CHECK(nuz_open(&t, 1, nul, 4, 0, false, false, false, false).code == NUZ_BAD);
+    CHECK(nuz_open(&t, 1, p, 2, 3, true, false, false, false).code == NUZ_BAD);
+    CHECK(nuz_lseek(&t, 1, 1, 0, 3).code == NUZ_BAD);
+    nuz_answer bad = nuz_mkdir(&t, 9, nul, 4);
+    CHECK(bad.code == NUZ_BAD && bad.stamp == 0 && bad.number == 0);
+    CHECK(nuz_mkdir(&t, 1, nul, 2).stamp == 2);
+    CHECK(nuz_mkdir(&t, 1, nul, 0).code == ENOENT);
+    nuz_tree_close(&t);
+    return true;
+}
+
+/* ---- calls on descriptors */
+
+static bool files_are_written_and_read(void) {
+    nuz_tree t = NUZ_TREE_INIT;
+    uint8_t b[12] = "............";
+    CHECK(opened(&t) && nuz_begin(&t).number == 1);
+    uint64_t fd = open_file(&t, 1, "/f");
+    CHECK(fd == 2 && nuz_write(&t, 1, fd, NUZ_S("two words")).number == 9);
+    CHECK(nuz_lseek(&t, 1, fd, 4, NUZ_SET).number == 4);
+    nuz_answer got = nuz_read(&t, 1, fd, b, 3);
+    CHECK(got.code == 0 && got.number == 3 && memcmp(b, "wor.........", 12) == 0);
+    CHECK(nuz_lseek(&t, 1, fd, 0, NUZ_CUR).number == 7);
+    CHECK(nuz_pread(&t, 1, fd, b, sizeof b, 1).number == 8);
+    CHECK(memcmp(b, "wo words....", 12) == 0 && nuz_lseek(&t, 1, fd, 0, NUZ_CUR).number == 7);
+    CHECK(nuz_pwrite(&t, 1, fd, NUZ_S("T"), 0).number == 1);
+    CHECK(nuz_lseek(&t, 1, fd, -1, NUZ_END).number == 8 && nuz_read(&t, 1, fd, b, 12).number == 1);
+    CHECK(b[0] == 's' && nuz_read(&t, 1, fd, b, 12).number == 0 && b[0] == 's');
+    CHECK(nuz_ftruncate(&t, 1, fd, 3).code == 0);
+    nuz_answer told = nuz_fstat(&t, 1, fd);
+    CHECK(told.kind == NUZ_FILE && told.number == 2 && told.links == 1 && told.size == 3);
+    CHECK(nuz_bytes(&t, b, sizeof b).code == NUZ_BAD);
+    CHECK(nuz_pread(&t, 1, fd, b, sizeof b, 0).number == 3 && memcmp(b, "Two", 3) == 0);
+    memset(b, '.', sizeof b);
+    CHECK(nuz_bytes(&t, b, 2).size == 3 && memcmp(b, "Tw..", 4) == 0);
+    CHECK(nuz_close(&t, 1, fd).code == 0 && nuz_close(&t, 1, fd).code == EBADF);
+    nuz_tree_close(&t);
+    return true;
+}
+
+/* Opens /f with flags, and writes to it: the size of the file, or else the code of the open. */
+static uint64_t size_after(nuz_tree *t, bool create, bool excl, bool trunc, bool append) {
+    nuz_answer got = nuz_open(t, 1, NUZ_S("/f"), NUZ_READ_WRITE, create, excl, trunc, append);
+    if (got.code != 0) {
+        return got.code;
+    }
+    nuz_write(t, 1, got.number, NUZ_S("ab"));
+    nuz_answer told = nuz_fstat(t, 1, got.number);
+    nuz_close(t, 1, got.number);
+    return told.size;
+}
+
+static bool flags_of_open_are_kept_apart(void) {
+    nuz_tree t = NUZ_TREE_INIT;
+    CHECK(opened(&t) && nuz_begin(&t).number == 1);
+    CHECK(size_after(&t, false, false, false, false) == ENOENT);
+    CHECK(make_file(&t, 1, "/f", "four") && size_after(&t, true, true, false, false) == EEXIST);
+    CHECK(size_after(&t, false, false, false, false) == 4);
+    CHECK(size_after(&t, false, false, false, true) == 6);
+    CHECK(size_after(&t, false, false, true, false) == 2);
+    nuz_answer reads = nuz_open(&t, 1, NUZ_S("/f"), NUZ_READ_ONLY, false, false, false, false);
+    CHECK(nuz_write(&t, 1, reads.number, NUZ_S("x")).code == EBADF);
+    nuz_answer writes = nuz_open(&t, 1, NUZ_S("/f"), NUZ_WRITE_ONLY, false, false, false, false);
+    CHECK(nuz_read(&t, 1, writes.number, (uint8_t[1]){ 0 }, 1).code == EBADF);
+    nuz_tree_close(&t);
+    return true;
+}
+
+static bool constants_are_those_of_the_system(void) {
+    CHECK(NUZ_READ_ONLY == O_RDONLY && NUZ_WRITE_ONLY == O_WRONLY && NUZ_READ_WRITE == O_RDWR);
+    CHECK(NUZ_SET == SEEK_SET && NUZ_CUR == SEEK_CUR && NUZ_END == SEEK_END);
+    return true;
+}
+
+static bool error_numbers_are_those_of_the_system(void) {
+    nuz_tree t = NUZ_TREE_INIT;
+    char longest[300];
+    memset(longest, 'n', sizeof longest - 1);
+    longest[sizeof longest - 1] = '\0';
+    CHECK(opened(&t) && nuz_begin(&t).number == 1);
+    CHECK(nuz_mkdir(&t, 1, NUZ_S("/d")).code == 0 && make_file(&t, 1, "/d/f", ""));
+    uint64_t fd = open_file(&t, 1, "/d/f");
+    CHECK(nuz_unlink(&t, 1, NUZ_S("/d")).code == EPERM);
+    CHECK(nuz_stat(&t, 1, NUZ_S("/e")).code == ENOENT);
+    CHECK(nuz_fstat(&t, 1, 99).code == EBADF);
+    CHECK(nuz_rmdir(&t, 1, NUZ_S("/")).code == EBUSY);
+    CHECK(nuz_mkdir(&t, 1, NUZ_S("/d")).code == EEXIST);
+    CHECK(nuz_stat(&t, 1, NUZ_S("/d/f/g")).code == ENOTDIR);
+    CHECK(nuz_truncate(&t, 1, NUZ_S("/d"), 0).code == EISDIR);
+    CHECK(nuz_ftruncate(&t, 1, fd, -1).code == EINVAL);
+    CHECK(nuz_ftruncate(&t, 1, fd, 1048577).code == EFBIG);
+    CHECK(nuz_mkdir(&t, 1, NUZ_S(longest)).code == ENAMETOOLONG);
+    CHECK(nuz_rmdir(&t, 1, NUZ_S("/d")).code == ENOTEMPTY);
+    CHECK(nuz_lseek(&t, 1, fd, 1, NUZ_SET).code == 0);
+    CHECK(nuz_lseek(&t, 1, fd, INT64_MAX, NUZ_CUR).code == EOVERFLOW);
+    uint32_t code = 0;
+    for (unsigned i = 1; code == 0 && i <= 1000; i++) {
+        char name[16];
+        snprintf(name, sizeof name, "/%u", i);
+        code = nuz_link(&t, 1, NUZ_S("/d/f"), NUZ_S(name)).code;
+    }
+    CHECK(code == EMLINK);
+    nuz_tree_close(&t);
+    return true;
+}
+
+/* ---- calls that wait */
+
+static bool blockers_are_told(void) {
+    nuz_tree t = NUZ_TREE_INIT;
+    CHECK(opened(&t) && nuz_begin(&t).number == 1 && nuz_begin(&t).number == 2);
+    CHECK(nuz_begin(&t).number == 3 && nuz_mkdir(&t, 2, NUZ_S("/b")).code == 0);
+    CHECK(nuz_mkdir(&t, 1, NUZ_S("/a")).code == 0);
+    nuz_answer waits = nuz_list(&t, 3, NUZ_S("/"));
+    CHECK(waits.code == NUZ_WAITS && waits.number == 2 && waits.stamp == 0);
+    CHECK(nuz_blocker(&t, 0).number == 1 && nuz_blocker(&t, 1).number == 2);
+    CHECK(nuz_blocker(&t, 2).code == NUZ_BAD && nuz_blocker(&t, SIZE_MAX).code == NUZ_BAD);
+    CHECK(replied(&t, "waits 1 2\n"));
+    CHECK(nuz_commit(&t, 1).code == 0 && nuz_blocker(&t, 0).code == NUZ_BAD);
+    CHECK(nuz_retry(&t, 3).code == NUZ_WAITS && nuz_blocker(&t, 0).number == 2);
+    CHECK(nuz_blocker(&t, 1).code == NUZ_BAD && nuz_commit(&t, 2).code == 0);
+    nuz_answer listed = nuz_retry(&t, 3);
+    CHECK(listed.code == 0 && listed.number == 2 && is_name(&t, 1, "b", NUZ_DIR));
+    CHECK(nuz_retry(&t, 3).code == NUZ_NO_ASK);
+    nuz_tree_close(&t);
+    return true;
+}
+
+static bool call_that_waits_is_dropped(void) {
+    nuz_tree t = NUZ_TREE_INIT;
+    CHECK(opened(&t) && nuz_begin(&t).number == 1 && nuz_begin(&t).number == 2);
+    CHECK(nuz_mkdir(&t, 1, NUZ_S("/a")).code == 0);
+    CHECK(nuz_stat(&t, 2, NUZ_S("/a")).code == NUZ_WAITS);
+    CHECK(nuz_drop(&t, 2).code == 0 && nuz_drop(&t, 2).code == NUZ_NO_ASK);
+    CHECK(nuz_commit(&t, 2).code == 0);
+    nuz_tree_close(&t);
+    return true;
+}
+
+static bool read_that_waits_gives_its_bytes(void) {
+    nuz_tree t = NUZ_TREE_INIT;
+    uint8_t b[8] = "........";
+    CHECK(opened(&t) && nuz_begin(&t).number == 1 && make_file(&t, 1, "/f", "old"));
+    CHECK(nuz_commit(&t, 1).code == 0 && nuz_begin(&t).number == 2 && nuz_begin(&t).number == 3);
+    uint64_t writes = open_file(&t, 2, "/f");
+    nuz_answer reads = nuz_open(&t, 3, NUZ_S("/f"), NUZ_READ_ONLY, false, false, false, false);
+    CHECK(nuz_write(&t, 2, writes, NUZ_S("newer")).number == 5);
+    CHECK(nuz_read(&t, 3, reads.number, b, sizeof b).code == NUZ_WAITS && b[0] == '.');
+    CHECK(nuz_bytes(&t, b, sizeof b).code == NUZ_BAD && b[0] == '.');
+    CHECK(nuz_commit(&t, 2).code == 0);
+    CHECK(nuz_retry(&t, 3).number == 5);
+    CHECK(nuz_bytes(&t, b, sizeof b).size == 5 && memcmp(b, "newer...", 8) == 0);
+    nuz_tree_close(&t);
+    return true;
+}
+
+static bool parents_are_in_the_way_under_moss(void) {
+    nuz_tree t = NUZ_TREE_INIT;
+    CHECK(opened(&t) && nuz_begin(&t).number == 1 && nuz_mkdir(&t, 1, NUZ_S("/a")).code == 0);
+    CHECK(nuz_sub(&t, 1).number == 2 && nuz_stat(&t, 2, NUZ_S("/a")).code == 0);
+    CHECK(nuz_tree_open(&t, NUZ_MOSS) == 0);
+    CHECK(nuz_begin(&t).number == 1 && nuz_mkdir(&t, 1, NUZ_S("/a")).code == 0);
+    CHECK(nuz_sub(&t, 1).number == 2 && nuz_stat(&t, 2, NUZ_S("/a")).code == NUZ_WAITS);
+    CHECK(nuz_blocker(&t, 0).number == 1);
+    nuz_tree_close(&t);
+    return true;
+}
+
+/* ---- lines of a script */
+
+static bool lines_are_carried_out(void) {
+    nuz_tree t = NUZ_TREE_INIT;
+    uint8_t b[8] = "........";
+    CHECK(opened(&t) && replied(&t, ""));
+    nuz_answer begun = nuz_request(&t, NUZ_S("begin"));
+    CHECK(begun.code == 0 && begun.number == 1 && replied(&t, "txn 1\n"));
+    CHECK(nuz_request(&t, NUZ_S("1 open rwc /f")).number == 2);
+    CHECK(nuz_request(&t, NUZ_S("1 write 2 two%20words")).number == 9);
+    CHECK(nuz_request(&t, NUZ_S("1 pread 2 4 3")).number == 3);
+    CHECK(nuz_bytes(&t, b, sizeof b).size == 3 && memcmp(b, "wor.....", 8) == 0);
+    CHECK(nuz_request(&t, NUZ_S("1 list /")).number == 1 && is_name(&t, 0, "f", NUZ_FILE));
+    CHECK(nuz_request(&t, NUZ_S("1 rmdir /f")).code == ENOTDIR);
+    CHECK(nuz_request(&t, NUZ_S("commit 9")).code == NUZ_NO_TXN);
+    CHECK(replied(&t, "refused NoTxn\n"));
+    CHECK(nuz_request(&t, NUZ_S("bigin")).code == NUZ_BAD && replied(&t, "refused NoTxn\n"));
+    CHECK(nuz_mkdir(&t, 1, NUZ_S("/d")).stamp == 7 && replied(&t, "7 ok\n"));
+    CHECK(nuz_request(&t, NUZ_S("# a comment")).code == 0 && replied(&t, ""));
+    CHECK(nuz_request(&t, NUZ_S("")).code == 0 && replied(&t, ""));
+    nuz_tree_close(&t);
+    return true;
+}
+
+static bool reports_are_told(void) {
+    nuz_tree t = NUZ_TREE_INIT;
+    uint8_t b[12] = "............";
+    CHECK(opened(&t) && nuz_begin(&t).number == 1 && nuz_mkdir(&t, 1, NUZ_S("/a")).code == 0);
+    CHECK(says(&t, "tree", "tree 3\ndir 1\ndir 2\nedge 1 a 2\n"));
+    CHECK(nuz_reply(&t, b, 6).size == 30 && memcmp(b, "tree 3......", 12) == 0);
+    CHECK(says(&t, "locks",
+               "locks 2\nlock entry 1 a write 1 held\nlock parent 2 write 1 held\n"));
+    CHECK(nuz_begin(&t).number == 2 && nuz_stat(&t, 2, NUZ_S("/a")).code == NUZ_WAITS);
+    CHECK(says(&t, "waits", "edges 1\nedge 2 1 lock\nranks 1:0 2:1\n"));
+    CHECK(nuz_blocker(&t, 0).code == NUZ_BAD);
+    nuz_tree_close(&t);
+    return true;
+}
+
+/* ---- want of memory */
+
+/* Whether each request for which there may be none is refused for want of memory. */
+static bool are_refused(nuz_tree *t, uint64_t fd) {
+    CHECK(nuz_mkdir(t, 1, NUZ_S("/d")).code == NUZ_MEMORY);
+    CHECK(nuz_rename(t, 1, NUZ_S("/f"), NUZ_S("/g")).code == NUZ_MEMORY);
+    CHECK(nuz_pwrite(t, 1, fd, NUZ_S("new"), 0).code == NUZ_MEMORY);
+    CHECK(nuz_request(t, NUZ_S("tree")).code == NUZ_MEMORY);
+    return true;
+}
+
+static bool want_of_memory_changes_nothing(void) {
+    nuz_tree t = NUZ_TREE_INIT, other = NUZ_TREE_INIT;
+    CHECK(opened(&t) && nuz_begin(&t).number == 1 && make_file(&t, 1, "/f", "old"));
+    uint64_t fd = open_file(&t, 1, "/f");
+    CHECK(nuz_sub(&t, 1).number == 2 && nuz_mkdir(&t, 2, NUZ_S("/two")).code == 0);
+    CHECK(nuz_sub(&t, 1).number == 3 && nuz_mkdir(&t, 3, NUZ_S("/three")).code == 0);
+    allocations_left = 0;
+    uint32_t no_tree = nuz_tree_open(&other, NUZ_PROFILE);
+    bool refused = are_refused(&t, fd);
+    nuz_answer committed = nuz_commit(&t, 2), aborted = nuz_abort(&t, 3), undone = nuz_undo(&t, 1);
+    nuz_tree_close(&other);
+    allocations_left = -1;
+    CHECK(no_tree == NUZ_MEMORY && other.at == NULL && refused);
+    CHECK(committed.code == 0 && aborted.code == 0 && undone.code == NUZ_SUB_SINCE);
+    CHECK(says(&t, "tree", "tree 6\ndir 1\ndir 6\nedge 1 f 2\nedge 1 two 6\nfile 2 3 old\n"
+                           "fd 5 2 rw 0\n"));
+    nuz_tree_close(&t);
+    return true;
+}
+
+/* Lines that take memory for all that there is: transactions, calls, locks, names and bytes. */
+static const char *const LINES[] = {
+    "begin",           "1 mkdir /d",        "1 open rwc /d/f", "1 write 3 some%20bytes",
+    "sub 1",           "2 rename /d/f /g",  "2 list /",        "2 link /g /d/h",
+    "begin",           "3 stat /g",         "1 pread 3 0 99",  "1 ftruncate 3 5000",
+    "commit 2",        "1 pwrite 3 4096 x", "1 unlink /g",     "commit 1",
+    "retry 3",         "3 unlink /d/h",     "undo 3",          "3 truncate 4 /d/h",
+    "3 close 3",       "commit 3",
+};
+
+/* Carries out the lines, and makes again, with memory, the first for which there was none: whether
+ * there was one. *sum tells all that they have answered. */
+static bool has_run_out(nuz_tree *tree, uint64_t *sum) {
+    bool has = false;
+    for (size_t i = 0; i < sizeof LINES / sizeof *LINES; i++) {
+        nuz_answer answer = nuz_request(tree, NUZ_S(LINES[i]));
+        if (answer.code == NUZ_MEMORY) {
+            has = true;
+            allocations_left = -1;
+            answer = nuz_request(tree, NUZ_S(LINES[i]));
+        }
+        *sum = *sum * 31 + answer.code + answer.stamp + answer.number + answer.size;
+    }
+    return has;
+}
+
+static bool request_is_made_again_after_want_of_memory(void) {
+    uint64_t sum = 0, wanted = 0;
+    long n = 0;
+    for (bool has = true; has; n++) {
+        nuz_tree t = NUZ_TREE_INIT;
+        CHECK(opened(&t));
+        wanted = sum;
+        sum = 0;
+        allocations_left = n;
+        has = has_run_out(&t, &sum);
+        allocations_left = -1;
+        CHECK(n == 0 || sum == wanted);
+        CHECK(says(&t, "tree", "tree 5\ndir 1\ndir 2\nedge 1 d 2\nedge 2 h 3\nfile 3 4 some\n"));
+        nuz_tree_close(&t);
+    }
+    CHECK(n > 10);
+    return true;
+}
+
+/* ---- all of them */
+
+static const struct {
+    const char *name;
+    bool (*test)(void);
+} TESTS[] = {
+#define TEST(name) { #name, name }
+    TEST(closed_handle_is_told),
+    TEST(handle_is_closed_twice),
+    TEST(open_handle_is_opened_anew),
+    TEST(trees_are_closed_in_flat_memory),
+    TEST(trees_are_apart),
+    TEST(transactions_nest),
+    TEST(calls_are_undone),
+    TEST(refusals_are_told),
+    TEST(depth_is_limited),
+    TEST(checkpoint_forgets),
+    TEST(transactions_are_used_up),
+    TEST(directories_are_made_and_removed),
+    TEST(names_of_files_change),
+    TEST(names_are_cut_to_the_room),
+    TEST(bad_arguments_are_told),
+    TEST(files_are_written_and_read),
+    TEST(flags_of_open_are_kept_apart),
+    TEST(constants_are_those_of_the_system),
+    TEST(error_numbers_are_those_of_the_system),
+    TEST(blockers_are_told),
+    TEST(call_that_waits_is_dropped),
+    TEST(read_that_waits_gives_its_bytes),
+    TEST(parents_are_in_the_way_under_moss),
+    TEST(lines_are_carried_out),
+    TEST(reports_are_told),
+    TEST(want_of_memory_changes_nothing),
+    TEST(request_is_made_again_after_want_of_memory),
+};
+
+int main(int argc, char **argv) {
+    unsigned passed = 0, failed = 0;
+    if (argc > 1) {
+        most_trees = strtoull(argv[1], NULL, 10);
+        is_short = true;
+    }
+    for (size_t i = 0; i < sizeof TESTS / sizeof *TESTS; i++) {
+        if (TESTS[i].test()) {
+            passed++;
+        } else {
+            fprintf(stderr, "%s: FAILED\n", TESTS[i].name);
+            failed++;
+        }
+    }
+    printf("%u passed, %u failed\n", passed, failed);
+    return failed == 0 ? EXIT_SUCCESS : EXIT_FAILURE;
+}

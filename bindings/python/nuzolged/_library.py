@@ -1,0 +1,119 @@
+"""The functions of nuzolged.h, which says what each takes and answers."""
+from __future__ import annotations
+
+import ctypes
+import os
+from ctypes import POINTER, c_bool, c_char_p, c_int64, c_size_t, c_uint32, c_uint64, c_void_p
+from pathlib import Path
+from typing import Iterator
+
+DIR = 1
+READ_ONLY, WRITE_ONLY, READ_WRITE = 0, 1, 2
+PROFILE, MOSS = 0, 1
+
+MEMORY = 1001
+WAITS = 1100
+CLOSED = 1200
+BAD = 1201
+
+#: The names of the refusals 1001 and on, as a script has them (docs/SCRIPT.md).
+REFUSALS = ("Memory", "NoTxn", "Ended", "ChildLive", "NothingToUndo", "SubSince", "Full", "Deep",
+            "Live", "NoAsk")
+
+
+class Handle(ctypes.Structure):
+    """`nuz_tree`: a handle, closed at first."""
+
+    _fields_ = [("at", c_void_p)]
+
+
+class Answer(ctypes.Structure):
+    """`nuz_answer`: what a request came to."""
+
+    code: int
+    kind: int
+    stamp: int
+    number: int
+    links: int
+    size: int
+    _fields_ = [
+        ("code", c_uint32),
+        ("kind", c_uint32),
+        ("stamp", c_uint64),
+        ("number", c_uint64),
+        ("links", c_uint64),
+        ("size", c_uint64),
+    ]
+
+
+_BYTES = (c_char_p, c_size_t)
+_BUFFER = (c_void_p, c_size_t)
+
+#: What each function takes behind the handle. All of these answer an `Answer`.
+_FUNCTIONS: dict[str, tuple[type, ...]] = {
+    "nuz_begin": (),
+    "nuz_sub": (c_uint64,),
+    "nuz_commit": (c_uint64,),
+    "nuz_abort": (c_uint64,),
+    "nuz_undo": (c_uint64,),
+    "nuz_drop": (c_uint64,),
+    "nuz_checkpoint": (),
+    "nuz_mkdir": (c_uint64, *_BYTES),
+    "nuz_rmdir": (c_uint64, *_BYTES),
+    "nuz_list": (c_uint64, *_BYTES),
+    "nuz_stat": (c_uint64, *_BYTES),
+    "nuz_unlink": (c_uint64, *_BYTES),
+    "nuz_truncate": (c_uint64, *_BYTES, c_int64),
+    "nuz_link": (c_uint64, *_BYTES, *_BYTES),
+    "nuz_rename": (c_uint64, *_BYTES, *_BYTES),
+    "nuz_open": (c_uint64, *_BYTES, c_uint32, c_bool, c_bool, c_bool, c_bool),
+    "nuz_close": (c_uint64, c_uint64),
+    "nuz_fstat": (c_uint64, c_uint64),
+    "nuz_ftruncate": (c_uint64, c_uint64, c_int64),
+    "nuz_lseek": (c_uint64, c_uint64, c_int64, c_uint32),
+    "nuz_read": (c_uint64, c_uint64, *_BUFFER),
+    "nuz_write": (c_uint64, c_uint64, *_BYTES),
+    "nuz_name": (c_size_t, *_BUFFER),
+    "nuz_blocker": (c_size_t,),
+    "nuz_request": _BYTES,
+    "nuz_reply": _BUFFER,
+}
+
+
+def signed(number: int) -> int:
+    """An offset or a size, which has to be one of 64 bits: ctypes would cut it to them."""
+    if not -(1 << 63) <= number < 1 << 63:
+        raise OverflowError(f"an offset or a size of more than 64 bits: {number}")
+    return number
+
+
+def _places() -> Iterator[str]:
+    """Where the library may be: where NUZOLGED_LIBRARY says; where `make` builds it beside this
+    package; in the lib folder of the place that this package was installed in; and else wherever
+    the system finds libraries."""
+    named = os.environ.get("NUZOLGED_LIBRARY")
+    if named:
+        yield named
+        return
+    here = Path(__file__).resolve().parent
+    for folder in (here.parents[1] / "out", here.parents[3] / "lib"):
+        place = folder / "libnuzolged.so.0"
+        if place.is_file():
+            yield str(place)
+    yield "libnuzolged.so.0"
+
+
+def _load() -> ctypes.CDLL:
+    library = ctypes.CDLL(next(_places()))
+    for name, takes in _FUNCTIONS.items():
+        function = getattr(library, name)
+        function.argtypes = [POINTER(Handle), *takes]
+        function.restype = Answer
+    library.nuz_tree_open.argtypes = [POINTER(Handle), c_uint32]
+    library.nuz_tree_open.restype = c_uint32
+    library.nuz_tree_close.argtypes = [POINTER(Handle)]
+    library.nuz_tree_close.restype = None
+    return library
+
+
+library = _load()

@@ -1,0 +1,34 @@
+//! Finds libnuzolged.a: in the folder that NUZOLGED_LIB_DIR names, else where `make` builds it
+//! beside this crate, else in the lib folder of the place that this crate was installed in.
+
+use std::env;
+use std::path::{Path, PathBuf};
+
+const LIBRARY: &str = "libnuzolged.a";
+
+fn places() -> Vec<PathBuf> {
+    let this = Path::new(env!("CARGO_MANIFEST_DIR"));
+    match env::var_os("NUZOLGED_LIB_DIR") {
+        Some(named) => vec![named.into()],
+        None => vec![this.join("../out"), this.join("../../../lib")],
+    }
+}
+
+/// The first of them that has the library.
+fn found() -> PathBuf {
+    let has_it = |place: &PathBuf| place.join(LIBRARY).is_file();
+    places().into_iter().find(has_it).unwrap_or_else(|| {
+        panic!(
+            "there is no {LIBRARY} in {:?}: run make, or set NUZOLGED_LIB_DIR",
+            places()
+        )
+    })
+}
+
+fn main() {
+    println!("cargo:rerun-if-env-changed=NUZOLGED_LIB_DIR");
+    let found = found();
+    println!("cargo:rerun-if-changed={}", found.join(LIBRARY).display());
+    println!("cargo:rustc-link-search=native={}", found.display());
+    println!("cargo:rustc-link-lib=static=nuzolged");
+}

@@ -1,0 +1,91 @@
+//! A POSIX file tree in memory, under nested transactions.
+//!
+//! ```
+//! use nuzolged::{Error, Tree};
+//!
+//! # fn main() -> Result<(), Error> {
+//! let tree = Tree::new()?;
+//! let job = tree.begin()?;
+//!
+//! let step = job.begin()?; // a step of the job
+//! step.mkdir("/out")?;
+//! step.write("/out/log", b"all of it")?;
+//! step.commit()?;
+//!
+//! let step = job.begin()?;
+//! step.rename("/out/log", "/out/old")?;
+//! drop(step); // aborted: what it did is gone
+//!
+//! assert_eq!(job.read("/out/log")?, b"all of it");
+//! job.commit()
+//! # }
+//! ```
+//!
+//! [`Tree`] is for one thread at a time, and [`Shared`] for many. A [`Transaction`] is aborted
+//! where it is dropped, unless it has committed. A [`File`] is read and written by the traits of
+//! `std::io`. [`Error`] is what stands in the way of a request, and becomes an `io::Error` by
+//! `From`.
+//!
+//! A path is absolute or not, which is the same here: there is no working directory but the root.
+//!
+//! # What the borrow checker rules out
+//!
+//! A commit while a step is live:
+//!
+//! ```compile_fail,E0505
+//! # let tree = nuzolged::Tree::new().unwrap();
+//! let job = tree.begin().unwrap();
+//! let step = job.begin().unwrap();
+//! job.commit().unwrap();
+//! step.commit().unwrap();
+//! ```
+//!
+//! A commit while a file is open:
+//!
+//! ```compile_fail,E0505
+//! # use nuzolged::OpenOptions;
+//! # let tree = nuzolged::Tree::new().unwrap();
+//! let job = tree.begin().unwrap();
+//! let log = job.open("/log", OpenOptions::new().read(true)).unwrap();
+//! job.commit().unwrap();
+//! log.close().unwrap();
+//! ```
+//!
+//! Anything after a commit:
+//!
+//! ```compile_fail,E0382
+//! # let tree = nuzolged::Tree::new().unwrap();
+//! let job = tree.begin().unwrap();
+//! job.commit().unwrap();
+//! job.mkdir("/late").unwrap();
+//! ```
+//!
+//! A checkpoint while a transaction is live:
+//!
+//! ```compile_fail,E0502
+//! # let mut tree = nuzolged::Tree::new().unwrap();
+//! let job = tree.begin().unwrap();
+//! tree.checkpoint().unwrap();
+//! job.commit().unwrap();
+//! ```
+//!
+//! A tree in two threads, unless it is [`Shared`]:
+//!
+//! ```compile_fail,E0277
+//! # let tree = nuzolged::Tree::new().unwrap();
+//! std::thread::scope(|threads| {
+//!     threads.spawn(|| tree.begin().unwrap().commit());
+//! });
+//! ```
+#![warn(missing_docs)]
+
+mod error;
+mod file;
+mod sys;
+mod transaction;
+mod tree;
+
+pub use error::{Error, Refusal, Result};
+pub use file::{File, OpenOptions};
+pub use transaction::{Entry, Kind, Metadata, Transaction};
+pub use tree::{Reach, Rule, Shared, Tree};

@@ -1,0 +1,147 @@
+//! The functions of nuzolged.h, which says what each takes and answers.
+//!
+//! What the header has its caller owe is seen to by types: a handle has one owner, whoever calls
+//! has it alone (`&mut`), a slice is a pointer that is not null with its length, and a buffer is
+//! borrowed by nobody else.
+
+use std::os::raw::c_void;
+use std::ptr;
+
+/// `nuz_tree`: a handle, open or closed. It is closed where it is dropped.
+#[repr(C)]
+#[derive(Debug)]
+pub struct Handle {
+    at: *mut c_void,
+}
+
+// SAFETY: the library ties nothing of a tree to a thread, and its handle may go to another one.
+unsafe impl Send for Handle {}
+
+/// `nuz_answer`: what a request came to.
+#[repr(C)]
+#[derive(Clone, Copy, Debug)]
+pub struct Answer {
+    pub code: u32,
+    pub kind: u32,
+    pub stamp: u64,
+    pub number: u64,
+    pub links: u64,
+    pub size: u64,
+}
+
+pub const MEMORY: u32 = 1001;
+pub const WAITS: u32 = 1100;
+pub const CLOSED: u32 = 1200;
+pub const BAD: u32 = 1201;
+pub const DIR: u32 = 1;
+
+extern "C" {
+    fn nuz_tree_open(tree: &mut Handle, rule: u32) -> u32;
+    fn nuz_tree_close(tree: &mut Handle);
+}
+
+impl Handle {
+    /// A closed handle.
+    pub const fn closed() -> Handle {
+        Handle {
+            at: ptr::null_mut(),
+        }
+    }
+
+    /// Opens a tree: 0, or the code of what stood in the way.
+    pub fn open(&mut self, rule: u32) -> u32 {
+        // SAFETY: see the head of this module.
+        unsafe { nuz_tree_open(self, rule) }
+    }
+}
+
+impl Drop for Handle {
+    fn drop(&mut self) {
+        // SAFETY: see the head of this module.
+        unsafe { nuz_tree_close(self) }
+    }
+}
+
+/// Declares functions of the library that answer an `Answer`: each as it is called here, and as it
+/// is called in C, with its arguments and their types.
+macro_rules! functions {
+    ($($name:ident($($arg:ident: $of:ty),*) = $call:ident($($value:expr => $type:ty),*);)*) => {
+        extern "C" {
+            $(fn $call(tree: &mut Handle, $(_: $type),*) -> Answer;)*
+        }
+        impl Handle {
+            $(pub fn $name(&mut self, $($arg: $of),*) -> Answer {
+                // SAFETY: see the head of this module.
+                unsafe { $call(self, $($value),*) }
+            })*
+        }
+    };
+}
+
+type Bytes = *const u8;
+type Buffer = *mut u8;
+
+functions! {
+    begin() = nuz_begin();
+    sub(txn: u64) = nuz_sub(txn => u64);
+    commit(txn: u64) = nuz_commit(txn => u64);
+    abort(txn: u64) = nuz_abort(txn => u64);
+    undo(txn: u64) = nuz_undo(txn => u64);
+    forget(txn: u64) = nuz_drop(txn => u64);
+    checkpoint() = nuz_checkpoint();
+
+    mkdir(txn: u64, path: &[u8]) =
+        nuz_mkdir(txn => u64, path.as_ptr() => Bytes, path.len() => usize);
+    rmdir(txn: u64, path: &[u8]) =
+        nuz_rmdir(txn => u64, path.as_ptr() => Bytes, path.len() => usize);
+    list(txn: u64, path: &[u8]) =
+        nuz_list(txn => u64, path.as_ptr() => Bytes, path.len() => usize);
+    stat(txn: u64, path: &[u8]) =
+        nuz_stat(txn => u64, path.as_ptr() => Bytes, path.len() => usize);
+    unlink(txn: u64, path: &[u8]) =
+        nuz_unlink(txn => u64, path.as_ptr() => Bytes, path.len() => usize);
+    truncate(txn: u64, path: &[u8], size: i64) =
+        nuz_truncate(txn => u64, path.as_ptr() => Bytes, path.len() => usize, size => i64);
+    link(txn: u64, from: &[u8], to: &[u8]) =
+        nuz_link(txn => u64, from.as_ptr() => Bytes, from.len() => usize,
+                 to.as_ptr() => Bytes, to.len() => usize);
+    rename(txn: u64, from: &[u8], to: &[u8]) =
+        nuz_rename(txn => u64, from.as_ptr() => Bytes, from.len() => usize,
+                   to.as_ptr() => Bytes, to.len() => usize);
+
+    open_file(txn: u64, path: &[u8], access: u32, flags: Flags) =
+        nuz_open(txn => u64, path.as_ptr() => Bytes, path.len() => usize, access => u32,
+                 flags.create => bool, flags.excl => bool, flags.trunc => bool,
+                 flags.append => bool);
+    close_file(txn: u64, fd: u64) = nuz_close(txn => u64, fd => u64);
+    fstat(txn: u64, fd: u64) = nuz_fstat(txn => u64, fd => u64);
+    ftruncate(txn: u64, fd: u64, size: i64) = nuz_ftruncate(txn => u64, fd => u64, size => i64);
+    lseek(txn: u64, fd: u64, off: i64, whence: u32) =
+        nuz_lseek(txn => u64, fd => u64, off => i64, whence => u32);
+    read(txn: u64, fd: u64, buffer: &mut [u8]) =
+        nuz_read(txn => u64, fd => u64, buffer.as_mut_ptr() => Buffer, buffer.len() => usize);
+    pread(txn: u64, fd: u64, buffer: &mut [u8], off: i64) =
+        nuz_pread(txn => u64, fd => u64, buffer.as_mut_ptr() => Buffer, buffer.len() => usize,
+                  off => i64);
+    write(txn: u64, fd: u64, bytes: &[u8]) =
+        nuz_write(txn => u64, fd => u64, bytes.as_ptr() => Bytes, bytes.len() => usize);
+    pwrite(txn: u64, fd: u64, bytes: &[u8], off: i64) =
+        nuz_pwrite(txn => u64, fd => u64, bytes.as_ptr() => Bytes, bytes.len() => usize,
+                   off => i64);
+
+    name(index: usize, buffer: &mut [u8]) =
+        nuz_name(index => usize, buffer.as_mut_ptr() => Buffer, buffer.len() => usize);
+    blocker(index: usize) = nuz_blocker(index => usize);
+    request(line: &[u8]) = nuz_request(line.as_ptr() => Bytes, line.len() => usize);
+    reply(buffer: &mut [u8]) =
+        nuz_reply(buffer.as_mut_ptr() => Buffer, buffer.len() => usize);
+}
+
+/// The flags of an open.
+#[derive(Clone, Copy, Debug, Default)]
+pub struct Flags {
+    pub create: bool,
+    pub excl: bool,
+    pub trunc: bool,
+    pub append: bool,
+}

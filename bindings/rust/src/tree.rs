@@ -1,0 +1,215 @@
+//! Trees, for one thread and for many.
+
+use crate::error::{Error, Result};
+use crate::sys::{self, Answer, Handle};
+use crate::transaction::Transaction;
+use std::cell::RefCell;
+use std::sync::{Arc, Condvar, Mutex, MutexGuard, PoisonError};
+use std::time::{Duration, Instant};
+
+/// Which locks are in a call's way.
+#[derive(Clone, Copy, Debug, Default, PartialEq, Eq)]
+pub enum Rule {
+    /// Those of transactions that are neither the caller nor around it.
+    #[default]
+    Profile,
+    /// Those of transactions around the caller too, where they hold them for calls of their own.
+    Moss,
+}
+
+/// A tree: at first the root alone. It may go to another thread, and is used by one at a time;
+/// [`Shared`] is used by many.
+#[derive(Debug)]
+pub struct Tree {
+    handle: RefCell<Handle>,
+}
+
+impl Tree {
+    /// A tree of the root alone, by [`Rule::Profile`].
+    pub fn new() -> Result<Tree> {
+        Tree::with_rule(Rule::default())
+    }
+
+    /// A tree of the root alone.
+    pub fn with_rule(rule: Rule) -> Result<Tree> {
+        let mut handle = Handle::closed();
+        match handle.open(rule as u32) {
+            0 => Ok(Tree {
+                handle: RefCell::new(handle),
+            }),
+            code => Err(Error::of(code)),
+        }
+    }
+
+    /// Begins a transaction.
+    pub fn begin(&self) -> Result<Transaction<&Tree>> {
+        let number = self.reach(|handle| answered(handle, Handle::begin))?.number;
+        Ok(Transaction::of(self, number))
+    }
+
+    /// Makes the tree as it stands the beginning, and forgets the transactions: limits count from
+    /// here.
+    pub fn checkpoint(&mut self) -> Result<()> {
+        answered(self.handle.get_mut(), Handle::checkpoint)?;
+        Ok(())
+    }
+
+    /// Carries out one line of a script, a report such as `tree`, `locks` or `waits` too, and
+    /// answers the text of the reply.
+    pub fn request(&self, line: &str) -> Result<String> {
+        self.reach(|handle| reply_to(handle, line))
+    }
+}
+
+/// A tree that threads share: each clone is of the same tree.
+///
+/// A call that has to wait is made again whenever a transaction has ended, until a time limit is
+/// over; then it answers [`Error::Waits`]. That ends a cycle of transactions which wait for each
+/// other: drop the one that is told so, and begin again.
+#[derive(Clone, Debug)]
+pub struct Shared {
+    inner: Arc<Inner>,
+}
+
+#[derive(Debug)]
+struct Inner {
+    handle: Mutex<Handle>,
+    /// Told whenever a transaction has ended.
+    ended: Condvar,
+    limit: Duration,
+}
+
+impl Shared {
+    /// Shares a tree. A call waits as long as `limit`, and not longer.
+    pub fn new(tree: Tree, limit: Duration) -> Shared {
+        let handle = Mutex::new(tree.handle.into_inner());
+        Shared {
+            inner: Arc::new(Inner {
+                handle,
+                ended: Condvar::new(),
+                limit,
+            }),
+        }
+    }
+
+    /// Begins a transaction.
+    pub fn begin(&self) -> Result<Transaction<Shared>> {
+        let number = self.reach(|handle| answered(handle, Handle::begin))?.number;
+        Ok(Transaction::of(self.clone(), number))
+    }
+
+    /// Makes the tree as it stands the beginning, and forgets the transactions: limits count from
+    /// here. Refused while a transaction is live.
+    pub fn checkpoint(&self) -> Result<()> {
+        self.reach(|handle| answered(handle, Handle::checkpoint))?;
+        Ok(())
+    }
+
+    /// Carries out one line of a script, a report such as `tree`, `locks` or `waits` too, and
+    /// answers the text of the reply. It does not wait.
+    pub fn request(&self, line: &str) -> Result<String> {
+        self.end(|handle| reply_to(handle, line))
+    }
+
+    /// The handle, for as long as the answer lives. (A thread that panics while it has the handle
+    /// leaves it as the library did.)
+    fn lock(&self) -> MutexGuard<'_, Handle> {
+        self.inner
+            .handle
+            .lock()
+            .unwrap_or_else(PoisonError::into_inner)
+    }
+
+    /// Sleeps until a transaction has ended or the time is over, without the handle.
+    fn sleep<'h>(&self, handle: MutexGuard<'h, Handle>, time: Duration) -> MutexGuard<'h, Handle> {
+        let woken = self.inner.ended.wait_timeout(handle, time);
+        woken.unwrap_or_else(PoisonError::into_inner).0
+    }
+}
+
+/// How a transaction reaches its tree: as a `&Tree`, of one thread, or as a [`Shared`], of many.
+pub trait Reach: sealed::Reach {}
+
+impl Reach for &Tree {}
+
+impl Reach for Shared {}
+
+pub(crate) mod sealed {
+    use super::{Handle, Result};
+
+    pub trait Reach {
+        /// Makes a request. Where others may end meanwhile, one that waits is made again.
+        fn reach<T>(&self, request: impl FnMut(&mut Handle) -> Result<T>) -> Result<T>;
+
+        /// Makes a request by which a transaction may end.
+        fn end<T>(&self, request: impl FnOnce(&mut Handle) -> Result<T>) -> Result<T>;
+    }
+}
+
+use sealed::Reach as _;
+
+impl sealed::Reach for &Tree {
+    fn reach<T>(&self, mut request: impl FnMut(&mut Handle) -> Result<T>) -> Result<T> {
+        request(&mut self.handle.borrow_mut())
+    }
+
+    fn end<T>(&self, request: impl FnOnce(&mut Handle) -> Result<T>) -> Result<T> {
+        request(&mut self.handle.borrow_mut())
+    }
+}
+
+impl sealed::Reach for Shared {
+    fn reach<T>(&self, mut request: impl FnMut(&mut Handle) -> Result<T>) -> Result<T> {
+        let begun = Instant::now();
+        let mut handle = self.lock();
+        loop {
+            let answer = request(&mut handle);
+            let left = self.inner.limit.saturating_sub(begun.elapsed());
+            if left.is_zero() || !matches!(answer, Err(Error::Waits(_))) {
+                return answer;
+            }
+            handle = self.sleep(handle, left);
+        }
+    }
+
+    fn end<T>(&self, request: impl FnOnce(&mut Handle) -> Result<T>) -> Result<T> {
+        let answer = request(&mut self.lock());
+        self.inner.ended.notify_all();
+        answer
+    }
+}
+
+/// Makes a request, and tells what stood in its way, if anything did.
+pub(crate) fn answered(
+    handle: &mut Handle,
+    request: impl FnOnce(&mut Handle) -> Answer,
+) -> Result<Answer> {
+    let answer = request(handle);
+    match answer.code {
+        0 => Ok(answer),
+        sys::WAITS => Err(Error::Waits(blockers(handle, answer.number))),
+        code => Err(Error::of(code)),
+    }
+}
+
+/// The transactions for which the last call waits.
+fn blockers(handle: &mut Handle, count: u64) -> Vec<u64> {
+    (0..count as usize)
+        .map(|index| handle.blocker(index).number)
+        .collect()
+}
+
+/// The reply to a line of a script.
+fn reply_to(handle: &mut Handle, line: &str) -> Result<String> {
+    if let code @ (sys::BAD | sys::MEMORY) = handle.request(line.as_bytes()).code {
+        return Err(Error::of(code));
+    }
+    let mut text = vec![0; 256];
+    let mut size = answered(handle, |handle| handle.reply(&mut text))?.size as usize;
+    if size > text.len() {
+        text.resize(size, 0);
+        size = answered(handle, |handle| handle.reply(&mut text))?.size as usize;
+    }
+    text.truncate(size);
+    Ok(String::from_utf8(text).expect("a reply is of ASCII characters"))
+}

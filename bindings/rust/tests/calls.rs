@@ -1,0 +1,265 @@
+//! Each call by one thread: what it does, and what stands in its way.
+
+use nuzolged::{Error, Kind, OpenOptions, Refusal, Result, Rule, Tree};
+use std::ffi::OsStr;
+use std::io::{self, BufRead, BufReader, ErrorKind, Read, Seek, SeekFrom, Write};
+use std::os::unix::ffi::OsStrExt;
+
+const ENOENT: i32 = 2;
+const EEXIST: i32 = 17;
+const EINVAL: i32 = 22;
+const EFBIG: i32 = 27;
+const ENOTEMPTY: i32 = 39;
+
+#[test]
+fn directories_are_made_listed_and_removed() -> Result<()> {
+    let tree = Tree::new()?;
+    let job = tree.begin()?;
+    job.mkdir("/b")?;
+    job.write("/a", b"")?;
+    assert_eq!(job.mkdir("/b"), Err(Error::Errno(EEXIST)));
+    let listed = job.list("/")?;
+    let told: Vec<_> = listed
+        .iter()
+        .map(|entry| (entry.name.to_str().unwrap(), entry.kind))
+        .collect();
+    assert_eq!(told, [("a", Kind::File), ("b", Kind::Dir)]);
+    assert!(job.stat("/b")?.is_dir());
+    job.mkdir("/b/c")?;
+    assert_eq!(job.rmdir("/b"), Err(Error::Errno(ENOTEMPTY)));
+    job.rmdir("/b/c")?;
+    job.rmdir("/b")?;
+    assert_eq!(job.list("/b"), Err(Error::Errno(ENOENT)));
+    job.commit()
+}
+
+#[test]
+fn names_of_files_change() -> Result<()> {
+    let tree = Tree::new()?;
+    let job = tree.begin()?;
+    job.write("/f", b"four")?;
+    job.link("/f", "/g")?;
+    let told = job.stat("/g")?;
+    assert_eq!(
+        (told.kind, told.number, told.links, told.len),
+        (Kind::File, 2, 2, 4)
+    );
+    job.rename("/g", "/h")?;
+    job.unlink("/f")?;
+    job.truncate("/h", 2)?;
+    assert_eq!(job.read("/h")?, b"fo");
+    assert_eq!(job.stat("/h")?.links, 1);
+    assert_eq!(job.truncate("/h", u64::MAX), Err(Error::Invalid));
+    job.commit()
+}
+
+#[test]
+fn names_are_of_any_bytes() -> Result<()> {
+    let tree = Tree::new()?;
+    let job = tree.begin()?;
+    let name = OsStr::from_bytes(b"\xff \n");
+    job.mkdir(name)?;
+    assert_eq!(job.list("/")?[0].name, name);
+    assert_eq!(job.mkdir("/a\0b"), Err(Error::Invalid));
+    job.commit()
+}
+
+#[test]
+fn files_are_read_and_written_as_by_std() -> io::Result<()> {
+    let tree = Tree::new()?;
+    let job = tree.begin()?;
+    let options = *OpenOptions::new().read(true).write(true).create_new(true);
+    let mut log = job.open("/log", &options)?;
+    writeln!(log, "one")?;
+    writeln!(log, "two")?;
+    log.seek(SeekFrom::Start(0))?;
+    let lines: Vec<_> = BufReader::new(&mut log)
+        .lines()
+        .collect::<io::Result<_>>()?;
+    assert_eq!(lines, ["one", "two"]);
+    assert_eq!(log.seek(SeekFrom::End(-4))?, 4);
+    assert_eq!(log.seek(SeekFrom::Current(1))?, 5);
+    assert_eq!(
+        log.seek(SeekFrom::Current(-9)).unwrap_err().kind(),
+        ErrorKind::InvalidInput
+    );
+    let mut text = String::new();
+    log.read_to_string(&mut text)?;
+    assert_eq!(text, "wo\n");
+    assert_eq!(
+        job.open("/log", &options).unwrap_err(),
+        Error::Errno(EEXIST)
+    );
+    log.close()?;
+    Ok(job.commit()?)
+}
+
+#[test]
+fn files_are_read_and_written_at_offsets() -> Result<()> {
+    let tree = Tree::new()?;
+    let job = tree.begin()?;
+    let file = job.open("/f", OpenOptions::new().read(true).write(true).create(true))?;
+    assert_eq!(file.write_at(b"bytes", 2)?, 5);
+    file.set_len(4)?;
+    let mut buffer = *b"......";
+    assert_eq!(file.read_at(&mut buffer, 1)?, 3);
+    assert_eq!(&buffer, b"\0by...");
+    assert_eq!(file.metadata()?.len, 4);
+    assert_eq!(file.write_at(b"x", u64::MAX), Err(Error::Invalid));
+    file.close()?;
+    job.commit()
+}
+
+#[test]
+fn files_are_opened_as_asked() -> Result<()> {
+    let tree = Tree::new()?;
+    let job = tree.begin()?;
+    let nothing = OpenOptions::new();
+    assert_eq!(job.open("/f", &nothing).unwrap_err(), Error::Invalid);
+    assert_eq!(
+        job.open("/f", OpenOptions::new().read(true)).unwrap_err(),
+        Error::Errno(ENOENT)
+    );
+    job.write("/f", b"one")?;
+    let mut log = job.open("/f", OpenOptions::new().append(true))?;
+    log.write_all(b" two").expect("there is room");
+    drop(log);
+    assert_eq!(job.read("/f")?, b"one two");
+    job.write("/f", b"three")?;
+    assert_eq!(job.read("/f")?, b"three");
+    let opened = job.open("/f", OpenOptions::new().read(true).truncate(true));
+    assert_eq!(opened.unwrap_err(), Error::Errno(EINVAL));
+    job.commit()
+}
+
+#[test]
+fn full_file_takes_no_more() -> Result<()> {
+    let tree = Tree::new()?;
+    let job = tree.begin()?;
+    let most = vec![1; 1_048_576];
+    job.write("/f", &most)?;
+    assert_eq!(job.read("/f")?, most);
+    assert_eq!(job.write("/g", &[0; 1_048_577]), Err(Error::Errno(EFBIG)));
+    job.commit()
+}
+
+#[test]
+fn dropped_transaction_is_aborted() -> Result<()> {
+    let tree = Tree::new()?;
+    let job = tree.begin()?;
+    {
+        let step = job.begin()?;
+        step.mkdir("/gone")?;
+    }
+    let step = job.begin()?;
+    step.mkdir("/kept")?;
+    step.commit()?;
+    let step = job.begin()?;
+    step.mkdir("/gone")?;
+    assert_eq!(step.stat("/kept/none").unwrap_err(), Error::Errno(ENOENT));
+    assert_eq!(step.abort()?, 2);
+    job.commit()?;
+    assert_eq!(
+        tree.request("tree")?,
+        "tree 3\ndir 1\ndir 3\nedge 1 kept 3\n"
+    );
+    Ok(())
+}
+
+#[test]
+fn open_file_is_closed_where_it_is_dropped() -> Result<()> {
+    let tree = Tree::new()?;
+    let job = tree.begin()?;
+    drop(job.open("/f", OpenOptions::new().write(true).create(true))?);
+    job.commit()?;
+    assert_eq!(
+        tree.request("tree")?,
+        "tree 3\ndir 1\nedge 1 f 2\nfile 2 0\n"
+    );
+    Ok(())
+}
+
+#[test]
+fn calls_are_undone() -> Result<()> {
+    let tree = Tree::new()?;
+    let job = tree.begin()?;
+    job.mkdir("/a")?;
+    job.mkdir("/b")?;
+    assert_eq!(job.undo()?, 3);
+    let step = job.begin()?;
+    assert_eq!(job.undo(), Err(Error::Refused(Refusal::ChildLive)));
+    step.commit()?;
+    assert_eq!(job.undo(), Err(Error::Refused(Refusal::SubSince)));
+    assert_eq!(job.list("/")?.len(), 1);
+    job.commit()
+}
+
+#[test]
+fn those_in_the_way_are_told() -> Result<()> {
+    let tree = Tree::new()?;
+    let (first, second) = (tree.begin()?, tree.begin()?);
+    let third = tree.begin()?;
+    first.mkdir("/a")?;
+    second.mkdir("/b")?;
+    let waits = third.list("/").unwrap_err();
+    assert_eq!(waits, Error::Waits(vec![first.number(), second.number()]));
+    assert_eq!(io::Error::from(waits).kind(), ErrorKind::WouldBlock);
+    third.forget()?;
+    assert_eq!(third.forget(), Err(Error::Refused(Refusal::NoAsk)));
+    first.commit()?;
+    drop(second);
+    assert_eq!(third.list("/")?.len(), 1);
+    third.commit()
+}
+
+#[test]
+fn parent_is_in_the_way_under_moss() -> Result<()> {
+    let tree = Tree::with_rule(Rule::Moss)?;
+    let job = tree.begin()?;
+    job.mkdir("/a")?;
+    let step = job.begin()?;
+    assert_eq!(step.stat("/a"), Err(Error::Waits(vec![job.number()])));
+    Ok(())
+}
+
+#[test]
+fn checkpoint_forgets_transactions() -> Result<()> {
+    let mut tree = Tree::new()?;
+    let job = tree.begin()?;
+    job.mkdir("/a")?;
+    job.commit()?;
+    tree.checkpoint()?;
+    assert_eq!(tree.request("commit 1")?, "refused NoTxn\n");
+    assert_eq!(tree.begin()?.stat("/a")?.number, 2);
+    Ok(())
+}
+
+#[test]
+fn lines_are_carried_out() -> Result<()> {
+    let tree = Tree::new()?;
+    assert_eq!(tree.request("begin")?, "txn 1\n");
+    assert_eq!(tree.request("1 rmdir /a%20b")?, "2 ENOENT\n");
+    assert_eq!(tree.request("# nothing")?, "");
+    assert_eq!(tree.request("bigin"), Err(Error::Invalid));
+    for name in 1..=40 {
+        tree.request(&format!("1 mkdir /{name}"))?;
+    }
+    let report = tree.request("tree")?;
+    assert!(report.len() > 256 && report.starts_with("tree 81\n") && report.ends_with(" 11\n"));
+    Ok(())
+}
+
+#[test]
+fn errors_are_those_of_io() {
+    let kind = |error: Error| io::Error::from(error).kind();
+    assert_eq!(kind(Error::Errno(ENOENT)), ErrorKind::NotFound);
+    assert_eq!(kind(Error::Invalid), ErrorKind::InvalidInput);
+    assert_eq!(
+        kind(Error::Refused(Refusal::Memory)),
+        ErrorKind::OutOfMemory
+    );
+    let ended = io::Error::from(Error::Refused(Refusal::Ended));
+    assert_eq!(ended.to_string(), "the transaction has ended");
+    let inside = ended.into_inner().expect("the error is inside");
+    assert_eq!(inside.downcast_ref(), Some(&Error::Refused(Refusal::Ended)));
+}

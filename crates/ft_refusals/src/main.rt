@@ -1,0 +1,22 @@
+//! The program `ft_refusals`: it makes directories through a lock, each in a transaction of its
+//! own, publishes each, and counts what a reader sees then. What is refused is told, and done once
+//! more.
+//! With all the memory that it asks for nothing is refused; it is there to be run with each of its
+//! allocations refused in turn.
+#![tactic(auto)]
+
+mod steps;
+
+use anyhow::{Result, bail};
+use ft_core::Core;
+use ft_shared::with_views;
+use std::marker::Brand;
+use steps::publish_each;
+
+fn main(rt: HostRuntime) -> Result<()> {
+    let alloc = rt.alloc();
+    let Ok(opened) = with_views(Core::new(alloc)?) else {
+        bail!("there are no views");
+    };
+    publish_each::<Brand, HostRuntime>(&rt, alloc, opened)
+}

@@ -1,0 +1,124 @@
+// What is done, and what is told of it.
+ghost use Rattle.std.specs.Prelude.{◌≡◌};
+ghost use Rattle.ft_shared.specs.Opening.{named_by};
+
+use anyhow::{Result, bail};
+use ft_calls::{Call, Reply};
+use ft_core::Fault;
+use ft_path::FilePath;
+use ft_shared::{Opened, Shared};
+use ft_view::{Naming, Reader};
+use std::alloc::Global;
+use std::io::Print;
+use std::sync::Wait;
+
+/// How many directories are made and published.
+const DIRECTORIES: u64 = 40;
+
+/// Makes directories and publishes each, and says after each how many calls are published, and how
+/// many names a reader sees then.
+pub fn publish_each<J: Naming, R: Wait + Print>(rt: &R, alloc: Global, opened: Opened) -> Result<()>
+    requires { named_by opened ≡ J.opened }
+{
+    let Ok((shared, reader)) = opened.named::<J, R>(rt) else {
+        bail!("the views have no name");
+    };
+    let told = through(rt, alloc, &shared, reader);
+    shared.into_core(rt);
+    told
+}
+
+fn through<J: Naming, R: Wait + Print>(
+    rt: &R,
+    alloc: Global,
+    shared: &Shared<J>,
+    mut reader: Reader<J>,
+) -> Result<()> {
+    let root = FilePath::new(alloc, b"/".as_slice())?;
+    for number in 0..DIRECTORIES {
+        make_at_last(rt, alloc, shared, number)?;
+        let calls = publish_at_last(rt, shared, &mut reader, &root)?;
+        let names = count_at_last(rt, &mut reader, &root)?;
+        println!(rt; "published {calls}, and a reader sees {names}")?;
+    }
+    Ok(())
+}
+
+/// Makes a directory, and where that is refused once more.
+fn make_at_last<J: Naming, R: Wait + Print>(
+    rt: &R,
+    alloc: Global,
+    shared: &Shared<J>,
+    number: u64,
+) -> Result<()> {
+    if let Err(fault) = make(rt, alloc, shared, number) {
+        println!(rt; "refused: make, {fault}")?;
+        make(rt, alloc, shared, number)?;
+    }
+    Ok(())
+}
+
+/// Makes a directory in a transaction of its own, which is aborted where that is refused.
+fn make<J: Naming, R: Wait>(
+    rt: &R,
+    alloc: Global,
+    shared: &Shared<J>,
+    number: u64,
+) -> Result<(), Fault> {
+    let Ok(text) = format!(in alloc; "/{number}") else {
+        return Err(Fault::Memory);
+    };
+    let Ok(path) = FilePath::new(alloc, text.as_bytes()) else {
+        return Err(Fault::Memory);
+    };
+    let txn = shared.begin(rt)?;
+    match shared.ask(rt, txn, Call::Mkdir { path }) {
+        Ok(_) => shared.commit(rt, txn),
+        Err(fault) => {
+            shared.abort(rt, txn)?;
+            Err(fault)
+        }
+    }
+}
+
+/// Publishes what has committed, and where that is refused tells what a reader sees then, and
+/// publishes once more. Answers how many calls are published.
+fn publish_at_last<J: Naming, R: Wait + Print>(
+    rt: &R,
+    shared: &Shared<J>,
+    reader: &mut Reader<J>,
+    root: &FilePath,
+) -> Result<u64> {
+    match shared.publish(rt) {
+        Ok((calls, _)) => Ok(calls),
+        Err(fault) => {
+            let names = count(reader, root)?;
+            println!(rt; "refused: publish, {fault}, and a reader sees {names}")?;
+            let (calls, _) = shared.publish(rt)?;
+            Ok(calls)
+        }
+    }
+}
+
+/// How many names a reader sees, where it is not refused twice.
+fn count_at_last<J: Naming, R: Print>(
+    rt: &R,
+    reader: &mut Reader<J>,
+    root: &FilePath,
+) -> Result<usize> {
+    match count(reader, root) {
+        Ok(names) => Ok(names),
+        Err(_) => {
+            println!(rt; "refused: list")?;
+            count(reader, root)
+        }
+    }
+}
+
+/// How many names a reader sees in the root.
+fn count<J: Naming>(reader: &mut Reader<J>, root: &FilePath) -> Result<usize> {
+    let (_, Reply::Names(names)) = reader.list(root)? else {
+        bail!("the root is no directory");
+    };
+    Ok(names.len())
+}

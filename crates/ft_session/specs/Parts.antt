@@ -1,0 +1,50 @@
+-- The parts of what the last request came to.
+use Rattle.std.specs.Prelude.{ℕ, List, [], ◌∷◌, ◌++◌, Option, Some, None}
+use Rattle.ft_cells.specs.declared.node.Kind.{Kind}
+use Rattle.ft_posix.specs.declared.call.Reply.{Reply}
+use Rattle.ft_posix.specs.declared.call.Reply.TheVariants.{Names, Bytes}
+use Rattle.ft_core.specs.declared.request.Answer.{Answer}
+use Rattle.ft_core.specs.declared.request.Answer.TheVariants.{Granted, Waits}
+use Rattle.ft_replies.specs.Texts.{text_of}
+use Rattle.ft_session.specs.declared.last.Last.{Last}
+use Rattle.ft_session.specs.declared.last.Last.TheVariants as last
+
+abbrev pub names_of : Reply → List (List ℕ × Kind)
+names_of (Names names) = names
+names_of other = []
+
+abbrev pub bytes_of : Reply → Option (List ℕ)
+bytes_of (Bytes bytes) = Some bytes
+bytes_of other = None
+
+abbrev pub names_answered : Answer → List (List ℕ × Kind)
+names_answered (Granted stamp reply) = names_of reply
+names_answered other = []
+
+abbrev pub bytes_answered : Answer → Option (List ℕ)
+bytes_answered (Granted stamp reply) = bytes_of reply
+bytes_answered other = None
+
+abbrev pub blockers_answered : Answer → List ℕ
+blockers_answered (Waits blockers) = blockers
+blockers_answered other = []
+
+-- the names that a list has answered
+abbrev pub names_in : Last → List (List ℕ × Kind)
+names_in (last.Answer answer) = names_answered answer
+names_in (last.Text text) = []
+
+-- the transactions for which a call waits
+abbrev pub blockers_in : Last → List ℕ
+blockers_in (last.Answer answer) = blockers_answered answer
+blockers_in (last.Text text) = []
+
+-- the bytes that a read has answered
+abbrev pub bytes_in : Last → Option (List ℕ)
+bytes_in (last.Answer answer) = bytes_answered answer
+bytes_in (last.Text text) = None
+
+-- the reply as a script shows it, with its line feed
+abbrev pub reply_text : Last → List ℕ
+reply_text (last.Answer answer) = text_of answer ++ 10 ∷ []
+reply_text (last.Text text) = text

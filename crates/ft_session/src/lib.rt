@@ -1,0 +1,11 @@
+//! What a caller and a core say to each other, one request at a time: the request as a value, or as
+//! a line of a script, and then the answer, part by part, or as text.
+#![tactic(auto)]
+
+mod copying;
+mod last;
+mod session;
+
+pub use copying::copy_into;
+pub use last::Last;
+pub use session::{LineFault, Session};

@@ -1,0 +1,93 @@
+// A core and its caller.
+ghost use Rattle.std.specs.Prelude.{◌≡◌, [], OnOk, OnErr, IfErr};
+ghost use Rattle.ft_core.specs.declared.request.Answer.{Answer as AnswerOf};
+ghost use Rattle.ft_replies.specs.declared.line.Line.TheVariants.{Bad as BadLine};
+ghost use Rattle.ft_replies.specs.Requests.{meaning_of};
+ghost use Rattle.ft_session.specs.Sessions.{HasAnswered, HasTold, IsCarriedOut, IsSame, MayHaveTold};
+
+use crate::last::Last;
+use ft_base::{Memory, Sequence};
+use ft_core::{Answer, Core, Request};
+use ft_replies::{Line, meaning_of, reply_to};
+use std::alloc::Global;
+
+/// Why a line was not carried out. Nothing has changed.
+#[derive(Clone, Copy, Debug, PartialEq, Eq)]
+pub enum LineFault {
+    /// There was no memory left.
+    Memory,
+    /// It asks for nothing that there is.
+    Bad,
+}
+
+impl From<Memory> for LineFault {
+    ghost use Rattle.std.specs.Prelude.{◌≡◌};
+    ghost use Rattle.ft_session.specs.declared.session.LineFault.TheVariants.{Memory};
+
+    ghost from_gives = { λ _ fault. fault ≡ Memory };
+
+    fn from(_memory: Memory) -> LineFault {
+        LineFault::Memory
+    }
+}
+
+/// A core, and what the last request to it came to.
+#[derive(Drop)]
+pub struct Session {
+    pub core: Core,
+    pub last: Last,
+}
+
+impl Session {
+    /// A session with a core, of which nothing has been asked yet.
+    pub fn of(alloc: Global, core: Core) -> Session
+        ensures core { result.core ≡ core }
+        ensures last { result.last ≡ Last.Text [] }
+    {
+        Session {
+            core,
+            last: Last::Text(Sequence::new(alloc)),
+        }
+    }
+
+    /// Carries out a request. What a commit or an abort has let go is swept, where it is not
+    /// refused.
+    pub fn ask(&mut self, request: Request)
+        ensures { (answer : AnswerOf) × HasAnswered self.old request answer self.new }
+    {
+        let answer = self.core.answer(request);
+        if matches!(answer, Answer::Committed | Answer::Aborted(_)) {
+            self.core.sweep();
+        }
+        self.last = Last::Answer(answer);
+    }
+
+    /// Carries out one line of a script, without its line feed.
+    ///
+    /// Refuses a line that asks for nothing that there is. Else it fails only for want of memory:
+    /// for the words of the line, or for the text of a report.
+    pub fn request(&mut self, alloc: Global, line: &[u8]) -> Result<(), LineFault>
+        ensures ok { OnOk result (IsCarriedOut self.old (meaning_of line.now) self.new) }
+        ensures bad { IfErr result (λ fault. fault ≡ LineFault.Bad → meaning_of line.now ≡ BadLine) }
+        ensures same { OnErr result (IsSame self.old self.new) }
+    {
+        match meaning_of(alloc, line)? {
+            Line::Bad => Err(LineFault::Bad),
+            Line::Request(request) => {
+                self.ask(request);
+                Ok(())
+            }
+            Line::Silent | Line::Report(_) => Ok(self.tell(alloc, line)?),
+        }
+    }
+
+    /// Carries out a line whose reply is a text of its own.
+    fn tell(&mut self, alloc: Global, line: &[u8]) -> Result<(), Memory>
+        ensures ok { OnOk result (HasTold self.old (meaning_of line.now) self.new) }
+        ensures err { OnErr result (MayHaveTold self.old (meaning_of line.now) self.new) }
+    {
+        let text = reply_to(alloc, line, &mut self.core)?;
+        self.last = Last::Text(text.into_bytes().into());
+        Ok(())
+    }
+}

@@ -1,0 +1,215 @@
+// Requests and the answers that they are to get, from whoever answers them.
+use ft_calls::{Call, Reply};
+use ft_core::{Answer, Core, Fault, Request, TxnId};
+use ft_path::{Errno, FilePath, Name};
+use ft_tree::{AccessMode, Kind};
+use std::alloc::Global;
+use std::test::Fail;
+
+/// A request: the number of its transaction, and its path or its descriptor.
+#[derive(Clone, Copy)]
+pub enum Line<'a> {
+    Begin,
+    Sub(u64),
+    Mkdir(u64, &'a [u8]),
+    Rmdir(u64, &'a [u8]),
+    List(u64, &'a [u8]),
+    /// To read and write, and made where it is not there.
+    Open(u64, &'a [u8]),
+    Unlink(u64, &'a [u8]),
+    Rename(u64, &'a [u8], &'a [u8]),
+    Close(u64, u64),
+    Write(u64, u64, &'a [u8]),
+    /// At the beginning.
+    Pwrite(u64, u64, &'a [u8]),
+    Read(u64, u64),
+    /// At the beginning.
+    Pread(u64, u64),
+    Fstat(u64, u64),
+    Retry(u64),
+    Drop(u64),
+    Undo(u64),
+    Commit(u64),
+    Abort(u64),
+    Checkpoint,
+}
+
+/// An answer; of a granted call, its stamp.
+#[derive(Clone, Copy)]
+pub enum Wanted<'a> {
+    Txn(u64),
+    Done(u64),
+    Failed(u64, Errno),
+    /// The names in their order, one behind the other.
+    Names(u64, &'a [u8]),
+    /// The same, and each the name of a directory.
+    Directories(u64, &'a [u8]),
+    Number(u64, u64),
+    Bytes(u64, &'a [u8]),
+    /// Of a file: its number, its links and its size.
+    File(u64, [u64; 3]),
+    Waits(u64),
+    Dropped,
+    Committed,
+    Aborted(u64),
+    Undone(u64),
+    Cleared,
+    Refused(Fault),
+}
+
+fn path_call(alloc: Global, line: Line) -> Result<(u64, Call), Fail> {
+    match line {
+        Line::Mkdir(txn, path) => {
+            let path = FilePath::new(alloc, path)?;
+            Ok((txn, Call::Mkdir { path }))
+        }
+        Line::Rmdir(txn, path) => {
+            let path = FilePath::new(alloc, path)?;
+            Ok((txn, Call::Rmdir { path }))
+        }
+        Line::List(txn, path) => {
+            let path = FilePath::new(alloc, path)?;
+            Ok((txn, Call::List { path }))
+        }
+        Line::Unlink(txn, path) => {
+            let path = FilePath::new(alloc, path)?;
+            Ok((txn, Call::Unlink { path }))
+        }
+        Line::Rename(txn, old, new) => {
+            let old = FilePath::new(alloc, old)?;
+            let new = FilePath::new(alloc, new)?;
+            Ok((txn, Call::Rename { old, new }))
+        }
+        Line::Open(txn, path) => {
+            let path = FilePath::new(alloc, path)?;
+            let call = Call::Open {
+                path,
+                access: AccessMode::ReadWrite,
+                create: true,
+                excl: false,
+                trunc: false,
+                append: false,
+            };
+            Ok((txn, call))
+        }
+        line => descriptor_call(alloc, line),
+    }
+}
+
+fn descriptor_call(alloc: Global, line: Line) -> Result<(u64, Call), Fail> {
+    match line {
+        Line::Write(txn, fd, bytes) => {
+            let bytes = bytes.to_vec(alloc)?.into();
+            Ok((txn, Call::Write { fd, bytes }))
+        }
+        Line::Pwrite(txn, fd, bytes) => {
+            let bytes = bytes.to_vec(alloc)?.into();
+            Ok((txn, Call::Pwrite { fd, off: 0, bytes }))
+        }
+        Line::Close(txn, fd) => Ok((txn, Call::Close { fd })),
+        Line::Read(txn, fd) => Ok((txn, Call::Read { fd, len: 9 })),
+        Line::Pread(txn, fd) => Ok((txn, Call::Pread { fd, off: 0, len: 9 })),
+        Line::Fstat(txn, fd) => Ok((txn, Call::Fstat { fd })),
+        _ => Err(Fail::from("no call")),
+    }
+}
+
+/// The request of a line.
+fn request(alloc: Global, line: Line) -> Result<Request, Fail> {
+    match line {
+        Line::Begin => Ok(Request::Begin),
+        Line::Sub(txn) => Ok(Request::Sub(TxnId(txn))),
+        Line::Retry(txn) => Ok(Request::Retry(TxnId(txn))),
+        Line::Drop(txn) => Ok(Request::Drop(TxnId(txn))),
+        Line::Undo(txn) => Ok(Request::Undo(TxnId(txn))),
+        Line::Commit(txn) => Ok(Request::Commit(TxnId(txn))),
+        Line::Abort(txn) => Ok(Request::Abort(TxnId(txn))),
+        Line::Checkpoint => Ok(Request::Checkpoint),
+        line => {
+            let (txn, call) = path_call(alloc, line)?;
+            Ok(Request::Ask(TxnId(txn), call))
+        }
+    }
+}
+
+/// Whether the names are these, one behind the other.
+fn are_names(names: &[(Name, Kind)], wanted: &[u8]) -> bool {
+    let all = names.iter().flat_map(|(name, _)| name.as_bytes());
+    all.copied().eq(wanted.iter().copied())
+}
+
+/// Whether a reply is the one that is wanted, with this number: the stamp of a granted call.
+pub fn is_reply(stamp: u64, reply: &Reply, wanted: Wanted) -> bool {
+    match (reply, wanted) {
+        (Reply::Done, Wanted::Done(wanted)) => stamp == wanted,
+        (Reply::Failed(errno), Wanted::Failed(number, wanted)) => {
+            stamp == number && *errno == wanted
+        }
+        (Reply::Number(fd), Wanted::Number(number, wanted)) => stamp == number && *fd == wanted,
+        (Reply::Bytes(bytes), Wanted::Bytes(number, wanted)) => {
+            stamp == number && bytes.as_slice() == wanted
+        }
+        (Reply::Names(names), Wanted::Names(number, wanted)) => {
+            stamp == number && are_names(names.as_slice(), wanted)
+        }
+        (Reply::Names(names), Wanted::Directories(number, wanted)) => {
+            stamp == number
+                && are_names(names.as_slice(), wanted)
+                && names.as_slice().iter().all(|(_, kind)| *kind == Kind::Dir)
+        }
+        (
+            Reply::Info {
+                kind: Kind::File,
+                number: file,
+                links,
+                size,
+            },
+            Wanted::File(number, wanted),
+        ) => stamp == number && [*file, *links, *size] == wanted,
+        _ => false,
+    }
+}
+
+/// Whether an answer is the one that is wanted.
+fn is_answer(answer: &Answer, wanted: Wanted) -> bool {
+    match (answer, wanted) {
+        (Answer::Txn(txn), Wanted::Txn(wanted)) => txn.0 == wanted,
+        (Answer::Granted { stamp, reply }, wanted) => is_reply(*stamp, reply, wanted),
+        (Answer::Waits { blockers }, Wanted::Waits(wanted)) => {
+            blockers.as_slice() == [TxnId(wanted)].as_slice()
+        }
+        (Answer::Dropped, Wanted::Dropped) => true,
+        (Answer::Cleared, Wanted::Cleared) => true,
+        (Answer::Committed, Wanted::Committed) => true,
+        (Answer::Aborted(count), Wanted::Aborted(wanted)) => *count == wanted,
+        (Answer::Undone(stamp), Wanted::Undone(wanted)) => *stamp == wanted,
+        (Answer::Refused(fault), Wanted::Refused(wanted)) => *fault == wanted,
+        _ => false,
+    }
+}
+
+/// What answers requests.
+pub trait Answers {
+    fn answer_to(&mut self, request: Request) -> Answer;
+}
+
+impl Answers for Core {
+    fn answer_to(&mut self, request: Request) -> Answer {
+        self.answer(request)
+    }
+}
+
+/// Carries a script out, one request for each line, and says whether each is answered as it says.
+pub fn plays<A: Answers>(
+    alloc: Global,
+    answers: &mut A,
+    script: &[(Line, Wanted)],
+) -> Result<bool, Fail> {
+    for (line, wanted) in script {
+        let answer = answers.answer_to(request(alloc, *line)?);
+        if !is_answer(&answer, *wanted) {
+            return Ok(false);
+        }
+    }
+    Ok(true)
+}

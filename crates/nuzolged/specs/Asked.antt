@@ -1,0 +1,60 @@
+-- What a request through a handle came to.
+use Rattle.std.specs.Prelude.{◌≡◌, ◌⊎◌, ◌||◌, ℕ, Bool, true, false, cond, List, Option, Some, None, Result, Ok, Err, suc, zero}
+use Rattle.ft_path.specs.Name.{has_nul}
+use Rattle.ft_cells.specs.declared.open_file.AccessMode.{AccessMode}
+use Rattle.ft_cells.specs.declared.open_file.AccessMode.TheVariants.{ReadOnly, WriteOnly, ReadWrite}
+use Rattle.ft_posix.specs.declared.call.Call.{Call}
+use Rattle.ft_posix.specs.declared.call.Whence.{Whence}
+use Rattle.ft_posix.specs.declared.call.Whence.TheVariants.{Set, Cur, End}
+use Rattle.ft_core.specs.declared.request.Answer.{Answer}
+use Rattle.ft_core.specs.declared.request.Request.{Request}
+use Rattle.ft_core.specs.declared.request.Request.TheVariants.{Ask}
+use Rattle.ft_session.specs.declared.session.Session.{Session}
+use Rattle.ft_session.specs.Sessions.{HasAnswered}
+use Rattle.nuzolged.specs.declared.told.Told.{Told}
+use Rattle.nuzolged.specs.declared.asking.Unasked.{Unasked}
+use Rattle.nuzolged.specs.declared.asking.Unasked.TheVariants as unasked
+use Rattle.nuzolged.specs.Numbers.{told_of_answer, no_memory, closed, bad}
+
+-- The handle is closed, and stays so. Or the core of its session has made one legal step for just this request, and what is told is its answer.
+abbrev pub IsAsked : Option Session → Request → Told → Option Session → Type 0
+IsAsked None request told new = (told ≡ closed) × (new ≡ None)
+IsAsked (Some old) request told new = (session : Session) × (answer : Answer) × (new ≡ Some session) × HasAnswered old request answer session × (told ≡ told_of_answer answer)
+
+-- Nothing has changed: the handle is closed, an argument is bad, or there was no memory for a copy of one.
+abbrev pub IsTurnedAway : Bool → Option Session → Told → Option Session → Type 0
+IsTurnedAway is_bad None told new = (told ≡ closed) × (new ≡ None)
+IsTurnedAway is_bad (Some old) told new = (told ≡ cond is_bad bad no_memory) × (new ≡ Some old)
+
+-- A call in a transaction: it is turned away where an argument is bad, and else only for want of memory.
+abbrev pub IsCalled : Bool → Option Session → ℕ → Call → Told → Option Session → Type 0
+IsCalled is_bad old txn call told new = ((is_bad ≡ false) × IsAsked old (Ask txn call) told new) ⊎ IsTurnedAway is_bad old told new
+
+-- ---- arguments
+
+abbrev pub is_bad : Unasked → Bool
+is_bad unasked.Memory = false
+is_bad unasked.Bad = true
+
+-- a path of these bytes, or why there is none
+abbrev pub IsPath : List ℕ → Result (List ℕ) Unasked → Type 0
+IsPath bytes (Ok path) = (path ≡ bytes) × (has_nul bytes ≡ false)
+IsPath bytes (Err why) = has_nul bytes ≡ is_bad why
+
+abbrev pub ArePaths : List ℕ → List ℕ → Result (List ℕ × List ℕ) Unasked → Type 0
+ArePaths from to (Ok paths) = (paths.0 ≡ from) × (paths.1 ≡ to) × ((has_nul from || has_nul to) ≡ false)
+ArePaths from to (Err why) = (has_nul from || has_nul to) ≡ is_bad why
+
+-- the access of a number, as O_RDONLY, O_WRONLY and O_RDWR
+abbrev pub access_of : ℕ → Option AccessMode
+access_of zero = Some ReadOnly
+access_of (suc zero) = Some WriteOnly
+access_of (suc (suc zero)) = Some ReadWrite
+access_of (suc (suc (suc number))) = None
+
+-- from where an offset counts, as SEEK_SET, SEEK_CUR and SEEK_END
+abbrev pub whence_of : ℕ → Option Whence
+whence_of zero = Some Set
+whence_of (suc zero) = Some Cur
+whence_of (suc (suc zero)) = Some End
+whence_of (suc (suc (suc number))) = None

@@ -1,0 +1,6 @@
+pub mod Handles
+pub mod Numbers
+pub mod Asked
+pub mod Opened
+pub mod Parts
+pub mod Lines

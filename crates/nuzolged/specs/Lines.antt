@@ -1,0 +1,27 @@
+-- What a line through a handle came to, and its reply.
+use Rattle.std.specs.Prelude.{◌≡◌, ◌⊎◌, ℕ, List, length, Option, Some, None}
+use Rattle.ft_replies.specs.declared.line.Line.{Line}
+use Rattle.ft_replies.specs.declared.line.Line.TheVariants.{Bad}
+use Rattle.ft_session.specs.Buffers.{filled}
+use Rattle.ft_session.specs.Parts.{reply_text}
+use Rattle.ft_session.specs.Sessions.{IsCarriedOut, IsSame}
+use Rattle.ft_session.specs.declared.last.Last.{Last}
+use Rattle.ft_session.specs.declared.session.Session.{Session}
+use Rattle.nuzolged.specs.declared.told.Told.{Told}
+use Rattle.nuzolged.specs.Numbers.{told_of, told_size, no_memory, closed, bad}
+
+-- The line was carried out, and what it came to is told. Or nothing has changed: it asks for nothing that there is, or there was no memory.
+abbrev pub IsLineTold : Session → Line → Told → Session → Type 0
+IsLineTold old line told new = (IsCarriedOut old line new × (told ≡ told_of new.last)) ⊎ (IsSame old new × (((line ≡ Bad) × (told ≡ bad)) ⊎ (told ≡ no_memory)))
+
+abbrev pub IsLineAsked : Option Session → Line → Told → Option Session → Type 0
+IsLineAsked None line told new = (told ≡ closed) × (new ≡ None)
+IsLineAsked (Some old) line told new = (session : Session) × (new ≡ Some session) × IsLineTold old line told session
+
+-- The reply is copied, and its length told; or there was no memory for its text.
+abbrev pub HasReplied : Last → Told → List ℕ → List ℕ → Type 0
+HasReplied last told before after = ((told ≡ told_size (length (reply_text last))) × (after ≡ filled (reply_text last) before)) ⊎ ((told ≡ no_memory) × (after ≡ before))
+
+abbrev pub IsReplied : Option Session → Told → List ℕ → List ℕ → Type 0
+IsReplied None told before after = (told ≡ closed) × (after ≡ before)
+IsReplied (Some session) told before after = HasReplied session.last told before after

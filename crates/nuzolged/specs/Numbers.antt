@@ -1,0 +1,94 @@
+-- Answers in numbers.
+use Rattle.std.specs.Prelude.{ℕ, length}
+use Rattle.ft_path.specs.declared.errno.Errno.{Errno}
+use Rattle.ft_path.specs.declared.errno.Errno.TheVariants as errno
+use Rattle.ft_cells.specs.declared.node.Kind.{Kind}
+use Rattle.ft_cells.specs.declared.node.Kind.TheVariants as kind
+use Rattle.ft_posix.specs.declared.call.Reply.{Reply}
+use Rattle.ft_posix.specs.declared.call.Reply.TheVariants.{Done, Names, Number, Bytes, Info, Failed}
+use Rattle.ft_core.specs.declared.fault.Fault.{Fault}
+use Rattle.ft_core.specs.declared.fault.Fault.TheVariants as fault
+use Rattle.ft_core.specs.declared.request.Answer.{Answer}
+use Rattle.ft_core.specs.declared.request.Answer.TheVariants.{Txn, Granted, Waits, Dropped, Committed, Aborted, Undone, Cleared, Refused}
+use Rattle.ft_session.specs.declared.last.Last.{Last}
+use Rattle.ft_session.specs.declared.last.Last.TheVariants as last
+use Rattle.nuzolged.specs.declared.told.Told.{Told}
+
+-- a code, a stamp and a number, and nothing else
+abbrev pub told : ℕ → ℕ → ℕ → Told
+told code stamp number = record { code = code; kind = 0; stamp = stamp; number = number; links = 0; size = 0 }
+
+-- it is done, and there are so many bytes
+abbrev pub told_size : ℕ → Told
+told_size size = record { code = 0; kind = 0; stamp = 0; number = 0; links = 0; size = size }
+
+-- there was no memory
+abbrev pub no_memory : Told
+no_memory = told 1001 0 0
+
+-- the handle holds no tree
+abbrev pub closed : Told
+closed = told 1200 0 0
+
+-- an argument is none that there is
+abbrev pub bad : Told
+bad = told 1201 0 0
+
+abbrev pub kind_number : Kind → ℕ
+kind_number kind.Dir = 1
+kind_number kind.File = 2
+
+-- the numbers of errors, as Linux has them (errno.h)
+abbrev pub errno_number : Errno → ℕ
+errno_number errno.EPERM = 1
+errno_number errno.ENOENT = 2
+errno_number errno.EBADF = 9
+errno_number errno.EBUSY = 16
+errno_number errno.EEXIST = 17
+errno_number errno.ENOTDIR = 20
+errno_number errno.EISDIR = 21
+errno_number errno.EINVAL = 22
+errno_number errno.EFBIG = 27
+errno_number errno.EMLINK = 31
+errno_number errno.ENAMETOOLONG = 36
+errno_number errno.ENOTEMPTY = 39
+errno_number errno.EOVERFLOW = 75
+
+-- the numbers of refusals stand behind those of errors
+abbrev pub fault_number : Fault → ℕ
+fault_number fault.Memory = 1001
+fault_number fault.NoTxn = 1002
+fault_number fault.Ended = 1003
+fault_number fault.ChildLive = 1004
+fault_number fault.NothingToUndo = 1005
+fault_number fault.SubSince = 1006
+fault_number fault.Full = 1007
+fault_number fault.Deep = 1008
+fault_number fault.Live = 1009
+fault_number fault.NoAsk = 1010
+fault_number fault.NoViews = 1011
+
+abbrev pub told_of_reply : ℕ → Reply → Told
+told_of_reply stamp Done = told 0 stamp 0
+told_of_reply stamp (Names names) = told 0 stamp (length names)
+told_of_reply stamp (Number number) = told 0 stamp number
+told_of_reply stamp (Bytes bytes) = told 0 stamp (length bytes)
+told_of_reply stamp (Info kind number links size) = record { code = 0; kind = kind_number kind; stamp = stamp; number = number; links = links; size = size }
+told_of_reply stamp (Failed errno) = told (errno_number errno) stamp 0
+
+-- an answer: the code 1100 says that the call waits, and the number for how many transactions
+abbrev pub told_of_answer : Answer → Told
+told_of_answer (Txn txn) = told 0 0 txn
+told_of_answer (Granted stamp reply) = told_of_reply stamp reply
+told_of_answer (Waits blockers) = told 1100 0 (length blockers)
+told_of_answer Dropped = told 0 0 0
+told_of_answer Committed = told 0 0 0
+told_of_answer (Aborted count) = told 0 0 count
+told_of_answer (Undone stamp) = told 0 stamp 0
+told_of_answer Cleared = told 0 0 0
+told_of_answer (Refused fault) = told (fault_number fault) 0 0
+
+-- what the last request came to
+abbrev pub told_of : Last → Told
+told_of (last.Answer answer) = told_of_answer answer
+told_of (last.Text text) = told_size (length text)

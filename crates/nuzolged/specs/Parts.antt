@@ -1,0 +1,61 @@
+-- What is told of the parts of the last answer.
+use Rattle.std.specs.Prelude.{ℕ, List, length, Option, Some, None, slice_get}
+use Rattle.ft_cells.specs.declared.node.Kind.{Kind}
+use Rattle.ft_session.specs.declared.last.Last.{Last}
+use Rattle.ft_session.specs.declared.session.Session.{Session}
+use Rattle.ft_session.specs.Parts.{names_in, blockers_in, bytes_in}
+use Rattle.nuzolged.specs.declared.told.Told.{Told}
+use Rattle.nuzolged.specs.Numbers.{told, told_size, kind_number, closed, bad}
+
+-- ---- a name of a list
+
+abbrev pub named : Option (List ℕ × Kind) → Told
+named None = bad
+named (Some name) = record { code = 0; kind = kind_number name.1; stamp = 0; number = 0; links = 0; size = length name.0 }
+
+abbrev pub name_at : Last → ℕ → Told
+name_at last index = named (slice_get (names_in last) index)
+
+abbrev pub name_told : Option Session → ℕ → Told
+name_told None index = closed
+name_told (Some session) index = name_at session.last index
+
+abbrev pub first_part : Option (List ℕ × Kind) → Option (List ℕ)
+first_part None = None
+first_part (Some name) = Some name.0
+
+abbrev pub name_bytes_at : Last → ℕ → Option (List ℕ)
+name_bytes_at last index = first_part (slice_get (names_in last) index)
+
+-- its bytes, if there is one
+abbrev pub name_bytes : Option Session → ℕ → Option (List ℕ)
+name_bytes None index = None
+name_bytes (Some session) index = name_bytes_at session.last index
+
+-- ---- a transaction for which a call waits
+
+abbrev pub numbered : Option ℕ → Told
+numbered None = bad
+numbered (Some txn) = told 0 0 txn
+
+abbrev pub blocker_at : Last → ℕ → Told
+blocker_at last index = numbered (slice_get (blockers_in last) index)
+
+abbrev pub blocker_told : Option Session → ℕ → Told
+blocker_told None index = closed
+blocker_told (Some session) index = blocker_at session.last index
+
+-- ---- the bytes of a read
+
+abbrev pub bytes_count : Option (List ℕ) → Told
+bytes_count None = bad
+bytes_count (Some bytes) = told_size (length bytes)
+
+abbrev pub bytes_told : Option Session → Told
+bytes_told None = closed
+bytes_told (Some session) = bytes_count (bytes_in session.last)
+
+-- the bytes that the last answer of a handle has, if it has some
+abbrev pub bytes_held : Option Session → Option (List ℕ)
+bytes_held None = None
+bytes_held (Some session) = bytes_in session.last

@@ -1,0 +1,155 @@
+// The calls on descriptors.
+ghost use Rattle.std.specs.Prelude.{◌≡◌, MatchOption, true, false, length};
+ghost use Rattle.ft_core.specs.declared.request.Request.TheVariants.{Ask};
+ghost use Rattle.ft_posix.specs.declared.call.Call.TheVariants as calls;
+ghost use Rattle.ft_session.specs.Buffers.{filled_by};
+ghost use Rattle.nuzolged.specs.Asked.{IsAsked, IsCalled, IsTurnedAway, whence_of};
+ghost use Rattle.nuzolged.specs.Parts.{bytes_held};
+
+use crate::asking::{Unasked, call, turn_away};
+use crate::handle::Handle;
+use crate::parts::nuz_bytes;
+use crate::told::Told;
+use ft_base::Sequence;
+use ft_calls::{Call, Whence};
+use std::alloc::Global;
+
+/// Closes a descriptor.
+#[unsafe(no_mangle)]
+pub extern "C" fn nuz_close(alloc: Global, tree: &mut Handle, txn: u64, fd: u64) -> Told
+    ensures { IsAsked tree.old.session (Ask txn (calls.Close fd)) result tree.new.session }
+{
+    call(alloc, tree, txn, Call::Close { fd })
+}
+
+/// What a descriptor has open.
+#[unsafe(no_mangle)]
+pub extern "C" fn nuz_fstat(alloc: Global, tree: &mut Handle, txn: u64, fd: u64) -> Told
+    ensures { IsAsked tree.old.session (Ask txn (calls.Fstat fd)) result tree.new.session }
+{
+    call(alloc, tree, txn, Call::Fstat { fd })
+}
+
+/// Cuts the file of a descriptor to a length, or adds zeros up to it.
+#[unsafe(no_mangle)]
+pub extern "C" fn nuz_ftruncate(
+    alloc: Global,
+    tree: &mut Handle,
+    txn: u64,
+    fd: u64,
+    len: i64,
+) -> Told
+    ensures { IsAsked tree.old.session (Ask txn (calls.Ftruncate fd len)) result tree.new.session }
+{
+    call(alloc, tree, txn, Call::Ftruncate { fd, len })
+}
+
+/// Sets an offset, which is told. `whence` is 0 for the start, 1 for the offset and 2 for the end.
+#[unsafe(no_mangle)]
+pub extern "C" fn nuz_lseek(
+    alloc: Global,
+    tree: &mut Handle,
+    txn: u64,
+    fd: u64,
+    off: i64,
+    whence: u32,
+) -> Told
+    ensures { MatchOption (whence_of whence) (IsTurnedAway true tree.old.session result tree.new.session) (λ from. IsAsked tree.old.session (Ask txn (calls.Lseek fd from off)) result tree.new.session) }
+{
+    match whence_of(whence) {
+        Some(whence) => call(alloc, tree, txn, Call::Lseek { fd, whence, off }),
+        None => turn_away(alloc, tree, Unasked::Bad),
+    }
+}
+
+/// Writes at the offset. How many bytes were written is told.
+#[unsafe(no_mangle)]
+pub extern "C" fn nuz_write(
+    alloc: Global,
+    tree: &mut Handle,
+    txn: u64,
+    fd: u64,
+    bytes: &[u8],
+) -> Told
+    ensures { IsCalled false tree.old.session txn (calls.Write fd bytes.now) result tree.new.session }
+{
+    match bytes.to_vec(alloc) {
+        Ok(bytes) => {
+            let bytes = Sequence::from(bytes);
+            call(alloc, tree, txn, Call::Write { fd, bytes })
+        }
+        Err(_) => turn_away(alloc, tree, Unasked::Memory),
+    }
+}
+
+/// Writes at a place. How many bytes were written is told.
+#[unsafe(no_mangle)]
+pub extern "C" fn nuz_pwrite(
+    alloc: Global,
+    tree: &mut Handle,
+    txn: u64,
+    fd: u64,
+    bytes: &[u8],
+    off: i64,
+) -> Told
+    ensures { IsCalled false tree.old.session txn (calls.Pwrite fd off bytes.now) result tree.new.session }
+{
+    match bytes.to_vec(alloc) {
+        Ok(bytes) => {
+            let bytes = Sequence::from(bytes);
+            call(alloc, tree, txn, Call::Pwrite { fd, off, bytes })
+        }
+        Err(_) => turn_away(alloc, tree, Unasked::Memory),
+    }
+}
+
+/// Reads at the offset as many bytes as a buffer has room for. How many there were is told, and
+/// they stand at its front.
+#[unsafe(no_mangle)]
+pub extern "C" fn nuz_read(
+    alloc: Global,
+    tree: &mut Handle,
+    txn: u64,
+    fd: u64,
+    buffer: &mut [u8],
+) -> Told
+    ensures asked { IsAsked tree.old.session (Ask txn (calls.Read fd (length buffer.old))) result tree.new.session }
+    ensures bytes { buffer.new ≡ filled_by (bytes_held tree.new.session) buffer.old }
+{
+    let len = buffer.len() as u64;
+    let told = call(alloc, tree, txn, Call::Read { fd, len });
+    nuz_bytes(alloc, tree, buffer);
+    told
+}
+
+/// Reads at a place as many bytes as a buffer has room for. How many there were is told, and they
+/// stand at its front.
+#[unsafe(no_mangle)]
+pub extern "C" fn nuz_pread(
+    alloc: Global,
+    tree: &mut Handle,
+    txn: u64,
+    fd: u64,
+    buffer: &mut [u8],
+    off: i64,
+) -> Told
+    ensures asked { IsAsked tree.old.session (Ask txn (calls.Pread fd off (length buffer.old))) result tree.new.session }
+    ensures bytes { buffer.new ≡ filled_by (bytes_held tree.new.session) buffer.old }
+{
+    let len = buffer.len() as u64;
+    let told = call(alloc, tree, txn, Call::Pread { fd, off, len });
+    nuz_bytes(alloc, tree, buffer);
+    told
+}
+
+// From where an offset counts, by its number.
+fn whence_of(number: u32) -> Option<Whence>
+    ensures { result ≡ whence_of number }
+{
+    match number {
+        0 => Some(Whence::Set),
+        1 => Some(Whence::Cur),
+        2 => Some(Whence::End),
+        _ => None,
+    }
+}

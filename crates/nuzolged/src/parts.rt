@@ -1,0 +1,105 @@
+// Parts of the last answer.
+ghost use Rattle.std.specs.Prelude.{◌≡◌};
+ghost use Rattle.ft_session.specs.Buffers.{filled_by};
+ghost use Rattle.ft_session.specs.Parts.{bytes_in};
+ghost use Rattle.nuzolged.specs.Parts.{name_bytes, name_told, name_at, name_bytes_at, blocker_told, blocker_at, bytes_held, bytes_told, bytes_count};
+
+use crate::handle::Handle;
+use crate::told::{BAD, CLOSED, Told, kind_number};
+use ft_session::{Last, copy_into};
+use std::alloc::Global;
+
+/// A name of the list that the last call has answered, counted from 0: its kind and its length are
+/// told, and as much of it as has room is copied.
+#[unsafe(no_mangle)]
+pub extern "C" fn nuz_name(
+    alloc: Global,
+    tree: &mut Handle,
+    index: usize,
+    buffer: &mut [u8],
+) -> Told
+    ensures same { tree.new.session ≡ tree.old.session }
+    ensures told { result ≡ name_told tree.old.session index }
+    ensures bytes { buffer.new ≡ filled_by (name_bytes tree.old.session index) buffer.old }
+{
+    match tree.take(alloc) {
+        None => Told::of(CLOSED, 0, 0),
+        Some(session) => {
+            let told = name_at(&session.last, index, buffer);
+            tree.put(session);
+            told
+        }
+    }
+}
+
+/// A transaction for which the last call waits, counted from 0.
+#[unsafe(no_mangle)]
+pub extern "C" fn nuz_blocker(alloc: Global, tree: &mut Handle, index: usize) -> Told
+    ensures same { tree.new.session ≡ tree.old.session }
+    ensures told { result ≡ blocker_told tree.old.session index }
+{
+    match tree.take(alloc) {
+        None => Told::of(CLOSED, 0, 0),
+        Some(session) => {
+            let told = blocker_at(&session.last, index);
+            tree.put(session);
+            told
+        }
+    }
+}
+
+/// The bytes that the last call has read: how many there are is told, and as many as have room are
+/// copied.
+#[unsafe(no_mangle)]
+pub extern "C" fn nuz_bytes(alloc: Global, tree: &mut Handle, buffer: &mut [u8]) -> Told
+    ensures same { tree.new.session ≡ tree.old.session }
+    ensures told { result ≡ bytes_told tree.old.session }
+    ensures bytes { buffer.new ≡ filled_by (bytes_held tree.old.session) buffer.old }
+{
+    match tree.take(alloc) {
+        None => Told::of(CLOSED, 0, 0),
+        Some(session) => {
+            let told = bytes_of(&session.last, buffer);
+            tree.put(session);
+            told
+        }
+    }
+}
+
+// A name of the list.
+fn name_at(last: &Last, index: usize, buffer: &mut [u8]) -> Told
+    ensures told { result ≡ name_at last.now index }
+    ensures bytes { buffer.new ≡ filled_by (name_bytes_at last.now index) buffer.old }
+{
+    match last.names().get(index) {
+        None => Told::of(BAD, 0, 0),
+        Some((name, kind)) => {
+            let size = copy_into(name.as_bytes(), buffer);
+            Told {
+                kind: kind_number(*kind),
+                ..Told::of_size(size)
+            }
+        }
+    }
+}
+
+// A transaction for which the call waits.
+fn blocker_at(last: &Last, index: usize) -> Told
+    ensures { result ≡ blocker_at last.now index }
+{
+    match last.blockers().get(index) {
+        None => Told::of(BAD, 0, 0),
+        Some(txn) => Told::of(0, 0, txn.0),
+    }
+}
+
+// The bytes that were read.
+fn bytes_of(last: &Last, buffer: &mut [u8]) -> Told
+    ensures told { result ≡ bytes_count (bytes_in last.now) }
+    ensures bytes { buffer.new ≡ filled_by (bytes_in last.now) buffer.old }
+{
+    match last.bytes() {
+        None => Told::of(BAD, 0, 0),
+        Some(bytes) => Told::of_size(copy_into(bytes, buffer)),
+    }
+}

@@ -1,0 +1,164 @@
+// The calls on paths.
+ghost use Rattle.std.specs.Prelude.{◌≡◌, ◌||◌, true, MatchOption};
+ghost use Rattle.ft_path.specs.Name.{has_nul};
+ghost use Rattle.ft_posix.specs.declared.call.Call.TheVariants as calls;
+ghost use Rattle.nuzolged.specs.Asked.{IsCalled, IsTurnedAway, access_of};
+
+use crate::asking::{Unasked, call, path_of, paths_of, turn_away};
+use crate::handle::Handle;
+use crate::told::Told;
+use ft_calls::Call;
+use ft_tree::AccessMode;
+use std::alloc::Global;
+
+/// Makes a directory.
+#[unsafe(no_mangle)]
+pub extern "C" fn nuz_mkdir(alloc: Global, tree: &mut Handle, txn: u64, path: &[u8]) -> Told
+    ensures { IsCalled (has_nul path.now) tree.old.session txn (calls.Mkdir path.now) result tree.new.session }
+{
+    match path_of(alloc, path) {
+        Ok(path) => call(alloc, tree, txn, Call::Mkdir { path }),
+        Err(why) => turn_away(alloc, tree, why),
+    }
+}
+
+/// Removes an empty directory.
+#[unsafe(no_mangle)]
+pub extern "C" fn nuz_rmdir(alloc: Global, tree: &mut Handle, txn: u64, path: &[u8]) -> Told
+    ensures { IsCalled (has_nul path.now) tree.old.session txn (calls.Rmdir path.now) result tree.new.session }
+{
+    match path_of(alloc, path) {
+        Ok(path) => call(alloc, tree, txn, Call::Rmdir { path }),
+        Err(why) => turn_away(alloc, tree, why),
+    }
+}
+
+/// Counts the names of a directory; `nuz_name` tells each.
+#[unsafe(no_mangle)]
+pub extern "C" fn nuz_list(alloc: Global, tree: &mut Handle, txn: u64, path: &[u8]) -> Told
+    ensures { IsCalled (has_nul path.now) tree.old.session txn (calls.List path.now) result tree.new.session }
+{
+    match path_of(alloc, path) {
+        Ok(path) => call(alloc, tree, txn, Call::List { path }),
+        Err(why) => turn_away(alloc, tree, why),
+    }
+}
+
+/// What a path leads to.
+#[unsafe(no_mangle)]
+pub extern "C" fn nuz_stat(alloc: Global, tree: &mut Handle, txn: u64, path: &[u8]) -> Told
+    ensures { IsCalled (has_nul path.now) tree.old.session txn (calls.Stat path.now) result tree.new.session }
+{
+    match path_of(alloc, path) {
+        Ok(path) => call(alloc, tree, txn, Call::Stat { path }),
+        Err(why) => turn_away(alloc, tree, why),
+    }
+}
+
+/// Removes a name of a file.
+#[unsafe(no_mangle)]
+pub extern "C" fn nuz_unlink(alloc: Global, tree: &mut Handle, txn: u64, path: &[u8]) -> Told
+    ensures { IsCalled (has_nul path.now) tree.old.session txn (calls.Unlink path.now) result tree.new.session }
+{
+    match path_of(alloc, path) {
+        Ok(path) => call(alloc, tree, txn, Call::Unlink { path }),
+        Err(why) => turn_away(alloc, tree, why),
+    }
+}
+
+/// Cuts a file to a length, or adds zeros up to it.
+#[unsafe(no_mangle)]
+pub extern "C" fn nuz_truncate(
+    alloc: Global,
+    tree: &mut Handle,
+    txn: u64,
+    path: &[u8],
+    len: i64,
+) -> Told
+    ensures { IsCalled (has_nul path.now) tree.old.session txn (calls.Truncate len path.now) result tree.new.session }
+{
+    match path_of(alloc, path) {
+        Ok(path) => call(alloc, tree, txn, Call::Truncate { len, path }),
+        Err(why) => turn_away(alloc, tree, why),
+    }
+}
+
+/// Gives a file a further name.
+#[unsafe(no_mangle)]
+pub extern "C" fn nuz_link(
+    alloc: Global,
+    tree: &mut Handle,
+    txn: u64,
+    from: &[u8],
+    to: &[u8],
+) -> Told
+    ensures { IsCalled (has_nul from.now || has_nul to.now) tree.old.session txn (calls.Link from.now to.now) result tree.new.session }
+{
+    match paths_of(alloc, from, to) {
+        Ok((old, new)) => call(alloc, tree, txn, Call::Link { old, new }),
+        Err(why) => turn_away(alloc, tree, why),
+    }
+}
+
+/// Gives a file or a directory another name, in place of what had that name.
+#[unsafe(no_mangle)]
+pub extern "C" fn nuz_rename(
+    alloc: Global,
+    tree: &mut Handle,
+    txn: u64,
+    from: &[u8],
+    to: &[u8],
+) -> Told
+    ensures { IsCalled (has_nul from.now || has_nul to.now) tree.old.session txn (calls.Rename from.now to.now) result tree.new.session }
+{
+    match paths_of(alloc, from, to) {
+        Ok((old, new)) => call(alloc, tree, txn, Call::Rename { old, new }),
+        Err(why) => turn_away(alloc, tree, why),
+    }
+}
+
+/// Opens a file, whose descriptor is told. `access` is 0 for reading, 1 for writing and 2 for both.
+#[unsafe(no_mangle)]
+pub extern "C" fn nuz_open(
+    alloc: Global,
+    tree: &mut Handle,
+    txn: u64,
+    path: &[u8],
+    access: u32,
+    create: bool,
+    excl: bool,
+    trunc: bool,
+    append: bool,
+) -> Told
+    ensures { MatchOption (access_of access) (IsTurnedAway true tree.old.session result tree.new.session) (λ mode. IsCalled (has_nul path.now) tree.old.session txn (calls.Open path.now mode create excl trunc append) result tree.new.session) }
+{
+    let Some(access) = access_of(access) else {
+        return turn_away(alloc, tree, Unasked::Bad);
+    };
+    match path_of(alloc, path) {
+        Ok(path) => {
+            let opens = Call::Open {
+                path,
+                access,
+                create,
+                excl,
+                trunc,
+                append,
+            };
+            call(alloc, tree, txn, opens)
+        }
+        Err(why) => turn_away(alloc, tree, why),
+    }
+}
+
+// The access of a number.
+fn access_of(number: u32) -> Option<AccessMode>
+    ensures { result ≡ access_of number }
+{
+    match number {
+        0 => Some(AccessMode::ReadOnly),
+        1 => Some(AccessMode::WriteOnly),
+        2 => Some(AccessMode::ReadWrite),
+        _ => None,
+    }
+}

@@ -1,0 +1,167 @@
+// Answers in numbers.
+ghost use Rattle.std.specs.Prelude.{◌≡◌};
+ghost use Rattle.nuzolged.specs.Numbers.{told, told_of, told_of_answer, told_of_reply, told_size, errno_number, fault_number, kind_number};
+
+use ft_calls::Reply;
+use ft_core::{Answer, Fault};
+use ft_path::Errno;
+use ft_session::Last;
+use ft_tree::Kind;
+
+/// There was no memory.
+pub(crate) const MEMORY: u32 = 1001;
+
+/// The call has to wait.
+const WAITS: u32 = 1100;
+
+/// The handle holds no tree.
+pub(crate) const CLOSED: u32 = 1200;
+
+/// An argument is none that there is.
+pub(crate) const BAD: u32 = 1201;
+
+/// What a request came to, in numbers: `nuz_answer` of the header.
+#[repr(C)]
+#[derive(Clone, Copy, Debug, PartialEq, Eq)]
+pub struct Told {
+    /// 0 where it is done; the error number of a call that failed; 1000 and the number of a
+    /// refusal; or a code of its own: the call waits, the handle is closed, an argument is bad.
+    pub code: u32,
+    /// What a name leads to: 1 a directory, 2 a file. Else 0.
+    pub kind: u32,
+    /// The stamp of a call that was granted, also of one that failed.
+    pub stamp: u64,
+    /// A transaction, a descriptor, an offset, a count, or the number of a directory or file.
+    pub number: u64,
+    /// How many links that has.
+    pub links: u64,
+    /// How many bytes there are.
+    pub size: u64,
+}
+
+impl Told {
+    /// A code, a stamp and a number.
+    pub(crate) fn of(code: u32, stamp: u64, number: u64) -> Told
+        ensures { result ≡ told code stamp number }
+    {
+        Told {
+            code,
+            kind: 0,
+            stamp,
+            number,
+            links: 0,
+            size: 0,
+        }
+    }
+
+    /// That it is done, and how many bytes there are.
+    pub(crate) fn of_size(size: usize) -> Told
+        ensures { result ≡ told_size size }
+    {
+        Told {
+            size: size as u64,
+            ..Told::of(0, 0, 0)
+        }
+    }
+}
+
+/// What the last request came to, in numbers.
+pub(crate) fn told_of(last: &Last) -> Told
+    ensures { result ≡ told_of last.now }
+{
+    match last {
+        Last::Answer(answer) => told_of_answer(answer),
+        Last::Text(text) => Told::of_size(text.len()),
+    }
+}
+
+// An answer in numbers.
+fn told_of_answer(answer: &Answer) -> Told
+    ensures { result ≡ told_of_answer answer.now }
+{
+    match answer {
+        Answer::Txn(txn) => Told::of(0, 0, txn.0),
+        Answer::Granted { stamp, reply } => told_of_reply(*stamp, reply),
+        Answer::Waits { blockers } => Told::of(WAITS, 0, blockers.len() as u64),
+        Answer::Dropped | Answer::Committed | Answer::Cleared => Told::of(0, 0, 0),
+        Answer::Aborted(count) => Told::of(0, 0, *count),
+        Answer::Undone(stamp) => Told::of(0, *stamp, 0),
+        Answer::Refused(fault) => Told::of(fault_number(*fault), 0, 0),
+    }
+}
+
+// A reply in numbers.
+fn told_of_reply(stamp: u64, reply: &Reply) -> Told
+    ensures { result ≡ told_of_reply stamp reply.now }
+{
+    match reply {
+        Reply::Done => Told::of(0, stamp, 0),
+        Reply::Names(names) => Told::of(0, stamp, names.len() as u64),
+        Reply::Number(number) => Told::of(0, stamp, *number),
+        Reply::Bytes(bytes) => Told::of(0, stamp, bytes.len() as u64),
+        Reply::Info {
+            kind,
+            number,
+            links,
+            size,
+        } => Told {
+            code: 0,
+            kind: kind_number(*kind),
+            stamp,
+            number: *number,
+            links: *links,
+            size: *size,
+        },
+        Reply::Failed(errno) => Told::of(errno_number(*errno), stamp, 0),
+    }
+}
+
+/// The number of a kind.
+pub(crate) fn kind_number(kind: Kind) -> u32
+    ensures { result ≡ kind_number kind }
+{
+    match kind {
+        Kind::Dir => 1,
+        Kind::File => 2,
+    }
+}
+
+// The number of a refusal: they stand behind those of errors.
+fn fault_number(fault: Fault) -> u32
+    ensures { result ≡ fault_number fault }
+{
+    match fault {
+        Fault::Memory => MEMORY,
+        Fault::NoTxn => 1002,
+        Fault::Ended => 1003,
+        Fault::ChildLive => 1004,
+        Fault::NothingToUndo => 1005,
+        Fault::SubSince => 1006,
+        Fault::Full => 1007,
+        Fault::Deep => 1008,
+        Fault::Live => 1009,
+        Fault::NoAsk => 1010,
+        Fault::NoViews => 1011,
+    }
+}
+
+// The number of an error, as Linux has it (errno.h).
+fn errno_number(errno: Errno) -> u32
+    ensures { result ≡ errno_number errno }
+{
+    match errno {
+        Errno::EPERM => 1,
+        Errno::ENOENT => 2,
+        Errno::EBADF => 9,
+        Errno::EBUSY => 16,
+        Errno::EEXIST => 17,
+        Errno::ENOTDIR => 20,
+        Errno::EISDIR => 21,
+        Errno::EINVAL => 22,
+        Errno::EFBIG => 27,
+        Errno::EMLINK => 31,
+        Errno::ENAMETOOLONG => 36,
+        Errno::ENOTEMPTY => 39,
+        Errno::EOVERFLOW => 75,
+    }
+}

@@ -1,0 +1,231 @@
+"""Calls as scripts spell them, and calls that are chosen at random."""
+import collections
+
+LARGEST_OFFSET = 2**63 - 1
+MOST_BYTES = 1_048_576
+
+# What a call is made with: a path that leads, mostly, to a file (E), to a directory (G), to
+# either (P), to nothing (M), or to any of these (Q); a descriptor (F), a count (N), an offset
+# or a length (I), data (D), how a file is opened (O), and from where an offset counts (W).
+# Beside it how often the call is chosen.
+VERBS = {
+    "mkdir": ("M", 12),
+    "rmdir": ("G", 6),
+    "open": ("OQ", 16),
+    "close": ("F", 4),
+    "read": ("FN", 6),
+    "write": ("FD", 9),
+    "pread": ("FIN", 4),
+    "pwrite": ("FID", 5),
+    "lseek": ("FWI", 7),
+    "truncate": ("IE", 5),
+    "ftruncate": ("FI", 4),
+    "stat": ("P", 7),
+    "fstat": ("F", 5),
+    "link": ("EM", 8),
+    "unlink": ("E", 8),
+    "rename": ("PQ", 16),
+    "list": ("G", 4),
+}
+PATHS = "EGPMQ"
+
+NAMES = [b"a", b"b", b"c", b"a", b"b", b"c", b"%", b"\xc3\xa9 x"]
+
+ODD_PATHS = [
+    b"",
+    b"/",
+    b"//",
+    b".",
+    b"..",
+    b"/..",
+    b"/./",
+    b"/" + b"n" * 255,
+    b"/" + b"n" * 256,
+    b"/missing/" + b"n" * 256,
+    b"/a/" + b"n" * 256 + b"/.",
+    b"/" * 4095,
+    b"/" * 4096,
+    b"/." * 2000,
+    b"/a/.." * 300 + b"/b",
+    b"/../a" * 40,
+    b"/a/b/../../a/./b/../c",
+]
+
+SMALL_OFFSETS = [0, 0, 1, 2, 3, 7, 100, 4095, 4096, 4097, -1, -2, -100]
+LIMITS = [
+    MOST_BYTES - 1,
+    MOST_BYTES,
+    MOST_BYTES + 1,
+    2**31,
+    2**62,
+    LARGEST_OFFSET - 1,
+    LARGEST_OFFSET,
+    LARGEST_OFFSET,
+    LARGEST_OFFSET,
+    -(2**62),
+    -(2**63),
+]
+COUNTS = [0, 1, 2, 5, 100, 4096, 5000]
+LARGE_COUNTS = [MOST_BYTES, 2**63 - 1, 2**63, 2**64 - 1]
+
+# A descriptor that no call has opened.
+UNKNOWN = 10**15
+
+
+class Call(collections.namedtuple("Call", "verb arguments")):
+    """A call with its arguments, paths and data as bytes."""
+
+    def words(self):
+        return " ".join([self.verb, *map(word, self.arguments)])
+
+    def paths(self):
+        kinds = VERBS[self.verb][0]
+        return [one for kind, one in zip(kinds, self.arguments) if kind in PATHS]
+
+    def descriptor(self):
+        """The descriptor that the call is made on, or nothing."""
+        return self.arguments[0] if VERBS[self.verb][0].startswith("F") else None
+
+    def with_descriptor(self, descriptor):
+        return Call(self.verb, (descriptor,) + self.arguments[1:])
+
+
+def word(argument):
+    return coded(argument) if isinstance(argument, bytes) else str(argument)
+
+
+# How each byte is spelled in scripts and replies.
+CODES = [
+    chr(byte) if 32 < byte < 127 and byte != ord("%") else f"%{byte:02X}" for byte in range(256)
+]
+
+
+def coded(data):
+    return "".join(map(CODES.__getitem__, data))
+
+
+class Paths:
+    """Paths without dots that were made: where each leads, as far as that is known."""
+
+    def __init__(self):
+        self.kinds = {}
+
+    def that_are(self, kind):
+        return [path for path, known in self.kinds.items() if known == kind]
+
+    def learn(self, call, reply):
+        """Takes note of what a call has made, removed or not found."""
+        paths = [plain(path) for path in call.paths()]
+        if not paths or b"" in paths:
+            return
+        if not reply.startswith("ok"):
+            if reply == "ENOENT" and len(paths) == 1:
+                self.kinds.pop(paths[0], None)
+        elif call.verb in ("mkdir", "open", "link"):
+            self.kinds[paths[-1]] = "dir" if call.verb == "mkdir" else "file"
+        elif call.verb in ("rmdir", "unlink"):
+            self.kinds.pop(paths[0], None)
+        elif call.verb == "rename":
+            self.move(*paths)
+
+    def move(self, old, new):
+        """What stood at or below the old path stands there below the new one."""
+        for path in list(self.kinds):
+            if path == old or path.startswith(old + b"/"):
+                self.kinds[new + path[len(old) :]] = self.kinds.pop(path)
+
+
+def plain(path):
+    """A path from the root without empty names, or nothing where it has dots or no name."""
+    names = [name for name in path.split(b"/") if name]
+    return b"" if {b".", b".."} & set(names) else b"".join(b"/" + name for name in names)
+
+
+class Chooser:
+    """Chooses calls: often on what is there, and now and then on what is odd."""
+
+    def __init__(self, random, is_at_limits):
+        self.random = random
+        self.is_at_limits = is_at_limits
+        self.known = Paths()
+        self.descriptors = []
+
+    def call(self):
+        weights = [weight for _, weight in VERBS.values()]
+        verb = self.random.choices(list(VERBS), weights)[0]
+        return Call(verb, tuple(self.argument(kind) for kind in VERBS[verb][0]))
+
+    def learn(self, call, reply, stamp):
+        """Takes note of a call that has been answered: of paths, and of descriptors."""
+        self.known.learn(call, reply)
+        if reply.startswith("ok"):
+            if call.verb == "open":
+                self.descriptors.append(stamp)
+            if call.verb == "close" and self.random.random() < 0.8:
+                self.descriptors = [one for one in self.descriptors if one != call.descriptor()]
+
+    def argument(self, kind):
+        if kind in PATHS:
+            return self.path(kind)
+        one = self.random.choice
+        choices = {
+            "F": self.descriptor,
+            "N": lambda: one(COUNTS + (LARGE_COUNTS if self.is_at_limits else [])),
+            "I": lambda: one(SMALL_OFFSETS + (2 * LIMITS if self.is_at_limits else [])),
+            "D": self.data,
+            "O": self.flags,
+            "W": lambda: one(["set", "cur", "end"]),
+        }
+        return choices[kind]()
+
+    def descriptor(self):
+        if not self.descriptors or self.random.random() < 0.05:
+            return self.random.choice([0, 1, UNKNOWN])
+        return self.random.choice(self.descriptors[-6:])
+
+    def flags(self):
+        behind = [("c", 0.7), ("x", 0.2), ("t", 0.25), ("a", 0.25)]
+        return self.random.choice(["r", "w", "rw", "rw"]) + "".join(
+            flag for flag, part in behind if self.random.random() < part
+        )
+
+    def data(self):
+        byte = self.random.choice([b"a", b"z", b"\x00", b"%", b"\xff"])
+        piece = (byte + b"bc")[: self.random.choice([0, 1, 2, 3])]
+        return piece * self.random.choice([1, 1, 1, 1, 40, 1500])
+
+    def path(self, kind):
+        chance = self.random.random()
+        if chance < 0.04:
+            return self.random.choice(ODD_PATHS)
+        path = self.base(kind if chance < 0.85 else self.random.choice("EGM"))
+        for change in [self.deeper, self.dotted, self.slashed, self.relative]:
+            if self.random.random() < 0.06:
+                path = change(path)
+        return path
+
+    def base(self, kind):
+        """A path of a kind, as far as that is known."""
+        if kind in "PQ":
+            kind = self.random.choice("EG" if kind == "P" else "EGM")
+        directories = self.known.that_are("dir")
+        if kind == "M":
+            return self.deeper(self.random.choice([b""] + directories))
+        there = self.known.that_are("file") if kind == "E" else directories
+        return self.random.choice(there or [b"/a", b"/b/c"])
+
+    def deeper(self, path):
+        return path + b"/" + self.random.choice(NAMES)
+
+    def dotted(self, path):
+        """With a name, or two, that lead back or nowhere, in the path or behind it."""
+        pieces = path.split(b"/")
+        at = self.random.randrange(len(pieces) + 1)
+        added = self.random.choice([b".", b"..", b"a/..", b"b/../.", b""])
+        return b"/".join(pieces[:at] + [added] + pieces[at:])
+
+    def slashed(self, path):
+        return path + self.random.choice([b"/", b"//"])
+
+    def relative(self, path):
+        return path.lstrip(b"/")

@@ -1,0 +1,48 @@
+"""Runs of the program: what goes in, and what comes out."""
+import collections
+import subprocess
+import tempfile
+
+# The most seconds that a run may take.
+MOST_SECONDS = 60
+
+Run = collections.namedtuple("Run", "status text errors")
+
+
+def run(words, script=b"", environment=None):
+    """Runs a program with its words; raises TimeoutExpired where it does not end."""
+    file = tempfile.TemporaryFile
+    with file() as given, file() as text, file() as errors:
+        given.write(script)
+        given.seek(0)
+        streams = {"stdin": given, "stdout": text, "stderr": errors}
+        ended = subprocess.run(words, env=environment, timeout=MOST_SECONDS, **streams)
+        return Run(ended.returncode, written(text), written(errors))
+
+
+def written(file):
+    file.seek(0)
+    return file.read()
+
+
+def fault_of(ran, wanted):
+    """Why a run that has to end well with this text has not, or nothing."""
+    if ran.status != 0:
+        return f"status {ran.status}, {ran.errors!r}"
+    if ran.text != wanted:
+        return f"expected {shown(wanted)}, got {shown(ran.text)}"
+    return None
+
+
+def fault_of_end(ran, wanted, name):
+    """Why a run that has to end with this text and this fault has not, or nothing."""
+    if (ran.status, ran.errors) != (1, f"fault: {name}\n".encode()):
+        return f"expected fault {name}, got status {ran.status}, {ran.errors!r}"
+    if ran.text != wanted:
+        return f"expected {shown(wanted)}, got {shown(ran.text)}"
+    return None
+
+
+def shown(text):
+    """The end of a text, as it is said where something is wrong."""
+    return repr(text) if len(text) < 200 else f"{len(text)} bytes that end in {text[-100:]!r}"

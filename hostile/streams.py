@@ -1,0 +1,111 @@
+"""Scripts that are cut, and reads and writes that fail, give little, or are interrupted."""
+import playing
+import scripts
+
+# Every so many bytes, where a script is not cut after each.
+STRIDE = 3
+
+# What reads and writes are tried with: files, locks and transactions of every kind of reply.
+TRIED = ["files_are_written_and_read", "locks_held_and_retained", "deadlock_is_reported"]
+
+
+def tests():
+    named = []
+    for case in scripts.all_cases():
+        test = lambda bench, case=case: fault_of_cuts(bench, case)
+        named.append((f"script is cut: {case.name}", test))
+    for case in map(scripts.case_named, TRIED):
+        for trial in (read_fails, write_fails, one_byte_at_a_time, reads_are_interrupted):
+            name = f"{trial.__name__.replace('_', ' ')}: {case.name}"
+            named.append((name, lambda bench, trial=trial, case=case: trial(bench, case)))
+    return named
+
+
+def lasting_tests():
+    """What takes long."""
+    return [("reads are interrupted for ever", interrupted_for_ever)]
+
+
+def fault_of_cuts(bench, case):
+    """The script up to each byte: its whole lines are answered, and what is left of the next."""
+    for end in range(0, len(case.script) + 1, bench.stride(STRIDE)):
+        fault = fault_of_cut(bench, case, end)
+        if fault is not None:
+            return f"cut after byte {end}: {fault}"
+    return None
+
+
+def fault_of_cut(bench, case, end):
+    whole, left = split_behind_lines(case.script[:end])
+    before = text_before(case, whole)
+    ran = playing.run([bench.program, "play", *case.words], case.script[:end])
+    if ran.status != 0:
+        return f"status {ran.status}, {ran.errors!r}"
+    if not ran.text.startswith(before):
+        return f"expected {playing.shown(before)} first, got {playing.shown(ran.text)}"
+    last = ran.text[len(before) :]
+    if scripts.has_reply(left) != (last != b"") or (last and not scripts.is_one_reply(last)):
+        return f"{left!r} was answered {playing.shown(last)}"
+    return None
+
+
+def split_behind_lines(script):
+    """A script's whole lines, and what is left behind them."""
+    end = script.rfind(b"\n") + 1
+    return script[:end], script[end:]
+
+
+def text_before(case, script):
+    """The right text of a beginning of the case's script that ends with a line."""
+    return b"".join(case.replies()[: len(scripts.requests_of(script))])
+
+
+def read_fails(bench, case):
+    """A read that fails at each byte: what stands before it is answered, and no more."""
+    for number in range(1, len(case.script) + 2):
+        how = {"read": number, "read_how": "fail", "read_bytes": 1}
+        ran, _ = bench.unkind.run(["play"], case.script, **how)
+        whole, _ = split_behind_lines(case.script[: number - 1])
+        fault = playing.fault_of_end(ran, text_before(case, whole), "Read")
+        if fault is not None:
+            return f"read {number}: {fault}"
+    return None
+
+
+def write_fails(bench, case):
+    """A write at each byte that fails, is interrupted or takes nothing."""
+    for number in range(1, len(case.text) + 1):
+        how = ("fail", "interrupt", "nothing")[number % 3]
+        fault = fault_of_write(bench, case, number, how)
+        if fault is not None:
+            return f"write {number}, {how}: {fault}"
+    return None
+
+
+def fault_of_write(bench, case, number, how):
+    ran, _ = bench.unkind.run(["play"], case.script, write=number, write_how=how, write_bytes=1)
+    return playing.fault_of_end(ran, case.text[: number - 1], "Write")
+
+
+def one_byte_at_a_time(bench, case):
+    """Reads that give, and writes that take, one byte each change nothing."""
+    ran, counts = bench.unkind.run(["play"], case.script, read_bytes=1, write_bytes=1)
+    if (counts.reads, counts.writes) != (len(case.script) + 1, len(case.text)):
+        return f"{counts.reads} reads and {counts.writes} writes"
+    return playing.fault_of(ran, case.text)
+
+
+def reads_are_interrupted(bench, case):
+    """Reads of which each second one is interrupted change nothing."""
+    ran, counts = bench.unkind.run(["play"], case.script, read_bytes=1, read_every=2)
+    if counts.reads != 2 * len(case.script) + 1:
+        return f"{counts.reads} reads"
+    return playing.fault_of(ran, case.text)
+
+
+def interrupted_for_ever(bench):
+    """Where each read behind a line is interrupted, the reads are used up."""
+    script = b"begin\n"
+    how = {"read": len(script) + 1, "read_on": 1, "read_how": "interrupt", "read_bytes": 1}
+    ran, _ = bench.unkind.run(["play"], script, **how)
+    return playing.fault_of_end(ran, b"txn 1\n", "Turns")

@@ -1,0 +1,258 @@
+"""The same calls made by the operating system, in a root of its own."""
+import errno
+import fcntl
+import os
+import resource
+import stat
+
+import calls
+
+# The root's number, and the numbers of the flags that open takes.
+ROOT = 1
+ACCESS = {"r": os.O_RDONLY, "w": os.O_WRONLY, "rw": os.O_RDWR}
+FLAGS = {"c": os.O_CREAT, "x": os.O_EXCL, "t": os.O_TRUNC, "a": os.O_APPEND}
+WHENCE = {"set": os.SEEK_SET, "cur": os.SEEK_CUR, "end": os.SEEK_END}
+
+# What the operating system is asked otherwise, so that both go on with the same tree.
+CUT_WITHOUT_WRITING = "cut without writing"
+OPENED_DIRECTORY = "directory is opened for reading"
+PLACED_WRITE_APPENDS = "pwrite with append"
+APPEND_PAST_LARGEST = "append from past the largest offset"
+DIRECTORY_INFO = "links and size of a directory"
+
+
+def enter(folder):
+    """Makes a folder the root; files there have at most the bytes that they have in a tree."""
+    os.chroot(folder)
+    os.chdir("/")
+    resource.setrlimit(resource.RLIMIT_FSIZE, (calls.MOST_BYTES, resource.RLIM_INFINITY))
+
+
+class OpenFile:
+    """A descriptor of the system, and a second one by which its file can always be read."""
+
+    def __init__(self, number, witness, access, flags):
+        self.number = number
+        self.witness = witness
+        self.access = access
+        self.flags = flags
+
+
+class System:
+    """The tree of the operating system, with the numbers that the program gives for its files."""
+
+    def __init__(self):
+        self.numbers = {os.stat("/").st_ino: ROOT}
+        self.files = {}
+
+    def ask(self, call, stamp):
+        """Makes a call: the reply without its stamp, and what was asked otherwise."""
+        self.stamp = stamp
+        self.met = None
+        try:
+            reply = getattr(self, call.verb)(*call.arguments)
+        except OSError as error:
+            reply = errno.errorcode[error.errno]
+        return reply, self.met
+
+    def kind_at(self, path):
+        """What a path leads to: dir, file, or the name of the error."""
+        try:
+            return kind_of(os.stat(path))
+        except OSError as error:
+            return errno.errorcode[error.errno]
+
+    def start_of(self, call):
+        """The offset that a call counts from: its own, its descriptor's, or the file's end."""
+        if call.verb in ("pread", "pwrite"):
+            return call.arguments[1]
+        if call.descriptor() not in self.files:
+            return 0
+        number = self.files[call.descriptor()].number
+        whence = call.arguments[1] if call.verb == "lseek" else "cur"
+        if whence == "cur":
+            return os.lseek(number, 0, os.SEEK_CUR)
+        return os.fstat(number).st_size if whence == "end" else 0
+
+    def system_descriptor(self, descriptor):
+        return self.files[descriptor].number if descriptor in self.files else -1
+
+    def mkdir(self, path):
+        os.mkdir(path)
+        self.numbers[os.stat(path).st_ino] = self.stamp
+        return "ok"
+
+    def rmdir(self, path):
+        os.rmdir(path)
+        return "ok"
+
+    def open(self, flags, path):
+        access = flags.rstrip("cxta")
+        if "t" in flags and access == "r":
+            self.met = CUT_WITHOUT_WRITING
+            flags = "r"
+        is_new = self.kind_at(path) == "ENOENT"
+        asked = ACCESS[access] | sum(FLAGS[flag] for flag in flags[len(access) :])
+        number = os.open(path, asked, 0o666)
+        info = os.fstat(number)
+        if self.met or stat.S_ISDIR(info.st_mode):
+            self.met = self.met or OPENED_DIRECTORY
+            os.close(number)
+            return "ok"
+        if is_new:
+            self.numbers[info.st_ino] = self.stamp
+        self.files[self.stamp] = OpenFile(number, os.open(path, os.O_RDONLY), access, flags)
+        return f"ok {self.stamp}"
+
+    def close(self, descriptor):
+        os.close(self.system_descriptor(descriptor))
+        os.close(self.files.pop(descriptor).witness)
+        return "ok"
+
+    def read(self, descriptor, count):
+        return bytes_reply(os.read(self.system_descriptor(descriptor), count_asked(count)))
+
+    def pread(self, descriptor, offset, count):
+        number = self.system_descriptor(descriptor)
+        return bytes_reply(os.pread(number, count_asked(count), offset))
+
+    def write(self, descriptor, data):
+        number = self.system_descriptor(descriptor)
+        try:
+            return f"ok {os.write(number, data)}"
+        except OSError as error:
+            if error.errno != errno.EINVAL or "a" not in self.files[descriptor].flags:
+                raise
+        self.met = APPEND_PAST_LARGEST
+        return self.append(number, data)
+
+    def append(self, number, data):
+        """Appends from the offset 0, which comes to the same."""
+        offset = os.lseek(number, 0, os.SEEK_CUR)
+        os.lseek(number, 0, os.SEEK_SET)
+        try:
+            return f"ok {os.write(number, data)}"
+        except OSError:
+            os.lseek(number, offset, os.SEEK_SET)
+            raise
+
+    def pwrite(self, descriptor, offset, data):
+        number = self.system_descriptor(descriptor)
+        if number < 0 or "a" not in self.files[descriptor].flags:
+            return f"ok {os.pwrite(number, data, offset)}"
+        self.met = PLACED_WRITE_APPENDS
+        flags = fcntl.fcntl(number, fcntl.F_GETFL)
+        fcntl.fcntl(number, fcntl.F_SETFL, flags & ~os.O_APPEND)
+        try:
+            return f"ok {os.pwrite(number, data, offset)}"
+        finally:
+            fcntl.fcntl(number, fcntl.F_SETFL, flags)
+
+    def lseek(self, descriptor, whence, offset):
+        return f"ok {os.lseek(self.system_descriptor(descriptor), offset, WHENCE[whence])}"
+
+    def truncate(self, length, path):
+        os.truncate(path, length)
+        return "ok"
+
+    def ftruncate(self, descriptor, length):
+        os.ftruncate(self.system_descriptor(descriptor), length)
+        return "ok"
+
+    def stat(self, path):
+        return self.info(os.stat(path))
+
+    def fstat(self, descriptor):
+        return self.info(os.fstat(self.system_descriptor(descriptor)))
+
+    def info(self, info):
+        number = self.numbers[info.st_ino]
+        if stat.S_ISDIR(info.st_mode):
+            self.met = DIRECTORY_INFO
+            return f"ok dir {number} 1 0"
+        return f"ok file {number} {info.st_nlink} {info.st_size}"
+
+    def link(self, old, new):
+        os.link(old, new)
+        return "ok"
+
+    def unlink(self, path):
+        os.unlink(path)
+        return "ok"
+
+    def rename(self, old, new):
+        os.rename(old, new)
+        return "ok"
+
+    def list(self, path):
+        names = [coded_name(entry) for entry in entries_of(path)]
+        return " ".join(["ok", str(len(names)), *names])
+
+    def tree(self):
+        """The report on the tree, as a script has it."""
+        directories, edges, files = self.everything()
+        rows = [f"dir {number}" for number in sorted(directories)]
+        rows += [f"edge {above} {calls.coded(name)} {own}" for above, name, own in sorted(edges)]
+        rows += [file_row(number, files[number]) for number in sorted(files)]
+        rows += [self.descriptor_row(descriptor) for descriptor in sorted(self.files)]
+        return [f"tree {len(rows)}"] + rows
+
+    def everything(self):
+        """The directories, the entries, and the files with their bytes, each by number."""
+        directories, edges, files = [], [], {}
+        left = [b"/"]
+        while left:
+            path = left.pop()
+            directory = self.numbers[os.stat(path).st_ino]
+            directories.append(directory)
+            for entry in entries_of(path):
+                number = self.numbers[entry.stat().st_ino]
+                edges.append((directory, entry.name, number))
+                if entry.is_dir():
+                    left.append(entry.path)
+                else:
+                    files[number] = contents_of(os.open(entry.path, os.O_RDONLY))
+        for file in self.files.values():
+            files[self.number_of(file)] = contents_of(os.dup(file.witness))
+        return directories, edges, files
+
+    def number_of(self, file):
+        return self.numbers[os.fstat(file.number).st_ino]
+
+    def descriptor_row(self, descriptor):
+        file = self.files[descriptor]
+        offset = os.lseek(file.number, 0, os.SEEK_CUR)
+        append = "a" if fcntl.fcntl(file.number, fcntl.F_GETFL) & os.O_APPEND else ""
+        return f"fd {descriptor} {self.number_of(file)} {file.access}{append} {offset}"
+
+
+def count_asked(count):
+    """How many bytes the system is asked for: not more than a file may have and one more."""
+    return min(count, calls.MOST_BYTES + 1)
+
+
+def bytes_reply(data):
+    return f"ok {len(data)} {calls.coded(data)}" if data else "ok 0"
+
+
+def kind_of(info):
+    return "dir" if stat.S_ISDIR(info.st_mode) else "file"
+
+
+def entries_of(path):
+    with os.scandir(path) as entries:
+        return sorted(entries, key=lambda entry: entry.name)
+
+
+def coded_name(entry):
+    return calls.coded(entry.name) + ("/" if entry.is_dir() else "")
+
+
+def contents_of(number):
+    """All bytes of a file, by a descriptor that is closed then."""
+    with open(number, "rb", buffering=0) as file:
+        return os.pread(number, calls.MOST_BYTES + 1, 0)
+
+
+def file_row(number, data):
+    return f"file {number} {len(data)} {calls.coded(data)}" if data else f"file {number} 0"
