@@ -14,7 +14,7 @@ use Rattle.clap.specs.declared.error.kind.ErrorKind.{ErrorKind}
 use Rattle.clap.specs.declared.error.kind.ErrorKind.TheVariants.{OutOfMemory}
 use Rattle.clap.proofs.OnLiterals.{clap_on_literals}
 use Rattle.ft_command.specs.declared.choice.Choice.{Choice}
-use Rattle.ft_command.specs.declared.choice.Choice.TheVariants.{Play, Dot, Jobs, Help, Usage, Fault}
+use Rattle.ft_command.specs.declared.choice.Choice.TheVariants.{Play, Dot, Load, Save, Jobs, Help, Usage, Fault}
 use Rattle.ft_command.specs.CommandLine.{ChoiceOf, ErrorChoice, IsFlag, Met, Names, ReadChoice, program}
 
 pub is_free : is_simple_and_free program ≡ true
@@ -44,17 +44,21 @@ pub choice_of_matches : (words : List Text) (m : ArgMatches) (choice : Choice) �
 choice_of_matches words m choice free rows h = go choice (subst (λ met. ReadChoice met choice) (rows is_plain).1 h)
   where
     go : (choice : Choice) → ReadChoice (subcommand_of program words) choice → ChoiceOf words choice
-    go (Play rule) h = (free, h)
+    go (Play rule after) h = (free, h)
     go Dot h = (free, h)
-    go (Jobs file turns quiet rule) h = (free, h)
+    go (Load dir skip) h = (free, h)
+    go (Save dir) h = (free, h)
+    go (Jobs file turns quiet rule after) h = (free, h)
     go (Help text) h = absurd h
     go (Usage text) h = absurd h
     go Fault h = tt
 
 pub choice_of_error : (words : List Text) (kind : ErrorKind) (choice : Choice) → (kind ≡ OutOfMemory) ⊎ IsAmong kind (fault_of program words) → ErrorChoice kind choice → ChoiceOf words choice
-choice_of_error words kind (Play rule) among h = absurd h
+choice_of_error words kind (Play rule after) among h = absurd h
 choice_of_error words kind Dot among h = absurd h
-choice_of_error words kind (Jobs file turns quiet rule) among h = absurd h
+choice_of_error words kind (Load dir skip) among h = absurd h
+choice_of_error words kind (Save dir) among h = absurd h
+choice_of_error words kind (Jobs file turns quiet rule after) among h = absurd h
 choice_of_error words kind (Help text) (inl is) h = cc
 choice_of_error words kind (Help text) (inr among) h = subst (λ k. IsAmong k (fault_of program words)) h among
 choice_of_error words kind (Usage text) (inl is) h = absurd (h.1 is)

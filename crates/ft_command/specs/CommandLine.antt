@@ -1,5 +1,5 @@
 -- The command line of the program, in the words of the crate that reads it.
-use Rattle.std.specs.Prelude.{◌≡◌, ◌≢◌, ◌≤◌, ℕ, Bool, true, false, List, [], ◌∷◌, codes, Option, None, Some, string_bytes}
+use Rattle.std.specs.Prelude.{◌≡◌, ◌≢◌, ◌≤◌, ℕ, Bool, true, false, List, [], ◌∷◌, codes, Option, None, Some, option_map, string_bytes}
 use Rattle.std.specs.Str.Parse.{digits_value, without_leading_plus}
 use Rattle.clap.specs.Words.{App, IsAmong, Row, Rule, Text, fault_of, first_of, new_app, new_rule, one_of, subcommand_of, with_rule, with_subcommand}
 use Rattle.clap.specs.declared.builder.action.ArgAction.TheVariants.{SetTrue}
@@ -11,7 +11,7 @@ use Rattle.clap.specs.declared.error.kind.ErrorKind.TheVariants.{DisplayHelp, Ou
 use Rattle.ft_moss.specs.declared.rule.Rule.{Rule as LockRule}
 use Rattle.ft_moss.specs.Rules.{is_strict}
 use Rattle.ft_command.specs.declared.choice.Choice.{Choice}
-use Rattle.ft_command.specs.declared.choice.Choice.TheVariants.{Play, Dot, Jobs, Help, Usage, Fault}
+use Rattle.ft_command.specs.declared.choice.Choice.TheVariants.{Play, Dot, Load, Save, Jobs, Help, Usage, Fault}
 
 -- the plan of `jobs` has to be named
 abbrev pub file_rule : Rule
@@ -29,11 +29,29 @@ quiet_rule = record (new_rule (codes "quiet")) { long = Some (codes "quiet"); ac
 abbrev pub moss_rule : Rule
 moss_rule = record (new_rule (codes "moss")) { long = Some (codes "moss"); action = Some SetTrue }
 
+-- a directory has to be named
+abbrev pub dir_rule : Rule
+dir_rule = record (new_rule (codes "dir")) { required = true; value_names = 1 }
+
+-- `--skip`, where what a tree has no place for is left out
+abbrev pub skip_rule : Rule
+skip_rule = record (new_rule (codes "skip")) { long = Some (codes "skip"); action = Some SetTrue }
+
+-- `--after FILE`, where a script is played first
+abbrev pub after_rule : Rule
+after_rule = record (new_rule (codes "after")) { long = Some (codes "after"); value_names = 1 }
+
 abbrev pub play : App
-play = with_rule (new_app (codes "play")) moss_rule
+play = with_rule (with_rule (new_app (codes "play")) moss_rule) after_rule
+
+abbrev pub load : App
+load = with_rule (with_rule (new_app (codes "load")) dir_rule) skip_rule
+
+abbrev pub save : App
+save = with_rule (new_app (codes "save")) dir_rule
 
 abbrev pub jobs : App
-jobs = with_rule (with_rule (with_rule (with_rule (new_app (codes "jobs")) file_rule) turns_rule) quiet_rule) moss_rule
+jobs = with_rule (with_rule (with_rule (with_rule (with_rule (new_app (codes "jobs")) file_rule) turns_rule) quiet_rule) moss_rule) after_rule
 
 -- no argument of the command is one of its subcommands too
 abbrev pub HasNoGlobals : Command → Type 0
@@ -49,9 +67,13 @@ bare =
 abbrev pub with_filters : App
 with_filters = with_subcommand (with_subcommand bare play.top) (new_app (codes "dot")).top
 
+-- `load` and `save`
+abbrev pub with_folders : App
+with_folders = with_subcommand (with_subcommand with_filters load.top) save.top
+
 -- and `jobs`
 abbrev pub program : App
-program = with_subcommand with_filters jobs.top
+program = with_subcommand with_folders jobs.top
 
 -- a subcommand by its name, with what was found for it
 abbrev pub Met : Type 0
@@ -77,20 +99,32 @@ TellsJobs found file turns quiet =
 abbrev pub TellsRule : List Row → LockRule → Type 0
 TellsRule found rule = IsFlag (one_of (codes "moss") found) (is_strict rule)
 
+-- the file of the script that is played first, if one was found
+abbrev pub TellsAfter : List Row → Option Text → Type 0
+TellsAfter found after = after ≡ first_of (codes "after") found
+
+-- the directory that was found
+abbrev pub TellsDir : List Row → Text → Type 0
+TellsDir found dir = first_of (codes "dir") found ≡ Some dir
+
 -- the choice where the words name this subcommand
 abbrev pub ReadChoice : Met → Choice → Type 0
-ReadChoice met (Play rule) = (found : List Row) × (met ≡ Some (codes "play", found)) × TellsRule found rule
+ReadChoice met (Play rule after) = (found : List Row) × (met ≡ Some (codes "play", found)) × TellsRule found rule × TellsAfter found (option_map string_bytes after)
 ReadChoice met Dot = Names (codes "dot") met
-ReadChoice met (Jobs file turns quiet rule) = (found : List Row) × (met ≡ Some (codes "jobs", found)) × TellsJobs found (string_bytes file) turns quiet × TellsRule found rule
+ReadChoice met (Load dir skip) = (found : List Row) × (met ≡ Some (codes "load", found)) × TellsDir found (string_bytes dir) × IsFlag (one_of (codes "skip") found) skip
+ReadChoice met (Save dir) = (found : List Row) × (met ≡ Some (codes "save", found)) × TellsDir found (string_bytes dir)
+ReadChoice met (Jobs file turns quiet rule after) = (found : List Row) × (met ≡ Some (codes "jobs", found)) × TellsJobs found (string_bytes file) turns quiet × TellsRule found rule × TellsAfter found (option_map string_bytes after)
 ReadChoice met (Help text) = ⊥
 ReadChoice met (Usage text) = ⊥
 ReadChoice met Fault = Unit {0}
 
 -- the choice where the words have an error of this kind
 abbrev pub ErrorChoice : ErrorKind → Choice → Type 0
-ErrorChoice kind (Play rule) = ⊥
+ErrorChoice kind (Play rule after) = ⊥
 ErrorChoice kind Dot = ⊥
-ErrorChoice kind (Jobs file turns quiet rule) = ⊥
+ErrorChoice kind (Load dir skip) = ⊥
+ErrorChoice kind (Save dir) = ⊥
+ErrorChoice kind (Jobs file turns quiet rule after) = ⊥
 ErrorChoice kind (Help text) = kind ≡ DisplayHelp
 ErrorChoice kind (Usage text) = (kind ≢ DisplayHelp) × (kind ≢ OutOfMemory)
 ErrorChoice kind Fault = Unit {0}
@@ -101,9 +135,11 @@ IsCommand words choice = (fault_of program words ≡ []) × ReadChoice (subcomma
 
 -- the choice that words ask for
 abbrev pub ChoiceOf : List Text → Choice → Type 0
-ChoiceOf words (Play rule) = IsCommand words (Play rule)
+ChoiceOf words (Play rule after) = IsCommand words (Play rule after)
 ChoiceOf words Dot = IsCommand words Dot
-ChoiceOf words (Jobs file turns quiet rule) = IsCommand words (Jobs file turns quiet rule)
+ChoiceOf words (Load dir skip) = IsCommand words (Load dir skip)
+ChoiceOf words (Save dir) = IsCommand words (Save dir)
+ChoiceOf words (Jobs file turns quiet rule after) = IsCommand words (Jobs file turns quiet rule after)
 ChoiceOf words (Help text) = IsAmong DisplayHelp (fault_of program words)
 ChoiceOf words (Usage text) = (kind : ErrorKind) × IsAmong kind (fault_of program words) × (kind ≢ DisplayHelp)
 ChoiceOf words Fault = Unit {0}

@@ -1,7 +1,7 @@
 // What a command line asks for.
-ghost use Rattle.std.specs.Prelude.{◌≡◌, IfOk, IfSome, codes, false, map, string_bytes};
+ghost use Rattle.std.specs.Prelude.{◌≡◌, IfOk, IfSome, Some, codes, false, map, option_map, string_bytes};
 ghost use Rattle.clap.specs.Words.{app_of, found_of, kind_of, new_app, rows_of, rule_of, subcommand_rows_of};
-ghost use Rattle.ft_command.specs.CommandLine.{ChoiceOf, ErrorChoice, HasNoGlobals, ReadChoice, TellsJobs, TellsRule, bare, file_rule, jobs, moss_rule, play, program, quiet_rule, turns_rule, with_filters};
+ghost use Rattle.ft_command.specs.CommandLine.{ChoiceOf, ErrorChoice, HasNoGlobals, ReadChoice, TellsAfter, TellsDir, TellsJobs, TellsRule, after_rule, bare, dir_rule, file_rule, jobs, load, moss_rule, play, program, quiet_rule, save, skip_rule, turns_rule, with_filters, with_folders};
 
 use clap::builder::ValueParser;
 use clap::error::ErrorKind;
@@ -13,20 +13,33 @@ use std::convert::AsStr;
 /// What the program is to do.
 #[derive(Debug, Drop)]
 pub enum Choice {
-    /// Run a script on a core that grants calls by this rule.
+    /// Run a script on a core that grants calls by this rule, after the script in a file, if there
+    /// is one.
     Play {
         rule: Rule,
+        after: Option<String>,
     },
     /// Draw the last report on who waits for whom.
     Dot,
+    /// Write a script that makes what this directory holds. What a tree has no place for is left out
+    /// where it is to be skipped.
+    Load {
+        dir: String,
+        skip: bool,
+    },
+    /// Make this directory of the last tree among replies.
+    Save {
+        dir: String,
+    },
     /// Run the jobs of the plan in a file. A call of theirs asks at most so many times, at least
     /// once. How far they have come is not shown where it is to be quiet. Their core grants calls
-    /// by this rule.
+    /// by this rule. The script in a file, if there is one, is played first.
     Jobs {
         file: String,
         turns: u64,
         quiet: bool,
         rule: Rule,
+        after: Option<String>,
     },
     /// Print this help to the standard output, and end with status 0.
     Help(String),
@@ -37,9 +50,10 @@ pub enum Choice {
     Fault,
 }
 
-// How a script is run, how who waits for whom is drawn, and how the jobs of a plan are run.
+// How a script is run, how who waits for whom is drawn, how the jobs of a plan are run, and how they
+// begin with the files of one directory and end with those of another.
 const EXAMPLE: &str =
-    "Example:\n  ft_run play < script.ft\n  ft_run play < script.ft | ft_run dot | dot -Tsvg > waits.svg\n  ft_run jobs build.plan";
+    "Example:\n  ft_run play < script.ft\n  ft_run play < script.ft | ft_run dot | dot -Tsvg > waits.svg\n  ft_run jobs build.plan\n  ft_run load src > src.ft\n  ft_run jobs build.plan --after src.ft | ft_run save out";
 
 // The most times that a call of a job may be told to ask.
 const MOST_TURNS: u64 = 1_000_000;
@@ -64,27 +78,95 @@ fn choice_of(alloc: Global, matches: &ArgMatches) -> Choice
     ensures { ReadChoice (subcommand_rows_of matches.now) result }
 {
     if let Some(found) = matches.subcommand_matches("play") {
-        let rule = asked_rule(found);
-        return Choice::Play { rule };
+        return play_choice(alloc, found);
     }
     if let Some("dot") = matches.subcommand_name() {
         return Choice::Dot;
     }
-    let Some(found) = matches.subcommand_matches("jobs") else {
+    if let Some(found) = matches.subcommand_matches("load") {
+        return load_choice(alloc, found);
+    }
+    if let Some(found) = matches.subcommand_matches("save") {
+        return save_choice(alloc, found);
+    }
+    match matches.subcommand_matches("jobs") {
+        Some(found) => jobs_choice(alloc, found),
+        None => Choice::Fault,
+    }
+}
+
+// The choice where a script is to be run.
+fn play_choice(alloc: Global, found: &ArgMatches) -> Choice
+    ensures { ReadChoice (Some (codes "play", rows_of (found_of found.now))) result }
+{
+    let rule = asked_rule(found);
+    match asked_after(alloc, found) {
+        Ok(after) => Choice::Play { rule, after },
+        Err(_) => Choice::Fault,
+    }
+}
+
+// The choice where a directory is to be loaded.
+fn load_choice(alloc: Global, found: &ArgMatches) -> Choice
+    ensures { ReadChoice (Some (codes "load", rows_of (found_of found.now))) result }
+{
+    let skip = found.get_flag("skip");
+    match asked_dir(alloc, found) {
+        Some(dir) => Choice::Load { dir, skip },
+        None => Choice::Fault,
+    }
+}
+
+// The choice where a directory is to be saved.
+fn save_choice(alloc: Global, found: &ArgMatches) -> Choice
+    ensures { ReadChoice (Some (codes "save", rows_of (found_of found.now))) result }
+{
+    match asked_dir(alloc, found) {
+        Some(dir) => Choice::Save { dir },
+        None => Choice::Fault,
+    }
+}
+
+// The choice where the jobs of a plan are to be run.
+fn jobs_choice(alloc: Global, found: &ArgMatches) -> Choice
+    ensures { ReadChoice (Some (codes "jobs", rows_of (found_of found.now))) result }
+{
+    let rule = asked_rule(found);
+    let Ok(after) = asked_after(alloc, found) else {
         return Choice::Fault;
     };
     match asked_of_jobs(alloc, found) {
-        Some((file, turns, quiet)) => {
-            let rule = asked_rule(found);
-            Choice::Jobs {
-                file,
-                turns,
-                quiet,
-                rule,
-            }
-        }
+        Some((file, turns, quiet)) => Choice::Jobs {
+            file,
+            turns,
+            quiet,
+            rule,
+            after,
+        },
         None => Choice::Fault,
     }
+}
+
+// The file of the script that is to be played first. There may be no memory for its name.
+fn asked_after(alloc: Global, found: &ArgMatches) -> Result<Option<String>, AllocError>
+    ensures { IfOk result (λ after. TellsAfter (rows_of (found_of found.now)) (option_map string_bytes after)) }
+{
+    match found.get_str("after") {
+        Some(file) => {
+            let name = String::from_str(alloc, file)?;
+            Ok(Some(name))
+        }
+        None => Ok(None),
+    }
+}
+
+// The directory that is named. There may be no memory for its name.
+fn asked_dir(alloc: Global, found: &ArgMatches) -> Option<String>
+    ensures { IfSome result (λ dir. TellsDir (rows_of (found_of found.now)) (string_bytes dir)) }
+{
+    let dir = found.get_str("dir")?;
+    let dir = String::from_str(alloc, dir).ok()?;
+    Some(dir)
 }
 
 // The rule by which calls are to be granted.
@@ -117,10 +199,19 @@ fn program<'a>(alloc: Global) -> Result<Command<'a>, AllocError>
     ensures { IfOk result (λ command. app_of command ≡ program) }
 {
     let jobs = jobs_command(alloc)?;
-    with_filters(alloc)?.subcommand(jobs)
+    with_folders(alloc)?.subcommand(jobs)
 }
 
 // All of it but the jobs of a plan.
+fn with_folders<'a>(alloc: Global) -> Result<Command<'a>, AllocError>
+    ensures { IfOk result (λ command. app_of command ≡ with_folders) }
+{
+    let load = load_command(alloc)?;
+    let save = save_command(alloc)?;
+    with_filters(alloc)?.subcommand(load)?.subcommand(save)
+}
+
+// All of it but directories and the jobs of a plan.
 fn with_filters<'a>(alloc: Global) -> Result<Command<'a>, AllocError>
     ensures { IfOk result (λ command. app_of command ≡ with_filters) }
 {
@@ -146,7 +237,8 @@ fn play_command<'a>(alloc: Global) -> Result<Command<'a>, AllocError>
 {
     Command::new(alloc, "play")
         .about("Runs a script from standard input to standard output")
-        .arg(moss_arg(alloc))
+        .arg(moss_arg(alloc))?
+        .arg(after_arg(alloc))
 }
 
 // The part of it that draws who waits for whom.
@@ -159,6 +251,27 @@ fn dot_command<'a>(alloc: Global) -> Command<'a>
     )
 }
 
+// The part of it that writes a script of a directory.
+fn load_command<'a>(alloc: Global) -> Result<Command<'a>, AllocError>
+    ensures app { IfOk result (λ command. app_of command ≡ load) }
+    ensures local { IfOk result HasNoGlobals }
+{
+    Command::new(alloc, "load")
+        .about("Writes a script that makes what a directory holds")
+        .arg(dir_arg(alloc))?
+        .arg(skip_arg(alloc))
+}
+
+// The part of it that makes a directory.
+fn save_command<'a>(alloc: Global) -> Result<Command<'a>, AllocError>
+    ensures app { IfOk result (λ command. app_of command ≡ save) }
+    ensures local { IfOk result HasNoGlobals }
+{
+    Command::new(alloc, "save")
+        .about("Makes a directory of the last tree among replies")
+        .arg(dir_arg(alloc))
+}
+
 // The part of it that runs the jobs of a plan.
 fn jobs_command<'a>(alloc: Global) -> Result<Command<'a>, AllocError>
     ensures app { IfOk result (λ command. app_of command ≡ jobs) }
@@ -169,7 +282,41 @@ fn jobs_command<'a>(alloc: Global) -> Result<Command<'a>, AllocError>
         .arg(file_arg(alloc))?
         .arg(turns_arg(alloc))?
         .arg(quiet_arg(alloc))?
-        .arg(moss_arg(alloc))
+        .arg(moss_arg(alloc))?
+        .arg(after_arg(alloc))
+}
+
+// The directory of it.
+fn dir_arg<'a>(alloc: Global) -> Arg<'a>
+    ensures rule { rule_of result ≡ dir_rule }
+    ensures local { result.global ≡ false }
+{
+    Arg::new(alloc, "dir")
+        .required(true)
+        .value_name("DIR")
+        .help("The directory")
+}
+
+// The flag that leaves out what a tree has no place for.
+fn skip_arg<'a>(alloc: Global) -> Arg<'a>
+    ensures rule { rule_of result ≡ skip_rule }
+    ensures local { result.global ≡ false }
+{
+    Arg::new(alloc, "skip")
+        .long("skip")
+        .action(ArgAction::SetTrue)
+        .help("Leave out symbolic links, devices, FIFOs and sockets, and tell of each")
+}
+
+// The script that is played first.
+fn after_arg<'a>(alloc: Global) -> Arg<'a>
+    ensures rule { rule_of result ≡ after_rule }
+    ensures local { result.global ≡ false }
+{
+    Arg::new(alloc, "after")
+        .long("after")
+        .value_name("FILE")
+        .help("A script that is played first, without its replies")
 }
 
 // The plan of it.

@@ -41,8 +41,8 @@ pub fn draw<R: Read, W: Write>(
     write_out(writer, text.as_bytes())
 }
 
-// Reads all that a reader has left.
-fn read_all<R: Read>(reader: &mut R, replies: &mut Vec<u8>) -> Result<(), PlayFault>
+/// Reads all that a reader has left. A fault is Memory or Read. An interrupted read is tried again.
+pub fn read_all<R: Read>(reader: &mut R, replies: &mut Vec<u8>) -> Result<(), PlayFault>
     requires { replies.old.items ≡ [] }
     ensures bytes { (bytes : List ℕ) × Consumes (R.remaining reader.old) (R.remaining reader.new) bytes × (OnOk result (replies.new.items ≡ bytes)) }
     ensures end { OnOk result (IsAtEnd (R.remaining reader.new)) }

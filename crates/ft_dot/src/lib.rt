@@ -6,4 +6,4 @@ mod filter;
 mod reading;
 mod report;
 
-pub use filter::draw;
+pub use filter::{draw, read_all};

@@ -18,7 +18,7 @@ fn is_help(alloc: Global, words: &[&str], part: &str) -> bool {
 
 // Whether they ask for a script on a core of this rule.
 fn is_play_by(alloc: Global, words: &[&str], wanted: Rule) -> bool {
-    matches!(choose(alloc, words), Choice::Play { rule } if rule == wanted)
+    matches!(choose(alloc, words), Choice::Play { rule, after: None } if rule == wanted)
 }
 
 fn is_play(alloc: Global, words: &[&str]) -> bool {
@@ -37,9 +37,62 @@ fn is_jobs(alloc: Global, words: &[&str], plan: &str, most: u64, hushed: bool) -
             turns,
             quiet,
             rule,
+            after: None,
         } => { file.as_str() == plan && turns == most && quiet == hushed && rule == Rule::Profile }
         _ => false,
     }
+}
+
+// Whether they ask for a script of this directory.
+fn is_load(alloc: Global, words: &[&str], folder: &str, skips: bool) -> bool {
+    match choose(alloc, words) {
+        Choice::Load { dir, skip } => dir.as_str() == folder && skip == skips,
+        _ => false,
+    }
+}
+
+// Whether they ask for this directory to be made.
+fn is_save(alloc: Global, words: &[&str], folder: &str) -> bool {
+    match choose(alloc, words) {
+        Choice::Save { dir } => dir.as_str() == folder,
+        _ => false,
+    }
+}
+
+// The file of the script that is to be played first, if they ask for one.
+fn first_file(alloc: Global, words: &[&str]) -> Option<String> {
+    match choose(alloc, words) {
+        Choice::Play { rule: _, after } => after,
+        Choice::Jobs {
+            file: _plan,
+            turns: _,
+            quiet: _,
+            rule: _,
+            after,
+        } => after,
+        _ => None,
+    }
+}
+
+// Whether they ask for something after the script in this file.
+fn is_after(alloc: Global, words: &[&str], script: &str) -> bool {
+    match first_file(alloc, words) {
+        Some(file) => file.as_str() == script,
+        None => false,
+    }
+}
+
+#[test]
+fn choices_of_directories(rt: HostRuntime) -> Result<(), Fail> {
+    let alloc = rt.alloc();
+    assert!(rt; is_load(alloc, &["load", "src"], "src", false));
+    assert!(rt; is_load(alloc, &["load", "--skip", "src"], "src", true));
+    assert!(rt; is_usage(alloc, &["load"], "<DIR>"));
+    assert!(rt; is_save(alloc, &["save", "out"], "out"));
+    assert!(rt; is_usage(alloc, &["save"], "<DIR>"));
+    assert!(rt; is_after(alloc, &["play", "--after", "src.ft"], "src.ft"));
+    assert!(rt; is_after(alloc, &["jobs", "p", "--after", "src.ft"], "src.ft"));
+    Ok(())
 }
 
 #[test]

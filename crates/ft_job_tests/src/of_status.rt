@@ -1,4 +1,5 @@
 // What no clause says: the line that tells of a fault, and what jobs came to.
+use ft_after::core_after;
 use ft_core::Rule;
 use ft_status::{jobs_status, play_status};
 use std::alloc::Global;
@@ -64,7 +65,10 @@ fn ends_with<R: Read>(
     held: &str,
 ) -> bool {
     let mut replies = Narrow::new(alloc, 100);
-    let status = play_status(alloc, Rule::Profile, reader, &mut replies, errors);
+    let Ok(core) = core_after(alloc, Rule::Profile, None) else {
+        return false;
+    };
+    let status = play_status(alloc, core, reader, &mut replies, errors);
     status == end.0
         && replies.held.as_slice() == end.1.as_bytes()
         && errors.held.as_slice() == held.as_bytes()
@@ -116,10 +120,11 @@ fn jobs_program_text(rt: HostRuntime) -> Result<(), Fail> {
     let alloc = rt.alloc();
     let mut output = Narrow::new(alloc, 200);
     let mut errors = Narrow::new(alloc, 100);
+    let core = core_after(alloc, Rule::Profile, None)?;
     let status = jobs_status(
         &rt,
         alloc,
-        Rule::Profile,
+        core,
         ONE_JOB,
         1,
         None::<Narrow>,
@@ -129,10 +134,11 @@ fn jobs_program_text(rt: HostRuntime) -> Result<(), Fail> {
     assert!(rt;
         status == 0 && output.held.as_slice() == ONE_OUTCOME.as_bytes() && errors.held.is_empty()
     );
+    let core = core_after(alloc, Rule::Profile, None)?;
     let status = jobs_status(
         &rt,
         alloc,
-        Rule::Profile,
+        core,
         b"".as_slice(),
         1,
         None::<Narrow>,
@@ -148,10 +154,11 @@ fn output_that_fails(rt: HostRuntime) -> Result<(), Fail> {
     let alloc = rt.alloc();
     let mut output = Narrow::new(alloc, 10);
     let mut errors = Narrow::new(alloc, 100);
+    let core = core_after(alloc, Rule::Profile, None)?;
     let status = jobs_status(
         &rt,
         alloc,
-        Rule::Profile,
+        core,
         ONE_JOB,
         1,
         None::<Narrow>,

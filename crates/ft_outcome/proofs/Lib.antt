@@ -1,2 +1,2 @@
 pub mod Pairs
-pub mod Fresh
+pub mod Unrun

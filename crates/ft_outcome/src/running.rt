@@ -1,11 +1,12 @@
 // Runs a plan: reads it, runs its jobs in threads, and writes what they came to.
 ghost use Rattle.std.specs.Prelude.{◌≡◌, ◌≢◌, ◌≤◌, OnOk, IfOk, IfErr, IsErrOf, string_bytes};
+ghost use Rattle.ft_core.specs.Living.{NoneIsLive};
 ghost use Rattle.ft_reports.specs.Reports.{AreReports};
 ghost use Rattle.ft_outcome.specs.Runs.{IsNoPlan, IsTextOfPlan, RunsPlan, StopsPlan, text_of_outcome};
 
 use crate::text::OutcomeText;
 use ft_base::Memory;
-use ft_core::{Core, Rule};
+use ft_core::Core;
 use ft_jobs::{Job, JobFault, JobsOutcome, Plan};
 use ft_progress::run_shown;
 use ft_script::write_out;
@@ -40,8 +41,8 @@ impl From<JobFault> for RunFault {
     }
 }
 
-/// Reads a plan, runs its jobs on a new core that grants calls by this rule, each in a thread of
-/// its own, and writes what they came to. A call of theirs asks at most so many times. How far they
+/// Reads a plan, runs its jobs on a core where no transaction is live, each in a thread of its own,
+/// and writes what they came to. A call of theirs asks at most so many times. How far they
 /// have come is shown on a screen while they run, if there is one.
 ///
 /// A fault ends the run.
@@ -52,17 +53,18 @@ impl From<JobFault> for RunFault {
 pub fn run_plan<R: Threads + Wait + Clock + Sync, S: Write + Send + Drop, W: Write>(
     rt: &R,
     alloc: Global,
-    rule: Rule,
+    core: Core,
     plan: &[u8],
     turns: u64,
     screen: Option<S>,
     writer: &mut W,
 ) -> Result<(), RunFault>
-    requires { 1 ≤ turns }
+    requires turns { 1 ≤ turns }
+    requires none_live { NoneIsLive core.state }
     ensures ok { OnOk result (RunsPlan plan.now (W.contents writer.old) (W.contents writer.new)) }
     ensures fault { IfErr result (λ fault. StopsPlan fault plan.now (W.contents writer.old) (W.contents writer.new)) }
 {
-    let text = text_of(rt, alloc, rule, plan, turns, screen)?;
+    let text = text_of(rt, alloc, core, plan, turns, screen)?;
     match write_out(writer, text.as_bytes()) {
         Ok(()) => Ok(()),
         Err(_) => Err(RunFault::Write),
@@ -73,17 +75,18 @@ pub fn run_plan<R: Threads + Wait + Clock + Sync, S: Write + Send + Drop, W: Wri
 fn text_of<R: Threads + Wait + Clock + Sync, S: Write + Send + Drop>(
     rt: &R,
     alloc: Global,
-    rule: Rule,
+    core: Core,
     plan: &[u8],
     turns: u64,
     screen: Option<S>,
 ) -> Result<String, JobFault>
-    requires { 1 ≤ turns }
+    requires turns { 1 ≤ turns }
+    requires none_live { NoneIsLive core.state }
     ensures ok { IfOk result (λ text. IsTextOfPlan plan.now (string_bytes text)) }
     ensures bad_plan { IsErrOf result JobFault.BadPlan → IsNoPlan plan.now }
 {
     let plan = Plan::read(alloc, plan)?;
-    let outcome = run_anew(rt, alloc, rule, &plan, turns, screen)?;
+    let outcome = run_on(rt, alloc, core, &plan, turns, screen)?;
     Ok(told(alloc, plan.jobs(), &outcome)?)
 }
 
@@ -101,22 +104,20 @@ fn told(alloc: Global, jobs: &[Job], outcome: &JobsOutcome) -> Result<String, Me
     Ok(format!(in alloc; "{text}")?)
 }
 
-// Runs the jobs of a plan on a new core.
-fn run_anew<R: Threads + Wait + Clock + Sync, S: Write + Send + Drop>(
+// Runs the jobs of a plan on a core.
+fn run_on<R: Threads + Wait + Clock + Sync, S: Write + Send + Drop>(
     rt: &R,
     alloc: Global,
-    rule: Rule,
+    core: Core,
     plan: &Plan,
     turns: u64,
     screen: Option<S>,
 ) -> Result<JobsOutcome, JobFault>
-    requires { 1 ≤ turns }
+    requires turns { 1 ≤ turns }
+    requires none_live { NoneIsLive core.state }
     ensures ok { IfOk result (λ outcome. AreReports outcome.core.state plan.now outcome.reports.items) }
     ensures cause { IfErr result (λ fault. fault ≢ JobFault.BadPlan) }
 {
-    let Ok(core) = Core::with_rule(alloc, rule) else {
-        return Err(JobFault::Memory);
-    };
     match Shared::<Brand>::new(core) {
         Ok(shared) => run_shown(rt, alloc, plan, shared, turns, screen),
         Err(_) => unreachable!(),

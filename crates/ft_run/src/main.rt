@@ -8,10 +8,23 @@
 //! there is.
 #![tactic(auto)]
 
+mod disk_source;
+mod disk_target;
+
+ghost use Rattle.std.specs.Prelude.{IfOk};
+ghost use Rattle.ft_core.specs.Living.{NoneIsLive};
+
+use crate::disk_source::DiskSource;
+use crate::disk_target::DiskTarget;
+use ft_after::core_after;
 use ft_command::{Choice, choose};
+use ft_core::{Core, Rule};
 use ft_jobs::LONGEST_PLAN;
 use ft_script::PlayFault;
-use ft_status::{dot_status, failed, fault_line, jobs_status, play_status};
+use ft_status::{
+    after_failed, dot_status, failed, fault_line, jobs_status, load_status, play_status,
+    save_status,
+};
 use std::fs::{File, Files};
 use std::io::{ErrorKind, IsTerminal, Read, Stderr};
 use std::process::ExitCode;
@@ -23,39 +36,33 @@ fn main(rt: HostRuntime) -> ExitCode {
         Ok(words) => choose(alloc, words.as_slice()),
         Err(_) => Choice::Fault,
     };
-    let mut input = rt.stdin();
-    let mut output = rt.stdout();
-    let mut errors = rt.stderr();
     let status = match choice {
-        Choice::Play { rule } => play_status(alloc, rule, &mut input, &mut output, &mut errors),
-        Choice::Dot => dot_status(alloc, &mut input, &mut output, &mut errors),
+        Choice::Play { rule, after } => run_script(&rt, rule, after),
+        Choice::Dot => dot_status(alloc, &mut rt.stdin(), &mut rt.stdout(), &mut rt.stderr()),
+        Choice::Load { dir, skip } => load_dir(&rt, dir.as_str(), skip),
+        Choice::Save { dir } => save_dir(&rt, dir.as_str()),
         Choice::Jobs {
             file,
             turns,
             quiet,
             rule,
-        } => match read_plan(&rt, file.as_str()) {
-            Ok(plan) => jobs_status(
+            after,
+        } => match begun_jobs(&rt, file.as_str(), rule, after) {
+            Ok((core, plan)) => jobs_status(
                 &rt,
                 alloc,
-                rule,
+                core,
                 plan.as_slice(),
                 turns,
                 screen(&rt, quiet),
-                &mut output,
-                &mut errors,
+                &mut rt.stdout(),
+                &mut rt.stderr(),
             ),
-            Err(fault) => failed(&mut errors, fault_line(fault)),
+            Err(status) => status,
         },
-        Choice::Help(text) => {
-            let _ = rt.print(text);
-            0
-        }
-        Choice::Usage(text) => {
-            let _ = rt.eprint(text);
-            2
-        }
-        Choice::Fault => failed(&mut errors, fault_line(PlayFault::Memory)),
+        Choice::Help(text) => helped(&rt, text),
+        Choice::Usage(text) => misused(&rt, text),
+        Choice::Fault => failed(&mut rt.stderr(), fault_line(PlayFault::Memory)),
     };
     ExitCode::from(status)
 }
@@ -63,6 +70,80 @@ fn main(rt: HostRuntime) -> ExitCode {
 // The words after the program's name.
 fn words_given(rt: &HostRuntime) -> io::Result<Vec<String>> {
     Ok(env::args(rt)?.skip(1).collect(rt.alloc())?)
+}
+
+// Runs the script on standard input.
+fn run_script(rt: &HostRuntime, rule: Rule, after: Option<String>) -> u8 {
+    match core_for(rt, rule, after) {
+        Ok(core) => play_status(
+            rt.alloc(),
+            core,
+            &mut rt.stdin(),
+            &mut rt.stdout(),
+            &mut rt.stderr(),
+        ),
+        Err(status) => status,
+    }
+}
+
+// The core and the plan of a run of jobs. Where one of them could not be had, it was told, and the
+// status to end with is answered.
+fn begun_jobs(
+    rt: &HostRuntime,
+    file: &str,
+    rule: Rule,
+    after: Option<String>,
+) -> Result<(Core, Vec<u8>), u8>
+    ensures { IfOk result (λ begun. NoneIsLive begun.0.state) }
+{
+    let core = core_for(rt, rule, after)?;
+    match read_file(rt, file, LONGEST_PLAN as u64 + 1) {
+        Ok(plan) => Ok((core, plan)),
+        Err(fault) => Err(failed(&mut rt.stderr(), fault_line(fault))),
+    }
+}
+
+// Prints a help text.
+fn helped(rt: &HostRuntime, text: String) -> u8 {
+    let _ = rt.print(text);
+    0
+}
+
+// Prints what can be asked for.
+fn misused(rt: &HostRuntime, text: String) -> u8 {
+    let _ = rt.eprint(text);
+    2
+}
+
+// Writes a script of a directory to standard output.
+fn load_dir(rt: &HostRuntime, dir: &str, skip: bool) -> u8 {
+    let source = DiskSource { rt, dir, skip };
+    load_status(rt.alloc(), &source, rt.stdout(), &mut rt.stderr())
+}
+
+// Makes a directory of the last tree on standard input.
+fn save_dir(rt: &HostRuntime, dir: &str) -> u8 {
+    let mut target = DiskTarget::new(rt, dir);
+    save_status(rt.alloc(), &mut rt.stdin(), &mut target, &mut rt.stderr())
+}
+
+// A core that grants calls by this rule, on which the script in a file was played first, if there is
+// one. Where that could not be, it was told, and the status to end with is answered.
+fn core_for(rt: &HostRuntime, rule: Rule, after: Option<String>) -> Result<Core, u8>
+    ensures { IfOk result (λ core. NoneIsLive core.state) }
+{
+    let alloc = rt.alloc();
+    let begun = match after {
+        None => core_after(alloc, rule, None),
+        Some(file) => match read_file(rt, file.as_str(), u64::MAX) {
+            Ok(script) => core_after(alloc, rule, Some(script.as_slice())),
+            Err(fault) => return Err(failed(&mut rt.stderr(), fault_line(fault))),
+        },
+    };
+    match begun {
+        Ok(core) => Ok(core),
+        Err(fault) => Err(after_failed(alloc, &mut rt.stderr(), fault)),
+    }
 }
 
 // Where it is shown how far jobs have come: on standard error, where that is a terminal, unless
@@ -75,10 +156,9 @@ fn screen(rt: &HostRuntime, quiet: bool) -> Option<Stderr> {
     Some(errors)
 }
 
-// The bytes of a file, or of a longer one that can't be a plan one more than a plan may have.
-fn read_plan(rt: &HostRuntime, file: &str) -> Result<Vec<u8>, PlayFault> {
+// The bytes of a file, so many at most.
+fn read_file(rt: &HostRuntime, file: &str, most: u64) -> Result<Vec<u8>, PlayFault> {
     let mut bytes = Vec::new(rt.alloc());
-    let most = LONGEST_PLAN as u64 + 1;
     match File::open(rt, file).and_then(|file| file.take(most).read_to_end(&mut bytes)) {
         Ok(_) => Ok(bytes),
         Err(error) if error.kind() == ErrorKind::OutOfMemory => Err(PlayFault::Memory),

@@ -6,4 +6,6 @@ mod faults;
 mod status;
 
 pub use faults::{fault_line, run_fault_line};
-pub use status::{dot_status, failed, jobs_status, play_status};
+pub use status::{
+    after_failed, dot_status, failed, jobs_status, load_status, play_status, save_status,
+};

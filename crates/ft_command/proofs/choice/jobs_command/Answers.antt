@@ -10,7 +10,8 @@ returns-clause-app c =
     let one_is = c.in_ok-arg.ensures.shape c.file_arg.ensures.local ∙ ap₂ with_rule (ap app_of_fields c.about.ensures ∙ c.new.ensures.app) c.file_arg.ensures.rule in
     let two_is = c.in_ok-arg-2.ensures.shape c.turns_arg.ensures.local ∙ ap₂ with_rule one_is c.turns_arg.ensures.rule in
     let three_is = c.in_ok-arg-3.ensures.shape c.quiet_arg.ensures.local ∙ ap₂ with_rule two_is c.quiet_arg.ensures.rule in
-    IfOk-weaker c.arg-4.result _ _ (λ command h. h.shape c.moss_arg.ensures.local ∙ ap₂ with_rule three_is c.moss_arg.ensures.rule) c.arg-4.ensures
+    let four_is = c.in_ok-arg-4.ensures.shape c.moss_arg.ensures.local ∙ ap₂ with_rule three_is c.moss_arg.ensures.rule in
+    IfOk-weaker c.arg-5.result _ _ (λ command h. h.shape c.after_arg.ensures.local ∙ ap₂ with_rule four_is c.after_arg.ensures.rule) c.arg-5.ensures
 
 pub returns-clause-local : goal.returns-clause-local
 returns-clause-local c =
@@ -18,4 +19,5 @@ returns-clause-local c =
     let one = c.in_ok-arg.ensures.globals ∙ ap₂ (λ a b. a || b) bare c.file_arg.ensures.local in
     let two = c.in_ok-arg-2.ensures.globals ∙ ap₂ (λ a b. a || b) one c.turns_arg.ensures.local in
     let three = c.in_ok-arg-3.ensures.globals ∙ ap₂ (λ a b. a || b) two c.quiet_arg.ensures.local in
-    IfOk-weaker c.arg-4.result _ _ (λ command h. h.globals ∙ ap₂ (λ a b. a || b) three c.moss_arg.ensures.local) c.arg-4.ensures
+    let four = c.in_ok-arg-4.ensures.globals ∙ ap₂ (λ a b. a || b) three c.moss_arg.ensures.local in
+    IfOk-weaker c.arg-5.result _ _ (λ command h. h.globals ∙ ap₂ (λ a b. a || b) four c.after_arg.ensures.local) c.arg-5.ensures

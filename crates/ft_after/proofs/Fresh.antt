@@ -1,0 +1,30 @@
+-- A core that begins at a base has no live transaction.
+use Rattle.std.proofs.Common.{◌≡◌, ◌<◌, ◌≤◌, ◌&&◌, ◌∙◌, ℕ, Bool, true, false, cond, List, Some, None, ap, refl, sym, subst, arith}
+use Rattle.std.specs.Prelude.{nat_lt, nat_le}
+use Rattle.std.proofs.lemmas.Bool.{false≢true, and_parts, ltb-true, leb-true}
+use Rattle.ft_laws.proofs.Tests.{by_test}
+use Rattle.ft_history.specs.History.{Fate, is_live}
+use Rattle.ft_core.specs.Living.{NoneIsLive}
+use Rattle.ft_core.specs.States.{Base, State, at_base, base_now}
+use Rattle.ft_after.specs.After.{IsPlayedFirst}
+use Rattle.ft_moss.specs.declared.rule.Rule.{Rule}
+
+-- no number is above another and not above it
+nothing_between : (n t : ℕ) → (nat_lt n t && nat_le t n) ≡ false
+nothing_between n t = by_test (nat_lt n t && nat_le t n)
+    (λ k. let parts = and_parts (nat_lt n t) (nat_le t n) k in let above : n < t = ltb-true n t parts.0 in let not_above : t ≤ n = leb-true t n parts.1 in absurd (omega arith))
+    (λ k. k)
+
+no_fate : (b : Bool) (fate : Fate) → b ≡ false → is_live (cond b (Some fate) None) ≡ false
+no_fate true fate h = absurd (false≢true (sym h))
+no_fate false fate h = refl
+
+pub none_is_live : (rule : Rule) (base : Base) → NoneIsLive (at_base rule base)
+none_is_live rule base live = false≢true (sym (no_fate (nat_lt base.last_txn live.0 && nat_le live.0 base.last_txn) _ (nothing_between base.last_txn live.0)) ∙ ap is_live live.1)
+
+pub none_is_live_at : (s : State) (rule : Rule) (base : Base) → s ≡ at_base rule base → NoneIsLive s
+none_is_live_at s rule base is = subst (λ (t : State). NoneIsLive t) (sym is) (none_is_live rule base)
+
+-- none is behind a script that was played first
+pub none_after : (old : State) (lines : List (List ℕ)) (new : State) → IsPlayedFirst old lines new → NoneIsLive new
+none_after old lines new h = none_is_live_at new h.0.rule (base_now h.0) h.2

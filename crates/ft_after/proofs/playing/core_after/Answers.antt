@@ -1,0 +1,19 @@
+use Rattle.std.proofs.Common.{List, ℕ, Option, Bor, sym, subst}
+use Rattle.std.specs.Option.{option_copied}
+use Rattle.ft_core.specs.States.{State, first_base}
+use Rattle.ft_words.specs.Spelling.{lines_of}
+use Rattle.ft_after.specs.After.{Begins, IsPlayedFirst}
+use Rattle.ft_after.proofs.Fresh.{none_after, none_is_live_at}
+use Rattle.ft_after.proofs.playing.core_after.Goals as goal
+
+pub returns-in-None-clause-none_live : goal.returns-in-None-clause-none_live
+returns-in-None-clause-none_live c = none_is_live_at c.in-Ok.core.state c.args.rule first_base c.in-Ok.ensures
+
+pub returns-in_ok-play_first-in-Some-clause-state : goal.returns-in_ok-play_first-in-Some-clause-state
+returns-in_ok-play_first-in-Some-clause-state c =
+    let new = c.play_first.new.core.state in
+    let played = subst (λ (s : State). IsPlayedFirst s (lines_of c.in-Some.text.now) new) c.in-Ok.ensures c.in_ok-play_first-in-Some.ensures in
+    subst (λ (script : Option (Bor (List ℕ))). Begins c.args.rule (option_copied script) new) (sym c.in-Some.is) played
+
+pub returns-in_ok-play_first-in-Some-clause-none_live : goal.returns-in_ok-play_first-in-Some-clause-none_live
+returns-in_ok-play_first-in-Some-clause-none_live c = none_after c.in-Ok.core.state (lines_of c.in-Some.text.now) c.play_first.new.core.state c.in_ok-play_first-in-Some.ensures

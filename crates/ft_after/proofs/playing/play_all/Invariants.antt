@@ -1,0 +1,10 @@
+use Rattle.std.proofs.Common.{◌≡◌, ◌++◌, ℕ, List, length}
+use Rattle.ft_after.specs.After.{PlaysWell}
+use Rattle.ft_after.proofs.playing.play_all.Given as goal
+
+-- the lines that were played so far, and those that are left, are all
+abbrev pub invariant-loop-line : goal.invariant-loop-line
+invariant-loop-line l = (played : List (List ℕ)) × (l.initial.rest ≡ played ++ l.rest) × PlaysWell l.initial.core.state played l.core.state
+
+abbrev pub decreases-loop-line : goal.decreases-loop-line
+decreases-loop-line l = length l.rest

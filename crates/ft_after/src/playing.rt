@@ -1,0 +1,103 @@
+// A script that is played first.
+ghost use Rattle.std.specs.Prelude.{◌≡◌, true, option_copied, IfOk, OnOk};
+ghost use Rattle.ft_core.specs.Living.{NoneIsLive};
+ghost use Rattle.ft_core.specs.States.{at_base, first_base};
+ghost use Rattle.ft_replies.specs.Requests.{meaning_of};
+ghost use Rattle.ft_words.specs.Spelling.{lines_of};
+ghost use Rattle.ft_after.specs.After.{Begins, GoesWell, IsPlayedFirst, PlaysWell, is_well};
+
+use crate::fault::AfterFault;
+use ft_calls::Reply;
+use ft_core::{Answer, Core, Fault, Request, Rule};
+use ft_replies::{Line, meaning_of};
+use ft_words::Lines;
+use std::alloc::Global;
+
+/// A core that grants calls by this rule: a new one, or where there is a script, one on which that
+/// was played first.
+pub fn core_after(alloc: Global, rule: Rule, script: Option<&[u8]>) -> Result<Core, AfterFault>
+    ensures state { IfOk result (λ core. Begins rule (option_copied script.entry) core.state) }
+    ensures none_live { IfOk result (λ core. NoneIsLive core.state) }
+{
+    let Ok(mut core) = Core::with_rule(alloc, rule) else {
+        return Err(AfterFault::Memory);
+    };
+    match script {
+        None => Ok(core),
+        Some(text) => {
+            play_first(alloc, text, &mut core)?;
+            Ok(core)
+        }
+    }
+}
+
+/// Plays a script on a core without writing replies, and then makes the tree as it stands the new
+/// beginning, as a `checkpoint` does.
+///
+/// Each line has to do what it asks for: a line that asks for nothing, and a request that is
+/// refused, fails or waits, end it with their number, and so does a transaction that is left live.
+/// Reports are left out.
+pub fn play_first(alloc: Global, script: &[u8], core: &mut Core) -> Result<(), AfterFault>
+    ensures { OnOk result (IsPlayedFirst core.old.state (lines_of script.now) core.new.state) }
+{
+    let last = play_all(alloc, Lines::of(script), core)?;
+    match core.checkpoint() {
+        Ok(()) => Ok(()),
+        Err(Fault::Live) => Err(AfterFault::Script(last)),
+        Err(_) => Err(AfterFault::Memory),
+    }
+}
+
+// Plays lines, and tells how many there are.
+fn play_all(alloc: Global, lines: Lines<'_>, core: &mut Core) -> Result<u64, AfterFault>
+    ensures { OnOk result (PlaysWell core.old.state lines.entry core.new.state) }
+{
+    let mut rest = lines;
+    let mut number: u64 = 0;
+    while let Some(line) = rest.next() {
+        number = number.saturating_add(1);
+        let well = play_line(alloc, line, core)?;
+        if !well {
+            return Err(AfterFault::Script(number));
+        }
+    }
+    Ok(number)
+}
+
+// Plays a line, and answers whether it did what it asks for.
+fn play_line(alloc: Global, line: &[u8], core: &mut Core) -> Result<bool, AfterFault>
+    ensures { IfOk result (λ well. well ≡ true → GoesWell core.old.state (meaning_of line.now) core.new.state) }
+{
+    match meaning_of(alloc, line)? {
+        Line::Silent | Line::Report(_) => Ok(true),
+        Line::Bad => Ok(false),
+        Line::Request(request) => Ok(does_well(core, request)),
+    }
+}
+
+// Carries out a request, and answers whether it was granted and did not fail. What a commit or an
+// abort has let go is swept.
+fn does_well(core: &mut Core, request: Request) -> bool
+    ensures { result ≡ true → GoesWell core.old.state (Line.Request request) core.new.state }
+{
+    let answer = core.answer(request);
+    if matches!(answer, Answer::Committed | Answer::Aborted(_)) {
+        core.sweep();
+    }
+    is_well(&answer)
+}
+
+// Whether a request was granted and did not fail.
+fn is_well(answer: &Answer) -> bool
+    ensures { result ≡ is_well answer.now }
+{
+    match answer {
+        Answer::Granted {
+            reply: Reply::Failed(_),
+            ..
+        }
+        | Answer::Waits { .. }
+        | Answer::Refused(_) => false,
+        _ => true,
+    }
+}

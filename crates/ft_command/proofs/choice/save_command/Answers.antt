@@ -1,0 +1,14 @@
+use Rattle.std.proofs.Common.{◌≡◌, ◌∙◌, ◌||◌, false, ap, ap₂}
+use Rattle.std.proofs.lemmas.Result.{IfOk-weaker}
+use Rattle.clap.specs.Simple.{app_of_fields}
+use Rattle.clap.specs.Words.{with_rule}
+use Rattle.clap.specs.declared.builder.command.Command.TheViews.{out-Command}
+use Rattle.ft_command.proofs.choice.save_command.Goals as goal
+
+pub returns-clause-app : goal.returns-clause-app
+returns-clause-app c = IfOk-weaker c.arg.result _ _ (λ command h. h.shape c.dir_arg.ensures.local ∙ ap₂ with_rule (ap app_of_fields c.about.ensures ∙ c.new.ensures.app) c.dir_arg.ensures.rule) c.arg.ensures
+
+pub returns-clause-local : goal.returns-clause-local
+returns-clause-local c =
+    let bare : (out-Command c.about.result).has_globals ≡ false = ap (λ f. f.has_globals) c.about.ensures ∙ c.new.ensures.local in
+    IfOk-weaker c.arg.result _ _ (λ command h. h.globals ∙ ap₂ (λ a b. a || b) bare c.dir_arg.ensures.local) c.arg.ensures

@@ -1,0 +1,4 @@
+pub mod Doing
+pub mod Walking
+pub mod Visiting
+pub mod Telling

@@ -1,0 +1,4 @@
+pub mod Told
+pub mod Asked
+pub mod Walks
+pub mod Runs

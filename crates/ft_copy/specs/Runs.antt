@@ -1,0 +1,123 @@
+-- What a copy comes to: which places were visited, and what the target was asked for at each.
+use Rattle.std.specs.Prelude.{◌≡◌, ◌⊎◌, ◌<◌, ◌≤◌, ℕ, false, List, [], ◌∷◌, ◌++◌, map, length, Option, None, Some}
+use Rattle.std.specs.List.{flat_map}
+use Rattle.ft_body.specs.declared.TheConstants.{SIZE_LIMIT}
+use Rattle.ft_path.specs.declared.TheConstants.{LONGEST_PATH}
+use Rattle.ft_posix.specs.declared.TheConstants.{MOST_LINKS}
+use Rattle.ft_copy.specs.declared.found.TheConstants.{ROOT}
+use Rattle.ft_copy.specs.declared.found.FileFacts.{FileFacts}
+use Rattle.ft_copy.specs.declared.found.Found.{Found}
+use Rattle.ft_copy.specs.declared.found.Found.TheVariants as found
+use Rattle.ft_copy.specs.declared.found.Place.{Place}
+use Rattle.ft_copy.specs.Told.{Told, Finds, Omits}
+use Rattle.ft_copy.specs.Asked.{Asked, Start, Folder, Open, Piece, Close, Link, Finish, GiveUp, DoesAll, IsUnfinished}
+use Rattle.ft_copy.specs.Walks.{Enters, IsRead, ArePieces, Standing, is_dotted, nothing, with_first}
+
+-- ---- visits
+
+-- What was done at a place.
+pub data Visit : Type 0 where
+  OfFolder : (path : List ℕ) → Visit
+  OfFile : (path : List ℕ) → (pieces : List (List ℕ)) → Visit
+  OfFurther : (first : List ℕ) → (path : List ℕ) → Visit
+  OfNothing : Visit
+
+-- a file that is made of these pieces
+abbrev pub made : List ℕ → List (List ℕ) → List Asked
+made path pieces = Open path ∷ map Piece pieces ++ Close ∷ []
+
+-- what the target is asked for at a visit
+abbrev pub asked_of : Visit → List Asked
+asked_of (OfFolder path) = Folder path ∷ []
+asked_of (OfFile path pieces) = made path pieces
+asked_of (OfFurther first path) = Link first path ∷ []
+asked_of OfNothing = []
+
+-- a file is noted where it may be met again, and was not met yet
+abbrev pub IsNoted : FileFacts → List ℕ → Standing → Standing → Type 0
+IsNoted facts path old new =
+    ((facts.links ≤ 1) × (new ≡ old))
+    ⊎ ((1 < facts.links) × (old.firsts facts.id ≡ None) × (new ≡ record { left = old.left; firsts = with_first facts.id path old.firsts }))
+
+-- a file gets a further name where it is met again
+abbrev pub IsFurtherName : Place → FileFacts → Standing → Visit → Standing → Type 0
+IsFurtherName place facts old visit new =
+    (first : List ℕ) × (visit ≡ OfFurther first place.path) × (1 < facts.links) × (old.firsts facts.id ≡ Some first) × (new ≡ old)
+
+module _ (tells : Told → Type 0) where
+  -- A file is made where it is met first.
+  abbrev pub IsFirstName : Place → FileFacts → Standing → Visit → Standing → Type 0
+  IsFirstName place facts old visit new =
+      (pieces : List (List ℕ)) × (visit ≡ OfFile place.path pieces) × IsRead tells place.path place.node pieces × IsNoted facts place.path old new
+
+  -- A visit of a file, which is within the limits.
+  abbrev pub IsFileVisit : Place → FileFacts → Standing → Visit → Standing → Type 0
+  IsFileVisit place facts old visit new =
+      (facts.links ≤ MOST_LINKS) × (facts.size ≤ SIZE_LIMIT) × (IsFirstName place facts old visit new ⊎ IsFurtherName place facts old visit new)
+
+  -- A visit of what was found.
+  abbrev pub IsVisitOf : Place → Found → Standing → Visit → Standing → Type 0
+  IsVisitOf place found.Folder old visit new = (visit ≡ OfFolder place.path) × Enters tells place.path place.node old new
+  IsVisitOf place (found.File facts) old visit new = IsFileVisit place facts old visit new
+  IsVisitOf place found.Special old visit new = (visit ≡ OfNothing) × tells (Omits place.path) × (new ≡ old)
+
+  -- A visit of a place. Its path does not lead elsewhere, and is not too long.
+  abbrev pub IsVisit : Place → Standing → Visit → Standing → Type 0
+  IsVisit place old visit new =
+      (is_dotted place.path ≡ false) × (length place.path ≤ LONGEST_PATH)
+      × ((found : Found) × tells (Finds place.path place.node found) × IsVisitOf place found old visit new)
+
+  -- One visit after another, each of the place that is next.
+  abbrev pub WalksTo : Standing → List Visit → Standing → Type 0
+  WalksTo old [] new = new ≡ old
+  WalksTo old (visit ∷ visits) new =
+      (rest : List Place) × (place : Place) × (next : Standing) × (old.left ≡ rest ++ place ∷ [])
+      × IsVisit place (record { left = rest; firsts = old.firsts }) visit next × WalksTo next visits new
+
+module _ {T : Type 0} (does : T → Asked → T → Type 0) where
+  -- the target put all that a reader had left behind the bytes of the open file
+  abbrev pub Pours : Option (List ℕ) → T → T → Type 0
+  Pours left old new = (pieces : List (List ℕ)) × ArePieces left pieces × DoesAll does old (map Piece pieces) new
+
+module _ {T : Type 0} (tells : Told → Type 0) (does : T → Asked → T → Type 0) where
+  -- the target made a file of what can be read of it
+  abbrev pub CopiesFile : List ℕ → ℕ → T → T → Type 0
+  CopiesFile path node old new = (pieces : List (List ℕ)) × IsRead tells path node pieces × DoesAll does old (made path pieces) new
+
+  -- a file was visited, and the target did what it was asked for
+  abbrev pub VisitsFile : Place → FileFacts → Standing → Standing → T → T → Type 0
+  VisitsFile place facts walk next old new = (visit : Visit) × IsFileVisit tells place facts walk visit next × DoesAll does old (asked_of visit) new
+
+  -- the same, whatever stands there
+  abbrev pub Visits : Place → Standing → Standing → T → T → Type 0
+  Visits place walk next old new = (visit : Visit) × IsVisit tells place walk visit next × DoesAll does old (asked_of visit) new
+
+  -- all that was left was visited
+  abbrev pub VisitsAll : Standing → T → T → Type 0
+  VisitsAll walk old new =
+      (visits : List Visit) × (done : Standing) × WalksTo tells walk visits done × (done.left ≡ []) × DoesAll does old (flat_map asked_of visits) new
+
+  -- the target has started, and the root is entered
+  abbrev pub Begins : Standing → Standing → T → T → Type 0
+  Begins walk next old new = does old Start new × Enters tells [] ROOT walk next
+
+  -- A whole tree was copied. What was visited is what the source told, from the root on, each place in its turn, until none was left; and for just that the target was asked, between its start and its finish.
+  pub record Copies (old new : T) : Type 0 where
+    pub begun : Standing
+    pub visits : List Visit
+    pub done : Standing
+    pub root : Enters tells [] ROOT nothing begun
+    pub walk : WalksTo tells begun visits done
+    pub all : done.left ≡ []
+    pub did : DoesAll does old (Start ∷ flat_map asked_of visits ++ Finish ∷ []) new
+
+module _ {T : Type 0} (does fails : T → Asked → T → Type 0) where
+  -- A target did some things, and then nothing more, or failed at one. It has not finished.
+  abbrev pub Reaches : T → T → Type 0
+  Reaches old new =
+      (front : List Asked) × (middle : T) × IsUnfinished front × DoesAll does old front middle
+      × ((new ≡ middle) ⊎ ((asked : Asked) × fails middle asked new))
+
+  -- The same, and then it has given up.
+  abbrev pub GivesUp : T → T → Type 0
+  GivesUp old new = (middle : T) × Reaches old middle × does middle GiveUp new

@@ -1,0 +1,81 @@
+-- The walk over what a source tells: which place is visited when.
+use Rattle.std.specs.Prelude.{◌≡◌, ◌⊎◌, ◌==◌, ◌&&◌, ◌||◌, ◌<◌, ◌≤◌, nat_eq, ℕ, Bool, List, [], ◌∷◌, ◌++◌, codes, length, Option, None, Some, if◌then◌else◌}
+use Rattle.std.specs.List.{concat, ends_with}
+use Rattle.std.specs.List.Sorted.{IsPermutation, IsSorted}
+use Rattle.std.specs.Ordering.{nat_cmp, ordering_then}
+use Rattle.std.specs.declared.cmp.Ordering.{Ordering}
+use Rattle.std.specs.Cmp.Lexicographic.{slice_cmp}
+use Rattle.std.specs.Map.{lookup}
+use Rattle.std.specs.Io.KnownBytes.{Consumes, IsAtEnd}
+use Rattle.ft_body.specs.declared.TheConstants.{SIZE_LIMIT}
+use Rattle.ft_path.specs.declared.TheConstants.{LONGEST_PATH}
+use Rattle.ft_posix.specs.declared.TheConstants.{MOST_LINKS}
+use Rattle.ft_copy.specs.declared.firsts.Firsts.{Firsts}
+use Rattle.ft_copy.specs.declared.found.FileFacts.{FileFacts}
+use Rattle.ft_copy.specs.declared.found.FileId.{FileId}
+use Rattle.ft_copy.specs.declared.found.Found.{Found}
+use Rattle.ft_copy.specs.declared.found.Found.TheVariants.{Folder, File, Special}
+use Rattle.ft_copy.specs.declared.found.Listed.{Listed}
+use Rattle.ft_copy.specs.declared.found.Place.{Place}
+use Rattle.ft_copy.specs.declared.walk.Walk.{Walk}
+use Rattle.ft_copy.specs.Told.{Told, Lists, Finds, Holds, Omits}
+
+-- ---- files that were met
+
+abbrev pub same_file : FileId → FileId → Bool
+same_file one other = (one.device == other.device) && (one.number == other.number)
+
+-- where each file with more than one name was met first, if it was
+abbrev pub FirstPaths : Type 0
+FirstPaths = FileId → Option (List ℕ)
+
+abbrev pub with_first : FileId → List ℕ → FirstPaths → FirstPaths
+with_first id path firsts other = if same_file id other then Some path else firsts other
+
+abbrev pub firsts_of : Firsts → FirstPaths
+firsts_of firsts id = lookup (same_file id) firsts.paths.entries
+
+-- ---- what is still to be visited
+
+-- The places that are left, of which the last is visited next.
+pub record Standing : Type 0 where
+  pub left : List Place
+  pub firsts : FirstPaths
+
+abbrev pub standing : Walk → Standing
+standing walk = record { left = walk.left.items; firsts = firsts_of walk.firsts }
+
+abbrev pub nothing : Standing
+nothing = record { left = []; firsts = λ _. None }
+
+-- where a name of a directory leads
+abbrev pub child : List ℕ → Listed → Place
+child path listed = record { path = path ++ 47 ∷ listed.name; node = listed.node }
+
+-- where the names of a directory lead, the first of them as the last
+abbrev pub above : List ℕ → List Listed → List Place
+above path [] = []
+above path (listed ∷ more) = above path more ++ child path listed ∷ []
+
+-- names are in the order of their bytes
+abbrev pub name_order : Listed → Listed → Ordering
+name_order one other = ordering_then (slice_cmp nat_cmp one.name other.name) (nat_cmp one.node other.node)
+
+-- the last name is `.` or `..`
+abbrev pub is_dotted : List ℕ → Bool
+is_dotted path = ends_with nat_eq path (codes "/.") || ends_with nat_eq path (codes "/..")
+
+-- these pieces are what a reader had left
+abbrev pub ArePieces : Option (List ℕ) → List (List ℕ) → Type 0
+ArePieces left pieces = (after : Option (List ℕ)) × Consumes left after (concat pieces) × IsAtEnd after
+
+module _ (tells : Told → Type 0) where
+  -- The names of a directory, in the order of their bytes, come before all that was left.
+  abbrev pub Enters : List ℕ → ℕ → Standing → Standing → Type 0
+  Enters path node old new =
+      (told : List Listed) × (names : List Listed) × tells (Lists path node told) × IsPermutation told names × IsSorted name_order names
+      × (new ≡ record { left = old.left ++ above path names; firsts = old.firsts })
+
+  -- the bytes of a file, in pieces
+  abbrev pub IsRead : List ℕ → ℕ → List (List ℕ) → Type 0
+  IsRead path node pieces = (opened : Option (List ℕ)) × tells (Holds path node opened) × ArePieces opened pieces

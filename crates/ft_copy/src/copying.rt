@@ -1,0 +1,175 @@
+// The copy of a tree.
+ghost use Rattle.std.specs.Prelude.{◌≡◌, OnOk, OnErr};
+ghost use Rattle.ft_copy.specs.Runs.{Begins, Copies, GivesUp, Reaches, Visits, VisitsAll, VisitsFile};
+ghost use Rattle.ft_copy.specs.Walks.{is_dotted, standing};
+
+use crate::file::copy_file;
+use crate::firsts::Firsts;
+use crate::found::{FileFacts, Found, Place, ROOT};
+use crate::source::Source;
+use crate::target::Target;
+use crate::trouble::{Stopped, Trouble};
+use crate::walk::{Walk, enter};
+use ft_base::Sequence;
+use ft_body::SIZE_LIMIT;
+use ft_path::LONGEST_PATH;
+use ft_posix::MOST_LINKS;
+use std::alloc::Global;
+
+/// Copies what a source tells of to a target: each directory before what stands in it, the names of
+/// a directory in the order of their bytes, a file by its bytes where it is met first and as a link
+/// where it is met again. What a tree has no place for is refused, unless the source leaves it out.
+///
+/// Where something fails, the target is asked to give up, and for nothing more.
+pub fn copy<S: Source, T: Target>(alloc: Global, source: &S, target: &mut T) -> Result<(), Stopped>
+    ensures ok { OnOk result (Copies (S.tells source.now) T.does target.old target.new) }
+    ensures err { OnErr result (GivesUp T.does T.fails target.old target.new) }
+{
+    match copy_whole(alloc, source, target) {
+        Ok(()) => Ok(()),
+        Err(stopped) => {
+            target.give_up();
+            Err(stopped)
+        }
+    }
+}
+
+// The same, but for giving up.
+fn copy_whole<S: Source, T: Target>(
+    alloc: Global,
+    source: &S,
+    target: &mut T,
+) -> Result<(), Stopped>
+    ensures ok { OnOk result (Copies (S.tells source.now) T.does target.old target.new) }
+    ensures err { OnErr result (Reaches T.does T.fails target.old target.new) }
+{
+    let mut walk = Walk {
+        alloc,
+        left: Vec::new(alloc),
+        firsts: Firsts::new(alloc),
+    };
+    if let Err(trouble) = begin(source, target, &mut walk) {
+        return Err(at_root(alloc, trouble));
+    }
+    visit_all(source, target, &mut walk)?;
+    match target.finish() {
+        Ok(()) => Ok(()),
+        Err(trouble) => Err(at_root(alloc, trouble)),
+    }
+}
+
+// What stopped a copy at the root.
+fn at_root(alloc: Global, trouble: Trouble) -> Stopped {
+    Stopped {
+        trouble,
+        path: Sequence::new(alloc),
+    }
+}
+
+// Starts the target, and enters the root.
+fn begin<S: Source, T: Target>(source: &S, target: &mut T, walk: &mut Walk) -> Result<(), Trouble>
+    ensures ok { OnOk result (Begins (S.tells source.now) T.does (standing walk.old) (standing walk.new) target.old target.new) }
+    ensures err { OnErr result (Reaches T.does T.fails target.old target.new) }
+{
+    target.start()?;
+    enter(source, walk, b"".as_slice(), ROOT)
+}
+
+// Visits all that is left.
+fn visit_all<S: Source, T: Target>(
+    source: &S,
+    target: &mut T,
+    walk: &mut Walk,
+) -> Result<(), Stopped>
+    ensures ok { OnOk result (VisitsAll (S.tells source.now) T.does (standing walk.old) target.old target.new) }
+    ensures err { OnErr result (Reaches T.does T.fails target.old target.new) }
+{
+    let mut turns = u64::MAX;
+    while turns > 0 {
+        turns -= 1;
+        let Some(place) = walk.left.pop() else {
+            return Ok(());
+        };
+        match visit(source, target, walk, &place) {
+            Ok(()) => {}
+            Err(trouble) => {
+                return Err(Stopped {
+                    trouble,
+                    path: place.path,
+                });
+            }
+        }
+    }
+    Err(at_root(walk.alloc, Trouble::Full))
+}
+
+// Visits one place.
+fn visit<S: Source, T: Target>(
+    source: &S,
+    target: &mut T,
+    walk: &mut Walk,
+    place: &Place,
+) -> Result<(), Trouble>
+    ensures ok { OnOk result (Visits (S.tells source.now) T.does place.now (standing walk.old) (standing walk.new) target.old target.new) }
+    ensures err { OnErr result (Reaches T.does T.fails target.old target.new) }
+{
+    let path = place.path.as_slice();
+    if is_dotted(path) {
+        return Err(Trouble::BadName);
+    }
+    if path.len() > LONGEST_PATH {
+        return Err(Trouble::PathTooLong);
+    }
+    match source.look(path, place.node)? {
+        Found::Folder => {
+            target.folder(path)?;
+            enter(source, walk, path, place.node)
+        }
+        Found::File(facts) => visit_file(source, target, walk, place, &facts),
+        Found::Special => {
+            if source.omits(path)? {
+                Ok(())
+            } else {
+                Err(Trouble::Special)
+            }
+        }
+    }
+}
+
+// Visits a file.
+fn visit_file<S: Source, T: Target>(
+    source: &S,
+    target: &mut T,
+    walk: &mut Walk,
+    place: &Place,
+    facts: &FileFacts,
+) -> Result<(), Trouble>
+    ensures ok { OnOk result (VisitsFile (S.tells source.now) T.does place.now facts.now (standing walk.old) (standing walk.new) target.old target.new) }
+    ensures err { OnErr result (Reaches T.does T.fails target.old target.new) }
+{
+    let path = place.path.as_slice();
+    if facts.links > MOST_LINKS {
+        return Err(Trouble::TooManyLinks);
+    }
+    if facts.size > SIZE_LIMIT {
+        return Err(Trouble::TooLarge);
+    }
+    if facts.links <= 1 {
+        return copy_file(walk.alloc, source, target, path, place.node);
+    }
+    match walk.firsts.get(facts.id) {
+        Some(first) => target.link(first.as_slice(), path),
+        None => {
+            let first = Vec::from_slice(walk.alloc, path)?;
+            walk.firsts.insert(facts.id, first.into())?;
+            copy_file(walk.alloc, source, target, path, place.node)
+        }
+    }
+}
+
+// Whether the last name of a path is `.` or `..`, which lead elsewhere.
+fn is_dotted(path: &[u8]) -> bool
+    ensures { result ≡ is_dotted path.now }
+{
+    path.ends_with(b"/.".as_slice()) || path.ends_with(b"/..".as_slice())
+}

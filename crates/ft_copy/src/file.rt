@@ -1,0 +1,74 @@
+// A file, copied piece by piece.
+ghost use Rattle.std.specs.Prelude.{◌≡◌, ◌≤◌, ℕ, List, take, vec_len, length, OnOk, OnErr, IfOk};
+ghost use Rattle.std.specs.Io.{ReadsAtMost};
+ghost use Rattle.std.specs.Io.KnownBytes.{Consumes, IsAtEnd};
+ghost use Rattle.ft_copy.specs.Asked.{Piece};
+ghost use Rattle.ft_copy.specs.Runs.{CopiesFile, Pours, Reaches};
+
+use crate::source::Source;
+use crate::target::Target;
+use crate::trouble::Trouble;
+use ft_body::SIZE_LIMIT;
+use std::alloc::{AllocError, Global};
+use std::io::{ErrorKind, Read};
+
+/// The most bytes of a piece in which a file is copied.
+pub const PIECE: usize = 65_536;
+
+/// Copies a file. One that turns out to have more than `SIZE_LIMIT` bytes is refused.
+pub(crate) fn copy_file<S: Source, T: Target>(
+    alloc: Global,
+    source: &S,
+    target: &mut T,
+    path: &[u8],
+    node: u64,
+) -> Result<(), Trouble>
+    ensures ok { OnOk result (CopiesFile (S.tells source.now) T.does path.now node target.old target.new) }
+    ensures err { OnErr result (Reaches T.does T.fails target.old target.new) }
+{
+    let mut file = source.open(path, node)?;
+    target.open(path)?;
+    pour(alloc, &mut file, target)?;
+    target.close()
+}
+
+// Puts all that a reader has left into the open file.
+fn pour<R: Read, T: Target>(alloc: Global, file: &mut R, target: &mut T) -> Result<(), Trouble>
+    ensures ok { OnOk result (Pours T.does (R.remaining file.old) target.old target.new) }
+    ensures err { OnErr result (Reaches T.does T.fails target.old target.new) }
+{
+    let mut room = room_for_piece(alloc)?;
+    let piece = room.as_mut_slice();
+    let mut left = SIZE_LIMIT as usize;
+    loop {
+        let count = read_piece(file, piece)?;
+        if count == 0 {
+            return Ok(());
+        }
+        if count > left {
+            return Err(Trouble::TooLarge);
+        }
+        left -= count;
+        target.piece(&piece[..count])?;
+    }
+}
+
+// Room for the bytes of one read.
+fn room_for_piece(alloc: Global) -> Result<Vec<u8>, AllocError>
+    ensures { IfOk result (λ room. vec_len room ≡ PIECE) }
+{
+    vec![in alloc; 0; PIECE]
+}
+
+// One read. Want of memory is told apart from other faults.
+fn read_piece<R: Read>(file: &mut R, piece: &mut [u8]) -> Result<usize, Trouble>
+    ensures bound { ReadsAtMost result piece.new }
+    ensures bytes { IfOk result (λ n. Consumes (R.remaining file.old) (R.remaining file.new) (take n piece.new)) }
+    ensures end { IfOk result (λ n. n ≡ 0 → 1 ≤ length piece.old → IsAtEnd (R.remaining file.new)) }
+{
+    match file.read(piece) {
+        Ok(count) => Ok(count),
+        Err(error) if error.kind() == ErrorKind::OutOfMemory => Err(Trouble::Memory),
+        Err(_) => Err(Trouble::Read),
+    }
+}

@@ -1,0 +1,68 @@
+// Why a copy was not made.
+use ft_base::{Memory, Sequence};
+use std::alloc::{AllocError, AllocFailed};
+use thiserror::Error;
+
+/// Why a copy was not made.
+#[derive(Clone, Copy, Debug, PartialEq, Eq, Error)]
+pub enum Trouble {
+    /// There was no memory.
+    #[error("Memory")]
+    Memory,
+    /// The source could not be read.
+    #[error("Read")]
+    Read,
+    /// The target could not be written.
+    #[error("Write")]
+    Write,
+    /// There is a symbolic link, a device, a FIFO or a socket.
+    #[error("Special")]
+    Special,
+    /// A file has more bytes than a file may have.
+    #[error("TooLarge")]
+    TooLarge,
+    /// A file has more names than a file may have.
+    #[error("TooManyLinks")]
+    TooManyLinks,
+    /// A path has more bytes than a path may have.
+    #[error("PathTooLong")]
+    PathTooLong,
+    /// A name is none that a tree can have, or that the target can make.
+    #[error("BadName")]
+    BadName,
+    /// What is told is no tree: a directory has two names, or a name leads to nothing.
+    #[error("BadTree")]
+    BadTree,
+    /// What is to be made is there already.
+    #[error("Exists")]
+    Exists,
+    /// There are more calls than a core grants between two checkpoints.
+    #[error("Full")]
+    Full,
+}
+
+/// Why a copy was not made, and the path at which it came. The path is empty where it came at the
+/// root, or before the first file or behind the last.
+#[derive(Debug, PartialEq, Eq, Drop)]
+pub struct Stopped {
+    pub trouble: Trouble,
+    pub path: Sequence<u8>,
+}
+
+impl From<Memory> for Trouble {
+    fn from(_error: Memory) -> Trouble {
+        Trouble::Memory
+    }
+}
+
+impl From<AllocError> for Trouble {
+    fn from(_error: AllocError) -> Trouble {
+        Trouble::Memory
+    }
+}
+
+impl<T: Drop> From<AllocFailed<T>> for Trouble {
+    fn from(_error: AllocFailed<T>) -> Trouble {
+        Trouble::Memory
+    }
+}

@@ -1,0 +1,61 @@
+// The walk over a source: what is still to be visited.
+ghost use Rattle.std.specs.Prelude.{◌≡◌, ◌++◌, OnOk, IfOk};
+ghost use Rattle.ft_copy.specs.Walks.{Enters, above, child, standing};
+
+use crate::firsts::Firsts;
+use crate::found::{Listed, Place};
+use crate::source::Source;
+use crate::trouble::Trouble;
+use ft_base::Memory;
+use std::alloc::Global;
+
+/// What is still to be visited, the next at the end, and the files with more than one name that were
+/// copied already.
+#[derive(Drop)]
+pub(crate) struct Walk {
+    pub(crate) alloc: Global,
+    pub(crate) left: Vec<Place>,
+    pub(crate) firsts: Firsts,
+}
+
+/// Puts what stands in a directory on top of what is still to be visited, in the order of the bytes
+/// of its names.
+pub(crate) fn enter<S: Source>(
+    source: &S,
+    walk: &mut Walk,
+    path: &[u8],
+    node: u64,
+) -> Result<(), Trouble>
+    ensures { OnOk result (Enters (S.tells source.now) path.now node (standing walk.old) (standing walk.new)) }
+{
+    let mut names = source.names(path, node)?;
+    names.sort_unstable();
+    put_on_top(walk, path, names)?;
+    Ok(())
+}
+
+// Puts the names of a directory on top, the first of them as the next.
+fn put_on_top(walk: &mut Walk, path: &[u8], names: Vec<Listed>) -> Result<(), Memory>
+    ensures left { OnOk result (walk.new.left.items ≡ walk.old.left.items ++ above path.now names.items) }
+    ensures firsts { walk.new.firsts ≡ walk.old.firsts }
+{
+    let mut names = names;
+    while let Some(listed) = names.pop() {
+        let place = place_of(walk.alloc, path, &listed)?;
+        walk.left.push(place)?;
+    }
+    Ok(())
+}
+
+// Where a name of a directory leads.
+fn place_of(alloc: Global, path: &[u8], listed: &Listed) -> Result<Place, Memory>
+    ensures { IfOk result (λ place. place ≡ child path.now listed.now) }
+{
+    let mut bytes = Vec::from_slice(alloc, path)?;
+    bytes.push(b'/')?;
+    bytes.extend_from_slice(listed.name.as_bytes())?;
+    Ok(Place {
+        path: bytes.into(),
+        node: listed.node,
+    })
+}

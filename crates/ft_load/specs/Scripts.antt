@@ -1,0 +1,66 @@
+-- The text of a script that makes what it is asked for.
+use Rattle.std.specs.Prelude.{◌≡◌, ℕ, suc, true, false, List, [], ◌∷◌, ◌++◌, codes, Option}
+use Rattle.std.specs.Io.KnownBytes.{Appends}
+use Rattle.ft_cells.specs.declared.open_file.AccessMode.TheVariants.{WriteOnly}
+use Rattle.ft_posix.specs.declared.call.Call.{Call}
+use Rattle.ft_posix.specs.declared.call.Call.TheVariants as calls
+use Rattle.ft_words.specs.CallTexts.{call_text}
+use Rattle.ft_copy.specs.Asked.{Asked, Start, Folder, Open, Piece, Close, Link, Finish, GiveUp}
+
+-- a call of transaction 1, on its line
+abbrev pub call_line : Call → List ℕ
+call_line call = codes "1 " ++ call_text call ++ 10 ∷ []
+
+-- What is written for each thing that is asked for, where the next call has the stamp `next`, and `fd` is the descriptor of the open file.
+abbrev pub text_at : Asked → ℕ → ℕ → List ℕ
+text_at Start next fd = codes "begin" ++ 10 ∷ []
+text_at (Folder path) next fd = call_line (calls.Mkdir path)
+text_at (Open path) next fd = call_line (calls.Open path WriteOnly true true false false)
+text_at (Piece bytes) next fd = call_line (calls.Write fd bytes)
+text_at Close next fd = call_line (calls.Close fd)
+text_at (Link first path) next fd = call_line (calls.Link first path)
+text_at Finish next fd = codes "commit 1" ++ 10 ∷ []
+text_at GiveUp next fd = []
+
+-- the stamp of the next call after it
+abbrev pub next_after : Asked → ℕ → ℕ
+next_after Start next = next
+next_after (Folder path) next = suc next
+next_after (Open path) next = suc next
+next_after (Piece bytes) next = suc next
+next_after Close next = suc next
+next_after (Link first path) next = suc next
+next_after Finish next = next
+next_after GiveUp next = next
+
+-- the descriptor of the open file after it: the stamp of the call that has opened it
+abbrev pub fd_after : Asked → ℕ → ℕ → ℕ
+fd_after Start next fd = fd
+fd_after (Folder path) next fd = fd
+fd_after (Open path) next fd = next
+fd_after (Piece bytes) next fd = fd
+fd_after Close next fd = fd
+fd_after (Link first path) next fd = fd
+fd_after Finish next fd = fd
+fd_after GiveUp next fd = fd
+
+-- the text of one thing after another
+abbrev pub text_of : List Asked → ℕ → ℕ → List ℕ
+text_of [] next fd = []
+text_of (first ∷ more) next fd = text_at first next fd ++ text_of more (next_after first next) (fd_after first next fd)
+
+-- The script that makes what it is asked for, on a core that is new: its first call has stamp 2.
+abbrev pub script_text : List Asked → List ℕ
+script_text asked = text_of asked 2 0
+
+-- the text was written
+abbrev pub Says : List ℕ → Option (List ℕ) → Option (List ℕ) → Type 0
+Says text held held_after = Appends held held_after text
+
+-- a call was written, which takes the next stamp
+abbrev pub AsksFor : Call → ℕ → Option (List ℕ) → ℕ → Option (List ℕ) → Type 0
+AsksFor call next held next_after held_after = Appends held held_after (call_line call) × (next_after ≡ suc next)
+
+-- what is written for one thing, and what comes next
+abbrev pub Scripts : Asked → ℕ → ℕ → Option (List ℕ) → ℕ → ℕ → Option (List ℕ) → Type 0
+Scripts asked next fd held next_now fd_now held_now = Appends held held_now (text_at asked next fd) × (next_now ≡ next_after asked next) × (fd_now ≡ fd_after asked next fd)

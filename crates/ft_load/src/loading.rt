@@ -1,0 +1,29 @@
+// A tree of directories, written as a script.
+ghost use Rattle.std.specs.Prelude.{IfOk};
+ghost use Rattle.ft_load.specs.Loads.{Loads};
+
+use crate::script::Script;
+use ft_copy::{Source, Stopped, copy};
+use std::alloc::Global;
+use std::io::Write;
+
+/// Writes a script of one transaction that makes what a source tells of. It is for a core that is
+/// new.
+///
+/// The transaction is number 1. Each directory is made before what stands in it, the names of a
+/// directory in the order of their bytes. A file is opened where it is met first, written in the
+/// pieces in which it was read, and closed; where it is met again it gets a further name by a link.
+///
+/// The writer is handed back. Where something fails, a part of the script was written, and its transaction does not commit.
+pub fn load<S: Source, W: Write + Drop>(alloc: Global, source: &S, writer: W) -> Result<W, Stopped>
+    ensures { IfOk result (λ after. Loads (S.tells source.now) (W.contents writer) (W.contents after)) }
+{
+    let mut script = Script {
+        alloc,
+        writer,
+        next: 2,
+        fd: 0,
+    };
+    copy(alloc, source, &mut script)?;
+    Ok(script.writer)
+}

@@ -1,0 +1,89 @@
+// A directory on disk as a source.
+use ft_copy::{FileFacts, FileId, Found, Listed, Source, Trouble, name_of};
+use ft_script::write_out;
+use ft_words::Coded;
+use std::fs::{File, Metadata};
+use std::io::ErrorKind;
+use std::os::unix::fs::MetadataExt;
+use std::{fs, io, str};
+
+/// A directory on disk, which is read and never written. Symbolic links are not followed.
+#[derive(Drop)]
+pub struct DiskSource<'a> {
+    pub rt: &'a HostRuntime,
+    pub dir: &'a str,
+    /// Whether what a tree has no place for is left out, and told on standard error.
+    pub skip: bool,
+}
+
+impl DiskSource<'_> {
+    // Where a path of the tree stands on disk. A path that is no text has no place there.
+    fn place(&self, path: &[u8]) -> Result<String, Trouble> {
+        let Ok(path) = str::from_utf8(path) else {
+            return Err(Trouble::BadName);
+        };
+        Ok(format!(in self.rt.alloc(); "{}{path}", self.dir)?)
+    }
+}
+
+impl Source for DiskSource<'_> {
+    type File = File;
+
+    fn names(&self, path: &[u8], _node: u64) -> Result<Vec<Listed>, Trouble> {
+        let alloc = self.rt.alloc();
+        let place = self.place(path)?;
+        let mut names = Vec::new(alloc);
+        for entry in fs::read_dir(self.rt, place.as_str()).map_err(trouble_of)? {
+            let entry = entry.map_err(trouble_of)?;
+            let name = name_of(alloc, entry.file_name().as_bytes())?;
+            names.push(Listed { name, node: 0 })?;
+        }
+        Ok(names)
+    }
+
+    fn look(&self, path: &[u8], _node: u64) -> Result<Found, Trouble> {
+        let place = self.place(path)?;
+        let metadata = fs::symlink_metadata(self.rt, place.as_str()).map_err(trouble_of)?;
+        Ok(found(&metadata))
+    }
+
+    fn open(&self, path: &[u8], _node: u64) -> Result<File, Trouble> {
+        let place = self.place(path)?;
+        File::open(self.rt, place.as_str()).map_err(trouble_of)
+    }
+
+    fn omits(&self, path: &[u8]) -> Result<bool, Trouble> {
+        if self.skip {
+            let line = format!(in self.rt.alloc(); "left out: {}\n", Coded(path))?;
+            let _ = write_out(&mut self.rt.stderr(), line.as_bytes());
+        }
+        Ok(self.skip)
+    }
+}
+
+// What the system tells of what stands somewhere.
+fn found(metadata: &Metadata) -> Found {
+    if metadata.is_dir() {
+        return Found::Folder;
+    }
+    if !metadata.is_file() {
+        return Found::Special;
+    }
+    Found::File(FileFacts {
+        id: FileId {
+            device: metadata.dev(),
+            number: metadata.ino(),
+        },
+        links: metadata.nlink(),
+        size: metadata.len(),
+    })
+}
+
+// Why a read failed. The kit's library gives names that are UTF-8 text alone.
+fn trouble_of(error: io::Error) -> Trouble {
+    match error.kind() {
+        ErrorKind::OutOfMemory => Trouble::Memory,
+        ErrorKind::InvalidFilename => Trouble::BadName,
+        _ => Trouble::Read,
+    }
+}

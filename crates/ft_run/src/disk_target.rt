@@ -1,0 +1,130 @@
+// A directory on disk as a target.
+use ft_copy::{Target, Trouble};
+use std::fs::{File, OpenOptions};
+use std::io::{ErrorKind, Write};
+use std::{fs, io, str};
+
+// How many names beside the directory are tried.
+const MOST_TRIES: u32 = 1_000;
+
+/// A directory that is to be made on disk. It is made under another name beside its place, and gets
+/// its own when it is whole.
+#[derive(Drop)]
+pub struct DiskTarget<'a> {
+    rt: &'a HostRuntime,
+    // where it is to stand, without slashes behind it
+    dir: &'a str,
+    // where it stands until it is whole, once it was begun
+    beside: Option<String>,
+    // the file that is open
+    file: Option<File>,
+}
+
+impl<'a> DiskTarget<'a> {
+    /// Nothing is made yet.
+    pub fn new(rt: &'a HostRuntime, dir: &'a str) -> DiskTarget<'a> {
+        DiskTarget {
+            rt,
+            dir: dir.trim_end_matches('/'),
+            beside: None,
+            file: None,
+        }
+    }
+
+    // Where a path of the tree stands until the directory is whole.
+    fn place(&self, path: &[u8]) -> Result<String, Trouble> {
+        let Ok(path) = str::from_utf8(path) else {
+            return Err(Trouble::BadName);
+        };
+        match &self.beside {
+            Some(beside) => Ok(format!(in self.rt.alloc(); "{beside}{path}")?),
+            None => Err(Trouble::Write),
+        }
+    }
+
+    // Whether something stands where the directory is to stand.
+    fn is_taken(&self) -> bool {
+        self.dir.is_empty() || fs::symlink_metadata(self.rt, self.dir).is_ok()
+    }
+}
+
+impl Target for DiskTarget<'_> {
+    fn start(&mut self) -> Result<(), Trouble> {
+        if self.is_taken() {
+            return Err(Trouble::Exists);
+        }
+        for number in 0..MOST_TRIES {
+            let beside = format!(in self.rt.alloc(); "{}.part{number}", self.dir)?;
+            match fs::create_dir(self.rt, beside.as_str()) {
+                Ok(()) => {
+                    self.beside = Some(beside);
+                    return Ok(());
+                }
+                Err(error) if error.kind() == ErrorKind::AlreadyExists => {}
+                Err(error) => return Err(trouble_of(error)),
+            }
+        }
+        Err(Trouble::Exists)
+    }
+
+    fn folder(&mut self, path: &[u8]) -> Result<(), Trouble> {
+        let place = self.place(path)?;
+        fs::create_dir(self.rt, place.as_str()).map_err(trouble_of)
+    }
+
+    fn open(&mut self, path: &[u8]) -> Result<(), Trouble> {
+        let place = self.place(path)?;
+        let file = OpenOptions::new()
+            .write(true)
+            .create_new(true)
+            .open(self.rt, place.as_str())
+            .map_err(trouble_of)?;
+        self.file = Some(file);
+        Ok(())
+    }
+
+    fn piece(&mut self, bytes: &[u8]) -> Result<(), Trouble> {
+        match &mut self.file {
+            Some(file) => file.write_all(bytes).map_err(trouble_of),
+            None => Err(Trouble::Write),
+        }
+    }
+
+    fn close(&mut self) -> Result<(), Trouble> {
+        self.file = None;
+        Ok(())
+    }
+
+    fn link(&mut self, first: &[u8], path: &[u8]) -> Result<(), Trouble> {
+        let first = self.place(first)?;
+        let place = self.place(path)?;
+        fs::hard_link(self.rt, first.as_str(), place.as_str()).map_err(trouble_of)
+    }
+
+    fn finish(&mut self) -> Result<(), Trouble> {
+        if self.is_taken() {
+            return Err(Trouble::Exists);
+        }
+        let place = self.place(b"".as_slice())?;
+        fs::rename(self.rt, place.as_str(), self.dir).map_err(trouble_of)?;
+        self.beside = None;
+        Ok(())
+    }
+
+    fn give_up(&mut self) {
+        self.file = None;
+        if let Some(beside) = &self.beside {
+            let _ = fs::remove_dir_all(self.rt, beside.as_str());
+        }
+        self.beside = None;
+    }
+}
+
+// Why something could not be made.
+fn trouble_of(error: io::Error) -> Trouble {
+    match error.kind() {
+        ErrorKind::OutOfMemory => Trouble::Memory,
+        ErrorKind::InvalidFilename => Trouble::BadName,
+        _ => Trouble::Write,
+    }
+}

@@ -1,0 +1,69 @@
+-- How a report of what the tree holds is read from the lines of replies, and which one is the last.
+use Rattle.std.specs.Prelude.{◌==◌, ℕ, zero, suc, List, [], ◌∷◌, codes, length, if◌then◌else◌, Option, None, Some, option_and_then, option_map}
+use Rattle.std.specs.Str.{bytes_eq}
+use Rattle.percent_encoding.specs.Percent.{percent_decode}
+use Rattle.ft_words.specs.Spelling.{words_of, number_of}
+use Rattle.ft_words.specs.Calls.{both, last_word, only, only_word, three}
+use Rattle.ft_dot.specs.Reading.{behind}
+use Rattle.ft_save.specs.declared.row.Row.{Row}
+use Rattle.ft_save.specs.declared.row.Row.TheVariants.{Folder, Edge, File, Descriptor}
+
+-- `tree N`
+abbrev pub count_of : List (List ℕ) → Option ℕ
+count_of words = option_and_then (only number_of) (behind (codes "tree") words)
+
+-- ---- rows, by the words behind their names
+
+-- `NODE`
+abbrev pub folder_of : List (List ℕ) → Option Row
+folder_of words = option_map Folder (only number_of words)
+
+-- `FOLDER NAME NODE`
+abbrev pub edge_of : List (List ℕ) → Option Row
+edge_of words = option_map (λ e. Edge e.0 (percent_decode e.1) e.2) (three number_of Some (only number_of) words)
+
+-- a file has as many bytes as are told
+abbrev pub sized : ℕ → ℕ → List ℕ → Option Row
+sized node size bytes = if length bytes == size then Some (File node bytes) else None
+
+-- `NODE SIZE DATA`, where the data may be absent with its space
+abbrev pub file_of : List (List ℕ) → Option Row
+file_of words = option_and_then (λ f. sized f.0 f.1 (percent_decode f.2)) (three number_of number_of last_word words)
+
+-- `FD FILE ACCESS OFFSET`
+abbrev pub fd_of : List (List ℕ) → Option Row
+fd_of words = option_map (λ f. Descriptor) (three number_of number_of (both Some (only number_of)) words)
+
+-- the row that words tell
+abbrev pub row_by : List ℕ → List (List ℕ) → Option Row
+row_by word words =
+    if bytes_eq word (codes "dir") then folder_of words
+    else (if bytes_eq word (codes "edge") then edge_of words
+    else (if bytes_eq word (codes "file") then file_of words
+    else (if bytes_eq word (codes "fd") then fd_of words else None)))
+
+abbrev pub row_of : List (List ℕ) → Option Row
+row_of [] = None
+row_of (word ∷ words) = row_by word words
+
+-- ---- reports
+
+-- lines that begin with so many rows
+abbrev pub rows_of : ℕ → List (List ℕ) → Option (List Row)
+rows_of zero lines = Some []
+rows_of (suc count) [] = None
+rows_of (suc count) (line ∷ lines) = option_and_then (λ row. option_map (λ rows. row ∷ rows) (rows_of count lines)) (row_of (words_of line))
+
+-- a report with which lines begin: `tree N` and N rows
+abbrev pub tree_at : List ℕ → List (List ℕ) → Option (List Row)
+tree_at line lines = option_and_then (λ count. rows_of count lines) (count_of (words_of line))
+
+-- one of two, the second where it is there
+abbrev pub later : {A : Type 0} → Option A → Option A → Option A
+later first None = first
+later first (Some other) = Some other
+
+-- The rows of the last report among the lines of replies.
+abbrev pub last_tree : List (List ℕ) → Option (List Row)
+last_tree [] = None
+last_tree (line ∷ lines) = later (tree_at line lines) (last_tree lines)

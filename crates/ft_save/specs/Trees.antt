@@ -1,0 +1,98 @@
+-- The tree that the rows of a report tell of.
+use Rattle.std.specs.Prelude.{◌≡◌, ◌==◌, ℕ, Bool, true, false, List, [], ◌∷◌, ◌++◌, is_some, length, map, if◌then◌else◌, Option, None, Some}
+use Rattle.std.specs.Option.{unwrap_or}
+use Rattle.std.specs.FinMap as finite
+use Rattle.ft_posix.specs.declared.TheConstants.{MOST_LINKS}
+use Rattle.ft_copy.specs.declared.found.TheConstants.{ROOT}
+use Rattle.ft_copy.specs.declared.found.FileFacts.{FileFacts}
+use Rattle.ft_copy.specs.declared.found.Found.{Found}
+use Rattle.ft_copy.specs.declared.found.Found.TheVariants as found
+use Rattle.ft_copy.specs.declared.found.Listed.{Listed}
+use Rattle.ft_copy.specs.Told.{Told, Lists, Finds, Holds, Omits}
+use Rattle.ft_save.specs.declared.row.Row.{Row}
+use Rattle.ft_save.specs.declared.row.Row.TheVariants.{Folder, Edge, File, Descriptor}
+use Rattle.ft_save.specs.declared.index.Edge.{Edge as IndexEdge}
+use Rattle.ft_save.specs.declared.index.Index.{Index}
+
+-- ---- what rows tell of a number
+
+-- there is a row of a directory
+abbrev pub is_folder : List Row → ℕ → Bool
+is_folder [] node = false
+is_folder (Folder other ∷ rows) node = if other == node then true else is_folder rows node
+is_folder (Edge folder name other ∷ rows) node = is_folder rows node
+is_folder (File other bytes ∷ rows) node = is_folder rows node
+is_folder (Descriptor ∷ rows) node = is_folder rows node
+
+-- the bytes of a file, by the first row of it
+abbrev pub file_in : List Row → ℕ → Option (List ℕ)
+file_in [] node = None
+file_in (Folder other ∷ rows) node = file_in rows node
+file_in (Edge folder name other ∷ rows) node = file_in rows node
+file_in (File other bytes ∷ rows) node = if other == node then Some bytes else file_in rows node
+file_in (Descriptor ∷ rows) node = file_in rows node
+
+-- the names in a directory, those of later rows first
+abbrev pub edges_in : List Row → ℕ → List Listed
+edges_in [] node = []
+edges_in (Folder other ∷ rows) node = edges_in rows node
+edges_in (Edge folder name other ∷ rows) node = if folder == node then edges_in rows node ++ record { name = name; node = other } ∷ [] else edges_in rows node
+edges_in (File other bytes ∷ rows) node = edges_in rows node
+edges_in (Descriptor ∷ rows) node = edges_in rows node
+
+-- whether something has a name, and whether it has more than one
+abbrev pub named_in : List Row → ℕ → Option Bool
+named_in [] node = None
+named_in (Folder other ∷ rows) node = named_in rows node
+named_in (Edge folder name other ∷ rows) node = if other == node then Some (is_some (named_in rows node)) else named_in rows node
+named_in (File other bytes ∷ rows) node = named_in rows node
+named_in (Descriptor ∷ rows) node = named_in rows node
+
+-- there is more than one name
+abbrev pub has_more : List Row → ℕ → Bool
+has_more rows node = unwrap_or (named_in rows node) false
+
+-- ---- what they tell of a tree
+
+-- a file, with its number, its size, and how many names it has at most
+abbrev pub file_facts : ℕ → Bool → List ℕ → FileFacts
+file_facts node more bytes = record { id = record { device = 0; number = node }; links = if more then MOST_LINKS else 1; size = length bytes }
+
+-- A directory has a row of its own and one name at most, and is not the root. So no directory is in itself, or in two places.
+abbrev pub IsPlainFolder : List Row → ℕ → Type 0
+IsPlainFolder rows node = (is_folder rows node ≡ true) × (has_more rows node ≡ false) × ((node == ROOT) ≡ false)
+
+abbrev pub IsFound : List Row → ℕ → Found → Type 0
+IsFound rows node found.Folder = (file_in rows node ≡ None) × IsPlainFolder rows node
+IsFound rows node (found.File facts) = (bytes : List ℕ) × (file_in rows node ≡ Some bytes) × (facts ≡ file_facts node (has_more rows node) bytes)
+IsFound rows node found.Special = ⊥
+
+-- What the rows of a report tell.
+abbrev pub Tells : List Row → Told → Type 0
+Tells rows (Lists path node names) = names ≡ edges_in rows node
+Tells rows (Finds path node found) = IsFound rows node found
+Tells rows (Holds path node bytes) = bytes ≡ file_in rows node
+Tells rows (Omits path) = ⊥
+
+-- ---- the index
+
+abbrev pub listed : IndexEdge → Listed
+listed edge = record { name = edge.name; node = edge.node }
+
+-- the names that the index has in a directory
+abbrev pub names_at : Index → ℕ → List Listed
+names_at index node = map listed (unwrap_or (finite.get index.edges node) [])
+
+-- The index has what the rows tell of each number.
+pub record Indexes (index : Index) (rows : List Row) : Type 0 where
+  pub folders : (node : ℕ) → finite.get index.folders node ≡ (if is_folder rows node then Some true else None)
+  pub files : (node : ℕ) → finite.get index.files node ≡ file_in rows node
+  pub names : (node : ℕ) → names_at index node ≡ edges_in rows node
+  pub named : (node : ℕ) → finite.get index.named node ≡ named_in rows node
+
+-- a name was put behind those of its directory, and all else stays
+pub record PutsName (old : Index) (folder : ℕ) (edge : IndexEdge) (new : Index) : Type 0 where
+  pub names : (node : ℕ) → names_at new node ≡ (if folder == node then names_at old node ++ listed edge ∷ [] else names_at old node)
+  pub folders : new.folders ≡ old.folders
+  pub files : new.files ≡ old.files
+  pub named : new.named ≡ old.named

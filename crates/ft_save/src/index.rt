@@ -1,0 +1,92 @@
+// The rows of a report, by the numbers that they tell of.
+ghost use Rattle.std.specs.Prelude.{◌≡◌, List, [], ◌∷◌, OnOk, IfOk};
+ghost use Rattle.std.specs.Option.{unwrap_or};
+ghost use Rattle.std.specs.FinMap as finite;
+ghost use Rattle.ft_save.specs.declared.row.Row.{Row};
+ghost use Rattle.ft_save.specs.Trees.{Indexes, PutsName};
+
+use crate::row::Row;
+use ft_base::{Memory, Sequence, Table};
+use std::alloc::Global;
+
+/// A name in a directory, which may be any bytes, and what it leads to.
+#[derive(Drop)]
+pub(crate) struct Edge {
+    pub(crate) name: Sequence<u8>,
+    pub(crate) node: u64,
+}
+
+/// The rows of a report, by the numbers that they tell of.
+#[derive(Drop)]
+pub(crate) struct Index {
+    pub(crate) alloc: Global,
+    // which numbers are those of directories
+    pub(crate) folders: Table<bool>,
+    // the names in each directory
+    pub(crate) edges: Table<Sequence<Edge>>,
+    // the bytes of each file
+    pub(crate) files: Table<Sequence<u8>>,
+    // what has a name, and whether it has more than one
+    pub(crate) named: Table<bool>,
+}
+
+/// The index of rows.
+pub(crate) fn index_of(alloc: Global, rows: Vec<Row>) -> Result<Index, Memory>
+    ensures { IfOk result (λ index. Indexes index rows.items) }
+{
+    let mut index = Index {
+        alloc,
+        folders: Table::new(alloc),
+        edges: Table::new(alloc),
+        files: Table::new(alloc),
+        named: Table::new(alloc),
+    };
+    let mut rows = rows;
+    while let Some(row) = rows.pop() {
+        add(&mut index, row)?;
+    }
+    Ok(index)
+}
+
+// Adds a row, in front of those that were added before.
+fn add(index: &mut Index, row: Row) -> Result<(), Memory>
+    ensures { (rows : List Row) → Indexes index.old rows → OnOk result (Indexes index.new (row ∷ rows)) }
+{
+    match row {
+        Row::Folder { node } => {
+            index.folders.insert(node, true)?;
+            Ok(())
+        }
+        Row::Edge { folder, name, node } => {
+            let more = index.named.contains(node);
+            index.named.insert(node, more)?;
+            add_edge(index, folder, Edge { name, node })
+        }
+        Row::File { node, bytes } => {
+            index.files.insert(node, bytes)?;
+            Ok(())
+        }
+        Row::Descriptor => Ok(()),
+    }
+}
+
+// Puts a name behind those of its directory.
+fn add_edge(index: &mut Index, folder: u64, edge: Edge) -> Result<(), Memory>
+    ensures { OnOk result (PutsName index.old folder edge index.new) }
+{
+    let mut edges = take_edges(index, folder);
+    edges.push(edge)?;
+    index.edges.insert(folder, edges.into())?;
+    Ok(())
+}
+
+// Takes out the names of a directory.
+fn take_edges(index: &mut Index, folder: u64) -> Vec<Edge>
+    ensures taken { result.items ≡ unwrap_or (finite.get index.old.edges folder) [] }
+    ensures rest { index.new ≡ record index.old { edges = finite.remove index.old.edges folder } }
+{
+    match index.edges.remove(folder) {
+        Some(edges) => edges.into_vec(),
+        None => Vec::new(index.alloc),
+    }
+}

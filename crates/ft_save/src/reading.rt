@@ -1,0 +1,159 @@
+// From the lines of replies to the last report among them of what the tree holds.
+ghost use Rattle.std.specs.Prelude.{◌≡◌, IfOk, Some, option_map};
+ghost use Rattle.percent_encoding.specs.Percent.{percent_decode};
+ghost use Rattle.ft_words.specs.Spelling.{number_of, words_of};
+ghost use Rattle.ft_words.specs.Calls.{last_word, only, three};
+ghost use Rattle.ft_save.specs.Reading.{count_of, edge_of, fd_of, file_of, folder_of, last_tree, row_of, rows_of};
+
+use crate::row::Row;
+use ft_base::{Memory, Sequence};
+use ft_words::{Lines, Words, number_of};
+use percent_encoding::percent_decode;
+use std::alloc::Global;
+
+/// The rows of the last report among the lines of replies of what the tree holds.
+///
+/// A report is a line `tree N` and N rows. Lines that begin as a report and do not go on as one are
+/// none. Fails only for want of memory.
+pub(crate) fn last_tree(alloc: Global, lines: Lines<'_>) -> Result<Option<Vec<Row>>, Memory>
+    ensures { IfOk result (λ rows. option_map (λ list. list.items) rows ≡ last_tree lines.entry) }
+{
+    let mut rest = lines;
+    let mut last = None;
+    while let Some(line) = rest.next() {
+        if let Some(count) = count_in(line) {
+            if let Some(rows) = rows_in(alloc, count, rest.copy())? {
+                last = Some(rows);
+            }
+        }
+    }
+    Ok(last)
+}
+
+// So many rows, with which lines begin.
+fn rows_in(alloc: Global, count: u64, lines: Lines<'_>) -> Result<Option<Vec<Row>>, Memory>
+    ensures { IfOk result (λ rows. option_map (λ list. list.items) rows ≡ rows_of count lines.entry) }
+{
+    let mut rest = lines;
+    let mut rows = Vec::new(alloc);
+    let mut left = count;
+    while left > 0 {
+        left -= 1;
+        let Some(line) = rest.next() else {
+            return Ok(None);
+        };
+        let Some(row) = row_in(alloc, line)? else {
+            return Ok(None);
+        };
+        rows.push(row)?;
+    }
+    Ok(Some(rows))
+}
+
+// The count of rows that a line tells.
+fn count_in(line: &[u8]) -> Option<u64>
+    ensures { result ≡ count_of (words_of line.now) }
+{
+    let mut words = Words::of(line);
+    if words.next()? != b"tree".as_slice() {
+        return None;
+    }
+    number_of(words.only()?)
+}
+
+// The row that a line tells.
+fn row_in(alloc: Global, line: &[u8]) -> Result<Option<Row>, Memory>
+    ensures { IfOk result (λ row. row ≡ row_of (words_of line.now)) }
+{
+    let mut words = Words::of(line);
+    let Some(word) = words.next() else {
+        return Ok(None);
+    };
+    if word == b"dir".as_slice() {
+        Ok(folder_in(words))
+    } else if word == b"edge".as_slice() {
+        edge_in(alloc, words)
+    } else if word == b"file".as_slice() {
+        file_in(alloc, words)
+    } else if word == b"fd".as_slice() {
+        Ok(fd_in(words))
+    } else {
+        Ok(None)
+    }
+}
+
+// `NODE`
+fn folder_in(words: Words<'_>) -> Option<Row>
+    ensures { result ≡ folder_of words.entry }
+{
+    let node = number_of(words.only()?)?;
+    Some(Row::Folder { node })
+}
+
+// `FOLDER NAME NODE`
+fn edge_in(alloc: Global, words: Words<'_>) -> Result<Option<Row>, Memory>
+    ensures { IfOk result (λ row. row ≡ edge_of words.entry) }
+{
+    let Some((folder, name, node)) = edge_words(words) else {
+        return Ok(None);
+    };
+    let name = decoded(alloc, name)?;
+    Ok(Some(Row::Edge { folder, name, node }))
+}
+
+// The same as words, the name as it is coded.
+fn edge_words<'a>(words: Words<'a>) -> Option<(u64, &'a [u8], u64)>
+    ensures { option_map (λ e. (e.0, e.1.now, e.2)) result ≡ three number_of Some (only number_of) words.entry }
+{
+    let mut words = words;
+    let folder = number_of(words.next()?)?;
+    let name = words.next()?;
+    let node = number_of(words.only()?)?;
+    Some((folder, name, node))
+}
+
+// `NODE SIZE DATA`, where the data may be absent with its space.
+fn file_in(alloc: Global, words: Words<'_>) -> Result<Option<Row>, Memory>
+    ensures { IfOk result (λ row. row ≡ file_of words.entry) }
+{
+    let Some((node, size, data)) = file_words(words) else {
+        return Ok(None);
+    };
+    let bytes = decoded(alloc, data)?;
+    if bytes.len() as u64 != size {
+        return Ok(None);
+    }
+    Ok(Some(Row::File { node, bytes }))
+}
+
+// The same as words, the data as they are coded.
+fn file_words<'a>(words: Words<'a>) -> Option<(u64, u64, &'a [u8])>
+    ensures { option_map (λ f. (f.0, f.1, f.2.now)) result ≡ three number_of number_of last_word words.entry }
+{
+    let mut words = words;
+    let node = number_of(words.next()?)?;
+    let size = number_of(words.next()?)?;
+    let data = words.last()?;
+    Some((node, size, data))
+}
+
+// `FD FILE ACCESS OFFSET`
+fn fd_in(words: Words<'_>) -> Option<Row>
+    ensures { result ≡ fd_of words.entry }
+{
+    let mut words = words;
+    number_of(words.next()?)?;
+    number_of(words.next()?)?;
+    words.next()?;
+    number_of(words.only()?)?;
+    Some(Row::Descriptor)
+}
+
+// The bytes that a word codes.
+fn decoded(alloc: Global, word: &[u8]) -> Result<Sequence<u8>, Memory>
+    ensures { IfOk result (λ bytes. bytes ≡ percent_decode word.now) }
+{
+    let mut bytes = Vec::new(alloc);
+    percent_decode(word).append_to(&mut bytes)?;
+    Ok(bytes.into())
+}

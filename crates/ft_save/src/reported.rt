@@ -1,0 +1,78 @@
+// The tree of a report, as a source.
+ghost use Rattle.std.specs.Prelude.{◌≡◌, map, IfOk};
+ghost use Rattle.ft_save.specs.Trees.{listed};
+
+use crate::index::{Edge, Index};
+use ft_copy::{FileFacts, FileId, Found, Listed, ROOT, Source, Trouble, name_of};
+use ft_posix::MOST_LINKS;
+use std::alloc::Global;
+
+/// The tree that a report tells of.
+#[derive(Clone, Copy)]
+pub(crate) struct Reported<'a> {
+    pub(crate) index: &'a Index,
+}
+
+impl<'a> Source for Reported<'a> {
+    ghost use Rattle.std.specs.Prelude.{List};
+    ghost use Rattle.ft_save.specs.declared.row.Row.{Row};
+    ghost use Rattle.ft_save.specs.Trees.{Indexes, Tells};
+
+    type File = &'a [u8];
+
+    ghost tells = { λ reported told. (rows : List Row) → Indexes reported.index.now rows → Tells rows told };
+
+    fn names(&self, _path: &[u8], node: u64) -> Result<Vec<Listed>, Trouble> {
+        let alloc = self.index.alloc;
+        match self.index.edges.get(node) {
+            Some(edges) => names_of(alloc, edges.as_slice()),
+            None => Ok(Vec::new(alloc)),
+        }
+    }
+
+    fn look(&self, _path: &[u8], node: u64) -> Result<Found, Trouble> {
+        let more = self.index.named.get(node).copied().unwrap_or(false);
+        if let Some(bytes) = self.index.files.get(node) {
+            return Ok(Found::File(FileFacts {
+                id: FileId {
+                    device: 0,
+                    number: node,
+                },
+                links: if more { MOST_LINKS } else { 1 },
+                size: bytes.len() as u64,
+            }));
+        }
+        if more || node == ROOT || !self.index.folders.contains(node) {
+            return Err(Trouble::BadTree);
+        }
+        Ok(Found::Folder)
+    }
+
+    fn open(&self, _path: &[u8], node: u64) -> Result<&'a [u8], Trouble> {
+        match self.index.files.get(node) {
+            Some(bytes) => Ok(bytes.as_slice()),
+            None => Err(Trouble::Read),
+        }
+    }
+
+    fn omits(&self, _path: &[u8]) -> Result<bool, Trouble> {
+        Ok(false)
+    }
+}
+
+// The names that are told. Bytes that are no name are refused.
+fn names_of(alloc: Global, edges: &[Edge]) -> Result<Vec<Listed>, Trouble>
+    ensures { IfOk result (λ names. names.items ≡ map listed edges.now) }
+{
+    let mut names = Vec::new(alloc);
+    let mut rest = edges;
+    while let Some((edge, more)) = rest.split_first() {
+        let name = name_of(alloc, edge.name.as_slice())?;
+        names.push(Listed {
+            name,
+            node: edge.node,
+        })?;
+        rest = more;
+    }
+    Ok(names)
+}

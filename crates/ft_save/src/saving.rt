@@ -1,0 +1,84 @@
+// From replies to a tree of directories.
+ghost use Rattle.std.specs.Prelude.{OnOk, IfOk};
+ghost use Rattle.ft_copy.specs.Runs.{Copies};
+ghost use Rattle.ft_save.specs.Saves.{IsLast, Saves};
+ghost use Rattle.ft_save.specs.Trees.{Tells};
+
+use crate::index::index_of;
+use crate::reading::last_tree;
+use crate::reported::Reported;
+use crate::row::Row;
+use ft_base::Memory;
+use ft_copy::{Stopped, Target, copy};
+use ft_dot::read_all;
+use ft_script::PlayFault;
+use ft_words::Lines;
+use std::alloc::Global;
+use std::io::Read;
+use thiserror::Error;
+
+/// Why nothing was saved.
+#[derive(Debug, PartialEq, Eq, Drop, Error)]
+pub enum SaveFault {
+    /// The replies could not be read, or there was no memory for them.
+    #[error("{0}")]
+    Replies(PlayFault),
+    /// There is no report among them of what the tree holds.
+    #[error("NoTree")]
+    NoTree,
+    /// The copy was not made.
+    #[error("{}", .0.trouble)]
+    Stopped(Stopped),
+}
+
+/// Reads replies to their end, and makes the tree that the last report among them tells of:
+/// directories, files with their bytes, and further names as links. Descriptors, and files that have
+/// no name, are left out.
+pub fn save<R: Read, T: Target>(
+    alloc: Global,
+    reader: &mut R,
+    target: &mut T,
+) -> Result<(), SaveFault>
+    ensures { OnOk result (Saves (R.remaining reader.old) (R.remaining reader.new) T.does target.old target.new) }
+{
+    let rows = last_rows(alloc, reader)?;
+    copy_rows(alloc, rows, target)
+}
+
+// Reads replies to their end, and finds the rows of the last report.
+fn last_rows<R: Read>(alloc: Global, reader: &mut R) -> Result<Vec<Row>, SaveFault>
+    ensures { IfOk result (λ rows. IsLast (R.remaining reader.old) (R.remaining reader.new) rows.items) }
+{
+    let mut replies = Vec::new(alloc);
+    read_all(reader, &mut replies)?;
+    let rows = last_tree(alloc, Lines::of(replies.as_slice()))?;
+    rows.ok_or(SaveFault::NoTree)
+}
+
+// Copies the tree that rows tell of.
+fn copy_rows<T: Target>(alloc: Global, rows: Vec<Row>, target: &mut T) -> Result<(), SaveFault>
+    ensures { OnOk result (Copies (Tells rows.items) T.does target.old target.new) }
+{
+    let index = index_of(alloc, rows)?;
+    let source = Reported { index: &index };
+    copy(alloc, &source, target)?;
+    Ok(())
+}
+
+impl From<PlayFault> for SaveFault {
+    fn from(fault: PlayFault) -> SaveFault {
+        SaveFault::Replies(fault)
+    }
+}
+
+impl From<Memory> for SaveFault {
+    fn from(_error: Memory) -> SaveFault {
+        SaveFault::Replies(PlayFault::Memory)
+    }
+}
+
+impl From<Stopped> for SaveFault {
+    fn from(stopped: Stopped) -> SaveFault {
+        SaveFault::Stopped(stopped)
+    }
+}
