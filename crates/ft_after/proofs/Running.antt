@@ -1,8 +1,14 @@
 -- Lines that are played one after another.
-use Rattle.std.proofs.Common.{◌≡◌, ℕ, List, [], ◌∷◌, ◌++◌, Option, None, Some, MatchOption, refl, subst}
+use Rattle.std.proofs.Common.{◌≡◌, ◌≤◌, ◌<◌, ℕ, suc, Bool, true, false, if◌then◌else◌, List, [], ◌∷◌, ◌++◌, length, Option, None, Some, MatchOption, refl, subst, arith}
+use Rattle.std.specs.Prelude.{◌==◌}
+use Rattle.std.specs.List.{onto_first}
+use Rattle.ft_words.specs.Spelling.{lines_of}
 use Rattle.ft_core.specs.declared.fault.Fault.{Fault}
 use Rattle.ft_core.specs.declared.request.Answer.TheVariants.{Cleared, Refused}
-use Rattle.ft_core.specs.States.{State}
+use Rattle.ft_core.specs.declared.fault.Fault.TheVariants.{Memory as MemoryFault, Live as LiveFault}
+use Rattle.ft_core.specs.declared.request.Request.TheVariants.{Checkpoint}
+use Rattle.ft_core.specs.States.{State, has_live}
+use Rattle.ft_core.specs.Steps.{IsStep, MayWantMemory, exact_rule, fault_if}
 use Rattle.ft_replies.specs.Requests.{meaning_of}
 use Rattle.ft_after.specs.After.{GoesWell, PlaysWell}
 
@@ -14,3 +20,35 @@ plays_more old middle new (first ∷ some) line h k = (h.0, h.1, plays_more h.0 
 pub cleared : (refusal : Option Fault) (A B : Type 0) → MatchOption refusal A (λ fault. (Cleared ≡ Refused fault) × B) → A
 cleared None A B h = h
 cleared (Some fault) A B h = let no = h.0 in cc
+
+-- one that is refused changes nothing
+pub refused_stays : (old new : State) (fault : Fault) → IsStep exact_rule old Checkpoint (Refused fault) new → new ≡ old
+refused_stays old new fault h = either (has_live old) h
+  where
+    either : (live : Bool) → MatchOption (fault_if live LiveFault None) ((fault ≡ MemoryFault) × MayWantMemory Checkpoint × (new ≡ old)) (λ other. (Refused fault ≡ Refused other) × (new ≡ old)) → new ≡ old
+    either true k = k.1
+    either false k = k.2
+
+-- as Live, where a transaction is live
+pub found_live : (old new : State) → IsStep exact_rule old Checkpoint (Refused LiveFault) new → has_live old ≡ true
+found_live old new h = either (has_live old) h
+  where
+    either : (live : Bool) → MatchOption (fault_if live LiveFault None) ((LiveFault ≡ MemoryFault) × MayWantMemory Checkpoint × (new ≡ old)) (λ other. (Refused LiveFault ≡ Refused other) × (new ≡ old)) → live ≡ true
+    either true k = refl
+    either false k = let no = k.0 in cc
+
+-- ---- how many lines there are
+
+joined : (byte : ℕ) (lines : List (List ℕ)) → length (onto_first byte lines) ≤ suc (length lines)
+joined byte [] = omega arith
+joined byte (line ∷ lines) = omega arith
+
+-- one byte more makes one line more at most
+one_more : (ends : Bool) (byte : ℕ) (lines : List (List ℕ)) (n : ℕ) → length lines ≤ n → length (if ends then [] ∷ lines else onto_first byte lines) ≤ suc n
+one_more true byte lines n h = omega (arith, h)
+one_more false byte lines n h = let first = joined byte lines in omega (arith, h, first)
+
+-- not more lines than bytes
+pub lines_fit : (text : List ℕ) → length (lines_of text) ≤ length text
+lines_fit [] = omega arith
+lines_fit (byte ∷ text) = one_more (byte == 10) byte (lines_of text) (length text) (lines_fit text)

@@ -1,15 +1,17 @@
 -- What a script does that is played first.
-use Rattle.std.specs.Prelude.{◌≡◌, ℕ, Bool, true, false, List, [], ◌∷◌, Option, None, Some}
+use Rattle.std.specs.Prelude.{◌≡◌, ◌⊎◌, ℕ, suc, Bool, true, false, List, [], ◌∷◌, ◌++◌, length, Option, None, Some}
 use Rattle.ft_moss.specs.declared.rule.Rule.{Rule}
 use Rattle.ft_posix.specs.declared.call.Reply.TheVariants.{Done, Names, Number, Bytes, Info, Failed}
 use Rattle.ft_core.specs.declared.request.Answer.{Answer}
 use Rattle.ft_core.specs.declared.request.Answer.TheVariants.{Txn, Granted, Waits, Dropped, Committed, Aborted, Undone, Cleared, Refused}
-use Rattle.ft_core.specs.States.{State, after_checkpoint, at_base, first_base}
+use Rattle.ft_core.specs.States.{State, after_checkpoint, at_base, first_base, has_live}
 use Rattle.ft_replies.specs.Lines.{IsLegal}
 use Rattle.ft_replies.specs.Requests.{meaning_of}
 use Rattle.ft_replies.specs.declared.line.Line.{Line}
 use Rattle.ft_replies.specs.declared.line.Line.TheVariants as line
 use Rattle.ft_words.specs.Spelling.{lines_of}
+use Rattle.ft_after.specs.declared.fault.AfterFault.{AfterFault}
+use Rattle.ft_after.specs.declared.fault.AfterFault.TheVariants.{Memory, Script}
 
 -- a request was granted, and did not fail
 abbrev pub is_well : Answer → Bool
@@ -35,6 +37,13 @@ GoesWell old line.Bad new = ⊥
 GoesWell old (line.Request request) new = (answer : Answer) × IsLegal old request answer new × (is_well answer ≡ true)
 GoesWell old (line.Report report) new = new ≡ old
 
+-- A line asks for nothing, or its request is refused, fails or waits.
+abbrev pub GoesBadly : State → Line → State → Type 0
+GoesBadly old line.Silent new = ⊥
+GoesBadly old line.Bad new = new ≡ old
+GoesBadly old (line.Request request) new = (answer : Answer) × IsLegal old request answer new × (is_well answer ≡ false)
+GoesBadly old (line.Report report) new = ⊥
+
 -- Lines do, one after another.
 abbrev pub PlaysWell : State → List (List ℕ) → State → Type 0
 PlaysWell old [] new = new ≡ old
@@ -44,7 +53,31 @@ PlaysWell old (bytes ∷ lines) new = (middle : State) × GoesWell old (meaning_
 abbrev pub IsPlayedFirst : State → List (List ℕ) → State → Type 0
 IsPlayedFirst old lines new = (played : State) × PlaysWell old lines played × (new ≡ after_checkpoint played)
 
+-- The line of this number, from 1, is the first that does not do what it asks for.
+abbrev pub StopsAtLine : ℕ → State → List (List ℕ) → State → Type 0
+StopsAtLine number old lines new =
+    (done : List (List ℕ)) × (bytes : List ℕ) × (rest : List (List ℕ)) × (middle : State) × (lines ≡ done ++ bytes ∷ rest) × (number ≡ suc (length done))
+    × PlaysWell old done middle × GoesBadly middle (meaning_of bytes) new
+
+-- All lines did what they ask for, as many as this number, and a transaction is live behind the last.
+abbrev pub LeavesLive : ℕ → State → List (List ℕ) → State → Type 0
+LeavesLive number old lines new = (number ≡ length lines) × PlaysWell old lines new × (has_live new ≡ true)
+
+-- Some lines did what they ask for, and then there was no memory.
+abbrev pub WantsMemory : State → List (List ℕ) → State → Type 0
+WantsMemory old lines new = (done : List (List ℕ)) × (rest : List (List ℕ)) × (lines ≡ done ++ rest) × PlaysWell old done new
+
+-- What came where they were not played.
+abbrev pub StopsFirst : AfterFault → State → List (List ℕ) → State → Type 0
+StopsFirst Memory old lines new = WantsMemory old lines new
+StopsFirst (Script number) old lines new = StopsAtLine number old lines new ⊎ LeavesLive number old lines new
+
 -- a new core, or one on which a script was played first
 abbrev pub Begins : Rule → Option (List ℕ) → State → Type 0
 Begins rule None state = state ≡ at_base rule first_base
 Begins rule (Some script) state = IsPlayedFirst (at_base rule first_base) (lines_of script) state
+
+-- There is no core: there was no memory for it, or the script was not played.
+abbrev pub StopsBegin : AfterFault → Rule → Option (List ℕ) → Type 0
+StopsBegin fault rule None = fault ≡ Memory
+StopsBegin fault rule (Some script) = (fault ≡ Memory) ⊎ ((new : State) × StopsFirst fault (at_base rule first_base) (lines_of script) new)

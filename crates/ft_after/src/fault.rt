@@ -8,13 +8,18 @@ pub enum AfterFault {
     /// There was no memory.
     #[error("Memory")]
     Memory,
-    /// The line of this number, from 1, asks for nothing, or its request is refused, fails or waits;
-    /// or a transaction is live behind it, the last.
+    /// The line of this number, from 1, asks for nothing, or its request is refused, fails or
+    /// waits; or a transaction is live behind it, the last.
     #[error("Script {0}")]
     Script(u64),
 }
 
 impl From<Memory> for AfterFault {
+    ghost use Rattle.std.specs.Prelude.{◌≡◌};
+    ghost use Rattle.ft_after.specs.declared.fault.AfterFault.TheVariants.{Memory};
+
+    ghost from_gives = { λ _ fault. fault ≡ Memory };
+
     fn from(_error: Memory) -> AfterFault {
         AfterFault::Memory
     }

@@ -1,10 +1,10 @@
 // A script that is played first.
-ghost use Rattle.std.specs.Prelude.{◌≡◌, true, option_copied, IfOk, OnOk};
+ghost use Rattle.std.specs.Prelude.{◌≡◌, ◌<◌, ◌^◌, true, false, length, option_copied, IfErr, IfOk, OnOk};
 ghost use Rattle.ft_core.specs.Living.{NoneIsLive};
 ghost use Rattle.ft_core.specs.States.{at_base, first_base};
 ghost use Rattle.ft_replies.specs.Requests.{meaning_of};
 ghost use Rattle.ft_words.specs.Spelling.{lines_of};
-ghost use Rattle.ft_after.specs.After.{Begins, GoesWell, IsPlayedFirst, PlaysWell, is_well};
+ghost use Rattle.ft_after.specs.After.{Begins, GoesBadly, GoesWell, IsPlayedFirst, PlaysWell, StopsBegin, StopsFirst, is_well};
 
 use crate::fault::AfterFault;
 use ft_calls::Reply;
@@ -18,6 +18,7 @@ use std::alloc::Global;
 pub fn core_after(alloc: Global, rule: Rule, script: Option<&[u8]>) -> Result<Core, AfterFault>
     ensures state { IfOk result (λ core. Begins rule (option_copied script.entry) core.state) }
     ensures none_live { IfOk result (λ core. NoneIsLive core.state) }
+    ensures fault { IfErr result (λ fault. StopsBegin fault rule (option_copied script.entry)) }
 {
     let Ok(mut core) = Core::with_rule(alloc, rule) else {
         return Err(AfterFault::Memory);
@@ -38,9 +39,10 @@ pub fn core_after(alloc: Global, rule: Rule, script: Option<&[u8]>) -> Result<Co
 /// refused, fails or waits, end it with their number, and so does a transaction that is left live.
 /// Reports are left out.
 pub fn play_first(alloc: Global, script: &[u8], core: &mut Core) -> Result<(), AfterFault>
-    ensures { OnOk result (IsPlayedFirst core.old.state (lines_of script.now) core.new.state) }
+    ensures ok { OnOk result (IsPlayedFirst core.old.state (lines_of script.now) core.new.state) }
+    ensures fault { IfErr result (λ fault. StopsFirst fault core.old.state (lines_of script.now) core.new.state) }
 {
-    let last = play_all(alloc, Lines::of(script), core)?;
+    let last = play_all(alloc, script, core)?;
     match core.checkpoint() {
         Ok(()) => Ok(()),
         Err(Fault::Live) => Err(AfterFault::Script(last)),
@@ -48,14 +50,16 @@ pub fn play_first(alloc: Global, script: &[u8], core: &mut Core) -> Result<(), A
     }
 }
 
-// Plays lines, and tells how many there are.
-fn play_all(alloc: Global, lines: Lines<'_>, core: &mut Core) -> Result<u64, AfterFault>
-    ensures { OnOk result (PlaysWell core.old.state lines.entry core.new.state) }
+// Plays the lines of a script, and tells how many there are.
+fn play_all(alloc: Global, script: &[u8], core: &mut Core) -> Result<u64, AfterFault>
+    ensures ok { OnOk result (PlaysWell core.old.state (lines_of script.now) core.new.state) }
+    ensures count { IfOk result (λ count. count ≡ length (lines_of script.now)) }
+    ensures fault { IfErr result (λ fault. StopsFirst fault core.old.state (lines_of script.now) core.new.state) }
 {
-    let mut rest = lines;
+    let mut rest = Lines::of(script);
     let mut number: u64 = 0;
     while let Some(line) = rest.next() {
-        number = number.saturating_add(1);
+        number += 1;
         let well = play_line(alloc, line, core)?;
         if !well {
             return Err(AfterFault::Script(number));
@@ -66,7 +70,9 @@ fn play_all(alloc: Global, lines: Lines<'_>, core: &mut Core) -> Result<u64, Aft
 
 // Plays a line, and answers whether it did what it asks for.
 fn play_line(alloc: Global, line: &[u8], core: &mut Core) -> Result<bool, AfterFault>
-    ensures { IfOk result (λ well. well ≡ true → GoesWell core.old.state (meaning_of line.now) core.new.state) }
+    ensures well { IfOk result (λ well. well ≡ true → GoesWell core.old.state (meaning_of line.now) core.new.state) }
+    ensures badly { IfOk result (λ well. well ≡ false → GoesBadly core.old.state (meaning_of line.now) core.new.state) }
+    ensures memory { IfErr result (λ fault. (fault ≡ AfterFault.Memory) × (core.new ≡ core.old)) }
 {
     match meaning_of(alloc, line)? {
         Line::Silent | Line::Report(_) => Ok(true),
@@ -78,7 +84,8 @@ fn play_line(alloc: Global, line: &[u8], core: &mut Core) -> Result<bool, AfterF
 // Carries out a request, and answers whether it was granted and did not fail. What a commit or an
 // abort has let go is swept.
 fn does_well(core: &mut Core, request: Request) -> bool
-    ensures { result ≡ true → GoesWell core.old.state (Line.Request request) core.new.state }
+    ensures well { result ≡ true → GoesWell core.old.state (Line.Request request) core.new.state }
+    ensures badly { result ≡ false → GoesBadly core.old.state (Line.Request request) core.new.state }
 {
     let answer = core.answer(request);
     if matches!(answer, Answer::Committed | Answer::Aborted(_)) {

@@ -1,4 +1,4 @@
--- When one map is a clone of another.
+-- When one map is a clone of another (as Rust's `Clone`).
 use Rattle.std.specs.Prelude.{ℕ, Option, Some, None}
 use Rattle.std.specs.Ordering.{nat_cmp}
 use Rattle.std.specs.FinMap as finite

@@ -10,9 +10,11 @@ module _ {V : Type 0} where
   numbered k (None ∷ places) = numbered (suc k) places
   numbered k (Some value ∷ places) = (k, value) ∷ numbered (suc k) places
 
+  -- the map that they make: each value at the number of its place
   abbrev pub dense : List (Option V) → finite.FinMap nat_cmp V
   dense places = finite.from_entries (numbered 0 places)
 
-  -- behind the place of 0 there are places that nobody has, of the numbers that are skipped
+  -- all places, where the list has those behind the skipped ones: of 0, of the numbers that are
+  -- skipped, which nobody has, and those of the list
   abbrev pub spread : Option V → ℕ → List (Option V) → List (Option V)
   spread zero skipped places = zero ∷ (replicate skipped None ++ places)

@@ -1,13 +1,13 @@
 -- A list whose first two values stand apart.
 use Rattle.std.specs.Prelude.{List, [], ◌∷◌, Option, None, Some}
 
--- the values in their order
+-- the values in their order: the first, the second, and the others
 abbrev pub in_a_row : {T : Type 0} → Option T → Option T → List T → List T
 in_a_row None second more = []
 in_a_row (Some a) None more = a ∷ []
 in_a_row (Some a) (Some b) more = a ∷ b ∷ more
 
--- the places are filled from the first on
+-- no place is empty before one that is filled
 abbrev pub AreFilled : {T : Type 0} → Option T → Option T → List T → Type 0
 AreFilled None None [] = Unit {0}
 AreFilled None None (x ∷ xs) = ⊥

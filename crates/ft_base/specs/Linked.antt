@@ -1,4 +1,5 @@
--- How chains of nodes stand in a slab.
+-- How chains of nodes stand in a slab. Nothing that a caller has to know: `Chains` keeps it true
+-- of its fields.
 use Rattle.std.specs.Prelude.{◌≡◌, ◌⊎◌, ℕ, zero, suc, List, [], ◌∷◌, length, map, Option, Some, None}
 use Rattle.std.specs.Option.{unwrap_or}
 use Rattle.std.specs.Ordering.{nat_cmp}
@@ -12,6 +13,7 @@ use Rattle.ft_base.specs.declared.node.Ends.{Ends}
 abbrev pub AllEnds : Type 0
 AllEnds = finite.FinMap nat_cmp (Option Ends)
 
+-- the key of the first node, if there is one
 abbrev pub first_of : Option Ends → Option ℕ
 first_of None = None
 first_of (Some e) = Some e.first
@@ -34,13 +36,16 @@ ends_from (Some k) last = Some (record { first = k; last = last })
 abbrev pub joined_ends : Ends → Option Ends → Option Ends
 joined_ends front e = Some (record { first = front.first; last = last_or front.last e })
 
+-- the ends of an owner's chain; none where it has no node, or where it is not open
 abbrev pub ends_in : AllEnds → ℕ → Option Ends
 ends_in ends owner = unwrap_or (finite.get ends owner) None
 
 module _ {T : Type 0} where
+  -- a node with this value, which leads to this key
   abbrev pub node : T → Option ℕ → Node T
   node x next = record { value = x; next = next }
 
+  -- the node, leading to another key
   abbrev pub with_next : Option ℕ → Node T → Node T
   with_next next n = record n { next = next }
 
@@ -55,6 +60,7 @@ module _ {T : Type 0} where
   walk at (suc n) None = []
   walk at (suc n) (Some key) = then_on (walk at n) (at key)
 
+  -- the list of each owner, walked from the first node of its chain
   abbrev pub walked : (ℕ → Option (Node T)) → ℕ → List (ℕ × Option Ends) → List (ℕ × List T)
   walked at n = map (λ e. (e.0, walk at n (first_of e.1)))
 
@@ -62,15 +68,17 @@ module _ {T : Type 0} where
   abbrev pub lists_of : Slab (Node T) → AllEnds → Lists T
   lists_of s ends = finite.from_entries (walked (get s) (length s.slots) (finite.entries ends))
 
-  -- the key of the first of these nodes, and of the last
+  -- the key of the first of these nodes
   abbrev pub head_key : List (ℕ × T) → Option ℕ
   head_key [] = None
   head_key (p ∷ ps) = Some p.0
 
+  -- the key of the last of these nodes, or this one
   abbrev pub last_key : ℕ → List (ℕ × T) → ℕ
   last_key k [] = k
   last_key k (p ∷ ps) = last_key p.0 ps
 
+  -- the ends of a chain of these nodes
   abbrev pub ends_of : List (ℕ × T) → Option Ends
   ends_of [] = None
   ends_of (p ∷ ps) = Some (record { first = p.0; last = last_key p.0 ps })
@@ -80,6 +88,7 @@ module _ {T : Type 0} where
   Linked at [] = Unit {0}
   Linked at (p ∷ ps) = (at p.0 ≡ Some (node p.1 (head_key ps))) × Linked at ps
 
+  -- one of these nodes has this key
   abbrev pub HasKey : List (ℕ × T) → ℕ → Type 0
   HasKey [] k = ⊥
   HasKey (p ∷ ps) k = (k ≡ p.0) ⊎ HasKey ps k
@@ -96,6 +105,7 @@ module _ {T : Type 0} where
     pub single : (u : ℕ) → Single (chain u)
     pub apart : (u v k : ℕ) → HasKey (chain u) k → HasKey (chain v) k → u ≡ v
 
+  -- the nodes and the ends are those of some chains
   abbrev pub AreChained : (ℕ → Option (Node T)) → AllEnds → Type 0
   AreChained at ends = (chain : ℕ → List (ℕ × T)) × AreChainedBy at ends chain
 

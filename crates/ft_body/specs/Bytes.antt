@@ -1,32 +1,36 @@
--- The bytes of a file: what a read gives, and what a write and a change of the length leave.
+-- The bytes of a file (POSIX.1-2017, Base Definitions, 3.164 File): what a read gives, and what a
+-- write and a change of the length leave. XSH is POSIX.1-2017, System Interfaces.
 use Rattle.std.specs.Prelude.{ℕ, ◌+◌, ◌-◌, List, [], ◌∷◌, ◌++◌, length, take, drop, replicate}
 use Rattle.ft_body.specs.declared.TheConstants.{SIZE_LIMIT}
 
--- the bytes from an offset on, at most so many
+-- the bytes from an offset on, at most so many; at or past the end none (XSH read, pread)
 abbrev pub bytes_at : List ℕ → ℕ → ℕ → List ℕ
 bytes_at bytes offset count = take count (drop offset bytes)
 
--- how many bytes there is room for at an offset
+-- how many bytes there is room for at an offset below the limit (XSH write, which leaves the
+-- limit open; this one is a rule of this project)
 abbrev pub room_at : ℕ → ℕ
 room_at offset = SIZE_LIMIT - offset
 
--- as many of the bytes as there is room for at an offset
+-- as many of the bytes as there is room for at an offset (XSH write)
 abbrev pub fitting : List ℕ → ℕ → List ℕ
 fitting bytes offset = take (room_at offset) bytes
 
--- the bytes, and behind them zeros up to a length
+-- the bytes, and behind them zeros up to a length (XSH lseek on gaps, ftruncate)
 abbrev pub padded : List ℕ → ℕ → List ℕ
 padded bytes size = bytes ++ replicate (size - length bytes) 0
 
--- cut to a length, or padded up to it
+-- cut to a length, or padded up to it (XSH ftruncate)
 abbrev pub resized : List ℕ → ℕ → List ℕ
 resized bytes size = take size (padded bytes size)
 
--- the bytes with others laid over them from an offset on
+-- the bytes with others laid over them from an offset on; past the end they become longer (XSH
+-- write, pwrite)
 abbrev pub laid_over : List ℕ → ℕ → List ℕ → List ℕ
 laid_over bytes offset others = take offset bytes ++ others ++ drop (offset + length others) bytes
 
--- the bytes after others were written at an offset, where zeros fill a gap; to write none changes nothing
+-- the bytes after others were written at an offset, where zeros fill a gap; to write none changes
+-- nothing (XSH write, pwrite; lseek on gaps)
 abbrev pub written : List ℕ → ℕ → List ℕ → List ℕ
 written bytes offset [] = bytes
 written bytes offset (first ∷ more) = laid_over (padded bytes offset) offset (first ∷ more)

@@ -1,4 +1,4 @@
--- The pages of a body: which are made, and how the bytes stand in them.
+-- The pages of a body: which are made, and how the bytes stand in them. (Rules of this project.)
 use Rattle.std.specs.Prelude.{◌≡◌, ◌≢◌, ℕ, ◌+◌, ◌-◌, ◌*◌, ◌/◌, ◌%◌, ◌<◌, ◌≤◌, ◌==◌, Bool, true, not, ◌⊎◌, List, [], length, take, drop, map, count_by, slice_index, slice_index_or}
 use Rattle.std.specs.List.{list_any, range_with_len}
 use Rattle.ft_body.specs.declared.TheConstants.{PAGE_SIZE, SIZE_LIMIT}
@@ -7,7 +7,8 @@ use Rattle.ft_body.specs.declared.TheConstants.{PAGE_SIZE, SIZE_LIMIT}
 abbrev pub page_of : List ℕ → ℕ → List ℕ
 page_of bytes page = take PAGE_SIZE (drop (page * PAGE_SIZE) bytes)
 
--- a page is made where one of its bytes is not zero; any other is a hole
+-- a page is made where one of its bytes is not zero; any other is a hole, and reads as zeros
+-- (POSIX.1-2017, System Interfaces, lseek and ftruncate: bytes that were never written are zeros)
 abbrev pub is_made : List ℕ → ℕ → Bool
 is_made bytes page = list_any (λ byte. not (byte == 0)) (page_of bytes page)
 
@@ -15,11 +16,12 @@ is_made bytes page = list_any (λ byte. not (byte == 0)) (page_of bytes page)
 abbrev pub page_count : ℕ → ℕ
 page_count size = (size + (PAGE_SIZE - 1)) / PAGE_SIZE
 
--- how many pages are made
+-- how many of the pages of the bytes are made
 unfoldable pub made_pages : List ℕ → ℕ
 made_pages bytes = count_by (is_made bytes) (range_with_len 0 (page_count (length bytes)))
 
--- each page that holds none of the bytes from one index up to another is made in both or in neither
+-- each page that holds none of the bytes from one index up to another is made in both or in
+-- neither
 abbrev pub KeepsPagesOutside : List ℕ → List ℕ → ℕ → ℕ → Type 0
 KeepsPagesOutside old new from to =
     (page : ℕ) → ((page + 1) * PAGE_SIZE ≤ from) ⊎ (to ≤ page * PAGE_SIZE) → is_made new page ≡ is_made old page
@@ -28,11 +30,13 @@ KeepsPagesOutside old new from to =
 abbrev pub MakesNoPage : List ℕ → List ℕ → ℕ → Type 0
 MakesNoPage old new size = (page : ℕ) → is_made new page ≡ true → (is_made old page ≡ true) × (page * PAGE_SIZE < size)
 
+-- What a `Body` and a `BodyUndo` keep true of their fields, which no public clause cites.
+
 -- a list of bytes is empty, or its last is not zero
 abbrev pub EndsWithNoZero : List ℕ → Type 0
 EndsWithNoZero bytes = 0 < length bytes → slice_index bytes (length bytes - 1) ≢ 0
 
--- what is kept of a page: its bytes up to the last one that is not zero
+-- what is kept of a page: its bytes up to the last one that is not zero, at most 4,096
 pub record IsPage (page : List ℕ) : Type 0 where
   pub fits : length page ≤ PAGE_SIZE
   pub no_end_zero : EndsWithNoZero page
@@ -41,7 +45,7 @@ pub record IsPage (page : List ℕ) : Type 0 where
 abbrev pub byte_in : List (List ℕ) → ℕ → ℕ
 byte_in pages k = slice_index (slice_index_or pages (k / PAGE_SIZE) []) (k % PAGE_SIZE)
 
--- so many bytes of some pages
+-- so many bytes of some pages: this is how a body is seen as a list
 abbrev pub bytes_in : ℕ → List (List ℕ) → List ℕ
 bytes_in size pages = map (byte_in pages) (range_with_len 0 size)
 
@@ -56,7 +60,8 @@ pub record IsPaged (size : ℕ) (pages : List (List ℕ)) : Type 0 where
   pub pages_are : ArePages pages
   pub past : (k : ℕ) → size ≤ k → byte_in pages k ≡ 0
 
--- of two ways to read bytes, the new one has some bytes from an index on, and is the old one elsewhere
+-- of two ways to read bytes by index, the new one has some bytes from an index on, and is the old
+-- one elsewhere
 pub record IsWritten (old new : ℕ → ℕ) (start : ℕ) (bytes : List ℕ) : Type 0 where
   pub before : (k : ℕ) → k < start → new k ≡ old k
   pub there : (k : ℕ) → k < length bytes → new (start + k) ≡ slice_index bytes k

@@ -1,4 +1,9 @@
--- When what a change destroyed brings back what was there before it.
+-- When what a change destroyed brings back what was there before it. A `BodyUndo` keeps it true
+-- of its fields, and no public clause cites it.
+-- What is said of a `BodyUndo` rests on snapshots of the pages and the length (std's `Snapshot`,
+-- which has no bytes): its value is the bytes before and after. Equal bytes stand in equal pages,
+-- so a body with the bytes that a change left has just the pages that it left. The value alone
+-- binds no code; `undo` does, whose contract speaks of the body's own bytes.
 use Rattle.std.specs.Prelude.{◌≡◌, ℕ, ◌+◌, ◌<◌, ◌≤◌, List, [], ◌++◌, length, take, drop, slice_index_or}
 use Rattle.ft_body.specs.declared.buffer.LostBytes.{LostBytes}
 use Rattle.ft_body.specs.declared.buffer.LostBytes.TheVariants as bytes
@@ -12,8 +17,8 @@ LiesWithin bytes.Nothing after = Unit {0}
 LiesWithin (bytes.Part from bytes size) after = from + length bytes.items ≤ length after
 LiesWithin (bytes.Whole bytes) after = Unit {0}
 
--- the bytes with what was lost put back: a part is laid over its place and the old length restored, and where all
--- was lost it is all of them
+-- the bytes with what was lost put back: a part is laid over its place and the old length
+-- restored, and where all was lost it is all of them
 abbrev pub bytes_back : LostBytes → List ℕ → List ℕ
 bytes_back bytes.Nothing after = after
 bytes_back (bytes.Part from bytes size) after = take size (laid_over after from bytes.items)
@@ -39,8 +44,8 @@ pub record PutPartsBack (first : ℕ) (parts : List LostBytes) (after before : L
   pub front : (i : ℕ) → i < first → page_at before i ≡ page_at after i
   pub behind : (i : ℕ) → first + length parts ≤ i → page_at before i ≡ page_at after i
 
--- what was lost brings back the pages from before: parts of pages, after which the pages behind the old count go, or
--- all pages from an index on
+-- what was lost brings the pages from before back: parts of pages, after which the pages behind
+-- the old count go, or all pages from an index on
 abbrev pub PutsBack : Lost → List (List ℕ) → List (List ℕ) → Type 0
 PutsBack (Parts count first parts) after before =
     (whole : List (List ℕ)) × PutPartsBack first parts.items after whole × (before ≡ take count whole)

@@ -7,12 +7,12 @@ use Rattle.ft_cells.specs.Plain.{PlainTree}
 use Rattle.ft_posix.specs.declared.stamped.StampedCall.{StampedCall}
 use Rattle.ft_posix.specs.contracts.stamped.StampedCall as stamped
 
--- their book, and the tree from which its calls start
+-- which views are meant: their book, and the tree from which their calls start
 pub record Views : Type 0 where
   pub book : Book
   pub base : PlainTree
 
--- what a name names before it is picked
+-- what a name names that was not picked yet
 abbrev pub no_views : Views
 no_views = record {
   book = record { number = 0; log_name = 0; cells_name = 0 };
@@ -24,8 +24,10 @@ pub record Fronted : Type 0 where
   pub book : Book
   pub calls : List StampedCall
 
+-- how a list of calls is coded
 abbrev pub coded_calls : Coded (List StampedCall)
 coded_calls = coded_list stamped.the_row.coded
 
+-- how a beginning of a history is coded
 abbrev pub coded_fronted : Coded Fronted
 coded_fronted = code_by (Book × List StampedCall) (coded× book_coded coded_calls) (λ f. (f.book, f.calls)) (λ p. record { book = p.0; calls = p.1 }) (λ _. refl)

@@ -3,13 +3,15 @@ use Rattle.std.specs.Prelude.{ℕ, ◌≡◌, ◌==◌, true, List, [], ◌∷�
 use Rattle.logbook.specs.Pages.{Cell, Step, View, Book, Named}
 use Rattle.ft_posix.specs.declared.stamped.StampedCall.{StampedCall}
 
--- the first word is the length of the history. A book has two words, of which this one leaves the second at 0
+-- the word of a book is the length of its history. A book has two words, of which this one leaves
+-- the second at 0
 abbrev pub IsKept : List Cell → List StampedCall → Type 0
 IsKept cells log = cells ≡ (length log, true) ∷ (0, true) ∷ []
 
+-- which word of a book that is
 abbrev pub head_of : Book → Named
 head_of b = record { tracked = true; key = 0; book = b }
 
--- the call was added to all that had been seen; or the history was longer, and was seen
+-- a step adds the call to all that had been seen; or it has seen that the history was longer
 abbrev pub Adds : Step StampedCall → View StampedCall ℕ → ℕ → View StampedCall ℕ → Type 0
 Adds s v found w = MatchBool (found == s.old) (w.0 ≡ v.0 ++ s.ask ∷ []) (length w.0 ≡ found)

@@ -169,7 +169,7 @@ fn read_open(
     let size = look.size(description.file)?;
     let read = size.saturating_sub(description.offset).min(len);
     let told = Told::BytesOf {
-        file: description.file,
+        file: look.hinted(description.file),
         at: description.offset,
         len,
     };
@@ -211,7 +211,11 @@ fn pread_at(look: &mut Look<'_>, len: u64, description: OpenFile, at: u64) -> Re
 {
     let file = description.file;
     look.size(file)?;
-    Ok(Told::BytesOf { file, at, len })
+    Ok(Told::BytesOf {
+        file: look.hinted(file),
+        at,
+        len,
+    })
 }
 
 /// Writes at an offset, and leaves that of the description.

@@ -1,4 +1,7 @@
--- The order of cells, in which locks are listed, and which cells overlap. (Rules of this project.)
+-- The order of cells, in which accesses and locks are listed, and which cells overlap. (Rules of
+-- this project.)
+-- Cells are what Moss calls objects (Nested Transactions, MIT 1981). Whether a number is a
+-- directory or a file never changes, and needs no cell.
 use Rattle.std.specs.Prelude.{◌≡◌, ℕ, zero, suc, Bool, true, ◌==◌, List, [], refl}
 use Rattle.std.proofs.Common.{sym, ap, ◌∙◌}
 use Rattle.std.specs.declared.cmp.Ordering.{Ordering}
@@ -19,6 +22,7 @@ cell_rank (Links i) = 3
 cell_rank (Bytes i) = 4
 cell_rank (Fd f) = 5
 
+-- the number of a cell: that of its directory, its file or its descriptor
 abbrev pub cell_number : Cell → ℕ
 cell_number (Entry entry) = entry.dir
 cell_number (Names d) = d
@@ -27,6 +31,7 @@ cell_number (Links i) = i
 cell_number (Bytes i) = i
 cell_number (Fd f) = f
 
+-- the name of an entry; no other cell has one
 abbrev pub cell_name : Cell → List ℕ
 cell_name (Entry entry) = entry.name
 cell_name (Names d) = []
@@ -35,19 +40,22 @@ cell_name (Links i) = []
 cell_name (Bytes i) = []
 cell_name (Fd f) = []
 
--- by kind, then by number, and then by name
+-- by kind, then by number, and then by the bytes of the name
 abbrev pub cell_cmp : Cell → Cell → Ordering
 cell_cmp x y = ordering_then (nat_cmp (cell_rank x) (cell_rank y)) (ordering_then (nat_cmp (cell_number x) (cell_number y)) (slice_cmp nat_cmp (cell_name x) (cell_name y)))
 
+-- cells are the same where they do not differ in the order
 abbrev pub same_cell : Cell → Cell → Bool
 same_cell x y = is_eq (cell_cmp x y)
 
--- cells overlap where they are the same, or where one is the names of a directory and the other an entry of it
+-- cells overlap where they are the same, or where one is the names of a directory and the other
+-- an entry of it
 abbrev pub overlap : Cell → Cell → Bool
 overlap (Entry entry) (Names e) = entry.dir == e
 overlap (Names d) (Entry entry) = d == entry.dir
 overlap x y = same_cell x y
 
+-- the order is total
 pub cell_cmp_total : IsTotalOrder cell_cmp
 cell_cmp_total = then_total (on_total cell_rank nat_cmp_total) (then_total (on_total cell_number nat_cmp_total) (on_total cell_name nat_list_cmp_total))
 
@@ -75,5 +83,6 @@ cell_cmp_exact x y tied =
     (cell_rank x, (cell_number x, cell_name x)) (cell_rank y, (cell_number y, cell_name y)) tied in
     sym (cell_again x) ∙ ap (λ (k : ℕ × (ℕ × List ℕ)). cell_at k.0 k.1.0 k.1.1) same ∙ cell_again y
 
+-- cells that are the same are one
 pub same_cell-is : (x y : Cell) → same_cell x y ≡ true → x ≡ y
 same_cell-is x y h = cell_cmp_exact x y ((Equal-is (cell_cmp x y)).0 h)

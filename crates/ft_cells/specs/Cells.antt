@@ -1,4 +1,6 @@
--- The stored cells of a tree, and how one of them is read and set.
+-- The stored cells of a tree, and how one of them is read and set (POSIX.1-2017, Base
+-- Definitions, 3: Directory Entry, Parent Directory, Link Count, Open File Description). That
+-- what is stored has places, which may be empty, is a rule of this project.
 use Rattle.std.specs.Prelude.{ℕ, Bool, false, cond, ◌==◌, ◌||◌, nat_lt, List, [], Option, Some, None, IsSome, is_some, unwrap_or, refl}
 use Rattle.std.specs.Ordering.{nat_cmp}
 use Rattle.std.specs.Cmp.Lexicographic.{slice_cmp}
@@ -13,22 +15,25 @@ use Rattle.ft_cells.specs.declared.open_file.OpenFile.{OpenFile}
 use Rattle.ft_cells.specs.contracts.open_file.OpenFile as open_file
 use Rattle.ft_cells.specs.Nodes.{coded_node}
 
--- What is stored of one directory: the directory that has its entry, and a place for each entry, which may be empty.
+-- What is stored of one directory: the directory that has its entry, or none, and a place for
+-- each of its names, which may be empty.
 pub record DirCells : Type 0 where
   pub parent : Option ℕ
   pub entries : map.FinMap (slice_cmp nat_cmp) (Option Node)
 
+-- how that is coded
 abbrev pub coded_dir_cells : Coded DirCells
 coded_dir_cells =
     code_by (Option ℕ × map.FinMap (slice_cmp nat_cmp) (Option Node))
     (coded× (coded_option coded_ℕ) (map.code (coded_list coded_ℕ) (coded_option coded_node)))
     (λ d. (d.parent, d.entries)) (λ p. record { parent = p.0; entries = p.1 }) (λ _. refl)
 
--- What is stored of one file: how many entries name it, and its bytes.
+-- What is stored of one file: how many entries name it (Link Count), and its bytes.
 pub record FileCells : Type 0 where
   pub links : ℕ
   pub bytes : List ℕ
 
+-- how that is coded
 abbrev pub coded_file_cells : Coded FileCells
 coded_file_cells = code_by (ℕ × List ℕ) (coded× coded_ℕ (coded_list coded_ℕ)) (λ f. (f.links, f.bytes)) (λ p. record { links = p.0; bytes = p.1 }) (λ _. refl)
 
@@ -36,27 +41,30 @@ coded_file_cells = code_by (ℕ × List ℕ) (coded× coded_ℕ (coded_list code
 abbrev pub Opens : Type 0
 Opens = map.FinMap nat_cmp (Option OpenFile)
 
--- The stored cells of a tree, by number.
+-- The stored cells of a tree: directories and files by number, and the descriptions by
+-- descriptor.
 pub record Cells : Type 0 where
   pub directories : map.FinMap nat_cmp DirCells
   pub files : map.FinMap nat_cmp FileCells
   pub opens : Opens
 
+-- how they are coded. Nothing a reader has to know.
 abbrev pub coded_cells : Coded Cells
 coded_cells =
     code_by (map.FinMap nat_cmp DirCells × (map.FinMap nat_cmp FileCells × Opens))
     (coded× (map.code coded_ℕ coded_dir_cells) (coded× (map.code coded_ℕ coded_file_cells) (map.code coded_ℕ (coded_option open_file.the_row.coded))))
     (λ c. (c.directories, (c.files, c.opens))) (λ p. record { directories = p.0; files = p.1.0; opens = p.1.1 }) (λ _. refl)
 
--- what a name leads to; a place that is empty, or not there, is no entry
+-- what a name leads to in one directory; a place that is empty, or not there, is no entry
 abbrev pub dir_entry : DirCells → List ℕ → Option Node
 dir_entry d name = option_flatten (map.get d.entries name)
 
--- the entry that stands in a place, if there is one
+-- what stands in a place, with its name, if it is not empty
 abbrev pub filled : List ℕ × Option Node → Option (List ℕ × Node)
 filled e = option_map (λ x. (e.0, x)) e.1
 
--- the entries of a directory in the order of their names, without the empty places
+-- the entries of a directory in the order of the bytes of their names (a rule of this project),
+-- without the empty places
 abbrev pub dir_names : DirCells → List (List ℕ × Node)
 dir_names d = filter_map filled (map.entries d.entries)
 
@@ -64,6 +72,7 @@ dir_names d = filter_map filled (map.entries d.entries)
 abbrev pub no_dir : DirCells
 no_dir = record { parent = None; entries = map.empty }
 
+-- what is stored of the directory of this number
 abbrev pub dir_of : Cells → ℕ → DirCells
 dir_of cells d = unwrap_or (map.get cells.directories d) no_dir
 
@@ -71,27 +80,33 @@ dir_of cells d = unwrap_or (map.get cells.directories d) no_dir
 abbrev pub no_file : FileCells
 no_file = record { links = 0; bytes = [] }
 
+-- what is stored of the file of this number
 abbrev pub file_of : Cells → ℕ → FileCells
 file_of cells i = unwrap_or (map.get cells.files i) no_file
 
--- how many directories are stored, the empty places among them
+-- how many directories are stored, emptied places among them: no way up to the root is longer
 abbrev pub stored_dirs : Cells → ℕ
 stored_dirs cells = map.len cells.directories
 
 -- The value of each cell.
 
+-- what a name leads to in a directory (Directory Entry)
 abbrev pub entry_of : Cells → ℕ → List ℕ → Option Node
 entry_of cells d name = dir_entry (dir_of cells d) name
 
+-- all names of a directory, with what they lead to
 abbrev pub names_of : Cells → ℕ → List (List ℕ × Node)
 names_of cells d = dir_names (dir_of cells d)
 
+-- the directory that has a directory's entry (Parent Directory)
 abbrev pub parent_of : Cells → ℕ → Option ℕ
 parent_of cells d = (dir_of cells d).parent
 
+-- how many entries name a file (Link Count)
 abbrev pub links_of : Cells → ℕ → ℕ
 links_of cells i = (file_of cells i).links
 
+-- the bytes of a file
 abbrev pub bytes_of : Cells → ℕ → List ℕ
 bytes_of cells i = (file_of cells i).bytes
 
@@ -99,52 +114,67 @@ bytes_of cells i = (file_of cells i).bytes
 abbrev pub body_in : Cells → ℕ → Option (List ℕ)
 body_in cells i = option_map (λ (f : FileCells). f.bytes) (map.get cells.files i)
 
+-- the open file description of a descriptor, if it is open
 abbrev pub open_of : Cells → ℕ → Option OpenFile
 open_of cells f = option_flatten (map.get cells.opens f)
 
--- Places. One that is there can be set without memory.
+-- Places, empty or not. What is there can be set without memory (a rule of this project).
 
+-- the directory is stored
 abbrev pub HasDirPlace : Cells → ℕ → Type 0
 HasDirPlace cells d = IsSome (map.get cells.directories d)
 
+-- the name has a place in what is stored of a directory
 abbrev pub HasPlace : DirCells → List ℕ → Type 0
 HasPlace d name = IsSome (map.get d.entries name)
 
+-- the name has a place in the directory of this number
 abbrev pub HasEntryPlace : Cells → ℕ → List ℕ → Type 0
 HasEntryPlace cells d name = HasPlace (dir_of cells d) name
 
+-- the file is stored
 abbrev pub HasFilePlace : Cells → ℕ → Type 0
 HasFilePlace cells i = IsSome (map.get cells.files i)
 
+-- the descriptor has a place
 abbrev pub HasOpenPlace : Cells → ℕ → Type 0
 HasOpenPlace cells f = IsSome (map.get cells.opens f)
 
--- The cells with one of them set.
+-- The cells with one of them set, and nothing else changed.
 
+-- one directory with what a name leads to
 abbrev pub put_dir_entry : DirCells → List ℕ → Option Node → DirCells
 put_dir_entry d name to = record { parent = d.parent; entries = map.insert d.entries name to }
 
+-- one directory with its parent
 abbrev pub put_dir_parent : DirCells → Option ℕ → DirCells
 put_dir_parent d parent = record { parent = parent; entries = d.entries }
 
+-- with all that is stored of a directory
 abbrev pub put_dir : Cells → ℕ → DirCells → Cells
 put_dir cells d x = record cells { directories = map.insert cells.directories d x }
 
+-- with what a name leads to in a directory, or that it is no entry
 abbrev pub put_entry : Cells → ℕ → List ℕ → Option Node → Cells
 put_entry cells d name to = put_dir cells d (put_dir_entry (dir_of cells d) name to)
 
+-- with the parent of a directory, or that it has none
 abbrev pub put_parent : Cells → ℕ → Option ℕ → Cells
 put_parent cells d parent = put_dir cells d (put_dir_parent (dir_of cells d) parent)
 
+-- with all that is stored of a file
 abbrev pub put_file : Cells → ℕ → FileCells → Cells
 put_file cells i x = record cells { files = map.insert cells.files i x }
 
+-- with the count of a file's links
 abbrev pub put_links : Cells → ℕ → ℕ → Cells
 put_links cells i links = put_file cells i (record { links = links; bytes = bytes_of cells i })
 
+-- with the bytes of a file
 abbrev pub put_bytes : Cells → ℕ → List ℕ → Cells
 put_bytes cells i bytes = put_file cells i (record { links = links_of cells i; bytes = bytes })
 
+-- with the description of a descriptor, or that it is closed
 abbrev pub put_open : Cells → ℕ → Option OpenFile → Cells
 put_open cells f to = record cells { opens = map.insert cells.opens f to }
 
@@ -152,14 +182,16 @@ put_open cells f to = record cells { opens = map.insert cells.opens f to }
 abbrev pub without_dir_place : DirCells → List ℕ → DirCells
 without_dir_place d name = record { parent = d.parent; entries = map.remove d.entries name }
 
--- the root alone
+-- the root alone, without an entry: the tree at first (Root Directory)
 abbrev pub fresh_cells : Cells
 fresh_cells = record { directories = map.insert map.empty 1 no_dir; files = map.empty; opens = map.empty }
 
--- a stored directory is there where it is the root or has a parent
+-- a stored directory is there where it is the root or has a parent; else it is a place that was
+-- emptied (a rule of this project)
 abbrev pub is_there : ℕ → DirCells → Bool
 is_there i d = (i == 1) || is_some d.parent
 
+-- the directory of this number is there
 abbrev pub has_dir : Cells → ℕ → Bool
 has_dir cells i = option_map_or (is_there i) (map.get cells.directories i) false
 
@@ -171,10 +203,12 @@ is_of_file i e = option_map_or (λ (o : OpenFile). o.file == i) e.1 false
 abbrev pub is_open : Opens → ℕ → Bool
 is_open opens i = list_any (is_of_file i) (map.entries opens)
 
--- a file is there while an entry or a description names it (POSIX.1-2017, System Interfaces, unlink and close)
+-- a file is there while an entry or a description names it (POSIX.1-2017, System Interfaces,
+-- unlink and close)
 abbrev pub has_file : Cells → ℕ → Bool
 has_file cells i = nat_lt 0 (links_of cells i) || is_open cells.opens i
 
--- what a number stands for
+-- what a number stands for: a directory or a file that is there, and else nothing (a rule of this
+-- project)
 abbrev pub kind_of : Cells → ℕ → Option Kind
 kind_of cells i = cond (has_dir cells i) (Some DirKind) (cond (has_file cells i) (Some FileKind) None)

@@ -1,4 +1,5 @@
--- The entries that directories may have: a name in a directory (POSIX.1-2017, Base Definitions, 3, Directory Entry).
+-- The entries that directories may have: a name in a directory (POSIX.1-2017, Base Definitions,
+-- 3, Directory Entry). Their order is a rule of this project.
 use Rattle.std.specs.Prelude.{ℕ, List}
 use Rattle.std.proofs.Common.{ap}
 use Rattle.std.specs.declared.cmp.Ordering.{Ordering}
@@ -17,10 +18,11 @@ entry_at dir name = record { dir = dir; name = name }
 abbrev pub entry_in : EntryRef → Entry
 entry_in entry = entry_at entry.dir entry.name.now
 
--- by directory, and then by name
+-- by directory, and then by the bytes of the name
 abbrev pub entry_cmp : Entry → Entry → Ordering
 entry_cmp x y = ordering_then (nat_cmp x.dir y.dir) (slice_cmp nat_cmp x.name y.name)
 
+-- the order is total
 pub entry_cmp_total : IsTotalOrder entry_cmp
 entry_cmp_total = then_total (on_total (λ entry. entry.dir) nat_cmp_total) (on_total (λ entry. entry.name) nat_list_cmp_total)
 

@@ -1,4 +1,5 @@
--- What is found out about a tree, look by look: each look is at one cell, and what it shows says how to go on.
+-- What is found out about a tree, look by look: each look is at one cell, and what it shows says
+-- how to go on. (Rules of this project.)
 use Rattle.std.specs.Prelude.{◌≡◌, ℕ, List, [], ◌∷◌, Option, Result, Ok, Err, refl}
 use Rattle.std.proofs.Common.{ap, ◌∙◌}
 use Rattle.ft_cells.specs.declared.node.Node.{Node}
@@ -6,7 +7,9 @@ use Rattle.ft_cells.specs.declared.cell.Cell.{Cell}
 use Rattle.ft_cells.specs.declared.cell.Cell.TheVariants.{Entry, Names, Parent, Links, Bytes, Fd}
 use Rattle.ft_cells.specs.declared.open_file.OpenFile.{OpenFile}
 
--- what a cell shows
+-- what a cell shows when it is looked at: an entry its node or none, names a list of names with
+-- nodes, a parent a number or none, links a count, bytes a list, a descriptor its description or
+-- none
 abbrev pub Shows : Cell → Type 0
 Shows (Entry entry) = Option Node
 Shows (Names d) = List (List ℕ × Node)
@@ -19,6 +22,8 @@ Shows (Fd f) = Option OpenFile
 abbrev pub View : Type 0
 View = (c : Cell) → Shows c
 
+-- a way to find something out: an answer at once, or a look at one cell, and from what it shows
+-- how to go on. The walk, a call and its accesses are one such text.
 pub data Looks (A : Type 0) : Type 0 where
   Answer : A → Looks A
   Look : (c : Cell) → (Shows c → Looks A) → Looks A
@@ -34,22 +39,22 @@ or_else fail f (Ok x) = f x
 or_else fail f (Err e) = Answer (fail e)
 
 module _ {A : Type 0} where
-  -- what is answered
+  -- what is found out in a view
   abbrev pub answer : Looks A → View → A
   answer (Answer x) v = x
   answer (Look c next) v = answer (next (v c)) v
 
-  -- the cells that are looked at
+  -- the cells that are looked at on the way, in order
   abbrev pub looked_at : Looks A → View → List Cell
   looked_at (Answer x) v = []
   looked_at (Look c next) v = c ∷ looked_at (next (v c)) v
 
--- how who reads a tree stands when it has read each of the cells
+-- how who reads a tree stands when it has read each of the cells, one after the other
 abbrev pub all_noted : {R : Type 0} → (R → Cell → R) → R → List Cell → R
 all_noted noted r [] = r
 all_noted noted r (c ∷ cs) = all_noted noted (noted r c) cs
 
--- each of the cells shows the same in both
+-- each of the cells shows the same in both views
 abbrev pub Agree : View → View → List Cell → Type 0
 Agree v w [] = Unit {0}
 Agree v w (c ∷ cs) = (v c ≡ w c) × Agree v w cs
@@ -65,6 +70,7 @@ module _ {A : Type 0} where
   looked_at-agree (Answer x) v w a = refl
   looked_at-agree (Look c next) v w a = ap (λ cs. c ∷ cs) (looked_at-agree (next (v c)) v w a.1 ∙ ap (λ x. looked_at (next x) w) a.0)
 
+-- of two parts, one after the other, the answer is that of the second
 pub answer-then : {A B : Type 0} (s : Looks A) (f : A → Looks B) (v : View) → answer (then s f) v ≡ answer (f (answer s v)) v
 answer-then (Answer x) f v = refl
 answer-then (Look c next) f v = answer-then (next (v c)) f v

@@ -1,4 +1,10 @@
--- What an entry leads to.
+-- What an entry leads to (POSIX.1-2017, Base Definitions, 3, Directory Entry: an entry associates
+-- a name with a file): a number with its kind. Kinds never change, so this says no more than the
+-- number does, and no law on cells needs a premise about kinds.
+-- Numbers name directories, files and descriptors: the root is 1, and what a call makes or opens
+-- has the call's stamp. That is a rule of this project, where POSIX leaves file serial numbers
+-- free, and gives the lowest descriptor that is free.
+-- Names and the bytes of files are lists of bytes.
 use Rattle.std.specs.Prelude.{◌≡◌, ℕ, Bool, true, false, List, map, refl}
 use Rattle.std.specs.Coded.{Coded, code_by, coded×, coded_ℕ, coded_bool}
 use Rattle.ft_cells.specs.declared.node.Kind.{Kind}
@@ -6,10 +12,12 @@ use Rattle.ft_cells.specs.declared.node.Kind.TheVariants.{Dir as DirKind, File a
 use Rattle.ft_cells.specs.declared.node.Node.{Node}
 use Rattle.ft_cells.specs.declared.node.Node.TheVariants.{Dir as DirNode, File as FileNode}
 
+-- the number of a node
 abbrev pub number_of : Node → ℕ
 number_of (DirNode i) = i
 number_of (FileNode i) = i
 
+-- its kind
 abbrev pub kind_of_node : Node → Kind
 kind_of_node (DirNode i) = DirKind
 kind_of_node (FileNode i) = FileKind
@@ -18,18 +26,22 @@ kind_of_node (FileNode i) = FileKind
 abbrev pub with_kinds : List (List ℕ × Node) → List (List ℕ × Kind)
 with_kinds es = map (λ e. (e.0, kind_of_node e.1)) es
 
--- a node is stored as its number, and whether it is a directory
+-- a node is stored as its number, and whether it is a directory, so that it may stand in what
+-- clauses see of other values. Nothing a reader has to know.
 abbrev pub node_to_pair : Node → Bool × ℕ
 node_to_pair (DirNode i) = (true, i)
 node_to_pair (FileNode i) = (false, i)
 
+-- the node that such a pair is of
 abbrev pub node_from : Bool → ℕ → Node
 node_from true i = DirNode i
 node_from false i = FileNode i
 
+-- it is the node that the pair was made of
 abbrev pub node_back : (n : Node) → node_from (node_to_pair n).0 (node_to_pair n).1 ≡ n
 node_back (DirNode i) = refl
 node_back (FileNode i) = refl
 
+-- how a node is coded
 abbrev pub coded_node : Coded Node
 coded_node = code_by (Bool × ℕ) (coded× coded_bool coded_ℕ) node_to_pair (λ p. node_from p.0 p.1) node_back

@@ -1,4 +1,6 @@
--- The plain tree: edges, directories, files and open file descriptions, with nothing kept beside them (POSIX.1-2017, Base Definitions, 3 and 4.13).
+-- The plain tree: edges, directories, files and open file descriptions, with nothing kept beside
+-- them (POSIX.1-2017, Base Definitions, 3: Directory, Directory Entry, File, Open File
+-- Description; and 4.13).
 use Rattle.std.specs.Prelude.{ℕ, cond, ◌==◌, List, [], map, filter, length, Option, None, unwrap_or}
 use Rattle.std.specs.Ordering.{nat_cmp}
 use Rattle.std.specs.List.{find}
@@ -11,10 +13,12 @@ use Rattle.ft_cells.specs.declared.cell.Cell.TheVariants.{Entry, Names, Parent, 
 use Rattle.ft_cells.specs.Entries.{entry_cmp}
 use Rattle.ft_cells.specs.Looks.{View}
 
--- a set of numbers
+-- a set of numbers, as a map to nothing: std's finite set hides in which order its items stand,
+-- which the rows of a tree tell
 abbrev pub NumberSet : Type 0
 NumberSet = finite.FinMap nat_cmp (Unit {0})
 
+-- a tree with nothing kept beside what it is: no place, no parent and no count of links
 pub record PlainTree : Type 0 where
   -- what number each entry leads to
   pub edges : finite.FinMap entry_cmp ℕ
@@ -25,22 +29,23 @@ pub record PlainTree : Type 0 where
   -- the open file description of each descriptor
   pub opens : finite.FinMap nat_cmp OpenFile
 
--- the directory whose edge leads to a number
+-- the directory whose edge leads to a number (Parent Directory)
 abbrev pub parent_in : PlainTree → ℕ → Option ℕ
 parent_in p i = option_map (λ e. e.0.dir) (find (λ e. e.1 == i) (finite.entries p.edges))
 
+-- a number with its kind: a directory where it is one of `dirs`, and else a file
 abbrev pub node_in : PlainTree → ℕ → Node
 node_in p i = cond (finite.contains_key p.dirs i) (DirNode i) (FileNode i)
 
--- all names of a directory, in their order, with what they lead to
+-- all names of a directory, in the order of their bytes, with what they lead to
 abbrev pub names_in : PlainTree → ℕ → List (List ℕ × Node)
 names_in p d = map (λ e. (e.0.name, node_in p e.1)) (finite.entries (finite.retain_keys p.edges (λ e. e.dir == d)))
 
--- how many edges lead to a number
+-- how many edges lead to a number (Link Count)
 abbrev pub links_in : PlainTree → ℕ → ℕ
 links_in p i = length (filter (λ e. e.1 == i) (finite.entries p.edges))
 
--- what a plain tree shows; only a directory has a parent, and only a file has links
+-- what a plain tree shows for each cell; only a directory has a parent, and only a file has links
 abbrev pub view_in : PlainTree → View
 view_in p (Entry entry) = option_map (node_in p) (finite.get p.edges entry)
 view_in p (Names d) = names_in p d

@@ -10,6 +10,7 @@ use Rattle.ft_cells.specs.declared.open_file.OpenFile.{OpenFile}
 use Rattle.ft_cells.specs.contracts.open_file.OpenFile as open_file
 use Rattle.ft_cells.specs.Plain.{PlainTree, NumberSet}
 
+-- how a plain tree is coded. Nothing a reader has to know.
 abbrev pub coded_tree : Coded PlainTree
 coded_tree =
     code_by (finite.FinMap entry_cmp ℕ × (NumberSet × (finite.FinMap nat_cmp (List ℕ) × finite.FinMap nat_cmp OpenFile)))

@@ -10,12 +10,14 @@
 
 mod cell;
 mod entry;
+mod hint;
 mod node;
 mod open_file;
 mod row;
 
 pub use cell::Cell;
 pub use entry::{Entry, EntryRef};
+pub use hint::{Hint, Hinted, seen_in, value_in, with_hint};
 pub use node::{Found, Kind, Node, Spot};
 pub use open_file::{AccessMode, OpenFile};
 pub use row::TreeRow;

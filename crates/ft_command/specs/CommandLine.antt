@@ -1,4 +1,4 @@
--- The command line of the program, in the words of the crate that reads it.
+-- The command line of the program, in the words of the crate `clap`, which reads it.
 use Rattle.std.specs.Prelude.{◌≡◌, ◌≢◌, ◌≤◌, ℕ, Bool, true, false, List, [], ◌∷◌, codes, Option, None, Some, option_map, string_bytes}
 use Rattle.std.specs.Str.Parse.{digits_value, without_leading_plus}
 use Rattle.clap.specs.Words.{App, IsAmong, Row, Rule, Text, fault_of, first_of, new_app, new_rule, one_of, subcommand_of, with_rule, with_subcommand}
@@ -17,11 +17,12 @@ use Rattle.ft_command.specs.declared.choice.Choice.TheVariants.{Play, Dot, Load,
 abbrev pub file_rule : Rule
 file_rule = record (new_rule (codes "file")) { required = true; value_names = 1 }
 
--- how often a call asks at most: `--turns N`, from 1 to 1,000,000, and 10,000 where it is not named
+-- how often a call asks at most: `--turns N`, from 1 to 1,000,000, and 10,000 where it is not
+-- named
 abbrev pub turns_rule : Rule
 turns_rule = record (new_rule (codes "turns")) { long = Some (codes "turns"); value_names = 1; parser = Some (Unsigned 1 1000000); defaults = codes "10000" ∷ [] }
 
--- `--quiet`, where it is not to be shown how far the jobs have come
+-- `--quiet`, where it is not to be shown how far it has come
 abbrev pub quiet_rule : Rule
 quiet_rule = record (new_rule (codes "quiet")) { long = Some (codes "quiet"); action = Some SetTrue }
 
@@ -41,15 +42,19 @@ skip_rule = record (new_rule (codes "skip")) { long = Some (codes "skip"); actio
 abbrev pub after_rule : Rule
 after_rule = record (new_rule (codes "after")) { long = Some (codes "after"); value_names = 1 }
 
+-- `play`, which may have `--moss` and `--after FILE`
 abbrev pub play : App
 play = with_rule (with_rule (new_app (codes "play")) moss_rule) after_rule
 
+-- `load`, which needs a directory and may have `--skip`
 abbrev pub load : App
-load = with_rule (with_rule (new_app (codes "load")) dir_rule) skip_rule
+load = with_rule (with_rule (with_rule (new_app (codes "load")) dir_rule) skip_rule) quiet_rule
 
+-- `save`, which needs a directory
 abbrev pub save : App
-save = with_rule (new_app (codes "save")) dir_rule
+save = with_rule (with_rule (new_app (codes "save")) dir_rule) quiet_rule
 
+-- `jobs`, which needs a file and may have `--turns N`, `--quiet`, `--moss` and `--after FILE`
 abbrev pub jobs : App
 jobs = with_rule (with_rule (with_rule (with_rule (with_rule (new_app (codes "jobs")) file_rule) turns_rule) quiet_rule) moss_rule) after_rule
 
@@ -57,7 +62,7 @@ jobs = with_rule (with_rule (with_rule (with_rule (with_rule (new_app (codes "jo
 abbrev pub HasNoGlobals : Command → Type 0
 HasNoGlobals command = (out-Command command).has_globals ≡ false
 
--- the program needs a subcommand; the words begin behind its name
+-- the program `ft_run` needs a subcommand; the words begin behind its name
 abbrev pub bare : App
 bare =
     let named = new_app (codes "ft_run") in
@@ -71,23 +76,26 @@ with_filters = with_subcommand (with_subcommand bare play.top) (new_app (codes "
 abbrev pub with_folders : App
 with_folders = with_subcommand (with_subcommand with_filters load.top) save.top
 
--- and `jobs`
+-- and `jobs`: the whole command line
 abbrev pub program : App
 program = with_subcommand with_folders jobs.top
 
--- a subcommand by its name, with what was found for it
+-- a subcommand by its name, with what was found for it (clap's rows)
 abbrev pub Met : Type 0
 Met = Option (Text × List Row)
 
+-- it has this name
 abbrev pub Names : Text → Met → Type 0
 Names name met = (found : List Row) × (met ≡ Some (name, found))
 
--- a flag: it stands where the text that was found for it is `true`, and not where that is `false` or nothing was found
+-- A flag stands where the text that was found for it is `true`, and does not where that is
+-- `false`, or nothing was found.
 abbrev pub IsFlag : Option Text → Bool → Type 0
 IsFlag None flag = flag ≡ false
 IsFlag (Some text) flag = (text ≡ codes "true" → flag ≡ true) × (text ≡ codes "false" → flag ≡ false)
 
--- the file and the turns that were found, at least one, and whether it is to be quiet
+-- The file and the turns are those that were found (clap's `first_of` and `one_of`, the digits of
+-- which are the number), there is at least one turn, and it is quiet where that flag stands.
 abbrev pub TellsJobs : List Row → Text → ℕ → Bool → Type 0
 TellsJobs found file turns quiet =
     (first_of (codes "file") found ≡ Some file)
@@ -95,7 +103,7 @@ TellsJobs found file turns quiet =
     × (1 ≤ turns)
     × IsFlag (one_of (codes "quiet") found) quiet
 
--- the rule by which calls are granted
+-- the rule is `Moss` where the flag `--moss` stands, and else `Profile`
 abbrev pub TellsRule : List Row → LockRule → Type 0
 TellsRule found rule = IsFlag (one_of (codes "moss") found) (is_strict rule)
 
@@ -111,34 +119,37 @@ TellsDir found dir = first_of (codes "dir") found ≡ Some dir
 abbrev pub ReadChoice : Met → Choice → Type 0
 ReadChoice met (Play rule after) = (found : List Row) × (met ≡ Some (codes "play", found)) × TellsRule found rule × TellsAfter found (option_map string_bytes after)
 ReadChoice met Dot = Names (codes "dot") met
-ReadChoice met (Load dir skip) = (found : List Row) × (met ≡ Some (codes "load", found)) × TellsDir found (string_bytes dir) × IsFlag (one_of (codes "skip") found) skip
-ReadChoice met (Save dir) = (found : List Row) × (met ≡ Some (codes "save", found)) × TellsDir found (string_bytes dir)
+ReadChoice met (Load dir skip quiet) = (found : List Row) × (met ≡ Some (codes "load", found)) × TellsDir found (string_bytes dir) × IsFlag (one_of (codes "skip") found) skip × IsFlag (one_of (codes "quiet") found) quiet
+ReadChoice met (Save dir quiet) = (found : List Row) × (met ≡ Some (codes "save", found)) × TellsDir found (string_bytes dir) × IsFlag (one_of (codes "quiet") found) quiet
 ReadChoice met (Jobs file turns quiet rule after) = (found : List Row) × (met ≡ Some (codes "jobs", found)) × TellsJobs found (string_bytes file) turns quiet × TellsRule found rule × TellsAfter found (option_map string_bytes after)
 ReadChoice met (Help text) = ⊥
 ReadChoice met (Usage text) = ⊥
 ReadChoice met Fault = Unit {0}
 
--- the choice where the words have an error of this kind
+-- The choice at an error of this kind: a help text just for a request of help, and a usage text
+-- for a mistake. Want of memory may stand in place of any.
 abbrev pub ErrorChoice : ErrorKind → Choice → Type 0
 ErrorChoice kind (Play rule after) = ⊥
 ErrorChoice kind Dot = ⊥
-ErrorChoice kind (Load dir skip) = ⊥
-ErrorChoice kind (Save dir) = ⊥
+ErrorChoice kind (Load dir skip quiet) = ⊥
+ErrorChoice kind (Save dir quiet) = ⊥
 ErrorChoice kind (Jobs file turns quiet rule after) = ⊥
 ErrorChoice kind (Help text) = kind ≡ DisplayHelp
 ErrorChoice kind (Usage text) = (kind ≢ DisplayHelp) × (kind ≢ OutOfMemory)
 ErrorChoice kind Fault = Unit {0}
 
--- the words have no error, and the subcommand that they name is read as this choice
+-- the words have no error (clap's `fault_of`), and the subcommand that they name
+-- (`subcommand_of`) is read as this choice
 abbrev pub IsCommand : List Text → Choice → Type 0
 IsCommand words choice = (fault_of program words ≡ []) × ReadChoice (subcommand_of program words) choice
 
--- the choice that words ask for
+-- The choice that words ask for: a subcommand only where they name just that, a help text only
+-- where help was asked for, a usage text only at another error.
 abbrev pub ChoiceOf : List Text → Choice → Type 0
 ChoiceOf words (Play rule after) = IsCommand words (Play rule after)
 ChoiceOf words Dot = IsCommand words Dot
-ChoiceOf words (Load dir skip) = IsCommand words (Load dir skip)
-ChoiceOf words (Save dir) = IsCommand words (Save dir)
+ChoiceOf words (Load dir skip quiet) = IsCommand words (Load dir skip quiet)
+ChoiceOf words (Save dir quiet) = IsCommand words (Save dir quiet)
 ChoiceOf words (Jobs file turns quiet rule after) = IsCommand words (Jobs file turns quiet rule after)
 ChoiceOf words (Help text) = IsAmong DisplayHelp (fault_of program words)
 ChoiceOf words (Usage text) = (kind : ErrorKind) × IsAmong kind (fault_of program words) × (kind ≢ DisplayHelp)

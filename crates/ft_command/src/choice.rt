@@ -22,14 +22,17 @@ pub enum Choice {
     /// Draw the last report on who waits for whom.
     Dot,
     /// Write a script that makes what this directory holds. What a tree has no place for is left out
-    /// where it is to be skipped.
+    /// where it is to be skipped. How far it has come is not shown where it is to be quiet.
     Load {
         dir: String,
         skip: bool,
+        quiet: bool,
     },
-    /// Make this directory of the last tree among replies.
+    /// Make this directory of the last tree among replies. How far it has come is not shown where it
+    /// is to be quiet.
     Save {
         dir: String,
+        quiet: bool,
     },
     /// Run the jobs of the plan in a file. A call of theirs asks at most so many times, at least
     /// once. How far they have come is not shown where it is to be quiet. Their core grants calls
@@ -111,8 +114,9 @@ fn load_choice(alloc: Global, found: &ArgMatches) -> Choice
     ensures { ReadChoice (Some (codes "load", rows_of (found_of found.now))) result }
 {
     let skip = found.get_flag("skip");
+    let quiet = found.get_flag("quiet");
     match asked_dir(alloc, found) {
-        Some(dir) => Choice::Load { dir, skip },
+        Some(dir) => Choice::Load { dir, skip, quiet },
         None => Choice::Fault,
     }
 }
@@ -121,8 +125,9 @@ fn load_choice(alloc: Global, found: &ArgMatches) -> Choice
 fn save_choice(alloc: Global, found: &ArgMatches) -> Choice
     ensures { ReadChoice (Some (codes "save", rows_of (found_of found.now))) result }
 {
+    let quiet = found.get_flag("quiet");
     match asked_dir(alloc, found) {
-        Some(dir) => Choice::Save { dir },
+        Some(dir) => Choice::Save { dir, quiet },
         None => Choice::Fault,
     }
 }
@@ -259,7 +264,8 @@ fn load_command<'a>(alloc: Global) -> Result<Command<'a>, AllocError>
     Command::new(alloc, "load")
         .about("Writes a script that makes what a directory holds")
         .arg(dir_arg(alloc))?
-        .arg(skip_arg(alloc))
+        .arg(skip_arg(alloc))?
+        .arg(quiet_arg(alloc))
 }
 
 // The part of it that makes a directory.
@@ -269,7 +275,8 @@ fn save_command<'a>(alloc: Global) -> Result<Command<'a>, AllocError>
 {
     Command::new(alloc, "save")
         .about("Makes a directory of the last tree among replies")
-        .arg(dir_arg(alloc))
+        .arg(dir_arg(alloc))?
+        .arg(quiet_arg(alloc))
 }
 
 // The part of it that runs the jobs of a plan.
@@ -343,7 +350,7 @@ fn turns_arg<'a>(alloc: Global) -> Arg<'a>
         .help("How often a call that waits asks at most")
 }
 
-// The flag that leaves out how far the jobs have come.
+// The flag that leaves out how far it has come.
 fn quiet_arg<'a>(alloc: Global) -> Arg<'a>
     ensures rule { rule_of result ≡ quiet_rule }
     ensures local { result.global ≡ false }
@@ -351,7 +358,7 @@ fn quiet_arg<'a>(alloc: Global) -> Arg<'a>
     Arg::new(alloc, "quiet")
         .long("quiet")
         .action(ArgAction::SetTrue)
-        .help("Don't show on a terminal how far the jobs have come")
+        .help("Don't show on a terminal how far it has come")
 }
 
 // The flag that asks for Moss's rule for holders.

@@ -1,15 +1,10 @@
 -- What a target did, piece by piece.
-use Rattle.std.proofs.Common.{◌≡◌, ◌⊎◌, ◌||◌, ℕ, List, [], ◌∷◌, ◌++◌, map, Result, Ok, Err, OnErr, Option, None, Some, inl, inr, refl, sym, ap, ◌∙◌, subst, append-nil, append_assoc}
+use Rattle.std.proofs.Common.{◌≡◌, ◌+◌, ◌||◌, ℕ, List, [], ◌∷◌, ◌++◌, map, length, length-append, Option, None, Some, refl, sym, ap, ◌∙◌, subst, append-nil, append_assoc}
 use Rattle.std.proofs.lemmas.List.Folds.{list_any-append}
 use Rattle.std.specs.List.{concat, list_any, flat_map}
-use Rattle.std.specs.Io.KnownBytes.{Consumes, IsAtEnd}
-use Rattle.ft_copy.specs.Asked.{Asked, Start, Finish, Folder, Open, Piece, Close, Link, DoesAll, IsUnfinished, is_finish}
-use Rattle.ft_copy.specs.Runs.{Reaches, Visit, OfFolder, OfFile, OfFurther, OfNothing, asked_of, made}
-
--- what stands at an error
-pub at_error : {V E P : Type 0} (r : Result V E) → P → OnErr r P
-at_error (Ok x) h = tt
-at_error (Err e) h = h
+use Rattle.std.specs.Io.KnownBytes.{Consumes}
+use Rattle.ft_copy.specs.Asked.{Asked, Piece, Close, DoesAll, IsUnfinished, is_finish}
+use Rattle.ft_copy.specs.Runs.{Visit, OfFolder, OfFile, OfFurther, OfNothing, asked_of, made}
 
 -- ---- what was asked for
 
@@ -23,7 +18,7 @@ unfinished_pieces (piece ∷ pieces) = unfinished_pieces pieces
 pub unfinished_made : (path : List ℕ) (pieces : List (List ℕ)) → IsUnfinished (made path pieces)
 unfinished_made path pieces = unfinished_more (map Piece pieces) (Close ∷ []) (unfinished_pieces pieces) refl
 
-unfinished_visit : (visit : Visit) → IsUnfinished (asked_of visit)
+pub unfinished_visit : (visit : Visit) → IsUnfinished (asked_of visit)
 unfinished_visit (OfFolder path) = refl
 unfinished_visit (OfFile path pieces) = unfinished_made path pieces
 unfinished_visit (OfFurther first path) = refl
@@ -40,6 +35,9 @@ pieces_more (p ∷ ps) piece = ap (λ l. Piece p ∷ l) (pieces_more ps piece)
 pub concat_more : (some : List (List ℕ)) (piece : List ℕ) → concat (some ++ piece ∷ []) ≡ concat some ++ piece
 concat_more [] piece = append-nil piece
 concat_more (p ∷ ps) piece = ap (λ l. p ++ l) (concat_more ps piece) ∙ sym (append_assoc p (concat ps) piece)
+
+pub length_pieces : (some : List (List ℕ)) (piece : List ℕ) → length (concat (some ++ piece ∷ [])) ≡ length (concat some) + length piece
+length_pieces some piece = ap length (concat_more some piece) ∙ length-append (concat some) piece
 
 pub visits_more : (some : List Visit) (visit : Visit) → flat_map asked_of (some ++ visit ∷ []) ≡ flat_map asked_of some ++ asked_of visit
 visits_more [] visit = append-nil (asked_of visit)
@@ -66,20 +64,3 @@ module _ {T : Type 0} (does : T → Asked → T → Type 0) where
 
   pub does_one : (old new : T) (asked : Asked) → does old asked new → DoesAll does old (asked ∷ []) new
   does_one old new asked h = (new, h, refl)
-
-module _ {T : Type 0} (does fails : T → Asked → T → Type 0) where
-  pub reaches_nothing : (old : T) → Reaches does fails old old
-  reaches_nothing old = ([], old, refl, refl, inl refl)
-
-  pub reaches_failed : (old new : T) (asked : Asked) → fails old asked new → Reaches does fails old new
-  reaches_failed old new asked h = ([], old, refl, refl, inr (asked, h))
-
-  pub reaches_after : (old middle new : T) (front : List Asked) → IsUnfinished front → DoesAll does old front middle → Reaches does fails middle new → Reaches does fails old new
-  reaches_after old middle new front free h k =
-      (front ++ k.0, k.1, unfinished_more front k.0 free k.2, does_more does old middle k.1 front k.0 h k.3, k.4)
-
-  -- a file was opened, and pieces were put into it
-  pub poured_unfinished : (old opened poured new : T) (path : List ℕ) (pieces : List (List ℕ)) → does old (Open path) opened → DoesAll does opened (map Piece pieces) poured
-      → Reaches does fails poured new → Reaches does fails old new
-  poured_unfinished old opened poured new path pieces was_opened pours failed =
-      reaches_after old poured new (Open path ∷ map Piece pieces) (unfinished_pieces pieces) (opened, was_opened, pours) failed

@@ -2,3 +2,4 @@ pub mod Doing
 pub mod Walking
 pub mod Visiting
 pub mod Telling
+pub mod Stopping

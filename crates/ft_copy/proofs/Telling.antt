@@ -1,13 +1,18 @@
 -- What is copied from a source that tells something is copied from one that tells what follows from it.
-use Rattle.std.proofs.Common.{◌≡◌, ◌⊎◌, ℕ, List, [], ◌∷◌, inl, inr}
+use Rattle.std.proofs.Common.{◌⊎◌, ℕ, List, [], ◌∷◌, inl, inr}
 use Rattle.ft_copy.specs.declared.found.FileFacts.{FileFacts}
 use Rattle.ft_copy.specs.declared.found.Found.{Found}
 use Rattle.ft_copy.specs.declared.found.Found.TheVariants as found
 use Rattle.ft_copy.specs.declared.found.Place.{Place}
 use Rattle.ft_copy.specs.declared.found.TheConstants.{ROOT}
+use Rattle.ft_copy.specs.declared.trouble.Stopped.{Stopped}
+use Rattle.ft_copy.specs.declared.trouble.Trouble.{Trouble}
+use Rattle.ft_copy.specs.declared.trouble.Trouble.TheVariants as trouble
 use Rattle.ft_copy.specs.Asked.{Asked}
-use Rattle.ft_copy.specs.Told.{Told, Lists, Finds, Holds, Omits}
+use Rattle.ft_copy.specs.Told.{Told, Lists, Finds, Holds, Omits, Keeps, Refuses}
 use Rattle.ft_copy.specs.Walks.{Enters, IsRead, Standing, nothing}
+use Rattle.ft_copy.specs.Stops.{FindsFile, HasBegun, HasBegunAs, HasWalked, Hinders, IsCause, IsCauseAt, IsReached, Reached, Root, Amid, Behind, Endless, Stops, StopsCopy, asked_then}
+use Rattle.ft_copy.proofs.Stopping.{stops_since}
 use Rattle.ft_copy.specs.Runs.{Copies, IsFileVisit, IsFirstName, IsFurtherName, IsVisit, IsVisitOf, Visit, WalksTo}
 
 module _ (P Q : Told → Type 0) (follows : (told : Told) → P told → Q told) where
@@ -49,3 +54,59 @@ module _ (P Q : Told → Type 0) (follows : (told : Told) → P told → Q told)
     all = h.all;
     did = h.did;
   }
+
+  -- ---- where it stops
+
+  found_file : (place : Place) (holds : FileFacts → Type 0) → FindsFile P place holds → FindsFile Q place holds
+  found_file place holds h = (h.0, follows (Finds place.path place.node (found.File h.0)) h.1, h.2)
+
+  hinders : (why : Trouble) (place : Place) (visit : Visit) → Hinders P why place visit → Hinders Q why place visit
+  hinders trouble.Memory place visit h = h
+  hinders trouble.Read place visit h = h
+  hinders trouble.Write place visit h = h
+  hinders trouble.Special place visit h = (follows (Finds place.path place.node found.Special) h.0, follows (Keeps place.path) h.1)
+  hinders trouble.TooLarge place visit (inl h) = inl (found_file place _ h)
+  hinders trouble.TooLarge place visit (inr h) = inr h
+  hinders trouble.TooManyLinks place visit h = found_file place _ h
+  hinders trouble.PathTooLong place visit h = h
+  hinders trouble.BadName place visit h = h
+  hinders trouble.BadTree place visit h = h
+  hinders trouble.Exists place visit h = h
+  hinders trouble.Full place visit h = h
+
+  cause_at : (why : Trouble) (place : Place) (visit : Visit) → IsCauseAt P why place visit → IsCauseAt Q why place visit
+  cause_at why place visit (inl h) = inl (hinders why place visit h)
+  cause_at why place visit (inr h) = inr (follows (Refuses place.path place.node why) h)
+
+  cause : (why : Trouble) (reached : Reached) → IsCause P why reached → IsCause Q why reached
+  cause why Root (inl h) = inl h
+  cause why Root (inr h) = inr (follows (Refuses [] ROOT why) h)
+  cause why (Amid visits place visit) h = cause_at why place visit h
+  cause why (Behind visits) h = h
+  cause why (Endless visits) h = h
+
+  begun_as : (place : Place) (there : Found) (walk : Standing) (visit : Visit) → HasBegunAs P place there walk visit → HasBegunAs Q place there walk visit
+  begun_as place found.Folder walk visit h = h
+  begun_as place (found.File facts) walk visit (inl h) = inl (h.0, h.1, h.2, h.3, follows (Holds place.path place.node h.1) h.4, h.5)
+  begun_as place (found.File facts) walk visit (inr h) = inr h
+  begun_as place found.Special walk visit h = h
+
+  begun : (place : Place) (walk : Standing) (visit : Visit) → HasBegun P place walk visit → HasBegun Q place walk visit
+  begun place walk visit (inl h) = inl h
+  begun place walk visit (inr h) = inr (h.0, follows (Finds place.path place.node h.0) h.1, begun_as place h.0 walk visit h.2)
+
+  has_walked : (visits : List Visit) (now : Standing) → HasWalked P visits now → HasWalked Q visits now
+  has_walked visits now h = (h.0, entered [] ROOT nothing h.0 h.1, walked h.0 visits now h.2)
+
+  is_reached : (reached : Reached) → IsReached P reached → IsReached Q reached
+  is_reached Root h = h
+  is_reached (Amid visits place visit) h = (h.0, h.1, has_walked visits h.0 h.2, h.3, begun place (record { left = h.1; firsts = h.0.firsts }) visit h.4)
+  is_reached (Behind visits) h = (h.0, has_walked visits h.0 h.1, h.2)
+  is_reached (Endless visits) h = (h.0, has_walked visits h.0 h.1, h.2)
+
+  stops : {T : Type 0} (does : T → Asked → T → Type 0) (fails : T → Asked → Trouble → T → Type 0) (stopped : Stopped) (old new : T) → Stops P does fails stopped old new → Stops Q does fails stopped old new
+  stops does fails stopped old new h =
+      (h.0, h.1, is_reached h.0 h.2, h.3, h.4, stops_since does fails (IsCause P stopped.trouble h.0) (IsCause Q stopped.trouble h.0) stopped.trouble (asked_then h.0) h.1 new (cause stopped.trouble h.0) h.5)
+
+  pub stops_copy : {T : Type 0} (does : T → Asked → T → Type 0) (fails : T → Asked → Trouble → T → Type 0) (stopped : Stopped) (old new : T) → StopsCopy P does fails stopped old new → StopsCopy Q does fails stopped old new
+  stops_copy does fails stopped old new h = (h.0, stops does fails stopped old h.0 h.1, h.2)

@@ -1,12 +1,12 @@
 -- What is done at one place.
-use Rattle.std.proofs.Common.{◌≡◌, ◌<◌, ◌≤◌, ℕ, false, List, [], ◌∷◌, ◌++◌, length, map, Option, Some, inl, inr, refl, sym, ap, subst}
+use Rattle.std.proofs.Common.{◌≡◌, ◌<◌, ◌≤◌, ℕ, false, List, [], ◌∷◌, length, map, Option, Some, inl, inr, refl, sym, subst}
 use Rattle.ft_body.specs.declared.TheConstants.{SIZE_LIMIT}
 use Rattle.ft_path.specs.declared.TheConstants.{LONGEST_PATH}
 use Rattle.ft_posix.specs.declared.TheConstants.{MOST_LINKS}
 use Rattle.ft_copy.specs.declared.found.FileFacts.{FileFacts}
 use Rattle.ft_copy.specs.declared.found.Found.TheVariants as found
 use Rattle.ft_copy.specs.declared.found.Place.{Place}
-use Rattle.ft_copy.specs.Asked.{Asked, Close, Folder, Link, Open, Piece, DoesAll}
+use Rattle.ft_copy.specs.Asked.{Asked, Close, Folder, Link, Open, Piece}
 use Rattle.ft_copy.specs.Told.{Told, Finds, Holds}
 use Rattle.ft_copy.specs.Walks.{Enters, Standing, is_dotted}
 use Rattle.ft_copy.specs.Runs.{CopiesFile, IsNoted, OfFile, OfFolder, OfFurther, Pours, Visits, VisitsFile}

@@ -2,6 +2,7 @@
 use Rattle.std.specs.Prelude.{◌≡◌, ℕ, Bool, true, false, List, [], ◌∷◌}
 use Rattle.std.specs.List.{list_any}
 
+-- One thing that a target is asked for: to start; for a directory; for a file that is open; for bytes behind those of the open file; to close it; for a further name of a file; to finish; to give up.
 pub data Asked : Type 0 where
   Start : Asked
   Folder : (path : List ℕ) → Asked
@@ -12,6 +13,7 @@ pub data Asked : Type 0 where
   Finish : Asked
   GiveUp : Asked
 
+-- whether it is asked to finish
 abbrev pub is_finish : Asked → Bool
 is_finish Start = false
 is_finish (Folder path) = false

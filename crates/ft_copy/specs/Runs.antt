@@ -9,6 +9,7 @@ use Rattle.ft_copy.specs.declared.found.FileFacts.{FileFacts}
 use Rattle.ft_copy.specs.declared.found.Found.{Found}
 use Rattle.ft_copy.specs.declared.found.Found.TheVariants as found
 use Rattle.ft_copy.specs.declared.found.Place.{Place}
+use Rattle.ft_copy.specs.declared.trouble.Trouble.{Trouble}
 use Rattle.ft_copy.specs.Told.{Told, Finds, Omits}
 use Rattle.ft_copy.specs.Asked.{Asked, Start, Folder, Open, Piece, Close, Link, Finish, GiveUp, DoesAll, IsUnfinished}
 use Rattle.ft_copy.specs.Walks.{Enters, IsRead, ArePieces, Standing, is_dotted, nothing, with_first}
@@ -111,12 +112,12 @@ module _ {T : Type 0} (tells : Told → Type 0) (does : T → Asked → T → Ty
     pub all : done.left ≡ []
     pub did : DoesAll does old (Start ∷ flat_map asked_of visits ++ Finish ∷ []) new
 
-module _ {T : Type 0} (does fails : T → Asked → T → Type 0) where
+module _ {T : Type 0} (does : T → Asked → T → Type 0) (fails : T → Asked → Trouble → T → Type 0) where
   -- A target did some things, and then nothing more, or failed at one. It has not finished.
   abbrev pub Reaches : T → T → Type 0
   Reaches old new =
       (front : List Asked) × (middle : T) × IsUnfinished front × DoesAll does old front middle
-      × ((new ≡ middle) ⊎ ((asked : Asked) × fails middle asked new))
+      × ((new ≡ middle) ⊎ ((asked : Asked) × (trouble : Trouble) × fails middle asked trouble new))
 
   -- The same, and then it has given up.
   abbrev pub GivesUp : T → T → Type 0

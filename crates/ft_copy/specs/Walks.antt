@@ -1,5 +1,5 @@
 -- The walk over what a source tells: which place is visited when.
-use Rattle.std.specs.Prelude.{◌≡◌, ◌⊎◌, ◌==◌, ◌&&◌, ◌||◌, ◌<◌, ◌≤◌, nat_eq, ℕ, Bool, List, [], ◌∷◌, ◌++◌, codes, length, Option, None, Some, if◌then◌else◌}
+use Rattle.std.specs.Prelude.{◌≡◌, ◌==◌, ◌&&◌, ◌||◌, nat_eq, ℕ, Bool, List, [], ◌∷◌, ◌++◌, codes, Option, None, Some, if◌then◌else◌}
 use Rattle.std.specs.List.{concat, ends_with}
 use Rattle.std.specs.List.Sorted.{IsPermutation, IsSorted}
 use Rattle.std.specs.Ordering.{nat_cmp, ordering_then}
@@ -7,21 +7,16 @@ use Rattle.std.specs.declared.cmp.Ordering.{Ordering}
 use Rattle.std.specs.Cmp.Lexicographic.{slice_cmp}
 use Rattle.std.specs.Map.{lookup}
 use Rattle.std.specs.Io.KnownBytes.{Consumes, IsAtEnd}
-use Rattle.ft_body.specs.declared.TheConstants.{SIZE_LIMIT}
-use Rattle.ft_path.specs.declared.TheConstants.{LONGEST_PATH}
-use Rattle.ft_posix.specs.declared.TheConstants.{MOST_LINKS}
 use Rattle.ft_copy.specs.declared.firsts.Firsts.{Firsts}
-use Rattle.ft_copy.specs.declared.found.FileFacts.{FileFacts}
 use Rattle.ft_copy.specs.declared.found.FileId.{FileId}
-use Rattle.ft_copy.specs.declared.found.Found.{Found}
-use Rattle.ft_copy.specs.declared.found.Found.TheVariants.{Folder, File, Special}
 use Rattle.ft_copy.specs.declared.found.Listed.{Listed}
 use Rattle.ft_copy.specs.declared.found.Place.{Place}
 use Rattle.ft_copy.specs.declared.walk.Walk.{Walk}
-use Rattle.ft_copy.specs.Told.{Told, Lists, Finds, Holds, Omits}
+use Rattle.ft_copy.specs.Told.{Told, Lists, Holds}
 
 -- ---- files that were met
 
+-- two files are one where their device and their number are the same
 abbrev pub same_file : FileId → FileId → Bool
 same_file one other = (one.device == other.device) && (one.number == other.number)
 
@@ -29,9 +24,11 @@ same_file one other = (one.device == other.device) && (one.number == other.numbe
 abbrev pub FirstPaths : Type 0
 FirstPaths = FileId → Option (List ℕ)
 
+-- the same with the path of one file more
 abbrev pub with_first : FileId → List ℕ → FirstPaths → FirstPaths
 with_first id path firsts other = if same_file id other then Some path else firsts other
 
+-- the same as a walk has noted it
 abbrev pub firsts_of : Firsts → FirstPaths
 firsts_of firsts id = lookup (same_file id) firsts.paths.entries
 
@@ -42,9 +39,11 @@ pub record Standing : Type 0 where
   pub left : List Place
   pub firsts : FirstPaths
 
+-- where a walk stands
 abbrev pub standing : Walk → Standing
 standing walk = record { left = walk.left.items; firsts = firsts_of walk.firsts }
 
+-- nothing is left to be visited, and no file was met
 abbrev pub nothing : Standing
 nothing = record { left = []; firsts = λ _. None }
 

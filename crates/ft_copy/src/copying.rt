@@ -1,6 +1,9 @@
 // The copy of a tree.
-ghost use Rattle.std.specs.Prelude.{◌≡◌, OnOk, OnErr};
-ghost use Rattle.ft_copy.specs.Runs.{Begins, Copies, GivesUp, Reaches, Visits, VisitsAll, VisitsFile};
+ghost use Rattle.std.specs.Prelude.{◌≡◌, [], OnOk, OnErr, IfErr};
+ghost use Rattle.ft_copy.specs.Runs.{Begins, Copies, GivesUp, Visits, VisitsAll, VisitsFile};
+ghost use Rattle.ft_copy.specs.Stops.{Stops, StopsBegin, StopsCopy, StopsVisit, StopsVisiting};
+ghost use Rattle.ft_copy.specs.Told.{Finds};
+ghost use Rattle.ft_copy.specs.declared.found.Found.TheVariants.{File};
 ghost use Rattle.ft_copy.specs.Walks.{is_dotted, standing};
 
 use crate::file::copy_file;
@@ -24,6 +27,7 @@ use std::alloc::Global;
 pub fn copy<S: Source, T: Target>(alloc: Global, source: &S, target: &mut T) -> Result<(), Stopped>
     ensures ok { OnOk result (Copies (S.tells source.now) T.does target.old target.new) }
     ensures err { OnErr result (GivesUp T.does T.fails target.old target.new) }
+    ensures stopped { IfErr result (λ stopped. StopsCopy (S.tells source.now) T.does T.fails stopped target.old target.new) }
 {
     match copy_whole(alloc, source, target) {
         Ok(()) => Ok(()),
@@ -41,7 +45,7 @@ fn copy_whole<S: Source, T: Target>(
     target: &mut T,
 ) -> Result<(), Stopped>
     ensures ok { OnOk result (Copies (S.tells source.now) T.does target.old target.new) }
-    ensures err { OnErr result (Reaches T.does T.fails target.old target.new) }
+    ensures err { IfErr result (λ stopped. Stops (S.tells source.now) T.does T.fails stopped target.old target.new) }
 {
     let mut walk = Walk {
         alloc,
@@ -59,7 +63,10 @@ fn copy_whole<S: Source, T: Target>(
 }
 
 // What stopped a copy at the root.
-fn at_root(alloc: Global, trouble: Trouble) -> Stopped {
+fn at_root(alloc: Global, trouble: Trouble) -> Stopped
+    ensures trouble { result.trouble ≡ trouble }
+    ensures path { result.path ≡ [] }
+{
     Stopped {
         trouble,
         path: Sequence::new(alloc),
@@ -69,7 +76,7 @@ fn at_root(alloc: Global, trouble: Trouble) -> Stopped {
 // Starts the target, and enters the root.
 fn begin<S: Source, T: Target>(source: &S, target: &mut T, walk: &mut Walk) -> Result<(), Trouble>
     ensures ok { OnOk result (Begins (S.tells source.now) T.does (standing walk.old) (standing walk.new) target.old target.new) }
-    ensures err { OnErr result (Reaches T.does T.fails target.old target.new) }
+    ensures err { IfErr result (λ trouble. StopsBegin (S.tells source.now) T.does T.fails trouble target.old target.new) }
 {
     target.start()?;
     enter(source, walk, b"".as_slice(), ROOT)
@@ -82,7 +89,7 @@ fn visit_all<S: Source, T: Target>(
     walk: &mut Walk,
 ) -> Result<(), Stopped>
     ensures ok { OnOk result (VisitsAll (S.tells source.now) T.does (standing walk.old) target.old target.new) }
-    ensures err { OnErr result (Reaches T.does T.fails target.old target.new) }
+    ensures err { IfErr result (λ stopped. StopsVisiting (S.tells source.now) T.does T.fails stopped (standing walk.old) target.old target.new) }
 {
     let mut turns = u64::MAX;
     while turns > 0 {
@@ -111,7 +118,7 @@ fn visit<S: Source, T: Target>(
     place: &Place,
 ) -> Result<(), Trouble>
     ensures ok { OnOk result (Visits (S.tells source.now) T.does place.now (standing walk.old) (standing walk.new) target.old target.new) }
-    ensures err { OnErr result (Reaches T.does T.fails target.old target.new) }
+    ensures err { IfErr result (λ trouble. StopsVisit (S.tells source.now) T.does T.fails trouble place.now (standing walk.old) target.old target.new) }
 {
     let path = place.path.as_slice();
     if is_dotted(path) {
@@ -145,7 +152,8 @@ fn visit_file<S: Source, T: Target>(
     facts: &FileFacts,
 ) -> Result<(), Trouble>
     ensures ok { OnOk result (VisitsFile (S.tells source.now) T.does place.now facts.now (standing walk.old) (standing walk.new) target.old target.new) }
-    ensures err { OnErr result (Reaches T.does T.fails target.old target.new) }
+    ensures err { S.tells source.now (Finds place.now.path place.now.node (File facts.now))
+        → IfErr result (λ trouble. StopsVisit (S.tells source.now) T.does T.fails trouble place.now (standing walk.old) target.old target.new) }
 {
     let path = place.path.as_slice();
     if facts.links > MOST_LINKS {

@@ -1,9 +1,14 @@
 // A file, copied piece by piece.
-ghost use Rattle.std.specs.Prelude.{◌≡◌, ◌≤◌, ℕ, List, take, vec_len, length, OnOk, OnErr, IfOk};
+ghost use Rattle.std.specs.Prelude.{◌≡◌, ◌⊎◌, ◌≤◌, ℕ, List, take, vec_len, length, OnOk, IfErr, IfOk};
 ghost use Rattle.std.specs.Io.{ReadsAtMost};
 ghost use Rattle.std.specs.Io.KnownBytes.{Consumes, IsAtEnd};
 ghost use Rattle.ft_copy.specs.Asked.{Piece};
-ghost use Rattle.ft_copy.specs.Runs.{CopiesFile, Pours, Reaches};
+ghost use Rattle.ft_copy.specs.declared.found.FileFacts.{FileFacts};
+ghost use Rattle.ft_copy.specs.declared.found.Found.TheVariants.{File};
+ghost use Rattle.ft_copy.specs.Runs.{CopiesFile, Pours};
+ghost use Rattle.ft_copy.specs.Stops.{StopsPouring, StopsVisit};
+ghost use Rattle.ft_copy.specs.Told.{Finds};
+ghost use Rattle.ft_copy.specs.Walks.{Standing};
 
 use crate::source::Source;
 use crate::target::Target;
@@ -24,7 +29,8 @@ pub(crate) fn copy_file<S: Source, T: Target>(
     node: u64,
 ) -> Result<(), Trouble>
     ensures ok { OnOk result (CopiesFile (S.tells source.now) T.does path.now node target.old target.new) }
-    ensures err { OnErr result (Reaches T.does T.fails target.old target.new) }
+    ensures err { (facts : FileFacts) (walk : Standing) → S.tells source.now (Finds path.now node (File facts))
+        → IfErr result (λ trouble. StopsVisit (S.tells source.now) T.does T.fails trouble (record { path = path.now; node = node }) walk target.old target.new) }
 {
     let mut file = source.open(path, node)?;
     target.open(path)?;
@@ -35,7 +41,7 @@ pub(crate) fn copy_file<S: Source, T: Target>(
 // Puts all that a reader has left into the open file.
 fn pour<R: Read, T: Target>(alloc: Global, file: &mut R, target: &mut T) -> Result<(), Trouble>
     ensures ok { OnOk result (Pours T.does (R.remaining file.old) target.old target.new) }
-    ensures err { OnErr result (Reaches T.does T.fails target.old target.new) }
+    ensures err { IfErr result (λ trouble. StopsPouring T.does T.fails trouble (R.remaining file.old) target.old target.new) }
 {
     let mut room = room_for_piece(alloc)?;
     let piece = room.as_mut_slice();
@@ -64,6 +70,7 @@ fn room_for_piece(alloc: Global) -> Result<Vec<u8>, AllocError>
 fn read_piece<R: Read>(file: &mut R, piece: &mut [u8]) -> Result<usize, Trouble>
     ensures bound { ReadsAtMost result piece.new }
     ensures bytes { IfOk result (λ n. Consumes (R.remaining file.old) (R.remaining file.new) (take n piece.new)) }
+    ensures cause { IfErr result (λ trouble. (trouble ≡ Trouble.Memory) ⊎ (trouble ≡ Trouble.Read)) }
     ensures end { IfOk result (λ n. n ≡ 0 → 1 ≤ length piece.old → IsAtEnd (R.remaining file.new)) }
 {
     match file.read(piece) {

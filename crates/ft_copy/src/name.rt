@@ -1,5 +1,6 @@
 // Names that a source tells.
-ghost use Rattle.std.specs.Prelude.{◌≡◌, IfOk};
+ghost use Rattle.std.specs.Prelude.{◌≡◌, ◌⊎◌, IfErr, IfOk};
+ghost use Rattle.ft_path.specs.Name.{IsName};
 
 use crate::trouble::Trouble;
 use ft_path::{LONGEST_NAME, Name};
@@ -8,7 +9,8 @@ use std::alloc::Global;
 /// The name that has these bytes. Refuses as BadName what can be no name: no bytes or too many, and
 /// a null byte or a slash among them.
 pub fn name_of(alloc: Global, bytes: &[u8]) -> Result<Name, Trouble>
-    ensures { IfOk result (λ name. name ≡ bytes.now) }
+    ensures ok { IfOk result (λ name. name ≡ bytes.now) }
+    ensures err { IfErr result (λ trouble. (trouble ≡ Trouble.Memory) ⊎ ((trouble ≡ Trouble.BadName) × ¬ IsName bytes.now)) }
 {
     if bytes.is_empty()
         || bytes.len() > LONGEST_NAME

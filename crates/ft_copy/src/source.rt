@@ -1,5 +1,5 @@
 // What is asked of a source.
-ghost use Rattle.std.specs.Prelude.{IfOk, IsTrue};
+ghost use Rattle.std.specs.Prelude.{IfErr, IfOk, IsFalse, IsTrue, ℕ};
 
 use crate::found::{Found, Listed};
 use crate::trouble::Trouble;
@@ -8,7 +8,7 @@ use std::io::Read;
 /// What tells of a tree of directories. A place in it is told by its path, and by the number that
 /// the source gave with its name.
 pub trait Source {
-    ghost use Rattle.ft_copy.specs.Told.{Told, Lists, Finds, Holds, Omits};
+    ghost use Rattle.ft_copy.specs.Told.{Told, Lists, Finds, Holds, Omits, Keeps, Refuses};
 
     /// A file that is open for reading.
     type File: Read + Drop;
@@ -18,17 +18,22 @@ pub trait Source {
 
     /// The names in a directory, in any order. `.` and `..` are left out.
     fn names(&self, path: &[u8], node: u64) -> Result<Vec<Listed>, Trouble>
-        ensures { IfOk result (λ names. tells self.now (Lists path.now node names.items)) };
+        ensures ok { IfOk result (λ names. tells self.now (Lists path.now node names.items)) }
+        ensures err { IfErr result (λ trouble. tells self.now (Refuses path.now node trouble)) };
 
     /// What stands at a place.
     fn look(&self, path: &[u8], node: u64) -> Result<Found, Trouble>
-        ensures { IfOk result (λ found. tells self.now (Finds path.now node found)) };
+        ensures ok { IfOk result (λ found. tells self.now (Finds path.now node found)) }
+        ensures err { IfErr result (λ trouble. tells self.now (Refuses path.now node trouble)) };
 
     /// Opens a file.
     fn open(&self, path: &[u8], node: u64) -> Result<Self::File, Trouble>
-        ensures { IfOk result (λ file. tells self.now (Holds path.now node (Self.File.remaining file))) };
+        ensures ok { IfOk result (λ file. tells self.now (Holds path.now node (Self.File.remaining file))) }
+        ensures err { IfErr result (λ trouble. tells self.now (Refuses path.now node trouble)) };
 
     /// Whether what a tree has no place for is to be left out at this path.
     fn omits(&self, path: &[u8]) -> Result<bool, Trouble>
-        ensures { IfOk result (λ omits. IsTrue omits → tells self.now (Omits path.now)) };
+        ensures ok { IfOk result (λ omits. IsTrue omits → tells self.now (Omits path.now)) }
+        ensures kept { IfOk result (λ omits. IsFalse omits → tells self.now (Keeps path.now)) }
+        ensures err { IfErr result (λ trouble. (node : ℕ) → tells self.now (Refuses path.now node trouble)) };
 }

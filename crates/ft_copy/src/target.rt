@@ -1,5 +1,5 @@
 // What is asked of a target.
-ghost use Rattle.std.specs.Prelude.{OnOk, OnErr};
+ghost use Rattle.std.specs.Prelude.{OnOk, IfErr};
 
 use crate::trouble::Trouble;
 
@@ -7,49 +7,50 @@ use crate::trouble::Trouble;
 /// for directories and files, each directory before what stands in it, and then to finish. Where
 /// something fails, it is asked to give up, and for nothing more.
 pub trait Target {
+    ghost use Rattle.ft_copy.specs.declared.trouble.Trouble.{Trouble};
     ghost use Rattle.ft_copy.specs.Asked.{Asked, Start, Folder, Open, Piece, Close, Link, Finish, GiveUp};
 
     /// From one state to the next, when it has done what it was asked for. By default that is not
     /// said.
     ghost does: { Self → Asked → Self → Type 0 } = { λ _ _ _. Unit {0} };
 
-    /// The same, when it has not.
-    ghost fails: { Self → Asked → Self → Type 0 } = { λ _ _ _. Unit {0} };
+    /// The same, when it has not, and why.
+    ghost fails: { Self → Asked → Trouble → Self → Type 0 } = { λ _ _ _ _. Unit {0} };
 
     /// Begins a tree, which has a root and nothing in it.
     fn start(&mut self) -> Result<(), Trouble>
         ensures ok { OnOk result (does self.old Start self.new) }
-        ensures err { OnErr result (fails self.old Start self.new) };
+        ensures err { IfErr result (λ trouble. fails self.old Start trouble self.new) };
 
     /// Makes a directory.
     fn folder(&mut self, path: &[u8]) -> Result<(), Trouble>
         ensures ok { OnOk result (does self.old (Folder path.now) self.new) }
-        ensures err { OnErr result (fails self.old (Folder path.now) self.new) };
+        ensures err { IfErr result (λ trouble. fails self.old (Folder path.now) trouble self.new) };
 
     /// Makes a file, which is empty and open for writing.
     fn open(&mut self, path: &[u8]) -> Result<(), Trouble>
         ensures ok { OnOk result (does self.old (Open path.now) self.new) }
-        ensures err { OnErr result (fails self.old (Open path.now) self.new) };
+        ensures err { IfErr result (λ trouble. fails self.old (Open path.now) trouble self.new) };
 
     /// Puts bytes behind those of the open file.
     fn piece(&mut self, bytes: &[u8]) -> Result<(), Trouble>
         ensures ok { OnOk result (does self.old (Piece bytes.now) self.new) }
-        ensures err { OnErr result (fails self.old (Piece bytes.now) self.new) };
+        ensures err { IfErr result (λ trouble. fails self.old (Piece bytes.now) trouble self.new) };
 
     /// Closes the open file.
     fn close(&mut self) -> Result<(), Trouble>
         ensures ok { OnOk result (does self.old Close self.new) }
-        ensures err { OnErr result (fails self.old Close self.new) };
+        ensures err { IfErr result (λ trouble. fails self.old Close trouble self.new) };
 
     /// Gives a file that was made a further name.
     fn link(&mut self, first: &[u8], path: &[u8]) -> Result<(), Trouble>
         ensures ok { OnOk result (does self.old (Link first.now path.now) self.new) }
-        ensures err { OnErr result (fails self.old (Link first.now path.now) self.new) };
+        ensures err { IfErr result (λ trouble. fails self.old (Link first.now path.now) trouble self.new) };
 
     /// Ends the tree, which is whole.
     fn finish(&mut self) -> Result<(), Trouble>
         ensures ok { OnOk result (does self.old Finish self.new) }
-        ensures err { OnErr result (fails self.old Finish self.new) };
+        ensures err { IfErr result (λ trouble. fails self.old Finish trouble self.new) };
 
     /// Takes away what was begun.
     fn give_up(&mut self)

@@ -50,18 +50,33 @@ pub struct Stopped {
 }
 
 impl From<Memory> for Trouble {
+    ghost use Rattle.std.specs.Prelude.{◌≡◌};
+    ghost use Rattle.ft_copy.specs.declared.trouble.Trouble.TheVariants.{Memory};
+
+    ghost from_gives = { λ _ trouble. trouble ≡ Memory };
+
     fn from(_error: Memory) -> Trouble {
         Trouble::Memory
     }
 }
 
 impl From<AllocError> for Trouble {
+    ghost use Rattle.std.specs.Prelude.{◌≡◌};
+    ghost use Rattle.ft_copy.specs.declared.trouble.Trouble.TheVariants.{Memory};
+
+    ghost from_gives = { λ _ trouble. trouble ≡ Memory };
+
     fn from(_error: AllocError) -> Trouble {
         Trouble::Memory
     }
 }
 
 impl<T: Drop> From<AllocFailed<T>> for Trouble {
+    ghost use Rattle.std.specs.Prelude.{◌≡◌};
+    ghost use Rattle.ft_copy.specs.declared.trouble.Trouble.TheVariants.{Memory};
+
+    ghost from_gives = { λ _ trouble. trouble ≡ Memory };
+
     fn from(_error: AllocFailed<T>) -> Trouble {
         Trouble::Memory
     }

@@ -1,5 +1,6 @@
 // The walk over a source: what is still to be visited.
-ghost use Rattle.std.specs.Prelude.{◌≡◌, ◌++◌, OnOk, IfOk};
+ghost use Rattle.std.specs.Prelude.{◌≡◌, ◌⊎◌, ◌++◌, OnOk, IfErr, IfOk};
+ghost use Rattle.ft_copy.specs.Told.{Refuses};
 ghost use Rattle.ft_copy.specs.Walks.{Enters, above, child, standing};
 
 use crate::firsts::Firsts;
@@ -9,8 +10,8 @@ use crate::trouble::Trouble;
 use ft_base::Memory;
 use std::alloc::Global;
 
-/// What is still to be visited, the next at the end, and the files with more than one name that were
-/// copied already.
+/// What is still to be visited, the next at the end, and the files with more than one name that
+/// were copied already.
 #[derive(Drop)]
 pub(crate) struct Walk {
     pub(crate) alloc: Global,
@@ -26,7 +27,8 @@ pub(crate) fn enter<S: Source>(
     path: &[u8],
     node: u64,
 ) -> Result<(), Trouble>
-    ensures { OnOk result (Enters (S.tells source.now) path.now node (standing walk.old) (standing walk.new)) }
+    ensures ok { OnOk result (Enters (S.tells source.now) path.now node (standing walk.old) (standing walk.new)) }
+    ensures err { IfErr result (λ trouble. (trouble ≡ Trouble.Memory) ⊎ S.tells source.now (Refuses path.now node trouble)) }
 {
     let mut names = source.names(path, node)?;
     names.sort_unstable();

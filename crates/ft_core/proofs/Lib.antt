@@ -30,3 +30,4 @@ mod Sweeps
 mod Checkpoints
 pub mod Known
 mod Asked
+pub mod Crossing

@@ -1,4 +1,5 @@
--- What a transaction hands to its parent when it commits, and at the top level to nobody. (Moss, Nested Transactions, MIT 1981, commit of a transaction.)
+-- What a transaction hands to its parent when it commits, and at the top level to nobody. (Moss,
+-- Nested Transactions, MIT 1981, commit of a transaction.)
 use Rattle.std.specs.Prelude.{◌≡◌, ◌≢◌, ℕ, true, Option, Some, None}
 use Rattle.ft_base.specs.Chains.{Lists}
 use Rattle.ft_undo.specs.declared.logs.Logged.{Logged}

@@ -1,4 +1,6 @@
--- What has happened, told as a history of the calls on a tree. Which transactions live, which calls stand, who owns which locks and what an undo takes back follow from it alone, by the definitions of ft_history.
+-- What has happened, told as a history of the calls on a tree. Which transactions live,
+-- which calls stand, who owns which locks and what an undo takes back follow from it alone,
+-- by the definitions of ft_history.
 use Rattle.std.specs.Prelude.{ℕ, List, [], ◌∷◌, map}
 use Rattle.ft_laws.specs.Calls.{Done}
 use Rattle.ft_history.specs.History.{Event as Happening, parent}
@@ -11,7 +13,8 @@ use Rattle.ft_forest.specs.Transactions.{depth_within}
 use Rattle.ft_core.specs.declared.request.Event.{Event}
 use Rattle.ft_core.specs.declared.request.Event.TheVariants.{Begin, Call as CallEvent, Undo, Commit, Abort}
 
--- A history of calls on a tree: what has happened, newest first.
+-- A history of calls on a tree: what has happened, newest first, as events of
+-- ft_history at the seventeen calls.
 abbrev pub History : Type 0
 History = List (Happening posix_calls)
 
@@ -19,9 +22,11 @@ History = List (Happening posix_calls)
 abbrev pub Granted : Type 0
 Granted = Done posix_calls
 
+-- a granted call: its stamp, who asked, the call, its reply and its accesses
 abbrev pub granted : ℕ → ℕ → Call → Reply → List Access → Granted
 granted k t call reply accesses = record { asker = t; call = record { stamp = k; call = call }; accesses = map as_place accesses; reply = reply }
 
+-- a public event as one of a history
 abbrev pub as_happening : Event → Happening posix_calls
 as_happening (Begin t parent) = WasBegun t parent
 as_happening (CallEvent k t call reply accesses) = WasGranted (granted k t call reply accesses)
@@ -29,6 +34,7 @@ as_happening (Undo k) = WasUndone k
 as_happening (Commit t) = WasCommitted t
 as_happening (Abort t) = WasAborted t
 
+-- a history with these public events after it
 abbrev pub told_after : History → List Event → History
 told_after h [] = h
 told_after h (e ∷ events) = told_after (as_happening e ∷ h) events
@@ -37,6 +43,7 @@ told_after h (e ∷ events) = told_after (as_happening e ∷ h) events
 abbrev pub told : List Event → History
 told events = told_after [] events
 
--- A top-level transaction has depth 1, and a subtransaction one more than its parent.
+-- A top-level transaction has depth 1, and a subtransaction one more than its parent
+-- (Moss, the transaction tree).
 abbrev pub depth_of : History → ℕ → ℕ
 depth_of h t = depth_within (parent posix_calls h) t t

@@ -21,6 +21,8 @@ use Rattle.ft_core.specs.declared.request.Event.TheVariants.{Begin, Call as Call
 use Rattle.ft_core.specs.contracts.request.Event as event
 use Rattle.ft_core.specs.States.{State, Asks, coded_asks}
 
+-- the rule for holders, the events and the asks, what is noted of each live transaction, the base,
+-- the last stamp, and the places for events: those that are kept for ends and undos, and others
 pub record Journaled : Type 0 where
   pub rule : Rule
   pub events : List Event
@@ -34,6 +36,7 @@ pub record Journaled : Type 0 where
   pub spare : ℕ
   pub room : ℕ
 
+-- a code of it, which a model needs
 abbrev pub coded_journaled : Coded Journaled
 coded_journaled =
     code_by (Rule × (List Event × (Asks × (finite.FinMap nat_cmp (Option ℕ) × ((PlainTree × (ℕ × ℕ)) × (ℕ × ℕ))))))
@@ -41,7 +44,8 @@ coded_journaled =
     (λ j. (j.rule, (j.events, (j.asks, (j.subs, ((j.base_tree, (j.base_stamp, j.last_stamp)), (j.spare, j.room)))))))
     (λ p. record { rule = p.0; events = p.1.0; asks = p.1.1.0; subs = p.1.1.1.0; base_tree = p.1.1.1.1.0.0; base_stamp = p.1.1.1.1.0.1.0; last_stamp = p.1.1.1.1.0.1.1; spare = p.1.1.1.1.1.0; room = p.1.1.1.1.1.1 }) (λ _. refl)
 
--- A tree from which a history may go on: it is sound, and no number above the last stamp stands in it.
+-- A tree from which a history may go on: it is sound, and no number above
+-- the last stamp stands in it.
 pub record IsBaseTree (cells : Cells) (stamp : ℕ) : Type 0 where
   pub sound : AreSoundCells cells
   pub free : (k : ℕ) → stamp < k → IsFree cells k
@@ -54,7 +58,7 @@ no_events rule tree stamp = record { rule = rule; events = []; asks = finite.emp
 abbrev pub sub_in : Journaled → ℕ → Option ℕ
 sub_in j t = option_flatten (finite.get j.subs t)
 
--- a million calls since the base, or the last stamp
+-- 1,000,000 calls since the base, or the last stamp is 2^63 - 1
 abbrev pub is_full : Journaled → Bool
 is_full j = nat_le MOST_CALLS (j.last_stamp - j.base_stamp) || nat_le LAST_NUMBER j.last_stamp
 

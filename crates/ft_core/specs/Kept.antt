@@ -40,7 +40,8 @@ Item = Entry posix_calls
 abbrev pub start_of : Base → Cells → HistoryBase posix_calls
 start_of base store = record { store = store; transaction = base.last_txn; stamp = base.last_stamp }
 
--- The base is a tree that is stored in some cells, and the history goes from its last numbers up to these.
+-- The base is a tree that is stored in some cells, and the history goes from
+-- its last numbers up to these.
 pub record IsStarted (base : Base) (h : History) (last_txn last_number : ℕ) : Type 0 where
   pub store : Cells
   pub sound : AreSoundCells store
@@ -53,7 +54,9 @@ pub record IsStarted (base : Base) (h : History) (last_txn last_number : ℕ) : 
   pub stamped : base.last_stamp + length (grants posix_calls h) ≡ last_number
   pub within : last_number ≤ LAST_NUMBER
 
--- The cells are those of the standing calls, but for files that a sweep took away, and the lists can take back each call that has an owner.
+-- The cells are those of the standing calls, but for files that a sweep took away, and
+-- the lists can take back each call that has an owner: they are what a core of
+-- ft_history keeps, with sound cells.
 pub record IsKept (base : Base) (h : History) (last_txn last_number : ℕ) (cells : Cells) (log : ℕ → List Item) : Type 0 where
   pub started : IsStarted base h last_txn last_number
   pub hidden : ℕ → Bool
@@ -62,6 +65,7 @@ pub record IsKept (base : Base) (h : History) (last_txn last_number : ℕ) (cell
 
 -- The transactions of the history.
 
+-- The forest is that of the history.
 pub record AreTransactions (base : Base) (h : History) (last_txn : ℕ) (forest : Transactions) : Type 0 where
   pub base_is : forest.base ≡ base.last_txn
   pub last : last_in forest ≡ last_txn
@@ -70,6 +74,7 @@ pub record AreTransactions (base : Base) (h : History) (last_txn : ℕ) (forest 
 
 -- What takes calls back.
 
+-- a cell with a value that it gets
 abbrev pub Change : Type 0
 Change = CellWrite Cell Holds
 
@@ -95,7 +100,8 @@ pub record ArePlaced (cells : Cells) (e : Item) : Type 0 where
   pub written : Each (λ (w : Change). IsStored cells w.cell) e.inverse.after
   pub files : Each (λ (w : Change). file_is_stored cells w.cell w.value) e.inverse.before
 
--- What takes a call back does what the call's inverse does, and may do so where the cells have their places and hold what the call left.
+-- What takes a call back does what the call's inverse does, and may do so where the cells have
+-- their places and hold what the call left.
 pub record TakesBack (e : Item) (x : Logged) : Type 0 where
   pub stamp : x.stamp ≡ e.done.call.stamp
   pub same : map given_back x.undo ≡ e.inverse.before
@@ -108,6 +114,7 @@ AreLogged [] (x ∷ xs) = ⊥
 AreLogged (e ∷ es) [] = ⊥
 AreLogged (e ∷ es) (x ∷ xs) = TakesBack e x × AreLogged es xs
 
+-- The logs have what takes each call back that the lists tell, and each may be put to the cells.
 pub record AreLogs (cells : Cells) (log : ℕ → List Item) (lists : Lists Logged) : Type 0 where
   pub logged : (t : ℕ) → AreLogged (log t) (list_in lists t)
   pub placed : (t : ℕ) (e : Item) → In e (log t) → ArePlaced cells e
@@ -118,23 +125,27 @@ pub record AreLogs (cells : Cells) (log : ℕ → List Item) (lists : Lists Logg
 abbrev pub is_owned : History → Granted → Bool
 is_owned h c = is_standing posix_calls h c && is_some (owner_of posix_calls h c.asker)
 
--- an event for the end of each live transaction, and one for the undo of each standing call that has an owner; the base's last transaction is first
+-- an event for the end of each live transaction, and one for the undo of each standing call that
+-- has an owner; the base's last transaction is first
 abbrev pub events_kept : ℕ → History → ℕ
 events_kept first h = length (passing (λ t. is_live (fate posix_calls first h t)) (begun posix_calls h)) + length (passing (is_owned h) (grants posix_calls h))
 
--- A live transaction is open in the lock table and in the logs, and what is noted of its children's commits is there.
+-- A live transaction is open in the lock table and in the logs, and what is noted of its
+-- children's commits is there.
 pub record IsReady (base : Base) (h : History) (table : LockTable) (lists : Lists Logged) (j : Journaled) (t : ℕ) : Type 0 where
   pub locks : is_opened table t ≡ true
   pub log : is_open lists t ≡ true
   pub sub : finite.get j.subs t ≡ Some (last_sub posix_calls base.last_stamp h t)
 
--- What a core keeps: its tree, its transactions, its locks and its lists are those of its history, whatever can be taken back has its places, and a place of no use is locked or was let go.
+-- What a core keeps: its tree, its transactions, its locks and its lists are those of its history,
+-- whatever can be taken back has its places, and a place of no use is locked or was let go.
 pub record IsCoreAt (base : Base) (h : History) (asks : Asks) (last_txn last_number : ℕ) (cells : Cells) (forest : Transactions) (table : LockTable) (lists : Lists Logged) (j : Journaled) : Type 0 where
   pub log : ℕ → List Item
   pub kept : IsKept base h last_txn last_number cells log
   pub transactions : AreTransactions base h last_txn forest
   pub locks : AreLocksOf h table
-  -- by Moss's rule no strict ancestor of an owner holds a lock that conflicts with one of the owner's
+  -- by Moss's rule no strict ancestor of an owner holds a lock that
+  -- conflicts with one of the owner's
   pub no_holder : is_strict j.rule ≡ true → HasNoHolderAbove table forest
   pub logs : AreLogs cells log lists
   pub ready : (t : ℕ) → IsLive posix_calls base.last_txn h t → IsReady base h table lists j t
@@ -143,5 +154,6 @@ pub record IsCoreAt (base : Base) (h : History) (asks : Asks) (last_txn last_num
   pub spare : events_kept base.last_txn h ≤ j.spare
   pub accounted : IsAccounted (is_locked table) (is_let_go table) cells
 
+-- a state, the parts of its core and its journal are such
 abbrev pub IsCoreOf : State → Parts → Journaled → Type 0
 IsCoreOf s p j = IsCoreAt s.base (history s) s.asks s.last_txn s.last_stamp p.tree p.forest p.locks p.logs j

@@ -9,6 +9,7 @@ use Rattle.ft_posix.specs.Posix.{posix_calls}
 use Rattle.ft_moss.specs.Knowing.{KnownLaw}
 use Rattle.ft_moss.specs.Law.{FirstLaw, OwnerLaw, BeginLaw, GrantLaw, UndoLaw, CommitLaw, AbortLaw, ReleaseLaw, BlockLaw, ForeignLaw, AloneLaw, HolderLaw, CoverLaw, LockedLaw}
 
+-- what is known of the calls, in one place; each is proved in ft_posix
 pub record CallLaws : Type 0 where
   pub lawful : Lawful posix_calls
   pub soundness : SoundnessLaw
@@ -25,6 +26,7 @@ pub record CallLaws : Type 0 where
   pub useless : UselessLaw
   pub making : MakingLaw
 
+-- what is known of the locks, in one place; each is proved in ft_moss
 pub record LockLaws : Type 0 where
   pub first : FirstLaw
   pub begin : BeginLaw

@@ -15,7 +15,8 @@ use Rattle.ft_moss.specs.Locks.{AreGranted}
 use Rattle.ft_history.specs.Logs.{pushed}
 use Rattle.ft_core.specs.declared.parts.Parts.{Parts}
 
--- The writes are made on the cells, the locks are t's, and what takes the writes back is the newest of t's list.
+-- The writes are made on the cells, the locks are t's, and what takes the writes
+-- back is the newest of t's list.
 pub record IsMadeOn (old new : Parts) (writes : List Write) (t k : ℕ) (accesses : List Access) : Type 0 where
   pub forest : new.forest ≡ old.forest
   pub cells : new.tree ≡ put_all old.tree writes

@@ -1,4 +1,5 @@
--- What it is that the lock table, the logs and the journal are ready for a transaction that is to begin.
+-- What it is that the lock table, the logs and the journal are ready for a
+-- transaction that is to begin.
 use Rattle.std.specs.Prelude.{◌≡◌, ◌≢◌, ◌≤◌, ℕ, true, Option, None, Some}
 use Rattle.std.specs.FinMap as finite
 use Rattle.ft_base.specs.Chains.{Lists, list_in}
@@ -10,7 +11,8 @@ use Rattle.ft_forest.specs.Refusals.{begin_refusal, sub_refusal}
 use Rattle.ft_moss.specs.Locks.{LockTable, is_opened}
 use Rattle.ft_core.specs.Journals.{Journaled}
 
--- Each transaction has its locks, its list and what is noted of it, and at most the next one is open besides.
+-- Each transaction has its locks, its list and what is noted of it, and at most
+-- the next one is open besides.
 pub record AreAsBefore (j j' : Journaled) (table table' : LockTable) (lists lists' : Lists Logged) (next : ℕ) : Type 0 where
   pub journal : j' ≡ record j { subs = j'.subs; room = j'.room }
   pub subs : (t : ℕ) → t ≢ next → finite.get j'.subs t ≡ finite.get j.subs t

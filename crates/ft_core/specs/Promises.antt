@@ -15,13 +15,16 @@ use Rattle.ft_core.specs.declared.request.Event.TheVariants.{Begin, Call as Call
 use Rattle.ft_core.specs.Histories.{told}
 use Rattle.ft_core.specs.States.{State, history, fate_of, has_live_child, standing_calls, tree_of}
 
--- The headline: the tree is what the plain tree holds after the standing calls alone, from the base, each with the reply that it got.
+-- The headline: tidied, the cells are the tree of the state, which is what the plain tree holds
+-- after the standing calls alone, from the base; made so in turn they give the replies that they
+-- got, and they stand in the order of their stamps.
 pub record IsHeadline (s : State) (cells : Cells) : Type 0 where
   pub tree : tidy cells ≡ tree_of s
   pub replies : GiveReplies s.base.tree (standing_calls s)
   pub order : Pairs (λ b a. b.call.stamp < a.call.stamp) (standing_calls s)
 
--- The last event is a granted call of t with this stamp, before which the state was the one given, and t has no live child. Who waits for what does not matter.
+-- The last event is a granted call of t with this stamp, before which the state was the one given,
+-- and t has no live child. Who waits for what does not matter.
 pub record IsJustMade (before s : State) (t k : ℕ) : Type 0 where
   pub base : s.base ≡ before.base
   pub call : Call
@@ -30,7 +33,8 @@ pub record IsJustMade (before s : State) (t k : ℕ) : Type 0 where
   pub made : s.events ≡ before.events ++ CallEvent k t call reply accesses ∷ []
   pub alone : has_live_child s t ≡ false
 
--- t is live, and since its begin, before which the state was the one given, the calls, undos and aborts are of t's subtree alone. (A rule of this project.)
+-- t is live, and since its begin, before which the state was the one given, the calls, undos and
+-- aborts are of t's subtree alone. (A rule of this project.)
 pub record RanAlone (before s : State) (t : ℕ) : Type 0 where
   pub live : fate_of s t ≡ Some Live
   pub base : s.base ≡ before.base

@@ -11,9 +11,11 @@ use Rattle.ft_core.specs.Kept.{IsStarted, start_of}
 
 -- A state that a core can come to, with its tree stored in these cells.
 pub record IsReached (core : StoredState) : Type 0 where
-  -- the base is a sound tree, and the numbers go on from its last ones up to the state's, with none left out
+  -- the base is a sound tree, and the numbers go on from its last ones up to
+  -- the state's, with none left out
   pub started : IsStarted core.state.base (history core.state) core.state.last_txn core.state.last_stamp
-  -- each event was allowed when it came: the stamps rise, and a granted call had nobody in its way and the reply and accesses that were recorded
+  -- each event was allowed when it came: the stamps rise, and a granted call had nobody in its way
+  -- and the reply and accesses that were recorded
   pub legal : Legal posix_calls (start_of core.state.base started.store) (history core.state)
   -- only live transactions wait
   pub waiting : (t : ℕ) → is_some (finite.get core.state.asks t) ≡ true → fate_of core.state t ≡ Some Live

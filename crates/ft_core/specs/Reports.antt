@@ -16,15 +16,18 @@ use Rattle.ft_core.specs.declared.reports.LiveChild.{LiveChild}
 use Rattle.ft_core.specs.States.{State, history, fate_of, live_children, accesses_now}
 use Rattle.ft_core.specs.Steps.{exact_rule}
 
--- The list has each lock of the history once: by cell, owner, mode and kind.
+-- The list has each lock of the history once: by cell, owner, mode and kind (Moss
+-- 1981, holding and retaining).
 pub record AreLockLines (s : State) (lines : List LockLine) : Type 0 where
   pub order : Pairs (λ x y. line_cmp x y ≡ Less) lines
   pub exact : (l : LockLine) → In l lines ↔ (is_lock (history s) l ≡ true)
 
--- who is in the way of a call now
+-- who is in the way of a call now: by the rule, with the accesses that the call
+-- has on the tree of the state
 abbrev pub blockers_now : State → ℕ → Call → List ℕ
 blockers_now s t call = exact_rule s t (accesses_now s call)
 
+-- each of these with who is in the way of its call
 abbrev pub waits_from : State → List (ℕ × Call) → List (ℕ × List ℕ)
 waits_from s asks = map (λ ask. (ask.0, blockers_now s ask.0 ask.1)) asks
 
@@ -32,6 +35,7 @@ waits_from s asks = map (λ ask. (ask.0, blockers_now s ask.0 ask.1)) asks
 abbrev pub waits : State → List (ℕ × List ℕ)
 waits s = waits_from s (finite.entries s.asks)
 
+-- what is listed of one that waits, as such a pair
 abbrev pub as_wait : Pending → ℕ × List ℕ
 as_wait p = (p.txn, p.blockers.items)
 
@@ -43,11 +47,13 @@ HasRisingBlockers p = Pairs (λ x y. x < y) p.blockers.items
 abbrev pub child_cmp : LiveChild → LiveChild → Ordering
 child_cmp x y = ordering_then (nat_cmp x.parent y.parent) (nat_cmp x.child y.child)
 
--- The list has each live transaction with each live child once: by parent, and then by child.
+-- The list has each live transaction with each live child once: by parent, and then by child
+-- (Moss: a parent waits for its live children).
 pub record AreLiveChildren (s : State) (list : List LiveChild) : Type 0 where
   pub order : Pairs (λ x y. child_cmp x y ≡ Less) list
   pub exact : (x : LiveChild) → In x list ↔ ((fate_of s x.parent ≡ Some Live) × In x.child (live_children s x.parent))
 
+-- the child with its parent, if it has one, and the rest
 abbrev pub below : Option ℕ → ℕ → List LiveChild → List LiveChild
 below None child rest = rest
 below (Some parent) child rest = record { parent = parent; child = child } ∷ rest

@@ -1,4 +1,7 @@
--- The state of a core.
+-- The state of a core: what its contracts say of it, and what a reader has to believe, with
+-- Histories, Living, Steps, Promises, Reports, Sweeps and Reached. What follows from the events
+-- alone is said by ft_history at the calls of ft_posix, and not a second time here. (Rules of this
+-- project, where no source is given.)
 use Rattle.std.specs.Prelude.{ℕ, ◌+◌, Bool, not, ◌||◌, nat_le, nat_lt, List, [], ◌∷◌, ◌++◌, Option, Some, None, length, refl}
 use Rattle.std.specs.Ordering.{nat_cmp}
 use Rattle.std.specs.FinMap as finite
@@ -30,15 +33,19 @@ use Rattle.ft_core.specs.declared.request.Event.TheVariants.{Begin, Call as Call
 use Rattle.ft_core.specs.contracts.request.Event as event
 use Rattle.ft_core.specs.Histories.{History, Granted, told, depth_of}
 
--- what stood at the start, or at the last checkpoint: a plain tree, the last transaction's number and the last stamp
+-- what stood at the start, or at the last checkpoint: a plain tree, the last
+-- transaction's number and the last stamp
 pub record Base : Type 0 where
   pub tree : PlainTree
   pub last_txn : ℕ
   pub last_stamp : ℕ
 
+-- the call that each waiting transaction waits for
 abbrev pub Asks : Type 0
 Asks = finite.FinMap nat_cmp Call
 
+-- the rule for holders, the base, what has happened since, who waits for
+-- what, and the last numbers given
 pub record State : Type 0 where
   -- by which rule it is told who is in the way of a call; it never changes
   pub rule : Rule
@@ -50,14 +57,17 @@ pub record State : Type 0 where
   pub last_txn : ℕ
   pub last_stamp : ℕ
 
+-- a code of bases, which a model needs
 abbrev pub coded_base : Coded Base
 coded_base =
     code_by (PlainTree × (ℕ × ℕ)) (coded× coded_tree (coded× coded_ℕ coded_ℕ)) (λ b. (b.tree, (b.last_txn, b.last_stamp)))
     (λ p. record { tree = p.0; last_txn = p.1.0; last_stamp = p.1.1 }) (λ _. refl)
 
+-- a code of them, which a model needs
 abbrev pub coded_asks : Coded Asks
 coded_asks = finite.code coded_ℕ call.the_row.coded
 
+-- a code of states, which a model needs
 abbrev pub coded_state : Coded State
 coded_state =
     code_by (Rule × (Base × (List Event × (Asks × (ℕ × ℕ)))))
@@ -65,42 +75,47 @@ coded_state =
     (λ s. (s.rule, (s.base, (s.events, (s.asks, (s.last_txn, s.last_stamp))))))
     (λ p. record { rule = p.0; base = p.1.0; events = p.1.1.0; asks = p.1.1.1.0; last_txn = p.1.1.1.1.0; last_stamp = p.1.1.1.1.1 }) (λ _. refl)
 
--- What a core is: its state, and the cells in which its tree is stored. No call sees more of them than their tree; how many places they have is what a sweep changes.
+-- What a core is: its state, and the cells in which its tree is stored. No call sees more of them
+-- than their tree; how many places they have is what a sweep changes.
 pub record StoredState : Type 0 where
   pub state : State
   pub cells : Cells
 
+-- a code of them, which a model needs
 abbrev pub coded_stored : Coded StoredState
 coded_stored = code_by (State × Cells) (coded× coded_state tree.the_row.coded) (λ s. (s.state, s.cells)) (λ p. record { state = p.0; cells = p.1 }) (λ _. refl)
 
--- the root alone, of number 1; no transaction
+-- the root alone, of number 1; no transaction, and the stamp 1
 abbrev pub first_base : Base
 first_base = record { tree = tidy fresh_cells; last_txn = 0; last_stamp = 1 }
 
--- nothing has happened since the base
+-- the state of a rule and a base: nothing has happened since
 abbrev pub at_base : Rule → Base → State
 at_base rule base = record { rule = rule; base = base; events = []; asks = finite.empty; last_txn = base.last_txn; last_stamp = base.last_stamp }
 
+-- the events as a history
 abbrev pub history : State → History
 history s = told s.events
 
 -- Transactions.
 
--- what has become of a transaction begun since the base
+-- what has become of a transaction: live, committed, aborted, or none of this
+-- number since the base (Moss)
 abbrev pub fate_of : State → ℕ → Option Fate
 fate_of s t = fate posix_calls s.base.last_txn (history s) t
 
--- what is told of it
+-- what the forest tells of a transaction, as its fate
 abbrev pub fate_in : Option Life → Option Fate
 fate_in None = None
 fate_in (Some LiveState) = Some Live
 fate_in (Some CommittedState) = Some Committed
 fate_in (Some AbortedState) = Some Aborted
 
--- the live children of a transaction, in rising order
+-- the live children of a transaction, in rising order (Moss)
 abbrev pub live_children : State → ℕ → List ℕ
 live_children s t = live_children_of posix_calls s.base.last_txn (history s) t
 
+-- there is one
 abbrev pub has_live_child : State → ℕ → Bool
 has_live_child s t = nat_lt 0 (length (live_children s t))
 
@@ -108,35 +123,44 @@ has_live_child s t = nat_lt 0 (length (live_children s t))
 abbrev pub live_transactions : State → List ℕ
 live_transactions s = passing (λ t. is_live (fate_of s t)) (begun posix_calls (history s))
 
+-- some transaction is live
 abbrev pub has_live : State → Bool
 has_live s = nat_lt 0 (length (live_transactions s))
 
 -- Calls.
 
--- the standing calls, oldest first: granted calls that are not undone, with no aborted transaction at or above their askers
+-- the standing calls, in the order of their stamps: granted calls that are not undone,
+-- with no aborted transaction at or above their askers (Moss, abort; that undone ones go
+-- too is a rule of this project)
 abbrev pub standing_calls : State → List Granted
 standing_calls s = standing posix_calls (history s)
 
--- The tree of a state: what the plain tree holds after the standing calls alone, from the base: no locks, no logs, no transactions.
+-- The tree of a state: what the plain tree holds after the standing calls alone, in the order of
+-- their stamps, from the base: no locks, no logs, no transactions.
 abbrev pub tree_of : State → PlainTree
 tree_of s = tree_after s.base.tree (standing_calls s)
 
 -- Limits.
 
+-- 100,000 transactions since the base, or the last number is 2^63 - 1
 abbrev pub has_most_transactions : State → Bool
 has_most_transactions s = nat_le MOST_TRANSACTIONS (length (begun posix_calls (history s))) || nat_le LAST_NUMBER s.last_txn
 
+-- 1,000,000 granted calls since the base, or the last stamp is 2^63 - 1
 abbrev pub has_most_calls : State → Bool
 has_most_calls s = nat_le MOST_CALLS (length (grants posix_calls (history s))) || nat_le LAST_NUMBER s.last_stamp
 
+-- the transaction has depth 64
 abbrev pub is_deepest : State → ℕ → Bool
 is_deepest s t = nat_le MOST_DEPTH (depth_of (history s) t)
 
 -- The state after an event.
 
+-- the number that the next transaction gets: one more than the last
 abbrev pub next_txn : State → ℕ
 next_txn s = s.last_txn + 1
 
+-- the stamp that the next granted call gets: one more than the last
 abbrev pub next_stamp : State → ℕ
 next_stamp s = s.last_stamp + 1
 
@@ -144,7 +168,8 @@ next_stamp s = s.last_stamp + 1
 abbrev pub after_begin : State → Option ℕ → State
 after_begin s parent = record s { events = s.events ++ Begin (next_txn s) parent ∷ []; last_txn = next_txn s }
 
--- a call is granted with this reply and these accesses, and the transaction waits for nothing
+-- a call is granted with this reply and these accesses, and the
+-- transaction waits for nothing any more
 abbrev pub after_call : State → ℕ → Call → Reply → List Access → State
 after_call s t call reply accesses = record s {
   events = s.events ++ CallEvent (next_stamp s) t call reply accesses ∷ [];
@@ -152,10 +177,11 @@ after_call s t call reply accesses = record s {
   last_stamp = next_stamp s;
 }
 
--- what the plain tree would reply, and which cells the call would access there
+-- what the plain tree would reply to the call, made with the next stamp (POSIX, by exec)
 abbrev pub reply_of : State → Call → Reply
 reply_of s call = (exec (tree_of s) (next_stamp s) call).1
 
+-- which cells the call would access there, and how (Moss, the locking rules)
 abbrev pub accesses_now : State → Call → List Access
 accesses_now s call = accesses_in (tree_of s) (next_stamp s) call
 
@@ -167,16 +193,19 @@ after_grant s t call = after_call s t call (reply_of s call) (accesses_now s cal
 abbrev pub after_wait : State → ℕ → Call → State
 after_wait s t call = record s { asks = finite.insert s.asks t call }
 
+-- a transaction waits for nothing any more
 abbrev pub after_drop : State → ℕ → State
 after_drop s t = record s { asks = finite.remove s.asks t }
 
+-- the call with this stamp is undone; who waits for what stays
 abbrev pub after_undo : State → ℕ → State
 after_undo s k = record s { events = s.events ++ Undo k ∷ [] }
 
+-- a transaction has committed, and waits for nothing any more
 abbrev pub after_commit : State → ℕ → State
 after_commit s t = record s { events = s.events ++ Commit t ∷ []; asks = finite.remove s.asks t }
 
--- the pending asks of the aborted transaction go, and those of all below it
+-- a transaction is aborted, and it and all below it wait for nothing any more
 abbrev pub after_abort : State → ℕ → State
 after_abort s t = record s { events = s.events ++ Abort t ∷ []; asks = finite.retain_keys s.asks (λ u. not (over posix_calls (history s) t u)) }
 
@@ -184,9 +213,11 @@ after_abort s t = record s { events = s.events ++ Abort t ∷ []; asks = finite.
 abbrev pub count_standing : State → ℕ → ℕ
 count_standing s t = calls_below posix_calls (history s) t
 
--- the tree as it stands is the base, and what has happened is forgotten; the last numbers and the rule stay
+-- the tree as it stands is the base, and what has happened is forgotten; the
+-- last numbers and the rule stay
 abbrev pub base_now : State → Base
 base_now s = record { tree = tree_of s; last_txn = s.last_txn; last_stamp = s.last_stamp }
 
+-- the state of that base and the same rule: nothing has happened since
 abbrev pub after_checkpoint : State → State
 after_checkpoint s = at_base s.rule (base_now s)

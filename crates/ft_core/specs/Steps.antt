@@ -19,28 +19,32 @@ use Rattle.ft_core.specs.declared.request.Outcome.{Outcome}
 use Rattle.ft_core.specs.declared.request.Outcome.TheVariants.{Granted as GrantedOutcome, Waits as WaitsOutcome}
 use Rattle.ft_core.specs.States.{State, history, fate_of, has_live_child, has_live, is_deepest, has_most_transactions, has_most_calls, next_txn, next_stamp, after_begin, reply_of, accesses_now, after_grant, after_wait, after_drop, after_undo, after_commit, after_abort, after_checkpoint, count_standing}
 
--- Refusals, in their order: NoTxn, Ended, Deep, ChildLive, NothingToUndo or SubSince, NoAsk, Full; of a checkpoint Live. (Rules of this project.)
+-- Refusals, in their order: NoTxn, Ended, Deep, ChildLive, NothingToUndo or SubSince, NoAsk, Full;
+-- of a checkpoint Live. (Rules of this project.)
 
 -- a fault, where a test holds, and else what comes later
 abbrev pub fault_if : Bool → Fault → Option Fault → Option Fault
 fault_if test fault later = cond test (Some fault) later
 
+-- NoTxn where there is no such transaction, Ended where it is not live, and else what comes later
 abbrev pub fault_of_fate : Option Fate → Option Fault → Option Fault
 fault_of_fate None later = Some NoTxn
 fault_of_fate (Some Live) later = later
 fault_of_fate (Some WasCommitted) later = Some Ended
 fault_of_fate (Some WasAborted) later = Some Ended
 
+-- why an undo that comes upon this is refused
 abbrev pub fault_of_target : Target posix_calls → Option Fault
 fault_of_target (Found c) = None
 fault_of_target SubSinceTarget = Some SubSince
 fault_of_target Nothing = Some NothingToUndo
 
+-- NoAsk where no call is waited for, and else what comes later
 abbrev pub fault_of_ask : Option Call → Option Fault → Option Fault
 fault_of_ask None later = Some NoAsk
 fault_of_ask (Some call) later = later
 
--- why a request is refused, whatever memory there is
+-- why a request is refused, whatever memory there is, in the order above
 abbrev pub refusal_of : State → Request → Option Fault
 refusal_of s Begin = fault_if (has_most_transactions s) Full None
 refusal_of s (Sub t) = fault_of_fate (fate_of s t) (fault_if (is_deepest s t) Deep (fault_if (has_most_transactions s) Full None))
@@ -64,15 +68,20 @@ MayWantMemory (Abort t) = ⊥
 MayWantMemory (Undo t) = ⊥
 MayWantMemory Checkpoint = Unit {0}
 
--- A rule says who blocks a call of a transaction with these accesses, in a state: its base counts too, since two states with the same events may have different trees.
+-- A rule says who blocks a call of a transaction with these accesses, in a state: its base counts
+-- too, since two states with the same events may have different trees.
 abbrev pub BlockingRule : Type 0
 BlockingRule = State → ℕ → List Access → List ℕ
 
--- by the rule of the state: who owns a conflicting lock and is neither the asker nor an ancestor of it, and by Moss's rule each ancestor that holds one too, in rising order
+-- by the rule of the state, in rising order (Moss, the locking rules): who owns a
+-- conflicting lock and is neither the asker nor an ancestor of it, and by Moss's own rule
+-- each ancestor that holds one too
 abbrev pub exact_rule : BlockingRule
 exact_rule s t accesses = blockers_by s.rule (history s) t (map as_place accesses)
 
--- A call that t asked for is granted exactly where nobody blocks it: its stamp is the next, and its reply and accesses are those on the tree of the state. Else the answer names its blockers, and t waits for it.
+-- A call that t asked for is granted exactly where nobody blocks it (Moss): its stamp is the next,
+-- and its reply and accesses are those on the tree of the state. Else the answer names its
+-- blockers, and t waits for it.
 abbrev pub IsAsked : BlockingRule → State → ℕ → Call → Answer → State → Type 0
 IsAsked rule s t call (Granted k reply) s' = (rule s t (accesses_now s call) ≡ []) × (k ≡ next_stamp s) × (reply ≡ reply_of s call) × (s' ≡ after_grant s t call)
 IsAsked rule s t call (Waits blockers) s' = (blockers ≢ []) × (blockers ≡ rule s t (accesses_now s call)) × (s' ≡ after_wait s t call)
@@ -84,7 +93,8 @@ IsUndone s (Found c) k s' = (k ≡ c.call.stamp) × (s' ≡ after_undo s k)
 IsUndone s SubSinceTarget k s' = ⊥
 IsUndone s Nothing k s' = ⊥
 
--- The answer to a request that nothing refuses but, perhaps, want of memory, with the state after it.
+-- The answer to a request that nothing refuses but, perhaps, want of
+-- memory, with the state after it.
 abbrev pub IsAnswered : BlockingRule → State → Request → Answer → State → Type 0
 IsAnswered rule s r (Refused fault) s' = (fault ≡ Memory) × MayWantMemory r × (s' ≡ s)
 IsAnswered rule s Begin (Txn t) s' = (t ≡ next_txn s) × (s' ≡ after_begin s None)
@@ -116,10 +126,12 @@ begin_request (Some t) = Sub t
 
 -- What the methods answer, as answers to requests.
 
+-- the answer of a method that can be refused
 abbrev pub answer_with : {A : Type 0} → (A → Answer) → Result A Fault → Answer
 answer_with told (Ok x) = told x
 answer_with told (Err fault) = Refused fault
 
+-- the answer to a call that was asked for
 abbrev pub outcome_answer : Outcome → Answer
 outcome_answer (GrantedOutcome k reply) = Granted k reply
 outcome_answer (WaitsOutcome blockers) = Waits blockers

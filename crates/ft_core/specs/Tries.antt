@@ -11,7 +11,8 @@ use Rattle.ft_core.specs.declared.parts.Tried.{Tried}
 use Rattle.ft_core.specs.declared.parts.Tried.TheVariants.{Made as WasMade, Blocked}
 use Rattle.ft_core.specs.Makes.{IsMadeOn, IsUnmade}
 
--- t's call with stamp k is made with the reply that it has on the cells before; nobody was in the way of it
+-- t's call with stamp k is made with the reply that it has on the cells
+-- before; nobody was in the way of it
 pub record IsMade (rule : Rule) (old new : Parts) (t k : ℕ) (call : Call) (made : Made) : Type 0 where
   pub free : AreBlockers rule old.locks old.forest t (accesses_of old.tree k call) []
   pub twice : made.reply ≡ made.kept
@@ -25,6 +26,7 @@ pub record IsBlocked (rule : Rule) (old new : Parts) (t k : ℕ) (call : Call) (
   pub are : AreBlockers rule old.locks old.forest t (accesses_of old.tree k call) blockers
   pub unmade : IsUnmade old new
 
+-- one of the two
 abbrev pub IsTried : Rule → Parts → Parts → ℕ → ℕ → Call → Tried → Type 0
 IsTried rule old new t k call (WasMade made) = IsMade rule old new t k call made
 IsTried rule old new t k call (Blocked blockers) = IsBlocked rule old new t k call blockers.items

@@ -81,6 +81,7 @@ impl Core {
         ensures memory { IfErr result (λ fault. fault ≡ MemoryFault) }
         ensures same { OnErr result (self.new.state ≡ self.old.state) }
     {
+        // (the place of its event: nothing wants memory once the call is made)
         self.journal.reserve()?;
         let stamp = self.journal.next_stamp();
         let rule = self.journal.rule();

@@ -155,7 +155,8 @@ impl Journal {
     }
 
     /// Makes the places of one more event, and of the one that ends or undoes it. Where they are
-    /// missing, an eighth of all is made besides, so that few stay free.
+    /// missing, an eighth of all is made besides, and not as many again: these places are large,
+    /// and many are kept free for ends and undos.
     pub(crate) fn reserve(&mut self) -> Result<(), Memory>
         ensures same { self.new ≡ record self.old { room = self.new.room } }
         ensures room { OnOk result (2 ≤ self.new.room) }

@@ -30,5 +30,5 @@ pub fn exact_ledger()
 pub fn reached(core: &Core)
     ensures { IsReached core.now }
 {
-    let _ = &core.parts;
+    let _ = core.history();
 }

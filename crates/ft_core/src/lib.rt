@@ -22,5 +22,5 @@ pub use manager::Core;
 pub use reports::{LiveChild, Pending};
 pub use request::{Answer, Event, Outcome, Request};
 
-/// The most granted calls since the base.
+/// The most granted calls since the base. A call that was undone counts too: it was granted.
 pub const MOST_CALLS: u64 = 1_000_000;

@@ -14,6 +14,7 @@ ghost use Rattle.ft_core.specs.States.{at_base, first_base, fate_in, fate_of, ha
 ghost use Rattle.ft_core.specs.Journals.{IsBaseTree};
 ghost use Rattle.ft_core.specs.Living.{SomeIsLive, NoneIsLive};
 ghost use Rattle.ft_core.specs.Promises.{IsHeadline};
+ghost use Rattle.ft_core.specs.Reached.{IsReached};
 ghost use Rattle.ft_core.specs.Steps.{IsStep, exact_rule, fault_of_fate, answer_with, refusal_of, begin_request};
 ghost use Rattle.ft_core.specs.Opens.{AreAsBefore, IsOpenFor, add_refusal};
 ghost use Rattle.ft_forest.specs.Transactions.{last_in, HasBegun};
@@ -163,9 +164,10 @@ impl Core {
         self.journal.base()
     }
 
-    /// What has happened since the base, in order.
+    /// What has happened since the base, in order: the state is one that legal requests lead to.
     pub fn history(&self) -> &[Event]
-        ensures { result.now ≡ self.now.state.events }
+        ensures events { result.now ≡ self.now.state.events }
+        ensures reached { IsReached self.now }
     {
         self.journal.events()
     }

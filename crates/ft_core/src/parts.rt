@@ -134,6 +134,7 @@ impl Parts {
             accesses,
             mut intent,
         } = prepared;
+        // (the answer and the event both have the reply: it is copied before any edit is made)
         let reply = intent.reply(alloc, &self.tree)?;
         let kept = reply.copy(alloc)?;
         self.logs.apply(

@@ -1,4 +1,4 @@
--- The text of a drawing in the DOT language.
+-- The text of a drawing in the DOT language of Graphviz.
 use Rattle.std.specs.Prelude.{ℕ, List, [], ◌∷◌, ◌++◌, codes, Option, None, Some}
 use Rattle.std.specs.Fmt.{decimal}
 use Rattle.std.specs.List.{flat_map}
@@ -15,6 +15,7 @@ abbrev pub style_of : EdgeKind → List ℕ
 style_of Lock = codes "solid"
 style_of Child = codes "dashed"
 
+-- the line of an edge
 abbrev pub edge_text : Edge → List ℕ
 edge_text edge = codes "  " ++ decimal edge.from ++ codes " -> " ++ decimal edge.to ++ codes " [style=" ++ style_of edge.kind ++ codes "];" ++ 10 ∷ []
 
@@ -22,22 +23,25 @@ edge_text edge = codes "  " ++ decimal edge.from ++ codes " -> " ++ decimal edge
 unfoldable pub cycle_mark : List ℕ
 cycle_mark = codes "color=red"
 
+-- the line of a member of a cycle
 abbrev pub member_text : ℕ → List ℕ
 member_text txn = codes "  " ++ decimal txn ++ codes " [" ++ cycle_mark ++ codes "];" ++ 10 ∷ []
 
--- a transaction with its rank
+-- the line of a transaction with its rank
 abbrev pub rank_text : ℕ × ℕ → List ℕ
 rank_text entry = codes "  " ++ decimal entry.0 ++ codes " [label=\"" ++ decimal entry.0 ++ codes " (rank " ++ decimal entry.1 ++ codes ")\"];" ++ 10 ∷ []
 
+-- the lines of transactions
 abbrev pub verdict_text : Verdict → List ℕ
 verdict_text (Cycle members) = flat_map member_text members
 verdict_text (Ranked ranks) = flat_map rank_text ranks
 
--- what stands between the braces
+-- the lines of a report, which stand between the braces; none where there is no report
 abbrev pub report_text : Option Report → List ℕ
 report_text None = []
 report_text (Some report) = verdict_text report.verdict ++ flat_map edge_text report.edges
 
+-- the whole text
 abbrev pub digraph : Option Report → List ℕ
 digraph report = codes "digraph waits {" ++ 10 ∷ report_text report ++ codes "}" ++ 10 ∷ []
 

@@ -1,4 +1,5 @@
--- How a report of who waits for whom is read from the lines of replies, and which one is the last.
+-- How a report of who waits for whom is read from the lines of replies, and which one is the
+-- last. (The format of replies is this project's own: docs/SCRIPT.md.)
 use Rattle.std.specs.Prelude.{◌==◌, ℕ, zero, suc, List, [], ◌∷◌, codes, if◌then◌else◌, Option, None, Some, option_and_then, option_map}
 use Rattle.std.specs.Str.{bytes_eq}
 use Rattle.ft_waits.specs.declared.edge.Edge.{Edge}
@@ -29,34 +30,36 @@ cut_at byte (b ∷ bs) = if b == byte then Some ([], bs) else option_map (λ par
 
 -- ---- the lines of a report
 
--- `edges N`
+-- the number of `edges N`
 abbrev pub count_of : List (List ℕ) → Option ℕ
 count_of words = option_and_then (only number_of) (behind (codes "edges") words)
 
+-- the names of the kinds
 abbrev pub kind_words : List (List ℕ × EdgeKind)
 kind_words = (codes "lock", Lock) ∷ (codes "child", Child) ∷ []
 
--- `edge FROM TO KIND`
+-- the edge of `edge FROM TO KIND`
 abbrev pub edge_of : List (List ℕ) → Option Edge
 edge_of words = option_map (λ e. record { from = e.0; to = e.1; kind = e.2 }) (option_and_then (three number_of number_of (only (look_up kind_words))) (behind (codes "edge") words))
 
--- `T:RANK`
+-- the transaction and the rank of `T:RANK`
 abbrev pub rank_of : List ℕ → Option (ℕ × ℕ)
 rank_of word = option_and_then (λ parts. option_and_then (λ txn. option_map (λ rank. (txn, rank)) (number_of parts.1)) (number_of parts.0)) (cut_at 58 word)
 
--- the members of a cycle, or ranks
+-- the verdict by the word that it begins with: the members of a cycle, or ranks
 abbrev pub told_by : List ℕ → List (List ℕ) → Option Verdict
 told_by word words =
     if bytes_eq word (codes "cycle") then option_map Cycle (each number_of words)
     else (if bytes_eq word (codes "ranks") then option_map Ranked (each rank_of words) else None)
 
--- `cycle A B ..` or `ranks T:RANK ..`
+-- the cycle of `cycle A B ..`, or the ranks of `ranks T:RANK ..`
 abbrev pub verdict_of : List (List ℕ) → Option Verdict
 verdict_of [] = None
 verdict_of (word ∷ words) = told_by word words
 
 -- ---- reports
 
+-- the report with one more edge before its own
 abbrev pub with_edge : Edge → Report → Report
 with_edge edge report = record { edges = edge ∷ report.edges; verdict = report.verdict }
 
@@ -70,7 +73,7 @@ report_of (suc count) (line ∷ lines) = option_and_then (λ edge. option_map (w
 abbrev pub report_at : List ℕ → List (List ℕ) → Option Report
 report_at line lines = option_and_then (λ count. report_of count lines) (count_of (words_of line))
 
--- one of the reports, the second where it is there
+-- the second of two reports, or the first where there is no second
 abbrev pub later : Option Report → Option Report → Option Report
 later report None = report
 later report (Some other) = Some other

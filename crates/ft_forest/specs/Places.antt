@@ -1,4 +1,5 @@
--- How deep a transaction at a place would stand, and what a walk down comes to.
+-- How deep a transaction at a place would stand, and what a walk down comes to: words inside the
+-- crate, for a begin under a parent and for an abort.
 use Rattle.std.specs.Prelude.{◌≡◌, ◌≢◌, ◌+◌, ℕ, true, Option, Some, None}
 use Rattle.std.specs.Option.{option_map}
 use Rattle.ft_forest.specs.Transactions.{Transactions, depth_in, over_in}

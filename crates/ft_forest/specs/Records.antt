@@ -1,4 +1,5 @@
--- How the records of the transactions are linked.
+-- How the records of the transactions are linked, seen as functions of a place: what a forest
+-- keeps, which no public contract cites.
 use Rattle.std.specs.Prelude.{◌≡◌, ◌<◌, ◌≤◌, ◌+◌, ◌-◌, ◌==◌, ◌&&◌, ◌⊎◌, ℕ, Bool, Option, Some, None, List, map, length, slice_get, IsSome}
 use Rattle.std.specs.Option.{option_map}
 use Rattle.ft_history.specs.Forest.{is_some_and}
@@ -10,7 +11,9 @@ use Rattle.ft_forest.specs.declared.records.Record.{Record}
 use Rattle.ft_forest.specs.declared.records.Records.{Records}
 use Rattle.ft_forest.specs.Transactions.{Transaction, Transactions, is_live, count_below}
 
--- The transaction at each place: its parent's place, what has become of it, its depth, how many live children it has, the youngest of them, and its next older and its next younger live sibling. The youngest of no transaction is the youngest live top-level one.
+-- The transaction at each place: its parent's place, what has become of it, its depth, how many
+-- live children it has, the youngest of them, and its next older and its next younger live
+-- sibling. The youngest of no transaction is the youngest live top-level one.
 pub record Links : Type 0 where
   pub count : ℕ
   pub parent : ℕ → Option ℕ
@@ -21,38 +24,47 @@ pub record Links : Type 0 where
   pub older : ℕ → Option ℕ
   pub younger : ℕ → Option ℕ
 
+-- the parent's place that a record tells, if there is a record
 abbrev pub parent_from : Option Record → Option ℕ
 parent_from None = None
 parent_from (Some r) = r.parent
 
+-- what has become of it, if there is a record
 abbrev pub state_from : Option Record → Option State
 state_from None = None
 state_from (Some r) = Some r.state
 
+-- its depth, or 0
 abbrev pub depth_from : Option Record → ℕ
 depth_from None = 0
 depth_from (Some r) = r.depth
 
+-- how many live children it has, or 0
 abbrev pub children_from : Option Record → ℕ
 children_from None = 0
 children_from (Some r) = r.children
 
+-- the youngest of them, if there is a record and a child
 abbrev pub youngest_from : Option Record → Option ℕ
 youngest_from None = None
 youngest_from (Some r) = r.youngest
 
+-- its next older live sibling, if there is a record and a sibling
 abbrev pub older_from : Option Record → Option ℕ
 older_from None = None
 older_from (Some r) = r.older
 
+-- its next younger live sibling, if there is a record and a sibling
 abbrev pub younger_from : Option Record → Option ℕ
 younger_from None = None
 younger_from (Some r) = r.younger
 
+-- the youngest live one under a parent, or at the top level
 abbrev pub youngest_by : Option ℕ → List Record → Option ℕ → Option ℕ
 youngest_by top rs None = top
 youngest_by top rs (Some p) = youngest_from (slice_get rs p)
 
+-- the links that these records tell, with the youngest at the top level
 abbrev pub links_by : Option ℕ → List Record → Links
 links_by top rs = record {
   count = length rs;
@@ -65,6 +77,7 @@ links_by top rs = record {
   younger = λ i. younger_from (slice_get rs i);
 }
 
+-- the links that the records of a forest tell
 abbrev pub links_of : Records → Links
 links_of r = links_by r.youngest r.list.items
 
@@ -118,21 +131,26 @@ pub record IsSibling (s : Links) (p : Option ℕ) (i : ℕ) : Type 0 where
   pub parent : s.parent i ≡ p
   pub live : s.state i ≡ Some Live
 
+-- the youngest live one under a parent, if there is one
 abbrev pub IsYoungest : Links → Option ℕ → Option ℕ → Type 0
 IsYoungest s p None = (x : ℕ) → IsSibling s p x → ⊥
 IsYoungest s p (Some y) = IsSibling s p y × ((x : ℕ) → IsSibling s p x → x ≤ y)
 
+-- the youngest of i's live siblings that are older, if there is one
 abbrev pub IsOlder : Links → Option ℕ → ℕ → Option ℕ → Type 0
 IsOlder s p i None = (x : ℕ) → IsSibling s p x → i ≤ x
 IsOlder s p i (Some y) = IsSibling s p y × (y < i) × ((x : ℕ) → IsSibling s p x → (x ≤ y) ⊎ (i ≤ x))
 
+-- the oldest of i's live siblings that are younger, if there is one
 abbrev pub IsYounger : Links → Option ℕ → ℕ → Option ℕ → Type 0
 IsYounger s p i None = (x : ℕ) → IsSibling s p x → x ≤ i
 IsYounger s p i (Some y) = IsSibling s p y × (i < y) × ((x : ℕ) → IsSibling s p x → (x ≤ i) ⊎ (y ≤ x))
 
+-- i is a live child of p
 abbrev pub is_child_at : Links → ℕ → ℕ → Bool
 is_child_at s p i = is_some_and (s.parent i) (λ q. q == p) && is_live (s.state i)
 
+-- one deeper than its parent, or 1 at the top level
 abbrev pub DepthIs : Links → Option ℕ → ℕ → Type 0
 DepthIs s None d = d ≡ 1
 DepthIs s (Some p) d = d ≡ s.depth p + 1
@@ -154,6 +172,7 @@ pub record AreLinked (s : Links) : Type 0 where
 abbrev pub number_at : ℕ → ℕ → ℕ
 number_at base i = base + 1 + i
 
+-- what callers see of a record
 abbrev pub transaction_from : ℕ → Record → Transaction
 transaction_from base r = record { parent = option_map (number_at base) r.parent; state = r.state }
 
@@ -161,6 +180,7 @@ transaction_from base r = record { parent = option_map (number_at base) r.parent
 abbrev pub transactions_of : ℕ → Records → Transactions
 transactions_of base r = record { base = base; list = map (transaction_from base) r.list.items }
 
+-- what a forest keeps of its records: they are linked so, and within the limits
 pub record AreRecords (base : ℕ) (r : Records) : Type 0 where
   pub linked : AreLinked (links_of r)
   pub few : length r.list.items ≤ MOST_TRANSACTIONS

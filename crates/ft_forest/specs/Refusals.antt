@@ -1,4 +1,5 @@
--- When each call of a forest is refused.
+-- When each call of a forest is refused. (The order of refusals and the
+-- limits are rules of this project.)
 use Rattle.std.specs.Prelude.{◌≡◌, ◌||◌, ℕ, Bool, cond, nat_le, nat_lt, Option, Some, None, length}
 use Rattle.ft_forest.specs.declared.TheConstants.{MOST_TRANSACTIONS, MOST_DEPTH, LAST_NUMBER}
 use Rattle.ft_forest.specs.declared.fault.ForestFault.{ForestFault}
@@ -14,22 +15,27 @@ refusal_of (Some Live) later = later
 refusal_of (Some Committed) later = Some Ended
 refusal_of (Some Aborted) later = Some Ended
 
+-- the fault where the test holds, and else what comes later
 abbrev pub fault_if : Bool → ForestFault → Option ForestFault → Option ForestFault
 fault_if b fault later = cond b (Some fault) later
 
--- as many transactions since the base as there may be, or the last number given
+-- 100,000 transactions since the base, or the number 2^63 - 1 given
 abbrev pub is_full : Transactions → Bool
 is_full m = nat_le MOST_TRANSACTIONS (length m.list) || nat_le LAST_NUMBER (last_in m)
 
+-- of a begin: Full
 abbrev pub begin_refusal : Transactions → Option ForestFault
 begin_refusal m = fault_if (is_full m) Full None
 
+-- of a begin below t, in this order: NoTxn, Ended, Deep, Full
 abbrev pub sub_refusal : Transactions → ℕ → Option ForestFault
 sub_refusal m t = refusal_of (state_in m t) (fault_if (nat_le MOST_DEPTH (depth_in m t)) Deep (begin_refusal m))
 
+-- of a commit: NoTxn, Ended, ChildLive
 abbrev pub commit_refusal : Transactions → ℕ → Option ForestFault
 commit_refusal m t = refusal_of (state_in m t) (fault_if (nat_lt 0 (live_children_in m t)) ChildLive None)
 
+-- of an abort: NoTxn, Ended
 abbrev pub abort_refusal : Transactions → ℕ → Option ForestFault
 abort_refusal m t = refusal_of (state_in m t) None
 

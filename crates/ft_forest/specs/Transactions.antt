@@ -1,33 +1,42 @@
--- The transactions of a forest: how they stand above one another, and what has become of each.
+-- The transactions of a forest: how they stand above one another, and what has become of each. To
+-- be above another is said by Forest of ft_history, at the parents that a forest keeps. (Moss is
+-- J. E. B. Moss, Nested Transactions, MIT 1981; what names no source is a rule of this project.)
 use Rattle.std.specs.Prelude.{◌≡◌, ◌≢◌, ◌<◌, ◌≤◌, ◌⊎◌, ◌+◌, ◌-◌, ◌==◌, ◌&&◌, ℕ, zero, suc, Bool, true, false, cond, nat_lt, Option, Some, None, List, [], length, slice_get, count_by}
 use Rattle.ft_history.specs.Forest.{above, is_some_and, map_or}
 use Rattle.ft_history.specs.Logs.{put}
 use Rattle.ft_forest.specs.declared.state.State.{State}
 use Rattle.ft_forest.specs.declared.state.State.TheVariants.{Live, Committed, Aborted}
 
+-- its parent, where it is a subtransaction, and what has become of it
 pub record Transaction : Type 0 where
   pub parent : Option ℕ
   pub state : State
 
--- The transactions begun since a base, in the order of their numbers, which go on from the base's last one.
+-- The transactions begun since a base, in the order of their numbers, which go
+-- on from the base's last one.
 pub record Transactions : Type 0 where
   pub base : ℕ
   pub list : List Transaction
 
+-- no transaction has begun since this base
 abbrev pub none_since : ℕ → Transactions
 none_since base = record { base = base; list = [] }
 
+-- the transaction of this number, where there is one since the base
 abbrev pub transaction_in : Transactions → ℕ → Option Transaction
 transaction_in m t = cond (nat_lt m.base t) (slice_get m.list (t - (m.base + 1))) None
 
+-- its parent, where it is there and has one
 abbrev pub parent_of : Option Transaction → Option ℕ
 parent_of None = None
 parent_of (Some x) = x.parent
 
+-- what has become of it, where it is there
 abbrev pub state_of : Option Transaction → Option State
 state_of None = None
 state_of (Some x) = Some x.state
 
+-- the parent of the transaction of this number, where there is one and it has one
 abbrev pub parent_in : Transactions → ℕ → Option ℕ
 parent_in m t = parent_of (transaction_in m t)
 
@@ -39,15 +48,17 @@ state_in m t = state_of (transaction_in m t)
 abbrev pub last_in : Transactions → ℕ
 last_in m = m.base + length m.list
 
--- y is x or an ancestor of x
+-- y is x or an ancestor of x (Moss: a superior)
 abbrev pub over_in : Transactions → ℕ → ℕ → Bool
 over_in m = above (parent_in m)
 
+-- it has not ended
 abbrev pub is_live_state : State → Bool
 is_live_state Live = true
 is_live_state Committed = false
 is_live_state Aborted = false
 
+-- it is there, and has not ended
 abbrev pub is_live : Option State → Bool
 is_live None = false
 is_live (Some state) = is_live_state state
@@ -61,7 +72,8 @@ depth_within parent (suc n) x = map_or 1 (parent x) (λ p. suc (depth_within par
 abbrev pub depth_in : Transactions → ℕ → ℕ
 depth_in m t = depth_within (parent_in m) t t
 
--- x is live, and a child of the parent; without one, it is live at the top level
+-- x is live, and a child of the parent; without one, it is live at the top level (Moss: a parent
+-- may not commit before its children have ended)
 pub record IsLiveUnder (m : Transactions) (parent : Option ℕ) (x : ℕ) : Type 0 where
   pub child : parent_in m x ≡ parent
   pub live : state_in m x ≡ Some Live
@@ -80,6 +92,7 @@ abbrev pub IsOlderSibling : Transactions → ℕ → Option ℕ → Type 0
 IsOlderSibling m t None = (x : ℕ) → IsLiveUnder m (parent_in m t) x → t ≤ x
 IsOlderSibling m t (Some y) = IsLiveUnder m (parent_in m t) y × (y < t) × ((x : ℕ) → IsLiveUnder m (parent_in m t) x → (x ≤ y) ⊎ (t ≤ x))
 
+-- the transaction is a live child of t
 abbrev pub is_live_child : ℕ → Transaction → Bool
 is_live_child t x = is_some_and x.parent (λ p. p == t) && is_live_state x.state
 
@@ -96,7 +109,7 @@ count_below test (suc n) = count_below test n + cond (test n) 1 0
 abbrev pub live_count : Transactions → ℕ
 live_count m = count_below (λ x. is_live (state_in m x)) (suc (last_in m))
 
--- a transaction has begun, live, with the next number
+-- one more transaction, live, with the next number and this parent; all else is as it was
 pub record HasBegun (old new : Transactions) (up : Option ℕ) : Type 0 where
   pub base : new.base ≡ old.base
   pub last : last_in new ≡ last_in old + 1
@@ -110,27 +123,30 @@ pub record HaveStates (old new : Transactions) (now : ℕ → Option State) : Ty
   pub parents : (x : ℕ) → parent_in new x ≡ parent_in old x
   pub states : (x : ℕ) → state_in new x ≡ now x
 
--- t has ended, with this state
+-- t has ended, with this state, and all others have theirs (Moss: commit of a transaction)
 abbrev pub HasEnded : Transactions → Transactions → ℕ → State → Type 0
 HasEnded old new t state = HaveStates old new (put (state_in old) t (Some state))
 
--- t is aborted, with all that is live at or below it (Moss: the abort of a superior aborts its live inferiors; what had committed stays committed)
+-- t is aborted, with all that is live at or below it (Moss: the abort of a superior aborts its
+-- live inferiors; what had committed stays committed)
 abbrev pub HasAborted : Transactions → Transactions → ℕ → Type 0
 HasAborted old new t = HaveStates old new (λ x. cond (over_in old t x && is_live (state_in old x)) (Some Aborted) (state_in old x))
 
--- x is live, at or below t, and has no live child
+-- x is live, at or below t, and has no live child (Moss: children end before their parents)
 pub record IsNextToEnd (m : Transactions) (t x : ℕ) : Type 0 where
   pub below : over_in m t x ≡ true
   pub live : state_in m x ≡ Some Live
   pub no_child : (y : ℕ) → IsLiveChild m x y → ⊥
 
--- An abort of t is on its way: since the old transactions nothing has changed but that some of the live ones at or below t are aborted.
+-- An abort of t is on its way: since the old transactions nothing has changed but that some of the
+-- live ones at or below t are aborted.
 pub record IsAborting (old now : Transactions) (t : ℕ) : Type 0 where
   pub base : now.base ≡ old.base
   pub last : last_in now ≡ last_in old
   pub parents : (x : ℕ) → parent_in now x ≡ parent_in old x
   pub states : (x : ℕ) → (state_in now x ≡ state_in old x) ⊎ ((over_in old t x ≡ true) × (state_in old x ≡ Some Live) × (state_in now x ≡ Some Aborted))
 
--- On the way of an abort of t, which one was aborted last: where that is not t, it stands below t, and its parent is live.
+-- On the way of an abort of t, which one was aborted last: where that is not t, it stands
+-- below t, and its parent is live.
 abbrev pub IsLastOf : Transactions → ℕ → ℕ → Type 0
 IsLastOf m t last = last ≢ t → (over_in m t last ≡ true) × ((p : ℕ) → parent_in m last ≡ Some p → state_in m p ≡ Some Live)

@@ -13,7 +13,7 @@ use Rattle.ft_history.specs.Legal.{outcome, Legal}
 use Rattle.ft_history.specs.Ledger.{asker_of, lists}
 
 module _ (C : Calls) where
-  -- a call that can be taken back, with its inverse
+  -- a call that can be taken back, with its inverse (Moss, state restoration)
   pub record Entry : Type 0 where
     pub done : Done C
     pub inverse : C.Inverse
@@ -28,6 +28,7 @@ module _ (C : Calls) where
   MayTakeBack [] s = Unit {0}
   MayTakeBack (e ∷ es) s = C.MayRevert s e.inverse × MayTakeBack es (C.revert s e.inverse)
 
+  -- one store, and for each transaction a list of inverses
   pub record Machine : Type 0 where
     pub store : C.Store
     pub log : ℕ → List Entry
@@ -36,6 +37,7 @@ module _ (C : Calls) where
   abbrev pub grant : Machine → Done C → Machine
   grant m c = record { store = C.act m.store c.call; log = pushed m.log c.asker (record { done = c; inverse = C.inverse m.store c.call }) }
 
+  -- the newest inverse of the list is put to the store
   abbrev pub take_newest : List Entry → C.Store → C.Store
   take_newest [] s = s
   take_newest (e ∷ es) s = C.revert s e.inverse
@@ -61,7 +63,8 @@ module _ (C : Calls) where
   abbrev pub AreInverses : (ℕ → List Entry) → C.Store → Done C → Type 0
   AreInverses log s c = (u : C.Inverse) (t : ℕ) → In (record { done = c; inverse = u }) (log t) → Reverts C s c.call c.accesses u
 
-  -- A live transaction's call is made in the core's store s, with the inverse u, where nobody is in the way.
+  -- A live transaction's call is made in the core's store s, with the inverse
+  -- u, where nobody is in the way.
   pub record IsMade (base : Base C) (h : List (Event C)) (s : C.Store) (c : Done C) (u : C.Inverse) : Type 0 where
     pub live : IsLive C base.transaction h c.asker
     pub next : last_stamp C base.stamp h < number C c
@@ -70,7 +73,9 @@ module _ (C : Calls) where
     pub unblocked : blockers_of C h c.asker c.accesses ≡ []
     pub inverse : Reverts C s c.call c.accesses u
 
-  -- A sweep hides more files, that nothing stored names and no lock covers: it blanks their cells and changes no other (POSIX unlink and close: a file without a name and without an open description is gone).
+  -- A sweep hides more files, that nothing stored names and no lock covers: it blanks their
+  -- cells and changes no other (POSIX.1-2017, unlink and close: a file without a name and
+  -- without an open description is gone).
   pub record IsSweep (first : ℕ) (h : List (Event C)) (hidden more : C.File → Bool) (s new : C.Store) : Type 0 where
     pub kept : (i : C.File) → hidden i ≡ true → more i ≡ true
     pub old : (a : C.Call) → last_stamp C first h < C.stamp a → more (C.own a) ≡ false

@@ -26,10 +26,11 @@ module _ (C : Calls) where
   FatesAfter first (Undo k) h = (x : ℕ) → fate C first (Undo k ∷ h) x ≡ fate C first h x
   -- t is committed.
   FatesAfter first (Commit t) h = (x : ℕ) → fate C first (Commit t ∷ h) x ≡ put (fate C first h) t (Some Committed) x
-  -- What is live at or below t is aborted; what had committed there stays committed (Moss: the abort of a superior undoes all below it).
+  -- What is live at or below t is aborted; what had committed there stays committed (Moss: the
+  -- abort of a superior undoes all below it).
   FatesAfter first (Abort t) h = (x : ℕ) → fate C first (Abort t ∷ h) x ≡ cond (over C h t x && is_live (fate C first h x)) (Some Aborted) (fate C first h x)
 
-  -- They stand once each, in the order of their numbers, and are all.
+  -- The live children of t stand once each, in the order of their numbers, and are all.
   pub record AreLiveChildren (first : ℕ) (h : List (Event C)) (t : ℕ) : Type 0 where
     pub rising : Pairs (λ x y. x < y) (live_children C first h t)
     pub exact : (x : ℕ) → In x (live_children C first h t) ↔ (IsLive C first h x × (parent C h x ≡ Some t))

@@ -1,14 +1,18 @@
--- Transactions above one another. A parent has a smaller number than its child, so a walk up from x has at most x steps.
+-- Transactions above one another. A parent has a smaller number than its child, so a walk
+-- up from x has at most x steps.
 use Rattle.std.specs.Prelude.{◌≡◌, ◌<◌, ℕ, Bool, false, cond, ◌==◌, ◌||◌, Option, Some, None, zero, suc}
 
+-- there is a number, and it passes the test
 abbrev pub is_some_and : Option ℕ → (ℕ → Bool) → Bool
 is_some_and None p = false
 is_some_and (Some x) p = p x
 
+-- what follows from the number, if there is one
 abbrev pub and_then : Option ℕ → (ℕ → Option ℕ) → Option ℕ
 and_then None f = None
 and_then (Some x) f = f x
 
+-- what follows from the number, or the other where there is none
 abbrev pub map_or : ℕ → Option ℕ → (ℕ → ℕ) → ℕ
 map_or other None f = other
 map_or other (Some x) f = f x

@@ -1,14 +1,20 @@
--- What has happened, and what follows from it alone. A history is a list of events, newest first.
+-- What has happened, and what follows from it alone. A history is a list of events, newest
+-- first. A list of what can be taken back is newest first too; lists of calls that are run are
+-- oldest first. What speaks of transactions and stamps alone takes the last number of the base,
+-- and not its store. (Moss is J. E. B. Moss, Nested Transactions, MIT 1981; what names no source
+-- here is a rule of this project.)
 use Rattle.std.specs.Prelude.{◌≡◌, ◌<◌, ℕ, Bool, true, false, cond, not, nat_lt, nat_le, ◌==◌, ◌||◌, ◌&&◌, Option, Some, None, List, [], ◌∷◌, ◌++◌, reverse}
 use Rattle.ft_laws.specs.Calls.{Calls, Done}
 use Rattle.ft_history.specs.Forest.{is_some_and, above, nearest}
 use Rattle.ft_history.specs.Logs.{put, passing}
 
+-- what has become of a transaction (Moss)
 pub data Fate : Type 0 where
   Live : Fate
   Committed : Fate
   Aborted : Fate
 
+-- there is such a transaction, and it is live
 abbrev pub is_live : Option Fate → Bool
 is_live None = false
 is_live (Some Live) = true
@@ -22,10 +28,13 @@ module _ (C : Calls) where
     pub transaction : ℕ
     pub stamp : ℕ
 
-  -- No number above the last stamp stands in the store: each call with a later stamp may be made there (a rule of this project: what a call makes is numbered by its stamp).
+  -- No number above the last stamp stands in the store: each call with a later stamp may be made
+  -- there (a rule of this project: what a call makes is numbered by its stamp).
   abbrev pub IsFresh : Base → Type 0
   IsFresh base = (a : C.Call) → base.stamp < C.stamp a → C.IsReady a base.store
 
+  -- what happens; of a granted call it is kept who asked, the call with its stamp, its accesses
+  -- and its reply, and no inverse
   pub data Event : Type 0 where
     -- a transaction, with its parent where it is a subtransaction
     Begin : ℕ → Option ℕ → Event
@@ -68,7 +77,7 @@ module _ (C : Calls) where
   abbrev pub is_child : List Event → ℕ → ℕ → Bool
   is_child h t u = is_some_and (parent h u) (λ p. p == t)
 
-  -- y is x or an ancestor of x
+  -- y is x or an ancestor of x (Moss: a superior)
   abbrev pub over : List Event → ℕ → ℕ → Bool
   over h = above (parent h)
 
@@ -88,14 +97,18 @@ module _ (C : Calls) where
   some_abort (Abort t ∷ h) p = p t || some_abort h p
   some_abort (other ∷ h) p = some_abort h p
 
-  -- An aborted transaction is at or above x. One that had committed stays committed, and its calls go all the same (Moss: a commit is relative to the superiors).
+  -- An aborted transaction is at or above x. One that had committed stays committed, and its calls
+  -- go all the same (Moss: a commit is relative to the superiors).
   abbrev pub is_gone : List Event → ℕ → Bool
   is_gone h x = some_abort h (λ u. over h u x)
 
-  -- What has become of a transaction begun since the base, whose last one is first: it is committed if its commit has happened, else aborted if it or one above it was aborted, else live (Moss).
+  -- What has become of a transaction begun since the base, whose last one is first:
+  -- it is committed if its commit has happened, else aborted if it or one above it
+  -- was aborted, else live (Moss).
   abbrev pub fate : ℕ → List Event → ℕ → Option Fate
   fate first h t = cond (nat_lt first t && nat_le t (last_transaction first h)) (Some (cond (is_committed h t) Committed (cond (is_gone h t) Aborted Live))) None
 
+  -- its fate is Live
   abbrev pub IsLive : ℕ → List Event → ℕ → Type 0
   IsLive first h t = fate first h t ≡ Some Live
 
@@ -103,7 +116,8 @@ module _ (C : Calls) where
   abbrev pub live_children : ℕ → List Event → ℕ → List ℕ
   live_children first h t = passing (λ x. is_child h t x && is_live (fate first h x)) (begun h)
 
-  -- The owner of t's calls: the nearest transaction at or above t that isn't committed (Moss: at a commit the parent inherits).
+  -- The owner of t's calls: the nearest transaction at or above t that isn't committed (Moss: at a
+  -- commit the parent inherits).
   -- There is none if an aborted one is at or above t, or if all are committed.
   abbrev pub owner_of : List Event → ℕ → Option ℕ
   owner_of h t = cond (is_gone h t) None (nearest (parent h) (is_committed h) t)
@@ -114,6 +128,7 @@ module _ (C : Calls) where
   grants (Call c ∷ h) = grants h ++ c ∷ []
   grants (other ∷ h) = grants h
 
+  -- the call with this stamp is undone
   abbrev pub is_undone : List Event → ℕ → Bool
   is_undone [] k = false
   is_undone (Undo j ∷ h) k = (k == j) || is_undone h k

@@ -12,7 +12,9 @@ module _ (C : Calls) where
   asker_of (Call c ∷ h) k = cond (k == number C c) (Some c.asker) (asker_of h k)
   asker_of (other ∷ h) k = asker_of h k
 
-  -- The lists in log order, newest first: a grant adds to the asker's, an undo takes its newest, a commit places the child's behind the parent's, an abort empties those of all at or below it (a rule of this project).
+  -- The lists in log order, newest first, by what happened alone: a grant adds to the asker's, an
+  -- undo takes its newest, a commit places the child's behind the parent's, an abort empties those
+  -- of all at or below it (a rule of this project).
   abbrev pub lists : List (Event C) → ℕ → List (Done C)
   lists [] = λ t. []
   lists (Begin n p ∷ h) = lists h

@@ -29,7 +29,8 @@ abbrev pub popped : {A : Type 0} → (ℕ → List A) → Option ℕ → ℕ →
 popped log None = log
 popped log (Some t) = put log t (rest (log t))
 
--- A commit places t's list behind that of its parent, all of it newer; where there is no parent, it lets the list go.
+-- A commit places t's list behind that of its parent, all of it newer; where there is no
+-- parent, it lets the list go.
 abbrev pub handed : {A : Type 0} → (ℕ → List A) → ℕ → Option ℕ → ℕ → List A
 handed log t None = put log t []
 handed log t (Some p) = put (put log p (log t ++ log p)) t []

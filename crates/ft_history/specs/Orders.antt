@@ -19,7 +19,8 @@ module _ (C : Calls) where
   abbrev pub IsInFront : Done C → Done C → Type 0
   IsInFront a b = (number C a ≢ number C b) × (C.conflict a.accesses b.accesses ≡ true → number C b < number C a)
 
-  -- The live transactions at or below t, in an order in which an abort may take their lists. (A rule of this project.)
+  -- The live transactions at or below t, in an order in which an abort may take their
+  -- lists. (A rule of this project.)
   pub record IsAbortOrder (first : ℕ) (h : List (Event C)) (t : ℕ) (xs : List ℕ) : Type 0 where
     -- All that are listed are at or below t,
     pub below : Each (λ x. over C h t x ≡ true) xs

@@ -26,8 +26,10 @@ module _ (C : Calls) where
   abbrev pub OfHistories : (Base C → List (Event C) → Type 0) → Type 0
   OfHistories P = (base : Base C) → C.IsSound base.store → (h : List (Event C)) → Legal C base h → P base h
 
+  -- the store is that of the standing calls alone
   pub record IsHeadline (base : Base C) (h : List (Event C)) : Type 0 where
-    -- The store that was changed in place is that of the standing calls alone, made one after another from the base.
+    -- The store that was changed in place is that of the standing calls alone, made one
+    -- after another from the base.
     pub store : Same C (outcome C base h) (machine C base h).store
     -- Each of them then has the accesses and the reply that were recorded.
     pub replies : Faithful C base.store (standing C h)
@@ -38,15 +40,20 @@ module _ (C : Calls) where
   abbrev pub Headline : Type 0
   Headline = OfHistories IsHeadline
 
-  -- The ownership law: of two standing calls that conflict, if the earlier one has an owner then the later one has one too, and the earlier one's is at or above it. So a survivor never rests on a call that goes.
+  -- The ownership law: of two standing calls that conflict, if the earlier one has an owner
+  -- then the later one has one too, and the earlier one's is at or above it. So a survivor
+  -- never rests on a call that goes.
   abbrev pub Ownership : Type 0
   Ownership = OfHistories (λ base h. Pairs (IsNested C (over C h) (λ c. owner_of C h c.asker)) (standing C h))
 
-  -- The log-order law: in each list a call stands in front of every older one with which it conflicts.
+  -- The log-order law: in each list a call stands in front of every older
+  -- one with which it conflicts.
   abbrev pub LogOrder : Type 0
   LogOrder = OfHistories (λ base h. (t : ℕ) → Pairs (IsInFront C) (lists C h t))
 
-  -- The abort-order law: amid the calls of others, the lists of the live transactions at or below t, taken in any order in which each comes before its parent, each from its newest end, leave the store of the standing calls that remain, whatever files were swept before.
+  -- The abort-order law: amid the calls of others, the lists of the live transactions at or below
+  -- t, taken in any order in which each comes before its parent, each from its newest end, leave
+  -- the store of the standing calls that remain, whatever files were swept before.
   abbrev pub AbortOrder : Type 0
   AbortOrder = (base : Base C) → C.IsSound base.store → (h : List (Event C)) (hidden : C.File → Bool) (s : C.Store) (log : ℕ → List (Entry C)) → IsCore C base h hidden s log
       → (t : ℕ) (xs : List ℕ) → IsLive C base.transaction h t → IsAbortOrder C base.transaction h t xs → Hides C hidden (outcome C base (Abort t ∷ h)) (take_back C (joined log xs) s)
@@ -56,7 +63,8 @@ module _ (C : Calls) where
     pub standing : standing C after ≡ standing C before
     pub store : Same C (machine C base after).store (machine C base before).store
 
-  -- The call just made is what an undo comes upon where its asker has no live child, and the undo gives back the store before it.
+  -- The call just made is what an undo comes upon where its asker has no live child, and the undo
+  -- gives back the store before it.
   abbrev pub JustMade : Type 0
   JustMade = (base : Base C) → C.IsSound base.store → (h : List (Event C)) (c : Done C) → Legal C base (Call c ∷ h) → live_children C base.transaction (Call c ∷ h) c.asker ≡ []
       → MayUndo C base.transaction (Call c ∷ h) c.asker c × IsAsBefore base (Undo (number C c) ∷ Call c ∷ h) h
@@ -81,6 +89,7 @@ module _ (C : Calls) where
   abbrev pub LockRules : Type 0
   LockRules = (base : Base C) → C.IsSound base.store → (h : List (Event C)) (e : Event C) → Legal C base (e ∷ h) → LocksAfter C e h
 
+  -- who owns calls and locks is live
   pub record AreLiveOwners (first : ℕ) (h : List (Event C)) : Type 0 where
     -- a granted call's owner is live, at or above its asker
     pub above : (c : Done C) (y : ℕ) → In c (grants C h) → owner_of C h c.asker ≡ Some y → IsLive C first h y × (over C h y c.asker ≡ true)
@@ -93,6 +102,7 @@ module _ (C : Calls) where
   abbrev pub LiveOwners : Type 0
   LiveOwners = OfHistories (λ base h. AreLiveOwners base.transaction h)
 
+  -- the blockers are all who are in the way, each once and in the order of their numbers
   pub record AreBlockers (h : List (Event C)) (t : ℕ) (f : C.Accesses) : Type 0 where
     -- They are all who are in the way: since an owner is live, and so begun, none is missed.
     pub own : AreThose (is_blocker C h t f) (blockers_of C h t f)
@@ -109,13 +119,15 @@ module _ (C : Calls) where
   abbrev pub calls_below : List (Event C) → ℕ → ℕ
   calls_below h t = length (passing (λ c. over C h t c.asker) (standing C h))
 
+  -- how much goes by an abort of t, with its lists taken in this order
   pub record IsAbortCount (h : List (Event C)) (t : ℕ) (xs : List ℕ) : Type 0 where
     -- So many calls go,
     pub calls : length (standing C (Abort t ∷ h)) + calls_below h t ≡ length (standing C h)
     -- and so many entries are taken back.
     pub entries : length (joined (lists C h) xs) ≡ calls_below h t
 
-  -- An abort takes away as many calls as stand at or below the transaction, and as many inverses are put to the store, in whichever order it takes the lists.
+  -- An abort takes away as many calls as stand at or below the transaction, and as many inverses
+  -- are put to the store, in whichever order it takes the lists.
   abbrev pub AbortCount : Type 0
   AbortCount = OfHistories (λ base h. (t : ℕ) (xs : List ℕ) → IsLive C base.transaction h t → IsAbortOrder C base.transaction h t xs → IsAbortCount h t xs)
 
@@ -123,16 +135,19 @@ module _ (C : Calls) where
   abbrev pub NewestFirst : Type 0
   NewestFirst = OfHistories (λ base h. (t : ℕ) → IsAbortOrder C base.transaction h t (newest_below C h t))
 
+  -- the list of t has each standing call that t owns, once, and no others
   pub record IsExact (first : ℕ) (h : List (Event C)) (t : ℕ) : Type 0 where
     pub owned : (c : Done C) → In c (lists C h t) → In c (standing C h) × (owner_of C h c.asker ≡ Some t)
     pub all : (c : Done C) → In c (standing C h) → owner_of C h c.asker ≡ Some t → In c (lists C h t)
     pub once : Pairs (λ a b. number C a ≢ number C b) (lists C h t)
     pub live : lists C h t ≢ [] → IsLive C first h t
 
-  -- The ledger holds one entry for each standing call that has an owner, in its owner's list, and no others; so only live transactions have lists.
+  -- The ledger holds one entry for each standing call that has an owner, in its owner's list, and
+  -- no others; so only live transactions have lists.
   abbrev pub ExactLedger : Type 0
   ExactLedger = OfHistories (λ base h. (t : ℕ) → IsExact base.transaction h t)
 
+  -- what an undo of t comes upon, by two stamps
   pub record IsTargetByStamps (first : ℕ) (h : List (Event C)) (t : ℕ) : Type 0 where
     -- the newest of t's list, where it came after the last commit of a child
     pub found : (d : Done C) (ds : List (Done C)) → lists C h t ≡ d ∷ ds → ((k : ℕ) → last_sub C first h t ≡ Some k → k < number C d) → undo_target C h t ≡ Found d
@@ -141,7 +156,8 @@ module _ (C : Calls) where
     -- or neither
     pub nothing : last_sub C first h t ≡ None → lists C h t ≡ [] → undo_target C h t ≡ Nothing
 
-  -- The newest of a live transaction's list and the last commit of a child decide what an undo comes upon.
+  -- The newest of a live transaction's list and the last commit of a child
+  -- decide what an undo comes upon.
   abbrev pub TargetByStamps : Type 0
   TargetByStamps = OfHistories (λ base h. (t : ℕ) → IsLive C base.transaction h t → IsTargetByStamps base.stamp h t)
 
@@ -167,7 +183,8 @@ module _ (C : Calls) where
   AskKeeps = OfCores (λ base h hidden s log. (c : Done C) (u : C.Inverse) → IsMade C base h s c u
       → IsCore C base (Call c ∷ h) hidden (C.act s c.call) (pushed log c.asker (record { done = c; inverse = u })))
 
-  -- An undo: the newest entry of t's list is of the undo target, and its inverse may be put to the store, and is.
+  -- An undo: the newest entry of t's list is of the undo target, and its inverse may
+  -- be put to the store, and is.
   abbrev pub UndoKeeps : Type 0
   UndoKeeps = OfCores (λ base h hidden s log. (t : ℕ) (d : Done C) → MayUndo C base.transaction h t d
       → (u : C.Inverse) × (es : List (Entry C)) × (log t ≡ record { done = d; inverse = u } ∷ es) × C.MayRevert s u × IsCore C base (Undo (number C d) ∷ h) hidden (C.revert s u) (put log t es))
@@ -176,7 +193,8 @@ module _ (C : Calls) where
   abbrev pub CommitKeeps : Type 0
   CommitKeeps = OfCores (λ base h hidden s log. (t : ℕ) → MayCommit C base.transaction h t → IsCore C base (Commit t ∷ h) hidden s (handed log t (parent C h t)))
 
-  -- An abort: the lists of the live transactions at or below t, in any order in which each comes before its parent, may be taken back, each from its newest end, and are; they are empty then.
+  -- An abort: the lists of the live transactions at or below t, in any order in which each comes
+  -- before its parent, may be taken back, each from its newest end, and are; they are empty then.
   abbrev pub AbortKeeps : Type 0
   AbortKeeps = OfCores (λ base h hidden s log. (t : ℕ) (xs : List ℕ) → IsLive C base.transaction h t → IsAbortOrder C base.transaction h t xs
       → MayTakeBack C (joined log xs) s × IsCore C base (Abort t ∷ h) hidden (take_back C (joined log xs) s) (emptied (over C h) log t))
@@ -185,11 +203,13 @@ module _ (C : Calls) where
   abbrev pub SweepKeeps : Type 0
   SweepKeeps = OfCores (λ base h hidden s log. (more : C.File → Bool) (new : C.Store) → IsSweep C base.stamp h hidden more s new → IsCore C base h more new log)
 
-  -- A checkpoint: where no transaction is live, the history can be forgotten, and what was fresh stays fresh.
+  -- The store is a base, and a core with no history: what was fresh stays fresh.
   pub record IsCheckpoint (base : Base C) (h : List (Event C)) (s : C.Store) (log : ℕ → List (Entry C)) : Type 0 where
     pub sound : C.IsSound s
     pub core : IsCore C (checkpoint C base h s) [] (λ i. false) s log
     pub fresh : IsFresh C base → IsFresh C (checkpoint C base h s)
 
+  -- A checkpoint: where no transaction is live, the history can be forgotten,
+  -- and what was fresh stays fresh.
   abbrev pub CheckpointKeeps : Type 0
   CheckpointKeeps = OfCores (λ base h hidden s log. ((t : ℕ) → IsLive C base.transaction h t → ⊥) → IsCheckpoint base h s log)

@@ -14,12 +14,14 @@ module _ (C : Calls) where
     pub first : owns_lock C h x one ≡ true
     pub second : owns_lock C h y other ≡ true
 
+  -- conflicting locks are owned by transactions above one another
   pub record AreShared (first : ℕ) (h : List (Event C)) : Type 0 where
-    -- Of two owners of conflicting locks one is the other or an ancestor of it (Moss: all who retain a conflicting lock must be superiors).
+    -- Of two owners of conflicting locks one is the other or an ancestor of it (Moss: all who
+    -- retain a conflicting lock must be superiors).
     pub related : (x y : ℕ) → OwnConflicting h x y → (over C h x y || over C h y x) ≡ true
     -- So one without a live child shares with its ancestors alone.
     pub alone : (t y : ℕ) → live_children C first h t ≡ [] → OwnConflicting h t y → over C h y t ≡ true
 
-  -- Conflicting locks are owned by transactions above one another.
+  -- So it is in every legal history.
   abbrev pub Sharing : Type 0
   Sharing = OfHistories C (λ base h. AreShared base.transaction h)

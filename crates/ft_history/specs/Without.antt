@@ -1,4 +1,30 @@
--- Each rule is needed: laws that lack a part of one, or turn it. All of them are false of the tiny tree.
+-- Each rule is needed: laws that lack a part of one, or turn it, each with what refutes it. All of
+-- them are false of the tiny tree, by histories of two to seven events, as public functions of
+-- this crate say.
+-- Besides, definitions were changed in a copy, and the check did not pass (in brackets the first
+-- lemmas of proofs that failed):
+-- - aborts: a live transaction left out of the order (History.lists_order), each list oldest first
+--   (Aborting.take_push), a parent's list before its child's (History.newest_order), the child's
+--   list dropped at its commit (Machine.machine_core, History.sound_commit) or placed in front of
+--   its parent's (Kept.joined_kept), the end of the transaction alone looked at
+--   (History.owner_live);
+-- - begins, calls and commits: a subtransaction of one that has ended (History.begin_forest), a
+--   stamp used twice (History.call_newer), a commit with a live child (History.sound_commit);
+-- - locks: holders alone in the way (History.unblocked_over), the asker alone the owner
+--   (History.owner_there), ancestors named too (Locks.blockers); at a commit what is inherited is
+--   held, the parent's own is lost, what was held alone is inherited, or the child keeps its own;
+--   at an abort its own alone are discarded, or those of superiors too; at an undo locks are let
+--   go (Locks.lock_rules);
+-- - ownership without its strong part (Kept.covered); an undo with a live child (Legal.both_all),
+--   or past the commit of a child (Undoing.found);
+-- - sweeps of a file that a lock covers, also if it is retained, of one that something names, or
+--   of a number above the last stamp (Methods.core_swept);
+-- - the serial order by another order of commits (Serial.roots_committed), or with places of their
+--   own for subtransactions (Serial.call_pair);
+-- - counts by the transaction's own calls alone (Promises.abort_count); calls or undos of others
+--   in one that ran alone (Promises.own_grants, not_undone); one that had committed below an
+--   aborted one aborted too, or an abort of one alone (Fates.fate_rules); ended children listed
+--   (History.child_listed).
 use Rattle.std.specs.Prelude.{◌≡◌, ◌<◌, ◌≤◌, ℕ, Bool, true, false, not, ◌==◌, Option, Some, None, List, [], ◌∷◌, ◌++◌, reverse}
 use Rattle.ft_laws.specs.Lists.{Pairs, In}
 use Rattle.ft_laws.specs.Calls.{Calls, Same, Done, Fits}
@@ -17,33 +43,38 @@ use Rattle.ft_history.specs.Core.{Entry, take_back, machine}
 use Rattle.ft_history.specs.Promises.{OfHistories}
 use Rattle.ft_history.specs.Serial.{committed_roots, calls_under, open_part}
 
--- Of two owners, where there are both, the first is at or above the second. Where there is a first alone, nothing is said.
+-- Of two owners, where there are both, the first is at or above the second. Where there is a
+-- first alone, nothing is said.
 abbrev pub CoversWeakly : (ℕ → ℕ → Bool) → Option ℕ → Option ℕ → Type 0
 CoversWeakly above (Some y) (Some x) = above y x ≡ true
 CoversWeakly above o w = Unit {0}
 
+-- its owner is there, and at or below t
 abbrev pub is_owned_below : (ℕ → ℕ → Bool) → ℕ → Option ℕ → Bool
 is_owned_below above t None = false
 is_owned_below above t (Some x) = above t x
 
 module _ (C : Calls) where
-  -- The ownership law without its strong part is enough for an abort.
+  -- The ownership law without its strong part is enough for an abort. (A live transaction makes
+  -- a directory, and one that has committed makes a file in it: the first aborts, and the
+  -- file's call rests on nothing.)
   abbrev pub WeakOwnership : Type 0
   WeakOwnership = (above : ℕ → ℕ → Bool) (owner : Done C → Option ℕ) (s : C.Store) (cs : List (Done C)) (t : ℕ) → Able C s cs → Faithful C s cs
       → Pairs (λ b a. C.conflict b.accesses a.accesses ≡ true → CoversWeakly above (owner b) (owner a)) cs
       → Faithful C s (passing (λ c. not (is_owned_below above t (owner c))) cs)
 
-  -- An abort takes each list oldest first.
+  -- An abort takes each list oldest first. (A file made and unlinked under one name comes back.)
   abbrev pub AbortOldestFirst : Type 0
   AbortOldestFirst = OfHistories C (λ base h. (t : ℕ) → IsLive C base.transaction h t
       → Same C (outcome C base (Abort t ∷ h)) (take_back C (joined (λ x. reverse ((machine C base h).log x)) (newest_below C h t)) (machine C base h).store))
 
-  -- An abort takes the lists by rising transaction number, each parent's before its child's.
+  -- An abort takes the lists by rising transaction number, each parent's before its child's. (The
+  -- parent makes the file, and the child unlinks it.)
   abbrev pub AbortRising : Type 0
   AbortRising = OfHistories C (λ base h. (t : ℕ) → IsLive C base.transaction h t
       → Same C (outcome C base (Abort t ∷ h)) (take_back C (joined (machine C base h).log (reverse (newest_below C h t))) (machine C base h).store))
 
-  -- An abort skips the calls of committed children.
+  -- An abort skips the calls of committed children. (A committed child's directory stays.)
   abbrev pub AbortOwnAlone : Type 0
   AbortOwnAlone = OfHistories C (λ base h. (t : ℕ) → IsLive C base.transaction h t
       → Same C (outcome C base (Abort t ∷ h)) (take_back C (joined (λ x. passing (λ e. e.done.asker == x) ((machine C base h).log x)) (newest_below C h t)) (machine C base h).store))
@@ -56,7 +87,8 @@ module _ (C : Calls) where
   abbrev pub CommitInFront : Type 0
   CommitInFront = OfHistories C (λ base h. (t p : ℕ) → parent C h t ≡ Some p → MayCommit C base.transaction h t → Pairs (IsInFront C) (lists C h p ++ lists C h t))
 
-  -- Only who holds a conflicting lock is in the way: what a parent would inherit at a child's commit is let go.
+  -- Only who holds a conflicting lock is in the way: what a parent would inherit
+  -- at a child's commit is let go.
   pub record MayGrantLoosely (base : Base C) (h : List (Event C)) (c : Done C) : Type 0 where
     pub live : IsLive C base.transaction h c.asker
     pub next : last_stamp C base.stamp h < number C c
@@ -64,33 +96,40 @@ module _ (C : Calls) where
     pub fits : Fits C (outcome C base h) c
     pub unblocked : (y : ℕ) → holds_lock C h y (λ f. C.conflict f c.accesses) ≡ true → over C h y c.asker ≡ true
 
+  -- each event was allowed so when it came
   abbrev pub LooselyLegal : Base C → List (Event C) → Type 0
   LooselyLegal base [] = Unit {0}
   LooselyLegal base (Call c ∷ h) = MayGrantLoosely base h c × LooselyLegal base h
   LooselyLegal base (other ∷ h) = Allowed C base h other × LooselyLegal base h
 
-  -- The locks are let go at a child's commit.
+  -- The locks are let go at a child's commit. (A third transaction makes a file in the committed
+  -- child's directory: the parent aborts, and the file's call has another reply.)
   abbrev pub LocksLetGo : Type 0
   LocksLetGo = (base : Base C) → C.IsSound base.store → (h : List (Event C)) → LooselyLegal base h → Faithful C base.store (standing C h)
 
-  -- The newest inverse of a live transaction's list may be put to the store, also while a child is live.
+  -- The newest inverse of a live transaction's list may be put to the store, also while a child is
+  -- live. (The child has unlinked the file whose making would be taken back.)
   abbrev pub RevertOverChild : Type 0
   RevertOverChild = OfHistories C (λ base h. (t : ℕ) (e : Entry C) (es : List (Entry C)) → IsLive C base.transaction h t → (machine C base h).log t ≡ e ∷ es → C.MayRevert (machine C base h).store e.inverse)
 
-  -- An undo may take back a call though a child is live.
+  -- An undo may take back a call though a child is live. (The parent's file goes, which
+  -- its live child has looked at.)
   abbrev pub UndoOverChild : Type 0
   UndoOverChild = OfHistories C (λ base h. (t : ℕ) (d : Done C) → IsLive C base.transaction h t → undo_target C h t ≡ Found d → Faithful C base.store (standing C (Undo (number C d) ∷ h)))
 
-  -- An undo takes back the newest standing call of t's own, also one that a child's commit came after.
+  -- An undo takes back the newest standing call of t's own, also one that a child's commit came
+  -- after. (The file goes that the committed child has looked at.)
   abbrev pub UndoPastCommit : Type 0
   UndoPastCommit = OfHistories C (λ base h. (t : ℕ) (d : Done C) → IsLive C base.transaction h t → live_children C base.transaction h t ≡ [] → In d (standing C h) → d.asker ≡ t
       → ((c : Done C) → In c (standing C h) → c.asker ≡ t → number C c ≤ number C d) → Faithful C base.store (standing C (Undo (number C d) ∷ h)))
 
-  -- The committed transactions are made in the reverse order of commit.
+  -- The committed transactions are made in the reverse order of commit. (One makes a file and
+  -- commits, another looks at it and commits.)
   abbrev pub SerialReversed : Type 0
   SerialReversed = OfHistories C (λ base h. Faithful C base.store (joined (calls_under C h) (reverse (committed_roots C h)) ++ open_part C h))
 
-  -- A sweep drops a file that nothing names, though a lock covers it.
+  -- A sweep drops a file that nothing names, though a lock covers it. (A file without a name,
+  -- whose unlink is then aborted.)
   abbrev pub SweepLocked : Type 0
   SweepLocked = OfHistories C (λ base h. (hidden : C.File → Bool) (new : C.Store) → Hides C hidden (machine C base h).store new → (t : ℕ) → IsLive C base.transaction h t
       → Hides C hidden (outcome C base (Abort t ∷ h)) (take_back C (joined (machine C base h).log (newest_below C h t)) new))

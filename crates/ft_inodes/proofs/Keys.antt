@@ -1,4 +1,5 @@
--- The directories, or the files, as callers see them through their index, as an inode comes, is written and goes.
+-- The directories, or the files, as callers see them through their index, as an inode comes, is
+-- written and goes.
 use Rattle.std.proofs.Common.{◌≡◌, ◌≢◌, ℕ, Bool, true, false, cond, ◌==◌, List, Option, Some, None, eqb-true, eq-eqb, refl, sym, ap, ◌∙◌}
 use Rattle.std.proofs.lemmas.Bool.{false≢true}
 use Rattle.std.specs.Option.{option_map}
@@ -14,7 +15,8 @@ use Rattle.ft_cells.proofs.Splits.{by_test, unlike, tied-is}
 use Rattle.ft_inodes.specs.declared.inode.Inode.{Inode}
 use Rattle.ft_inodes.specs.Keyed.{key_in, listed_by, shown_by, Leads}
 
--- two indices that have the same key for each number, but for one, which has this key, or none, in the second
+-- two indices that have the same key for each number, but for one, which has this key, or none, in
+-- the second
 abbrev pub PutsKey : ℕ → Option ℕ → List (ℕ × ℕ) → List (ℕ × ℕ) → Type 0
 PutsKey n key index index' = (q : ℕ) → key_in index' q ≡ cond (is_at (nat_cmp n) q) key (key_in index q)
 

@@ -1,6 +1,5 @@
-pub mod Clones
-pub mod Places
-pub mod Opened
+mod Clones
+mod Places
 mod Keys
 mod Slots
 mod Shown

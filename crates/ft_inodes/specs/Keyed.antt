@@ -12,10 +12,12 @@ use Rattle.ft_cells.specs.Cells.{DirCells, FileCells, no_dir, no_file}
 use Rattle.ft_inodes.specs.declared.inode.Inode.{Inode}
 use Rattle.ft_inodes.specs.declared.inode.Inode.TheVariants.{Directory, File}
 
+-- the directory that an inode is, if it is one
 abbrev pub dir_of : Inode → Option DirCells
 dir_of (Directory n d) = Some d
 dir_of (File n f) = None
 
+-- the file that an inode is, if it is one
 abbrev pub file_of : Inode → Option FileCells
 file_of (Directory n d) = None
 file_of (File n f) = Some f
@@ -25,15 +27,16 @@ abbrev pub dir_at : Option Inode → Option DirCells
 dir_at None = None
 dir_at (Some x) = dir_of x
 
--- and the file
+-- the file that stands in a slot
 abbrev pub file_at : Option Inode → Option FileCells
 file_at None = None
 file_at (Some x) = file_of x
 
--- what is read of a slot: where no directory stands there, one that is not stored
+-- the directory that is read of a slot: where none stands there, one that is not stored
 abbrev pub dir_in : Option Inode → DirCells
 dir_in o = unwrap_or (dir_at o) no_dir
 
+-- the file that is read of a slot: where none stands there, one that is not stored
 abbrev pub file_in : Option Inode → FileCells
 file_in o = unwrap_or (file_at o) no_file
 
@@ -58,10 +61,11 @@ is_node (FileNode n) o = is_file n o
 abbrev pub key_in : List (ℕ × ℕ) → ℕ → Option ℕ
 key_in index n = lookup (is_at (nat_cmp n)) index
 
--- the numbers of an index, each with what is seen under its key
+-- the numbers of an index, each with what is seen under its key, in the order of the index
 abbrev pub listed_by : {X : Type 0} → (Option Inode → X) → Slab Inode → List (ℕ × ℕ) → List (ℕ × X)
 listed_by seen s index = map (λ e. (e.0, seen (get s e.1))) index
 
+-- the same as a map: by number what is seen under its key
 abbrev pub shown_by : {X : Type 0} → (Option Inode → X) → Slab Inode → List (ℕ × ℕ) → finite.FinMap nat_cmp X
 shown_by seen s index = finite.from_entries (listed_by seen s index)
 

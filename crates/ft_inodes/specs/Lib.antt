@@ -1,4 +1,3 @@
-pub mod Openings
 pub mod Stored
 pub mod Keyed
 pub mod Lending

@@ -10,9 +10,8 @@ ghost use Rattle.ft_cells.specs.Rows.{named_rows};
 ghost use Rattle.std.specs.Option.{option_flatten, option_map, option_copied};
 ghost use Rattle.ft_cells.specs.Cells.{DirCells, coded_dir_cells, dir_entry, put_dir_entry, put_dir_parent, without_dir_place, HasPlace, filled, dir_names};
 
-use crate::hint::{Hint, Hinted, seen_in, value_in, with_hint};
 use ft_base::Memory;
-use ft_cells::{EntryRef, Kind, Node, TreeRow};
+use ft_cells::{EntryRef, Hint, Hinted, Kind, Node, TreeRow, seen_in, value_in, with_hint};
 use ft_path::Name;
 use std::alloc::{AllocError, Global};
 use std::collections::BTreeMap;

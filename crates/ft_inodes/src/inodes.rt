@@ -12,11 +12,10 @@ ghost use Rattle.ft_inodes.specs.Keyed.{key_in, is_node, IsAdded};
 
 use crate::directory::Directory;
 use crate::file::File;
-use crate::hint::Hint;
 use crate::inode::Inode;
 use crate::listed::{Directories, Files};
 use ft_base::Memory;
-use ft_cells::Node;
+use ft_cells::{Hint, Node};
 use slab::Slab;
 use std::alloc::{AllocError, Global};
 use std::collections::BTreeMap;

@@ -43,18 +43,18 @@ fn is_jobs(alloc: Global, words: &[&str], plan: &str, most: u64, hushed: bool) -
     }
 }
 
-// Whether they ask for a script of this directory.
-fn is_load(alloc: Global, words: &[&str], folder: &str, skips: bool) -> bool {
+// Whether they ask for a script of this directory, to skip and to be quiet or not.
+fn is_load(alloc: Global, words: &[&str], folder: &str, asked: (bool, bool)) -> bool {
     match choose(alloc, words) {
-        Choice::Load { dir, skip } => dir.as_str() == folder && skip == skips,
+        Choice::Load { dir, skip, quiet } => dir.as_str() == folder && (skip, quiet) == asked,
         _ => false,
     }
 }
 
-// Whether they ask for this directory to be made.
-fn is_save(alloc: Global, words: &[&str], folder: &str) -> bool {
+// Whether they ask for this directory to be made, and to be as quiet.
+fn is_save(alloc: Global, words: &[&str], folder: &str, hushed: bool) -> bool {
     match choose(alloc, words) {
-        Choice::Save { dir } => dir.as_str() == folder,
+        Choice::Save { dir, quiet } => dir.as_str() == folder && quiet == hushed,
         _ => false,
     }
 }
@@ -85,10 +85,12 @@ fn is_after(alloc: Global, words: &[&str], script: &str) -> bool {
 #[test]
 fn choices_of_directories(rt: HostRuntime) -> Result<(), Fail> {
     let alloc = rt.alloc();
-    assert!(rt; is_load(alloc, &["load", "src"], "src", false));
-    assert!(rt; is_load(alloc, &["load", "--skip", "src"], "src", true));
+    assert!(rt; is_load(alloc, &["load", "src"], "src", (false, false)));
+    assert!(rt; is_load(alloc, &["load", "--skip", "src"], "src", (true, false)));
+    assert!(rt; is_load(alloc, &["load", "src", "--quiet"], "src", (false, true)));
     assert!(rt; is_usage(alloc, &["load"], "<DIR>"));
-    assert!(rt; is_save(alloc, &["save", "out"], "out"));
+    assert!(rt; is_save(alloc, &["save", "out"], "out", false));
+    assert!(rt; is_save(alloc, &["save", "--quiet", "out"], "out", true));
     assert!(rt; is_usage(alloc, &["save"], "<DIR>"));
     assert!(rt; is_after(alloc, &["play", "--after", "src.ft"], "src.ft"));
     assert!(rt; is_after(alloc, &["jobs", "p", "--after", "src.ft"], "src.ft"));

@@ -6,9 +6,9 @@ use ft_core::{Core, Event, Fault, Outcome, TxnId};
 use ft_jobs::{End, Gate, JobFault, JobsOutcome, OpenGate, Plan, Report, run_jobs};
 use ft_path::Errno;
 use ft_shared::{Manager, Shared};
+use ft_test_scripts::new_shared;
 use ft_tree::Kind;
 use std::alloc::Global;
-use std::marker::Brand;
 use std::sync::Wait;
 use std::sync::atomic::{AtomicU64, Ordering};
 use std::test::Fail;
@@ -25,14 +25,6 @@ const FEW_TURNS: u64 = 3;
 /// Two jobs side by side, of which the first has two subjobs.
 const WORKED: &[u8] =
     b"job a\nmkdir /a\nstat /a\nsubs\ncommit\njob a1 a\nmkdir /a/p\nstat /a/p\ncommit\njob a2 a\nmkdir /a/q\nstat /a/q\ncommit\njob b\nmkdir /b\nstat /b\ncommit\n";
-
-/// A core behind a lock.
-fn new_shared(alloc: Global) -> Result<Shared, Fail> {
-    match Shared::<Brand>::new(Core::new(alloc)?) {
-        Ok(shared) => Ok(shared),
-        Err(_) => Err(Fail::from("a transaction is live")),
-    }
-}
 
 /// Two jobs, each of which asks for what the other one has made.
 const CROSSED: &[u8] = b"job a\nmkdir /x\nstat /y\ncommit\njob b\nmkdir /y\nstat /x\ncommit\n";

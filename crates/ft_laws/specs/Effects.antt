@@ -1,10 +1,12 @@
--- Calls that tell, in a store, what they access, what they write and what they reply. The laws of calls follow from fewer laws of these. (A rule of this project.)
+-- Calls that tell, in a store, what they access, what they write and what they reply. The laws of
+-- calls follow from fewer laws of these. (A rule of this project.)
 use Rattle.std.specs.Prelude.{◌≡◌, ◌≢◌, ℕ, Bool, true, false, ◌||◌, ◌&&◌, Option, Some, List, [], ◌∷◌, map, ◌⊎◌}
 use Rattle.ft_laws.specs.Lists.{Each, any}
 use Rattle.ft_laws.specs.Calls.{Calls}
 use Rattle.ft_laws.specs.Laws.{Knows, TouchesFile, LeavesName, Hides}
 
--- a place, which may cover several cells, as the names of a directory cover its entries; and whether it is written
+-- a place, which may cover several cells, as the names of a directory cover its
+-- entries; and whether it is written
 pub record Access (Place : Type 0) : Type 0 where
   pub place : Place
   pub writes : Bool
@@ -19,11 +21,13 @@ pub record Reversal (Cell : Type 0) (Value : Cell → Type 0) : Type 0 where
   pub before : List (Write Cell Value)
   pub after : List (Write Cell Value)
 
+-- what a call does in a store: what it accesses, what it writes, and what it replies
 pub record Effect (Place Cell : Type 0) (Value : Cell → Type 0) (Reply : Type 0) : Type 0 where
   pub accesses : List (Access Place)
   pub writes : List (Write Cell Value)
   pub reply : Reply
 
+-- a store, its cells and its places, and the calls on it by their effects
 pub record Effects : Type 1 where
   pub Store : Type 0
   pub Cell : Type 0
@@ -35,10 +39,12 @@ pub record Effects : Type 1 where
   pub cell : Store → (x : Cell) → Value x
   -- the store with one cell set
   pub write : Store → (x : Cell) → Value x → Store
+  -- the two cells are one; the place covers the cell; the two places have something in common
   pub same_cell : Cell → Cell → Bool
   pub covers : Place → Cell → Bool
   pub overlap : Place → Place → Bool
   pub stamp : Call → ℕ
+  -- what the call does in the store
   pub does : Store → Call → Effect Place Cell Value Reply
   pub IsSound : Store → Type 0
   pub IsReady : Call → Store → Type 0
@@ -69,20 +75,25 @@ module _ (E : Effects) where
   abbrev pub reversal_of : E.Store → List (Write E.Cell E.Value) → Reversal E.Cell E.Value
   reversal_of s ws = record { before = before s ws; after = before (write_all s ws) ws }
 
+  -- the accesses cover the cell
   abbrev pub touch : List (Access E.Place) → E.Cell → Bool
   touch f x = any (λ a. E.covers a.place x) f
 
+  -- those that write cover it
   abbrev pub change : List (Access E.Place) → E.Cell → Bool
   change f x = any (λ a. a.writes && E.covers a.place x) f
 
-  -- Two accesses conflict where they overlap and one of them writes (Moss 1981, the locking rules).
+  -- Two accesses conflict where they overlap and one of them writes
+  -- (Moss 1981, the locking rules).
   abbrev pub conflict : Access E.Place → Access E.Place → Bool
   conflict a b = E.overlap a.place b.place && (a.writes || b.writes)
 
+  -- some access here conflicts with some access there
   abbrev pub some_conflict : List (Access E.Place) → List (Access E.Place) → Bool
   some_conflict f g = any (λ a. any (conflict a) g) f
 
-  -- The calls: what is written is set, and the inverse sets what was there before, in a store that has what the call left.
+  -- The calls: what is written is set, and the inverse sets what was there before, in a store
+  -- that has what the call left.
   abbrev pub calls_of : Calls
   calls_of = record {
     Store = E.Store;

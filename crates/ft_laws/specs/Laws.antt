@@ -1,4 +1,6 @@
--- What calls must meet. Everything else in this crate follows for any calls that do. (Rules of this project. Those of files say what POSIX.1-2017 has in close and unlink: a file is there as long as an entry or an open file description leads to it.)
+-- What calls must meet. Everything else in this crate follows for any calls that do. (Rules of
+-- this project. Those of files say what POSIX.1-2017 has in close and unlink: a file is there as
+-- long as an entry or an open file description leads to it.)
 use Rattle.std.specs.Prelude.{◌≡◌, ◌≢◌, Bool, true, false, Option, Some, None, ◌⊎◌}
 use Rattle.ft_laws.specs.Calls.{Calls, Agree, Reverts}
 
@@ -8,7 +10,8 @@ holds p None = false
 holds p (Some x) = p x
 
 module _ (C : Calls) where
-  -- The call does the same in both stores: accesses, reply, and what the written cells have after it.
+  -- The call does the same in both stores: accesses, reply, and what the
+  -- written cells have after it.
   pub record Alike (s t : C.Store) (a : C.Call) : Type 0 where
     pub accesses : C.accesses t a ≡ C.accesses s a
     pub reply : C.reply t a ≡ C.reply s a
@@ -18,7 +21,8 @@ module _ (C : Calls) where
   abbrev pub TouchesFile : C.Accesses → C.File → Type 0
   TouchesFile f i = (x : C.Cell) × (C.file_of x ≡ Some i) × (C.touches f x ≡ true)
 
-  -- Made in s, the call comes upon the file i: it is the call's own, or a cell that is touched names it.
+  -- Made in s, the call comes upon the file i: it is the call's own, or a
+  -- cell that is touched names it.
   abbrev pub Knows : C.Store → C.Call → C.File → Type 0
   Knows s a i = (C.own a ≡ i) ⊎ ((y : C.Cell) × (C.touches (C.accesses s a) y ≡ true) × (C.names y (C.cell s y) i ≡ true))
 
@@ -30,7 +34,8 @@ module _ (C : Calls) where
   abbrev pub is_hidden : (C.File → Bool) → C.Cell → Bool
   is_hidden hidden x = holds hidden (C.file_of x)
 
-  -- s is r without the hidden files: their cells are blank, and nothing that is stored names one of them.
+  -- s is r without the hidden files: their cells are blank, and nothing that
+  -- is stored names one of them.
   pub record Hides (hidden : C.File → Bool) (r s : C.Store) : Type 0 where
     pub others : (x : C.Cell) → is_hidden hidden x ≡ false → C.cell r x ≡ C.cell s x
     pub gone : (x : C.Cell) → is_hidden hidden x ≡ true → C.cell s x ≡ C.blank x
@@ -40,7 +45,8 @@ module _ (C : Calls) where
   pub record Lawful : Type 0 where
     -- What is written is touched.
     pub changes_touch : (f : C.Accesses) (x : C.Cell) → C.changes f x ≡ true → C.touches f x ≡ true
-    -- Where there is no conflict, there is none the other way round, and what one writes the other doesn't touch.
+    -- Where there is no conflict, there is none the other way round, and what one
+    -- writes the other doesn't touch.
     pub conflict_sym : (f g : C.Accesses) → C.conflict f g ≡ false → C.conflict g f ≡ false
     pub apart : (f g : C.Accesses) (x : C.Cell) → C.conflict f g ≡ false → C.changes f x ≡ true → C.touches g x ≡ false
     -- The frame law: in stores that agree on what a call touches in one of them, it does the same.
@@ -61,9 +67,11 @@ module _ (C : Calls) where
     pub comes_upon : (s : C.Store) (a : C.Call) → C.IsSound s → C.IsReady a s → (x : C.Cell) (i : C.File) → C.file_of x ≡ Some i → C.touches (C.accesses s a) x ≡ true → Knows s a i
     -- The names that it writes are of files that it comes upon.
     pub names_known : (s : C.Store) (a : C.Call) → C.IsSound s → C.IsReady a s → (x : C.Cell) (i : C.File) → C.changes (C.accesses s a) x ≡ true → C.names x (C.cell (C.act s a) x) i ≡ true → Knows s a i
-    -- A call that takes a file's name away touches the file, unless it leaves the name in another cell, as a rename does.
+    -- A call that takes a file's name away touches the file, unless it leaves the name in
+    -- another cell, as a rename does.
     pub lets_go : (s : C.Store) (a : C.Call) → C.IsSound s → C.IsReady a s → (x : C.Cell) (i : C.File) → C.names x (C.cell s x) i ≡ true → C.names x (C.cell (C.act s a) x) i ≡ false
         → TouchesFile (C.accesses s a) i ⊎ LeavesName s a i
-    -- A sound store without the hidden files is sound, and a call that may be made may be made without them.
+    -- A sound store without the hidden files is sound, and a call that may be
+    -- made may be made without them.
     pub hides_sound : (hidden : C.File → Bool) (r s : C.Store) → Hides hidden r s → C.IsSound r → C.IsSound s
     pub hides_ready : (hidden : C.File → Bool) (r s : C.Store) (a : C.Call) → Hides hidden r s → C.IsReady a r → C.IsReady a s

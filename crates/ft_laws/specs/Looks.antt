@@ -1,7 +1,9 @@
--- A call as a tree of looks: it looks at a place, goes on by what it sees there, and at last has an answer. One text tells what it looks at and what it answers. (A rule of this project.)
+-- A call as a tree of looks: it looks at a place, goes on by what it sees there, and at last has
+-- an answer. One text tells what it looks at and what it answers. (A rule of this project.)
 use Rattle.std.specs.Prelude.{List, ◌∷◌}
 
 module _ (Place : Type 0) (Shown : Place → Type 0) (A : Type 0) where
+  -- what is seen at a place decides how the call goes on, and at last it has an answer
   pub data Looks : Type 0 where
     Answer : A → Looks
     Look : (p : Place) → (Shown p → Looks) → Looks

@@ -1,4 +1,6 @@
--- Runs: calls made one after another from one store, and what is promised of them. (Moss 1981, serial execution and serializability: what transactions did must be what some serial order of them does. The laws are this project's own.)
+-- Runs: calls made one after another from one store, and what is promised of them. (Moss 1981,
+-- serial execution and serializability: what transactions did must be what some serial order of
+-- them does. The laws are this project's own.)
 use Rattle.std.specs.Prelude.{◌≡◌, ◌≢◌, ◌≤◌, ℕ, true, false, cond, nat_lt, List, [], ◌∷◌, ◌++◌}
 use Rattle.ft_laws.specs.Lists.{Each, Pairs}
 use Rattle.ft_laws.specs.Calls.{Calls, Same, Agree, PutBack, Reverts, Done, Fits, made}
@@ -23,7 +25,8 @@ module _ (C : Calls) where
   abbrev pub Faithful : C.Store → List (Done C) → Type 0
   Faithful = Along (Fits C)
 
-  -- The calls may be made from s, in any order: each may be made in s, and no two have the same stamp.
+  -- The calls may be made from s, in any order: each may be made in s,
+  -- and no two have the same stamp.
   pub record Able (s : C.Store) (cs : List (Done C)) : Type 0 where
     pub sound : C.IsSound s
     pub ready : Each (λ c. C.IsReady c.call s) cs
@@ -42,12 +45,14 @@ module _ (C : Calls) where
   Exchange = (s : C.Store) (a b : Done C) → Able s (a ∷ b ∷ []) → Faithful s (a ∷ b ∷ []) → C.conflict a.accesses b.accesses ≡ false
       → Faithful s (b ∷ a ∷ []) × Same C (run s (a ∷ b ∷ [])) (run s (b ∷ a ∷ []))
 
-  -- The deletion law: a call that conflicts with no later one can be left out. Each other call does the same, and only the cells that it wrote differ: they have their values from before it.
+  -- The deletion law: a call that conflicts with no later one can be left out. Each other call
+  -- does the same, and only the cells that it wrote differ: they have their values from before it.
   abbrev pub Deletion : Type 0
   Deletion = (s : C.Store) (xs : List (Done C)) (a : Done C) (ys : List (Done C)) → Able s (xs ++ a ∷ ys) → Faithful s (xs ++ a ∷ ys) → Clear a ys
       → Faithful s (xs ++ ys) × PutBack C a.accesses (run s xs) (run s (xs ++ a ∷ ys)) (run s (xs ++ ys))
 
-  -- Applying an inverse is a deletion: to a store that is as the run left it, the inverse of a call that conflicts with no later one may be put, and gives the run without the call.
+  -- Applying an inverse is a deletion: to a store that is as the run left it, the inverse of a
+  -- call that conflicts with no later one may be put, and gives the run without the call.
   abbrev pub Undoing : Type 0
   Undoing = (s : C.Store) (xs : List (Done C)) (a : Done C) (ys : List (Done C)) (u : C.Inverse) (t : C.Store) → Able s (xs ++ a ∷ ys) → Faithful s (xs ++ a ∷ ys) → Clear a ys
       → Reverts C (run s xs) a.call a.accesses u → Same C (run s (xs ++ a ∷ ys)) t

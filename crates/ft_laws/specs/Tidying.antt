@@ -1,4 +1,5 @@
--- Tidying: a file that nothing names any more is dead, and what is stored of it may go (POSIX.1-2017, close and unlink: the space is freed and the file is no longer accessible).
+-- Tidying: a file that nothing names any more is dead, and what is stored of it may go
+-- (POSIX.1-2017, close and unlink: the space is freed and the file is no longer accessible).
 use Rattle.std.specs.Prelude.{◌≡◌, ◌≢◌, Bool, true, false, Some, List, [], ◌∷◌, ◌⊎◌}
 use Rattle.ft_laws.specs.Calls.{Calls, Same, Done, Fits}
 use Rattle.ft_laws.specs.Laws.{Hides}
@@ -17,7 +18,8 @@ module _ (C : Calls) where
   abbrev pub IsNamed : C.Store → C.File → Type 0
   IsNamed s i = (x : C.Cell) × (C.names x (C.cell s x) i ≡ true)
 
-  -- The dead files of a sound store are those that are stored and that nothing names, and tidying takes them away.
+  -- The dead files of a sound store are those that are stored and that nothing names,
+  -- and tidying takes them away.
   pub record IsTidying (tidy : C.Store → C.Store) (dead : C.Store → C.File → Bool) : Type 0 where
     pub hides : (s : C.Store) → C.IsSound s → Hides C (dead s) s (tidy s)
     pub stored : (s : C.Store) (i : C.File) → C.IsSound s → dead s i ≡ true → IsStored s i
@@ -34,7 +36,8 @@ module _ (C : Calls) where
     TidiedFaithful s [] = Unit {0}
     TidiedFaithful s (c ∷ cs) = Fits C s c × TidiedFaithful (tidy (C.act s c.call)) cs
 
-  -- The tidying law: tidying after each call, or once at the end, gives the same store and the same replies.
+  -- The tidying law: tidying after each call, or once at the end, gives the
+  -- same store and the same replies.
   abbrev pub TidyingLaw : Type 0
   TidyingLaw = (tidy : C.Store → C.Store) (dead : C.Store → C.File → Bool) → IsTidying tidy dead → (s : C.Store) (cs : List (Done C)) → Able C s cs → Faithful C s cs
       → TidiedFaithful tidy s cs × Same C (tidy (run C s cs)) (tidy (tidied tidy s cs))

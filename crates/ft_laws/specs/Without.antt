@@ -1,4 +1,5 @@
--- Each premise is needed: statements that lack one, or say more. All of them are false of the tiny tree.
+-- Each premise is needed: statements that lack one, or say more, each with what refutes it. All of
+-- them are false of the tiny tree, as public functions of this crate say.
 use Rattle.std.specs.Prelude.{◌≡◌, ℕ, Bool, true, false, ◌&&◌, Some, List, [], ◌∷◌, ◌++◌, map, cond, Option, None}
 use Rattle.ft_laws.specs.Calls.{Calls, Same, Reverts, Done, Fits}
 use Rattle.ft_laws.specs.Laws.{Alike, TouchesFile, is_hidden, Hides}
@@ -19,7 +20,7 @@ module _ (C : Calls) where
   abbrev pub ExchangeAny : Type 0
   ExchangeAny = (s : C.Store) (a b : Done C) → Able C s (a ∷ b ∷ []) → Faithful C s (a ∷ b ∷ []) → Faithful C s (b ∷ a ∷ [])
 
-  -- Only what both write is a conflict: a reader may pass a writer.
+  -- Only what both write is a conflict: a reader may pass a writer. (A create and a stat.)
   abbrev pub ExchangeReaders : Type 0
   ExchangeReaders = (s : C.Store) (a b : Done C) → Able C s (a ∷ b ∷ []) → Faithful C s (a ∷ b ∷ []) → ((x : C.Cell) → C.changes a.accesses x && C.changes b.accesses x ≡ false)
       → Faithful C s (b ∷ a ∷ [])
@@ -46,28 +47,30 @@ module _ (C : Calls) where
   abbrev pub SortAny : Type 0
   SortAny = (rank : Done C → ℕ) (s : C.Store) (cs : List (Done C)) → Able C s cs → Faithful C s cs → Faithful C s (sort_by C rank cs)
 
-  -- The frame law for stores that agree on what a call writes.
+  -- The frame law for stores that agree on what a call writes. (A stat, which writes nothing.)
   abbrev pub FrameByWrites : Type 0
   FrameByWrites = (s t : C.Store) (a : C.Call) → C.IsSound s → C.IsSound t → C.IsReady a s → C.IsReady a t → ((x : C.Cell) → C.changes (C.accesses s a) x ≡ true → C.cell s x ≡ C.cell t x) → Alike C s t a
 
-  -- Freshness for two calls with the same stamp.
+  -- Freshness for two calls with the same stamp. (A create takes the number.)
   abbrev pub ReadyTwice : Type 0
   ReadyTwice = (s : C.Store) (a b : C.Call) → C.IsSound s → C.IsReady a s → C.IsReady b s → C.IsReady b (C.act s a)
 
-  -- A sound store stays sound.
+  -- A sound store stays sound. (False where a rmdir takes a directory with what is in it.)
   abbrev pub StaysSound : Type 0
   StaysSound = (s : C.Store) (a : C.Call) → C.IsSound s → C.IsReady a s → C.IsSound (C.act s a)
 
-  -- The inverse law.
+  -- The inverse law. (False of an unlink where its inverse is one of the two below.)
   abbrev pub Inverts : Type 0
   Inverts = (s : C.Store) (a : C.Call) → C.IsSound s → C.IsReady a s → Reverts C s a (C.accesses s a) (C.inverse s a)
 
-  -- A call touches a file's cells only where a cell that it touches names the file, also if the file is its own.
+  -- A call touches a file's cells only where a cell that it touches names the file, also if the
+  -- file is its own. (A create, whose file nothing names yet.)
   abbrev pub ComesUponNamed : Type 0
   ComesUponNamed = (s : C.Store) (a : C.Call) → C.IsSound s → C.IsReady a s → (x : C.Cell) (i : C.File) → C.file_of x ≡ Some i → C.touches (C.accesses s a) x ≡ true
       → (y : C.Cell) × (C.touches (C.accesses s a) y ≡ true) × (C.names y (C.cell s y) i ≡ true)
 
   -- A call that takes a file's name away touches the file, also if it leaves the name elsewhere.
+  -- (A rename, which touches neither the links nor the bytes of the file that it moves.)
   abbrev pub LetsGoTouching : Type 0
   LetsGoTouching = (s : C.Store) (a : C.Call) → C.IsSound s → C.IsReady a s → (x : C.Cell) (i : C.File) → C.names x (C.cell s x) i ≡ true → C.names x (C.cell (C.act s a) x) i ≡ false
       → TouchesFile C (C.accesses s a) i
@@ -94,22 +97,26 @@ module _ (C : Calls) where
   TidyNamed = (tidy : C.Store → C.Store) (dead : C.Store → C.File → Bool) → ((s : C.Store) → AgreeOff C (dead s) s (tidy s)) → (s : C.Store) (cs : List (Done C)) → Able C s cs → Faithful C s cs
       → TidiedFaithful C tidy s cs
 
-  -- A file may be dropped though a call that touched it can still be undone.
+  -- A file may be dropped though a call that touched it can still be undone. (A file
+  -- whose unlink is taken back.)
   abbrev pub UndoSeen : Type 0
   UndoSeen = (hidden : C.File → Bool) (s : C.Store) (xs : List (Done C)) (a : Done C) (ys : List (Done C)) (u : C.Inverse) (t : C.Store) → Able C s (xs ++ a ∷ ys) → Faithful C s (xs ++ a ∷ ys)
       → Clear C a ys → Reverts C (run C s xs) a.call a.accesses u → Hides C hidden (run C s (xs ++ a ∷ ys)) t → Hides C hidden (run C s (xs ++ ys)) (C.revert t u)
 
--- All names of a directory don't overlap its entries. The exchange law is false of these calls.
+-- All names of a directory don't overlap its entries. The exchange law is false of these calls, as
+-- of a create in a directory and its rmdir.
 abbrev pub overlap_alone : Place → Place → Bool
 overlap_alone (One x) (Names d) = false
 overlap_alone (Names d) (One x) = false
 overlap_alone (One x) (One y) = overlap (One x) (One y)
 overlap_alone (Names d) (Names e) = overlap (Names d) (Names e)
 
+-- the tiny tree so
 abbrev pub names_alone : Effects
 names_alone = record tiny { overlap = overlap_alone }
 
--- What is written counts as read. The exchange law is false of these calls.
+-- What is written counts as read. The exchange law is false of these calls,
+-- as of two creates of one name.
 abbrev pub readers_alone : Effects
 readers_alone = record tiny { does = λ s a. let e = does s a in record e { accesses = map (λ b. reads b.place) e.accesses } }
 
@@ -119,10 +126,12 @@ remove_full d n None = replies NoEntry
 remove_full d n (Some (FileNode i)) = replies NotDirectory
 remove_full d n (Some (DirNode i)) = rmdir_if d n i true
 
+-- the calls with such a rmdir
 abbrev pub full_steps : ℕ → What → Steps
 full_steps k (Rmdir p n) = inside p (λ d. Look (One (Entry d n)) (remove_full d n))
 full_steps k w = steps k w
 
+-- the tiny tree so
 abbrev pub full_removed : Effects
 full_removed = record tiny { does = λ s a. effect_of (full_steps a.stamp a.what) s }
 
@@ -130,10 +139,12 @@ full_removed = record tiny { does = λ s a. effect_of (full_steps a.stamp a.what
 abbrev pub others_made : Calls
 others_made = record tiny_calls { own = λ a. 0 }
 
--- What is only read, as by a call that fails, isn't accessed. The exchange law is false of these calls.
+-- What is only read, as by a call that fails, isn't accessed. The exchange law is false of these
+-- calls, as of a stat that fails and the create of that name.
 abbrev pub writers_alone : Effects
 writers_alone = record tiny { does = λ s a. let e = does s a in record e { accesses = map wrote e.writes } }
 
+-- the cell is a file's links
 abbrev pub is_links : Cell → Bool
 is_links (Links i) = true
 is_links x = false
@@ -143,9 +154,11 @@ abbrev pub without_links : List (Write Cell Shows) → List (Write Cell Shows)
 without_links [] = []
 without_links (w ∷ ws) = cond (is_links w.cell) (without_links ws) (w ∷ without_links ws)
 
+-- the tiny tree so
 abbrev pub links_forgotten : Calls
 links_forgotten = record tiny_calls { inverse = λ s a. let u = tiny_calls.inverse s a in record u { before = without_links u.before } }
 
--- An inverse that may be put only where the cells have their values from before the call. The inverse law is false of these calls.
+-- An inverse that may be put only where the cells have their values from before the call. The
+-- inverse law is false of these calls.
 abbrev pub asks_for_before : Calls
 asks_for_before = record tiny_calls { MayRevert = λ s u. Has tiny s u.before }

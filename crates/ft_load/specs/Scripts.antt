@@ -1,10 +1,15 @@
 -- The text of a script that makes what it is asked for.
-use Rattle.std.specs.Prelude.{◌≡◌, ℕ, suc, true, false, List, [], ◌∷◌, ◌++◌, codes, Option}
-use Rattle.std.specs.Io.KnownBytes.{Appends}
+use Rattle.std.specs.Prelude.{◌≡◌, ◌⊎◌, ◌||◌, ◌<◌, ℕ, suc, Bool, true, false, List, [], ◌∷◌, ◌++◌, codes, Option}
+use Rattle.std.specs.Io.KnownBytes.{Appends, Keeps}
 use Rattle.ft_cells.specs.declared.open_file.AccessMode.TheVariants.{WriteOnly}
 use Rattle.ft_posix.specs.declared.call.Call.{Call}
 use Rattle.ft_posix.specs.declared.call.Call.TheVariants as calls
 use Rattle.ft_words.specs.CallTexts.{call_text}
+use Rattle.ft_path.specs.Name.{has_nul}
+use Rattle.ft_core.specs.declared.TheConstants.{MOST_CALLS}
+use Rattle.ft_script.specs.Runs.{WritesPart}
+use Rattle.ft_copy.specs.declared.trouble.Trouble.{Trouble}
+use Rattle.ft_copy.specs.declared.trouble.Trouble.TheVariants.{Memory, Write, BadName, Full}
 use Rattle.ft_copy.specs.Asked.{Asked, Start, Folder, Open, Piece, Close, Link, Finish, GiveUp}
 
 -- a call of transaction 1, on its line
@@ -49,6 +54,27 @@ abbrev pub text_of : List Asked → ℕ → ℕ → List ℕ
 text_of [] next fd = []
 text_of (first ∷ more) next fd = text_at first next fd ++ text_of more (next_after first next) (fd_after first next fd)
 
+-- the stamp of the next call after all of this
+abbrev pub next_of : List Asked → ℕ → ℕ
+next_of [] next = next
+next_of (first ∷ more) next = next_of more (next_after first next)
+
+-- the descriptor of the open file after it
+abbrev pub fd_of : List Asked → ℕ → ℕ → ℕ
+fd_of [] next fd = fd
+fd_of (first ∷ more) next fd = fd_of more (next_after first next) (fd_after first next fd)
+
+-- a path in it has a null byte
+abbrev pub has_nul_path : Asked → Bool
+has_nul_path Start = false
+has_nul_path (Folder path) = has_nul path
+has_nul_path (Open path) = has_nul path
+has_nul_path (Piece bytes) = false
+has_nul_path Close = false
+has_nul_path (Link first path) = has_nul first || has_nul path
+has_nul_path Finish = false
+has_nul_path GiveUp = false
+
 -- The script that makes what it is asked for, on a core that is new: its first call has stamp 2.
 abbrev pub script_text : List Asked → List ℕ
 script_text asked = text_of asked 2 0
@@ -64,3 +90,18 @@ AsksFor call next held next_after held_after = Appends held held_after (call_lin
 -- what is written for one thing, and what comes next
 abbrev pub Scripts : Asked → ℕ → ℕ → Option (List ℕ) → ℕ → ℕ → Option (List ℕ) → Type 0
 Scripts asked next fd held next_now fd_now held_now = Appends held held_now (text_at asked next fd) × (next_now ≡ next_after asked next) × (fd_now ≡ fd_after asked next fd)
+
+-- A part of the text was written, and then the writer failed; or nothing was: there was no memory, or there are as many calls as a core grants, or a path has a null byte.
+abbrev pub BreaksOff : Trouble → Asked → ℕ → ℕ → Option (List ℕ) → Option (List ℕ) → Type 0
+BreaksOff trouble asked next fd held held_now =
+    ((trouble ≡ Write) × WritesPart held held_now (text_at asked next fd))
+    ⊎ (Keeps held held_now × ((trouble ≡ Memory) ⊎ ((trouble ≡ Full) × (suc MOST_CALLS < next)) ⊎ ((trouble ≡ BadName) × (has_nul_path asked ≡ true))))
+
+-- A part of a text was written, and then the writer failed.
+abbrev pub FailsToSay : Trouble → List ℕ → Option (List ℕ) → Option (List ℕ) → Type 0
+FailsToSay trouble text held held_after = (trouble ≡ Write) × WritesPart held held_after text
+
+-- The same of a call; or nothing was written of it.
+abbrev pub FailsToAsk : Trouble → Call → ℕ → Option (List ℕ) → Option (List ℕ) → Type 0
+FailsToAsk trouble call next held held_after =
+    FailsToSay trouble (call_line call) held held_after ⊎ (Keeps held held_after × ((trouble ≡ Memory) ⊎ ((trouble ≡ Full) × (suc MOST_CALLS < next))))

@@ -1,6 +1,6 @@
 // A tree of directories, written as a script.
-ghost use Rattle.std.specs.Prelude.{IfOk};
-ghost use Rattle.ft_load.specs.Loads.{Loads};
+ghost use Rattle.std.specs.Prelude.{IfErr, OnOk};
+ghost use Rattle.ft_load.specs.Loads.{Loads, StopsLoad};
 
 use crate::script::Script;
 use ft_copy::{Source, Stopped, copy};
@@ -14,9 +14,11 @@ use std::io::Write;
 /// directory in the order of their bytes. A file is opened where it is met first, written in the
 /// pieces in which it was read, and closed; where it is met again it gets a further name by a link.
 ///
-/// The writer is handed back. Where something fails, a part of the script was written, and its transaction does not commit.
-pub fn load<S: Source, W: Write + Drop>(alloc: Global, source: &S, writer: W) -> Result<W, Stopped>
-    ensures { IfOk result (λ after. Loads (S.tells source.now) (W.contents writer) (W.contents after)) }
+/// The writer is handed back. Where something fails, a part of the script was written, and its
+/// transaction does not commit.
+pub fn load<S: Source, W: Write>(alloc: Global, source: &S, writer: W) -> (W, Result<(), Stopped>)
+    ensures ok { OnOk result.1 (Loads (S.tells source.now) (W.contents writer) (W.contents result.0)) }
+    ensures stopped { IfErr result.1 (λ stopped. StopsLoad (S.tells source.now) stopped (W.contents writer) (W.contents result.0)) }
 {
     let mut script = Script {
         alloc,
@@ -24,6 +26,6 @@ pub fn load<S: Source, W: Write + Drop>(alloc: Global, source: &S, writer: W) ->
         next: 2,
         fd: 0,
     };
-    copy(alloc, source, &mut script)?;
-    Ok(script.writer)
+    let copied = copy(alloc, source, &mut script);
+    (script.writer, copied)
 }

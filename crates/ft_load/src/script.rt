@@ -1,6 +1,8 @@
 // A script as a target.
-ghost use Rattle.std.specs.Prelude.{◌≡◌, IfOk, OnOk};
-ghost use Rattle.ft_load.specs.Scripts.{AsksFor, Says};
+ghost use Rattle.std.specs.Prelude.{◌≡◌, ◌⊎◌, ◌<◌, suc, true, IfErr, IfOk, IsTrue, OnOk};
+ghost use Rattle.ft_core.specs.declared.TheConstants.{MOST_CALLS};
+ghost use Rattle.ft_path.specs.Name.{has_nul};
+ghost use Rattle.ft_load.specs.Scripts.{AsksFor, FailsToAsk, FailsToSay, Says};
 
 use ft_calls::Call;
 use ft_cells::AccessMode;
@@ -28,6 +30,7 @@ impl<W: Write> Script<W> {
     /// Writes a call. More calls than a core grants are refused.
     fn ask(&mut self, call: &Call) -> Result<(), Trouble>
         ensures call { OnOk result (AsksFor call.now self.old.next (W.contents self.old.writer) self.new.next (W.contents self.new.writer)) }
+        ensures err { IfErr result (λ trouble. FailsToAsk trouble call.now self.old.next (W.contents self.old.writer) (W.contents self.new.writer)) }
         ensures fd { self.new.fd ≡ self.old.fd }
     {
         if self.next > MOST_CALLS + 1 {
@@ -42,6 +45,7 @@ impl<W: Write> Script<W> {
     /// Writes text.
     fn say(&mut self, text: &str) -> Result<(), Trouble>
         ensures text { OnOk result (Says text.now (W.contents self.old.writer) (W.contents self.new.writer)) }
+        ensures err { IfErr result (λ trouble. FailsToSay trouble text.now (W.contents self.old.writer) (W.contents self.new.writer)) }
         ensures next { self.new.next ≡ self.old.next }
         ensures fd { self.new.fd ≡ self.old.fd }
     {
@@ -53,9 +57,11 @@ impl<W: Write> Script<W> {
 }
 
 impl<W: Write> Target for Script<W> {
-    ghost use Rattle.ft_load.specs.Scripts.{Scripts};
+    ghost use Rattle.ft_load.specs.Scripts.{BreaksOff, Scripts};
 
     ghost does = { λ old asked new. Scripts asked old.next old.fd (W.contents old.writer) new.next new.fd (W.contents new.writer) };
+
+    ghost fails = { λ old asked trouble new. BreaksOff trouble asked old.next old.fd (W.contents old.writer) (W.contents new.writer) };
 
     fn start(&mut self) -> Result<(), Trouble> {
         self.say("begin\n")
@@ -112,7 +118,8 @@ impl<W: Write> Target for Script<W> {
 
 // The path that has these bytes.
 fn path_of(alloc: Global, bytes: &[u8]) -> Result<FilePath, Trouble>
-    ensures { IfOk result (λ path. path ≡ bytes.now) }
+    ensures ok { IfOk result (λ path. path ≡ bytes.now) }
+    ensures err { IfErr result (λ trouble. (trouble ≡ Trouble.Memory) ⊎ ((trouble ≡ Trouble.BadName) × (has_nul bytes.now ≡ true))) }
 {
     match FilePath::new(alloc, bytes) {
         Ok(path) => Ok(path),

@@ -11,6 +11,7 @@ use Rattle.ft_cells.specs.declared.cell.Cell.TheVariants.{Entry, Names, Parent, 
 abbrev pub EntryKeys : Type 0
 EntryKeys = finite.FinMap nat_cmp (Vec ℕ Global)
 
+-- the keys in a directory's list, if it has one
 abbrev pub listed_keys : Option (Vec ℕ Global) → List ℕ
 listed_keys None = []
 listed_keys (Some keys) = keys.items
@@ -28,9 +29,11 @@ spot_of (Links i) place = None
 spot_of (Bytes i) place = None
 spot_of (Fd f) place = None
 
+-- the same directory and the same place in its list
 abbrev pub same_spot : ℕ × ℕ → ℕ × ℕ → Bool
 same_spot s t = (t.0 == s.0) && (t.1 == s.1)
 
+-- it is this place, if there is one
 abbrev pub is_spot : Option (ℕ × ℕ) → ℕ × ℕ → Bool
 is_spot None t = false
 is_spot (Some s) t = same_spot s t

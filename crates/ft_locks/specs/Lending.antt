@@ -8,6 +8,7 @@ use Rattle.ft_moss.specs.Cells.{Cells, Keyed}
 use Rattle.ft_locks.specs.contracts.cells.LockedCells.{the_row}
 use Rattle.ft_moss.specs.contracts.holders.Holders as holders
 
+-- the cell, if there is one, has other holders
 abbrev pub with_holders_of : Cells → Option Cell → Owners → Cells
 with_holders_of m None owners = m
 with_holders_of m (Some c) owners = finite.insert m c owners
@@ -16,6 +17,7 @@ with_holders_of m (Some c) owners = finite.insert m c owners
 abbrev pub with_holders : Keyed → ℕ → Owners → Keyed
 with_holders k key owners = record k { cells = with_holders_of k.cells (finite.get k.at key) owners }
 
--- t ends with the last holders behind r for the cell under the key, and where nothing is lent as it was
+-- t ends with the last holders behind r for the cell under the key, and
+-- where nothing is lent as it was
 abbrev pub LendsHolders : MutBor Keyed → ℕ → Option (MutBor Owners) → Fml
 LendsHolders t key r = LendsIf the_row holders.the_row t r (with_holders t.now key) t.now

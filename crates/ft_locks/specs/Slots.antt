@@ -13,6 +13,7 @@ use Rattle.ft_moss.specs.Seen.{has_mark_of}
 use Rattle.ft_moss.specs.Cells.{Cells, CellKeys}
 use Rattle.ft_locks.specs.EntryKeys.{EntryKeys, key_at, spot_of, same_spot}
 
+-- the holders of what stands under a key, if something does
 abbrev pub owners_of : Option Locked → Owners
 owners_of None = finite.empty
 owners_of (Some locked) = locked.holders
@@ -29,6 +30,7 @@ at_of s = finite.from_entries (map (λ e. (e.0, e.1.cell)) (entries s))
 abbrev pub AreKeyed : CellKeys → List (Cell × ℕ) → Type 0
 AreKeyed at index = (c : Cell) (key : ℕ) → (lookup (same_cell c) index ≡ Some key) ↔ (finite.get at key ≡ Some c)
 
+-- where its key stands in a directory's list, if it is an entry
 abbrev pub spot_in : Option Locked → Option (ℕ × ℕ)
 spot_in None = None
 spot_in (Some locked) = spot_of locked.cell locked.place
@@ -37,6 +39,7 @@ spot_in (Some locked) = spot_of locked.cell locked.place
 abbrev pub ArePlacedBy : (ℕ → Option Locked) → (ℕ × ℕ → Option ℕ) → Type 0
 ArePlacedBy at keys = (t : ℕ × ℕ) (key : ℕ) → (keys t ≡ Some key) ↔ (spot_in (at key) ≡ Some t)
 
+-- the same of the lists of all directories
 abbrev pub ArePlaced : (ℕ → Option Locked) → EntryKeys → Type 0
 ArePlaced at keys = ArePlacedBy at (λ t. key_at keys t.0 t.1)
 
@@ -44,6 +47,7 @@ ArePlaced at keys = ArePlacedBy at (λ t. key_at keys t.0 t.1)
 abbrev pub HaveGap : (ℕ → Option Locked) → EntryKeys → ℕ → ℕ → Type 0
 HaveGap at keys dir place = ArePlacedBy at (λ t. cond (same_spot (dir, place) t) None (key_at keys t.0 t.1))
 
+-- what is seen of it: the cell and its holders
 abbrev pub shown : Option Locked → Option (Cell × Owners)
 shown None = None
 shown (Some locked) = Some (locked.cell, locked.holders)
@@ -57,6 +61,7 @@ abbrev pub with_place : ℕ → Option Locked → Option Locked
 with_place place None = None
 with_place place (Some locked) = Some (record locked { place = place })
 
+-- the cell is the names of a directory
 abbrev pub is_names : Cell → Bool
 is_names (Names d) = true
 is_names (Entry entry) = false

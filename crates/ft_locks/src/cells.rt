@@ -45,7 +45,8 @@ pub(crate) struct LockedCells {
     locked: Slab<Locked>,
     keys: HashMap<Cell, usize>,
     entries: EntryKeys,
-    /// Whether the names of a directory came into the table since it was last empty.
+    /// Whether the names of a directory came into the table since it was last empty. (A count would
+    /// have to be kept at each removal.)
     has_names: bool,
 }
 

@@ -2,18 +2,8 @@
 use Rattle.std.specs.Prelude.{Bool, true, cond, T, List, [], ◌∷◌}
 use Rattle.std.specs.FinMap as finite
 use Rattle.ft_cells.specs.CellOrder.{cell_cmp}
-use Rattle.ft_cells.specs.Entries.{entry_in}
-use Rattle.ft_cells.specs.declared.cell.Cell.{Cell}
-use Rattle.ft_cells.specs.declared.cell.Cell.TheVariants.{Entry}
 use Rattle.ft_posix.specs.declared.call.Access.{Access}
 use Rattle.ft_posix.specs.Accesses.{Modes, as_entries}
-use Rattle.ft_looks.specs.declared.touched.CellOrEntry.{CellOrEntry}
-use Rattle.ft_looks.specs.declared.touched.CellOrEntry.TheVariants.{Cell as TheCell, Entry as TheEntry}
-
--- a cell that is touched, be it an entry or another
-abbrev pub cell_of : CellOrEntry → Cell
-cell_of (TheCell c) = c
-cell_of (TheEntry entry) = Entry (entry_in entry)
 
 -- each cell as it was noted last
 abbrev pub with_notes : Modes → List Access → Modes

@@ -20,7 +20,7 @@ use ft_base::Memory;
 use ft_body::SIZE_LIMIT;
 use ft_path::{FilePath, Name, Parts, PartsFault};
 use ft_posix::{Access, Edit, Edits, Stop};
-use ft_tree::{Cell, Cursor, EntryRef, Node, OpenFile, ROOT, Reader, Spot, Tree, walk};
+use ft_tree::{Cell, Cursor, EntryRef, HintedFile, Node, OpenFile, ROOT, Reader, Spot, Tree, walk};
 use std::alloc::Global;
 use std::marker::Model;
 
@@ -91,6 +91,13 @@ impl<'t> Look<'t> {
     {
         self.touched.read(Cell::Bytes(file))?;
         Ok(size_of(&self.cursor, file))
+    }
+
+    /// A file's number, to read the file later from where something was found last.
+    pub fn hinted(&self, file: u64) -> HintedFile
+        ensures { result ≡ file }
+    {
+        self.cursor.hinted(file)
     }
 
     /// Where a path's components lead.

@@ -2,11 +2,11 @@
 ghost use Rattle.std.specs.Prelude.{◌≡◌, true, false, IfOk, OnOk, if◌then◌else◌};
 ghost use Rattle.std.specs.FinMap as finite;
 ghost use Rattle.ft_cells.specs.Entries.{entry_in};
-ghost use Rattle.ft_cells.specs.CellOrder.{cell_cmp, same_cell};
+ghost use Rattle.ft_cells.specs.CellOrder.{same_cell};
 ghost use Rattle.ft_cells.specs.declared.cell.Cell.TheVariants.{Entry};
 ghost use Rattle.ft_posix.specs.declared.call.Mode.TheVariants.{Read as ReadMode, Write as WriteMode};
 ghost use Rattle.ft_posix.specs.Accesses.{listed, place_in, is_noted, AreInOrder};
-ghost use Rattle.ft_looks.specs.Notes.{with_notes, cell_of, AreInOrderIf};
+ghost use Rattle.ft_looks.specs.Notes.{with_notes, AreInOrderIf};
 
 use ft_base::Memory;
 use ft_posix::{Access, Mode};
@@ -64,28 +64,28 @@ impl Touched {
     pub(crate) fn read(&mut self, cell: Cell) -> Result<(), Memory>
         ensures { OnOk result (self.new ≡ finite.insert self.old cell ReadMode) }
     {
-        self.note(CellOrEntry::Cell(cell), Mode::Read)
+        self.note(cell, Mode::Read)
     }
 
     /// Notes that an entry is looked at.
     pub(crate) fn read_entry(&mut self, entry: EntryRef<'_>) -> Result<(), Memory>
         ensures { OnOk result (self.new ≡ finite.insert self.old (Entry (entry_in entry.entry)) ReadMode) }
     {
-        self.note(CellOrEntry::Entry(entry), Mode::Read)
+        self.note(entry, Mode::Read)
     }
 
     /// Notes that a cell is given a value.
     pub(crate) fn write(&mut self, cell: Cell) -> Result<(), Memory>
         ensures { OnOk result (self.new ≡ finite.insert self.old cell WriteMode) }
     {
-        self.note(CellOrEntry::Cell(cell), Mode::Write)
+        self.note(cell, Mode::Write)
     }
 
     /// Notes that an entry is given a value.
     pub(crate) fn write_entry(&mut self, entry: EntryRef<'_>) -> Result<(), Memory>
         ensures { OnOk result (self.new ≡ finite.insert self.old (Entry (entry_in entry.entry)) WriteMode) }
     {
-        self.note(CellOrEntry::Entry(entry), Mode::Write)
+        self.note(entry, Mode::Write)
     }
 
     /// The accesses, in the order of their cells. Takes memory only where that order was given up.
@@ -105,8 +105,8 @@ impl Touched {
     }
 
     /// Notes how a cell is touched.
-    fn note(&mut self, touched: CellOrEntry<'_>, mode: Mode) -> Result<(), Memory>
-        ensures { OnOk result (self.new ≡ finite.insert self.old (cell_of touched.entry) mode) }
+    fn note<T: Touch>(&mut self, touched: T, mode: Mode) -> Result<(), Memory>
+        ensures { OnOk result (self.new ≡ finite.insert self.old (T.cell touched) mode) }
     {
         if !self.is_in_order {
             let cell = touched.into_cell()?;
@@ -128,33 +128,49 @@ impl Touched {
     }
 }
 
-/// A cell that is touched. The name of an entry is borrowed, and copied only where the cell is put
-/// into the list.
-#[derive(Drop)]
-enum CellOrEntry<'a> {
-    Cell(Cell),
-    Entry(EntryRef<'a>),
-}
+/// What tells which cell is touched: the cell itself, or an entry whose name is borrowed, and is
+/// copied only where the cell is put into the list.
+trait Touch: Drop {
+    ghost use Rattle.std.specs.Prelude.{◌≡◌, IfOk};
+    ghost use Rattle.ft_cells.specs.declared.cell.Cell.{Cell};
+    ghost use Rattle.ft_cells.specs.CellOrder.{cell_cmp};
 
-impl CellOrEntry<'_> {
-    /// How it stands to a cell in the order of cells.
-    fn cmp(&self, cell: &Cell) -> Ordering
-        ensures { result ≡ cell_cmp (cell_of self.now) cell.now }
-    {
-        match self {
-            CellOrEntry::Cell(own) => own.cmp(cell),
-            CellOrEntry::Entry(entry) => cell.cmp_entry(*entry),
-        }
-    }
+    /// The cell that is touched.
+    ghost cell: { Self → Cell };
+
+    /// How the cell stands to another in the order of cells.
+    fn cmp_cell(&self, other: &Cell) -> Ordering
+        ensures { result ≡ cell_cmp (cell self.now) other.now };
 
     /// The cell. Only an entry's takes memory, for its name.
     fn into_cell(self) -> Result<Cell, Memory>
-        ensures { IfOk result (λ cell. cell ≡ cell_of self.entry) }
-    {
-        match self {
-            CellOrEntry::Cell(cell) => Ok(cell),
-            CellOrEntry::Entry(entry) => Ok(Cell::Entry(entry.to_entry()?)),
-        }
+        ensures { IfOk result (λ own. own ≡ cell self) };
+}
+
+impl Touch for Cell {
+    ghost cell = { λ own. own };
+
+    fn cmp_cell(&self, other: &Cell) -> Ordering {
+        self.cmp(other)
+    }
+
+    fn into_cell(self) -> Result<Cell, Memory> {
+        Ok(self)
+    }
+}
+
+impl Touch for EntryRef<'_> {
+    ghost use Rattle.ft_cells.specs.Entries.{entry_in};
+    ghost use Rattle.ft_cells.specs.declared.cell.Cell.TheVariants.{Entry};
+
+    ghost cell = { λ entry. Entry (entry_in entry) };
+
+    fn cmp_cell(&self, other: &Cell) -> Ordering {
+        other.cmp_entry(*self)
+    }
+
+    fn into_cell(self) -> Result<Cell, Memory> {
+        Ok(Cell::Entry(self.to_entry()?))
     }
 }
 
@@ -173,16 +189,16 @@ fn merge(later: &mut Access, kept: &mut Access) -> bool
 
 /// How many accesses stand before a cell's, and whether it has one: most come behind all others,
 /// which is tried first, and the place of another is found by halves.
-fn place_of(list: &[Access], touched: &CellOrEntry<'_>) -> (usize, bool)
+fn place_of<T: Touch>(list: &[Access], touched: &T) -> (usize, bool)
     requires { AreInOrder list.now }
-    ensures place { result.0 ≡ place_in (cell_of touched.now) list.now }
-    ensures noted { result.1 ≡ is_noted (cell_of touched.now) list.now }
+    ensures place { result.0 ≡ place_in (T.cell touched.now) list.now }
+    ensures noted { result.1 ≡ is_noted (T.cell touched.now) list.now }
 {
     let mut from = 0;
     let mut to = list.len();
     let mut at = to.saturating_sub(1);
     while from < to {
-        match touched.cmp(&list[at].cell) {
+        match touched.cmp_cell(&list[at].cell) {
             Ordering::Less => to = at,
             Ordering::Equal => return (at, true),
             Ordering::Greater => from = at + 1,

@@ -17,6 +17,7 @@ use Rattle.ft_laws.specs.Lists.{In}
 use Rattle.ft_forest.specs.Transactions.{Transactions, over_in}
 use Rattle.ft_moss.specs.Cells.{Cells, Keyed, marks_at}
 
+-- the numbers of those who were found in the way
 abbrev pub Found : Type 0
 Found = finite.FinMap nat_cmp (Unit {0})
 
@@ -28,15 +29,18 @@ AreNoted old new p = (u : ℕ) → finite.contains_key new u ≡ (finite.contain
 abbrev pub Counted : Type 0
 Counted = ℕ → Marks → Marks
 
--- Against a call of txn all count, but of txn itself and of its ancestors: of txn none, and of an ancestor those that it holds, where the rule is Moss's.
+-- Against a call of txn all count, but of txn itself and of its ancestors: of txn none, and of an
+-- ancestor those that it holds, where the rule is Moss's.
 abbrev pub against : Rule → Transactions → ℕ → Counted
 against rule forest txn u marks = cond (over_in forest u txn) (cond (is_strict rule && not (u == txn)) (held_of marks) no_marks) marks
 
+-- one of the locks that count conflicts with such an access, if the owner has a place there
 abbrev pub is_in_way : Counted → ℕ → Option Marks → Mode → Bool
 is_in_way counted u None mode = false
 is_in_way counted u (Some marks) mode = are_in_the_way (counted u marks) mode
 
--- whether an owner's locks on a cell conflict with such an access to a cell that overlaps it, and count
+-- whether an owner's locks on a cell conflict with such an access to a
+-- cell that overlaps it, and count
 abbrev pub way : Counted → Cells → Cell → Mode → ℕ → Bool
 way counted m c mode u = is_in_way counted u (marks_at m c u) mode
 
@@ -44,9 +48,11 @@ way counted m c mode u = is_in_way counted u (marks_at m c u) mode
 abbrev pub is_holder_in_way : Counted → Option Owners → Mode → ℕ → Bool
 is_holder_in_way counted holders mode u = is_in_way counted u (finite.get (unwrap_or holders finite.empty) u) mode
 
+-- the same by a list of holders
 abbrev pub is_listed_in_way : Counted → List Holding → Mode → ℕ → Bool
 is_listed_in_way counted list mode u = list_any (λ h. (h.owner == u) && are_in_the_way (counted u h.marks) mode) list
 
+-- the cell is an entry of this directory
 abbrev pub is_entry_of : ℕ → Cell → Bool
 is_entry_of d (Entry entry) = d == entry.dir
 is_entry_of d (Names e) = false
@@ -60,7 +66,7 @@ pub record AreEntriesOf (k : Keyed) (d : ℕ) (keys : List ℕ) : Type 0 where
   pub each : (key : ℕ) → In key keys → (c : Cell) × (finite.get k.at key ≡ Some c) × (is_entry_of d c ≡ true)
   pub all : (c : Cell) → finite.contains_key k.cells c ≡ true → is_entry_of d c ≡ true → (key : ℕ) × (finite.get k.at key ≡ Some c) × In key keys
 
--- the same on the cells that overlap this one besides itself
+-- whether an owner is in the way on one of the cells that overlap this one besides itself
 abbrev pub beside : Counted → Cells → Cell → Mode → ℕ → Bool
 beside counted m (Entry entry) mode u = way counted m (Names entry.dir) mode u
 beside counted m (Names d) mode u = list_any (λ c. is_entry_of d c && way counted m c mode u) (finite.keys m)
@@ -69,5 +75,6 @@ beside counted m (Links i) mode u = false
 beside counted m (Bytes i) mode u = false
 beside counted m (Fd f) mode u = false
 
+-- whether an owner is in the way of the access, on its cell or on one that overlaps it
 abbrev pub blocks : Counted → Cells → Access → ℕ → Bool
 blocks counted m a u = way counted m a.cell a.mode u || beside counted m a.cell a.mode u

@@ -14,6 +14,7 @@ use Rattle.ft_moss.specs.Holders.{Owners, coded_owners}
 abbrev pub Cells : Type 0
 Cells = finite.FinMap cell_cmp Owners
 
+-- a code of them, which a model needs
 abbrev pub coded_cells : Coded Cells
 coded_cells = finite.code cell.the_row.coded coded_owners
 
@@ -26,9 +27,11 @@ pub record Keyed : Type 0 where
   pub cells : Cells
   pub at : CellKeys
 
+-- a code of them, which a model needs
 abbrev pub coded_keyed : Coded Keyed
 coded_keyed = code_by (Cells × CellKeys) (coded× coded_cells (finite.code coded_ℕ cell.the_row.coded)) (λ k. (k.cells, k.at)) (λ p. record { cells = p.0; at = p.1 }) (λ _. refl)
 
+-- the holders of a cell, if there is one
 abbrev pub holders_of : Cells → Option Cell → Option Owners
 holders_of m None = None
 holders_of m (Some c) = finite.get m c
@@ -53,6 +56,7 @@ let_go_owner = 0
 abbrev pub passed_to : ℕ → Marks → Marks
 passed_to to marks = cond (to == let_go_owner) no_marks (passed_on marks)
 
+-- what an owner has who gets more locks, where it had a place or gets one
 abbrev pub joined_marks : Option Marks → Option Marks → Option Marks
 joined_marks None more = more
 joined_marks (Some own) None = Some own

@@ -14,9 +14,11 @@ use Rattle.ft_moss.specs.declared.holders.Holding.{Holding}
 abbrev pub Owners : Type 0
 Owners = finite.FinMap nat_cmp Marks
 
+-- a code of them, which a model needs
 abbrev pub coded_owners : Coded Owners
 coded_owners = finite.code coded_ℕ marks.the_row.coded
 
+-- the list as owners with their locks
 abbrev pub as_entries : List Holding → List (ℕ × Marks)
 as_entries list = map (λ h. (h.owner, h.marks)) list
 
@@ -38,11 +40,12 @@ abbrev pub AreApart : List Holding → Type 0
 AreApart [] = Unit {0}
 AreApart (h ∷ more) = (marks_in more h.owner ≡ None) × AreApart more
 
--- an owner that has a place has these locks beside its own
+-- an owner that has these locks, if it has a place, gets others besides
 abbrev pub marked_at : Owners → ℕ → Marks → Option Marks → Owners
 marked_at owners owner marks None = owners
 marked_at owners owner marks (Some own) = finite.insert owners owner (with_marks own marks)
 
+-- an owner that has a place gets these locks besides its own
 abbrev pub marked : Owners → ℕ → Marks → Owners
 marked owners owner marks = marked_at owners owner marks (finite.get owners owner)
 
@@ -59,6 +62,7 @@ pub record Indexed : Type 0 where
   pub places : Places
   pub last_writer : ℕ
 
+-- a code of it, which a model needs
 abbrev pub coded_indexed : Coded Indexed
 coded_indexed = code_by (Places × ℕ) (coded× (finite.code coded_ℕ coded_ℕ) coded_ℕ) (λ k. (k.places, k.last_writer)) (λ p. record { places = p.0; last_writer = p.1 }) (λ _. refl)
 

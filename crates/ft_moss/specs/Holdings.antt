@@ -16,6 +16,7 @@ pub record Held : Type 0 where
   pub cells : Cells
   pub lists : Lists Cell
 
+-- a code of it, which a model needs
 abbrev pub coded_held : Coded Held
 coded_held = code_by (Cells × Lists Cell) (coded× coded_cells (coded_lists cell.the_row.coded)) (λ h. (h.cells, h.lists)) (λ p. record { cells = p.0; lists = p.1 }) (λ _. refl)
 
@@ -54,15 +55,17 @@ pub record AreJoined (k : Keyed) (chains : Lists ℕ) : Type 0 where
 abbrev pub AreOpenStill : Lists Cell → Lists Cell → Type 0
 AreOpenStill old new = (u : ℕ) → finite.contains_key new u ≡ finite.contains_key old u
 
--- the newest of an owner's list is taken out
+-- the newest of an owner's list, which is this one, is taken out
 abbrev pub popped_of : {T : Type 0} → Lists T → ℕ → List T → Lists T
 popped_of m owner [] = m
 popped_of m owner (c ∷ more) = finite.insert m owner more
 
+-- the newest of an owner's list is taken out
 abbrev pub popped : {T : Type 0} → Lists T → ℕ → Lists T
 popped m owner = popped_of m owner (list_in m owner)
 
--- the newest place of an owner was taken out; its cell was freed where nobody has a place there now
+-- the newest place of an owner was taken out; its cell was freed where
+-- nobody has a place there now
 pub record IsDropped (old new : Held) (owner : ℕ) (freed : Option Cell) : Type 0 where
   pub cell : Cell
   pub there : IsSome (marks_at old.cells cell owner)

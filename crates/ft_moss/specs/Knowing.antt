@@ -1,4 +1,5 @@
--- Which cells a lock table knows, so that a sweep finds them: those that are locked, and those that were let go and that no sweep has taken since.
+-- Which cells a lock table knows, so that a sweep finds them: those that are locked, and those
+-- that were let go and that no sweep has taken since.
 use Rattle.std.specs.Prelude.{◌≡◌, ◌≢◌, ◌||◌, ℕ, Bool, true, List}
 use Rattle.ft_cells.specs.declared.cell.Cell.{Cell}
 use Rattle.ft_posix.specs.declared.call.Access.{Access}
@@ -9,7 +10,8 @@ use Rattle.ft_moss.specs.Locks.{LockTable, has_lock, is_locked, is_let_go, is_ac
 abbrev pub is_known : LockTable → Cell → Bool
 is_known t c = is_locked t c || is_let_go t c
 
--- No cell that is known is forgotten at a grant, where a parent inherits, or at a release; and what a granted call accesses is known.
+-- No cell that is known is forgotten at a grant, where a parent inherits, or at a release; and
+-- what a granted call accesses is known.
 pub record KnownLaw : Type 0 where
   pub granted : (old new : LockTable) (txn : ℕ) (accesses : List Access) → AreGranted old new txn accesses → (c : Cell) → (is_known old c || is_accessed accesses c) ≡ true → is_known new c ≡ true
   pub inherited : (old new : LockTable) (child parent : ℕ) → child ≢ parent → AreInherited old new child parent → (c : Cell) → is_known old c ≡ true → is_known new c ≡ true

@@ -1,4 +1,5 @@
--- How the lock table follows the history of the calls. (Moss, Nested Transactions, MIT 1981, the locking rules.)
+-- How the lock table follows the history of the calls on a tree. What the history says of locks
+-- are the words of ft_history. (Moss, Nested Transactions, MIT 1981, the locking rules.)
 use Rattle.std.specs.Prelude.{◌≡◌, ℕ, Bool, true, false, cond, not, ◌==◌, ◌&&◌, ◌||◌, Option, Some, None, List, [], ◌∷◌, map}
 use Rattle.ft_laws.specs.Lists.{any}
 use Rattle.ft_laws.specs.Calls.{Done}
@@ -25,15 +26,17 @@ use Rattle.ft_moss.specs.Surveys.{HasItsCellsAlone, HasNoHolderAbove}
 abbrev pub History : Type 0
 History = List (Event posix_calls)
 
+-- an access that writes, or does not, is in this mode
 abbrev pub is_mode : Mode → Bool → Bool
 is_mode ReadMode writes = not writes
 is_mode WriteMode writes = writes
 
--- some access is of the line's cell in its mode
+-- some access is of the line's cell in its mode: the test by which ft_history tells this lock
 abbrev pub is_of : LockLine → List (PlaceAccess Cell) → Bool
 is_of l accesses = any (λ a. same_cell a.place l.cell && is_mode l.mode a.writes) accesses
 
--- The line is a lock of the history: its owner holds it or retains it, as its kind says (Moss, to hold and to retain a lock).
+-- The line is a lock of the history: its owner holds it or retains it, as its kind says (Moss,
+-- to hold and to retain a lock).
 abbrev pub is_lock : History → LockLine → Bool
 is_lock h l = cond (is_held l.kind) (holds_lock posix_calls h l.owner (is_of l)) (retains_lock posix_calls h l.owner (is_of l))
 
@@ -41,7 +44,8 @@ is_lock h l = cond (is_held l.kind) (holds_lock posix_calls h l.owner (is_of l))
 abbrev pub AreLocksOf : History → LockTable → Type 0
 AreLocksOf h t = (l : LockLine) → has_lock t l ≡ is_lock h l
 
--- Of the owners that pass the test all locks are dropped, and the others have theirs.
+-- Of the owners that pass the test all locks are dropped, and the
+-- others have theirs (Moss, abort).
 abbrev pub AreDropped : LockTable → LockTable → (ℕ → Bool) → Type 0
 AreDropped old new gone = (l : LockLine) → has_lock new l ≡ (not (gone l.owner) && has_lock old l)
 
@@ -70,7 +74,8 @@ GrantLaw = OfLocks (λ base h t. (c : Done posix_calls) (accesses : List Access)
 abbrev pub UndoLaw : Type 0
 UndoLaw = OfLocks (λ base h t. (k : ℕ) → Legal posix_calls base (Undo k ∷ h) → AreLocksOf (Undo k ∷ h) t)
 
--- At the commit of a subtransaction its parent inherits, and at that of a top-level transaction its locks are released.
+-- At the commit of a subtransaction its parent inherits, and at that of a top-level
+-- transaction its locks are released.
 pub record CommitLaw : Type 0 where
   pub under : OfLocks (λ base h t. (txn up : ℕ) (new : LockTable) → Legal posix_calls base (Commit txn ∷ h) → parent posix_calls h txn ≡ Some up → AreInherited t new txn up → AreLocksOf (Commit txn ∷ h) new)
   pub top : OfLocks (λ base h t. (txn : ℕ) (new : LockTable) → Legal posix_calls base (Commit txn ∷ h) → parent posix_calls h txn ≡ None → AreReleased t new txn → AreLocksOf (Commit txn ∷ h) new)
@@ -84,7 +89,8 @@ AbortLaw = OfLocks (λ base h t. (txn : ℕ) (gone : ℕ → Bool) (new : LockTa
 abbrev pub ReleaseLaw : Type 0
 ReleaseLaw = (old mid new : LockTable) (gone : ℕ → Bool) (txn : ℕ) → AreDropped old mid gone → AreReleased mid new txn → AreDropped old new (λ y. (y == txn) || gone y)
 
--- who is in the way of a call of t by a rule, in rising order
+-- who is in the way of a call of t by a rule, in rising order: by Moss's own, or by that of this
+-- project, to which an ancestor that holds a lock is one that retains it
 abbrev pub blockers_by : Rule → History → ℕ → List (PlaceAccess Cell) → List ℕ
 blockers_by Profile h t accesses = blockers_of posix_calls h t accesses
 blockers_by Moss h t accesses = moss_blockers_of posix_calls h t accesses
@@ -94,7 +100,8 @@ abbrev pub BlockLaw : Type 0
 BlockLaw = OfLocks (λ base h t. Legal posix_calls base h → (forest : Transactions) → ((x : ℕ) → parent_in forest x ≡ parent posix_calls h x) → (rule : Rule) (txn : ℕ) (accesses : List Access) (ys : List ℕ)
     → AreBlockers rule t forest txn accesses ys → ys ≡ blockers_by rule h txn (map as_place accesses))
 
--- Neither rule grants a call where somebody owns a conflicting lock who is neither its asker nor an ancestor of it.
+-- Neither rule grants a call where somebody owns a conflicting lock who is neither its
+-- asker nor an ancestor of it.
 abbrev pub ForeignLaw : Type 0
 ForeignLaw = (base : Base posix_calls) → posix_calls.IsSound base.store → (h : History) → Legal posix_calls base h → (rule : Rule) (txn : ℕ) (accesses : List (PlaceAccess Cell)) → blockers_by rule h txn accesses ≡ [] → blockers_of posix_calls h txn accesses ≡ []
 
@@ -106,7 +113,8 @@ AloneLaw = OfLocks (λ base h t. Legal posix_calls base h → (forest : Transact
 abbrev pub HasParentsOf : History → Transactions → Type 0
 HasParentsOf h forest = (x : ℕ) → parent_in forest x ≡ parent posix_calls h x
 
--- Where all calls are granted by Moss's rule, no strict ancestor of an owner ever holds a lock that conflicts with one of the owner's.
+-- Where all calls are granted by Moss's rule, no strict ancestor of an owner ever holds a lock
+-- that conflicts with one of the owner's.
 pub record HolderLaw : Type 0 where
   pub first : (forest : Transactions) → HasNoHolderAbove no_locks forest
   pub begun : OfLocks (λ base h t. (n : ℕ) (up : Option ℕ) → Legal posix_calls base (Begin n up ∷ h) → (old new : Transactions) → HasParentsOf h old → HasParentsOf (Begin n up ∷ h) new → HasNoHolderAbove t old → HasNoHolderAbove t new)
@@ -116,7 +124,8 @@ pub record HolderLaw : Type 0 where
   -- where no lock is new, and the parents are the same
   pub fewer : (old new : LockTable) → ((l : LockLine) → has_lock new l ≡ true → has_lock old l ≡ true) → (forest now : Transactions) → ((x : ℕ) → parent_in now x ≡ parent_in forest x) → HasNoHolderAbove old forest → HasNoHolderAbove new now
 
--- A file's cell on which the table has no lock is touched by none of the history.
+-- A file's cell on which the table has no lock is touched by no lock of the
+-- history, so it may be swept.
 abbrev pub CoverLaw : Type 0
 CoverLaw = OfLocks (λ base h t. (c : Cell) (file : ℕ) → file_of c ≡ Some file → is_locked t c ≡ false → (y : ℕ) → owns_lock posix_calls h y (λ accesses. posix_calls.touches accesses c) ≡ false)
 

@@ -9,6 +9,7 @@ use Rattle.ft_moss.specs.declared.holders.Holding.{Holding}
 use Rattle.ft_moss.specs.Marks.{has_mark}
 use Rattle.ft_moss.specs.Locks.{line_cmp}
 
+-- the two locks are one
 abbrev pub same_line : LockLine → LockLine → Bool
 same_line = eq_by_cmp line_cmp
 

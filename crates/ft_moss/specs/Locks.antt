@@ -1,4 +1,5 @@
--- The locks of transactions, as callers see them, and what each call does to them. (Moss, Nested Transactions, MIT 1981, the locking rules.)
+-- The locks of transactions, as callers see them, and what each call does to them. (Moss, Nested
+-- Transactions, MIT 1981, the locking rules.)
 use Rattle.std.specs.Prelude.{◌≡◌, ◌↔◌, ◌<◌, ℕ, Bool, true, false, not, ◌==◌, ◌&&◌, ◌||◌, List, refl}
 use Rattle.std.specs.List.{list_any}
 use Rattle.std.specs.declared.cmp.Ordering.{Ordering}
@@ -24,33 +25,40 @@ use Rattle.ft_moss.specs.Ranks.{mode_rank, kind_rank}
 use Rattle.ft_cells.specs.contracts.cell.Cell as cell
 use Rattle.std.specs.Coded.{Coded, code_by, coded×, coded_ℕ}
 
--- by cell, then by owner, Read before Write, and Held before Retained
+-- the order of locks: by cell, then by owner, Read before Write, and Held before Retained
 abbrev pub line_cmp : LockLine → LockLine → Ordering
 line_cmp x y = ordering_then (cell_cmp x.cell y.cell) (ordering_then (nat_cmp x.owner y.owner) (ordering_then (nat_cmp (mode_rank x.mode) (mode_rank y.mode)) (nat_cmp (kind_rank x.kind) (kind_rank y.kind))))
 
+-- the order is total
 pub line_cmp_total : IsTotalOrder line_cmp
 line_cmp_total = then_total (on_total (λ (l : LockLine). l.cell) cell_cmp_total) (then_total (on_total (λ (l : LockLine). l.owner) nat_cmp_total) (then_total (on_total (λ (l : LockLine). mode_rank l.mode) nat_cmp_total) (on_total (λ (l : LockLine). kind_rank l.kind) nat_cmp_total)))
 
--- the locks; the cells whose last lock went and that nobody has locked since; and the transactions that may be given locks
+-- the locks; the cells whose last lock went and that nobody has locked since; and the
+-- transactions that may be given locks
 pub record LockTable : Type 0 where
   pub lines : set.FinSet line_cmp
   pub let_go : set.FinSet cell_cmp
   pub opened : set.FinSet nat_cmp
 
+-- a code of lock tables, which a model needs
 abbrev pub coded_table : Coded LockTable
 coded_table =
     code_by (set.FinSet line_cmp × (set.FinSet cell_cmp × set.FinSet nat_cmp)) (coded× (set.code line.the_row.coded) (coded× (set.code cell.the_row.coded) (set.code coded_ℕ)))
     (λ t. (t.lines, (t.let_go, t.opened))) (λ p. record { lines = p.0; let_go = p.1.0; opened = p.1.1 }) (λ _. refl)
 
+-- no lock, nothing let go, and no transaction open
 abbrev pub no_locks : LockTable
 no_locks = record { lines = set.empty; let_go = set.empty; opened = set.empty }
 
+-- the lock is there
 abbrev pub has_lock : LockTable → LockLine → Bool
 has_lock t line = set.contains t.lines line
 
+-- the cell's last lock went; it has not been told since, and nobody has locked it since
 abbrev pub is_let_go : LockTable → Cell → Bool
 is_let_go t cell = set.contains t.let_go cell
 
+-- the transaction may be given locks: from its begin until its own commit or abort
 abbrev pub is_opened : LockTable → ℕ → Bool
 is_opened t txn = set.contains t.opened txn
 
@@ -58,10 +66,12 @@ is_opened t txn = set.contains t.opened txn
 abbrev pub is_locked : LockTable → Cell → Bool
 is_locked t cell = list_any (λ l. same_cell l.cell cell) (set.items t.lines)
 
+-- the lock is held, not retained
 abbrev pub is_held : LockKind → Bool
 is_held Held = true
 is_held Retained = false
 
+-- the two modes are one
 abbrev pub same_mode : Mode → Mode → Bool
 same_mode ReadMode m = not (is_write m)
 same_mode WriteMode m = is_write m
@@ -74,6 +84,7 @@ owns_lock t owner cell mode = has_lock t (record { cell = cell; owner = owner; m
 abbrev pub has_access : List Access → Cell → Mode → Bool
 has_access accesses cell mode = list_any (λ a. same_cell a.cell cell && same_mode a.mode mode) accesses
 
+-- an access of the list is to this cell
 abbrev pub is_accessed : List Access → Cell → Bool
 is_accessed accesses cell = list_any (λ a. same_cell a.cell cell) accesses
 
@@ -81,34 +92,41 @@ is_accessed accesses cell = list_any (λ a. same_cell a.cell cell) accesses
 abbrev pub is_given : ℕ → List Access → LockLine → Bool
 is_given owner accesses l = is_held l.kind && (l.owner == owner) && has_access accesses l.cell l.mode
 
--- A transaction that is granted a call holds the locks of its accesses.
+-- The transaction holds the locks of the accesses besides all that there was, and a cell that it
+-- locks is no more let go (Moss, holding a lock).
 pub record AreGranted (old new : LockTable) (txn : ℕ) (accesses : List Access) : Type 0 where
   pub lines : (l : LockLine) → has_lock new l ≡ (has_lock old l || is_given txn accesses l)
   pub let_go : (c : Cell) → is_let_go new c ≡ (is_let_go old c && not (is_accessed accesses c))
   pub opened : new.opened ≡ old.opened
 
--- The parent retains in the same mode what the child held or retained, and keeps its own (Moss, commit of a subtransaction).
+-- The parent retains in the same mode what the child held or retained, and keeps its own; the
+-- child has none and is closed (Moss, commit of a subtransaction).
 pub record AreInherited (old new : LockTable) (child parent : ℕ) : Type 0 where
   pub lines : (l : LockLine) → has_lock new l ≡ (not (l.owner == child) && (has_lock old l || ((l.owner == parent) && not (is_held l.kind) && owns_lock old child l.cell l.mode)))
   pub let_go : new.let_go ≡ old.let_go
   pub opened : new.opened ≡ set.remove old.opened child
 
--- The transaction's locks are dropped (Moss, commit of a top-level transaction, and abort); a cell that was locked and is no more is let go.
+-- The transaction has no lock and is closed, and the others have theirs (Moss, commit of a
+-- top-level transaction, and abort); a cell that was locked and is no more is let go.
 pub record AreReleased (old new : LockTable) (txn : ℕ) : Type 0 where
   pub lines : (l : LockLine) → has_lock new l ≡ (not (l.owner == txn) && has_lock old l)
   pub let_go : (c : Cell) → is_let_go new c ≡ (is_let_go old c || (is_locked old c && not (is_locked new c)))
   pub opened : new.opened ≡ set.remove old.opened txn
 
--- the lock's access
+-- the access that the lock is of
 abbrev pub line_access : LockLine → Access
 line_access l = record { cell = l.cell; mode = l.mode }
 
--- A lock counts against a call of txn where its owner is neither txn nor an ancestor of txn (Moss: all who retain a conflicting lock must be superiors);
--- and, by Moss's rule, where an ancestor holds it (Moss: no other transaction may hold a conflicting lock). By the other rule, of this project, an ancestor that holds is treated as one that retains.
+-- A lock counts against a call of txn where its owner is neither txn nor an ancestor of txn (Moss:
+-- all who retain a conflicting lock must be superiors);
+-- and, by Moss's rule, where an ancestor holds it (Moss: no other transaction may hold a
+-- conflicting lock). By the other rule, of this project, an ancestor that holds is
+-- treated as one that retains.
 abbrev pub counts : Rule → Transactions → ℕ → LockLine → Bool
 counts rule forest txn l = not (over_in forest l.owner txn) || (is_strict rule && is_held l.kind && not (l.owner == txn))
 
--- y owns a lock that counts against a call of txn with these accesses and conflicts with one of them
+-- y owns a lock that counts against a call of txn with these accesses
+-- and conflicts with one of them
 pub record IsInTheWay (rule : Rule) (t : LockTable) (forest : Transactions) (txn : ℕ) (accesses : List Access) (y : ℕ) : Type 0 where
   pub line : LockLine
   pub there : has_lock t line ≡ true

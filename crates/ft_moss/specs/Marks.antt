@@ -1,4 +1,5 @@
--- What one owner has on one cell: four locks that may be there. (Moss 1981, holding and retaining.)
+-- What one owner has on one cell: four locks that may be there. (Moss
+-- 1981, holding and retaining.)
 use Rattle.std.specs.Prelude.{Bool, true, false, ◌||◌, Option, Some, None}
 use Rattle.ft_posix.specs.declared.call.Mode.{Mode}
 use Rattle.ft_posix.specs.declared.call.Mode.TheVariants.{Read as ReadMode, Write as WriteMode}
@@ -6,6 +7,7 @@ use Rattle.ft_moss.specs.declared.line.LockKind.{LockKind}
 use Rattle.ft_moss.specs.declared.line.LockKind.TheVariants.{Held, Retained}
 use Rattle.ft_moss.specs.declared.marks.Marks.{Marks}
 
+-- no lock
 abbrev pub no_marks : Marks
 no_marks = record { read_held = false; read_retained = false; write_held = false; write_retained = false }
 
@@ -18,6 +20,7 @@ held_in WriteMode = record no_marks { write_held = true }
 abbrev pub held_of : Marks → Marks
 held_of m = record no_marks { read_held = m.read_held; write_held = m.write_held }
 
+-- these locks and those
 abbrev pub with_marks : Marks → Marks → Marks
 with_marks m n = record {
   read_held = m.read_held || n.read_held;
@@ -26,19 +29,23 @@ with_marks m n = record {
   write_retained = m.write_retained || n.write_retained;
 }
 
--- what a parent gets: it retains in the same mode what the child held or retained (Moss 1981, commit of a transaction)
+-- what a parent gets: it retains in the same mode what the child held or retained (Moss
+-- 1981, commit of a transaction)
 abbrev pub passed_on : Marks → Marks
 passed_on m = record no_marks { read_retained = m.read_held || m.read_retained; write_retained = m.write_held || m.write_retained }
 
+-- the lock of this mode and kind is there
 abbrev pub has_mark : Marks → Mode → LockKind → Bool
 has_mark m ReadMode Held = m.read_held
 has_mark m ReadMode Retained = m.read_retained
 has_mark m WriteMode Held = m.write_held
 has_mark m WriteMode Retained = m.write_retained
 
+-- one of the four is there
 abbrev pub is_marked : Marks → Bool
 is_marked m = m.read_held || m.read_retained || m.write_held || m.write_retained
 
+-- the same of an owner that may have no place on the cell
 abbrev pub is_marked_of : Option Marks → Bool
 is_marked_of None = false
 is_marked_of (Some marks) = is_marked marks

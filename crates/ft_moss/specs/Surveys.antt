@@ -8,19 +8,24 @@ use Rattle.ft_moss.specs.Locks.{LockTable, has_lock, line_access, is_held, is_gi
 use Rattle.ft_moss.specs.Cells.{Cells}
 use Rattle.ft_moss.specs.Seen.{has_line}
 
--- each lock that conflicts with one of the transaction's is its own or an ancestor's
+-- each lock that conflicts with one of the transaction's is its own or an ancestor's,
+-- among the locks that a test tells
 abbrev pub KeepOthersOut : (LockLine → Bool) → Transactions → ℕ → Type 0
 KeepOthersOut has forest txn = (own other : LockLine) → has own ≡ true → own.owner ≡ txn → has other ≡ true → conflict (line_access other) (line_access own) ≡ true → over_in forest other.owner txn ≡ true
 
--- The transaction shares what it has locked with its ancestors alone (Moss: all who retain a conflicting lock must be superiors).
+-- The transaction shares what it has locked with its ancestors alone (Moss: all who retain a
+-- conflicting lock must be superiors).
 abbrev pub HasItsCellsAlone : LockTable → Transactions → ℕ → Type 0
 HasItsCellsAlone t forest txn = KeepOthersOut (has_lock t) forest txn
 
--- who holds a lock that conflicts with one of an owner's, and is the owner or an ancestor of it, is the owner
+-- who holds a lock that conflicts with one of an owner's, and is the owner or an ancestor of it,
+-- is the owner, among the locks that a test tells
 abbrev pub KeepHoldersOut : (LockLine → Bool) → Transactions → Type 0
 KeepHoldersOut has forest = (own other : LockLine) → has own ≡ true → has other ≡ true → is_held other.kind ≡ true → conflict (line_access other) (line_access own) ≡ true → over_in forest other.owner own.owner ≡ true → other.owner ≡ own.owner
 
--- No strict ancestor of an owner holds a lock that conflicts with one of the owner's. (Moss, Nested Transactions, MIT 1981, the locking rules: no other transaction may hold a conflicting lock, and all who retain one must be superiors.)
+-- No strict ancestor of an owner holds a lock that conflicts with one of the owner's. (Moss,
+-- Nested Transactions, MIT 1981, the locking rules: no other transaction may hold a conflicting
+-- lock, and all who retain one must be superiors.)
 abbrev pub HasNoHolderAbove : LockTable → Transactions → Type 0
 HasNoHolderAbove t forest = KeepHoldersOut (has_lock t) forest
 

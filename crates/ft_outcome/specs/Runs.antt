@@ -13,11 +13,13 @@ use Rattle.ft_outcome.specs.declared.running.RunFault.{RunFault}
 use Rattle.ft_outcome.specs.declared.running.RunFault.TheVariants as faults
 use Rattle.ft_outcome.specs.Texts.{outcome_text}
 
--- the text of what came of jobs: their ends, the history of the core, and the tree of its standing calls
+-- the text of what came of jobs: of their reports, of the events of the core, and of the rows of
+-- the tree of its state
 abbrev pub text_of_outcome : List Job → JobsOutcome → List ℕ
 text_of_outcome jobs outcome = outcome_text jobs outcome.reports.items outcome.core.state.events (rows_of (tree_of outcome.core.state))
 
--- The text of what came of a plan: of jobs that have run, with reports of what happened.
+-- The bytes are the plan of some jobs, and the text is that of an outcome of them: they have run,
+-- and their reports are what happened.
 pub record IsTextOfPlan (bytes text : List ℕ) : Type 0 where
   pub jobs : List Job
   pub outcome : JobsOutcome
@@ -29,11 +31,12 @@ pub record IsTextOfPlan (bytes text : List ℕ) : Type 0 where
 abbrev pub IsNoPlan : List ℕ → Type 0
 IsNoPlan bytes = (jobs : List Job) → IsPlanOf bytes jobs → ⊥
 
--- A plan was run, and all of the text of what came of it was written.
+-- A plan was run, and such a text was written, whole and nothing else.
 abbrev pub RunsPlan : List ℕ → Option (List ℕ) → Option (List ℕ) → Type 0
 RunsPlan bytes before after = (text : List ℕ) × IsTextOfPlan bytes text × Appends before after text
 
--- What a fault left. Nothing was written, but at a failed write, where a part of the text was.
+-- What a fault left: nothing was written, at BadPlan where the bytes are no plan; a part of such
+-- a text at Write.
 abbrev pub StopsPlan : RunFault → List ℕ → Option (List ℕ) → Option (List ℕ) → Type 0
 StopsPlan (faults.Jobs BadPlan) bytes before after = IsNoPlan bytes × Keeps before after
 StopsPlan (faults.Jobs Memory) bytes before after = Keeps before after

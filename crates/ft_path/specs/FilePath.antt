@@ -1,5 +1,8 @@
--- The text of a path (POSIX.1-2017, Base Definitions, 3.271 Pathname): filenames separated by slashes, with slashes before and behind them as one likes. Several slashes in a row are as one.
--- What is wrong with a text is decided before anything is looked up (4.13 Pathname Resolution): a null pathname does not resolve, and there are the limits {PATH_MAX} and {NAME_MAX}.
+-- The text of a path (POSIX.1-2017, Base Definitions, 3.271 Pathname): filenames separated by
+-- slashes, with slashes before and behind them as one likes. Several slashes in a row are as one;
+-- that two leading ones are too is a rule of this project, where POSIX leaves them open.
+-- What is wrong with a text is decided before anything is looked up (4.13 Pathname Resolution): a
+-- null pathname does not resolve, and there are the limits {PATH_MAX} and {NAME_MAX} (limits.h).
 use Rattle.std.specs.Prelude.{◌≡◌, ℕ, Bool, if◌then◌else◌, ◌==◌, ◌&&◌, ◌-◌, slice_get, nat_lt, nat_eq, List, [], ◌∷◌, length, filter, Result, Ok, Err, IsOk, Option, None, Some}
 use Rattle.std.specs.Borrow.{Bor}
 use Rattle.std.specs.List.{list_any, slice_split, ends_with}
@@ -22,18 +25,23 @@ abbrev pub pieces_left : Option (Bor (List ℕ)) → List (List ℕ)
 pieces_left None = []
 pieces_left (Some text) = slice_split (λ byte. byte == slash) text.now
 
--- the components of a path, in order
+-- the components of a path, in order (3.272 Pathname Component): the pieces between slashes,
+-- empty ones left out
 abbrev pub components : List ℕ → List (List ℕ)
 components bytes = filter is_component (slice_split (λ byte. byte == slash) bytes)
 
+-- a component has more than 255 bytes ({NAME_MAX})
 abbrev pub is_long : List ℕ → Bool
 is_long component = nat_lt LONGEST_NAME (length component)
 
--- there is a component, and slashes stand behind the last one
+-- there is a component, and slashes stand behind the last one (4.13)
 abbrev pub has_trailing_slash : List ℕ → Bool
 has_trailing_slash bytes = nat_lt 0 (length (components bytes)) && ends_with nat_eq bytes (slash ∷ [])
 
--- the parts of a path, or what is wrong with its text: the first fault in this order
+-- the parts of a path, or what is wrong with its text, the first fault in this order: no bytes,
+-- ENOENT (4.13); more than 4,095 bytes, ENAMETOOLONG; a component of more than 255 bytes,
+-- ENAMETOOLONG (System Interfaces, 2.3; {PATH_MAX} is 4,096 with the null byte). The order is a
+-- rule of this project.
 abbrev pub parts_of : List ℕ → Result Parts Errno
 parts_of bytes =
     if length bytes == 0 then Err ENOENT
@@ -50,7 +58,8 @@ last_name (Some name) = if is_dot name then Dot else if is_dot_dot name then Dot
 abbrev pub last_of : List (List ℕ) → LastName
 last_of names = last_name (slice_get names (length names - 1))
 
--- an answer is the one that is wanted. Want of memory may stand in place of parts, and never of a fault of the text
+-- an answer is the one that is wanted. Want of memory may stand in place of parts, and never of a
+-- fault of the text (a rule of this project).
 abbrev pub IsAnswer : Result Parts Errno → Result Parts PartsFault → Type 0
 IsAnswer wanted (Ok parts) = wanted ≡ Ok parts
 IsAnswer wanted (Err (TextFault errno)) = wanted ≡ Err errno

@@ -2,15 +2,18 @@
 use Rattle.std.specs.Prelude.{◌<◌, ◌+◌, ◌*◌, ℕ, zero, suc, List, [], ◌∷◌}
 use Rattle.std.specs.List.{AllByRecursion}
 
--- `count` digits more to base 256 behind those of a number: bytes in turn, and zeros where there are no more
+-- `count` digits more to base 256 behind those of a number: bytes in turn, and zeros where there
+-- are no more
 abbrev pub with_digits : ℕ → ℕ → List ℕ → ℕ
 with_digits zero number bytes = number
 with_digits (suc count) number [] = with_digits count (number * 256) []
 with_digits (suc count) number (byte ∷ bytes) = with_digits count (number * 256 + byte) bytes
 
--- the first eight bytes as a number, the first of them the greatest digit
+-- the first eight bytes as a number, the first of them the greatest digit; zeros where there are
+-- no more
 abbrev pub front_of : List ℕ → ℕ
 front_of bytes = with_digits 8 0 bytes
 
+-- each is less than 256
 abbrev pub AreBytes : List ℕ → Type 0
 AreBytes bytes = AllByRecursion (λ byte. byte < 256) bytes

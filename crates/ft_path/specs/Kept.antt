@@ -1,15 +1,17 @@
--- The bytes of a name as they are kept.
+-- The bytes of a name as they are kept: in place with zeros behind them, or in a vector. Nothing
+-- that a caller has to know: a `Name` keeps it true of its fields.
 use Rattle.std.specs.Prelude.{◌≡◌, ◌≤◌, ℕ, List, take, drop}
 use Rattle.std.specs.List.{AllByRecursion}
 use Rattle.ft_path.specs.declared.TheConstants.{SHORT_NAME}
 use Rattle.ft_path.specs.declared.bytes.Bytes.{Bytes}
 use Rattle.ft_path.specs.declared.bytes.Bytes.TheVariants.{Short, Long}
 
--- the bytes
+-- the bytes of the name
 abbrev pub kept : Bytes → List ℕ
 kept (Short len place) = take len place
 kept (Long long) = long.value.items
 
+-- each of the bytes is zero
 abbrev pub AreZeros : List ℕ → Type 0
 AreZeros bytes = AllByRecursion (λ byte. byte ≡ 0) bytes
 

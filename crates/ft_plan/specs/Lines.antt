@@ -1,4 +1,4 @@
--- What a line of a plan says.
+-- What a line of a plan says. (The format of plans is this project's own: docs/SCRIPT.md, Plans.)
 use Rattle.std.specs.Prelude.{◌==◌, ◌||◌, ◌&&◌, ℕ, Bool, nat_le, List, [], ◌∷◌, length, codes, if◌then◌else◌, Option, None, Some, option_and_then, option_map}
 use Rattle.std.specs.Char.{is_ascii_digit, is_ascii_lowercase}
 use Rattle.std.specs.List.{list_all}
@@ -15,40 +15,45 @@ use Rattle.ft_plan.specs.declared.job.Step.TheVariants.{Call, CallOn, Subs, Comm
 use Rattle.ft_plan.specs.declared.line.PlanLine.{PlanLine}
 use Rattle.ft_plan.specs.declared.line.PlanLine.TheVariants as line
 
--- what comes of words that could not be read
+-- BadPlan for words that spell nothing, Memory where memory was wanting
 abbrev pub fault_from : Unread → JobFault
 fault_from Misspelt = faults.BadPlan
 fault_from NoMemory = faults.Memory
 
--- A name is 1 to 32 of the bytes a to z, 0 to 9, `_` and `-`.
+-- one of the bytes a to z, 0 to 9, `_` and `-`
 abbrev pub is_name_byte : ℕ → Bool
 is_name_byte b = is_ascii_lowercase b || is_ascii_digit b || (b == 95) || (b == 45)
 
+-- A name is 1 to 32 of these bytes.
 abbrev pub is_job_name : List ℕ → Bool
 is_job_name word = nat_le 1 (length word) && nat_le (length word) 32 && list_all is_name_byte word
 
+-- the word, where it is a name
 abbrev pub job_name_of : List ℕ → Option (List ℕ)
 job_name_of word = if is_job_name word then Some word else None
 
--- a job begins: its name, and that of the job which it stands under
+-- behind `job`: a name, and at most one more, that of the job which it stands under
 abbrev pub job_line : List (List ℕ) → Option PlanLine
 job_line [] = None
 job_line (name ∷ []) = option_map (λ n. line.Job n None) (job_name_of name)
 job_line (name ∷ parent ∷ []) = option_and_then (λ n. option_map (λ p. line.Job n (Some p)) (job_name_of parent)) (job_name_of name)
 job_line (name ∷ parent ∷ other ∷ words) = None
 
--- what stands alone on its line
+-- `subs`, `commit` and `abort`, which stand alone on their line
 abbrev pub lone_steps : List (List ℕ × Step)
 lone_steps = (codes "subs", Subs) ∷ (codes "commit", Commit) ∷ (codes "abort", Abort) ∷ []
 
+-- the step, where nothing stands behind its word
 abbrev pub alone : List (List ℕ) → Step → Option Step
 alone [] step = Some step
 alone (word ∷ words) step = None
 
--- A call in which `@` and the number of a step stand in place of the descriptor.
+-- A call in which `@` and the number of a step stand in place of the descriptor: it is read as
+-- the call on the descriptor of that number, and told apart as `CallOn`.
 abbrev pub on_opened : List ℕ → List (List ℕ) → Option Step
 on_opened name words = option_map CallOn (option_and_then (read_by descriptor_calls name) (stripped 64 words))
 
+-- a call, as `on_opened` or as it stands in a script
 abbrev pub call_step : List ℕ → List (List ℕ) → Option Step
 call_step name words = option_map_or Some (on_opened name words) (option_map Call (call_of name words))
 
@@ -56,7 +61,7 @@ call_step name words = option_map_or Some (on_opened name words) (option_map Cal
 abbrev pub step_of : List ℕ → List (List ℕ) → Option Step
 step_of word others = option_map_or (alone others) (look_up lone_steps word) (call_step word others)
 
--- What the words of a line say, if they say something.
+-- What the words of a line say, a job or a step; `None` where they say neither.
 abbrev pub line_of : List (List ℕ) → Option PlanLine
 line_of [] = None
 line_of (word ∷ others) = if bytes_eq word (codes "job") then job_line others else option_map line.Step (step_of word others)

@@ -1,4 +1,4 @@
--- The jobs of the lines so far.
+-- The jobs of the lines so far. No public clause cites them.
 use Rattle.std.specs.Prelude.{◌≡◌, List, [], ◌∷◌, ◌++◌, Option, None, Some, option_map, map}
 use Rattle.ft_plan.specs.declared.job.Job.{Job}
 use Rattle.ft_plan.specs.declared.line.PlanLine.{PlanLine}

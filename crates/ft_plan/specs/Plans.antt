@@ -1,4 +1,4 @@
--- What a plan is.
+-- What a plan is. (The format of plans is this project's own: docs/SCRIPT.md, Plans.)
 use Rattle.std.specs.Prelude.{◌≡◌, ◌==◌, ◌&&◌, not, ℕ, zero, suc, Bool, true, false, nat_le, List, [], ◌∷◌, ◌++◌, length, if◌then◌else◌, Option, None, Some, option_map, option_and_then, map}
 use Rattle.std.specs.List.{flat_map, list_all, list_any, slice_get, count_by}
 use Rattle.std.specs.Option.{option_map_or}
@@ -16,15 +16,16 @@ use Rattle.ft_plan.specs.Lines.{line_of}
 
 -- ---- how a plan is written
 
--- what the lines say, silent ones left out, if each of the others says something
+-- what the lines say, silent ones left out; `None` where one of the others says nothing
 abbrev pub said : List (List ℕ) → Option (List PlanLine)
 said [] = Some []
 said (bytes ∷ lines) = option_map_or (λ words. option_and_then (λ first. option_map (λ more. first ∷ more) (said lines)) (line_of words)) (words_of_line bytes) (said lines)
 
--- the lines of a job: the one that begins it, and its steps
+-- a job as it is written: the line that begins it, and its steps
 abbrev pub job_lines : Job → List PlanLine
 job_lines job = line.Job job.name job.parent ∷ map line.Step job.steps
 
+-- all jobs, one after another
 abbrev pub plan_lines : List Job → List PlanLine
 plan_lines jobs = flat_map job_lines jobs
 
@@ -39,16 +40,17 @@ abbrev pub all_behind : {A : Type 0} → (List A → A → Bool) → List A → 
 all_behind test before [] = true
 all_behind test before (x ∷ xs) = test before x && all_behind test (before ++ x ∷ []) xs
 
--- Behind these jobs: the name is new, and the parent is one of them.
+-- Behind these jobs: the name is new, and the parent, if it names one, is one of them.
 abbrev pub is_opened : List Job → Job → Bool
 is_opened before job = not (is_named before job.name) && option_map_or (is_named before) job.parent true
 
--- whether the job is a subjob of the one of this name
+-- whether the job names this one as its parent
 abbrev pub is_subjob_of : List ℕ → Job → Bool
 is_subjob_of name job = option_map_or (λ parent. bytes_eq parent name) job.parent false
 
 -- ---- the rules for the steps of a job
 
+-- a commit or an abort
 abbrev pub is_end : Step → Bool
 is_end steps.Commit = true
 is_end steps.Abort = true
@@ -62,6 +64,7 @@ ends_last [] = false
 ends_last (step ∷ []) = is_end step
 ends_last (step ∷ next ∷ others) = not (is_end step) && ends_last (next ∷ others)
 
+-- the step that starts the subjobs
 abbrev pub is_subs : Step → Bool
 is_subs steps.Subs = true
 is_subs (steps.Call call) = false
@@ -69,6 +72,7 @@ is_subs (steps.CallOn call) = false
 is_subs steps.Commit = false
 is_subs steps.Abort = false
 
+-- a step that is a call `open`
 abbrev pub is_open : Step → Bool
 is_open (steps.Call (calls.Open path access create excl trunc append)) = true
 is_open step = false
@@ -85,7 +89,7 @@ descriptor (calls.Ftruncate fd len) = fd
 descriptor (calls.Fstat fd) = fd
 descriptor call = 0
 
--- the step of this number. The first has the number 1
+-- the step of this number, counted from 1
 abbrev pub step_at : List Step → ℕ → Option Step
 step_at steps zero = None
 step_at steps (suc before) = slice_get steps before
@@ -95,7 +99,7 @@ abbrev pub is_on_opened : List Step → Step → Bool
 is_on_opened before (steps.CallOn call) = option_map_or is_open (step_at before (descriptor call)) false
 is_on_opened before step = true
 
--- Among these jobs: it starts its subjobs in one step where it has any, and else in none.
+-- Among these jobs: it starts its subjobs in just one step where it has any, and else in none.
 abbrev pub starts_subjobs : List Job → Job → Bool
 starts_subjobs jobs job = count_by is_subs job.steps == (if list_any (is_subjob_of job.name) jobs then 1 else 0)
 
@@ -105,10 +109,11 @@ is_job jobs job = ends_last job.steps && (all_behind is_on_opened [] job.steps &
 
 -- ---- the plan
 
+-- 1 to 64 jobs, each opened by those before it, and with the steps that it may have
 abbrev pub is_plan : List Job → Bool
 is_plan jobs = (nat_le 1 (length jobs) && nat_le (length jobs) 64) && (all_behind is_opened [] jobs && list_all (is_job jobs) jobs)
 
--- The bytes are those of the plan of these jobs.
+-- The bytes are at most 8,388,608, their lines say just these jobs, and the jobs are a plan.
 pub record IsPlanOf (bytes : List ℕ) (jobs : List Job) : Type 0 where
   pub size : nat_le (length bytes) LONGEST_PLAN ≡ true
   pub lines : said (lines_of bytes) ≡ Some (plan_lines jobs)

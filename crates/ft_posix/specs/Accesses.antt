@@ -1,4 +1,10 @@
--- The accesses of a call: the cells that it looks at and those that it writes.
+-- The accesses of a call: the cells that it looks at and those that it writes (Moss, Nested
+-- Transactions, MIT 1981, read and write locks; their order is a rule of this project).
+-- Every walk reads each entry that it looks at, found or not, the last one included, and for each
+-- `..` the parent of a directory other than the root. Every call on a descriptor reads its
+-- description, be it open or not. The fault of a text, and that of an argument of a call on a
+-- path, is answered with nothing read; a call that fails reads what it looked at up to the fault,
+-- and writes nothing.
 use Rattle.std.specs.Prelude.{ℕ, suc, Bool, true, false, T, ◌&&◌, ◌||◌, List, [], ◌∷◌, map}
 use Rattle.std.specs.List.{list_any}
 use Rattle.std.specs.FinMap as finite
@@ -15,18 +21,20 @@ use Rattle.ft_posix.specs.declared.call.Access.{Access}
 use Rattle.ft_posix.specs.Outcomes.{Write, Outcome}
 use Rattle.ft_posix.specs.Steps.{steps}
 
--- how each cell is accessed, in the order of cells
+-- how each cell is accessed, as a map in the order of cells
 abbrev pub Modes : Type 0
 Modes = finite.FinMap cell_cmp Mode
 
+-- each cell that is looked at is read
 abbrev pub with_looks : Modes → List Cell → Modes
 with_looks m [] = m
 with_looks m (c ∷ cs) = with_looks (finite.insert m c ReadMode) cs
 
+-- the cell that a write sets
 abbrev pub written_cell : Write → Cell
 written_cell w = w.cell
 
--- a cell that is looked at and written is written
+-- each cell that is written is written, looked at or not
 abbrev pub with_writes : Modes → List Write → Modes
 with_writes m [] = m
 with_writes m (w ∷ ws) = with_writes (finite.insert m (written_cell w) WriteMode) ws
@@ -62,13 +70,16 @@ is_noted c (a ∷ more) = by_order (cell_cmp c a.cell) false true (is_noted c mo
 abbrev pub accesses_of : Cells → ℕ → Call → List Access
 accesses_of cells stamp call = listed (with_accesses finite.empty (steps (stored_dirs cells) stamp call) (view_of cells))
 
+-- whether it writes
 abbrev pub is_write : Mode → Bool
 is_write ReadMode = false
 is_write WriteMode = true
 
--- Two accesses conflict where their cells overlap and one of them writes (Moss, Nested Transactions, MIT 1981, the locking rules).
+-- Two accesses conflict where their cells overlap and one of them writes (Moss, the locking
+-- rules).
 abbrev pub conflict : Access → Access → Bool
 conflict a b = overlap a.cell b.cell && (is_write a.mode || is_write b.mode)
 
+-- some access of one list conflicts with some of another
 abbrev pub some_conflict : List Access → List Access → Bool
 some_conflict xs ys = list_any (λ a. list_any (conflict a) ys) xs

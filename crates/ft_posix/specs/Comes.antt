@@ -1,4 +1,5 @@
--- What the stages of a call come to.
+-- What the stages of a call come to: an intent, where a walk ends, what an argument says, each
+-- with what was looked at noted. Where memory was wanting, nothing is said.
 use Rattle.std.specs.Prelude.{◌≡◌, List, map, Result, Ok, Err}
 use Rattle.ft_body.specs.Bytes.{bytes_at, fitting, written, resized}
 use Rattle.ft_path.specs.declared.errno.Errno.{Errno}
@@ -21,7 +22,7 @@ use Rattle.ft_cells.specs.declared.cell.Cell.TheVariants as cell
 use Rattle.ft_posix.specs.Outcomes.{Write, sets, Outcome, failed}
 use Rattle.ft_posix.specs.Looking.{Looking, noted}
 
--- the reply that is meant
+-- the reply that is meant: a list is read off the cells
 abbrev pub reply_of : Cells → Told → Reply
 reply_of cells Done = reply.Done
 reply_of cells (Number n) = reply.Number n
@@ -39,9 +40,11 @@ write_of cells (Overwrite i at bytes) = sets (cell.Bytes i) (written (bytes_of c
 write_of cells (Resize i size) = sets (cell.Bytes i) (resized (bytes_of cells i) size)
 write_of cells (Open f to) = sets (cell.Fd f) to
 
+-- the edited cells, with their new values
 abbrev pub writes_of : Cells → List Edit → List Write
 writes_of cells edits = map (write_of cells) edits
 
+-- the outcome that an intent means on these cells
 abbrev pub outcome_of : Cells → Intent → Outcome
 outcome_of cells x = record { reply = reply_of cells x.told; writes = writes_of cells x.edits }
 

@@ -1,4 +1,5 @@
--- What the calls on descriptors look at, and what they come to.
+-- What the calls on descriptors look at, and what they come to. The order of their errors is a
+-- rule of this project.
 use Rattle.std.specs.Prelude.{ℕ, Bool, true, cond, ◌+◌, ◌-◌, suc, nat_le, ℤ, pos, negsuc, length, List, [], ◌∷◌, Option, Some, None, Result, Ok, Err}
 use Rattle.ft_body.specs.declared.TheConstants.{SIZE_LIMIT}
 use Rattle.ft_body.specs.Bytes.{bytes_at, fitting, written}
@@ -15,85 +16,105 @@ use Rattle.ft_posix.specs.declared.call.Reply.TheVariants.{Done, Number, Bytes a
 use Rattle.ft_posix.specs.Outcomes.{sets, Outcome, failed, told}
 use Rattle.ft_posix.specs.Files.{to_size, cut_file, file_info}
 
--- Calls on a descriptor: one that is not open, or not for this, is bad.
+-- Calls on a descriptor: one that is not open, or not for this, is bad (EBADF).
 
+-- the call goes on where the descriptor is open and fits
 abbrev pub on_open : (OpenFile → Bool) → (OpenFile → Looks Outcome) → Option OpenFile → Looks Outcome
 on_open fits go None = Answer (failed EBADF)
 on_open fits go (Some description) = cond (fits description) (go description) (Answer (failed EBADF))
 
+-- a call on a descriptor looks at its description first
 abbrev pub with_open : ℕ → (OpenFile → Bool) → (OpenFile → Looks Outcome) → Looks Outcome
 with_open fd fits go = Look (Fd fd) (λ place. on_open fits go place)
 
+-- any that is open fits
 abbrev pub any_open : OpenFile → Bool
 any_open description = true
 
+-- one that is open for reading
 abbrev pub is_readable : OpenFile → Bool
 is_readable description = can_read description.access
 
+-- one that is open for writing
 abbrev pub is_writable : OpenFile → Bool
 is_writable description = can_write description.access
 
+-- a description with another offset
 abbrev pub at_offset : OpenFile → ℕ → OpenFile
 at_offset description offset = record { file = description.file; access = description.access; append = description.append; offset = offset }
 
--- close (POSIX.1-2017, System Interfaces, close); whether entries name the file is looked at
+-- close (POSIX.1-2017, System Interfaces, close): the descriptor goes. Whether entries name the
+-- file is looked at, a rule of this project.
 abbrev pub close_open : ℕ → OpenFile → Looks Outcome
 close_open fd description = Look (Links description.file) (λ _. Answer (record { reply = Done; writes = sets (Fd fd) None ∷ [] }))
 
--- read (POSIX.1-2017, System Interfaces, read): the offset moves by the count of bytes that are read
+-- read (POSIX.1-2017, System Interfaces, read): the offset moves by the count of bytes that are
+-- read
 abbrev pub has_read : ℕ → OpenFile → List ℕ → Outcome
 has_read fd description bytes = record { reply = BytesReply bytes; writes = sets (Fd fd) (Some (at_offset description (description.offset + length bytes))) ∷ [] }
 
+-- at most so many bytes from the offset on are read
 abbrev pub read_open : ℕ → ℕ → OpenFile → Looks Outcome
 read_open fd len description = Look (Bytes description.file) (λ bytes. Answer (has_read fd description (bytes_at bytes description.offset len)))
 
--- an offset or a length below zero is invalid
+-- an offset or a length below zero is EINVAL
 abbrev pub not_negative : ℤ → Result ℕ Errno
 not_negative (pos n) = Ok n
 not_negative (negsuc n) = Err EINVAL
 
--- pread (POSIX.1-2017, System Interfaces, read)
+-- pread (POSIX.1-2017, System Interfaces, pread): at most so many bytes at an offset of the call,
+-- and that of the description stays
 abbrev pub pread_at : ℕ → OpenFile → ℕ → Looks Outcome
 pread_at len description at = Look (Bytes description.file) (λ bytes. Answer (told (BytesReply (bytes_at bytes at len))))
 
+-- pread, once its offset is judged
 abbrev pub pread_open : ℤ → ℕ → OpenFile → Looks Outcome
 pread_open off len description = or_else failed (pread_at len description) (not_negative off)
 
 -- write (POSIX.1-2017, System Interfaces, write): with append the offset is first the size
 
+-- where a write begins: at the offset, or with append at the end
 abbrev pub write_place : OpenFile → Looks ℕ
 write_place description = cond description.append (Look (Bytes description.file) (λ bytes. Answer (length bytes))) (Answer description.offset)
 
--- the offset becomes the end of what was written
+-- the bytes that were taken are written, the offset becomes their end, and the answer is their
+-- count
 abbrev pub has_written : ℕ → OpenFile → ℕ → List ℕ → List ℕ → Outcome
 has_written fd description at taken bytes = record {
   reply = Number (length taken);
   writes = sets (Bytes description.file) (written bytes at taken) ∷ sets (Fd fd) (Some (at_offset description (at + length taken))) ∷ [];
 }
 
+-- write at a place: at or past the size limit it is EFBIG, and else as many bytes as have room
+-- are written; zeros fill a gap before them
 abbrev pub write_at : ℕ → OpenFile → List ℕ → ℕ → Looks Outcome
 write_at fd description bytes at = cond (nat_le SIZE_LIMIT at) (Answer (failed EFBIG)) (Look (Bytes description.file) (λ old. Answer (has_written fd description at (fitting bytes at) old)))
 
--- to write no bytes changes nothing
+-- to write no bytes changes nothing, and looks at the description alone, with append too
 abbrev pub write_open : ℕ → List ℕ → OpenFile → Looks Outcome
 write_open fd [] description = Answer (told (Number 0))
 write_open fd (first ∷ more) description = then (write_place description) (write_at fd description (first ∷ more))
 
--- pwrite (POSIX.1-2017, System Interfaces, write): the offset of the description stays, and append has no effect
+-- pwrite (POSIX.1-2017, System Interfaces, pwrite): the offset of the description stays, and
+-- append has no effect, as POSIX has it, where Linux appends
 
+-- the bytes that were taken are written, and the answer is their count
 abbrev pub has_pwritten : OpenFile → ℕ → List ℕ → List ℕ → Outcome
 has_pwritten description at taken bytes = record { reply = Number (length taken); writes = sets (Bytes description.file) (written bytes at taken) ∷ [] }
 
+-- pwrite at a place: to write no bytes changes nothing, and at or past the size limit it is EFBIG
 abbrev pub pwrite_at : OpenFile → List ℕ → ℕ → Looks Outcome
 pwrite_at description [] at = Answer (told (Number 0))
 pwrite_at description (first ∷ more) at =
     cond (nat_le SIZE_LIMIT at) (Answer (failed EFBIG)) (Look (Bytes description.file) (λ old. Answer (has_pwritten description at (fitting (first ∷ more) at) old)))
 
+-- pwrite, once its offset is judged
 abbrev pub pwrite_open : ℤ → List ℕ → OpenFile → Looks Outcome
 pwrite_open off bytes description = or_else failed (pwrite_at description bytes) (not_negative off)
 
 -- lseek (POSIX.1-2017, System Interfaces, lseek)
 
+-- from where an offset counts: the start, the offset of the description, or the end
 abbrev pub seek_from : Whence → OpenFile → Looks ℕ
 seek_from Set description = Answer 0
 seek_from Cur description = Answer description.offset
@@ -104,21 +125,27 @@ abbrev pub moved : ℕ → ℤ → Option ℕ
 moved from (pos n) = Some (from + n)
 moved from (negsuc n) = cond (nat_le (suc n) from) (Some (from - suc n)) None
 
+-- an offset that a description may have: below zero it is EINVAL, and above 2^63 - 1 EOVERFLOW
 abbrev pub offset_within : Option ℕ → Result ℕ Errno
 offset_within None = Err EINVAL
 offset_within (Some at) = cond (nat_le at LAST_OFFSET) (Ok at) (Err EOVERFLOW)
 
+-- the offset is set, and answered; below zero it is EINVAL, and above 2^63 - 1 EOVERFLOW
 abbrev pub sought : ℕ → OpenFile → Option ℕ → Outcome
 sought fd description None = failed EINVAL
 sought fd description (Some at) = cond (nat_le at LAST_OFFSET) (record { reply = Number at; writes = sets (Fd fd) (Some (at_offset description at)) ∷ [] }) (failed EOVERFLOW)
 
+-- lseek on an open descriptor
 abbrev pub seek_open : ℕ → Whence → ℤ → OpenFile → Looks Outcome
 seek_open fd whence off description = then (seek_from whence description) (λ from. Answer (sought fd description (moved from off)))
 
 -- ftruncate and fstat (POSIX.1-2017, System Interfaces, ftruncate, fstat)
 
+-- the file is cut to a length as by truncate. One that is not open for writing was EBADF, where
+-- POSIX allows EINVAL too.
 abbrev pub ftruncate_open : ℤ → OpenFile → Looks Outcome
 ftruncate_open len description = or_else failed (cut_file description.file) (to_size len)
 
+-- what stat tells of a file
 abbrev pub fstat_open : OpenFile → Looks Outcome
 fstat_open description = file_info description.file

@@ -1,4 +1,6 @@
--- What the calls on directories look at, and what they come to.
+-- What the calls on directories look at, and what they come to. The order of their errors is a
+-- rule of this project. XBD and XSH are the Base Definitions and the System Interfaces of
+-- POSIX.1-2017.
 use Rattle.std.specs.Prelude.{ℕ, List, [], ◌∷◌, Option, Some, None, Result, Ok, Err}
 use Rattle.ft_path.specs.FilePath.{last_of}
 use Rattle.ft_path.specs.declared.path.LastName.{LastName}
@@ -16,38 +18,48 @@ use Rattle.ft_tree.specs.Walk.{Spot, Named, Itself}
 use Rattle.ft_posix.specs.declared.call.Reply.TheVariants.{Done, Names as NamesReply}
 use Rattle.ft_posix.specs.Outcomes.{sets, Outcome, failed, told, from_parts, unless}
 
--- mkdir (POSIX.1-2017, System Interfaces, mkdir): the directory gets the call's stamp as its number
+-- mkdir where the walk ended (XSH mkdir): a missing name becomes the directory whose number is
+-- the call's stamp, and what is there, a directory itself included, is EEXIST. A slash behind a
+-- missing name is no fault (XBD 4.13); behind a file's name it was ENOTDIR in the walk.
 abbrev pub make_dir : ℕ → Spot → Looks Outcome
 make_dir stamp (Named entry None) = Answer (record { reply = Done; writes = sets (Parent stamp) (Some entry.dir) ∷ sets (Entry entry) (Some (DirNode stamp)) ∷ [] })
 make_dir stamp (Named entry (Some x)) = Answer (failed EEXIST)
 make_dir stamp (Itself dir) = Answer (failed EEXIST)
 
--- rmdir (POSIX.1-2017, System Interfaces, rmdir)
+-- rmdir of a directory with these names (XSH rmdir): where there is one it is ENOTEMPTY, for
+-- which POSIX allows EEXIST too, and else the directory goes with its entry
 abbrev pub if_empty : DirEntry → ℕ → List (List ℕ × Node) → Outcome
 if_empty entry number [] = record { reply = Done; writes = sets (Parent number) None ∷ sets (Entry entry) None ∷ [] }
 if_empty entry number (name ∷ names) = failed ENOTEMPTY
 
+-- rmdir where the walk ended: a missing name is ENOENT, and a file ENOTDIR. A directory itself is
+-- EBUSY, which no call reaches, since its last component was judged before.
 abbrev pub remove_dir : Spot → Looks Outcome
 remove_dir (Named entry None) = Answer (failed ENOENT)
 remove_dir (Named entry (Some (FileNode number))) = Answer (failed ENOTDIR)
 remove_dir (Named entry (Some (DirNode number))) = Look (Names number) (λ names. Answer (if_empty entry number names))
 remove_dir (Itself dir) = Answer (failed EBUSY)
 
--- what is wrong with the last component of the path of a directory to be removed, before any look-up: the root is busy, `.` is invalid, and `..` is not empty
+-- rmdir judges the last component before any look-up: none (the root) is EBUSY, `.` is EINVAL
+-- (XSH rmdir), and `..` is ENOTEMPTY. EBUSY and ENOTEMPTY are choices of this project.
 abbrev pub last_fault : LastName → Option Errno
 last_fault Absent = Some EBUSY
 last_fault Dot = Some EINVAL
 last_fault DotDot = Some ENOTEMPTY
 last_fault Plain = None
 
+-- rmdir from the parts of its path on: the fault of the text, the last component, the walk, and
+-- the removal
 abbrev pub remove_parts : Result Parts Errno → Looks Outcome
 remove_parts (Err e) = Answer (failed e)
 remove_parts (Ok parts) = unless (last_fault (last_of parts.names)) (from_parts (Ok parts) remove_dir)
 
--- list: all names of a directory at once, in order, for which POSIX has opendir and readdir
+-- list: all names of a directory at once with their kinds, in order, without `.` and `..`. It is
+-- no call of POSIX, which has opendir and readdir.
 abbrev pub list_names : ℕ → Looks Outcome
 list_names dir = Look (Names dir) (λ names. Answer (told (NamesReply (with_kinds names))))
 
+-- list where the walk ended: a missing name is ENOENT, and a file ENOTDIR (XSH opendir)
 abbrev pub list_dir : Spot → Looks Outcome
 list_dir (Named entry None) = Answer (failed ENOENT)
 list_dir (Named entry (Some (FileNode number))) = Answer (failed ENOTDIR)

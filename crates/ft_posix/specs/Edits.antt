@@ -55,15 +55,17 @@ CanEdit cells (Overwrite i at bytes) = HasFilePlace cells i × (at ≤ SIZE_LIMI
 CanEdit cells (Resize i size) = HasFilePlace cells i × (size ≤ SIZE_LIMIT)
 CanEdit cells (Open f to) = Unit {0}
 
+-- each of the edits can, once those before it are made
 abbrev pub CanEditAll : Cells → List Edit → Type 0
 CanEditAll cells [] = Unit {0}
 CanEditAll cells (e ∷ es) = CanEdit cells e × CanEditAll (put cells (write_of cells e)) es
 
--- the same of writes
+-- the same of writes: a cell is none of those that are written
 abbrev pub IsOtherThan : Cell → List Write → Type 0
 IsOtherThan c [] = Unit {0}
 IsOtherThan c (w ∷ ws) = (same_cell c (written_cell w) ≡ false) × IsOtherThan c ws
 
+-- the cells of the writes are all different
 abbrev pub AreApart : List Write → Type 0
 AreApart [] = Unit {0}
 AreApart (w ∷ ws) = IsOtherThan (written_cell w) ws × AreApart ws
@@ -72,15 +74,17 @@ AreApart (w ∷ ws) = IsOtherThan (written_cell w) ws × AreApart ws
 abbrev pub CanPut : Cells → Write → Type 0
 CanPut cells w = CanSet cells (written_cell w)
 
+-- each of the writes has, once those before it are made
 abbrev pub CanPutAll : Cells → List Write → Type 0
 CanPutAll cells [] = Unit {0}
 CanPutAll cells (w ∷ ws) = CanPut cells w × CanPutAll (put cells w) ws
 
--- the writes of a call on sound cells are to different cells, each of which has its place or can make it
+-- writes are to different cells, each of which has its place or can make it
 pub record CanBeMade (cells : Cells) (ws : List Write) : Type 0 where
   pub places : CanPutAll cells ws
   pub apart : AreApart ws
 
+-- so are those of a call on sound cells
 abbrev pub PlacesLaw : Type 0
 PlacesLaw = (cells : Cells) (stamp : ℕ) (call : Call) → AreSoundCells cells → CanBeMade cells (outcome cells stamp call).writes
 

@@ -1,4 +1,4 @@
--- The execution of a call on the plain tree.
+-- The execution of a call on the plain tree: what a call does for who sees the tree alone.
 use Rattle.std.specs.Prelude.{ℕ, Bool, cond, ◌==◌, ◌||◌, List, [], ◌∷◌, Option, Some, None}
 use Rattle.std.specs.List.{list_any}
 use Rattle.std.specs.Ordering.{nat_cmp}
@@ -23,16 +23,17 @@ abbrev pub set_edge : finite.FinMap entry_cmp ℕ → DirEntry → Option Node �
 set_edge edges e (Some x) = finite.insert edges e (number_of x)
 set_edge edges e None = finite.remove edges e
 
--- a directory is there where it has a parent, and the root always
+-- a directory comes or goes with its parent, and the root never goes
 abbrev pub set_dir : NumberSet → ℕ → Option ℕ → NumberSet
 set_dir dirs d (Some p) = finite.insert dirs d tt
 set_dir dirs d None = cond (d == 1) dirs (finite.remove dirs d)
 
+-- a description is set, or taken away
 abbrev pub set_open : finite.FinMap nat_cmp OpenFile → ℕ → Option OpenFile → finite.FinMap nat_cmp OpenFile
 set_open opens f (Some o) = finite.insert opens f o
 set_open opens f None = finite.remove opens f
 
--- links are not kept: they are the count of the edges
+-- a cell is set in a plain tree. Links are not kept: they are the count of the edges.
 abbrev pub set_plain : PlainTree → (c : Cell) → Holds c → PlainTree
 set_plain p (Entry entry) to = record p { edges = set_edge p.edges entry to }
 set_plain p (Names d) to = p
@@ -41,9 +42,11 @@ set_plain p (Links i) links = p
 set_plain p (Bytes i) bytes = record p { files = finite.insert p.files i bytes }
 set_plain p (Fd f) to = record p { opens = set_open p.opens f to }
 
+-- the cell of a write is set in it
 abbrev pub put_plain : PlainTree → Write → PlainTree
 put_plain p w = set_plain p w.cell w.value
 
+-- one write after another
 abbrev pub put_all_plain : PlainTree → List Write → PlainTree
 put_all_plain p [] = p
 put_all_plain p (w ∷ ws) = put_all_plain (put_plain p w) ws
@@ -56,6 +59,7 @@ is_named_in p i = list_any (λ e. e.1 == i) (finite.entries p.edges) || list_any
 abbrev pub without_dead_files : PlainTree → PlainTree
 without_dead_files p = record p { files = finite.retain_keys p.files (is_named_in p) }
 
--- the call with this stamp: the tree after it, and its reply
+-- the call with this stamp: the tree after it, without files that nothing names any more, and its
+-- reply
 abbrev pub exec : PlainTree → ℕ → Call → PlainTree × Reply
 exec p stamp call = let outcome = answer (steps (finite.len p.dirs) stamp call) (view_in p) in (without_dead_files (put_all_plain p outcome.writes), outcome.reply)

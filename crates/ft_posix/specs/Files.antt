@@ -1,4 +1,5 @@
--- What the calls on files look at, and what they come to.
+-- What the calls on files look at, and what they come to. The order of their errors is a rule of
+-- this project.
 use Rattle.std.specs.Prelude.{ℕ, Bool, cond, not, ◌&&◌, nat_le, ℤ, pos, negsuc, length, [], ◌∷◌, Some, None, Result, Ok, Err}
 use Rattle.ft_body.specs.declared.TheConstants.{SIZE_LIMIT}
 use Rattle.ft_body.specs.Bytes.{resized}
@@ -20,37 +21,44 @@ use Rattle.ft_posix.specs.Outcomes.{sets, Outcome, failed, told, from_parts}
 
 -- open (POSIX.1-2017, System Interfaces, open)
 
--- the new description, at the start of the file
+-- a new description: at offset 0, with the access and the append flag that were asked for
 abbrev pub description : OpenFlags → ℕ → OpenFile
 description flags file = record { file = file; access = flags.access; append = flags.append; offset = 0 }
 
--- the descriptor gets the call's stamp as its number, and so does a file that is made
+-- a missing file is made (O_CREAT), with one link and no bytes: its number is the call's stamp,
+-- and so is the descriptor's (a rule of this project)
 abbrev pub creates : ℕ → OpenFlags → DirEntry → Outcome
 creates stamp flags entry = record {
   reply = Number stamp;
   writes = sets (Links stamp) 1 ∷ sets (Bytes stamp) [] ∷ sets (Fd stamp) (Some (description flags stamp)) ∷ sets (Entry entry) (Some (FileNode stamp)) ∷ [];
 }
 
--- an existing file is cut to nothing, where that is asked
+-- a descriptor for an existing file, which is cut to nothing where that is asked (O_TRUNC)
 abbrev pub opens : ℕ → OpenFlags → ℕ → Outcome
 opens stamp flags file = record {
   reply = Number stamp;
   writes = sets (Fd stamp) (Some (description flags file)) ∷ cond flags.trunc (sets (Bytes file) [] ∷ []) [];
 }
 
+-- a directory is EISDIR, in every mode: for reading a choice of this project
 abbrev pub open_node : ℕ → OpenFlags → Node → Outcome
 open_node stamp flags (DirNode file) = failed EISDIR
 open_node stamp flags (FileNode file) = opens stamp flags file
 
--- what exists is not to exist
+-- with create and excl together an existing name is refused (O_EXCL). excl alone has no effect, a
+-- choice of this project, since POSIX leaves it undefined without O_CREAT
 abbrev pub is_exclusive : OpenFlags → Bool
 is_exclusive flags = flags.create && flags.excl
 
+-- open where the walk ended: a missing name without create, or with a slash behind it, is ENOENT,
+-- an existing one with create and excl EEXIST, and a directory EISDIR
 abbrev pub open_spot : ℕ → OpenFlags → Bool → Spot → Outcome
 open_spot stamp flags trailing (Named entry None) = cond (flags.create && not trailing) (creates stamp flags entry) (failed ENOENT)
 open_spot stamp flags trailing (Named entry (Some x)) = cond (is_exclusive flags) (failed EEXIST) (open_node stamp flags x)
 open_spot stamp flags trailing (Itself dir) = cond (is_exclusive flags) (failed EEXIST) (failed EISDIR)
 
+-- open from the parts of its path on: the fault of the text, trunc without writing EINVAL (a
+-- choice of this project, since POSIX leaves it undefined), and where the walk leads
 abbrev pub open_parts : ℕ → OpenFlags → Result Parts Errno → Looks Outcome
 open_parts stamp flags (Err e) = Answer (failed e)
 open_parts stamp flags (Ok parts) =
@@ -58,35 +66,43 @@ open_parts stamp flags (Ok parts) =
 
 -- truncate (POSIX.1-2017, System Interfaces, truncate)
 
--- a length that a file may have
+-- a length up to the size limit; above it EFBIG
 abbrev pub size_within : ℕ → Result ℕ Errno
 size_within n = cond (nat_le n SIZE_LIMIT) (Ok n) (Err EFBIG)
 
+-- a length that a file may have: below zero it is EINVAL, and above the limit EFBIG
 abbrev pub to_size : ℤ → Result ℕ Errno
 to_size (pos n) = size_within n
 to_size (negsuc n) = Err EINVAL
 
+-- the file is cut to a length, or zeros are added up to it
 abbrev pub cut_file : ℕ → ℕ → Looks Outcome
 cut_file file size = Look (Bytes file) (λ bytes. Answer (record { reply = Done; writes = sets (Bytes file) (resized bytes size) ∷ [] }))
 
+-- truncate where the walk ended: a missing name is ENOENT, and a directory EISDIR
 abbrev pub truncate_spot : ℕ → Spot → Looks Outcome
 truncate_spot size (Named entry None) = Answer (failed ENOENT)
 truncate_spot size (Named entry (Some (DirNode file))) = Answer (failed EISDIR)
 truncate_spot size (Named entry (Some (FileNode file))) = cut_file file size
 truncate_spot size (Itself dir) = Answer (failed EISDIR)
 
+-- truncate from the parts of its path on: the fault of the text, that of the length, and where
+-- the walk leads
 abbrev pub truncate_parts : ℤ → Result Parts Errno → Looks Outcome
 truncate_parts len (Err e) = Answer (failed e)
 truncate_parts len (Ok parts) = or_else failed (λ size. from_parts (Ok parts) (truncate_spot size)) (to_size len)
 
--- stat (POSIX.1-2017, System Interfaces, stat): a directory has one link and size 0
+-- stat (POSIX.1-2017, System Interfaces, stat)
 
+-- a directory: it has one link and size 0 (a choice of this project)
 abbrev pub dir_info : ℕ → Outcome
 dir_info file = told (Info DirKind file 1 0)
 
+-- a file, with its links and its size
 abbrev pub file_info : ℕ → Looks Outcome
 file_info file = Look (Links file) (λ links. Look (Bytes file) (λ bytes. Answer (told (Info FileKind file links (length bytes)))))
 
+-- stat where the walk ended: a missing name is ENOENT
 abbrev pub stat_spot : Spot → Looks Outcome
 stat_spot (Named entry None) = Answer (failed ENOENT)
 stat_spot (Named entry (Some (DirNode file))) = Answer (dir_info file)

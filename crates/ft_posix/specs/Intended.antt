@@ -5,7 +5,7 @@ use Rattle.ft_posix.specs.declared.intent.Told.{Told}
 use Rattle.ft_posix.specs.declared.intent.Intent.{Intent}
 use Rattle.ft_posix.specs.declared.intent.Stop.{Stop}
 
--- an answer with the edits that were made out, or a fault
+-- an answer with the edits that were made out beside it, as an intent; or the fault
 abbrev pub intended : List Edit → Result Told Stop → Result Intent Stop
 intended edits (Ok told) = Ok (record { told = told; edits = edits })
 intended edits (Err stop) = Err stop

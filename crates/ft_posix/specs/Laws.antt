@@ -1,4 +1,4 @@
--- Laws of the calls.
+-- Laws of the calls, each the contract of a function of `laws`.
 use Rattle.std.specs.Prelude.{◌≡◌, ◌≢◌, ℕ, Bool, false, ◌&&◌, List, [], ◌∷◌}
 use Rattle.std.specs.List.{list_any}
 use Rattle.ft_cells.specs.declared.cell.Cell.{Cell}
@@ -18,11 +18,12 @@ use Rattle.ft_posix.specs.Accesses.{is_write, accesses_of, some_conflict}
 abbrev pub SoundnessLaw : Type 0
 SoundnessLaw = (cells : Cells) (stamp : ℕ) (call : Call) → AreSoundCells cells → IsFree cells stamp → AreSoundCells (after cells stamp call)
 
--- and each other number that was free
+-- it leaves each other number free that was free
 abbrev pub FreshnessLaw : Type 0
 FreshnessLaw = (cells : Cells) (stamp : ℕ) (call : Call) → AreSoundCells cells → IsFree cells stamp → (other : ℕ) → IsFree cells other → other ≢ stamp → IsFree (after cells stamp call) other
 
--- a call on sound cells, whose stamp numbers nothing, does on the plain tree that they are what it does on them
+-- a call on sound cells, whose stamp numbers nothing, does on the plain tree that they are what
+-- it does on them: the same tree after it, and the same reply
 abbrev pub TidyingLaw : Type 0
 TidyingLaw = (cells : Cells) (stamp : ℕ) (call : Call) → AreSoundCells cells → IsFree cells stamp → exec (tidy cells) stamp call ≡ (tidy (after cells stamp call), (outcome cells stamp call).reply)
 
@@ -32,10 +33,12 @@ pub record MakesNoDifference (old new : Cells) : Type 0 where
   pub sound : AreSoundCells new
   pub free : (number : ℕ) → IsFree old number → IsFree new number
 
+-- so are cells with the values and the places of sound ones: only values count, and not which
+-- empty places there are
 abbrev pub ValuesLaw : Type 0
 ValuesLaw = (old new : Cells) → AreSoundCells old → KeepsValues old new → MakesNoDifference old new
 
--- sound cells are a sound plain tree
+-- sound cells are a sound plain tree (`IsSoundTree`)
 abbrev pub PlainSoundnessLaw : Type 0
 PlainSoundnessLaw = (cells : Cells) → AreSoundCells cells → IsSoundTree (tidy cells)
 
@@ -54,11 +57,13 @@ pub record ActsAlike (one other : Cells) (stamp : ℕ) (call : Call) : Type 0 wh
   pub reply : (outcome other stamp call).reply ≡ (outcome one stamp call).reply
   pub writes : (outcome other stamp call).writes ≡ (outcome one stamp call).writes
 
--- the frame law: on sound cells that show the same where a call accesses them, it does the same
+-- the frame law: on sound cells that show the same in each cell that a call accesses in one of
+-- them, it has the same accesses, the same reply and the same writes
 abbrev pub FrameLaw : Type 0
 FrameLaw = (one other : Cells) (stamp : ℕ) (call : Call) → AreSoundCells one → AreSoundCells other → IsFree one stamp → IsFree other stamp → AgreeOn one other (accesses_of one stamp call) → ActsAlike one other stamp call
 
--- nothing but the written cells changes
+-- nothing but the written cells changes: a cell that overlaps none of them shows what it showed
+-- before
 abbrev pub KeptLaw : Type 0
 KeptLaw = (cells : Cells) (stamp : ℕ) (call : Call) (cell : Cell) → is_written (accesses_of cells stamp call) cell ≡ false → view_of (after cells stamp call) cell ≡ view_of cells cell
 

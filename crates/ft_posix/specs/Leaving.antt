@@ -25,7 +25,8 @@ pub record IsOfOpenFile (cells : Cells) (c : Cell) : Type 0 where
   pub belongs : file_of c ≡ Some file
   pub opened : names_file (Fd descriptor) (held cells (Fd descriptor)) file ≡ true
 
--- What is of no use after writes was so before, or they write a cell of its place, or it is of a file that was open.
+-- What is of no use after writes was so before, or they write a cell of its place, or it is of a
+-- file that was open.
 abbrev pub LeavingLaw : Type 0
 LeavingLaw = (cells : Cells) (writes : List Write) (c : Cell) → is_useless (put_all cells writes) c ≡ true
     → (is_useless cells c ≡ true) ⊎ ((at_place (is_written posix writes) c ≡ true) ⊎ IsOfOpenFile cells c)
@@ -35,7 +36,8 @@ abbrev pub UselessLaw : Type 0
 UselessLaw = (cells : Cells) (call : Stamped) → AreSoundCells cells → IsFree cells call.stamp → (c : Cell) → is_useless (posix_calls.act cells call) c ≡ true
     → (is_useless cells c ≡ true) ⊎ (at_place (accesses_cell (does cells call).accesses) c ≡ true)
 
--- A call that leaves the name of the file that has its stamp for a number writes a cell of this file.
+-- A call that leaves the name of the file that has its stamp for a number writes a cell of this
+-- file.
 abbrev pub MakingLaw : Type 0
 MakingLaw = (cells : Cells) (call : Stamped) → HasSoundValues cells → IsFree cells call.stamp → (x : Cell) → names_file x (held (posix_calls.act cells call) x) call.stamp ≡ true
     → (c : Cell) × (file_of c ≡ Some call.stamp) × (writes_cell (does cells call).accesses c ≡ true)

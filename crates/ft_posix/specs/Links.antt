@@ -1,4 +1,5 @@
--- What link, unlink and rename look at, and what they come to.
+-- What link, unlink and rename look at, and what they come to. The order of their errors is a
+-- rule of this project.
 use Rattle.std.specs.Prelude.{ℕ, zero, suc, Bool, true, false, cond, ◌==◌, ◌||◌, ◌-◌, nat_lt, List, [], ◌∷◌, Option, Some, None, unwrap_or, Result, Ok, Err}
 use Rattle.ft_path.specs.FilePath.{last_of}
 use Rattle.ft_path.specs.declared.path.LastName.{LastName}
@@ -18,24 +19,31 @@ use Rattle.ft_posix.specs.Outcomes.{Write, sets, Outcome, failed, told, from_par
 
 -- link (POSIX.1-2017, System Interfaces, link)
 
--- a file has one more entry
+-- the file has the new entry, and one link more
 abbrev pub linked : ℕ → DirEntry → ℕ → Outcome
 linked file new links = record { reply = Done; writes = sets (Entry new) (Some (FileNode file)) ∷ sets (Links file) (suc links) ∷ [] }
 
+-- a file with 1,000 links has no room for another: EMLINK ({LINK_MAX})
 abbrev pub link_at : ℕ → DirEntry → ℕ → Outcome
 link_at file new links = cond (nat_lt links MOST_LINKS) (linked file new links) (failed EMLINK)
 
+-- where the walk of the new path ended: what is there is EEXIST, and a missing name with a slash
+-- behind it ENOENT. A file with a slash behind its name was ENOTDIR in the walk, where Linux
+-- answers EEXIST.
 abbrev pub link_new : ℕ → Bool → Spot → Looks Outcome
 link_new file trailing (Named new None) = cond trailing (Answer (failed ENOENT)) (Look (Links file) (λ links. Answer (link_at file new links)))
 link_new file trailing (Named new (Some x)) = Answer (failed EEXIST)
 link_new file trailing (Itself dir) = Answer (failed EEXIST)
 
+-- where the walk of the old path ended: a missing name is ENOENT, and a directory EPERM
 abbrev pub link_old : Parts → Spot → Looks Outcome
 link_old new (Named old None) = Answer (failed ENOENT)
 link_old new (Named old (Some (DirNode file))) = Answer (failed EPERM)
 link_old new (Named old (Some (FileNode file))) = from_parts (Ok new) (link_new file new.trailing)
 link_old new (Itself dir) = Answer (failed EPERM)
 
+-- link from the parts of its paths on: the fault of the text of old, that of new, the walk of
+-- old, and the walk of new
 abbrev pub link_parts : Result Parts Errno → Result Parts Errno → Looks Outcome
 link_parts (Err e) new = Answer (failed e)
 link_parts (Ok old) (Err e) = Answer (failed e)
@@ -43,10 +51,12 @@ link_parts (Ok old) (Ok new) = from_parts (Ok old) (link_old new)
 
 -- unlink (POSIX.1-2017, System Interfaces, unlink)
 
--- a file has one entry less
+-- the entry goes, and the file has one link less. It stays where it is stored: its links and its
+-- descriptions tell whether it is there.
 abbrev pub unlinked : DirEntry → ℕ → ℕ → Outcome
 unlinked entry file links = record { reply = Done; writes = sets (Links file) (links - 1) ∷ sets (Entry entry) None ∷ [] }
 
+-- unlink where the walk ended: a missing name is ENOENT, and a directory EPERM
 abbrev pub unlink_spot : Spot → Looks Outcome
 unlink_spot (Named entry None) = Answer (failed ENOENT)
 unlink_spot (Named entry (Some (DirNode file))) = Answer (failed EPERM)
@@ -55,28 +65,32 @@ unlink_spot (Itself dir) = Answer (failed EPERM)
 
 -- rename (POSIX.1-2017, System Interfaces, rename)
 
--- what is wrong with the last components, before any look-up: `.` and `..` are invalid, and the root is busy
+-- the last component is `.` or `..`
 abbrev pub is_dots : LastName → Bool
 is_dots Absent = false
 is_dots Dot = true
 is_dots DotDot = true
 is_dots Plain = false
 
+-- there is no last component: the path leads to the root
 abbrev pub is_absent : LastName → Bool
 is_absent Absent = true
 is_absent Dot = false
 is_absent DotDot = false
 is_absent Plain = false
 
+-- rename judges both last components before any look-up: `.` or `..` is EINVAL, and none (the
+-- root) is EBUSY, a choice of this project
 abbrev pub rename_fault : LastName → LastName → Option Errno
 rename_fault old new = cond (is_dots old || is_dots new) (Some EINVAL) (cond (is_absent old || is_absent new) (Some EBUSY) None)
 
--- up from a directory, from parent to parent: whether the moved one is met before the root, in so many steps at most
+-- up from a directory, from parent to parent, reading each: whether the moved one is met before
+-- the root, in so many steps at most
 abbrev pub climb : ℕ → ℕ → ℕ → Looks Bool
 climb zero moved dir = Answer (dir == moved)
 climb (suc most) moved dir = cond (dir == moved) (Answer true) (cond (dir == 1) (Answer false) (Look (Parent dir) (λ p. climb most moved (unwrap_or p 1))))
 
--- the moved directory does not go below itself, where another one is to hold it
+-- a directory that would come to stand below itself is EINVAL
 abbrev pub unless_below : ℕ → ℕ → ℕ → Looks Outcome → Looks Outcome
 unless_below most moved into go = then (climb most moved into) (λ met. cond met (Answer (failed EINVAL)) go)
 
@@ -84,41 +98,49 @@ unless_below most moved into go = then (climb most moved into) (λ met. cond met
 abbrev pub renamed : DirEntry → Node → DirEntry → List Write → Outcome
 renamed old node new more = record { reply = Done; writes = sets (Entry new) (Some node) ∷ sets (Entry old) None ∷ more }
 
--- a directory has another parent where another one holds it
+-- a directory has another parent where another one holds it now
 abbrev pub with_parent : ℕ → ℕ → ℕ → List Write
 with_parent moved dir into = cond (dir == into) [] (sets (Parent moved) (Some into) ∷ [])
 
--- what the new entry named before has one entry less, or is gone
+-- the file that the new name led to has one link less
 abbrev pub replace_file : DirEntry → ℕ → DirEntry → ℕ → Looks Outcome
 replace_file old moved new replaced = Look (Links replaced) (λ links. Answer (renamed old (FileNode moved) new (sets (Links replaced) (links - 1) ∷ [])))
 
+-- the directory that the new name led to is gone where it has none of these names; else it is
+-- ENOTEMPTY, for which POSIX allows EEXIST too
 abbrev pub if_bare : DirEntry → ℕ → DirEntry → ℕ → List (List ℕ × Node) → Outcome
 if_bare old moved new replaced [] = renamed old (DirNode moved) new (sets (Parent replaced) None ∷ with_parent moved old.dir new.dir)
 if_bare old moved new replaced (name ∷ names) = failed ENOTEMPTY
 
+-- the names of that directory are looked at
 abbrev pub replace_dir : DirEntry → ℕ → DirEntry → ℕ → Looks Outcome
 replace_dir old moved new replaced = Look (Names replaced) (λ names. Answer (if_bare old moved new replaced names))
 
--- a file, to where the new path leads; the root and dots were refused before
+-- a file, to where the new path leads: a missing name with a slash behind it is ENOTDIR, and a
+-- directory EISDIR; the same file is left as it is. The root and dots were refused before.
 abbrev pub rename_file : DirEntry → ℕ → Bool → Spot → Looks Outcome
 rename_file old moved trailing (Named new None) = Answer (cond trailing (failed ENOTDIR) (renamed old (FileNode moved) new []))
 rename_file old moved trailing (Named new (Some (FileNode replaced))) = cond (moved == replaced) (Answer (told Done)) (replace_file old moved new replaced)
 rename_file old moved trailing (Named new (Some (DirNode replaced))) = Answer (failed EISDIR)
 rename_file old moved trailing (Itself into) = Answer (failed EBUSY)
 
--- a directory
+-- a directory, to where the new path leads: a file is ENOTDIR; the same directory is left as it
+-- is
 abbrev pub rename_dir : ℕ → DirEntry → ℕ → Spot → Looks Outcome
 rename_dir most old moved (Named new None) = unless_below most moved new.dir (Answer (renamed old (DirNode moved) new (with_parent moved old.dir new.dir)))
 rename_dir most old moved (Named new (Some (FileNode replaced))) = Answer (failed ENOTDIR)
 rename_dir most old moved (Named new (Some (DirNode replaced))) = cond (moved == replaced) (Answer (told Done)) (unless_below most moved new.dir (replace_dir old moved new replaced))
 rename_dir most old moved (Itself into) = Answer (failed EBUSY)
 
+-- where the walk of the old path ended: a missing name is ENOENT
 abbrev pub rename_old : ℕ → Parts → Spot → Looks Outcome
 rename_old most new (Named old None) = Answer (failed ENOENT)
 rename_old most new (Named old (Some (FileNode moved))) = from_parts (Ok new) (rename_file old moved new.trailing)
 rename_old most new (Named old (Some (DirNode moved))) = from_parts (Ok new) (rename_dir most old moved)
 rename_old most new (Itself dir) = Answer (failed EBUSY)
 
+-- rename from the parts of its paths on: the fault of the text of old, that of new, the last
+-- components, the walk of old, and the walk of new
 abbrev pub rename_parts : ℕ → Result Parts Errno → Result Parts Errno → Looks Outcome
 rename_parts most (Err e) new = Answer (failed e)
 rename_parts most (Ok old) (Err e) = Answer (failed e)

@@ -18,6 +18,7 @@ pub record Looking : Type 0 where
   pub cells : Cells
   pub modes : Modes
 
+-- how that is coded. Nothing a reader has to know.
 abbrev pub coded_looking : Coded Looking
 coded_looking = code_by (Cells × Modes) (coded× coded_cells (finite.code cell.the_row.coded mode.the_row.coded)) (λ l. (l.cells, l.modes)) (λ p. record { cells = p.0; modes = p.1 }) (λ _. refl)
 
@@ -29,7 +30,8 @@ noted_at old c = record { cells = old.cells; modes = finite.insert old.modes c R
 abbrev pub noted : {A : Type 0} → Looking → Looks A → Looking
 noted old looks = record { cells = old.cells; modes = with_looks old.modes (looked_at looks (view_of old.cells)) }
 
--- the looks were made, and this was found out; or memory was wanting
+-- the looks were made: this is what they answer, and they are noted. Or memory was wanting, and
+-- the cells are the same.
 abbrev pub Finds : {A : Type 0} → Looking → Looks A → Looking → Result A Memory → Type 0
 Finds old looks new (Ok x) = (x ≡ answer looks (view_of old.cells)) × (new ≡ noted old looks)
 Finds old looks new (Err memory) = new.cells ≡ old.cells
@@ -38,6 +40,7 @@ Finds old looks new (Err memory) = new.cells ≡ old.cells
 abbrev pub look_at : (c : Cell) → Looks (Shows c)
 look_at c = Look c (λ x. Answer x)
 
+-- the list has nothing in it
 abbrev pub is_none_of : {A : Type 0} → List A → Bool
 is_none_of [] = true
 is_none_of (x ∷ xs) = false

@@ -1,4 +1,5 @@
 -- What a call comes to: a reply, and the cells that it writes with their new values.
+-- XBD and XSH are the Base Definitions and the System Interfaces of POSIX.1-2017.
 use Rattle.std.specs.Prelude.{List, [], Option, None, Some, Result, Ok, Err}
 use Rattle.ft_path.specs.declared.path.Parts.{Parts}
 use Rattle.ft_path.specs.declared.errno.Errno.{Errno}
@@ -10,25 +11,31 @@ use Rattle.ft_tree.specs.Walk.{Spot, walk}
 use Rattle.ft_posix.specs.declared.call.Reply.{Reply}
 use Rattle.ft_posix.specs.declared.call.Reply.TheVariants.{Failed}
 
--- a cell with its new value; names are never written
+-- one cell with its new value: an entry, a parent, the links or the bytes of a file, the
+-- description of a descriptor. The names of a directory are never written.
 abbrev pub Write : Type 0
 Write = CellWrite Cell Holds
 
+-- this cell, with this value
 abbrev pub sets : (c : Cell) → Holds c → Write
 sets c to = record { cell = c; value = to }
 
+-- a reply, and the writes in order
 pub record Outcome : Type 0 where
   pub reply : Reply
   pub writes : List Write
 
--- a call that fails writes nothing
+-- a call that fails writes nothing (XSH, Return Value of each call)
 abbrev pub failed : Errno → Outcome
 failed e = record { reply = Failed e; writes = [] }
 
+-- nor does one that only tells something
 abbrev pub told : Reply → Outcome
 told reply = record { reply = reply; writes = [] }
 
--- the call goes on where the path's components lead; a fault of its text is answered before anything is looked at
+-- a call on a path goes on where the path's components lead (XBD 4.13). The fault of its text is
+-- answered before anything is looked at, and a fault of the walk where it comes; the order is a
+-- rule of this project.
 abbrev pub from_parts : Result Parts Errno → (Spot → Looks Outcome) → Looks Outcome
 from_parts (Err e) go = Answer (failed e)
 from_parts (Ok parts) go = then (walk parts.names parts.trailing) (or_else failed go)

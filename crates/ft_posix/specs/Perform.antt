@@ -14,7 +14,7 @@ IsList (BytesReply bytes) = Unit {0}
 IsList (Info kind number links size) = ⊥
 IsList (Failed e) = ⊥
 
--- the reply only tells: names, what was found, or an error
+-- the reply only tells: names, what was found, or an error. It comes with no change.
 abbrev pub OnlyTells : Reply → Type 0
 OnlyTells Done = ⊥
 OnlyTells (NamesReply names) = Unit {0}
@@ -23,7 +23,8 @@ OnlyTells (BytesReply bytes) = ⊥
 OnlyTells (Info kind number links size) = Unit {0}
 OnlyTells (Failed e) = Unit {0}
 
--- a read moves its descriptor's offset; every other call that answers bytes or names changes nothing
+-- the call is a read, which alone moves its descriptor's offset and answers a list; every other
+-- call that answers bytes or names changes nothing
 abbrev pub is_read : Call → Bool
 is_read (Mkdir path) = false
 is_read (Rmdir path) = false

@@ -1,4 +1,7 @@
--- The calls on a tree, seen as calls in the abstract: what ft_laws asks of calls is shown of these.
+-- The calls on a tree, seen as calls in the abstract: what ft_laws asks of calls is shown of
+-- these.
+-- They meet it (`Lawful posix_calls`), so what ft_laws proves of runs holds of them, exchange and
+-- deletion first.
 use Rattle.std.specs.Prelude.{ℕ, Bool, false, ◌==◌, map, Option, Some, None}
 use Rattle.ft_laws.specs.Calls.{Calls}
 use Rattle.ft_laws.specs.Effects.{Access as PlaceAccess, Effect, Effects, calls_of}
@@ -17,7 +20,8 @@ use Rattle.ft_posix.specs.declared.call.Access.{Access}
 use Rattle.ft_posix.specs.Stored.{outcome}
 use Rattle.ft_posix.specs.Accesses.{is_write, accesses_of}
 
--- an access to the names of a directory is one to each of its entries
+-- an access to the names of a directory is one to each of its entries, and any other one to its
+-- cell (a rule of this project)
 abbrev pub covers : Cell → Cell → Bool
 covers (Names d) (Entry entry) = d == entry.dir
 covers x y = same_cell x y
@@ -27,16 +31,18 @@ pub record Stamped : Type 0 where
   pub stamp : ℕ
   pub call : Call
 
+-- an access, in the words of ft_laws
 abbrev pub as_place : Access → PlaceAccess Cell
 as_place a = record { place = a.cell; writes = is_write a.mode }
 
--- the values are those of sound cells
+-- the values are those of some sound cells, whatever the places: what ft_laws asks of a store is
+-- asked of values alone
 pub record HasSoundValues (cells : Cells) : Type 0 where
   pub with_places : Cells
   pub sound : AreSoundCells with_places
   pub same : SameValues with_places cells
 
--- the file to which a cell belongs
+-- the file to which a cell belongs: its links and its bytes do
 abbrev pub file_of : Cell → Option ℕ
 file_of (Entry entry) = None
 file_of (Names d) = None
@@ -45,16 +51,19 @@ file_of (Links i) = Some i
 file_of (Bytes i) = Some i
 file_of (Fd f) = None
 
+-- whether a node is this file
 abbrev pub node_names : Option Node → ℕ → Bool
 node_names None i = false
 node_names (Some (DirNode j)) i = false
 node_names (Some (FileNode j)) i = j == i
 
+-- whether a description has this file open
 abbrev pub description_names : Option OpenFile → ℕ → Bool
 description_names None i = false
 description_names (Some o) i = o.file == i
 
--- an entry names its file, and a description the file that it has open
+-- an entry names its file, and a description the file that it has open (POSIX.1-2017, Base
+-- Definitions, 3, Directory Entry, Open File Description)
 abbrev pub names_file : (c : Cell) → Holds c → ℕ → Bool
 names_file (Entry entry) to i = node_names to i
 names_file (Names d) to i = false
@@ -63,6 +72,7 @@ names_file (Links j) to i = false
 names_file (Bytes j) to i = false
 names_file (Fd f) to i = description_names to i
 
+-- what a call does, in the words of ft_laws: its accesses, its writes and its reply
 abbrev pub does : Cells → Stamped → Effect Cell Cell Holds Reply
 does cells a = let o = outcome cells a.stamp a.call in record {
   accesses = map as_place (accesses_of cells a.stamp a.call);
@@ -70,7 +80,8 @@ does cells a = let o = outcome cells a.stamp a.call in record {
   reply = o.reply;
 }
 
--- a file that a call makes has its stamp for a number
+-- the seventeen calls: cells, accesses, effects, soundness, freshness, files. A file that a call
+-- makes has its stamp for a number.
 abbrev pub posix : Effects
 posix = record {
   Store = Cells;
@@ -95,5 +106,6 @@ posix = record {
   own = λ a. a.stamp;
 }
 
+-- the calls that these effects make
 abbrev pub posix_calls : Calls
 posix_calls = calls_of posix

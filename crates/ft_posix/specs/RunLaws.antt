@@ -53,7 +53,8 @@ pub record RunsPlainly (cells : Cells) (calls : DoneCalls) : Type 0 where
   pub plain : tidy (run posix_calls cells calls) ≡ tree_after (tidy cells) calls
   pub replies : GiveReplies (tidy cells) calls
 
--- so is each from sound cells, in which the calls get their replies, and whose stamps are distinct and number nothing
+-- so is each from sound cells, in which the calls get the replies that they got, and whose stamps
+-- are distinct and number nothing
 abbrev pub RunLaw : Type 0
 RunLaw = (cells : Cells) (calls : DoneCalls) → AreSoundCells cells → Each (λ done. IsFree cells done.call.stamp) calls → Pairs (λ a b. a.call.stamp ≢ b.call.stamp) calls → Faithful posix_calls cells calls → RunsPlainly cells calls
 
@@ -70,10 +71,10 @@ PlacedLaw = (cells : Cells) → HasSoundValues cells → HasNamedPlaces cells �
 abbrev pub writes_cell : List (PlaceAccess Cell) → Cell → Bool
 writes_cell accesses c = any (λ a. same_cell a.place c && a.writes) accesses
 
--- each cell that a call writes is among its accesses
+-- each cell that a call writes is among its accesses, for writing
 abbrev pub WritesLaw : Type 0
 WritesLaw = (cells : Cells) (call : Stamped) → Each (λ w. writes_cell (does cells call).accesses w.cell ≡ true) (does cells call).writes
 
--- nothing names a file that is not there
+-- on sound cells, no entry and no description names a file that is not there
 abbrev pub NamelessLaw : Type 0
 NamelessLaw = (cells : Cells) → AreSoundCells cells → (i : ℕ) → has_file cells i ≡ false → (c : Cell) → names_file c (held cells c) i ≡ false

@@ -10,7 +10,10 @@ use Rattle.ft_posix.specs.Links.{link_parts, unlink_spot, rename_parts}
 use Rattle.ft_posix.specs.Files.{open_parts, truncate_parts, stat_spot}
 use Rattle.ft_posix.specs.Descriptors.{with_open, any_open, is_readable, is_writable, close_open, read_open, write_open, pread_open, pwrite_open, seek_open, ftruncate_open, fstat_open}
 
--- the call with this stamp, on a tree of so many directories: no way up to its root is longer
+-- the call with this stamp, on a tree of so many directories: no way up to its root is longer.
+-- Only the climb of a rename asks for their number, since a definition has to end; on a sound
+-- tree any that is no less gives the same. A stamp would be no bound: a call that is made again
+-- in another order meets trees with larger numbers.
 abbrev pub steps : ℕ → ℕ → Call → Looks Outcome
 steps most stamp (Mkdir path) = from_parts (parts_of path) (make_dir stamp)
 steps most stamp (Rmdir path) = remove_parts (parts_of path)

@@ -8,9 +8,11 @@ use Rattle.ft_posix.specs.declared.call.Call.{Call}
 use Rattle.ft_posix.specs.Outcomes.{Write, Outcome}
 use Rattle.ft_posix.specs.Steps.{steps}
 
+-- the cell of a write is set
 abbrev pub put : Cells → Write → Cells
 put cells w = set_cell cells w.cell w.value
 
+-- one write after another
 abbrev pub put_all : Cells → List Write → Cells
 put_all cells [] = cells
 put_all cells (w ∷ ws) = put_all (put cells w) ws

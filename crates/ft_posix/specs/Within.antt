@@ -13,6 +13,7 @@ IsWithin (Overwrite i at bytes) = at ≤ SIZE_LIMIT
 IsWithin (Resize i size) = size ≤ SIZE_LIMIT
 IsWithin (Open f to) = Unit {0}
 
+-- those of all edits are
 abbrev pub AreWithin : List Edit → Type 0
 AreWithin [] = Unit {0}
 AreWithin (e ∷ es) = IsWithin e × AreWithin es

@@ -174,8 +174,8 @@ pub enum Call {
     /// `old`; ENOENT where it is missing; the fault of the look-up of `new`; ENOTDIR where `old` is
     /// a file, `new` is missing and a slash stands behind it; EISDIR for a file in place of a
     /// directory, and ENOTDIR for a directory in place of a file; EINVAL for a directory that would
-    /// come to stand below itself; ENOTEMPTY in place of a directory that has an entry. EINVAL for
-    /// dots and EBUSY are choices of this project.
+    /// come to stand below itself; ENOTEMPTY in place of a directory that has an entry. EBUSY and
+    /// this order are choices of this project.
     Rename {
         old: FilePath,
         new: FilePath,

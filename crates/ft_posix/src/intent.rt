@@ -8,7 +8,7 @@ ghost use Rattle.ft_posix.specs.Within.{IsWithin, AreWithin};
 use crate::call::Reply;
 use ft_base::{Few, Memory};
 use ft_path::Errno;
-use ft_tree::{Entry, EntryRef, Kind, Node, OpenFile, Tree};
+use ft_tree::{Entry, EntryRef, HintedFile, Kind, Node, OpenFile, Tree};
 use std::alloc::Global;
 use std::marker::Model;
 
@@ -125,7 +125,7 @@ impl<'c> Edits<'c> {
 }
 
 /// What a call answers when it is made. A list is told only by where it is.
-#[derive(Clone, Copy, Debug)]
+#[derive(Debug, Drop)]
 pub enum Told {
     /// What was asked is done.
     Done,
@@ -144,7 +144,7 @@ pub enum Told {
     NamesOf(u64),
     /// The bytes of a file from an offset on, at most `len`.
     BytesOf {
-        file: u64,
+        file: HintedFile,
         at: u64,
         len: u64,
     },
@@ -168,24 +168,24 @@ impl<'c> Intent<'c> {
         ensures reply { IfOk result (λ reply. reply ≡ reply_of tree.now self.now.told) }
         ensures lists { OnErr result (IsList (reply_of tree.now self.now.told)) }
     {
-        match self.told {
+        match &self.told {
             Told::Done => Ok(Reply::Done),
-            Told::Number(number) => Ok(Reply::Number(number)),
+            Told::Number(number) => Ok(Reply::Number(*number)),
             Told::Info {
                 kind,
                 number,
                 links,
                 size,
             } => Ok(Reply::Info {
-                kind,
-                number,
-                links,
-                size,
+                kind: *kind,
+                number: *number,
+                links: *links,
+                size: *size,
             }),
-            Told::Failed(errno) => Ok(Reply::Failed(errno)),
-            Told::NamesOf(dir) => Ok(Reply::Names(tree.names(dir)?.into())),
+            Told::Failed(errno) => Ok(Reply::Failed(*errno)),
+            Told::NamesOf(dir) => Ok(Reply::Names(tree.names(*dir)?.into())),
             Told::BytesOf { file, at, len } => {
-                let bytes = read_bytes(alloc, tree, file, at, len)?;
+                let bytes = read_bytes(alloc, tree, file, *at, *len)?;
                 Ok(Reply::Bytes(bytes.into()))
             }
         }
@@ -196,13 +196,13 @@ impl<'c> Intent<'c> {
 fn read_bytes(
     alloc: Global,
     tree: &Tree,
-    file: u64,
+    file: &HintedFile,
     offset: u64,
     count: u64,
 ) -> Result<Vec<u8>, Memory>
-    ensures { IfOk result (λ read. read.items ≡ bytes_at (bytes_of tree.now file) offset count) }
+    ensures { IfOk result (λ read. read.items ≡ bytes_at (bytes_of tree.now file.now) offset count) }
 {
-    match tree.body(file) {
+    match tree.hinted_body(file) {
         Some(body) => body.read_at(offset, count),
         None => Ok(Vec::new(alloc)),
     }

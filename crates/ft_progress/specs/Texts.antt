@@ -1,4 +1,5 @@
--- The line that tells how far jobs have come.
+-- The line that tells how far jobs have come. (The format is this project's own: docs/SCRIPT.md,
+-- Plans.)
 use Rattle.std.specs.Prelude.{ℕ, List, [], ◌∷◌, ◌++◌, codes}
 use Rattle.std.specs.Borrow.{Bor}
 use Rattle.std.specs.Fmt.{decimal}
@@ -8,12 +9,12 @@ use Rattle.std.specs.List.{flat_map}
 abbrev pub name_text : Bor (List ℕ) → List ℕ
 name_text name = codes " " ++ name.now
 
--- who waits, if anybody does
+-- `; waiting:` and these names, or nothing where there are none
 abbrev pub waiting_text : List (Bor (List ℕ)) → List ℕ
 waiting_text [] = []
 waiting_text (name ∷ names) = codes "; waiting:" ++ flat_map name_text (name ∷ names)
 
--- how many jobs of all have ended, how many calls were granted, and who waits
+-- `jobs ended: E of J; calls granted: G`, and who waits
 abbrev pub progress_text : ℕ → ℕ → ℕ → List (Bor (List ℕ)) → List ℕ
 progress_text ended jobs granted waiting =
     codes "jobs ended: " ++ decimal ended ++ codes " of " ++ decimal jobs ++ codes "; calls granted: " ++ decimal granted ++ waiting_text waiting

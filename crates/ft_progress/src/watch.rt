@@ -2,20 +2,11 @@
 use crate::progress::Progress;
 use ft_jobs::Gate;
 use ft_plan::{Job, JobName, Step};
+use ft_shown::{PAUSE, erase, rewrite};
 use std::alloc::{AllocError, Global};
-use std::io::{self, Write};
+use std::io::Write;
 use std::sync::{Condvar, Mutex, Wait};
 use std::time::{Clock, Duration};
-
-// How long a line stands at least before it is written anew, in milliseconds. The first is written
-// after as long.
-const PAUSE: u64 = 100;
-
-// The most bytes of a line: what goes on one line of a terminal.
-const LONGEST_LINE: usize = 79;
-
-// Goes to the first column, and erases the line.
-const ERASED: &[u8] = b"\r\x1b[K";
 
 /// How far the jobs of a plan have come. It is a gate that lets each step pass at once, and takes
 /// note of it.
@@ -84,7 +75,7 @@ impl<'a> Watch<'a> {
             }
         }
         if is_shown {
-            let _ = screen.write_all(ERASED);
+            let _ = erase(screen);
         }
     }
 
@@ -188,10 +179,4 @@ fn names_of_waiting<'a>(
         }
     }
     Ok(names)
-}
-
-// Writes a line in the place of the one before, as much of it as goes on one line.
-fn rewrite<S: Write>(screen: &mut S, line: &[u8]) -> io::Result<()> {
-    screen.write_all(ERASED)?;
-    screen.write_all(&line[..line.len().min(LONGEST_LINE)])
 }

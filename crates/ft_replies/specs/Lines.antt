@@ -1,4 +1,4 @@
--- What is written for a line.
+-- What is written for a line. (The format is this project's own: docs/SCRIPT.md.)
 use Rattle.std.specs.Prelude.{◌≡◌, ◌⊎◌, ℕ, List, [], ◌∷◌, ◌++◌, codes}
 use Rattle.ft_cells.specs.Rows.{rows_of}
 use Rattle.ft_moss.specs.declared.line.LockLine.{LockLine}
@@ -19,21 +19,25 @@ use Rattle.ft_replies.specs.Texts.{text_of}
 use Rattle.ft_words.specs.Texts.{tree_text}
 use Rattle.ft_replies.specs.Reports.{locks_text, waits_text}
 
--- a legal step of the core
+-- a legal step of the core, under its rule of who blocks whom
 abbrev pub IsLegal : State → Request → Answer → State → Type 0
 IsLegal = IsStep exact_rule
 
--- the text of a report, without the line feed behind it: what the plain tree of the state holds; the locks of its history; or its waits-for edges, with the verdict on them
+-- the text of a report, without the line feed behind it: for `tree`, of the rows of the tree of
+-- the state; for `locks`, of the locks of its history in their order; for `waits`, of its
+-- waits-for edges and a verdict on them
 abbrev pub IsReportText : State → Report → List ℕ → Type 0
 IsReportText s Tree text = text ≡ tree_text (rows_of (tree_of s))
 IsReportText s Locks text = (locks : List LockLine) × AreLockLines s locks × (text ≡ locks_text locks)
 IsReportText s Waits text = (edges : List Edge) × (verdict : Verdict) × AreEdgesOf s edges × IsVerdict edges verdict × (text ≡ waits_text edges verdict)
 
--- the report, or that there was no memory for what it tells of
+-- the text of the report and a line feed, or `refused Memory` and a line feed in its place
 abbrev pub IsReport : State → Report → List ℕ → Type 0
 IsReport s report text = ((told : List ℕ) × IsReportText s report told × (text ≡ told ++ 10 ∷ [])) ⊎ (text ≡ codes "refused Memory" ++ 10 ∷ [])
 
--- What is written for a line that was carried out, and the state after it.
+-- What is written for a line that is carried out, and the state then: nothing for a silent line;
+-- and, each with a line feed, `bad line` for a bad one, the text of the answer of a legal step
+-- for a request, and the text of a report. Only a request may change the state.
 abbrev pub GivesText : State → Line → List ℕ → State → Type 0
 GivesText old line.Silent text new = (text ≡ []) × (new ≡ old)
 GivesText old line.Bad text new = (text ≡ codes "bad line" ++ 10 ∷ []) × (new ≡ old)

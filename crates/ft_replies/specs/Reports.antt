@@ -1,4 +1,5 @@
--- The text of a report: how many lines it has, and the lines.
+-- The text of a report: how many lines it has, and the lines. (The format is this project's own:
+-- docs/SCRIPT.md.)
 use Rattle.std.specs.Prelude.{ℕ, List, ◌∷◌, ◌++◌, length, codes}
 use Rattle.std.specs.Fmt.{decimal}
 use Rattle.std.specs.List.{flat_map}
@@ -18,6 +19,7 @@ use Rattle.ft_replies.specs.Texts.{txn_list}
 
 -- ---- the locks
 
+-- what is locked: the kind of the cell, its number, and the name of an entry
 abbrev pub cell_text : Cell → List ℕ
 cell_text (Entry entry) = codes "entry " ++ decimal entry.dir ++ codes " " ++ coded entry.name
 cell_text (Names dir) = codes "names " ++ decimal dir
@@ -26,22 +28,27 @@ cell_text (Links file) = codes "links " ++ decimal file
 cell_text (Bytes file) = codes "bytes " ++ decimal file
 cell_text (Fd fd) = codes "fd " ++ decimal fd
 
+-- `read` or `write`
 abbrev pub mode_text : Mode → List ℕ
 mode_text modes.Read = codes "read"
 mode_text modes.Write = codes "write"
 
+-- `held` or `retained`
 abbrev pub kind_text : LockKind → List ℕ
 kind_text Held = codes "held"
 kind_text Retained = codes "retained"
 
+-- `lock CELL MODE OWNER KIND`
 abbrev pub lock_text : LockLine → List ℕ
 lock_text lock = codes "lock " ++ cell_text lock.cell ++ codes " " ++ mode_text lock.mode ++ codes " " ++ decimal lock.owner ++ codes " " ++ kind_text lock.kind
 
+-- `locks N`, and the locks
 abbrev pub locks_text : List LockLine → List ℕ
 locks_text locks = codes "locks " ++ decimal (length locks) ++ lines_text lock_text locks
 
 -- ---- who waits for whom
 
+-- `edge FROM TO KIND`
 abbrev pub edge_text : Edge → List ℕ
 edge_text edge = codes "edge " ++ decimal edge.from ++ codes " " ++ decimal edge.to ++ codes " " ++ kind_name edge.kind
 
@@ -49,9 +56,11 @@ edge_text edge = codes "edge " ++ decimal edge.from ++ codes " " ++ decimal edge
 abbrev pub rank_list : List (ℕ × ℕ) → List ℕ
 rank_list ranks = flat_map (λ entry. 32 ∷ decimal entry.0 ++ codes ":" ++ decimal entry.1) ranks
 
+-- `cycle` and its members, or `ranks` and the transactions with theirs
 abbrev pub verdict_text : Verdict → List ℕ
 verdict_text (Cycle members) = codes "cycle" ++ txn_list members
 verdict_text (Ranked ranks) = codes "ranks" ++ rank_list ranks
 
+-- `edges N`, the edges, and the verdict
 abbrev pub waits_text : List Edge → Verdict → List ℕ
 waits_text edges verdict = codes "edges " ++ decimal (length edges) ++ lines_text edge_text edges ++ 10 ∷ verdict_text verdict

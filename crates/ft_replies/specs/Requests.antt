@@ -1,4 +1,5 @@
--- What a line asks for. Each table has words, and what they ask for.
+-- What a line asks for. Each table has words, and what they ask for. (The format of scripts is
+-- this project's own: docs/SCRIPT.md.)
 use Rattle.std.specs.Prelude.{ℕ, List, [], ◌∷◌, codes, Option, None, Some, option_and_then, option_map}
 use Rattle.std.specs.Option.{option_map_or}
 use Rattle.ft_core.specs.declared.request.Request.{Request}
@@ -17,6 +18,7 @@ lone_words = (codes "begin", line.Request Begin) ∷ (codes "checkpoint", line.R
 abbrev pub txn_words : List (List ℕ × (ℕ → Request))
 txn_words = (codes "sub", Sub) ∷ (codes "commit", Commit) ∷ (codes "abort", Abort) ∷ (codes "undo", Undo) ∷ (codes "retry", Retry) ∷ (codes "drop", Drop) ∷ []
 
+-- what a word asks of one transaction
 abbrev pub txn_request : List ℕ → ℕ → Option Request
 txn_request word txn = option_map (λ make. make txn) (look_up txn_words word)
 
@@ -31,14 +33,16 @@ abbrev pub asked_by_txn : ℕ → List (List ℕ) → Option Line
 asked_by_txn txn [] = None
 asked_by_txn txn (name ∷ words) = option_map (λ call. line.Request (Ask txn call)) (call_of name words)
 
+-- a number and a call, or one of those words; `None` for all else
 abbrev pub asked_by : List (List ℕ) → Option Line
 asked_by [] = None
 asked_by (first ∷ words) = option_map_or (λ txn. asked_by_txn txn words) (number_of first) (asked_by_word first words)
 
+-- where a line asks for nothing that there is, it is bad
 abbrev pub or_bad : Option Line → Line
 or_bad None = line.Bad
 or_bad (Some meaning) = meaning
 
--- What a line means.
+-- What a line means: nothing (`Silent`), nothing that there is (`Bad`), a request, or a report.
 abbrev pub meaning_of : List ℕ → Line
 meaning_of bytes = option_map_or (λ words. or_bad (asked_by words)) (words_of_line bytes) line.Silent

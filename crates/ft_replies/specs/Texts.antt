@@ -1,4 +1,5 @@
--- The text of an answer, as a script's reply shows it.
+-- The text of an answer, as a script's reply shows it. (The format is this project's own:
+-- docs/SCRIPT.md.)
 use Rattle.std.specs.Prelude.{ℕ, List, ◌∷◌, ◌++◌, codes}
 use Rattle.std.specs.Fmt.{decimal}
 use Rattle.std.specs.List.{flat_map}
@@ -12,6 +13,7 @@ use Rattle.ft_words.specs.Texts.{reply_text}
 abbrev pub txn_list : List ℕ → List ℕ
 txn_list txns = flat_map (λ txn. 32 ∷ decimal txn) txns
 
+-- the name of a refusal
 abbrev pub fault_name : Fault → List ℕ
 fault_name faults.Memory = codes "Memory"
 fault_name faults.NoTxn = codes "NoTxn"

@@ -12,6 +12,6 @@ mod wait_text;
 pub use line::{Line, Report};
 pub use lock_text::LocksText;
 pub use meaning::meaning_of;
-pub use replying::reply_to;
+pub use replying::{carry_out, reply_to};
 pub use text::{AnswerText, fault_name};
 pub use wait_text::WaitsText;

@@ -31,8 +31,8 @@ pub fn reply_to(alloc: Global, line: &[u8], core: &mut Core) -> Result<String, M
     }
 }
 
-// Carries out a request. What a commit or an abort has let go is swept, where it is not refused.
-fn carry_out(core: &mut Core, request: Request) -> Answer
+/// Carries out a request. What a commit or an abort has let go is swept, where it is not refused.
+pub fn carry_out(core: &mut Core, request: Request) -> Answer
     ensures { IsLegal core.old.state request result core.new.state }
 {
     let answer = core.answer(request);

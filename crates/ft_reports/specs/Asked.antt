@@ -1,4 +1,5 @@
--- What the steps of a job ask for.
+-- What the steps of a job ask for. (The rules for jobs are this project's own: docs/SCRIPT.md,
+-- Plans.)
 use Rattle.std.specs.Prelude.{◌≡◌, ◌≢◌, ℕ, zero, suc, ◌-◌, Bool, true, false, List, [], ◌∷◌, ◌++◌, length, drop, if◌then◌else◌, Option, None, Some, map}
 use Rattle.std.specs.Option.{unwrap_or}
 use Rattle.std.specs.List.{filter_map, slice_get}
@@ -16,6 +17,7 @@ use Rattle.ft_reports.specs.declared.steps.Extent.TheVariants.{Whole, Other}
 
 -- ---- what steps opened
 
+-- the step is a call
 abbrev pub is_call : Step → Bool
 is_call (does.Call call) = true
 is_call (does.CallOn call) = true
@@ -28,6 +30,7 @@ abbrev pub descriptor_in : Reply → ℕ
 descriptor_in (answer.Number n) = n
 descriptor_in reply = 0
 
+-- that of the first of these calls
 abbrev pub first_descriptor : List CallReport → ℕ
 first_descriptor [] = 0
 first_descriptor (c ∷ calls) = descriptor_in c.reply
@@ -40,7 +43,8 @@ opened_by step calls = if is_call step then first_descriptor calls else 0
 abbrev pub calls_behind : Step → List CallReport → List CallReport
 calls_behind step calls = if is_call step then drop 1 calls else calls
 
--- For each step what it opened, if these are the calls of the steps: a descriptor, or 0.
+-- For each step what it opened, if these are the calls of the steps: a descriptor, or 0. The
+-- first call is that of the first step that is one, and so on.
 abbrev pub opened : List Step → List CallReport → List ℕ
 opened [] calls = []
 opened (step ∷ steps) calls = opened_by step calls ∷ opened steps (calls_behind step calls)
@@ -52,7 +56,7 @@ abbrev pub opened_at : List ℕ → ℕ → ℕ
 opened_at descriptors zero = 0
 opened_at descriptors (suc before) = unwrap_or (slice_get descriptors before) 0
 
--- The descriptor that a step opened, in the place of its number.
+-- The call with the descriptor that a step opened in the place of its number.
 abbrev pub on_opened : List ℕ → Call → Call
 on_opened ds (posix.Close k) = posix.Close (opened_at ds k)
 on_opened ds (posix.Read k len) = posix.Read (opened_at ds k) len
@@ -76,6 +80,7 @@ asked_by ds does.Abort = None
 abbrev pub all_asked : List ℕ → List Step → List Call
 all_asked ds steps = filter_map (asked_by ds) steps
 
+-- the calls of a report, without stamps and replies
 abbrev pub calls_told : List CallReport → List Call
 calls_told calls = map (λ (c : CallReport). c.call) calls
 
@@ -89,10 +94,13 @@ AreAllOf asked calls = asked ≡ calls_told calls
 abbrev pub AreFirstOf : List Call → List CallReport → Type 0
 AreFirstOf asked calls = (later : List Call) × (asked ≡ calls_told calls ++ later)
 
+-- The last step is this one.
 abbrev pub EndsWith : List Step → Step → Type 0
 EndsWith steps last = slice_get steps (length steps - 1) ≡ Some last
 
--- A job with calls to this extent may have ended so: where the end names a step, that is the last one, and all calls were made.
+-- A job with calls to this extent (all that was asked for, the first of it, or other calls) may
+-- have ended so: where the end names a step, that is the last one, and all calls were made; else
+-- they are the first.
 abbrev pub IsAtEnd : List Step → End → Extent → Type 0
 IsAtEnd steps Committed extent = (extent ≡ Whole) × EndsWith steps does.Commit
 IsAtEnd steps Aborted extent = (extent ≡ Whole) × EndsWith steps does.Abort
@@ -104,7 +112,8 @@ IsAtEnd steps NotStarted extent = extent ≢ Other
 abbrev pub asked_with : List Step → List CallReport → List Call
 asked_with steps calls = all_asked (opened steps calls) steps
 
--- A job that ended so has made these calls of its steps: all of them where its last step ended it, and else the first of them.
+-- A job that ended so has made these calls of its steps: where it ended as Committed or Aborted
+-- all of them, and its last step is that commit or abort; else the first of them.
 abbrev pub IsDone : List Step → End → List CallReport → Type 0
 IsDone steps Committed calls = AreAllOf (asked_with steps calls) calls × EndsWith steps does.Commit
 IsDone steps Aborted calls = AreAllOf (asked_with steps calls) calls × EndsWith steps does.Abort

@@ -1,4 +1,4 @@
--- How the events of a history are read, oldest first.
+-- How the events of a history are read, oldest first. No public clause cites it.
 use Rattle.std.specs.Prelude.{◌==◌, ◌||◌, not, ℕ, Bool, true, cond, List, [], ◌∷◌, Option, None, Some}
 use Rattle.ft_core.specs.declared.request.Event.{Event}
 use Rattle.ft_core.specs.declared.request.Event.TheVariants.{Begin, Call as CallEvent, Undo, Commit, Abort}
@@ -22,6 +22,7 @@ parent_after t before (Undo stamp) = before
 parent_after t before (Commit u) = before
 parent_after t before (Abort u) = before
 
+-- the same behind all these events
 abbrev pub parent_behind : ℕ → Option ℕ → List Event → Option ℕ
 parent_behind t before [] = before
 parent_behind t before (e ∷ events) = parent_behind t (parent_after t before e) events

@@ -1,4 +1,6 @@
--- The reports of jobs are what happened.
+-- The reports of jobs are what happened. (The rules for jobs are this project's own:
+-- docs/SCRIPT.md, Plans. Transactions, their parents and what becomes of them are Moss's, as
+-- ft_history defines them.)
 use Rattle.std.specs.Prelude.{◌≡◌, ◌==◌, ◌&&◌, not, ℕ, Bool, true, false, cond, nat_le, nat_lt, List, [], ◌∷◌, length, Option, None, Some, IsSome, IfSome, MatchOption, option_and_then, map, All}
 use Rattle.std.specs.List.{list_any, position, slice_get}
 use Rattle.std.specs.Option.{option_map_or}
@@ -34,9 +36,11 @@ stamps_rise before (c ∷ calls) = nat_lt before c.stamp && stamps_rise c.stamp 
 
 -- ---- the transactions of reports
 
+-- t is the transaction of the report
 abbrev pub has_txn : ℕ → Report → Bool
 has_txn t r = option_map_or (λ u. u == t) r.txn false
 
+-- the report has a transaction up to t
 abbrev pub has_txn_up_to : ℕ → Report → Bool
 has_txn_up_to t r = option_map_or (λ u. nat_le u t) r.txn false
 
@@ -44,7 +48,7 @@ has_txn_up_to t r = option_map_or (λ u. nat_le u t) r.txn false
 abbrev pub is_reported : List Report → ℕ → Bool
 is_reported reports t = list_any (has_txn t) reports
 
--- t is not below the least transaction of a report
+-- t is not below the least transaction of a report: some report has one up to t
 abbrev pub is_from_least_on : List Report → ℕ → Bool
 is_from_least_on reports t = list_any (has_txn_up_to t) reports
 
@@ -55,10 +59,11 @@ have_own_txns (r ∷ reports) = not (option_map_or (is_reported reports) r.txn f
 
 -- ---- jobs under jobs
 
+-- the job has this name
 abbrev pub is_named : List ℕ → Job → Bool
 is_named name job = bytes_eq job.name name
 
--- the report of the job of this name
+-- the report of the job of this name, which stands at its place
 abbrev pub report_of : List Job → List Report → List ℕ → Option Report
 report_of jobs reports name = option_and_then (slice_get reports) (position (is_named name) jobs)
 
@@ -73,6 +78,7 @@ IsNested h jobs reports (Some name) t = (parent posix_calls h t ≡ txn_of jobs 
 
 -- ---- how jobs end
 
+-- the job ended as Committed
 abbrev pub ends_committed : End → Bool
 ends_committed Committed = true
 ends_committed Aborted = false
@@ -80,11 +86,11 @@ ends_committed Waited = false
 ends_committed (Refused fault) = false
 ends_committed NotStarted = false
 
--- what has become of the transaction of a job that ended so
+-- what has become of the transaction of a job that ended so: committed, or else aborted
 abbrev pub fate_at : End → Fate
 fate_at end = cond (ends_committed end) WasCommitted WasAborted
 
--- a job that ended so may have had no transaction
+-- a job that ended so, as Refused or NotStarted, may have had no transaction
 abbrev pub may_lack_txn : End → Bool
 may_lack_txn Committed = false
 may_lack_txn Aborted = false
@@ -92,7 +98,7 @@ may_lack_txn Waited = false
 may_lack_txn (Refused fault) = true
 may_lack_txn NotStarted = true
 
--- a job that ended so may have left its subjobs unstarted
+-- a job that ended so, as Waited, Refused or NotStarted, may have left its subjobs unstarted
 abbrev pub may_leave_subjobs : End → Bool
 may_leave_subjobs Committed = false
 may_leave_subjobs Aborted = false
@@ -100,6 +106,7 @@ may_leave_subjobs Waited = true
 may_leave_subjobs (Refused fault) = true
 may_leave_subjobs NotStarted = true
 
+-- the job of this report may have left its subjobs unstarted
 abbrev pub has_left_subjobs : Report → Bool
 has_left_subjobs r = may_leave_subjobs r.end
 
@@ -109,11 +116,13 @@ may_be_unstarted jobs reports job = option_map_or has_left_subjobs (option_and_t
 
 -- ---- all together
 
--- The report has the calls that its transaction t was granted, stamp, call and reply, in order; t is nested as the job is.
+-- The report has the calls that its transaction t was granted, stamp, call and reply, in order; t
+-- is nested as the job is.
 abbrev pub IsOfTxn : History → List Job → List Report → Job → Report → ℕ → Type 0
 IsOfTxn h jobs reports job r t = (calls_of h t ≡ r.calls) × IsNested h jobs reports job.parent t
 
--- The job may have had no transaction: it was not started or was refused something, and it has no calls.
+-- The job may have had no transaction: it was not started or was refused something, and it has no
+-- calls.
 abbrev pub MayLackTxn : Report → Type 0
 MayLackTxn r = (may_lack_txn r.end ≡ true) × (r.calls ≡ [])
 
@@ -127,9 +136,11 @@ pub record IsReport (h : History) (jobs : List Job) (reports : List Report) (at 
   pub rising : stamps_rise 0 r.calls ≡ true
   -- They are those of its steps, as far as its end says.
   pub done : IsDone job.steps r.end r.calls
-  -- Only a subjob is not started, whose parent was not started, was refused something or waited too long.
+  -- Only a subjob is not started, whose parent was not started, was refused something or waited
+  -- too long.
   pub unstarted : r.end ≡ NotStarted → may_be_unstarted jobs reports job ≡ true
 
+-- So it is of the job and the report at this place.
 abbrev pub IsReportAt : History → List Job → List Report → ℕ → Type 0
 IsReportAt h jobs reports at = (job : Job) (r : Report) → slice_get jobs at ≡ Some job → slice_get reports at ≡ Some r → IsReport h jobs reports at job r
 

@@ -1,7 +1,8 @@
 //! The program `ft_run`: `ft_run play` runs a script of transactions on a tree of directories, from
 //! standard input to standard output; `ft_run dot` draws the last report on who waits for whom
 //! among the replies that such a run wrote; `ft_run jobs FILE` runs the jobs of a plan in threads,
-//! and prints what they came to.
+//! and prints what they came to; `ft_run load DIR` writes a script that makes what a directory holds,
+//! and `ft_run save DIR` makes a directory of the last tree among replies.
 //!
 //! It ends with status 0, also after a help text, with 1 after a fault, of which a line
 //! `fault: NAME` tells on standard error, and with 2 where the command line asks for nothing that
@@ -21,6 +22,7 @@ use ft_command::{Choice, choose};
 use ft_core::{Core, Rule};
 use ft_jobs::LONGEST_PLAN;
 use ft_script::PlayFault;
+use ft_shown::ShownTarget;
 use ft_status::{
     after_failed, dot_status, failed, fault_line, jobs_status, load_status, play_status,
     save_status,
@@ -39,8 +41,8 @@ fn main(rt: HostRuntime) -> ExitCode {
     let status = match choice {
         Choice::Play { rule, after } => run_script(&rt, rule, after),
         Choice::Dot => dot_status(alloc, &mut rt.stdin(), &mut rt.stdout(), &mut rt.stderr()),
-        Choice::Load { dir, skip } => load_dir(&rt, dir.as_str(), skip),
-        Choice::Save { dir } => save_dir(&rt, dir.as_str()),
+        Choice::Load { dir, skip, quiet } => load_dir(&rt, dir.as_str(), skip, quiet),
+        Choice::Save { dir, quiet } => save_dir(&rt, dir.as_str(), quiet),
         Choice::Jobs {
             file,
             turns,
@@ -115,16 +117,26 @@ fn misused(rt: &HostRuntime, text: String) -> u8 {
     2
 }
 
-// Writes a script of a directory to standard output.
-fn load_dir(rt: &HostRuntime, dir: &str, skip: bool) -> u8 {
+// Writes a script of a directory to standard output. Where that is a terminal, it is not shown how
+// far it has come: the script tells.
+fn load_dir(rt: &HostRuntime, dir: &str, skip: bool, quiet: bool) -> u8 {
     let source = DiskSource { rt, dir, skip };
-    load_status(rt.alloc(), &source, rt.stdout(), &mut rt.stderr())
+    let screen = screen(rt, quiet || rt.stdout().is_terminal());
+    load_status(
+        rt,
+        rt.alloc(),
+        &source,
+        screen,
+        rt.stdout(),
+        &mut rt.stderr(),
+    )
 }
 
 // Makes a directory of the last tree on standard input.
-fn save_dir(rt: &HostRuntime, dir: &str) -> u8 {
-    let mut target = DiskTarget::new(rt, dir);
-    save_status(rt.alloc(), &mut rt.stdin(), &mut target, &mut rt.stderr())
+fn save_dir(rt: &HostRuntime, dir: &str, quiet: bool) -> u8 {
+    let alloc = rt.alloc();
+    let mut target = ShownTarget::new(rt, alloc, DiskTarget::new(rt, dir), screen(rt, quiet));
+    save_status(alloc, &mut rt.stdin(), &mut target, &mut rt.stderr())
 }
 
 // A core that grants calls by this rule, on which the script in a file was played first, if there is
@@ -146,7 +158,7 @@ fn core_for(rt: &HostRuntime, rule: Rule, after: Option<String>) -> Result<Core,
     }
 }
 
-// Where it is shown how far jobs have come: on standard error, where that is a terminal, unless
+// Where it is shown how far a command has come: on standard error, where that is a terminal, unless
 // nothing is to be shown.
 fn screen(rt: &HostRuntime, quiet: bool) -> Option<Stderr> {
     let errors = rt.stderr();

@@ -34,7 +34,7 @@ file_of words = option_and_then (λ f. sized f.0 f.1 (percent_decode f.2)) (thre
 abbrev pub fd_of : List (List ℕ) → Option Row
 fd_of words = option_map (λ f. Descriptor) (three number_of number_of (both Some (only number_of)) words)
 
--- the row that words tell
+-- the row that the words behind its name tell
 abbrev pub row_by : List ℕ → List (List ℕ) → Option Row
 row_by word words =
     if bytes_eq word (codes "dir") then folder_of words
@@ -42,6 +42,7 @@ row_by word words =
     else (if bytes_eq word (codes "file") then file_of words
     else (if bytes_eq word (codes "fd") then fd_of words else None)))
 
+-- the row that a line tells, by its words
 abbrev pub row_of : List (List ℕ) → Option Row
 row_of [] = None
 row_of (word ∷ words) = row_by word words

@@ -1,10 +1,16 @@
 -- What a save makes.
-use Rattle.std.specs.Prelude.{◌≡◌, ℕ, List, Option, Some}
+use Rattle.std.specs.Prelude.{◌≡◌, ◌⊎◌, ℕ, List, Option, None, Some}
 use Rattle.std.specs.Io.KnownBytes.{Consumes, IsAtEnd}
 use Rattle.ft_words.specs.Spelling.{lines_of}
+use Rattle.ft_copy.specs.declared.trouble.Trouble.{Trouble}
 use Rattle.ft_copy.specs.Asked.{Asked}
-use Rattle.ft_copy.specs.Runs.{Copies}
+use Rattle.ft_copy.specs.Runs.{Copies, GivesUp}
+use Rattle.ft_copy.specs.Stops.{StopsCopy}
+use Rattle.ft_script.specs.declared.playing.PlayFault.{PlayFault}
+use Rattle.ft_script.specs.declared.playing.PlayFault.TheVariants.{Memory, Read}
 use Rattle.ft_save.specs.declared.row.Row.{Row}
+use Rattle.ft_save.specs.declared.saving.SaveFault.{SaveFault}
+use Rattle.ft_save.specs.declared.saving.SaveFault.TheVariants.{Replies, NoTree, Stopped}
 use Rattle.ft_save.specs.Reading.{last_tree}
 use Rattle.ft_save.specs.Trees.{Tells}
 
@@ -15,3 +21,35 @@ IsLast left left_after rows = (bytes : List ℕ) × Consumes left left_after byt
 -- The same, and the tree that they tell of was copied.
 abbrev pub Saves : {T : Type 0} → Option (List ℕ) → Option (List ℕ) → (T → Asked → T → Type 0) → T → T → Type 0
 Saves left left_after does old new = (rows : List Row) × IsLast left left_after rows × Copies (Tells rows) does old new
+
+-- ---- faults
+
+-- The replies could not be read to their end, or there was no memory for them.
+abbrev pub IsUnread : PlayFault → Option (List ℕ) → Option (List ℕ) → Type 0
+IsUnread fault left left_after = ((fault ≡ Memory) ⊎ (fault ≡ Read)) × ((bytes : List ℕ) × Consumes left left_after bytes)
+
+-- The replies were read to their end, and there is no whole report among them.
+abbrev pub HasNoTree : Option (List ℕ) → Option (List ℕ) → Type 0
+HasNoTree left left_after = (bytes : List ℕ) × Consumes left left_after bytes × IsAtEnd left_after × (last_tree (lines_of bytes) ≡ None)
+
+-- No report was found.
+abbrev pub FindsNone : SaveFault → Option (List ℕ) → Option (List ℕ) → Type 0
+FindsNone (Replies fault) left left_after = IsUnread fault left left_after
+FindsNone NoTree left left_after = HasNoTree left left_after
+FindsNone (Stopped stopped) left left_after = ⊥
+
+module _ {T : Type 0} (does : T → Asked → T → Type 0) (fails : T → Asked → Trouble → T → Type 0) where
+  -- The tree that rows tell of was not copied: there was no memory for it, or the copy stopped.
+  abbrev pub StopsRows : SaveFault → List Row → T → T → Type 0
+  StopsRows (Replies fault) rows old new = (fault ≡ Memory) × (new ≡ old)
+  StopsRows NoTree rows old new = ⊥
+  StopsRows (Stopped stopped) rows old new = StopsCopy (Tells rows) does fails stopped old new
+
+  -- Nothing was saved: no report was found, and the target was asked for nothing; or the tree that it tells of was not copied.
+  abbrev pub StopsSave : SaveFault → Option (List ℕ) → Option (List ℕ) → T → T → Type 0
+  StopsSave fault left left_after old new =
+      (FindsNone fault left left_after × (new ≡ old)) ⊎ ((rows : List Row) × IsLast left left_after rows × StopsRows fault rows old new)
+
+  -- The target was asked for nothing; or it did some things, has not finished, and has given up.
+  abbrev pub IsLeft : T → T → Type 0
+  IsLeft old new = (new ≡ old) ⊎ GivesUp does fails old new

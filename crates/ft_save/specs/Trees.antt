@@ -1,5 +1,5 @@
 -- The tree that the rows of a report tell of.
-use Rattle.std.specs.Prelude.{◌≡◌, ◌==◌, ℕ, Bool, true, false, List, [], ◌∷◌, ◌++◌, is_some, length, map, if◌then◌else◌, Option, None, Some}
+use Rattle.std.specs.Prelude.{◌≡◌, ◌⊎◌, ◌==◌, ℕ, Bool, true, false, List, [], ◌∷◌, ◌++◌, is_some, length, map, if◌then◌else◌, Option, None, Some}
 use Rattle.std.specs.Option.{unwrap_or}
 use Rattle.std.specs.FinMap as finite
 use Rattle.ft_posix.specs.declared.TheConstants.{MOST_LINKS}
@@ -8,7 +8,9 @@ use Rattle.ft_copy.specs.declared.found.FileFacts.{FileFacts}
 use Rattle.ft_copy.specs.declared.found.Found.{Found}
 use Rattle.ft_copy.specs.declared.found.Found.TheVariants as found
 use Rattle.ft_copy.specs.declared.found.Listed.{Listed}
-use Rattle.ft_copy.specs.Told.{Told, Lists, Finds, Holds, Omits}
+use Rattle.ft_copy.specs.declared.trouble.Trouble.{Trouble}
+use Rattle.ft_copy.specs.declared.trouble.Trouble.TheVariants.{Memory, Read, BadName, BadTree}
+use Rattle.ft_copy.specs.Told.{Told, Lists, Finds, Holds, Omits, Keeps, Refuses, HasNoName}
 use Rattle.ft_save.specs.declared.row.Row.{Row}
 use Rattle.ft_save.specs.declared.row.Row.TheVariants.{Folder, Edge, File, Descriptor}
 use Rattle.ft_save.specs.declared.index.Edge.{Edge as IndexEdge}
@@ -62,20 +64,36 @@ file_facts node more bytes = record { id = record { device = 0; number = node };
 abbrev pub IsPlainFolder : List Row → ℕ → Type 0
 IsPlainFolder rows node = (is_folder rows node ≡ true) × (has_more rows node ≡ false) × ((node == ROOT) ≡ false)
 
+-- What stands at a number: a file that has a row, or else a plain directory.
 abbrev pub IsFound : List Row → ℕ → Found → Type 0
 IsFound rows node found.Folder = (file_in rows node ≡ None) × IsPlainFolder rows node
 IsFound rows node (found.File facts) = (bytes : List ℕ) × (file_in rows node ≡ Some bytes) × (facts ≡ file_facts node (has_more rows node) bytes)
 IsFound rows node found.Special = ⊥
 
--- What the rows of a report tell.
+-- a number that is neither a file nor a plain directory
+abbrev pub IsNothing : List Row → ℕ → Type 0
+IsNothing rows node = (file_in rows node ≡ None) × ((has_more rows node ≡ true) ⊎ (node ≡ ROOT) ⊎ (is_folder rows node ≡ false))
+
+-- Why it cannot be told what stands there, or which names: which trouble comes when.
+abbrev pub IsRefused : List Row → ℕ → Trouble → Type 0
+IsRefused rows node Memory = Unit {0}
+IsRefused rows node Read = file_in rows node ≡ None
+IsRefused rows node BadName = HasNoName (edges_in rows node)
+IsRefused rows node BadTree = IsNothing rows node
+IsRefused rows node other = ⊥
+
+-- What the rows of a report tell. Nothing is to be left out.
 abbrev pub Tells : List Row → Told → Type 0
 Tells rows (Lists path node names) = names ≡ edges_in rows node
 Tells rows (Finds path node found) = IsFound rows node found
 Tells rows (Holds path node bytes) = bytes ≡ file_in rows node
 Tells rows (Omits path) = ⊥
+Tells rows (Keeps path) = Unit {0}
+Tells rows (Refuses path node trouble) = IsRefused rows node trouble
 
 -- ---- the index
 
+-- a name of the index, as it is told
 abbrev pub listed : IndexEdge → Listed
 listed edge = record { name = edge.name; node = edge.node }
 

@@ -1,5 +1,6 @@
 // The tree of a report, as a source.
-ghost use Rattle.std.specs.Prelude.{◌≡◌, map, IfOk};
+ghost use Rattle.std.specs.Prelude.{◌≡◌, ◌⊎◌, map, IfErr, IfOk};
+ghost use Rattle.ft_copy.specs.Told.{HasNoName};
 ghost use Rattle.ft_save.specs.Trees.{listed};
 
 use crate::index::{Edge, Index};
@@ -62,7 +63,8 @@ impl<'a> Source for Reported<'a> {
 
 // The names that are told. Bytes that are no name are refused.
 fn names_of(alloc: Global, edges: &[Edge]) -> Result<Vec<Listed>, Trouble>
-    ensures { IfOk result (λ names. names.items ≡ map listed edges.now) }
+    ensures ok { IfOk result (λ names. names.items ≡ map listed edges.now) }
+    ensures err { IfErr result (λ trouble. (trouble ≡ Trouble.Memory) ⊎ ((trouble ≡ Trouble.BadName) × HasNoName (map listed edges.now))) }
 {
     let mut names = Vec::new(alloc);
     let mut rest = edges;

@@ -1,7 +1,7 @@
 // From replies to a tree of directories.
-ghost use Rattle.std.specs.Prelude.{OnOk, IfOk};
+ghost use Rattle.std.specs.Prelude.{OnOk, OnErr, IfErr, IfOk};
 ghost use Rattle.ft_copy.specs.Runs.{Copies};
-ghost use Rattle.ft_save.specs.Saves.{IsLast, Saves};
+ghost use Rattle.ft_save.specs.Saves.{FindsNone, IsLast, IsLeft, Saves, StopsRows, StopsSave};
 ghost use Rattle.ft_save.specs.Trees.{Tells};
 
 use crate::index::index_of;
@@ -32,14 +32,16 @@ pub enum SaveFault {
 }
 
 /// Reads replies to their end, and makes the tree that the last report among them tells of:
-/// directories, files with their bytes, and further names as links. Descriptors, and files that have
-/// no name, are left out.
+/// directories, files with their bytes, and further names as links. Descriptors, and files that
+/// have no name, are left out.
 pub fn save<R: Read, T: Target>(
     alloc: Global,
     reader: &mut R,
     target: &mut T,
 ) -> Result<(), SaveFault>
-    ensures { OnOk result (Saves (R.remaining reader.old) (R.remaining reader.new) T.does target.old target.new) }
+    ensures ok { OnOk result (Saves (R.remaining reader.old) (R.remaining reader.new) T.does target.old target.new) }
+    ensures err { OnErr result (IsLeft T.does T.fails target.old target.new) }
+    ensures fault { IfErr result (λ fault. StopsSave T.does T.fails fault (R.remaining reader.old) (R.remaining reader.new) target.old target.new) }
 {
     let rows = last_rows(alloc, reader)?;
     copy_rows(alloc, rows, target)
@@ -47,7 +49,8 @@ pub fn save<R: Read, T: Target>(
 
 // Reads replies to their end, and finds the rows of the last report.
 fn last_rows<R: Read>(alloc: Global, reader: &mut R) -> Result<Vec<Row>, SaveFault>
-    ensures { IfOk result (λ rows. IsLast (R.remaining reader.old) (R.remaining reader.new) rows.items) }
+    ensures ok { IfOk result (λ rows. IsLast (R.remaining reader.old) (R.remaining reader.new) rows.items) }
+    ensures fault { IfErr result (λ fault. FindsNone fault (R.remaining reader.old) (R.remaining reader.new)) }
 {
     let mut replies = Vec::new(alloc);
     read_all(reader, &mut replies)?;
@@ -57,7 +60,9 @@ fn last_rows<R: Read>(alloc: Global, reader: &mut R) -> Result<Vec<Row>, SaveFau
 
 // Copies the tree that rows tell of.
 fn copy_rows<T: Target>(alloc: Global, rows: Vec<Row>, target: &mut T) -> Result<(), SaveFault>
-    ensures { OnOk result (Copies (Tells rows.items) T.does target.old target.new) }
+    ensures ok { OnOk result (Copies (Tells rows.items) T.does target.old target.new) }
+    ensures err { OnErr result (IsLeft T.does T.fails target.old target.new) }
+    ensures fault { IfErr result (λ fault. StopsRows T.does T.fails fault rows.items target.old target.new) }
 {
     let index = index_of(alloc, rows)?;
     let source = Reported { index: &index };
@@ -66,18 +71,34 @@ fn copy_rows<T: Target>(alloc: Global, rows: Vec<Row>, target: &mut T) -> Result
 }
 
 impl From<PlayFault> for SaveFault {
+    ghost use Rattle.std.specs.Prelude.{◌≡◌};
+    ghost use Rattle.ft_save.specs.declared.saving.SaveFault.TheVariants.{Replies};
+
+    ghost from_gives = { λ fault save_fault. save_fault ≡ Replies fault };
+
     fn from(fault: PlayFault) -> SaveFault {
         SaveFault::Replies(fault)
     }
 }
 
 impl From<Memory> for SaveFault {
+    ghost use Rattle.std.specs.Prelude.{◌≡◌};
+    ghost use Rattle.ft_script.specs.declared.playing.PlayFault.TheVariants.{Memory};
+    ghost use Rattle.ft_save.specs.declared.saving.SaveFault.TheVariants.{Replies};
+
+    ghost from_gives = { λ _ save_fault. save_fault ≡ Replies Memory };
+
     fn from(_error: Memory) -> SaveFault {
         SaveFault::Replies(PlayFault::Memory)
     }
 }
 
 impl From<Stopped> for SaveFault {
+    ghost use Rattle.std.specs.Prelude.{◌≡◌};
+    ghost use Rattle.ft_save.specs.declared.saving.SaveFault.TheVariants as faults;
+
+    ghost from_gives = { λ stopped save_fault. save_fault ≡ faults.Stopped stopped };
+
     fn from(stopped: Stopped) -> SaveFault {
         SaveFault::Stopped(stopped)
     }

@@ -1,9 +1,12 @@
--- What a run of a script writes.
+-- What a run of a script writes. What a reader has left and a writer holds (`Consumes`,
+-- `Appends`, `Keeps`, `IsAtEnd`) are std's words (KnownBytes). They claim nothing of a reader or
+-- a writer whose bytes no contract knows, as standard input and output. So the clauses of `play`
+-- say for those that some bytes were read and that what was handed to the writer is the text of a
+-- run of their lines, as far as the writer's own contract says what it took.
 use Rattle.std.specs.Prelude.{◌≡◌, ◌⊎◌, ◌<◌, ◌≤◌, ℕ, List, [], ◌∷◌, ◌++◌, length, Option}
 use Rattle.std.specs.List.{flat_map, AllByRecursion}
 use Rattle.std.specs.Io.KnownBytes.{Appends, Consumes, IsAtEnd, Keeps}
-use Rattle.ft_moss.specs.declared.rule.Rule.{Rule}
-use Rattle.ft_core.specs.States.{State, at_base, first_base}
+use Rattle.ft_core.specs.States.{State}
 use Rattle.ft_script.specs.declared.playing.PlayFault.{PlayFault}
 use Rattle.ft_script.specs.declared.playing.PlayFault.TheVariants.{Memory, Read, Write, TooLong, Turns}
 use Rattle.ft_script.specs.declared.playing.TheConstants.{LONGEST_LINE}
@@ -11,13 +14,15 @@ use Rattle.ft_words.specs.Spelling.{IsFreeOf, lines_of}
 use Rattle.ft_replies.specs.Requests.{meaning_of}
 use Rattle.ft_replies.specs.Lines.{GivesText}
 
--- The text of a run: what is written for lines, one after another, and the state in the end.
+-- The text of a run: what is written for lines, one after another, from the one state of a core
+-- to the other.
 abbrev pub IsTextOfRun : State → List (List ℕ) → List ℕ → State → Type 0
 IsTextOfRun old [] text new = (text ≡ []) × (new ≡ old)
 IsTextOfRun old (bytes ∷ lines) text new =
     (middle : State) × (first : List ℕ) × (rest : List ℕ) × GivesText old (meaning_of bytes) first middle × IsTextOfRun middle lines rest new × (text ≡ first ++ rest)
 
--- These lines were carried out, and the text of their run was written, from what the writer held before to what it holds after.
+-- These lines were carried out, and all of the text of their run was written, from what the
+-- writer held before to what it holds after.
 pub record Plays (lines : List (List ℕ)) (before after : Option (List ℕ)) (old new : State) : Type 0 where
   pub text : List ℕ
   pub run : IsTextOfRun old lines text new
@@ -37,21 +42,23 @@ WritesFront before after text = Appends before after text ⊎ WritesPart before 
 abbrev pub ended : List ℕ → List ℕ
 ended bytes = bytes ++ 10 ∷ []
 
--- the line is not too long
+-- the line has at most `LONGEST_LINE` bytes
 abbrev pub Fits : List ℕ → Type 0
 Fits bytes = length bytes ≤ LONGEST_LINE
 
--- The bytes are these lines, each with a line feed behind it, and then others.
+-- The bytes are these lines, each with a line feed behind it, and then the rest. None of the
+-- lines has a line feed in it, or is too long.
 pub record Cuts (bytes : List ℕ) (lines : List (List ℕ)) (rest : List ℕ) : Type 0 where
   pub whole : bytes ≡ flat_map ended lines ++ rest
   pub each : AllByRecursion (IsFreeOf 10) lines
   pub fits : AllByRecursion Fits lines
 
--- The bytes begin with a line that is too long.
+-- The bytes begin with more than `LONGEST_LINE` bytes among which there is no line feed.
 abbrev pub BeginsTooLong : List ℕ → Type 0
 BeginsTooLong bytes = (front : List ℕ) × (back : List ℕ) × (bytes ≡ front ++ back) × IsFreeOf 10 front × (LONGEST_LINE < length front)
 
--- The bytes begin with this line, which has its line feed, or with which the script ends.
+-- The bytes begin with this line, which has its line feed, or is all of them where the script
+-- ends there; it is not too long.
 pub record IsNext (ends : Type 0) (bytes line : List ℕ) : Type 0 where
   pub free : IsFreeOf 10 line
   pub fits : Fits line
@@ -59,7 +66,9 @@ pub record IsNext (ends : Type 0) (bytes line : List ℕ) : Type 0 where
 
 -- ---- faults
 
--- What became of the line at which a fault came. Where there was no memory for the line or for its reply's text, nothing of it was written, and the line was carried out or not. Where the writer failed, it was carried out, and a part of its reply was written.
+-- What became of the line at which a fault came. At Memory (for the line or for its reply's text)
+-- nothing of its reply was written, and it was carried out or not. At Write it was carried out,
+-- and a part of its reply was written.
 abbrev pub StopsLine : PlayFault → List ℕ → Option (List ℕ) → Option (List ℕ) → State → State → Type 0
 StopsLine Memory bytes before after old new = Keeps before after × ((new ≡ old) ⊎ ((text : List ℕ) × GivesText old (meaning_of bytes) text new))
 StopsLine Write bytes before after old new = (text : List ℕ) × GivesText old (meaning_of bytes) text new × WritesPart before after text
@@ -71,7 +80,10 @@ StopsLine Turns bytes before after old new = ⊥
 abbrev pub Stays : Option (List ℕ) → Option (List ℕ) → State → State → Type 0
 Stays before after old new = Keeps before after × (new ≡ old)
 
--- What a fault left of the bytes behind the lines that were taken before it.
+-- What a fault left of the bytes behind the lines that were taken before it. At Memory and Write:
+-- as `StopsLine` says of the next line, or, at Memory, nothing more. At Read and Turns: there is
+-- no line feed in them, and nothing more was taken or written. At TooLong: they begin with a line
+-- that is too long, and nothing more was taken or written.
 abbrev pub StopsIn : PlayFault → Type 0 → List ℕ → Option (List ℕ) → Option (List ℕ) → State → State → Type 0
 StopsIn Memory ends rest before after old new = Stays before after old new ⊎ ((bytes : List ℕ) × IsNext ends rest bytes × StopsLine Memory bytes before after old new)
 StopsIn Write ends rest before after old new = (bytes : List ℕ) × IsNext ends rest bytes × StopsLine Write bytes before after old new
@@ -79,7 +91,8 @@ StopsIn Read ends rest before after old new = IsFreeOf 10 rest × Stays before a
 StopsIn Turns ends rest before after old new = IsFreeOf 10 rest × Stays before after old new
 StopsIn TooLong ends rest before after old new = BeginsTooLong rest × Stays before after old new
 
--- How far a run came that ended with a fault, of the bytes that were read: the lines before the fault were taken, and all their replies written.
+-- How far a run came that ended with a fault, of the bytes that were read: first lines, with
+-- their line feeds, were taken, and all their replies written; and then `StopsIn` of the rest.
 pub record Stopped (fault : PlayFault) (ends : Type 0) (bytes : List ℕ) (before after : Option (List ℕ)) (old new : State) : Type 0 where
   pub lines : List (List ℕ)
   pub rest : List ℕ
@@ -89,26 +102,18 @@ pub record Stopped (fault : PlayFault) (ends : Type 0) (bytes : List ℕ) (befor
   pub taken : Plays lines before held old state
   pub stopped : StopsIn fault ends rest held after state new
 
--- ---- whole runs. `left` is what the reader has left, before and after, and `held` what the writer holds
+-- ---- whole runs: `left` is what the reader has left, before and after, `held` what a writer has
 
--- A script was read to its end, and all its lines were taken.
+-- A script was read to its end, each of its lines fits, and all were taken.
 abbrev pub PlaysAll : Option (List ℕ) → Option (List ℕ) → Option (List ℕ) → Option (List ℕ) → State → State → Type 0
 PlaysAll left left_after held held_after old new =
     (bytes : List ℕ) × Consumes left left_after bytes × IsAtEnd left_after × AllByRecursion Fits (lines_of bytes) × Plays (lines_of bytes) held held_after old new
 
--- A script was read and run up to a fault.
+-- A script was read, and run up to a fault.
 abbrev pub StopsAt : PlayFault → Option (List ℕ) → Option (List ℕ) → Option (List ℕ) → Option (List ℕ) → State → State → Type 0
 StopsAt fault left left_after held held_after old new = (bytes : List ℕ) × Consumes left left_after bytes × Stopped fault (IsAtEnd left_after) bytes held held_after old new
 
--- Each line that ends in the bytes was taken, and the rest of them is a line that has begun.
+-- Each line that ends in the bytes was taken, and the rest of them is a line that has begun and
+-- fits.
 abbrev pub TakesAll : List ℕ → List ℕ → Option (List ℕ) → Option (List ℕ) → State → State → Type 0
 TakesAll bytes begun before after old new = (lines : List (List ℕ)) × Cuts bytes lines begun × IsFreeOf 10 begun × Fits begun × Plays lines before after old new
-
--- The same on a new core that grants calls by this rule.
-abbrev pub PlaysAnew : Rule → Option (List ℕ) → Option (List ℕ) → Option (List ℕ) → Option (List ℕ) → Type 0
-PlaysAnew rule left left_after held held_after = (new : State) × PlaysAll left left_after held held_after (at_base rule first_base) new
-
--- There may have been no memory for the core.
-abbrev pub StopsAnew : Rule → PlayFault → Option (List ℕ) → Option (List ℕ) → Option (List ℕ) → Option (List ℕ) → Type 0
-StopsAnew rule fault left left_after held held_after =
-    ((fault ≡ Memory) × Keeps left left_after × Keeps held held_after) ⊎ ((new : State) × StopsAt fault left left_after held held_after (at_base rule first_base) new)

@@ -15,7 +15,7 @@ pub record GoneOver : Type 0 where
   pub events : List Event
   pub given : List StampedCall
 
--- the events of the core when it was last gone over
+-- the events of the core when it was last gone over, none where it never was
 abbrev pub events_seen : Option (Snapshot StoredState) → List Event
 events_seen None = []
 events_seen (Some core) = core.value.state.events
@@ -24,9 +24,10 @@ events_seen (Some core) = core.value.state.events
 abbrev pub but_last : List StampedCall → ℕ → List StampedCall
 but_last calls n = take (length calls - n) calls
 
--- the committed calls among these events without those that are still to be given out
+-- the committed calls among these events without those that a walk is still to give out
 abbrev pub given_by : Walk → List Event → List StampedCall
 given_by walk events = but_last (committed_in events) (length (joined (call_at (told events) events) (reverse walk.closing.items)))
 
+-- what a walk has gone over and given out
 abbrev pub gone_over : Walk → List Event → GoneOver
 gone_over walk seen = record { events = take walk.passed seen; given = given_by walk (take walk.passed seen) }

@@ -1,4 +1,5 @@
--- Places of calls among the events, in lists by top-level transactions.
+-- Places of calls among the events, in lists by top-level transactions: what a walk keeps, inside
+-- the crate.
 use Rattle.std.specs.Prelude.{ℕ, suc, Bool, cond, List, [], ◌∷◌, ◌==◌, Option, Some, None}
 use Rattle.std.specs.Ordering.{nat_cmp}
 use Rattle.std.specs.FinMap as finite
@@ -14,10 +15,12 @@ use Rattle.ft_core.specs.Histories.{History}
 abbrev pub Places : Type 0
 Places = finite.FinMap nat_cmp (Vec ℕ Global)
 
+-- the list of one top-level transaction, empty where it has none
 abbrev pub listed : Option (Vec ℕ Global) → List ℕ
 listed None = []
 listed (Some places) = places.items
 
+-- the places of the calls of a top-level transaction
 abbrev pub places_in : Places → ℕ → List ℕ
 places_in table top = listed (finite.get table top)
 
@@ -30,6 +33,7 @@ places_from n test (Undo stamp ∷ events) = places_from (suc n) test events
 places_from n test (Commit txn ∷ events) = places_from (suc n) test events
 places_from n test (Abort txn ∷ events) = places_from (suc n) test events
 
--- in a history with these events, the places of all calls granted to a top-level transaction and to those below it, oldest first
+-- in a history with these events, the places of all calls granted to a top-level transaction and
+-- to those below it, oldest first
 abbrev pub places_under : History → List Event → ℕ → List ℕ
 places_under h events top = places_from 0 (λ txn. root (parent posix_calls h) txn == top) events

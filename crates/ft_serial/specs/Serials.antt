@@ -1,4 +1,5 @@
--- The calls of a core's history in the serial order.
+-- The calls of a core's history in the serial order (Moss, Nested Transactions, MIT 1981, serial
+-- execution).
 use Rattle.std.specs.Prelude.{◌≡◌, ◌≢◌, ◌<◌, ◌↔◌, List, map}
 use mathlib.Core.List.{IsPrefix}
 use Rattle.ft_laws.specs.Lists.{Each, Pairs, In}
@@ -19,19 +20,22 @@ use Rattle.ft_core.specs.Steps.{IsStep, exact_rule}
 abbrev pub stamped : Granted → StampedCall
 stamped c = record { stamp = c.call.stamp; call = c.call.call }
 
--- the standing calls of the top-level transactions whose commits are among these events, in the order of the commits
+-- the standing calls of the top-level transactions whose commits are among these events, in the
+-- order of the commits
 abbrev pub committed_in : List Event → List StampedCall
 committed_in events = map stamped (committed_part posix_calls (told events))
 
--- The committed calls of a state.
+-- The same of all events of a state.
 abbrev pub committed_calls : State → List StampedCall
 committed_calls s = committed_in s.events
 
--- All standing calls in the serial order: the committed ones, and behind them the others in the order of their stamps.
+-- All standing calls in the serial order: the committed ones, and behind them the others in the
+-- order of their stamps.
 abbrev pub serial_calls : State → List StampedCall
 serial_calls s = map stamped (serial_list posix_calls (history s))
 
--- Made one after another from the base, the calls of the serial list leave the tree of the state, each with the reply that it got.
+-- Made one after another from the base, the calls of the serial list leave the tree of the state,
+-- each with the reply that was recorded.
 pub record RunsSerially (s : State) : Type 0 where
   pub tree : tree_after s.base.tree (serial_list posix_calls (history s)) ≡ tree_of s
   pub replies : GiveReplies s.base.tree (serial_list posix_calls (history s))
@@ -43,12 +47,13 @@ pub record RunsSerially (s : State) : Type 0 where
   -- The committed calls alone give their replies too.
   pub committed : GiveReplies s.base.tree (committed_part posix_calls (history s))
 
--- What has happened and what has committed are still there, and stand first.
+-- The base is the same, and the events and the committed calls from before stand first.
 pub record Grows (old new : State) : Type 0 where
   pub base : new.base ≡ old.base
   pub events : IsPrefix old.events new.events
   pub committed : IsPrefix (committed_calls old) (committed_calls new)
 
--- So it is after each request but a checkpoint, which makes the tree the base and forgets what has happened.
+-- So it is after each request but a checkpoint, which makes the tree the base and forgets what
+-- has happened.
 abbrev pub CommittedStays : Type 0
 CommittedStays = (old : State) (new : StoredState) (request : Request) (answer : Answer) → IsReached new → request ≢ Checkpoint → IsStep exact_rule old request answer new.state → Grows old new.state

@@ -1,4 +1,4 @@
--- How a walk along the events of a core stands.
+-- How a walk along the events of a core stands, inside the crate.
 use Rattle.std.specs.Prelude.{◌≡◌, ◌<◌, ℕ, Bool, true, false, not, cond, ◌&&◌, List, [], ◌∷◌, ◌++◌, Option, Some, None, Result, Ok, Err, map, length, reverse, take, slice_get}
 use Rattle.std.specs.Ordering.{nat_cmp}
 use Rattle.std.specs.FinMap as finite
@@ -26,6 +26,7 @@ use Rattle.ft_serial.specs.Places.{places_in, places_under}
 abbrev pub Stamps : Type 0
 Stamps = finite.FinMap nat_cmp (Unit {0})
 
+-- the fate is that of an abort
 abbrev pub is_aborted : Option Fate → Bool
 is_aborted None = false
 is_aborted (Some IsLive) = false
@@ -45,12 +46,12 @@ by_call other made (Some (Abort txn)) = other
 abbrev pub call_of : Option Event → Option StampedCall
 call_of = by_call None (λ stamp txn call. Some (record { stamp = stamp; call = call }))
 
--- without the stamp of a call
+-- the stamps without that of a call
 abbrev pub without_call : Stamps → Option StampedCall → Stamps
 without_call undone None = undone
 without_call undone (Some call) = finite.remove undone call.stamp
 
--- without those of the calls at these places among the events
+-- the stamps without those of the calls at these places among the events
 abbrev pub without_calls : Stamps → List Event → List ℕ → Stamps
 without_calls undone events [] = undone
 without_calls undone events (place ∷ places) = without_calls (without_call undone (call_of (slice_get events place))) events places
@@ -63,14 +64,15 @@ stands undone h stamp txn = not (undone stamp) && not (is_gone posix_calls h txn
 abbrev pub standing_top : (ℕ → Bool) → History → Option Event → Option ℕ
 standing_top undone h = by_call None (λ stamp txn call. cond (stands undone h stamp txn) (Some (root (parent posix_calls h) txn)) None)
 
--- the call itself
+-- of the call that an event grants, where it stands, the call itself
 abbrev pub standing_call : (ℕ → Bool) → History → Option Event → Option StampedCall
 standing_call undone h = by_call None (λ stamp txn call. cond (stands undone h stamp txn) (Some (record { stamp = stamp; call = call })) None)
 
--- it stands, and its top-level transaction has not committed
+-- the call that an event grants stands, and its top-level transaction has not committed
 abbrev pub is_open_call : (ℕ → Bool) → History → Option Event → Bool
 is_open_call undone h = by_call false (λ stamp txn call. stands undone h stamp txn && not (is_committed posix_calls h (root (parent posix_calls h) txn)))
 
+-- a call as a list, empty where there is none
 abbrev pub option_list : Option StampedCall → List StampedCall
 option_list None = []
 option_list (Some call) = call ∷ []
@@ -84,7 +86,8 @@ pub record IsOpen (h : History) (top : ℕ) : Type 0 where
   pub uncommitted : is_committed posix_calls h top ≡ false
   pub there : is_gone posix_calls h top ≡ false
 
--- the top-level transaction of the call at this place among the events has committed, and it is known whether the call was undone
+-- the top-level transaction of the call at this place among the events has committed, and it is
+-- known whether the call was undone
 pub record HasCommitted (undone : Stamps) (h : History) (events : List Event) (place : ℕ) : Type 0 where
   pub within : place < length events
   pub committed : (stamp txn : ℕ) (call : CallOf) (reply : Reply) (accesses : List Access) → slice_get events place ≡ Some (Call stamp txn call reply accesses) → is_committed posix_calls h (root (parent posix_calls h) txn) ≡ true
@@ -105,14 +108,16 @@ pub record IsWalkBy (walk : Walk) (h : History) (events : List Event) (given : L
   -- of which are all committed calls that were not given out.
   pub split : map stamped (committed_part posix_calls h) ≡ given ++ joined (call_at h events) (reverse walk.closing.items)
 
+-- The same, where the history is that of the events.
 abbrev pub IsWalk : Walk → List Event → List StampedCall → Type 0
 IsWalk walk events given = IsWalkBy walk (told events) events given
 
--- it has gone over the first events of the state
+-- So it is, where these are the first events of the state.
 abbrev pub IsWalkOf : Walk → State → List StampedCall → Type 0
 IsWalkOf walk s given = IsWalk walk (take walk.passed s.events) given
 
--- What comes of the next call of the transaction that committed last: it is given out, or there is none.
+-- What comes of the next call of the transaction that committed last: it is given out, or there
+-- is none.
 abbrev pub IsTaken : Walk → State → List StampedCall → Result (Option StampedCall) Memory → Type 0
 IsTaken walk s given (Ok (Some call)) = IsWalkOf walk s (given ++ call ∷ [])
 IsTaken walk s given (Ok None) = IsWalkOf walk s given × (walk.closing.items ≡ [])

@@ -7,7 +7,6 @@ use crate::walk::Walk;
 use ft_base::Memory;
 use ft_calls::StampedCall;
 use ft_core::Core;
-use ft_core::laws::reached;
 use std::alloc::Global;
 use std::marker::Model;
 use std::snapshot::Snapshot;
@@ -70,7 +69,6 @@ impl Commits {
         ensures given { IsPrefix self.new.given (committed_calls core.now.state) }
         ensures kept { IsPrefix self.new.given (committed_in self.new.events) }
     {
-        reached(core);
         let next = self.walk.next(core);
         self.seen = Some(Snapshot::of(core));
         next

@@ -13,7 +13,6 @@ use crate::places::copy_at;
 use crate::walk::Walk;
 use ft_base::Memory;
 use ft_calls::StampedCall;
-use ft_core::laws::reached;
 use ft_core::{Core, State, TxnId};
 
 /// All standing calls in the serial order: those of the top-level transactions that have
@@ -25,7 +24,6 @@ use ft_core::{Core, State, TxnId};
 pub fn serial(core: &Core) -> Result<Vec<StampedCall>, Memory>
     ensures { IfOk result (λ calls. calls.items ≡ serial_calls core.now.state) }
 {
-    reached(core);
     let mut walk = Walk::new(core.alloc());
     let mut calls = Vec::new(core.alloc());
     while let Some(call) = walk.next(core)? {
@@ -38,8 +36,7 @@ pub fn serial(core: &Core) -> Result<Vec<StampedCall>, Memory>
 /// Lists the standing calls whose top-level transaction has not committed, in the order of their
 /// stamps.
 fn list_open(core: &Core, walk: &Walk, calls: &mut Vec<StampedCall>) -> Result<(), Memory>
-    requires reached { IsReached core.now }
-    requires walk { IsWalk walk.now core.now.state.events calls.old.items }
+    requires { IsWalk walk.now core.now.state.events calls.old.items }
     ensures { OnOk result (calls.new.items ≡ calls.old.items ++ map stamped (open_part posix_calls (history core.now.state))) }
 {
     let events = core.history();

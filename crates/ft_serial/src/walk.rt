@@ -45,14 +45,15 @@ impl Walk {
 
     /// The next committed call in the serial order, where there is one that was not given out.
     pub(crate) fn next(&mut self, core: &Core) -> Result<Option<StampedCall>, Memory>
-        requires { IsReached core.now }
-        ensures { (given : List CallValue) → IsWalkOf self.old core.now.state given → IsNext self.new core.now.state given result }
+        ensures next { (given : List CallValue) → IsWalkOf self.old core.now.state given → IsNext self.new core.now.state given result }
+        ensures reached { IsReached core.now }
     {
+        let count = core.history().len();
         loop {
             if let Some(call) = self.take_closing(core)? {
                 return Ok(Some(call));
             }
-            if self.passed >= core.history().len() {
+            if self.passed >= count {
                 return Ok(None);
             }
             self.pass(core)?;
@@ -61,7 +62,6 @@ impl Walk {
 
     /// The next call of the transaction that committed last, where there is one.
     fn take_closing(&mut self, core: &Core) -> Result<Option<StampedCall>, Memory>
-        requires { IsReached core.now }
         ensures taken { (given : List CallValue) → IsWalkOf self.old core.now.state given → IsTaken self.new core.now.state given result }
         ensures passed { self.new.passed ≡ self.old.passed }
     {
@@ -78,8 +78,7 @@ impl Walk {
 
     /// Goes over the next event. Want of memory changes nothing.
     fn pass(&mut self, core: &Core) -> Result<(), Memory>
-        requires reached { IsReached core.now }
-        requires more { self.old.passed < length core.now.state.events }
+        requires { self.old.passed < length core.now.state.events }
         ensures ok { OnOk result ((given : List CallValue) → IsWalkOf self.old core.now.state given → self.old.closing.items ≡ [] → IsWalkOf self.new core.now.state given) }
         ensures passed { OnOk result (self.new.passed ≡ self.old.passed + 1) }
         ensures err { OnErr result ((given : List CallValue) → IsWalkOf self.old core.now.state given → IsWalkOf self.new core.now.state given) }
@@ -111,7 +110,6 @@ impl Walk {
 
     /// The call that was granted at a place among the events, where it stands.
     fn standing_call(&self, core: &Core, place: usize) -> Result<Option<StampedCall>, Memory>
-        requires { IsReached core.now }
         ensures { IfOk result (λ call. call ≡ standing_call_of (finite.contains_key self.now.undone) (history core.now.state) (slice_get core.now.state.events place)) }
     {
         if self.standing_top(core, place).is_none() {
@@ -122,7 +120,6 @@ impl Walk {
 
     /// The top-level transaction of that call, where the call stands.
     pub(crate) fn standing_top(&self, core: &Core, place: usize) -> Option<TxnId>
-        requires { IsReached core.now }
         ensures { result ≡ standing_top_of (finite.contains_key self.now.undone) (history core.now.state) (slice_get core.now.state.events place) }
     {
         let Some(Event::Call { stamp, txn, .. }) = core.history().get(place) else {

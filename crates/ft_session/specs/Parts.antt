@@ -9,22 +9,27 @@ use Rattle.ft_replies.specs.Texts.{text_of}
 use Rattle.ft_session.specs.declared.last.Last.{Last}
 use Rattle.ft_session.specs.declared.last.Last.TheVariants as last
 
+-- the names that a reply lists
 abbrev pub names_of : Reply → List (List ℕ × Kind)
 names_of (Names names) = names
 names_of other = []
 
+-- the bytes that a reply has
 abbrev pub bytes_of : Reply → Option (List ℕ)
 bytes_of (Bytes bytes) = Some bytes
 bytes_of other = None
 
+-- the same of an answer
 abbrev pub names_answered : Answer → List (List ℕ × Kind)
 names_answered (Granted stamp reply) = names_of reply
 names_answered other = []
 
+-- the bytes of an answer, if it is a reply that has some
 abbrev pub bytes_answered : Answer → Option (List ℕ)
 bytes_answered (Granted stamp reply) = bytes_of reply
 bytes_answered other = None
 
+-- the transactions that an answer names as in the way
 abbrev pub blockers_answered : Answer → List ℕ
 blockers_answered (Waits blockers) = blockers
 blockers_answered other = []

@@ -17,7 +17,8 @@ HasAnswered old request answer new = IsStep exact_rule old.core.state request an
 abbrev pub IsSame : Session → Session → Type 0
 IsSame old new = (new.core.state ≡ old.core.state) × (new.last ≡ old.last)
 
--- What a line leaves that was carried out: a request, as that; a report has its text kept, and one that asks for nothing an empty text.
+-- What a line leaves that was carried out: a request, as that; a report has its text kept, and
+-- one that asks for nothing an empty text.
 abbrev pub IsCarriedOut : Session → Line → Session → Type 0
 IsCarriedOut old (line.Request request) new = (answer : Answer) × HasAnswered old request answer new
 IsCarriedOut old (line.Report report) new = (text : List ℕ) × IsReport old.core.state report text × (new.core.state ≡ old.core.state) × (new.last ≡ last.Text text)

@@ -7,8 +7,8 @@ ghost use Rattle.ft_session.specs.Sessions.{HasAnswered, HasTold, IsCarriedOut, 
 
 use crate::last::Last;
 use ft_base::{Memory, Sequence};
-use ft_core::{Answer, Core, Request};
-use ft_replies::{Line, meaning_of, reply_to};
+use ft_core::{Core, Request};
+use ft_replies::{Line, carry_out, meaning_of, reply_to};
 use std::alloc::Global;
 
 /// Why a line was not carried out. Nothing has changed.
@@ -55,11 +55,7 @@ impl Session {
     pub fn ask(&mut self, request: Request)
         ensures { (answer : AnswerOf) × HasAnswered self.old request answer self.new }
     {
-        let answer = self.core.answer(request);
-        if matches!(answer, Answer::Committed | Answer::Aborted(_)) {
-            self.core.sweep();
-        }
-        self.last = Last::Answer(answer);
+        self.last = Last::Answer(carry_out(&mut self.core, request));
     }
 
     /// Carries out one line of a script, without its line feed.

@@ -11,10 +11,12 @@ use Rattle.ft_view.specs.declared.reader.ViewFault.TheVariants.{Memory}
 use Rattle.ft_shared.specs.declared.opened.Cause.{Cause}
 use Rattle.ft_shared.specs.declared.opened.Cause.TheVariants.{Fault as FaultCause, View as ViewCause}
 
+-- views that have no name yet: their core and their book
 pub record Opening : Type 0 where
   pub core : StoredState
   pub book : Book
 
+-- how they are coded
 abbrev pub coded_opening : Coded Opening
 coded_opening = code_by (StoredState × Book) (coded× coded_stored book_coded) (λ o. (o.core, o.book)) (λ p. record { core = p.0; book = p.1 }) (λ _. refl)
 
@@ -25,11 +27,12 @@ pub record IsOpened (core : State) (book : Book) (nothing : Fronted) (first seco
   pub one : first ≡ record { tree = core.base.tree; front = nothing }
   pub other : second ≡ record { tree = core.base.tree; front = nothing }
 
--- the views that were opened, as one names them
+-- what a name of them names
 abbrev pub named_by : Opening → Views
 named_by o = record { book = o.book; base = o.core.state.base.tree }
 
--- Why a core in this state has no views: a transaction is live; or none is, and there was no memory.
+-- Why a core in this state has no views: a transaction is live; or none is, and there was no
+-- memory.
 abbrev pub IsRefused : State → Cause → Type 0
 IsRefused s (FaultCause fault) = (fault ≡ Live) × SomeIsLive s
 IsRefused s (ViewCause fault) = (fault ≡ Memory) × NoneIsLive s

@@ -18,10 +18,13 @@ use Rattle.ft_core.specs.contracts.request.Event as event
 use Rattle.ft_serial.specs.Commits.{GoneOver}
 use Rattle.ft_serial.specs.Serials.{committed_in}
 
+-- a list of calls
 abbrev pub Calls : Type 0
 Calls = List StampedCall
 
--- what a publisher has: the list that readers see, the list that the writer was given, the list of the book, a call that was taken from the core and not yet given to the writer, and what was taken from the core
+-- what a publisher has: the list that readers see, the one that the writer was given, that of the
+-- book, a call that was taken from the core and not yet given to the writer, and what was taken
+-- from the core
 pub record Publishing : Type 0 where
   pub published : Calls
   pub fed : Calls
@@ -29,11 +32,12 @@ pub record Publishing : Type 0 where
   pub held : Option StampedCall
   pub commits : GoneOver
 
--- as a list
+-- the held call as a list, empty where there is none
 abbrev pub listed : Option StampedCall → Calls
 listed None = []
 listed (Some call) = call ∷ []
 
+-- a view with one call more
 abbrev pub step : Shown → Published → Shown
 step v p = advanced v p.call p.front
 
@@ -41,7 +45,7 @@ step v p = advanced v p.call p.front
 abbrev pub ahead : Shown → ℕ → List Published → Shown
 ahead shown behind log = fold step shown (drop behind log)
 
--- What is pending may be shown: it makes a view of these.
+-- What is pending makes a view of these, so that it may be shown.
 pub record IsPublishable (opened : Views) (shown : Shown) (behind : ℕ) (log : List Published) : Type 0 where
   pub next : IsViewOf opened (ahead shown behind log)
 
@@ -50,7 +54,9 @@ pub record IsPublished (shown : Shown) (behind : ℕ) (log : List Published) (sh
   pub ok : OnOk result ((shown' ≡ ahead shown behind log) × (drop behind' log' ≡ []))
   pub err : OnErr result ((shown' ≡ shown) × (drop behind' log' ≡ drop behind log))
 
--- What is shown is a view of these, and so it is with what is pending, which makes it the list that the writer was given; the book has the same list, or the call too that is held; and all that was taken from the core was given or is held, and has committed there.
+-- What is shown is a view of these, and so it is with what is pending, which makes it the list
+-- that the writer was given; the book has the same list, or the held call too; and all that was
+-- taken from the core was given or is held, and has committed there.
 pub record IsPublishing (opened : Views) (book : Book) (shown : Shown) (behind : ℕ) (log : List Published) (fed told : Fronted) (held : Option StampedCall) (commits : GoneOver) : Type 0 where
   pub of_book : book ≡ opened.book
   pub fed_of : fed.book ≡ opened.book
@@ -63,33 +69,40 @@ pub record IsPublishing (opened : Views) (book : Book) (shown : Shown) (behind :
   pub given : commits.given ≡ fed.calls ++ listed held
   pub stands : IsPrefix commits.given (committed_in commits.events)
 
+-- what stands behind the lock: a core, and the list that is published where it has views
 pub record Backed : Type 0 where
   pub core : StoredState
   pub published : Option Calls
 
+-- the list that readers see, where there are views
 abbrev pub published_in : Option Publishing → Option Calls
 published_in None = None
 published_in (Some p) = Some p.published
 
--- The views start from the core's base, and what was gone over of its events is a beginning of them.
+-- The views start from the core's base, and the events that the publisher has gone over are a
+-- beginning of the core's.
 pub record IsPublisherOf (start : PlainTree) (core : State) (p : Publishing) : Type 0 where
   pub base : core.base.tree ≡ start
   pub passed : IsPrefix p.commits.events core.events
 
+-- so it is of a core that has views; of one that has none, nothing
 abbrev pub ArePublished : PlainTree → State → Option Publishing → Type 0
 ArePublished start core None = Unit {0}
 ArePublished start core (Some p) = IsPublisherOf start core p
 
--- why nothing was published
+-- why nothing was published: NoViews where there are no views, else Memory
 abbrev pub fault_of_publish : Option Calls → Fault
 fault_of_publish None = NoViews
 fault_of_publish (Some calls) = MemoryFault
 
+-- how what was gone over is coded
 abbrev pub coded_gone_over : Coded GoneOver
 coded_gone_over = code_by (List Event × Calls) (coded× (coded_list event.the_row.coded) coded_calls) (λ g. (g.events, g.given)) (λ p. record { events = p.0; given = p.1 }) (λ _. refl)
 
+-- how what a publisher has is coded
 abbrev pub coded_publishing : Coded Publishing
 coded_publishing = code_by (Calls × (Calls × (Calls × (Option StampedCall × GoneOver)))) (coded× coded_calls (coded× coded_calls (coded× coded_calls (coded× (coded_option stamped.the_row.coded) coded_gone_over)))) (λ l. (l.published, (l.fed, (l.told, (l.held, l.commits))))) (λ p. record { published = p.0; fed = p.1.0; told = p.1.1.0; held = p.1.1.1.0; commits = p.1.1.1.1 }) (λ _. refl)
 
+-- how what stands behind the lock is coded
 abbrev pub coded_backed : Coded Backed
 coded_backed = code_by (StoredState × Option Calls) (coded× coded_stored (coded_option coded_calls)) (λ b. (b.core, b.published)) (λ p. record { core = p.0; published = p.1 }) (λ _. refl)

@@ -6,6 +6,7 @@ use Rattle.ft_script.specs.declared.playing.PlayFault.TheVariants.{Memory, Read,
 use Rattle.ft_outcome.specs.declared.running.RunFault.{RunFault}
 use Rattle.ft_outcome.specs.declared.running.RunFault.TheVariants as run
 
+-- `fault: NAME` and a line feed, for a fault of a script
 abbrev pub fault_line : PlayFault → List ℕ
 fault_line Memory = codes "fault: Memory" ++ 10 ∷ []
 fault_line Read = codes "fault: Read" ++ 10 ∷ []

@@ -19,6 +19,7 @@ use ft_load::load;
 use ft_outcome::{RunFault, run_plan};
 use ft_save::{SaveFault, save};
 use ft_script::{PlayFault, play, write_out};
+use ft_shown::ShownSource;
 use ft_words::Data;
 use std::alloc::Global;
 use std::io::{Read, Write};
@@ -121,10 +122,13 @@ pub fn after_failed<E: Write>(alloc: Global, errors: &mut E, fault: AfterFault) 
 }
 
 /// Writes a script of what a source tells, and answers the status to end with: 0, or 1 after a
-/// fault, of which a line tells on `errors`, with the path where it came.
-pub fn load_status<S: Source, W: Write + Drop, E: Write>(
+/// fault, of which a line tells on `errors`, with the path where it came. How far it has come is
+/// shown on a screen meanwhile, if there is one.
+pub fn load_status<R: Clock, S: Source, V: Write + Drop, W: Write + Drop, E: Write>(
+    rt: &R,
     alloc: Global,
     source: &S,
+    screen: Option<V>,
     writer: W,
     errors: &mut E,
 ) -> u8
@@ -132,8 +136,11 @@ pub fn load_status<S: Source, W: Write + Drop, E: Write>(
     ensures quiet { result ≡ 0 → Keeps (E.contents errors.old) (E.contents errors.new) }
     ensures ok { result ≡ 0 → (after : W) × Loads (S.tells source.now) (W.contents writer) (W.contents after) }
 {
-    match load(alloc, source, writer) {
-        Ok(_) => 0,
+    let shown = ShownSource::new(rt, alloc, source, screen);
+    let (_, loaded) = load(alloc, &shown, writer);
+    shown.done();
+    match loaded {
+        Ok(()) => 0,
         Err(stopped) => stopped_failed(alloc, errors, &stopped),
     }
 }

@@ -3,8 +3,6 @@
 #![tactic(auto)]
 
 #[cfg(test)]
-mod locked;
-#[cfg(test)]
 mod of_jobs;
 #[cfg(test)]
 mod of_waiters;

@@ -1,9 +1,9 @@
 // Jobs whose transactions are taken away while they run.
-use crate::locked::new_shared;
 use ft_calls::Call;
 use ft_core::{Core, Fault, Outcome, TxnId};
 use ft_jobs::{End, JobsOutcome, OpenGate, Plan, Report, run_jobs};
 use ft_shared::{Manager, Shared};
+use ft_test_scripts::new_shared;
 use std::alloc::Global;
 use std::sync::Wait;
 use std::sync::atomic::{AtomicU64, Ordering};

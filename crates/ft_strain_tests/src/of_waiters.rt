@@ -1,9 +1,9 @@
 // Threads in which transactions wait for each other, and one that is let go on by its parent.
-use crate::locked::new_shared;
 use ft_calls::{Call, Reply};
 use ft_core::{Fault, Outcome, TxnId};
 use ft_path::{Errno, FilePath};
 use ft_shared::Shared;
+use ft_test_scripts::{is_deadlock, new_shared};
 use ft_waits::{Edge, EdgeKind, Verdict};
 use std::alloc::Global;
 use std::sync::Wait;
@@ -76,21 +76,6 @@ fn ask_both<R: Threads + Wait + Clock + Sync>(
         || shared.ask_wait(rt, TxnId(1), of_one, FEW_TURNS),
         || shared.ask_wait(rt, TxnId(2), of_two, FEW_TURNS),
     )
-}
-
-/// Whether they wait for each other's locks, and nobody else waits.
-fn is_deadlock(edges: &[Edge], verdict: &Verdict) -> bool {
-    let (one, two) = (TxnId(1), TxnId(2));
-    let lock = |from, to| Edge {
-        from,
-        to,
-        kind: EdgeKind::Lock,
-    };
-    let is_cycle = match verdict {
-        Verdict::Cycle(members) => members.as_slice() == [one, two].as_slice(),
-        Verdict::Ranked(_) => false,
-    };
-    is_cycle && edges == [lock(one, two), lock(two, one)].as_slice()
 }
 
 /// Whether nobody waits.

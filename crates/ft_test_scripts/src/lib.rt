@@ -2,8 +2,10 @@
 //! get of a core, or of one behind a lock.
 #![tactic(auto)]
 
+mod locked;
 mod scripts;
 mod through;
 
+pub use locked::{is_deadlock, new_shared};
 pub use scripts::{Answers, Line, Wanted, is_reply, plays};
 pub use through::Through;

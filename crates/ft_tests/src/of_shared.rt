@@ -4,7 +4,7 @@ use ft_calls::Call;
 use ft_core::{Core, Fault, Outcome, TxnId};
 use ft_path::FilePath;
 use ft_shared::{MOST_PAUSE, Manager, Refused, Shared};
-use ft_waits::{Edge, EdgeKind, Verdict};
+use ft_test_scripts::{is_deadlock, new_shared};
 use std::alloc::Global;
 use std::marker::Brand;
 use std::sync::Wait;
@@ -16,29 +16,6 @@ use std::time::{Clock, Duration, Instant};
 fn stat_call(alloc: Global) -> Result<Call, Fail> {
     let path = FilePath::new(alloc, b"/a".as_slice())?;
     Ok(Call::Stat { path })
-}
-
-/// A new core behind a lock.
-fn new_shared(alloc: Global) -> Result<Shared, Fault> {
-    match Shared::<Brand>::new(Core::new(alloc)?) {
-        Ok(shared) => Ok(shared),
-        Err(refused) => Err(refused.fault),
-    }
-}
-
-/// Whether two transactions alone wait for each other's locks.
-fn is_deadlock(edges: &[Edge], verdict: &Verdict) -> bool {
-    let (one, two) = (TxnId(1), TxnId(2));
-    let lock = |from, to| Edge {
-        from,
-        to,
-        kind: EdgeKind::Lock,
-    };
-    let is_cycle = match verdict {
-        Verdict::Cycle(members) => members.as_slice() == [one, two].as_slice(),
-        Verdict::Ranked(_) => false,
-    };
-    is_cycle && edges == [lock(one, two), lock(two, one)].as_slice()
 }
 
 /// Whether a core tells a deadlock of two, where there is one.

@@ -22,7 +22,7 @@ use Rattle.ft_tree.specs.Sweep.{at_place, is_spare, one_if, drop_spare, swept_at
 use Rattle.ft_cells.proofs.Splits.{by_test, by_option, unlike, both-left, both-right, both-of, none-right, not-of, tied-is, tied-itself}
 use Rattle.ft_cells.proofs.MapViews.{some_len}
 use Rattle.ft_cells.proofs.Gathered.{weight, weight-insert, weight-remove}
-use Rattle.ft_inodes.proofs.Opened.{described-open}
+use Rattle.ft_descriptions.proofs.Opened.{described-open}
 use Rattle.ft_tree.proofs.Swept.{swept-none, swept-then, same_dirs, spare-before, swept-file, gone-file, swept-fd, gone-fd, swept-dir, gone-dir, dir-same, swept-entry, gone-entry, dir-other}
 use Rattle.ft_tree.proofs.SweptTidy.{tidy-file, tidy-fd, tidy-dir, tidy-entry}
 

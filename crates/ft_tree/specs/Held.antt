@@ -1,4 +1,7 @@
--- What each cell holds, and how one of them is set.
+-- What each cell holds, and how one of them is set. Places are a rule of this project, and no
+-- part of what calls do: one may be there and empty. A call that is taken back leaves its places,
+-- and a call that met want of memory leaves the very cells, so every empty place was left by a
+-- call that was granted.
 use Rattle.std.specs.Prelude.{ℕ, List, [], Option, None}
 use Rattle.std.specs.Option.{option_map, option_map_or}
 use Rattle.std.specs.FinMap as map
@@ -17,6 +20,7 @@ Holds (Links i) = ℕ
 Holds (Bytes i) = List ℕ
 Holds (Fd f) = Option OpenFile
 
+-- the value of a cell
 abbrev pub held : Cells → (c : Cell) → Holds c
 held cells (Entry entry) = entry_of cells entry.dir entry.name
 held cells (Names d) = tt
@@ -52,7 +56,8 @@ place_at cells (Links i) = option_map (λ (x : FileCells). x.links) (map.get cel
 place_at cells (Bytes i) = option_map (λ (x : FileCells). x.bytes) (map.get cells.files i)
 place_at cells (Fd f) = map.get cells.opens f
 
--- the cells without the place of one of them, and without all that stands in it; the names of a directory have none
+-- the cells without the place of one of them, and without all that stands in it: a directory's
+-- with its entries, a file's with its links and bytes; the names of a directory have none
 abbrev pub without_place : Cells → Cell → Cells
 without_place cells (Entry entry) = option_map_or (λ x. put_dir cells entry.dir (without_dir_place x entry.name)) (map.get cells.directories entry.dir) cells
 without_place cells (Names d) = cells
@@ -70,7 +75,8 @@ IsStored cells (Links i) = HasFilePlace cells i
 IsStored cells (Bytes i) = HasFilePlace cells i
 IsStored cells (Fd f) = HasOpenPlace cells f
 
--- a cell can be set where there is memory: an entry where its directory is stored, and bytes where their file is
+-- a cell can be set where there is memory: an entry where its directory is stored, and bytes
+-- where their file is
 abbrev pub CanSet : Cells → Cell → Type 0
 CanSet cells (Entry entry) = HasDirPlace cells entry.dir
 CanSet cells (Names d) = HasDirPlace cells d

@@ -1,4 +1,7 @@
--- When a tree is one: no directory below itself, each standing in its parent, and files and descriptions that belong to it (POSIX.1-2017, Base Definitions, 3 and 4.13).
+-- When a tree is one: no directory below itself, each standing in its parent, and files and
+-- descriptions that belong to it (POSIX.1-2017, Base Definitions, 3 and 4.13). That a directory
+-- has one edge is a rule of this project, since POSIX leaves hard links of directories open
+-- (System Interfaces, link, EPERM).
 use Rattle.std.specs.Prelude.{◌≡◌, ◌≢◌, ◌≤◌, ℕ, true, false, ◌||◌, List, [], Option, Some, None}
 use Rattle.std.specs.FinMap as finite
 use Rattle.ft_cells.specs.declared.node.Node.{Node}
@@ -13,7 +16,8 @@ use Rattle.ft_tree.specs.Held.{Holds, held, IsStored}
 use Rattle.ft_cells.specs.Plain.{PlainTree, parent_in, view_in}
 use Rattle.ft_tree.specs.Tidy.{tidy}
 
--- The parents of a directory lead up to the root; so it is not below itself.
+-- The parents of a directory lead up to the root, step by step; so it is not below itself (3,
+-- Path Prefix, Parent Directory).
 pub data Hangs (parent : ℕ → Option ℕ) : ℕ → Type 0 where
   the_root : Hangs parent 1
   under : (d p : ℕ) → parent d ≡ Some p → Hangs parent p → Hangs parent d
@@ -36,11 +40,11 @@ pub record IsSoundTree (p : PlainTree) : Type 0 where
   -- every description names a file
   pub opens : (f : ℕ) (o : OpenFile) → finite.get p.opens f ≡ Some o → finite.contains_key p.files o.file ≡ true
 
--- a number that is no directory
+-- a number that is no directory: not the root, and without a parent
 abbrev pub IsNoDir : (ℕ → Option ℕ) → ℕ → Type 0
 IsNoDir parent i = (i ≢ 1) × (parent i ≡ None)
 
--- Entries and parents that are those of a tree.
+-- The same of entries and parents, as they are stored: they are those of a tree.
 pub record IsTree (entry : ℕ → List ℕ → Option Node) (parent : ℕ → Option ℕ) : Type 0 where
   -- the root has no parent
   pub top : parent 1 ≡ None
@@ -55,14 +59,16 @@ pub record IsTree (entry : ℕ → List ℕ → Option Node) (parent : ℕ → O
   -- none is below itself
   pub hangs : (d p : ℕ) → parent d ≡ Some p → Hangs parent d
 
--- Stored cells that are those of a sound tree: the links that are kept are the count of the edges, and each description is of a stored file.
+-- Stored cells that are those of a sound tree: the root is stored, the links that are kept are
+-- the count of the edges, and each description is of a stored file, which is no directory.
 pub record AreSoundCells (cells : Cells) : Type 0 where
   pub root_is : HasDirPlace cells 1
   pub tree : IsTree (entry_of cells) (parent_of cells)
   pub links : (i : ℕ) → links_of cells i ≡ view_in (tidy cells) (Links i)
   pub opens : (f : ℕ) (o : OpenFile) → open_of cells f ≡ Some o → HasFilePlace cells o.file × IsNoDir (parent_of cells) o.file
 
--- what a cell holds says nothing of number k: no entry and no description names it, and nothing is stored of it
+-- what a cell holds says nothing of number k: no entry and no description names it, and nothing
+-- is stored of it
 abbrev pub SaysNothingOf : ℕ → (c : Cell) → Holds c → Type 0
 SaysNothingOf k (Entry entry) to = (x : Node) → to ≡ Some x → number_of x ≢ k
 SaysNothingOf k (Names d) to = Unit {0}
@@ -71,7 +77,8 @@ SaysNothingOf k (Links i) to = i ≡ k → to ≡ 0
 SaysNothingOf k (Bytes i) to = i ≡ k → to ≡ []
 SaysNothingOf k (Fd f) to = (f ≡ k → to ≡ None) × ((o : OpenFile) → to ≡ Some o → o.file ≢ k)
 
--- k may number something new: the root is 1, and no cell says anything of k
+-- k may number something new (a rule of this project): the root is 1, and no cell says anything
+-- of k
 pub record IsFree (cells : Cells) (k : ℕ) : Type 0 where
   pub above_root : 2 ≤ k
   pub unused : (c : Cell) → SaysNothingOf k c (held cells c)

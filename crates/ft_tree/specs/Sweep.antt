@@ -1,4 +1,4 @@
--- What a sweep may drop, and what it leaves.
+-- What a sweep may drop, and what it leaves. (Rules of this project.)
 use Rattle.std.specs.Prelude.{◌≡◌, ℕ, Bool, true, false, cond, not, ◌==◌, ◌&&◌, ◌||◌, ◌+◌, List, [], ◌∷◌, is_none}
 use Rattle.std.specs.FinMap as map
 use Rattle.std.specs.FinSet as set
@@ -8,7 +8,9 @@ use Rattle.ft_cells.specs.CellOrder.{cell_cmp}
 use Rattle.ft_cells.specs.Cells.{Cells, DirCells, entry_of, parent_of, links_of, bytes_of, open_of, dir_of, has_dir, has_file, HasFilePlace}
 use Rattle.ft_tree.specs.Held.{IsStored, without_place}
 
--- the place of a cell is there and of no use: there is no entry or description in it, its directory is not there and has no place of an entry, or nothing names its file (POSIX.1-2017, System Interfaces, unlink, rmdir and close)
+-- the place of a cell is there and of no use: there is no entry or description in it, its
+-- directory is not there and has no place of an entry, or nothing names its file (POSIX.1-2017,
+-- System Interfaces, unlink, rmdir and close)
 abbrev pub is_useless : Cells → Cell → Bool
 is_useless cells (Entry entry) = map.contains_key (dir_of cells entry.dir).entries entry.name && is_none (entry_of cells entry.dir entry.name)
 is_useless cells (Names d) = map.contains_key cells.directories d && not (has_dir cells d) && (map.len (dir_of cells d).entries == 0)
@@ -17,7 +19,8 @@ is_useless cells (Links i) = map.contains_key cells.files i && not (has_file cel
 is_useless cells (Bytes i) = map.contains_key cells.files i && not (has_file cells i)
 is_useless cells (Fd f) = map.contains_key cells.opens f && is_none (open_of cells f)
 
--- one of the cells that have their place with this one is among these: the names of a directory and its parent have one place, and so have the links and the bytes of a file
+-- one of the cells that have their place with this one is among these: the names of a directory
+-- and its parent have one place, and so have the links and the bytes of a file
 abbrev pub at_place : (Cell → Bool) → Cell → Bool
 at_place among (Entry entry) = among (Entry entry)
 at_place among (Names d) = among (Names d) || among (Parent d)
@@ -26,6 +29,7 @@ at_place among (Links i) = among (Links i) || among (Bytes i)
 at_place among (Bytes i) = among (Links i) || among (Bytes i)
 at_place among (Fd f) = among (Fd f)
 
+-- one for each that is
 abbrev pub one_if : Bool → ℕ
 one_if b = cond b 1 0
 
@@ -55,11 +59,13 @@ dropped_at kept cells (Links i) = one_if (is_spare kept cells (Links i))
 dropped_at kept cells (Bytes i) = one_if (is_spare kept cells (Bytes i))
 dropped_at kept cells (Fd f) = one_if (is_spare kept cells (Fd f))
 
--- how many places there are: of directories, each with those of its entries, of files, and of descriptors
+-- how many places directories take: each its own, and those of its entries
 abbrev pub places_of_dirs : List (ℕ × DirCells) → ℕ
 places_of_dirs [] = 0
 places_of_dirs (e ∷ es) = (1 + map.len e.1.entries) + places_of_dirs es
 
+-- how many places there are: of directories, each with those of its entries, of files, and of
+-- descriptors
 abbrev pub places_in : Cells → ℕ
 places_in cells = places_of_dirs (map.entries cells.directories) + map.len cells.files + map.len cells.opens
 
@@ -73,7 +79,8 @@ pub record IsDeadFile (kept : Cell → Bool) (cells : Cells) (i : ℕ) : Type 0 
   pub links : kept (Links i) ≡ false
   pub bytes : kept (Bytes i) ≡ false
 
--- Places went, and nothing else happened: each cell holds what it held, but for the bytes of dead files, and what is kept has its place.
+-- What a sweep changes: places went, and nothing else happened. Each cell holds what it held, but
+-- for the bytes of dead files, and what is kept has its place.
 pub record IsSwept (kept : Cell → Bool) (old new : Cells) : Type 0 where
   pub entries : (d : ℕ) (name : List ℕ) → entry_of new d name ≡ entry_of old d name
   pub parents : (d : ℕ) → parent_of new d ≡ parent_of old d

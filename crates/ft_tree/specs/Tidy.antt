@@ -1,4 +1,5 @@
--- The plain tree that the stored cells are.
+-- The plain tree that the stored cells are. (A rule of this project; that a file which nothing
+-- names is gone is POSIX.1-2017, System Interfaces, unlink and close.)
 use Rattle.std.specs.Prelude.{ℕ, Bool, ◌||◌, nat_lt, List, [], ◌∷◌, ◌++◌, map, filter, Option}
 use Rattle.std.specs.List.{filter_map}
 use Rattle.std.specs.Option.{option_map}
@@ -10,10 +11,11 @@ use Rattle.ft_cells.specs.declared.open_file.OpenFile.{OpenFile}
 use Rattle.ft_cells.specs.Cells.{Cells, DirCells, FileCells, Opens, dir_names, is_there, is_open}
 use Rattle.ft_cells.specs.Plain.{PlainTree}
 
--- the edges that start in one directory
+-- the entries of one stored directory, as edges
 abbrev pub edges_at : ℕ × DirCells → List (Entry × ℕ)
 edges_at e = map (λ x. (entry_at e.0 x.0, number_of x.1)) (dir_names e.1)
 
+-- those of all of them
 abbrev pub edges_from : List (ℕ × DirCells) → List (Entry × ℕ)
 edges_from [] = []
 edges_from (e ∷ es) = edges_at e ++ edges_from es
@@ -22,7 +24,7 @@ edges_from (e ∷ es) = edges_at e ++ edges_from es
 abbrev pub member : ℕ × DirCells → ℕ × Unit {0}
 member e = (e.0, tt)
 
--- the directories that are there
+-- the stored directories that are there
 abbrev pub dirs_from : List (ℕ × DirCells) → List (ℕ × Unit {0})
 dirs_from es = map member (filter (λ e. is_there e.0 e.1) es)
 
@@ -30,7 +32,7 @@ dirs_from es = map member (filter (λ e. is_there e.0 e.1) es)
 abbrev pub is_named : Opens → ℕ × FileCells → Bool
 is_named opens e = nat_lt 0 e.1.links || is_open opens e.0
 
--- the files that are there, with their bytes
+-- the stored files that are there, with their bytes
 abbrev pub files_from : Opens → List (ℕ × FileCells) → List (ℕ × List ℕ)
 files_from opens es = map (λ e. (e.0, e.1.bytes)) (filter (is_named opens) es)
 
@@ -38,10 +40,12 @@ files_from opens es = map (λ e. (e.0, e.1.bytes)) (filter (is_named opens) es)
 abbrev pub opened : ℕ × Option OpenFile → Option (ℕ × OpenFile)
 opened e = option_map (λ o. (e.0, o)) e.1
 
+-- the descriptions that stand in places
 abbrev pub opens_from : List (ℕ × Option OpenFile) → List (ℕ × OpenFile)
 opens_from es = filter_map opened es
 
--- without the empty places, and without files that nothing names
+-- the plain tree of cells: their entries, and the directories, files and descriptions that are
+-- there, without the empty places and without files that nothing names
 abbrev pub tidy : Cells → PlainTree
 tidy cells = record {
   edges = finite.from_entries (edges_from (finite.entries cells.directories));

@@ -3,6 +3,7 @@ use Rattle.ft_cells.specs.declared.cell.Cell.TheVariants.{Entry, Names, Parent, 
 use Rattle.ft_cells.specs.Cells.{Cells, entry_of, names_of, parent_of, links_of, bytes_of, open_of}
 use Rattle.ft_cells.specs.Looks.{View}
 
+-- each cell shows its value
 abbrev pub view_of : Cells → View
 view_of cells (Entry entry) = entry_of cells entry.dir entry.name
 view_of cells (Names d) = names_of cells d

@@ -6,8 +6,7 @@ ghost use Rattle.ft_cells.specs.Cells.{entry_of, parent_of, links_of, names_of, 
 use crate::reader::Reader;
 use crate::tree::Tree;
 use ft_body::Body;
-use ft_cells::{Node, OpenFile};
-use ft_inodes::Hint;
+use ft_cells::{Hint, Node, OpenFile};
 use ft_path::Name;
 use std::convert::Infallible;
 use std::marker::Model;
@@ -94,11 +93,50 @@ impl<'t> Cursor<'t> {
         self.tree.body_near(file, self.near)
     }
 
+    /// A file's number, to read the file later from where something was found last.
+    pub fn hinted(&self, file: u64) -> HintedFile
+        ensures { result ≡ file }
+    {
+        HintedFile {
+            number: file,
+            near: self.near,
+        }
+    }
+
     /// Whether a directory has no entry, as `Tree::is_empty_dir`.
     pub fn is_empty_dir(&self, dir: u64) -> bool
         ensures { IsTrue result ↔ (names_of self.now dir ≡ []) }
     {
         self.tree.is_empty_near(dir, self.near)
+    }
+}
+
+/// The number of a file, with where the file may stand. Clauses see the number.
+///
+/// To read the file where it does stand there takes no look-up of the number.
+#[derive(Debug, Drop)]
+pub struct HintedFile {
+    pub(crate) number: u64,
+    pub(crate) near: Hint,
+}
+
+impl Model for HintedFile {
+    ghost use Rattle.std.specs.Prelude.{ℕ};
+
+    ghost Value = { ℕ };
+
+    ghost view = { λ a. a.number };
+}
+
+impl HintedFile {
+    /// A file of which nothing was found yet, so that it is looked up.
+    pub fn new(number: u64) -> HintedFile
+        ensures { result ≡ number }
+    {
+        HintedFile {
+            number,
+            near: Hint::first(),
+        }
     }
 }
 

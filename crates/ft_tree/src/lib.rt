@@ -13,7 +13,7 @@ mod reader;
 mod rows;
 mod tree;
 
-pub use cursor::Cursor;
+pub use cursor::{Cursor, HintedFile};
 pub use ft_cells::{AccessMode, Cell, Entry, EntryRef, Found, Kind, Node, OpenFile, Spot, TreeRow};
 pub use keeps::Keeps;
 pub use reader::{Reader, walk};

@@ -6,8 +6,9 @@ ghost use Rattle.ft_tree.specs.Tidy.{dirs_from, edges_from, files_from, opens_fr
 
 use crate::tree::ROOT;
 use ft_base::{Memory, Table};
-use ft_cells::{OpenFile, TreeRow};
-use ft_inodes::{Descriptions, Hinted, Inodes};
+use ft_cells::{Hinted, OpenFile, TreeRow};
+use ft_descriptions::Descriptions;
+use ft_inodes::Inodes;
 use std::alloc::Global;
 
 /// Puts the directories that are there behind the rows.

@@ -17,14 +17,15 @@ ghost use Rattle.ft_tree.specs.Sound.{AreSoundCells, IsFree};
 ghost use Rattle.std.specs.FinSet as set;
 ghost use Rattle.ft_tree.specs.Sweep.{is_useless, is_spare, one_if, at_place, drop_spare, swept_at, dropped_at, places_in, IsSwept, IsSweptClean, IsAccounted, HasNoneToDrop};
 
-use crate::cursor::Cursor;
+use crate::cursor::{Cursor, HintedFile};
 use crate::keeps::Keeps;
 use crate::reader::walk;
 use crate::rows::{push_dirs, push_edges, push_files, push_opens};
 use ft_base::Memory;
 use ft_body::{Body, BodyUndo};
-use ft_cells::{Cell, Entry, Found, Kind, Node, OpenFile, Spot, TreeRow};
-use ft_inodes::{Descriptions, Directory, File, Hint, Inodes};
+use ft_cells::{Cell, Entry, Found, Hint, Kind, Node, OpenFile, Spot, TreeRow};
+use ft_descriptions::Descriptions;
+use ft_inodes::{Directory, File, Inodes};
 use ft_path::{Errno, Name, Parts};
 use std::alloc::Global;
 use std::marker::Model;
@@ -44,8 +45,10 @@ pub struct Tree {
     alloc: Global,
     inodes: Inodes,
     opens: Descriptions,
-    /// Where the directory or the file stands that was changed last.
+    /// Where the directory or the file stands that was changed last, but for its entries.
     near: Hint,
+    /// Where the directory stands of which an entry was changed last.
+    home: Hint,
 }
 
 impl Drop for Tree {
@@ -55,6 +58,7 @@ impl Drop for Tree {
             inodes: _,
             opens: _,
             near: _,
+            home: _,
         } = self;
     }
 }
@@ -84,6 +88,7 @@ impl Tree {
             inodes,
             opens: Descriptions::new(alloc),
             near,
+            home: near,
         })
     }
 
@@ -94,7 +99,7 @@ impl Tree {
     pub fn entry(&self, dir: u64, name: &Name) -> Option<Node>
         ensures { result ≡ entry_of self.now dir name.now }
     {
-        match self.child(dir, name, self.near) {
+        match self.child(dir, name, self.home) {
             Some((node, _)) => Some(node),
             None => None,
         }
@@ -139,6 +144,13 @@ impl Tree {
         ensures { option_copied result ≡ body_in self.now file }
     {
         self.body_near(file, self.near)
+    }
+
+    /// The same, of a file that comes with where it may stand.
+    pub fn hinted_body(&self, file: &HintedFile) -> Option<&Body>
+        ensures { option_copied result ≡ body_in self.now file.now }
+    {
+        self.body_near(file.number, file.near)
     }
 
     /// The open file description of a descriptor, where it is open.
@@ -198,8 +210,8 @@ impl Tree {
     {
         let Entry { dir, name } = entry;
         let leads = self.hint_to(to, self.near);
-        self.near = self.inodes.hint_of(Node::Dir(dir), self.near);
-        match self.inodes.directory_mut(dir, self.near) {
+        self.home = self.inodes.hint_of(Node::Dir(dir), self.home);
+        match self.inodes.directory_mut(dir, self.home) {
             Some(directory) => directory.set_entry(name, to, leads),
             None => unreachable!(),
         }
@@ -350,7 +362,7 @@ impl Tree {
     {
         match cell {
             Cell::Entry(entry) => {
-                if let Some(directory) = self.inodes.directory_mut(entry.dir, self.near) {
+                if let Some(directory) = self.inodes.directory_mut(entry.dir, self.home) {
                     directory.drop_place(&entry.name);
                 }
             }
@@ -445,7 +457,7 @@ impl Tree {
     fn is_empty_entry(&self, entry: &Entry) -> bool
         ensures { result ≡ is_useless self.now (EntryCell entry.now) }
     {
-        match self.inodes.directory(entry.dir, self.near) {
+        match self.inodes.directory(entry.dir, self.home) {
             Some(directory) => directory.has_empty(&entry.name),
             None => false,
         }
@@ -522,6 +534,7 @@ impl Tree {
             inodes,
             opens,
             near: self.near,
+            home: self.home,
         })
     }
 

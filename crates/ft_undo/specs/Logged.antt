@@ -1,4 +1,4 @@
--- A call that was made, and kept in the log of a transaction.
+-- A call that was made, and kept in the log of a transaction. (Moss 1981, state restoration.)
 use Rattle.std.specs.Prelude.{◌≡◌, ℕ, List, map}
 use Rattle.ft_base.specs.Chains.{Lists, list_in}
 use Rattle.ft_laws.specs.Effects.{before}
@@ -13,8 +13,10 @@ use Rattle.ft_undo.specs.declared.logs.Logged.{Logged}
 use Rattle.ft_undo.specs.Logs.{AreLists}
 use Rattle.ft_undo.specs.Undone.{given_back, CanGiveAllBack, AreAsLeft, restored, CanRestoreAll}
 
--- The writes are made on the cells, and what takes them back is the newest of the transaction's list: the inverse, which may be given back wherever the
--- written cells are as they were left, and by which they are, at once, as if the call had never been.
+-- The writes are made on the cells, and what takes them back is the newest of the transaction's
+-- list: the inverse, which may be given back wherever the
+-- written cells are as they were left, and by which they are, at once,
+-- as if the call had never been.
 pub record IsLogged (old new : Cells) (writes : List Write) (lists lists' : Lists Logged) (txn stamp : ℕ) : Type 0 where
   pub cells : new ≡ put_all old writes
   pub left : AreAsLeft new new (map written_cell writes)

@@ -1,4 +1,7 @@
--- The undo logs (Moss 1981, state restoration): for each open transaction its list, the newest first.
+-- The undo logs (Moss 1981, state restoration): for each open transaction its list, the newest
+-- first. How the lists change is said by ft_history: put, pushed, popped, handed. They stand in
+-- the order of the log and not of the stamps: what a commit brings from a child is newer in it
+-- than all that its parent had.
 use Rattle.std.specs.Prelude.{◌≡◌, ℕ, Bool, List, [], ◌∷◌, Option, Some, None}
 use Rattle.std.specs.FinMap as finite
 use Rattle.ft_base.specs.Chains.{Lists, list_in}

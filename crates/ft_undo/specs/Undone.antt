@@ -1,4 +1,5 @@
--- How the edits of a call are taken back.
+-- How the edits of a call are taken back. (Moss 1981, state restoration: what an aborted call
+-- wrote gets back its version from before.)
 use Rattle.std.specs.Prelude.{◌≡◌, List, [], ◌∷◌, None, Some, unwrap_or, Result, Ok, Err}
 use Rattle.std.specs.Option.{option_flatten}
 use Rattle.ft_base.specs.declared.memory.Memory.{Memory}
@@ -16,7 +17,8 @@ use Rattle.ft_posix.specs.Edits.{edited}
 use Rattle.ft_undo.specs.declared.undo.Back.{Back}
 use Rattle.ft_undo.specs.declared.undo.Back.TheVariants as back
 
--- what takes an edit back: the cell, and what stood in its place
+-- what takes an edit back: the cell, and what stood in its place before, or nothing where the
+-- place was new; of bytes those before the change and after it
 abbrev pub back_of : Cells → Edit → Back
 back_of cells (Entry entry to) = back.Entry entry (place_at cells (cell.Entry entry))
 back_of cells (Parent d to) = back.Parent d (place_at cells (cell.Parent d))
@@ -25,6 +27,7 @@ back_of cells (Overwrite i at bytes) = back.Bytes i (record { before = bytes_of 
 back_of cells (Resize i size) = back.Bytes i (record { before = bytes_of cells i; after = resized (bytes_of cells i) size })
 back_of cells (Open f to) = back.Open f (place_at cells (cell.Fd f))
 
+-- what takes each of the edits back, as each is made on the cells after those before it
 abbrev pub backs_of : Cells → List Edit → List Back
 backs_of cells [] = []
 backs_of cells (e ∷ es) = back_of cells e ∷ backs_of (put cells (write_of cells e)) es
@@ -37,7 +40,8 @@ given_back (back.Links i was) = sets (cell.Links i) (unwrap_or was 0)
 given_back (back.Bytes i change) = sets (cell.Bytes i) change.before
 given_back (back.Open f was) = sets (cell.Fd f) (option_flatten was)
 
--- the cell has its place, and a file's bytes are as the change left them
+-- where that write may be made: the cell has its place, and a file's
+-- bytes are as the change left them
 abbrev pub CanGiveBack : Cells → Back → Type 0
 CanGiveBack cells (back.Entry entry was) = HasEntryPlace cells entry.dir entry.name × HasDirPlace cells entry.dir
 CanGiveBack cells (back.Parent d was) = HasDirPlace cells d
@@ -45,11 +49,13 @@ CanGiveBack cells (back.Links i was) = HasFilePlace cells i
 CanGiveBack cells (back.Bytes i change) = HasFilePlace cells i × (bytes_of cells i ≡ change.after)
 CanGiveBack cells (back.Open f was) = HasOpenPlace cells f
 
+-- where all of them may be made, one after another
 abbrev pub CanGiveAllBack : Cells → List Back → Type 0
 CanGiveAllBack cells [] = Unit {0}
 CanGiveAllBack cells (b ∷ bs) = CanGiveBack cells b × CanGiveAllBack (put cells (given_back b)) bs
 
--- An edit that was the last one is taken back as if it had never been: a place that was new goes too.
+-- An edit that was the last one is taken back as if it had never been: a
+-- place that was new goes too.
 abbrev pub restore : Cells → Back → Cells
 restore cells (back.Entry entry None) = without_place cells (cell.Entry entry)
 restore cells (back.Entry entry (Some was)) = put_entry cells entry.dir entry.name was
@@ -61,16 +67,18 @@ restore cells (back.Bytes i change) = put_bytes cells i change.before
 restore cells (back.Open f None) = without_place cells (cell.Fd f)
 restore cells (back.Open f (Some was)) = put_open cells f was
 
--- the last one first
+-- all of them are taken back, the last one first
 abbrev pub restored : Cells → List Back → Cells
 restored cells [] = cells
 restored cells (b ∷ bs) = restore (restored cells bs) b
 
+-- each of them may be taken back when its turn comes, the last one first
 abbrev pub CanRestoreAll : Cells → List Back → Type 0
 CanRestoreAll cells [] = Unit {0}
 CanRestoreAll cells (b ∷ bs) = CanRestoreAll cells bs × CanGiveBack (restored cells bs) b
 
--- the edits are made, and this takes them back; or memory was wanting, and nothing has changed or is kept
+-- the edits are made, and this takes them back; or memory was wanting, and
+-- nothing has changed or is kept
 abbrev pub IsApplied : Cells → List Edit → Cells → List Back → Result (Unit {0}) Memory → Type 0
 IsApplied old edits new undo (Ok done) = (new ≡ edited old edits) × (undo ≡ backs_of old edits)
 IsApplied old edits new undo (Err memory) = (new ≡ old) × (undo ≡ [])

@@ -134,6 +134,7 @@ pub fn revert(tree: &mut Tree, undo: Undo)
     ensures { tree.new ≡ put_all tree.old (map given_back undo) }
 {
     let Undo { items } = undo;
+    // (the edits are of different cells, so that any order would do)
     for back in items {
         give_back(tree, back);
     }

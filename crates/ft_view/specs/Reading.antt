@@ -1,4 +1,5 @@
--- What a reader asks, and what a tree answers to it.
+-- What a reader asks, and what a tree answers to it (POSIX.1-2017, System Interfaces, open and
+-- read).
 use Rattle.std.specs.Prelude.{ℕ, ◌+◌, false, List, ◌∷◌, Option, Some, None}
 use Rattle.ft_body.specs.declared.TheConstants.{SIZE_LIMIT}
 use Rattle.ft_cells.specs.declared.open_file.AccessMode.TheVariants.{ReadOnly}
@@ -22,7 +23,8 @@ use Rattle.ft_view.specs.Replay.{reply_on}
 abbrev pub open_to_read : List ℕ → Call
 open_to_read path = OpenCall path ReadOnly false false false false
 
--- what a Read of the whole file replies after an Open that has replied this, or the error of the Open
+-- what a `read` of as many bytes as a file may have replies after an `open` that has replied
+-- this, or the error of the `open`
 abbrev pub read_whole : PlainTree → Reply → Reply
 read_whole p (Number fd) = (exec p (READING + 1) (ReadCall fd SIZE_LIMIT)).1
 read_whole p reply = reply
@@ -31,7 +33,7 @@ read_whole p reply = reply
 abbrev pub contents_on : PlainTree → List ℕ → Reply
 contents_on p path = let opened = exec p READING (open_to_read path) in read_whole opened.0 opened.1
 
--- what is answered to a question
+-- what is answered to a question of a reader
 abbrev pub answer_on : PlainTree → Question → Reply
 answer_on p (Stat path) = reply_on p (StatCall path.now)
 answer_on p (ListDir path) = reply_on p (ListCall path.now)
@@ -47,5 +49,6 @@ abbrev pub whole_told : Option ℕ → Told → Told
 whole_told None told = told
 whole_told (Some file) told = BytesOf file 0 SIZE_LIMIT
 
+-- how the code tells it: by the look of the `open` alone
 abbrev pub whole_of : Intent → Told
 whole_of intent = whole_told (opened_in intent.edits) intent.told

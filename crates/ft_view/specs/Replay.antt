@@ -1,4 +1,5 @@
--- The replay of a list of calls on the plain tree, and what is answered then.
+-- The replay of a list of calls on the plain tree, and what is answered then. Each call is made
+-- as POSIX says (`exec`).
 use Rattle.std.specs.Prelude.{◌≤◌, ℕ, List, [], ◌∷◌}
 use Rattle.ft_cells.specs.Cells.{Cells}
 use Rattle.ft_cells.specs.Plain.{PlainTree}
@@ -19,11 +20,12 @@ abbrev pub replies_of : PlainTree → List StampedCall → List Reply
 replies_of p [] = []
 replies_of p (c ∷ cs) = (exec p c.stamp c.call).1 ∷ replies_of (exec p c.stamp c.call).0 cs
 
--- what a call replies on a tree; its number is that of no call that was made
+-- what a call replies on a tree; its number is 2^63 (`READING`), that of no call that was made
 abbrev pub reply_on : PlainTree → Call → Reply
 reply_on p call = (exec p READING call).1
 
--- Sound cells that a reader may ask: the numbers with which it asks number nothing in them.
+-- The cells are sound, and nothing in them has a number from 2^63 on: the numbers with which a
+-- reader asks number nothing in them.
 pub record IsReadable (cells : Cells) : Type 0 where
   pub sound : AreSoundCells cells
   pub free : (k : ℕ) → READING ≤ k → IsFree cells k

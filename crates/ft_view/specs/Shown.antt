@@ -8,11 +8,12 @@ use Rattle.ft_posix.specs.Exec.{exec}
 use Rattle.ft_book.specs.Names.{Views, Fronted, coded_fronted}
 use Rattle.ft_view.specs.Replay.{replayed}
 
--- a plain tree, and a list of a book
+-- a plain tree, with a list of a book
 pub record Shown : Type 0 where
   pub tree : PlainTree
   pub front : Fronted
 
+-- how what is shown is coded
 abbrev pub coded_shown : Coded Shown
 coded_shown = code_by (PlainTree × Fronted) (coded× coded_tree coded_fronted) (λ s. (s.tree, s.front)) (λ p. record { tree = p.0; front = p.1 }) (λ _. refl)
 
@@ -21,7 +22,8 @@ pub record IsViewOf (opened : Views) (s : Shown) : Type 0 where
   pub book : s.front.book ≡ opened.book
   pub tree : s.tree ≡ replayed opened.base s.front.calls
 
--- What a reader knows is a list of the book of these views, and so is the empty list from which others start.
+-- What a reader knows is a list of the book of these views, and so is the empty list from which
+-- others start.
 pub record IsReaderOf (opened : Views) (known nothing : Fronted) : Type 0 where
   pub seen : known.book ≡ opened.book
   pub start : nothing.book ≡ opened.book

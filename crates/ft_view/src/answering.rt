@@ -3,14 +3,14 @@ ghost use Rattle.std.specs.Prelude.{◌≡◌, IfOk, IsTrue};
 ghost use Rattle.ft_tree.specs.Sound.{AreSoundCells, IsFree};
 ghost use Rattle.ft_tree.specs.Tidy.{tidy};
 ghost use Rattle.ft_view.specs.Replay.{reply_on, IsReadable};
-ghost use Rattle.ft_view.specs.Reading.{contents_on, answer_on, whole_of};
+ghost use Rattle.ft_view.specs.Reading.{contents_on, answer_on, opened_in, whole_told};
 
 use crate::READING;
 use ft_base::Memory;
 use ft_body::SIZE_LIMIT;
-use ft_calls::{Call, Edit, Intent, Prepared, Reply, Told, prepare};
+use ft_calls::{Call, Edit, Edits, Intent, Prepared, Reply, Told, prepare};
 use ft_path::FilePath;
-use ft_tree::{AccessMode, ROOT, Tree};
+use ft_tree::{AccessMode, HintedFile, ROOT, Tree};
 use std::alloc::Global;
 
 /// What a reader asks of a tree.
@@ -70,29 +70,30 @@ fn contents(alloc: Global, tree: &Tree, path: &FilePath) -> Result<Reply, Memory
     };
     let Prepared {
         accesses: _,
-        mut intent,
+        intent,
     } = prepare(alloc, tree, READING, &open)?;
-    intent.told = whole(&intent);
-    intent.reply(alloc, tree)
+    let Intent { told, edits } = intent;
+    let told = whole(told, &edits);
+    Intent { told, edits }.reply(alloc, tree)
 }
 
-/// What is told of the whole file that a call is to open, or what the call tells where it opens
-/// none.
-fn whole(intent: &Intent<'_>) -> Told
-    ensures { result ≡ whole_of intent.now }
+/// What is told of the whole file that a call with these edits is to open, or what the call tells
+/// where it opens none.
+fn whole(told: Told, edits: &Edits<'_>) -> Told
+    ensures { result ≡ whole_told (opened_in edits.now) told }
 {
-    match intent.edits.as_items().first() {
+    match edits.as_items().first() {
         Some(
             Edit::Open {
                 to: Some(description),
                 ..
             },
         ) => Told::BytesOf {
-            file: description.file,
+            file: HintedFile::new(description.file),
             at: 0,
             len: SIZE_LIMIT,
         },
-        _ => intent.told,
+        _ => told,
     }
 }
 

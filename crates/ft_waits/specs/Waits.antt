@@ -1,4 +1,5 @@
--- Waits-for edges between transactions: cycles of them, and the ranks where there is none.
+-- Waits-for edges between transactions: cycles of them, and the ranks where there is none. (Moss:
+-- a deadlock is a cycle of waits-for edges. Ranks are a rule of this project.)
 use Rattle.std.specs.Prelude.{◌≡◌, ◌<◌, ◌≤◌, ◌↔◌, ◌⊎◌, ℕ, zero, suc, List, [], ◌∷◌, map, All, Any, Contains, nat_eq}
 use Rattle.std.specs.List.{IsDistinct}
 use Rattle.std.specs.List.Sorted.{IsStrictlyIncreasing}
@@ -19,12 +20,14 @@ abbrev pub first_or : List ℕ → ℕ → ℕ
 first_or [] to = to
 first_or (txn ∷ others) to = txn
 
--- each of the transactions has an edge to the next one, and the last of them to `to`
+-- each of the transactions has an edge to the next one, and the last of them to `to` (in the
+-- theory of graphs, a walk)
 abbrev pub IsPath : List Edge → List ℕ → ℕ → Type 0
 IsPath edges [] to = Unit {0}
 IsPath edges (txn ∷ others) to = HasEdge edges txn (first_or others to) × IsPath edges others to
 
--- there is a transaction, each has an edge to the next one, and the last of them to the first
+-- there is a transaction, each has an edge to the next one, and the last of them to the first.
+-- That they differ is a clause of its own.
 abbrev pub IsCycle : List Edge → List ℕ → Type 0
 IsCycle edges [] = ⊥
 IsCycle edges (first ∷ others) = IsPath edges (first ∷ others) first
@@ -42,7 +45,7 @@ HasNoCycle edges = (members : List ℕ) → ¬ IsCycle edges members
 abbrev pub txns_of : List (ℕ × ℕ) → List ℕ
 txns_of ranks = map (λ entry. entry.0) ranks
 
--- the transactions that have a rank are those that the edges name
+-- the transactions that have a rank are just those that the edges name
 abbrev pub RankAllNamed : List Edge → List (ℕ × ℕ) → Type 0
 RankAllNamed edges ranks = (txn : ℕ) → Contains (txns_of ranks) txn ↔ IsNamed edges txn
 
@@ -51,7 +54,8 @@ abbrev pub IsGreatestAhead : List Edge → List (ℕ × ℕ) → ℕ → ℕ →
 IsGreatestAhead edges ranks txn rank =
     ((to : ℕ) × HasEdge edges txn to × Contains ranks (to, rank)) × ((to other : ℕ) → HasEdge edges txn to → Contains ranks (to, other) → other ≤ rank)
 
--- 0 where no edge goes out of the transaction, else one more than the greatest rank that an edge out of it leads to
+-- 0 where no edge goes out of the transaction, else one more than the greatest rank that an edge
+-- out of it leads to (in the theory of graphs, the length of a longest walk)
 abbrev pub IsRank : List Edge → List (ℕ × ℕ) → ℕ → ℕ → Type 0
 IsRank edges ranks txn zero = (to : ℕ) → ¬ HasEdge edges txn to
 IsRank edges ranks txn (suc rank) = IsGreatestAhead edges ranks txn rank
@@ -60,7 +64,7 @@ IsRank edges ranks txn (suc rank) = IsGreatestAhead edges ranks txn rank
 abbrev pub AreRanks : List Edge → List (ℕ × ℕ) → Type 0
 AreRanks edges ranks = (txn rank : ℕ) → Contains ranks (txn, rank) → IsRank edges ranks txn rank
 
--- each edge leads to a lower rank
+-- each edge leads to a lower rank (in the theory of graphs, a topological order)
 abbrev pub FallAlong : List Edge → List (ℕ × ℕ) → Type 0
 FallAlong edges ranks = (from to high low : ℕ) → HasEdge edges from to → Contains ranks (from, high) → Contains ranks (to, low) → low < high
 
@@ -88,7 +92,7 @@ pub record AreToldRanks (edges : List Edge) (ranks : List (ℕ × ℕ)) : Type 0
   pub falls : FallAlong edges ranks
   pub no_cycle : HasNoCycle edges
 
--- all that a verdict says
+-- all that the clauses of `judge` say of a verdict, as one
 abbrev pub IsVerdict : List Edge → Verdict → Type 0
 IsVerdict edges (Cycle members) = IsToldCycle edges members
 IsVerdict edges (Ranked ranks) = AreToldRanks edges ranks

@@ -1,4 +1,4 @@
--- What a walk along waits-for edges keeps true of itself.
+-- What a walk along waits-for edges keeps true of itself. No public clause cites it.
 use Rattle.std.specs.Prelude.{◌≡◌, ◌+◌, ◌-◌, ◌^◌, ◌<◌, ◌≤◌, ◌⊎◌, ℕ, true, List, [], ◌∷◌, Some, None, map, length, take, drop, All, Contains, nat_eq, ◌==◌, not}
 use Rattle.std.specs.List.{IsDistinct, prefix_len}
 use Rattle.std.specs.List.Sorted.{IsNonDecreasingBy}
@@ -12,6 +12,7 @@ use Rattle.ft_waits.specs.Waits.{HasEdge, IsNamed}
 abbrev pub AreInOrder : List Edge → Type 0
 AreInOrder edges = IsNonDecreasingBy (λ edge. edge.from) edges
 
+-- transactions with their ranks
 abbrev pub Ranks : Type 0
 Ranks = finite.FinMap nat_cmp ℕ
 
@@ -47,13 +48,14 @@ pub record IsStep (edges : List Edge) (ranks : Ranks) (step : Step) : Type 0 whe
   pub reached : IsReached edges ranks step.txn step.rank
   pub small : step.rank ≤ finite.len ranks
 
--- a transaction that is on the path is neither ranked nor unseen
+-- a transaction on the path is named, and is neither ranked nor unseen
 pub record IsOnPath (edges : List Edge) (unseen : Txns) (ranks : Ranks) (txn : ℕ) : Type 0 where
   pub named : IsNamed edges txn
   pub unranked : finite.get ranks txn ≡ None
   pub seen : finite.get unseen txn ≡ None
 
--- of what is ranked and what is unseen
+-- each edge out of a ranked transaction leads to a lower rank, each rank is reached and below the
+-- count of those that are ranked, and nothing is both ranked and unseen
 pub record AreRanked (edges : List Edge) (unseen : Txns) (ranks : Ranks) : Type 0 where
   pub falls : (from to high : ℕ) → finite.get ranks from ≡ Some high → HasEdge edges from to → RanksBelow ranks to high
   pub reached : (txn rank : ℕ) → finite.get ranks txn ≡ Some rank → IsReached edges ranks txn rank
@@ -61,10 +63,12 @@ pub record AreRanked (edges : List Edge) (unseen : Txns) (ranks : Ranks) : Type 
   pub named : (txn rank : ℕ) → finite.get ranks txn ≡ Some rank → IsNamed edges txn
   pub apart : (txn : ℕ) → finite.contains_key unseen txn ≡ true → (finite.get ranks txn ≡ None) × IsNamed edges txn
 
+-- the transactions of steps
 abbrev pub path_txns : List Step → List ℕ
 path_txns steps = map (λ step. step.txn) steps
 
--- the whole walk, where these steps are on the path
+-- the whole walk, where these steps are on the path: they differ, and each transaction that is
+-- named is unseen, ranked or on the path
 pub record IsWalk (edges : List Edge) (unseen : Txns) (ranks : Ranks) (steps : List Step) : Type 0 where
   pub ranked : AreRanked edges unseen ranks
   pub steps_are : All (IsStep edges ranks) steps
@@ -77,6 +81,6 @@ pub record IsWalk (edges : List Edge) (unseen : Txns) (ranks : Ranks) (steps : L
 abbrev pub KeepsRanks : Ranks → Ranks → Type 0
 KeepsRanks old new = (txn rank : ℕ) → finite.get old txn ≡ Some rank → finite.get new txn ≡ Some rank
 
--- from the first place of a transaction on
+-- transactions from the first place of one on
 abbrev pub from_first : ℕ → List ℕ → List ℕ
 from_first txn txns = drop (prefix_len (λ other. not (other == txn)) txns) txns

@@ -1,4 +1,5 @@
--- The words of a call, one after another: as they are read, and as they are printed.
+-- The words of a call, one after another: as they are read, and as they are printed. No public
+-- clause cites it.
 use Rattle.std.specs.Prelude.{ℕ, List, [], ◌∷◌, ◌++◌, codes, Option, None}
 use Rattle.std.specs.Fmt.{decimal, signed_decimal}
 use Rattle.ft_words.specs.declared.call_text.Argument.{Argument}
@@ -11,11 +12,12 @@ abbrev pub first : {A : Type 0} → (List ℕ → Option A) → List (List ℕ) 
 first read [] = None
 first read (word ∷ words) = read word
 
+-- the words behind the first
 abbrev pub others : List (List ℕ) → List (List ℕ)
 others [] = []
 others (word ∷ words) = words
 
--- an argument after a space
+-- an argument after a space; nothing where a call has no more, or where the last word is empty
 abbrev pub argument_text : Argument → List ℕ
 argument_text Absent = []
 argument_text (Number number) = codes " " ++ decimal number

@@ -1,4 +1,5 @@
--- The text of a call: its name and its arguments, as a line of words has them. An empty last word is left out with the space before it.
+-- The text of a call: its name and its arguments, as a line of words has them (docs/SCRIPT.md).
+-- An empty last word is left out with the space before it.
 use Rattle.std.specs.Prelude.{ℕ, Bool, List, ◌++◌, codes}
 use Rattle.std.specs.Fmt.{decimal, signed_decimal}
 use Rattle.ft_cells.specs.declared.open_file.AccessMode.{AccessMode}
@@ -8,16 +9,18 @@ use Rattle.ft_posix.specs.declared.call.Whence.{Whence}
 use Rattle.ft_posix.specs.declared.call.Whence.TheVariants.{Set, Cur, End}
 use Rattle.ft_words.specs.Texts.{access_text, coded, data_text, flag_text}
 
--- how a file is to be opened: `r`, `w` or `rw`, and a letter for each flag
+-- FLAGS: `r`, `w` or `rw`, and a letter for each flag
 abbrev pub flags_text : AccessMode → Bool → Bool → Bool → Bool → List ℕ
 flags_text access create excl trunc append =
     access_text access ++ flag_text create (codes "c") ++ flag_text excl (codes "x") ++ flag_text trunc (codes "t") ++ flag_text append (codes "a")
 
+-- WHENCE: from where an offset counts
 abbrev pub whence_text : Whence → List ℕ
 whence_text Set = codes "set"
 whence_text Cur = codes "cur"
 whence_text End = codes "end"
 
+-- the name of a call, and each of its arguments after a space
 abbrev pub call_text : Call → List ℕ
 call_text (calls.Mkdir path) = codes "mkdir" ++ data_text path
 call_text (calls.Rmdir path) = codes "rmdir" ++ data_text path

@@ -1,4 +1,5 @@
--- The calls: their names, and how their arguments are written. Each table has words, and what they ask for.
+-- The calls: their names, and how their arguments are written (docs/SCRIPT.md). Each table has
+-- words, and what they ask for.
 use Rattle.std.specs.Prelude.{◌≡◌, ℕ, Bool, true, false, ◌==◌, List, [], ◌∷◌, ◌++◌, codes, if◌then◌else◌, Option, None, Some, option_and_then, option_map, Result, Ok, Err}
 use Rattle.std.specs.Str.{bytes_eq}
 use Rattle.ft_cells.specs.declared.open_file.AccessMode.{AccessMode}
@@ -34,6 +35,7 @@ last_word (word ∷ words) = only_word (word ∷ words)
 abbrev pub only : {A : Type 0} → (List ℕ → Option A) → List (List ℕ) → Option A
 only read words = option_and_then read (only_word words)
 
+-- the same of a last word that may be absent
 abbrev pub last : {A : Type 0} → (List ℕ → Option A) → List (List ℕ) → Option A
 last read words = option_and_then read (last_word words)
 
@@ -42,6 +44,7 @@ abbrev pub both : {A B : Type 0} → (List ℕ → Option A) → (List (List ℕ
 both read others [] = None
 both read others (word ∷ words) = option_and_then (λ a. option_map (λ b. (a, b)) (others words)) (read word)
 
+-- the first word, the second and the others, each by its reader
 abbrev pub three : {A B C : Type 0} → (List ℕ → Option A) → (List ℕ → Option B) → (List (List ℕ) → Option C) → List (List ℕ) → Option (A × B × C)
 three first second others words = option_map (λ p. (p.0, p.1.0, p.1.1)) (both first (both second others) words)
 
@@ -57,11 +60,13 @@ access_of true false = Some ReadOnly
 access_of false true = Some WriteOnly
 access_of false false = None
 
+-- the value, where no letter is left
 abbrev pub if_none_left : {A : Type 0} → List ℕ → Option A → Option A
 if_none_left [] value = value
 if_none_left (b ∷ bs) value = None
 
--- `r`, `w` or `rw`, and then any of `c`, `x`, `t` and `a`, each at most once, in this order
+-- FLAGS: `r`, `w` or `rw`, and then any of `c`, `x`, `t` and `a`, each at most once, in this
+-- order, and nothing else
 abbrev pub flags_of : List ℕ → Option OpenFlags
 flags_of word =
     let read = split_letter 114 word in
@@ -72,14 +77,17 @@ flags_of word =
     let append = split_letter 97 trunc.1 in
     if_none_left append.1 (option_map (λ access. record { access = access; create = create.0; excl = excl.0; trunc = trunc.0; append = append.0 }) (access_of read.0 write.0))
 
+-- WHENCE: from where an offset counts
 abbrev pub whence_words : List (List ℕ × Whence)
 whence_words = (codes "set", Set) ∷ (codes "cur", Cur) ∷ (codes "end", End) ∷ []
 
+-- what such a word asks for
 abbrev pub whence_of : List ℕ → Option Whence
 whence_of word = look_up whence_words word
 
 -- ---- the calls
 
+-- a name, and the call that the words behind it spell
 abbrev pub CallRow : Type 0
 CallRow = List ℕ × (List (List ℕ) → Option Call)
 
@@ -87,6 +95,7 @@ CallRow = List ℕ × (List (List ℕ) → Option Call)
 abbrev pub row : {A : Type 0} → List ℕ → (List (List ℕ) → Option A) → (A → Call) → CallRow
 row name arguments make = (name, λ words. option_map make (arguments words))
 
+-- the calls on paths
 abbrev pub path_calls : List CallRow
 path_calls =
     row (codes "mkdir") (last path_of) calls.Mkdir
@@ -100,6 +109,7 @@ path_calls =
     ∷ row (codes "list") (last path_of) calls.List
     ∷ []
 
+-- the calls on descriptors
 abbrev pub descriptor_calls : List CallRow
 descriptor_calls =
     row (codes "close") (only number_of) calls.Close
@@ -112,9 +122,11 @@ descriptor_calls =
     ∷ row (codes "fstat") (only number_of) calls.Fstat
     ∷ []
 
+-- the call of a name in a table, by the words of its arguments
 abbrev pub read_by : List CallRow → List ℕ → List (List ℕ) → Option Call
 read_by rows name words = option_and_then (λ arguments. arguments words) (look_up rows name)
 
+-- the call that a name and the words of its arguments spell
 abbrev pub call_of : List ℕ → List (List ℕ) → Option Call
 call_of name words = read_by (path_calls ++ descriptor_calls) name words
 

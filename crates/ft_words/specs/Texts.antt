@@ -1,4 +1,4 @@
--- The texts of what calls reply, and of what a tree holds.
+-- The texts of what calls reply, and of what a tree holds (docs/SCRIPT.md).
 use Rattle.std.specs.Prelude.{ℕ, ◌||◌, ◌==◌, Bool, true, false, nat_le, List, [], ◌∷◌, ◌++◌, length, codes, if◌then◌else◌}
 use Rattle.std.specs.Fmt.{decimal}
 use Rattle.std.specs.List.{flat_map}
@@ -13,10 +13,12 @@ use Rattle.ft_cells.specs.declared.row.TreeRow.TheVariants as rows
 use Rattle.ft_posix.specs.declared.call.Reply.{Reply}
 use Rattle.ft_posix.specs.declared.call.Reply.TheVariants.{Done, Names, Number, Bytes, Info, Failed}
 
--- The bytes 0 to 32, `%`, and those from 127 on are printed as `%` and two upper-case hexadecimal digits.
+-- The bytes 0 to 32, `%`, and those from 127 on are printed as `%` and two upper-case hexadecimal
+-- digits.
 abbrev pub is_coded : ℕ → Bool
 is_coded b = nat_le b 32 || (b == 37) || nat_le 127 b
 
+-- the bytes so printed, any other byte as itself
 abbrev pub coded : List ℕ → List ℕ
 coded bytes = flat_map (λ b. if is_coded b then percent_encode_byte b else b ∷ []) bytes
 
@@ -25,6 +27,7 @@ abbrev pub listed : List ℕ → Kind → List ℕ
 listed name Dir = codes " " ++ coded name ++ codes "/"
 listed name File = codes " " ++ coded name
 
+-- all of some names
 abbrev pub listing : List (List ℕ × Kind) → List ℕ
 listing names = flat_map (λ entry. listed entry.0 entry.1) names
 
@@ -33,11 +36,12 @@ abbrev pub data_text : List ℕ → List ℕ
 data_text [] = []
 data_text (first ∷ more) = codes " " ++ coded (first ∷ more)
 
+-- a directory or a file, with a space behind
 abbrev pub kind_text : Kind → List ℕ
 kind_text Dir = codes "dir "
 kind_text File = codes "file "
 
--- what a call replied
+-- what a call replied: `ok` with what it tells, or the name of the error
 abbrev pub reply_text : Reply → List ℕ
 reply_text Done = codes "ok"
 reply_text (Names names) = codes "ok " ++ decimal (length names) ++ listing names
@@ -52,6 +56,7 @@ lines_text text_of lines = flat_map (λ line. 10 ∷ text_of line) lines
 
 -- ---- what the tree holds
 
+-- for reading, for writing, or for both
 abbrev pub access_text : AccessMode → List ℕ
 access_text ReadOnly = codes "r"
 access_text WriteOnly = codes "w"
@@ -62,11 +67,13 @@ abbrev pub flag_text : Bool → List ℕ → List ℕ
 flag_text true letter = letter
 flag_text false letter = []
 
+-- a row of a tree: a directory, an edge, a file with its size and bytes, or a descriptor
 abbrev pub row_text : TreeRow → List ℕ
 row_text (rows.Dir number) = codes "dir " ++ decimal number
 row_text (rows.Edge entry number) = codes "edge " ++ decimal entry.dir ++ codes " " ++ coded entry.name ++ codes " " ++ decimal number
 row_text (rows.File number size bytes) = codes "file " ++ decimal number ++ codes " " ++ decimal size ++ data_text bytes
 row_text (rows.Fd fd file access append offset) = codes "fd " ++ decimal fd ++ codes " " ++ decimal file ++ codes " " ++ access_text access ++ flag_text append (codes "a") ++ codes " " ++ decimal offset
 
+-- how many rows a tree has, and the rows
 abbrev pub tree_text : List TreeRow → List ℕ
 tree_text rows = codes "tree " ++ decimal (length rows) ++ lines_text row_text rows

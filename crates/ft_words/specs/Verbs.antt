@@ -1,4 +1,4 @@
--- What calls are named after.
+-- What calls are named after. No public clause cites it: the tables of Calls.antt say the same.
 use Rattle.std.specs.Prelude.{ℕ, List, map, codes, Option, option_map}
 use Rattle.ft_posix.specs.declared.call.Call.{Call}
 use Rattle.ft_posix.specs.declared.call.Call.TheVariants as calls
@@ -13,6 +13,7 @@ use Rattle.ft_words.specs.declared.verbs.DescriptorVerb.TheVariants as descripto
 use Rattle.ft_words.specs.Spelling.{number_of, integer_of, path_of, data_of}
 use Rattle.ft_words.specs.Calls.{only, last, both, three, flags_of, whence_of}
 
+-- what a call is named after
 abbrev pub verb_of : Call → Verb
 verb_of (calls.Mkdir path) = OnPath path_verbs.Mkdir
 verb_of (calls.Rmdir path) = OnPath path_verbs.Rmdir
@@ -32,6 +33,7 @@ verb_of (calls.Link old new) = OnPaths paths_verbs.Link
 verb_of (calls.Unlink path) = OnPath path_verbs.Unlink
 verb_of (calls.Rename old new) = OnPaths paths_verbs.Rename
 
+-- how that is spelled, both where it is read and where it is printed
 abbrev pub word : Verb → List ℕ
 word (OnPath path_verbs.Mkdir) = codes "mkdir"
 word (OnPath path_verbs.Rmdir) = codes "rmdir"
@@ -51,7 +53,7 @@ word (OnPaths paths_verbs.Link) = codes "link"
 word (OnPath path_verbs.Unlink) = codes "unlink"
 word (OnPaths paths_verbs.Rename) = codes "rename"
 
--- some verbs by their words
+-- some verbs as a table of words
 abbrev pub words_of : List Verb → List (List ℕ × Verb)
 words_of verbs = map (λ verb. (word verb, verb)) verbs
 
@@ -79,7 +81,8 @@ descriptor_call descriptor_verbs.Lseek words = option_map (λ a. calls.Lseek a.0
 descriptor_call descriptor_verbs.Ftruncate words = option_map (λ a. calls.Ftruncate a.0 a.1) (both number_of (only integer_of) words)
 descriptor_call descriptor_verbs.Fstat words = option_map calls.Fstat (only number_of words)
 
--- the call of a verb, by the words of its arguments
+-- the call of a verb, by the words of its arguments; over all verbs these are the tables of
+-- Calls.antt
 abbrev pub call_by : Verb → List (List ℕ) → Option Call
 call_by (OnPath verb) words = option_map (on_path verb) (last path_of words)
 call_by Open words = option_map (λ a. calls.Open a.1 a.0.access a.0.create a.0.excl a.0.trunc a.0.append) (both flags_of (last path_of) words)

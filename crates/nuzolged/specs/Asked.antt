@@ -16,22 +16,26 @@ use Rattle.nuzolged.specs.declared.asking.Unasked.{Unasked}
 use Rattle.nuzolged.specs.declared.asking.Unasked.TheVariants as unasked
 use Rattle.nuzolged.specs.Numbers.{told_of_answer, no_memory, closed, bad}
 
--- The handle is closed, and stays so. Or the core of its session has made one legal step for just this request, and what is told is its answer.
+-- The handle is closed, and stays so. Or the core of its session has made one legal step for just
+-- this request, and what is told is its answer.
 abbrev pub IsAsked : Option Session → Request → Told → Option Session → Type 0
 IsAsked None request told new = (told ≡ closed) × (new ≡ None)
 IsAsked (Some old) request told new = (session : Session) × (answer : Answer) × (new ≡ Some session) × HasAnswered old request answer session × (told ≡ told_of_answer answer)
 
--- Nothing has changed: the handle is closed, an argument is bad, or there was no memory for a copy of one.
+-- Nothing has changed: the handle is closed, an argument is bad, or there was no memory for a
+-- copy of one.
 abbrev pub IsTurnedAway : Bool → Option Session → Told → Option Session → Type 0
 IsTurnedAway is_bad None told new = (told ≡ closed) × (new ≡ None)
 IsTurnedAway is_bad (Some old) told new = (told ≡ cond is_bad bad no_memory) × (new ≡ Some old)
 
--- A call in a transaction: it is turned away where an argument is bad, and else only for want of memory.
+-- A call in a transaction: it is turned away where an argument is bad, and else only for want of
+-- memory.
 abbrev pub IsCalled : Bool → Option Session → ℕ → Call → Told → Option Session → Type 0
 IsCalled is_bad old txn call told new = ((is_bad ≡ false) × IsAsked old (Ask txn call) told new) ⊎ IsTurnedAway is_bad old told new
 
 -- ---- arguments
 
+-- an argument is bad; else there was no memory
 abbrev pub is_bad : Unasked → Bool
 is_bad unasked.Memory = false
 is_bad unasked.Bad = true
@@ -41,6 +45,7 @@ abbrev pub IsPath : List ℕ → Result (List ℕ) Unasked → Type 0
 IsPath bytes (Ok path) = (path ≡ bytes) × (has_nul bytes ≡ false)
 IsPath bytes (Err why) = has_nul bytes ≡ is_bad why
 
+-- the same of two
 abbrev pub ArePaths : List ℕ → List ℕ → Result (List ℕ × List ℕ) Unasked → Type 0
 ArePaths from to (Ok paths) = (paths.0 ≡ from) × (paths.1 ≡ to) × ((has_nul from || has_nul to) ≡ false)
 ArePaths from to (Err why) = (has_nul from || has_nul to) ≡ is_bad why

@@ -10,10 +10,12 @@ use Rattle.ft_session.specs.declared.session.Session.{Session}
 use Rattle.nuzolged.specs.declared.told.Told.{Told}
 use Rattle.nuzolged.specs.Numbers.{told_of, told_size, no_memory, closed, bad}
 
--- The line was carried out, and what it came to is told. Or nothing has changed: it asks for nothing that there is, or there was no memory.
+-- The line was carried out, and what it came to is told. Or nothing has changed: it asks for
+-- nothing that there is, or there was no memory.
 abbrev pub IsLineTold : Session → Line → Told → Session → Type 0
 IsLineTold old line told new = (IsCarriedOut old line new × (told ≡ told_of new.last)) ⊎ (IsSame old new × (((line ≡ Bad) × (told ≡ bad)) ⊎ (told ≡ no_memory)))
 
+-- the same through a handle, which may be closed
 abbrev pub IsLineAsked : Option Session → Line → Told → Option Session → Type 0
 IsLineAsked None line told new = (told ≡ closed) × (new ≡ None)
 IsLineAsked (Some old) line told new = (session : Session) × (new ≡ Some session) × IsLineTold old line told session
@@ -22,6 +24,7 @@ IsLineAsked (Some old) line told new = (session : Session) × (new ≡ Some sess
 abbrev pub HasReplied : Last → Told → List ℕ → List ℕ → Type 0
 HasReplied last told before after = ((told ≡ told_size (length (reply_text last))) × (after ≡ filled (reply_text last) before)) ⊎ ((told ≡ no_memory) × (after ≡ before))
 
+-- the same through a handle, which may be closed
 abbrev pub IsReplied : Option Session → Told → List ℕ → List ℕ → Type 0
 IsReplied None told before after = (told ≡ closed) × (after ≡ before)
 IsReplied (Some session) told before after = HasReplied session.last told before after

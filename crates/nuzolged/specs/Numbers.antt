@@ -34,6 +34,7 @@ closed = told 1200 0 0
 abbrev pub bad : Told
 bad = told 1201 0 0
 
+-- 1 for a directory, 2 for a file
 abbrev pub kind_number : Kind → ℕ
 kind_number kind.Dir = 1
 kind_number kind.File = 2
@@ -68,6 +69,8 @@ fault_number fault.Live = 1009
 fault_number fault.NoAsk = 1010
 fault_number fault.NoViews = 1011
 
+-- a reply: its stamp, and code 0 with a number, with how many names or bytes there are, or with
+-- what `stat` tells; or the number of its error
 abbrev pub told_of_reply : ℕ → Reply → Told
 told_of_reply stamp Done = told 0 stamp 0
 told_of_reply stamp (Names names) = told 0 stamp (length names)

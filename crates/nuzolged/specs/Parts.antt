@@ -9,21 +9,26 @@ use Rattle.nuzolged.specs.Numbers.{told, told_size, kind_number, closed, bad}
 
 -- ---- a name of a list
 
+-- its kind, and how many bytes it has; `bad` where there is none
 abbrev pub named : Option (List ℕ × Kind) → Told
 named None = bad
 named (Some name) = record { code = 0; kind = kind_number name.1; stamp = 0; number = 0; links = 0; size = length name.0 }
 
+-- of the name at this place
 abbrev pub name_at : Last → ℕ → Told
 name_at last index = named (slice_get (names_in last) index)
 
+-- the same through a handle, which may be closed
 abbrev pub name_told : Option Session → ℕ → Told
 name_told None index = closed
 name_told (Some session) index = name_at session.last index
 
+-- the bytes of a name
 abbrev pub first_part : Option (List ℕ × Kind) → Option (List ℕ)
 first_part None = None
 first_part (Some name) = Some name.0
 
+-- those of the name at this place
 abbrev pub name_bytes_at : Last → ℕ → Option (List ℕ)
 name_bytes_at last index = first_part (slice_get (names_in last) index)
 
@@ -34,23 +39,28 @@ name_bytes (Some session) index = name_bytes_at session.last index
 
 -- ---- a transaction for which a call waits
 
+-- its number; `bad` where there is none
 abbrev pub numbered : Option ℕ → Told
 numbered None = bad
 numbered (Some txn) = told 0 0 txn
 
+-- of the transaction at this place
 abbrev pub blocker_at : Last → ℕ → Told
 blocker_at last index = numbered (slice_get (blockers_in last) index)
 
+-- the same through a handle, which may be closed
 abbrev pub blocker_told : Option Session → ℕ → Told
 blocker_told None index = closed
 blocker_told (Some session) index = blocker_at session.last index
 
 -- ---- the bytes of a read
 
+-- how many there are; `bad` where the last answer has none
 abbrev pub bytes_count : Option (List ℕ) → Told
 bytes_count None = bad
 bytes_count (Some bytes) = told_size (length bytes)
 
+-- the same through a handle, which may be closed
 abbrev pub bytes_told : Option Session → Told
 bytes_told None = closed
 bytes_told (Some session) = bytes_count (bytes_in session.last)

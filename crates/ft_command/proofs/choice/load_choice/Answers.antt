@@ -6,4 +6,6 @@ use Rattle.ft_command.proofs.choice.load_choice.Goals as goal
 pub returns-in-Some : goal.returns-in-Some
 returns-in-Some c =
     let found = found_of c.args.found.now in
-    (rows_of found, refl, c.in-Some.ensures, flag_read found (codes "skip") c.get_flag-skip.result c.get_flag-skip.ensures.none c.get_flag-skip.ensures.value c.get_flag-skip.ensures.other)
+    let skip = flag_read found (codes "skip") c.get_flag-skip.result c.get_flag-skip.ensures.none c.get_flag-skip.ensures.value c.get_flag-skip.ensures.other in
+    let quiet = flag_read found (codes "quiet") c.get_flag-quiet.result c.get_flag-quiet.ensures.none c.get_flag-quiet.ensures.value c.get_flag-quiet.ensures.other in
+    (rows_of found, refl, c.in-Some.ensures, skip, quiet)

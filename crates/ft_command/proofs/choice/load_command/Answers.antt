@@ -8,10 +8,12 @@ use Rattle.ft_command.proofs.choice.load_command.Goals as goal
 pub returns-clause-app : goal.returns-clause-app
 returns-clause-app c =
     let one_is = c.in_ok-arg.ensures.shape c.dir_arg.ensures.local ∙ ap₂ with_rule (ap app_of_fields c.about.ensures ∙ c.new.ensures.app) c.dir_arg.ensures.rule in
-    IfOk-weaker c.arg-2.result _ _ (λ command h. h.shape c.skip_arg.ensures.local ∙ ap₂ with_rule one_is c.skip_arg.ensures.rule) c.arg-2.ensures
+    let two_is = c.in_ok-arg-2.ensures.shape c.skip_arg.ensures.local ∙ ap₂ with_rule one_is c.skip_arg.ensures.rule in
+    IfOk-weaker c.arg-3.result _ _ (λ command h. h.shape c.quiet_arg.ensures.local ∙ ap₂ with_rule two_is c.quiet_arg.ensures.rule) c.arg-3.ensures
 
 pub returns-clause-local : goal.returns-clause-local
 returns-clause-local c =
     let bare : (out-Command c.about.result).has_globals ≡ false = ap (λ f. f.has_globals) c.about.ensures ∙ c.new.ensures.local in
     let one = c.in_ok-arg.ensures.globals ∙ ap₂ (λ a b. a || b) bare c.dir_arg.ensures.local in
-    IfOk-weaker c.arg-2.result _ _ (λ command h. h.globals ∙ ap₂ (λ a b. a || b) one c.skip_arg.ensures.local) c.arg-2.ensures
+    let two = c.in_ok-arg-2.ensures.globals ∙ ap₂ (λ a b. a || b) one c.skip_arg.ensures.local in
+    IfOk-weaker c.arg-3.result _ _ (λ command h. h.globals ∙ ap₂ (λ a b. a || b) two c.quiet_arg.ensures.local) c.arg-3.ensures

@@ -1,18 +1,25 @@
-use Rattle.std.proofs.Common.{[], ◌∷◌, ◌++◌, List, ℕ, refl, subst}
+use Rattle.std.proofs.Common.{[], ◌∷◌, sym, subst}
 use Rattle.std.specs.List.{flat_map}
-use Rattle.ft_copy.specs.Asked.{Finish, Start}
+use Rattle.ft_copy.specs.Asked.{Finish}
 use Rattle.ft_copy.specs.Runs.{asked_of}
 use Rattle.ft_copy.specs.Walks.{Enters, Standing, standing}
 use Rattle.ft_copy.specs.declared.found.TheConstants.{ROOT}
-use Rattle.ft_copy.proofs.Doing.{at_error, does_more, does_one, reaches_after, reaches_failed, unfinished_visits}
+use Rattle.ft_copy.proofs.Doing.{does_more, does_one}
+use Rattle.ft_copy.specs.Stops.{StopsVisiting}
+use Rattle.ft_copy.proofs.Stopping.{at_fault, stops_amid, stops_last}
 use Rattle.ft_copy.proofs.copying.copy_whole.Goals as goal
 
 pub returns-in_err-visit_all-clause-err : goal.returns-in_err-visit_all-clause-err
 returns-in_err-visit_all-clause-err g c =
+    let tells = g.S.Source.tells c.args.source.now in
     let does = g.T.Target.does in
+    let fails = g.T.Target.fails in
     let begun = c.begin.new.target in
-    at_error c.from_residual.result
-    (reaches_after does g.T.Target.fails c.args.target.now begun c.visit_all.new.target (Start ∷ []) refl (does_one does c.args.target.now begun Start c.in_default.ensures.ok.0) c.in_err-visit_all.ensures.err)
+    let next = standing c.begin.new.walk in
+    let new = c.visit_all.new.target in
+    let entered = subst (λ (s : Standing). Enters tells [] ROOT s next) (λ i. record { left = c.new.ensures.items i; firsts = c.new-2.ensures i }) c.in_default.ensures.ok.1 in
+    at_fault c.from_residual.result c.from_residual.ensures.1
+    (λ e is. stops_amid tells does fails e next c.args.target.now begun new entered c.in_default.ensures.ok.0 (subst (λ s. StopsVisiting tells does fails s next begun new) (sym is) c.in_err-visit_all.ensures.err))
 
 pub returns-in-Ok-clause-ok : goal.returns-in-Ok-clause-ok
 returns-in-Ok-clause-ok g c =
@@ -37,8 +44,10 @@ returns-in-Ok-clause-ok g c =
 
 pub returns-clause-err : goal.returns-clause-err
 returns-clause-err g c =
-    let does = g.T.Target.does in
-    let fails = g.T.Target.fails in
+    let tells = g.S.Source.tells c.args.source.now in
+    let begun = c.in_default.ensures.ok in
     let all = c.in_ok-visit_all.ensures.ok in
-    reaches_after does fails c.args.target.now c.visit_all.new.target c.finish.new.self (Start ∷ flat_map asked_of all.0) (unfinished_visits all.0) (c.begin.new.target, c.in_default.ensures.ok.0, all.4)
-    (reaches_failed does fails c.visit_all.new.target c.finish.new.self Finish c.in-Err-finish.ensures.err)
+    let next = standing c.begin.new.walk in
+    let entered = subst (λ (s : Standing). Enters tells [] ROOT s next) (λ i. record { left = c.new.ensures.items i; firsts = c.new-2.ensures i }) begun.1 in
+    stops_last tells g.T.Target.does g.T.Target.fails c.at_root-in-Err-finish.result c.in-Err-finish.trouble next all.1 all.0 c.args.target.now c.begin.new.target c.visit_all.new.target c.finish.new.self
+    c.at_root-in-Err-finish.ensures.trouble c.at_root-in-Err-finish.ensures.path entered begun.0 all.2 all.3 all.4 c.in-Err-finish.ensures.err

@@ -1,14 +1,14 @@
-use Rattle.std.proofs.Common.{[], ◌∷◌, ◌++◌, refl, sym, subst}
+use Rattle.std.proofs.Common.{[], ◌∷◌, ◌++◌, inl, inr, length-append, refl, sym, subst, arith, rules}
 use Rattle.std.specs.List.{flat_map}
 use Rattle.ft_copy.specs.Asked.{DoesAll}
 use Rattle.ft_copy.specs.Runs.{asked_of}
 use Rattle.ft_copy.specs.Walks.{standing}
-use Rattle.ft_copy.proofs.Doing.{does_more, reaches_after, reaches_nothing, unfinished_visits, visits_more}
+use Rattle.ft_copy.proofs.Doing.{does_more, visits_more}
 use Rattle.ft_copy.proofs.Walking.{none_left, walks_more, walks_one}
 use Rattle.ft_copy.proofs.copying.visit_all.Goals as goal
 
 pub loop-turns-init : goal.loop-turns-init
-loop-turns-init g c = ([], refl, refl)
+loop-turns-init g c = ([], refl, refl, search rules)
 
 pub loop-turns-preserved : goal.loop-turns-preserved
 loop-turns-preserved g c =
@@ -23,6 +23,7 @@ loop-turns-preserved g c =
           (walks_one tells now next c.pop.new.self.items c.in-Some.place visited.0 c.in-Some.ensures.items visited.1),
       subst (λ l. DoesAll does c.args.target.now l c.visit.new.target) (sym (visits_more so_far.0 visited.0))
           (does_more does c.args.target.now c.loop-turns.target c.visit.new.target (flat_map asked_of so_far.0) (asked_of visited.0) so_far.2 visited.2),
+      omega (arith, so_far.3, length-append so_far.0 (visited.0 ∷ []), c.loop-turns-test.true),
     )
 
 pub returns-in_default-clause-ok : goal.returns-in_default-clause-ok
@@ -35,10 +36,15 @@ returns-in_default-clause-ok g c =
 pub returns-in-Err-clause-err : goal.returns-in-Err-clause-err
 returns-in-Err-clause-err g c =
     let so_far = c.loop-turns.invariant in
-    reaches_after g.T.Target.does g.T.Target.fails c.args.target.now c.loop-turns.target c.visit.new.target (flat_map asked_of so_far.0) (unfinished_visits so_far.0) so_far.2 c.in-Err.ensures.err
+    (so_far.0, standing c.loop-turns.walk, c.loop-turns.target, so_far.1, so_far.2, inl (c.pop.new.self.items, c.in-Some.place, c.in-Some.ensures.items, refl, c.in-Err.ensures.err))
 
 pub returns-clause-err : goal.returns-clause-err
 returns-clause-err g c =
-    let so_far = c.loop-turns.invariant in
-    let target = c.loop-turns.target in
-    reaches_after g.T.Target.does g.T.Target.fails c.args.target.now target target (flat_map asked_of so_far.0) (unfinished_visits so_far.0) so_far.2 (reaches_nothing g.T.Target.does g.T.Target.fails target)
+    let so_far = c.loop-turns.invariant in (
+      so_far.0,
+      standing c.loop-turns.walk,
+      c.loop-turns.target,
+      so_far.1,
+      so_far.2,
+      inr (refl, c.at_root.ensures.path, c.at_root.ensures.trouble, omega (arith, so_far.3, c.loop-turns-test.false)),
+    )

@@ -1,6 +1,7 @@
-use Rattle.std.proofs.Common.{ℕ, List, inl, inr, Some, refl, sym, ap, ◌∙◌, arith}
+use Rattle.std.proofs.Common.{ℕ, List, inl, inr, Some, refl, sym, subst, ap, ◌∙◌, arith}
 use Rattle.std.proofs.lemmas.Result.{on_ok_weaker}
 use Rattle.ft_copy.specs.Walks.{FirstPaths, firsts_of, standing, with_first}
+use Rattle.ft_copy.proofs.Stopping.{StopsFileAt, if_err, stops_link}
 use Rattle.ft_copy.proofs.Visiting.{first_name, further_name}
 use Rattle.ft_copy.proofs.copying.visit_file.Goals as goal
 
@@ -28,3 +29,22 @@ returns-in_ok-insert-in-None-clause-ok g c =
     c.args.place.now c.args.facts.now (standing c.args.walk.now) (standing (record { alloc = c.args.walk.now.alloc; left = c.args.walk.now.left; firsts = c.insert.new.self }))
     c.as_slice-path.result.now c.as_slice-path.ensures c.if-facts-gt-MOST_LINKS.false c.if-facts-gt-SIZE_LIMIT.false (inr (omega (arith, c.if-facts-le1.false), sym c.in-None.ensures, noted)))
     c.copy_file-in-None.ensures.ok
+
+pub returns-then-facts-le1-clause-err : goal.returns-then-facts-le1-clause-err
+returns-then-facts-le1-clause-err g c told =
+    let tells = g.S.Source.tells c.args.source.now in
+    subst (λ (p : List ℕ). StopsFileAt tells g.T.Target.does g.T.Target.fails c.copy_file.result p c.args.place.now.node c.args.target.now c.copy_file.new.target) c.as_slice-path.ensures c.copy_file.ensures.err
+    c.args.facts.now (standing c.args.walk.now) told
+
+pub returns-in-Some-clause-err : goal.returns-in-Some-clause-err
+returns-in-Some-clause-err g c told =
+    if_err c.link.result
+    (λ t failed. stops_link (g.S.Source.tells c.args.source.now) g.T.Target.does g.T.Target.fails t c.args.place.now c.args.facts.now (standing c.args.walk.now) c.as_slice.result.now c.as_slice-path.result.now
+    c.args.target.now c.link.new.self c.as_slice-path.ensures told (sym c.in-Some.ensures ∙ ap Some (sym c.as_slice.ensures)) failed)
+    c.link.ensures.err
+
+pub returns-in_ok-insert-in-None-clause-err : goal.returns-in_ok-insert-in-None-clause-err
+returns-in_ok-insert-in-None-clause-err g c told =
+    let tells = g.S.Source.tells c.args.source.now in
+    subst (λ (p : List ℕ). StopsFileAt tells g.T.Target.does g.T.Target.fails c.copy_file-in-None.result p c.args.place.now.node c.args.target.now c.copy_file-in-None.new.target) c.as_slice-path.ensures
+    c.copy_file-in-None.ensures.err c.args.facts.now (standing c.args.walk.now) told

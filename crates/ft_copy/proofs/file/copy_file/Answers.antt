@@ -1,31 +1,46 @@
-use Rattle.std.proofs.Common.{[], ◌∷◌, refl}
-use Rattle.std.proofs.lemmas.Result.{on_ok_weaker, on_err_weaker}
-use Rattle.ft_copy.specs.Asked.{Close, Open}
-use Rattle.ft_copy.proofs.Doing.{at_error, does_one, poured_unfinished, reaches_after, reaches_failed}
+use Rattle.std.proofs.Common.{sym, subst}
+use Rattle.std.proofs.lemmas.Result.{on_ok_weaker}
+use Rattle.ft_copy.specs.declared.found.Place.{Place}
+use Rattle.ft_copy.specs.Asked.{Open}
+use Rattle.ft_copy.specs.Stops.{StopsPouring}
+use Rattle.ft_copy.proofs.Doing.{consumed_none}
+use Rattle.ft_copy.proofs.Stopping.{at_fault, if_err, stops_close, stops_open, stops_pour}
 use Rattle.ft_copy.proofs.Visiting.{copied}
 use Rattle.ft_copy.proofs.file.copy_file.Goals as goal
 
+pub returns-in_err-open-clause-err : goal.returns-in_err-open-clause-err
+returns-in_err-open-clause-err g c facts walk told =
+    let place : Place = record { path = c.args.path.now; node = c.args.node } in
+    let left = g.S.File.Read.remaining c.in_ok-file.file in
+    let old = c.args.target.now in
+    let new = c.open-2.new.self in
+    at_fault c.from_residual-in_err-open.result c.from_residual-in_err-open.ensures.1
+    (λ t is. stops_open (g.S.Source.tells c.args.source.now) g.T.Target.does g.T.Target.fails place facts walk told left c.in_ok-file.ensures.ok t old new (consumed_none left)
+    (subst (λ e. g.T.Target.fails old (Open c.args.path.now) e new) (sym is) c.in_err-open.ensures.err))
+
 pub returns-in_err-pour-clause-err : goal.returns-in_err-pour-clause-err
-returns-in_err-pour-clause-err g c =
-    let does = g.T.Target.does in
+returns-in_err-pour-clause-err g c facts walk told =
+    let place : Place = record { path = c.args.path.now; node = c.args.node } in
+    let left = g.S.File.Read.remaining c.in_ok-file.file in
     let opened = c.open-2.new.self in
-    at_error c.from_residual-in_err-pour.result
-    (reaches_after does g.T.Target.fails c.args.target.now opened c.pour.new.target (Open c.args.path.now ∷ []) refl
-    (does_one does c.args.target.now opened (Open c.args.path.now) c.in_ok-open.ensures.ok) c.in_err-pour.ensures.err)
+    let new = c.pour.new.target in
+    at_fault c.from_residual-in_err-pour.result c.from_residual-in_err-pour.ensures.1
+    (λ t is. stops_pour (g.S.Source.tells c.args.source.now) g.T.Target.does g.T.Target.fails place facts walk told left c.in_ok-file.ensures.ok t c.args.target.now opened new c.in_ok-open.ensures.ok
+    (subst (λ e. StopsPouring g.T.Target.does g.T.Target.fails e left opened new) (sym is) c.in_err-pour.ensures.err))
 
 pub returns-clause-ok : goal.returns-clause-ok
 returns-clause-ok g c =
     on_ok_weaker c.close.result
     (copied (g.S.Source.tells c.args.source.now) g.T.Target.does c.args.target.now c.close.new.self c.open-2.new.self c.pour.new.target c.args.path.now c.args.node
-    (g.S.File.Read.remaining c.in_ok-file.file) c.in_ok-file.ensures c.in_ok-open.ensures.ok c.in_ok-pour.ensures.ok)
+    (g.S.File.Read.remaining c.in_ok-file.file) c.in_ok-file.ensures.ok c.in_ok-open.ensures.ok c.in_ok-pour.ensures.ok)
     c.close.ensures.ok
 
 pub returns-clause-err : goal.returns-clause-err
-returns-clause-err g c =
-    let does = g.T.Target.does in
-    let fails = g.T.Target.fails in
+returns-clause-err g c facts walk told =
+    let place : Place = record { path = c.args.path.now; node = c.args.node } in
+    let left = g.S.File.Read.remaining c.in_ok-file.file in
     let poured = c.in_ok-pour.ensures.ok in
-    on_err_weaker c.close.result
-    (λ failed. poured_unfinished does fails c.args.target.now c.open-2.new.self c.pour.new.target c.close.new.self c.args.path.now poured.0 c.in_ok-open.ensures.ok poured.2
-    (reaches_failed does fails c.pour.new.target c.close.new.self Close failed))
+    if_err c.close.result
+    (λ t failed. stops_close (g.S.Source.tells c.args.source.now) g.T.Target.does g.T.Target.fails place facts walk told left c.in_ok-file.ensures.ok t c.args.target.now c.open-2.new.self c.pour.new.target c.close.new.self
+    poured.0 poured.1.0 poured.1.1 c.in_ok-open.ensures.ok poured.2 failed)
     c.close.ensures.err

@@ -22,10 +22,10 @@ loop-place-preserved c =
     let h = history c.args.core.now.state in
     let place = c.loop-place.place in
     let now = map stamped (open_in h (take place events)) in
-    let within : place < length events = subst (λ (es : List Event). place < length es) c.history-events.ensures c.loop-place-test.true in
-    let next = open-at (finite.contains_key c.args.walk.now.undone) h events place c.is_open_at.result (walk-knows (start c.args.core.now c.requires.reached) (values c.args.core.now c.requires.reached) events c.requires.reached.legal c.args.walk.now c.args.calls.now.items c.requires.walk place) within c.is_open_at.ensures in
+    let within : place < length events = subst (λ (es : List Event). place < length es) c.history-events.ensures.events c.loop-place-test.true in
+    let next = open-at (finite.contains_key c.args.walk.now.undone) h events place c.is_open_at.result (walk-knows (start c.args.core.now c.history-events.ensures.reached) (values c.args.core.now c.history-events.ensures.reached) events c.history-events.ensures.reached.legal c.args.walk.now c.args.calls.now.items c.requires place) within c.is_open_at.ensures in
     let copied : (o : Option StampedCall) → o ≡ call_of (slice_get c.history-events.result.now place) → option_list (call_of (slice_get events place)) ≡ option_list o = λ o is.
-    ap option_list (sym (is ∙ ap (λ (es : List Event). call_of (slice_get es place)) c.history-events.ensures)) in
+    ap option_list (sym (is ∙ ap (λ (es : List Event). call_of (slice_get es place)) c.history-events.ensures.events)) in
     let done : (after : List StampedCall) → cond c.is_open_at.result (option_list (call_of (slice_get events place))) [] ≡ after → c.if-is_open_at.calls.items ≡ c.loop-place.calls.items ++ after → c.if-is_open_at.calls.items ≡ c.args.calls.now.items ++ map stamped (open_in h (take (place + 1) events)) = λ after is pushed.
     one-more c.args.calls.now.items c.loop-place.calls.items now after c.if-is_open_at.calls.items c.loop-place.invariant pushed ∙ ap (λ xs. c.args.calls.now.items ++ xs) (sym (next ∙ ap (λ xs. now ++ xs) is)) in
     elim c.if-is_open_at.branch [
@@ -43,8 +43,8 @@ loop-place-preserved c =
 pub returns : goal.returns
 returns c =
     let core = c.args.core.now in
-    let reached = c.requires.reached in
-    let past : length core.state.events ≤ c.loop-place.place = subst (λ (es : List Event). length es ≤ c.loop-place.place) c.history-events.ensures c.loop-place-test.false in
+    let reached = c.history-events.ensures.reached in
+    let past : length core.state.events ≤ c.loop-place.place = subst (λ (es : List Event). length es ≤ c.loop-place.place) c.history-events.ensures.events c.loop-place-test.false in
     c.loop-place.invariant
     ∙ ap (λ (es : List Event). c.args.calls.now.items ++ map stamped (open_in (history core.state) es)) (take_all c.loop-place.place core.state.events past)
     ∙ ap (λ cs. c.args.calls.now.items ++ map stamped cs) (open-are (start core reached) (values core reached) core.state.events reached.legal)

@@ -14,6 +14,6 @@ returns c =
     let cells = c.args.tree.now in
     let copied : c.in_ok-try_clone.field-0 ≡ c.args.path.now = search rules in
     let comes = c.in_ok-intent.ensures.outcome ∙ ap (λ (path : List ℕ). outcome cells READING (open_to_read path)) copied in
-    let same : reply_of cells c.whole-intent.result ≡ contents_on (tidy cells) c.args.path.now =
-    ap (λ (told : Told). reply_of cells told) c.whole-intent.ensures ∙ contents_are cells c.requires c.args.path.now c.in_ok-intent.field-0.intent comes in
+    let same : reply_of cells c.whole-told.result ≡ contents_on (tidy cells) c.args.path.now =
+    ap (λ (told : Told). reply_of cells told) c.whole-told.ensures ∙ contents_are cells c.requires c.args.path.now c.in_ok-intent.field-0.intent comes in
     subst (λ (reply : Reply). IfOk c.reply.result (λ told. told ≡ reply)) same c.reply.ensures.reply

@@ -20,13 +20,13 @@ use Rattle.ft_serial.proofs.walk.Walk.pass.Goals.{in-Call+in_ok-push_place-in-Ca
 pub returns-clause-ok : goal.returns-clause-ok
 returns-clause-ok c = λ given was none.
     let core : StoredState = c.args.core.now in
-    let reached = c.requires.reached in
+    let reached = c.history.ensures.reached in
     let old : Walk = c.args.self.now in
     let base : HistoryBase posix_calls = start core reached in
     let sound = values core reached in
     let m : Walk = c.match-history-self.self in
     let new : Walk = record m { passed = m.passed + 1 } in
-    let at : (e : Event) → c.index-history-self.result ≡ e → _ = λ e is. event-at c.history.result.now core.state.events old.passed c.index-history-self.result e c.history.ensures c.requires.more c.index-history-self.is is in
+    let at : (e : Event) → c.index-history-self.result ≡ e → _ = λ e is. event-at c.history.result.now core.state.events old.passed c.index-history-self.result e c.history.ensures.events c.requires c.index-history-self.is is in
     elim c.match-history-self.branch [
       | in-Call+in_ok-push_place-in-Call w ↦
           let a = w.in-Call in
@@ -72,7 +72,7 @@ returns-clause-ok c = λ given was none.
           gone-over core reached old.passed e (at e a.is) new given one
           (walk-aborted base sound (first core reached old.passed e (at e a.is)) given old new was none one a.txn (drop old.passed core.state.events) (next-legal core reached old.passed e (at e a.is))
           (ap (λ (x : Walk). x.undone) w.self-is ∙ w.forget_all.ensures
-          ∙ ap (λ (es : List Event). without_calls old.undone es w.deref.result.now) (w.history-in-Some-remove.ensures ∙ sym (take-append-drop old.passed core.state.events))
+          ∙ ap (λ (es : List Event). without_calls old.undone es w.deref.result.now) (w.history-in-Some-remove.ensures.events ∙ sym (take-append-drop old.passed core.state.events))
           ∙ ap (without_calls old.undone (take old.passed core.state.events ++ drop old.passed core.state.events))
           (w.deref.ensures.value ∙ ap listed (sym w.in-Some-remove.is ∙ w.remove-in-Abort.ensures.value ∙ ap (finite.get old.under) w.txn-in-Abort.view_is)))
           (ap (λ (x : Walk). x.under) w.self-is ∙ w.remove-in-Abort.ensures.after ∙ ap (finite.remove old.under) w.txn-in-Abort.view_is)

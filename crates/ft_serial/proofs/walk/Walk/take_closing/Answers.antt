@@ -16,9 +16,9 @@ returns-then-is_some-clause-taken c = λ given was.
     let old : Walk = c.loop-place.self in
     let new : Walk = record old { undone = c.forget.new.undone; closing = c.pop.new.self } in
     some-taken new core.state given c.in_ok-call.call c.if-is_some.ensures
-    (taken core c.requires old new given c.in-Some.place c.in_ok-call.call (c.loop-place.invariant.walk given was)
+    (taken core c.history.ensures.reached old new given c.in-Some.place c.in_ok-call.call (c.loop-place.invariant.walk given was)
     (last-place c.deref.result.now old.closing.items c.in-Some.place c.deref.ensures.value (sym c.last.ensures.value ∙ sym c.copied.ensures ∙ c.in-Some.is))
-    refl (c.forget.ensures ∙ ap (λ (es : List Event). without_call old.undone (call_of (slice_get es c.in-Some.place))) c.history.ensures) refl (c.pop.ensures.rest ∙ ap (λ (n : ℕ). take (n - 1) old.closing.items) old.closing.ok.0) c.in_ok-call.ensures)
+    refl (c.forget.ensures ∙ ap (λ (es : List Event). without_call old.undone (call_of (slice_get es c.in-Some.place))) c.history.ensures.events) refl (c.pop.ensures.rest ∙ ap (λ (n : ℕ). take (n - 1) old.closing.items) old.closing.ok.0) c.in_ok-call.ensures)
 
 pub loop-place-preserved : goal.loop-place-preserved
 loop-place-preserved c =
@@ -28,8 +28,8 @@ loop-place-preserved c =
     record {
       walk = λ given was.
           none-taken new core.state given c.in_ok-call.call c.if-is_some.ensures
-          (taken core c.requires old new given c.in-Some.place c.in_ok-call.call (c.loop-place.invariant.walk given was)
+          (taken core c.history.ensures.reached old new given c.in-Some.place c.in_ok-call.call (c.loop-place.invariant.walk given was)
           (last-place c.deref.result.now old.closing.items c.in-Some.place c.deref.ensures.value (sym c.last.ensures.value ∙ sym c.copied.ensures ∙ c.in-Some.is))
-          refl (c.forget.ensures ∙ ap (λ (es : List Event). without_call old.undone (call_of (slice_get es c.in-Some.place))) c.history.ensures) refl (c.pop.ensures.rest ∙ ap (λ (n : ℕ). take (n - 1) old.closing.items) old.closing.ok.0) c.in_ok-call.ensures);
+          refl (c.forget.ensures ∙ ap (λ (es : List Event). without_call old.undone (call_of (slice_get es c.in-Some.place))) c.history.ensures.events) refl (c.pop.ensures.rest ∙ ap (λ (n : ℕ). take (n - 1) old.closing.items) old.closing.ok.0) c.in_ok-call.ensures);
       passed = c.loop-place.invariant.passed;
     }

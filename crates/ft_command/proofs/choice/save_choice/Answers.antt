@@ -1,0 +1,10 @@
+use Rattle.std.proofs.Common.{codes, refl}
+use Rattle.clap.specs.Words.{found_of, rows_of}
+use Rattle.ft_command.proofs.Choosing.{flag_read}
+use Rattle.ft_command.proofs.choice.save_choice.Goals as goal
+
+pub returns-in-Some : goal.returns-in-Some
+returns-in-Some c =
+    let found = found_of c.args.found.now in
+    let quiet = flag_read found (codes "quiet") c.get_flag-quiet.result c.get_flag-quiet.ensures.none c.get_flag-quiet.ensures.value c.get_flag-quiet.ensures.other in
+    (rows_of found, refl, c.in-Some.ensures, quiet)

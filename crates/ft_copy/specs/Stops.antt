@@ -1,0 +1,178 @@
+-- How a copy stops that is not made: how far it came, and why it went no further.
+use Rattle.std.specs.Prelude.{◌≡◌, ◌⊎◌, ◌<◌, ◌≤◌, ◌-◌, ◌^◌, ℕ, true, List, [], ◌∷◌, ◌++◌, map, length, IsSome, IsSomeAnd, Option, None, Some}
+use Rattle.std.specs.List.{concat, flat_map}
+use Rattle.std.specs.Io.KnownBytes.{Consumes}
+use Rattle.ft_body.specs.declared.TheConstants.{SIZE_LIMIT}
+use Rattle.ft_path.specs.declared.TheConstants.{LONGEST_PATH}
+use Rattle.ft_posix.specs.declared.TheConstants.{MOST_LINKS}
+use Rattle.ft_copy.specs.declared.found.TheConstants.{ROOT}
+use Rattle.ft_copy.specs.declared.found.FileFacts.{FileFacts}
+use Rattle.ft_copy.specs.declared.found.Found.{Found}
+use Rattle.ft_copy.specs.declared.found.Found.TheVariants as found
+use Rattle.ft_copy.specs.declared.found.Place.{Place}
+use Rattle.ft_copy.specs.declared.trouble.Stopped.{Stopped}
+use Rattle.ft_copy.specs.declared.trouble.Trouble.{Trouble}
+use Rattle.ft_copy.specs.declared.trouble.Trouble.TheVariants.{Memory, Read, Special, TooLarge, TooManyLinks, PathTooLong, BadName, Full}
+use Rattle.ft_copy.specs.Told.{Told, Finds, Holds, Keeps, Refuses}
+use Rattle.ft_copy.specs.Asked.{Asked, Start, Piece, Finish, GiveUp, DoesAll}
+use Rattle.ft_copy.specs.Walks.{Enters, Standing, is_dotted, nothing}
+use Rattle.ft_copy.specs.Runs.{Visit, OfFolder, OfFile, OfFurther, OfNothing, WalksTo, asked_of}
+
+-- ---- what was asked for, up to where it stops
+
+module _ {T : Type 0} (does : T → Asked → T → Type 0) (fails : T → Asked → Trouble → T → Type 0) where
+  -- The target failed at the first of what it was still to be asked for.
+  abbrev pub FailsAt : Trouble → List Asked → T → T → Type 0
+  FailsAt trouble [] old new = ⊥
+  FailsAt trouble (next ∷ more) old new = fails old next trouble new
+
+  -- The target did a beginning of this, and then nothing more, for a cause that is not its own; or it failed at what came next.
+  abbrev pub StopsIn : Type 0 → Trouble → List Asked → T → T → Type 0
+  StopsIn cause trouble asked old new =
+      (done : List Asked) × (rest : List Asked) × (middle : T) × (asked ≡ done ++ rest) × DoesAll does old done middle
+      × (((new ≡ middle) × cause) ⊎ FailsAt trouble rest middle new)
+
+-- ---- a visit that is not made, or not to its end
+
+-- A file that is read ends early where there is no memory for a piece, where its reader fails, or where it gives more bytes than a file may have.
+abbrev pub EndsReading : Trouble → List (List ℕ) → Type 0
+EndsReading trouble pieces = (trouble ≡ Memory) ⊎ (trouble ≡ Read) ⊎ ((trouble ≡ TooLarge) × (SIZE_LIMIT < length (concat pieces)))
+
+module _ {T : Type 0} (does : T → Asked → T → Type 0) (fails : T → Asked → Trouble → T → Type 0) where
+  -- The target was to put the pieces of a file behind the bytes of the open one, and did so with a beginning of them.
+  abbrev pub StopsPouring : Trouble → Option (List ℕ) → T → T → Type 0
+  StopsPouring trouble left old new =
+      (pieces : List (List ℕ)) × (after : Option (List ℕ)) × Consumes left after (concat pieces) × StopsIn does fails (EndsReading trouble pieces) trouble (map Piece pieces) old new
+
+-- the bytes that were read of a file
+abbrev pub read_of : Visit → Option (List ℕ)
+read_of (OfFolder path) = None
+read_of (OfFile path pieces) = Some (concat pieces)
+read_of (OfFurther first path) = None
+read_of OfNothing = None
+
+module _ (tells : Told → Type 0) where
+  -- A file was opened, and these pieces of it were read.
+  abbrev pub IsReading : Place → Visit → Type 0
+  IsReading place visit =
+      (pieces : List (List ℕ)) × (opened : Option (List ℕ)) × (after : Option (List ℕ)) × (visit ≡ OfFile place.path pieces)
+      × tells (Holds place.path place.node opened) × Consumes opened after (concat pieces)
+
+  -- a file that was met already is to get a further name
+  abbrev pub IsLinking : Place → FileFacts → Standing → Visit → Type 0
+  IsLinking place facts walk visit = (first : List ℕ) × (visit ≡ OfFurther first place.path) × (walk.firsts facts.id ≡ Some first)
+
+  -- A visit of what was found has begun.
+  abbrev pub HasBegunAs : Place → Found → Standing → Visit → Type 0
+  HasBegunAs place found.Folder walk visit = visit ≡ OfFolder place.path
+  HasBegunAs place (found.File facts) walk visit = IsReading place visit ⊎ IsLinking place facts walk visit
+  HasBegunAs place found.Special walk visit = ⊥
+
+  -- A visit has begun, or nothing was done at the place.
+  abbrev pub HasBegun : Place → Standing → Visit → Type 0
+  HasBegun place walk visit = (visit ≡ OfNothing) ⊎ ((found : Found) × tells (Finds place.path place.node found) × HasBegunAs place found walk visit)
+
+  -- the source told of a file at the place, of which this holds
+  abbrev pub FindsFile : Place → (FileFacts → Type 0) → Type 0
+  FindsFile place holds = (facts : FileFacts) × tells (Finds place.path place.node (found.File facts)) × holds facts
+
+  -- Why a place is not copied: which trouble comes when.
+  abbrev pub Hinders : Trouble → Place → Visit → Type 0
+  Hinders Memory place visit = Unit {0}
+  Hinders Read place visit = IsSome (read_of visit)
+  Hinders Special place visit = tells (Finds place.path place.node found.Special) × tells (Keeps place.path)
+  Hinders TooLarge place visit = FindsFile place (λ facts. SIZE_LIMIT < facts.size) ⊎ IsSomeAnd (read_of visit) (λ bytes. SIZE_LIMIT < length bytes)
+  Hinders TooManyLinks place visit = FindsFile place (λ facts. MOST_LINKS < facts.links)
+  Hinders PathTooLong place visit = LONGEST_PATH < length place.path
+  Hinders BadName place visit = is_dotted place.path ≡ true
+  Hinders other place visit = ⊥
+
+  -- The same, or the source could not tell of it.
+  abbrev pub IsCauseAt : Trouble → Place → Visit → Type 0
+  IsCauseAt trouble place visit = Hinders trouble place visit ⊎ tells (Refuses place.path place.node trouble)
+
+-- ---- a copy that is not made
+
+-- How far a copy came: to the root; to a place behind these visits; to its end; or to more places than a number counts.
+pub data Reached : Type 0 where
+  Root : Reached
+  Amid : (visits : List Visit) → (place : Place) → (visit : Visit) → Reached
+  Behind : (visits : List Visit) → Reached
+  Endless : (visits : List Visit) → Reached
+
+-- what the target was asked for before, and has done
+abbrev pub asked_before : Reached → List Asked
+asked_before Root = []
+asked_before (Amid visits place visit) = Start ∷ flat_map asked_of visits
+asked_before (Behind visits) = Start ∷ flat_map asked_of visits
+asked_before (Endless visits) = Start ∷ flat_map asked_of visits
+
+-- what it was asked for then, up to where the copy stops
+abbrev pub asked_then : Reached → List Asked
+asked_then Root = Start ∷ []
+asked_then (Amid visits place visit) = asked_of visit
+asked_then (Behind visits) = Finish ∷ []
+asked_then (Endless visits) = []
+
+-- the path at which it stops
+abbrev pub path_at : Reached → List ℕ
+path_at Root = []
+path_at (Amid visits place visit) = place.path
+path_at (Behind visits) = []
+path_at (Endless visits) = []
+
+module _ (tells : Told → Type 0) where
+  -- These visits were made from the root on, each of the place that was next, as the source told.
+  abbrev pub HasWalked : List Visit → Standing → Type 0
+  HasWalked visits now = (begun : Standing) × Enters tells [] ROOT nothing begun × WalksTo tells begun visits now
+
+  -- So far the source told.
+  abbrev pub IsReached : Reached → Type 0
+  IsReached Root = Unit {0}
+  IsReached (Amid visits place visit) =
+      (now : Standing) × (rest : List Place) × HasWalked visits now × (now.left ≡ rest ++ place ∷ []) × HasBegun tells place (record { left = rest; firsts = now.firsts }) visit
+  IsReached (Behind visits) = (now : Standing) × HasWalked visits now × (now.left ≡ [])
+  IsReached (Endless visits) = (now : Standing) × HasWalked visits now × (2 ^ 64 - 1 ≤ length visits)
+
+  -- Why it went no further, where the target has not failed.
+  abbrev pub IsCause : Trouble → Reached → Type 0
+  IsCause trouble Root = (trouble ≡ Memory) ⊎ tells (Refuses [] ROOT trouble)
+  IsCause trouble (Amid visits place visit) = IsCauseAt tells trouble place visit
+  IsCause trouble (Behind visits) = ⊥
+  IsCause trouble (Endless visits) = trouble ≡ Full
+
+module _ {T : Type 0} (tells : Told → Type 0) (does : T → Asked → T → Type 0) (fails : T → Asked → Trouble → T → Type 0) where
+  -- A visit was not made, or not to its end.
+  abbrev pub StopsVisit : Trouble → Place → Standing → T → T → Type 0
+  StopsVisit trouble place walk old new =
+      (visit : Visit) × HasBegun tells place walk visit × StopsIn does fails (IsCauseAt tells trouble place visit) trouble (asked_of visit) old new
+
+  -- The target did not start, or the root could not be entered.
+  abbrev pub StopsBegin : Trouble → T → T → Type 0
+  StopsBegin trouble old new = StopsIn does fails (IsCause tells trouble Root) trouble (Start ∷ []) old new
+
+  -- The visit of the next place was not made, or not to its end.
+  abbrev pub StopsNext : Stopped → Standing → T → T → Type 0
+  StopsNext stopped now old new =
+      (rest : List Place) × (place : Place) × (now.left ≡ rest ++ place ∷ []) × (stopped.path ≡ place.path)
+      × StopsVisit stopped.trouble place (record { left = rest; firsts = now.firsts }) old new
+
+  -- There were more places than a number counts.
+  abbrev pub RunsOut : Stopped → List Visit → T → T → Type 0
+  RunsOut stopped visits old new = (new ≡ old) × (stopped.path ≡ []) × (stopped.trouble ≡ Full) × (2 ^ 64 - 1 ≤ length visits)
+
+  -- Places were visited, until one was not.
+  abbrev pub StopsVisiting : Stopped → Standing → T → T → Type 0
+  StopsVisiting stopped walk old new =
+      (visits : List Visit) × (now : Standing) × (middle : T) × WalksTo tells walk visits now × DoesAll does old (flat_map asked_of visits) middle
+      × (StopsNext stopped now middle new ⊎ RunsOut stopped visits middle new)
+
+  -- A copy came so far, and no further: all before it was done, and of what came then a beginning.
+  abbrev pub Stops : Stopped → T → T → Type 0
+  Stops stopped old new =
+      (reached : Reached) × (middle : T) × IsReached tells reached × (stopped.path ≡ path_at reached) × DoesAll does old (asked_before reached) middle
+      × StopsIn does fails (IsCause tells stopped.trouble reached) stopped.trouble (asked_then reached) middle new
+
+  -- The same, and then the target has given up.
+  abbrev pub StopsCopy : Stopped → T → T → Type 0
+  StopsCopy stopped old new = (middle : T) × Stops stopped old middle × does middle GiveUp new

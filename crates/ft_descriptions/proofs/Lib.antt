@@ -1,0 +1,2 @@
+mod Clones
+pub mod Opened

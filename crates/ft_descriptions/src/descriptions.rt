@@ -1,0 +1,205 @@
+// The open file descriptions of a tree, with how many each file has.
+ghost use Rattle.std.specs.Prelude.{◌≡◌, ◌+◌, ◌-◌, ℕ, true, IsSome, IsOk, IfOk, OnOk, OnErr};
+ghost use Rattle.std.specs.Option.{option_flatten, option_map};
+ghost use Rattle.std.specs.Ordering.{nat_cmp};
+ghost use Rattle.std.specs.Coded.{coded_ℕ, coded_option};
+ghost use Rattle.std.specs.FinMap as map;
+ghost use Rattle.ft_cells.specs.declared.open_file.OpenFile.{OpenFile};
+ghost use Rattle.ft_cells.specs.contracts.open_file.OpenFile as open_file;
+ghost use Rattle.ft_cells.specs.Cells.{Opens, is_open};
+ghost use Rattle.ft_descriptions.specs.Openings.{openings, AreCounts, described, one_of};
+
+use ft_base::{Memory, Table};
+use ft_cells::{Hint, Hinted, OpenFile, seen_in, value_in, with_hint};
+use std::alloc::{AllocError, Global};
+use std::marker::Model;
+
+/// The open file descriptions, by descriptor: a place for each, which may be empty.
+///
+/// How many each file has is counted, so that it is told at once whether a file is open. Where
+/// memory for a count was wanting once, the places are gone through instead.
+#[derive(Drop)]
+pub struct Descriptions {
+    places: Table<Option<Hinted<OpenFile>>>,
+    counts: Table<u64>,
+    is_counted: bool,
+}
+
+impl Model for Descriptions {
+    ghost Value = { Opens };
+
+    ghost coded = { map.code coded_ℕ (coded_option open_file.the_row.coded) };
+
+    ghost view = { λ a. a.places };
+
+    ghost invariant = { λ a. a.is_counted ≡ true → AreCounts a.counts (openings a.places) };
+}
+
+impl Descriptions {
+    /// No description. Takes no memory.
+    pub fn new(alloc: Global) -> Descriptions
+        ensures { result ≡ map.empty }
+    {
+        Descriptions {
+            places: Table::new(alloc),
+            counts: Table::new(alloc),
+            is_counted: true,
+        }
+    }
+
+    /// All places.
+    pub fn places(&self) -> &Table<Option<Hinted<OpenFile>>>
+        ensures { result.now ≡ self.now }
+    {
+        &self.places
+    }
+
+    /// The description of a descriptor.
+    pub fn get(&self, fd: u64) -> Option<OpenFile>
+        ensures { result ≡ option_flatten (map.get self.now fd) }
+    {
+        match self.seen(fd) {
+            Some((open, _)) => Some(open),
+            None => None,
+        }
+    }
+
+    /// The description of a descriptor, and where its file may stand.
+    pub fn seen(&self, fd: u64) -> Option<(OpenFile, Hint)>
+        ensures { option_map (λ seen. seen.0) result ≡ option_flatten (map.get self.now fd) }
+    {
+        seen_in(self.places.get(fd))
+    }
+
+    /// Whether some descriptor has a file open.
+    pub fn is_open(&self, file: u64) -> bool
+        ensures { result ≡ is_open self.now file }
+    {
+        if self.is_counted {
+            return counted(&self.counts, file) > 0;
+        }
+        is_open(&self.places, file)
+    }
+
+    /// Sets a place, with where the file may stand, and gives back what stood there, if it was
+    /// there. Only a place that is new can want memory.
+    pub fn set(
+        &mut self,
+        fd: u64,
+        to: Option<OpenFile>,
+        near: Hint,
+    ) -> Result<Option<Option<OpenFile>>, Memory>
+        ensures was { IfOk result (λ was. was ≡ map.get self.old fd) }
+        ensures ok { OnOk result (self.new ≡ map.insert self.old fd to) }
+        ensures err { OnErr result (self.new ≡ self.old) }
+        ensures place { IsSome (map.get self.old fd) → IsOk result }
+    {
+        let was = value_in(self.places.insert(fd, with_hint(to, near))?);
+        if self.is_counted {
+            self.is_counted = recount(&mut self.counts, file_of(was.flatten()), file_of(to));
+        }
+        Ok(was)
+    }
+
+    /// Takes a place away, with what stands in it.
+    pub fn remove(&mut self, fd: u64)
+        ensures { self.new ≡ map.remove self.old fd }
+    {
+        let was = value_in(self.places.remove(fd));
+        if self.is_counted {
+            self.is_counted = recount(&mut self.counts, file_of(was.flatten()), None);
+        }
+    }
+
+    /// Lets the count of a file go, where it has no description.
+    pub fn forget(&mut self, file: u64)
+        ensures { self.new ≡ self.old }
+    {
+        if counted(&self.counts, file) == 0 {
+            self.counts.remove(file);
+        }
+    }
+}
+
+impl Clone for Descriptions {
+    ghost is_clone = { λ descriptions copy. copy ≡ descriptions };
+
+    fn clone(&self) -> Result<Descriptions, AllocError> {
+        let places = self.places.clone()?;
+        let counts = self.counts.clone()?;
+        Ok(Descriptions {
+            places,
+            counts,
+            is_counted: self.is_counted,
+        })
+    }
+}
+
+/// Whether some descriptor has a file open.
+fn is_open(places: &Table<Option<Hinted<OpenFile>>>, file: u64) -> bool
+    ensures { result ≡ is_open places.now file }
+{
+    for (_, place) in places.iter() {
+        if let Some(open) = place {
+            if open.value().file == file {
+                return true;
+            }
+        }
+    }
+    false
+}
+
+/// The file of a description.
+fn file_of(description: Option<OpenFile>) -> Option<u64>
+    ensures { result ≡ option_map (λ (o : OpenFile). o.file) description }
+{
+    match description {
+        Some(description) => Some(description.file),
+        None => None,
+    }
+}
+
+/// How many descriptions were counted of a file.
+fn counted(counts: &Table<u64>, file: u64) -> u64
+    ensures { result ≡ described counts.now file }
+{
+    match counts.get(file) {
+        Some(count) => *count,
+        None => 0,
+    }
+}
+
+/// Counts that a description of the one file went and one of the other came, and answers whether
+/// that was done. It is not where memory is wanting.
+fn recount(counts: &mut Table<u64>, gone: Option<u64>, come: Option<u64>) -> bool
+    ensures { result ≡ true → (n m : ℕ → ℕ) → AreCounts counts.old n → ((i : ℕ) → one_of gone i + m i ≡ one_of come i + n i) → AreCounts counts.new m }
+{
+    if gone == come {
+        return true;
+    }
+    add_one(counts, come) && take_one(counts, gone)
+}
+
+/// Counts one more description of the file, if there is one, and answers whether that was done.
+fn add_one(counts: &mut Table<u64>, file: Option<u64>) -> bool
+    ensures { result ≡ true → (i : ℕ) → described counts.new i ≡ one_of file i + described counts.old i }
+{
+    let Some(file) = file else {
+        return true;
+    };
+    match counted(counts, file).checked_add(1) {
+        Some(count) => counts.insert(file, count).is_ok(),
+        None => false,
+    }
+}
+
+/// Counts one description less of the file, if there is one, and answers whether that was done.
+fn take_one(counts: &mut Table<u64>, file: Option<u64>) -> bool
+    ensures { result ≡ true → (i : ℕ) → described counts.new i ≡ described counts.old i - one_of file i }
+{
+    let Some(file) = file else {
+        return true;
+    };
+    let count = counted(counts, file).saturating_sub(1);
+    counts.insert(file, count).is_ok()
+}

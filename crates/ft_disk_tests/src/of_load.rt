@@ -1,0 +1,189 @@
+// What no clause says: that a load comes to its end, its text as it stands in a script, and which
+// fault comes where.
+use crate::fakes::{FakeSource, Held, Row};
+use ft_copy::{Stopped, Trouble};
+use ft_load::load;
+use std::alloc::Global;
+use std::cell::Cell;
+use std::test::Fail;
+
+// More turns than any load here takes.
+const ALL: u64 = 1_000_000;
+
+/// An empty directory, an empty file, a file of two names, and bytes that are no text. As a path
+/// `/a-` comes before what stands in `/a`, and as a name behind.
+pub const TREE: &[Row<'static>] = &[
+    (b"/%", Held::File(0, 2, b"a b")),
+    (b"/a", Held::Folder),
+    (b"/a/empty", Held::Folder),
+    (b"/a/nothing", Held::File(1, 1, b"")),
+    (b"/a-", Held::File(2, 1, b"\x00\xff")),
+    (b"/b\xff", Held::File(0, 2, b"a b")),
+];
+
+/// The script that makes it.
+pub const SCRIPT: &str =
+    "begin\n1 open wcx /%25\n1 write 2 a%20b\n1 close 2\n1 mkdir /a\n1 mkdir /a/empty\n1 open wcx /a/nothing\n1 close 7\n1 open wcx /a-\n1 write 9 %00%FF\n1 close 9\n1 link /%25 /b%FF\ncommit 1\n";
+
+// How many calls a load of it takes: one for each directory with the root, one look at each path,
+// and for each file an open, its pieces and a read at its end.
+const CALLS: u64 = 17;
+
+// Loads a tree in so many turns, and puts its script behind a text.
+fn load_in(
+    alloc: Global,
+    (rows, skipped): (&[Row<'_>], &[u8]),
+    turns: u64,
+    text: &mut Vec<u8>,
+) -> Result<(), Stopped> {
+    let turns = Cell::new(turns);
+    let source = FakeSource {
+        alloc,
+        rows,
+        skipped,
+        turns: &turns,
+    };
+    let (_, loaded) = load(alloc, &source, text);
+    loaded
+}
+
+// Whether a tree is loaded as this script.
+fn is_loaded(alloc: Global, tree: (&[Row<'_>], &[u8]), script: &str) -> bool {
+    let mut text = Vec::new(alloc);
+    load_in(alloc, tree, ALL, &mut text).is_ok() && text.as_slice() == script.as_bytes()
+}
+
+// Whether a load of a tree in so many turns stops so, and what was written does not commit.
+fn stops(
+    alloc: Global,
+    tree: (&[Row<'_>], &[u8]),
+    turns: u64,
+    (trouble, path): (Trouble, &[u8]),
+) -> bool {
+    let mut text = Vec::new(alloc);
+    match load_in(alloc, tree, turns, &mut text) {
+        Ok(()) => false,
+        Err(stopped) => {
+            stopped.trouble == trouble
+                && stopped.path.as_slice() == path
+                && !text.as_slice().ends_with(b"commit 1\n".as_slice())
+        }
+    }
+}
+
+#[test]
+fn directory_as_script(rt: HostRuntime) -> Result<(), Fail> {
+    assert!(rt; is_loaded(rt.alloc(), (TREE, b"".as_slice()), SCRIPT));
+    Ok(())
+}
+
+/// What a tree has no place for, amid directories.
+pub const WITH_SPECIAL: &[Row<'static>] = &[
+    (b"/dev", Held::Folder),
+    (b"/dev/s y", Held::Special),
+    (b"/z", Held::Folder),
+];
+
+// Whether what a tree has no place for is refused by its path, and left out where that is asked for
+// at its path.
+fn is_refused_or_left_out(alloc: Global) -> bool {
+    let special = (Trouble::Special, b"/dev/s y".as_slice());
+    stops(alloc, (WITH_SPECIAL, b"/z".as_slice()), ALL, special)
+        && is_loaded(
+            alloc,
+            (WITH_SPECIAL, b"/dev/s y".as_slice()),
+            "begin\n1 mkdir /dev\n1 mkdir /z\ncommit 1\n",
+        )
+}
+
+#[test]
+fn special_files(rt: HostRuntime) -> Result<(), Fail> {
+    assert!(rt; is_refused_or_left_out(rt.alloc()));
+    Ok(())
+}
+
+// Whether a file of so many bytes and names is loaded, or the fault that comes at it.
+fn trouble_of(alloc: Global, links: u64, size: usize) -> Result<Option<Trouble>, Fail> {
+    let bytes = vec![in alloc; b'x'; size]?;
+    let rows = [(b"/f".as_slice(), Held::File(0, links, bytes.as_slice()))];
+    let mut text = Vec::new(alloc);
+    match load_in(alloc, (rows.as_slice(), b"".as_slice()), ALL, &mut text) {
+        Ok(()) => Ok(None),
+        Err(stopped) => Ok(Some(stopped.trouble)),
+    }
+}
+
+#[test]
+fn limits_of_files(rt: HostRuntime) -> Result<(), Fail> {
+    for (links, size, trouble) in [
+        (1_000, 1_048_576, None),
+        (1, 1_048_577, Some(Trouble::TooLarge)),
+        (1_001, 0, Some(Trouble::TooManyLinks)),
+    ] {
+        assert_eq!(rt;
+            trouble_of(rt.alloc(), links, size)?,
+            trouble,
+            "at {links} and {size}"
+        );
+    }
+    Ok(())
+}
+
+// A path of so many bytes: each name has 255, and the last what is left.
+fn long_path(alloc: Global, length: usize) -> Result<Vec<u8>, Fail> {
+    let mut path = Vec::new(alloc);
+    for place in 0..length {
+        path.push(if place % 256 == 0 { b'/' } else { b'd' })?;
+    }
+    Ok(path)
+}
+
+// The directories on the way to the end of a path, and the one there.
+fn rows_to<'a>(alloc: Global, path: &'a [u8]) -> Result<Vec<Row<'a>>, Fail> {
+    let mut rows = Vec::new(alloc);
+    for (place, byte) in path.iter().enumerate() {
+        if *byte == b'/' {
+            if let Some(front) = path.get(..place) {
+                rows.push((front, Held::Folder))?;
+            }
+        }
+    }
+    rows.push((path, Held::Folder))?;
+    Ok(rows)
+}
+
+// Whether a path of so many bytes is loaded.
+fn is_short_enough(alloc: Global, length: usize) -> Result<bool, Fail> {
+    let path = long_path(alloc, length)?;
+    let rows = rows_to(alloc, path.as_slice())?;
+    let too_long = (Trouble::PathTooLong, path.as_slice());
+    Ok(!stops(alloc, (rows.as_slice(), b"".as_slice()), ALL, too_long))
+}
+
+#[test]
+fn longest_path(rt: HostRuntime) -> Result<(), Fail> {
+    assert!(rt; is_short_enough(rt.alloc(), 4_095)? && !is_short_enough(rt.alloc(), 4_096)?);
+    Ok(())
+}
+
+// Whether a load ends with a fault at each call that fails, and else as it should.
+fn faults_at_each_call(alloc: Global) -> bool {
+    for turns in 0..CALLS {
+        let mut text = Vec::new(alloc);
+        match load_in(alloc, (TREE, b"".as_slice()), turns, &mut text) {
+            Err(stopped) if stopped.trouble == Trouble::Read => {}
+            _ => return false,
+        }
+        if text.as_slice().ends_with(b"commit 1\n".as_slice()) {
+            return false;
+        }
+    }
+    let mut text = Vec::new(alloc);
+    load_in(alloc, (TREE, b"".as_slice()), CALLS, &mut text).is_ok()
+}
+
+#[test]
+fn source_that_fails(rt: HostRuntime) -> Result<(), Fail> {
+    assert!(rt; faults_at_each_call(rt.alloc()));
+    Ok(())
+}

@@ -1,0 +1,118 @@
+// What no clause says: that a save comes to its end, and what is left where it does not.
+use crate::fakes::{FakeTarget, Held, Row};
+use crate::of_load::{SCRIPT, TREE};
+use ft_copy::Trouble;
+use ft_core::Core;
+use ft_save::{SaveFault, save};
+use ft_script::play;
+use std::alloc::Global;
+use std::test::Fail;
+
+// More turns than any save here takes.
+const ALL: u64 = 1_000_000;
+
+/// Three reports, of which the last is cut off: in the second a file has two names, one is empty,
+/// and one is open and has no name.
+pub const REPLIES: &str =
+    "txn 1\ntree 3\ndir 1\ndir 2\nedge 1 old 2\nok\ntree 10\ndir 1\ndir 2\nedge 1 %25 3\nedge 1 a 2\nedge 2 again 3\nedge 2 nothing 4\nfile 3 3 a%20b\nfile 4 0 \nfile 5 6 orphan\nfd 9 5 w 0\nok\ntree 3\ndir 1\nedge 1 cut 2\n";
+
+// The tree of the second.
+const SAVED: &[Row<'static>] = &[
+    (b"/%", Held::File(0, 2, b"a b")),
+    (b"/a", Held::Folder),
+    (b"/a/again", Held::File(0, 2, b"a b")),
+    (b"/a/nothing", Held::File(1, 1, b"")),
+];
+
+// How many calls a save of it makes: a start and a finish, one for each directory and each further
+// name, and for each file an open, its pieces and a close.
+const CALLS: u64 = 9;
+
+// Whether replies are saved as these rows.
+fn is_saved(alloc: Global, replies: &[u8], rows: &[Row<'_>]) -> bool {
+    let mut reader = replies;
+    let mut target = FakeTarget::new(alloc, ALL);
+    save(alloc, &mut reader, &mut target).is_ok() && target.holds(rows)
+}
+
+#[test]
+fn last_tree_is_saved(rt: HostRuntime) -> Result<(), Fail> {
+    assert!(rt; is_saved(rt.alloc(), REPLIES.as_bytes(), SAVED));
+    Ok(())
+}
+
+// Why a save in so many turns is not made, where that leaves nothing.
+fn stopped_by(alloc: Global, replies: &[u8], turns: u64) -> Option<SaveFault> {
+    let mut reader = replies;
+    let mut target = FakeTarget::new(alloc, turns);
+    let fault = save(alloc, &mut reader, &mut target).err()?;
+    target.is_empty().then_some(fault)
+}
+
+// Whether a save in so many turns is not made for this reason, which leaves nothing.
+fn leaves_nothing(alloc: Global, replies: &[u8], turns: u64, trouble: Trouble) -> bool {
+    match stopped_by(alloc, replies, turns) {
+        Some(SaveFault::Stopped(stopped)) => stopped.trouble == trouble,
+        _ => false,
+    }
+}
+
+#[test]
+fn no_tree(rt: HostRuntime) -> Result<(), Fail> {
+    let replies = b"txn 1\nok\ntree 2\ndir 1\n".as_slice();
+    assert!(rt;
+        matches!(
+            stopped_by(rt.alloc(), replies, ALL),
+            Some(SaveFault::NoTree)
+        )
+    );
+    Ok(())
+}
+
+#[test]
+fn names_that_lead_elsewhere(rt: HostRuntime) -> Result<(), Fail> {
+    let alloc = rt.alloc();
+    for name in [".", "..", "%2E%2E", "", "/", "a%2Fb", "/etc", "a%00"] {
+        let replies = format!(in alloc;
+            "tree 6\ndir 1\ndir 2\nedge 1 %20 2\nedge 2 %20 3\nedge 2 {name} 3\nfile 3 1 x\n"
+        )?;
+        assert!(rt;
+            leaves_nothing(alloc, replies.as_bytes(), ALL, Trouble::BadName),
+            "at {name}"
+        );
+    }
+    Ok(())
+}
+
+// Whether a save leaves nothing at each call that fails, and else is made.
+fn leaves_nothing_at_each_call(alloc: Global) -> bool {
+    for turns in 0..CALLS {
+        if !leaves_nothing(alloc, REPLIES.as_bytes(), turns, Trouble::Write) {
+            return false;
+        }
+    }
+    let mut target = FakeTarget::new(alloc, CALLS);
+    save(alloc, &mut REPLIES.as_bytes(), &mut target).is_ok() && target.holds(SAVED)
+}
+
+#[test]
+fn target_that_fails(rt: HostRuntime) -> Result<(), Fail> {
+    assert!(rt; leaves_nothing_at_each_call(rt.alloc()));
+    Ok(())
+}
+
+// What is written when the script of a load is played, and then asked for the tree.
+fn replies_to_load(alloc: Global) -> Result<Vec<u8>, Fail> {
+    let script = format!(in alloc; "{SCRIPT}tree\n")?;
+    let mut core = Core::new(alloc)?;
+    let mut replies = Vec::new(alloc);
+    play(alloc, &mut script.as_bytes(), &mut replies, &mut core)?;
+    Ok(replies)
+}
+
+#[test]
+fn loaded_tree_is_saved(rt: HostRuntime) -> Result<(), Fail> {
+    let replies = replies_to_load(rt.alloc())?;
+    assert!(rt; is_saved(rt.alloc(), replies.as_slice(), TREE));
+    Ok(())
+}
