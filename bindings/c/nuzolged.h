@@ -1,7 +1,8 @@
 /* nuzolged.h: a POSIX file tree in memory, under nested transactions.
  *
- * Link libnuzolged: the static library with the heap of its toolchain, or the shared object of both.
- * It needs memcpy, memmove, memset, malloc, realloc and free, and nothing else of the C library.
+ * Link libnuzolged: the static library with the heap of its toolchain, or the shared object of
+ * both. It needs memcpy, memmove, memset, malloc, realloc and free, and nothing else of the C
+ * library.
  *
  * A function carries out one request, whole, or changes nothing, and its answer says which. The
  * library starts no thread, takes no lock, calls nobody back, and never ends the process.
@@ -55,8 +56,8 @@ typedef struct nuz_answer {
 /* The codes of an answer.
  *
  * 0          The request was carried out; a call was granted, and has its stamp.
- * 1 to 75    An errno, as Linux numbers them (errno.h). The call was granted, has its stamp, failed,
- *            and changed nothing. Only calls answer one.
+ * 1 to 75    An errno, as Linux numbers them (errno.h). The call was granted, has its stamp,
+ *            failed, and changed nothing. Only calls answer one.
  * 1001 on    The request is refused. Nothing has changed.
  * 1100       NUZ_WAITS. The call waits for transactions, which nuz_blocker tells. It is kept:
  *            nuz_retry makes it, and nuz_drop forgets it; a further call replaces it.
@@ -71,7 +72,7 @@ enum {
     NUZ_CHILD_LIVE = 1004,      /* the transaction has a live subtransaction */
     NUZ_NOTHING_TO_UNDO = 1005, /* the transaction has no call that could be undone */
     NUZ_SUB_SINCE = 1006,       /* a subtransaction has committed since its last call */
-    NUZ_FULL = 1007,            /* a limit is reached: of transactions or calls; a checkpoint helps */
+    NUZ_FULL = 1007,            /* no more transactions or calls before a checkpoint */
     NUZ_DEEP = 1008,            /* the transaction stands as deep as one may */
     NUZ_LIVE = 1009,            /* a transaction is live */
     NUZ_NO_ASK = 1010,          /* the transaction waits for no call */
@@ -247,10 +248,11 @@ nuz_answer nuz_bytes(nuz_tree *tree, uint8_t *buffer, size_t room);
  * The same requests as text, and reports, which have no other form (docs/SCRIPT.md). */
 
 /* Carries out one line, without its line feed. A request is answered as its function answers it. A
- * report, `tree`, `locks` or `waits`, changes nothing of the tree, and is answered 0; so is an empty
- * line or a comment, which asks for nothing: size is how long the reply is. NUZ_BAD: the line asks
- * for none of these. NUZ_MEMORY too where there was none for the words of the line, or for the text
- * of a report; where there was none for what a report tells of, its reply is `refused Memory`. */
+ * report, `tree`, `locks` or `waits`, changes nothing of the tree, and is answered 0; so is an
+ * empty line or a comment, which asks for nothing: size is how long the reply is. NUZ_BAD: the line
+ * asks for none of these. NUZ_MEMORY too where there was none for the words of the line, or for the
+ * text of a report; where there was none for what a report tells of, its reply is `refused
+ * Memory`. */
 nuz_answer nuz_request(nuz_tree *tree, const uint8_t *line, size_t len);
 
 /* The text of the reply to the last request, whether it was a line or not, each of its lines with

@@ -27,4 +27,4 @@ none_is_live_at s rule base is = subst (λ (t : State). NoneIsLive t) (sym is) (
 
 -- none is behind a script that was played first
 pub none_after : (old : State) (lines : List (List ℕ)) (new : State) → IsPlayedFirst old lines new → NoneIsLive new
-none_after old lines new h = none_is_live_at new h.0.rule (base_now h.0) h.2
+none_after old lines new h = none_is_live_at new h.0.rule (base_now h.0) h.3

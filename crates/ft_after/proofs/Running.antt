@@ -7,7 +7,7 @@ use Rattle.ft_core.specs.declared.fault.Fault.{Fault}
 use Rattle.ft_core.specs.declared.request.Answer.TheVariants.{Cleared, Refused}
 use Rattle.ft_core.specs.declared.fault.Fault.TheVariants.{Memory as MemoryFault, Live as LiveFault}
 use Rattle.ft_core.specs.declared.request.Request.TheVariants.{Checkpoint}
-use Rattle.ft_core.specs.States.{State, has_live}
+use Rattle.ft_core.specs.States.{State, after_checkpoint, has_live}
 use Rattle.ft_core.specs.Steps.{IsStep, MayWantMemory, exact_rule, fault_if}
 use Rattle.ft_replies.specs.Requests.{meaning_of}
 use Rattle.ft_after.specs.After.{GoesWell, PlaysWell}
@@ -16,10 +16,13 @@ pub plays_more : (old middle new : State) (some : List (List ℕ)) (line : List 
 plays_more old middle new [] line h k = (new, subst (λ s. GoesWell s (meaning_of line) new) h k, refl)
 plays_more old middle new (first ∷ some) line h k = (h.0, h.1, plays_more h.0 middle new some line h.2 k)
 
--- a checkpoint that is answered is a legal step that is not refused
-pub cleared : (refusal : Option Fault) (A B : Type 0) → MatchOption refusal A (λ fault. (Cleared ≡ Refused fault) × B) → A
-cleared None A B h = h
-cleared (Some fault) A B h = let no = h.0 in cc
+-- a checkpoint that is answered finds no transaction live, and is a new beginning
+pub cleared : (old new : State) → IsStep exact_rule old Checkpoint Cleared new → (has_live old ≡ false) × (new ≡ after_checkpoint old)
+cleared old new h = either (has_live old) h
+  where
+    either : (live : Bool) → MatchOption (fault_if live LiveFault None) (new ≡ after_checkpoint old) (λ fault. (Cleared ≡ Refused fault) × (new ≡ old)) → (live ≡ false) × (new ≡ after_checkpoint old)
+    either true k = let no = k.0 in cc
+    either false k = (refl, k)
 
 -- one that is refused changes nothing
 pub refused_stays : (old new : State) (fault : Fault) → IsStep exact_rule old Checkpoint (Refused fault) new → new ≡ old

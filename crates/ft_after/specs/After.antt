@@ -49,9 +49,10 @@ abbrev pub PlaysWell : State → List (List ℕ) → State → Type 0
 PlaysWell old [] new = new ≡ old
 PlaysWell old (bytes ∷ lines) new = (middle : State) × GoesWell old (meaning_of bytes) middle × PlaysWell middle lines new
 
--- They were played, and the tree as it then stood is the new beginning.
+-- They were played, no transaction was live behind the last, and the tree as it then stood is the
+-- new beginning.
 abbrev pub IsPlayedFirst : State → List (List ℕ) → State → Type 0
-IsPlayedFirst old lines new = (played : State) × PlaysWell old lines played × (new ≡ after_checkpoint played)
+IsPlayedFirst old lines new = (played : State) × PlaysWell old lines played × (has_live played ≡ false) × (new ≡ after_checkpoint played)
 
 -- The line of this number, from 1, is the first that does not do what it asks for.
 abbrev pub StopsAtLine : ℕ → State → List (List ℕ) → State → Type 0

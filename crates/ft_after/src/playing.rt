@@ -9,7 +9,7 @@ ghost use Rattle.ft_after.specs.After.{Begins, GoesBadly, GoesWell, IsPlayedFirs
 use crate::fault::AfterFault;
 use ft_calls::Reply;
 use ft_core::{Answer, Core, Fault, Request, Rule};
-use ft_replies::{Line, meaning_of};
+use ft_replies::{Line, carry_out, meaning_of};
 use ft_words::Lines;
 use std::alloc::Global;
 
@@ -81,16 +81,12 @@ fn play_line(alloc: Global, line: &[u8], core: &mut Core) -> Result<bool, AfterF
     }
 }
 
-// Carries out a request, and answers whether it was granted and did not fail. What a commit or an
-// abort has let go is swept.
+// Carries out a request, and answers whether it was granted and did not fail.
 fn does_well(core: &mut Core, request: Request) -> bool
     ensures well { result ≡ true → GoesWell core.old.state (Line.Request request) core.new.state }
     ensures badly { result ≡ false → GoesBadly core.old.state (Line.Request request) core.new.state }
 {
-    let answer = core.answer(request);
-    if matches!(answer, Answer::Committed | Answer::Aborted(_)) {
-        core.sweep();
-    }
+    let answer = carry_out(core, request);
     is_well(&answer)
 }
 

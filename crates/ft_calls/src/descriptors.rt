@@ -79,7 +79,7 @@ fn write_at<'c>(
         return Err(Stop::Errno(Errno::EFBIG));
     }
     look.size(description.file)?;
-    let file = description.file;
+    let file = look.hinted(description.file);
     let taken = room_for(bytes, at);
     edits.push(Edit::Overwrite { file, at, bytes })?;
     edits.push(Edit::Open {
@@ -269,8 +269,8 @@ fn pwrite_at<'c>(
     if at >= SIZE_LIMIT {
         return Err(Stop::Errno(Errno::EFBIG));
     }
-    let file = description.file;
-    look.size(file)?;
+    look.size(description.file)?;
+    let file = look.hinted(description.file);
     edits.push(Edit::Overwrite { file, at, bytes })?;
     Ok(Told::Number(room_for(bytes, at)))
 }

@@ -14,7 +14,7 @@ use crate::offsets::to_size;
 use ft_looks::{Look, text_parts};
 use ft_path::{Errno, FilePath, Parts};
 use ft_posix::{Edit, Edits, OpenFlags, Stop, Told};
-use ft_tree::{EntryRef, Kind, Node, Spot};
+use ft_tree::{EntryRef, HintedFile, Kind, Node, Spot};
 use std::alloc::Global;
 
 /// Opens a file, and makes it where that is asked. What is new gets the stamp as its number.
@@ -93,7 +93,7 @@ fn open_missing(
     }
     edits.push(Edit::Links { file: stamp, to: 1 })?;
     edits.push(Edit::Resize {
-        file: stamp,
+        file: HintedFile::new(stamp),
         size: 0,
     })?;
     edits.push(Edit::Open {
@@ -125,7 +125,10 @@ fn open_node(
     if !flags.trunc {
         return Ok(Told::Number(stamp));
     }
-    edits.push(Edit::Resize { file, size: 0 })?;
+    edits.push(Edit::Resize {
+        file: look.hinted(file),
+        size: 0,
+    })?;
     Ok(Told::Number(stamp))
 }
 
@@ -193,7 +196,10 @@ pub(crate) fn cut_file(
     ensures { Comes look.old (cut_file file size) look.new (intended edits.new result) }
 {
     look.size(file)?;
-    edits.push(Edit::Resize { file, size })?;
+    edits.push(Edit::Resize {
+        file: look.hinted(file),
+        size,
+    })?;
     Ok(Told::Done)
 }
 

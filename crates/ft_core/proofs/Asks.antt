@@ -1,5 +1,5 @@
 -- Asking for a call.
-use Rattle.std.proofs.Common.{◌≡◌, ◌<◌, ◌≤◌, ◌+◌, ◌-◌, ◌||◌, ℕ, false, List, [], Option, Some, None, nat_le, cond, ◌==◌, eqb-true, length, map, arith, refl, sym, ap, subst, ◌∙◌}
+use Rattle.std.proofs.Common.{◌≡◌, ◌<◌, ◌≤◌, ◌+◌, ◌-◌, ◌||◌, ℕ, Bool, false, List, [], Option, Some, None, nat_le, cond, ◌==◌, eqb-true, length, map, arith, refl, sym, ap, subst, ◌∙◌}
 use Rattle.std.specs.FinMap as finite
 use Rattle.std.specs.Cmp.{nat_cmp_total, unsigned_tied}
 use Rattle.std.proofs.lemmas.Bool.{or_parts, leb-false}
@@ -36,10 +36,13 @@ use Rattle.ft_core.proofs.Joining.{start, values, accesses-are, reply-is}
 use Rattle.ft_core.proofs.Told.{told-push}
 
 -- below the limits there is a stamp more
-pub one-more : (j : Journaled) → is_full j ≡ false → j.last_stamp + 1 ≤ LAST_NUMBER
-one-more j few =
-    let below : j.last_stamp < LAST_NUMBER = leb-false LAST_NUMBER j.last_stamp (or_parts (nat_le MOST_CALLS (j.last_stamp - j.base_stamp)) (nat_le LAST_NUMBER j.last_stamp) few).1 in
+pub next-fits : (full : Bool) (last : ℕ) → (full || nat_le LAST_NUMBER last) ≡ false → last + 1 ≤ LAST_NUMBER
+next-fits full last few =
+    let below : last < LAST_NUMBER = leb-false LAST_NUMBER last (or_parts full (nat_le LAST_NUMBER last) few).1 in
     omega arith
+
+pub one-more : (j : Journaled) → is_full j ≡ false → j.last_stamp + 1 ≤ LAST_NUMBER
+one-more j few = next-fits (nat_le MOST_CALLS (j.last_stamp - j.base_stamp)) j.last_stamp few
 
 module _ (W : CallLaws) (K : LockLaws) (p : Parts) (j : Journaled) (core : IsCoreOf (state_of p.forest j) p j) where
   abbrev s : State

@@ -1,5 +1,5 @@
 -- Counting what passes a test.
-use Rattle.std.proofs.Common.{◌≡◌, ◌≤◌, ◌+◌, Bool, true, false, cond, List, [], ◌∷◌, ◌++◌, length, arith, ap}
+use Rattle.std.proofs.Common.{◌≡◌, ◌≤◌, ◌+◌, ℕ, Bool, true, false, cond, List, [], ◌∷◌, ◌++◌, length, arith, ap}
 use Rattle.ft_laws.specs.Lists.{Each}
 use Rattle.ft_laws.proofs.Tests.{by_test}
 use Rattle.ft_history.specs.Logs.{passing}
@@ -33,3 +33,8 @@ count-fewer p q (x ∷ xs) h =
     by_test (q x)
     (λ m. let f = taken q x xs m in omega arith)
     (λ m. let f = left q x xs m in omega arith))
+
+-- one more in a list is one more in a sum
+pub length-push : {A : Type 0} (xs : List A) (x : A) (first last : ℕ) → first + length xs ≡ last → first + length (xs ++ x ∷ []) ≡ last + 1
+length-push [] x first last e = omega arith
+length-push (y ∷ ys) x first last e = let ih = length-push ys x (first + 1) last (omega arith) in omega arith

@@ -35,7 +35,8 @@ pub record IsEnding (e : Happening posix_calls) (h : History) : Type 0 where
   pub last_transaction : (first : ℕ) → last_transaction posix_calls first (e ∷ h) ≡ last_transaction posix_calls first h
   pub last_stamp : (first : ℕ) → last_stamp posix_calls first (e ∷ h) ≡ last_stamp posix_calls first h
 
-abbrev started-ending : (base : Base) (h : History) (last_txn last_number : ℕ) (e : Happening posix_calls) → IsEnding e h → IsStarted base h last_txn last_number → IsStarted base (e ∷ h) last_txn last_number
+-- what is known of the start still is after such an event
+abbrev pub started-ending : (base : Base) (h : History) (last_txn last_number : ℕ) (e : Happening posix_calls) → IsEnding e h → IsStarted base h last_txn last_number → IsStarted base (e ∷ h) last_txn last_number
 started-ending base h last_txn last_number e same started = record {
   store = started.store;
   sound = started.sound;

@@ -1,5 +1,5 @@
 -- What a granted call does to what a core keeps.
-use Rattle.std.proofs.Common.{◌≡◌, ◌<◌, ◌≤◌, ◌+◌, ℕ, true, List, [], ◌∷◌, ◌++◌, inl, inr, is_some, length, map, arith, refl, sym, ap, subst, ◌∙◌}
+use Rattle.std.proofs.Common.{◌≡◌, ◌<◌, ◌≤◌, ◌+◌, ℕ, true, List, [], ◌∷◌, inl, inr, is_some, map, arith, refl, sym, ap, subst, ◌∙◌}
 use Rattle.std.specs.FinMap as finite
 use Rattle.std.specs.FinSet as set
 use Rattle.ft_base.specs.Chains.{Lists, list_in}
@@ -25,7 +25,7 @@ use Rattle.ft_forest.specs.declared.TheConstants.{LAST_NUMBER}
 use Rattle.ft_forest.specs.Transactions.{Transactions}
 use Rattle.ft_moss.specs.Locks.{LockTable, is_locked, is_let_go, AreBlockers}
 use Rattle.ft_moss.specs.Rules.{is_strict}
-use Rattle.ft_history.specs.History.{Base as HistoryBase, last_stamp, IsLive, grants}
+use Rattle.ft_history.specs.History.{Base as HistoryBase, last_stamp, IsLive, grants, number}
 use Rattle.ft_history.specs.History.Event.{Call as WasGranted}
 use Rattle.ft_history.specs.Locks.{blockers_of}
 use Rattle.ft_history.specs.Logs.{pushed}
@@ -36,19 +36,29 @@ use Rattle.ft_core.specs.Histories.{History, Granted, granted}
 use Rattle.ft_core.specs.States.{Base, Asks}
 use Rattle.ft_core.specs.Journals.{Journaled}
 use Rattle.ft_core.specs.declared.parts.Parts.{Parts}
-use Rattle.ft_core.specs.Kept.{Item, Change, is_owned, TakesBack, AreLogged, ArePlaced, IsCoreAt}
+use Rattle.ft_core.specs.Kept.{Item, Change, is_owned, TakesBack, AreLogged, ArePlaced, IsStarted, IsCoreAt}
 use Rattle.ft_core.specs.Laws.{CallLaws, LockLaws}
 use Rattle.ft_core.specs.Makes.{IsMadeOn}
 use Rattle.ft_core.proofs.Accounts.{granted-accounted}
-use Rattle.ft_core.proofs.Counts.{count-push}
+use Rattle.ft_core.proofs.Counts.{count-push, length-push}
 use Rattle.ft_core.proofs.Joining.{start, values, free, sound_values}
 use Rattle.ft_core.proofs.Written.{of-written}
 use Rattle.ft_core.proofs.Placing.{put-write, put-stays, as-left, left-stored, files-stored, placed-stays}
 use Rattle.ft_core.proofs.Gathered.{parts}
 
-length-push : {A : Type 0} (xs : List A) (x : A) (first last : ℕ) → first + length xs ≡ last → first + length (xs ++ x ∷ []) ≡ last + 1
-length-push [] x first last e = omega arith
-length-push (y ∷ ys) x first last e = let ih = length-push ys x (first + 1) last (omega arith) in omega arith
+-- one call more, of the next stamp
+abbrev pub started-granted : (base : Base) (h : History) (last_txn last_number : ℕ) (c : Granted) → number posix_calls c ≡ last_number + 1 → number posix_calls c ≤ LAST_NUMBER → IsStarted base h last_txn last_number → IsStarted base (WasGranted c ∷ h) last_txn (number posix_calls c)
+started-granted base h last_txn last_number c next few started = record {
+  store = started.store;
+  sound = started.sound;
+  tree = started.tree;
+  fresh = started.fresh;
+  last_txn_is = started.last_txn_is;
+  last_stamp_is = refl;
+  counted = started.counted;
+  stamped = length-push (grants posix_calls h) c base.last_stamp last_number started.stamped ∙ sym next;
+  within = few;
+}
 
 module _ (W : CallLaws) (K : LockLaws) {base : Base} {h : History} {asks : Asks} {last_txn last_number : ℕ} {cells : Cells} {forest : Transactions} {table : LockTable} {lists : Lists Logged} {j : Journaled} (core : IsCoreAt base h asks last_txn last_number cells forest table lists j) where
   abbrev from : HistoryBase posix_calls
@@ -149,17 +159,7 @@ module _ (W : CallLaws) (K : LockLaws) {base : Base} {h : History} {asks : Asks}
     core-granted asks' waiting free j' rule subs spare = record {
       log = pushed core.log t entry;
       kept = record {
-        started = record {
-          store = core.kept.started.store;
-          sound = core.kept.started.sound;
-          tree = core.kept.started.tree;
-          fresh = core.kept.started.fresh;
-          last_txn_is = core.kept.started.last_txn_is;
-          last_stamp_is = refl;
-          counted = core.kept.started.counted;
-          stamped = length-push (grants posix_calls h) c base.last_stamp last_number core.kept.started.stamped ∙ sym next;
-          within = few;
-        };
+        started = started-granted base h last_txn last_number c next few core.kept.started;
         hidden = core.kept.hidden;
         core = core';
         sound = sound';

@@ -1,5 +1,5 @@
 -- The core of ft_history at the calls on a tree is a core over the plain tree.
-use Rattle.std.proofs.Common.{◌≡◌, ◌<◌, ◌+◌, ℕ, suc, List, [], ◌∷◌, ◌++◌, Option, Some, length, arith, add-one, refl, sym, ap, subst, ◌∙◌}
+use Rattle.std.proofs.Common.{◌≡◌, ◌<◌, ◌+◌, ℕ, suc, List, ◌∷◌, Option, Some, arith, add-one, refl, sym, ap, subst, ◌∙◌}
 use Rattle.ft_laws.specs.Lists.{Pairs}
 use Rattle.ft_cells.specs.Cells.{Cells}
 use Rattle.ft_tree.specs.Sound.{AreSoundCells, IsFree}
@@ -13,18 +13,25 @@ use Rattle.ft_posix.specs.RunLaws.{RunsPlainly, GiveReplies, tree_after, accesse
 use Rattle.ft_posix.specs.Posix.{HasSoundValues, Stamped, posix_calls}
 use Rattle.ft_history.specs.History.{Base as HistoryBase, last_stamp, IsLive, standing}
 use Rattle.ft_history.specs.History.Event.{Begin as WasBegun}
-use Rattle.ft_history.specs.Legal.{outcome, MayBegin}
+use Rattle.ft_history.specs.Legal.{outcome, MayBegin, Legal}
 use Rattle.ft_history.proofs.History.{Sound}
 use Rattle.ft_history.proofs.Legal.{sound_all}
 use Rattle.ft_history.proofs.Methods.{core_begun, core_ready}
 use Rattle.ft_core.specs.Histories.{History}
 use Rattle.ft_core.specs.States.{Base}
-use Rattle.ft_core.specs.Kept.{Item, start_of, IsKept}
+use Rattle.ft_core.specs.Kept.{Item, start_of, IsStarted, IsKept}
 use Rattle.ft_core.specs.Laws.{CallLaws}
+use Rattle.ft_core.proofs.Counts.{length-push}
 
 -- sound cells have sound values
 pub sound_values : (cells : Cells) → AreSoundCells cells → HasSoundValues cells
 sound_values cells sound = record { with_places = cells; sound = sound; same = record { values = λ c. refl } }
+
+-- the run of the standing calls of a legal history
+pub runs-plainly : CallLaws → {base : Base} {h : History} {last_txn last_number : ℕ} (started : IsStarted base h last_txn last_number) → Legal posix_calls (start_of base started.store) h → RunsPlainly started.store (standing posix_calls h)
+runs-plainly W {base} {h} started legal =
+    let runs = (sound_all posix_calls W.lawful (start_of base started.store) (sound_values started.store started.sound) h legal).runs in
+    W.runs started.store (standing posix_calls h) started.sound runs.able.ready runs.able.distinct runs.faithful
 
 module _ (W : CallLaws) {base : Base} {h : History} {last_txn last_number : ℕ} {cells : Cells} {log : ℕ → List Item} (kept : IsKept base h last_txn last_number cells log) where
   abbrev pub start : HistoryBase posix_calls
@@ -36,11 +43,8 @@ module _ (W : CallLaws) {base : Base} {h : History} {last_txn last_number : ℕ}
   pub past : Sound posix_calls W.lawful start h
   past = sound_all posix_calls W.lawful start values h kept.core.legal
 
-  -- the run of the standing calls
-  pub plainly : RunsPlainly start.store (standing posix_calls h)
-  plainly =
-      let able = past.runs.able in
-      W.runs start.store (standing posix_calls h) kept.started.sound able.ready able.distinct past.runs.faithful
+  plainly : RunsPlainly start.store (standing posix_calls h)
+  plainly = runs-plainly W kept.started kept.core.legal
 
   pub tree_is : tidy cells ≡ tree_after base.tree (standing posix_calls h)
   tree_is =
@@ -90,7 +94,3 @@ module _ (W : CallLaws) {base : Base} {h : History} {last_txn last_number : ℕ}
     core = core_begun posix_calls W.lawful start values h kept.hidden cells log kept.core n up (may-begin n up next live);
     sound = kept.sound;
   }
-    where
-      length-push : (xs : List ℕ) (x first last : ℕ) → first + length xs ≡ last → first + length (xs ++ x ∷ []) ≡ last + 1
-      length-push [] x first last e = omega arith
-      length-push (y ∷ ys) x first last e = let ih = length-push ys x (first + 1) last (omega arith) in omega arith

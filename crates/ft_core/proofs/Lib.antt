@@ -30,4 +30,5 @@ mod Sweeps
 mod Checkpoints
 pub mod Known
 mod Asked
+mod Legally
 pub mod Crossing

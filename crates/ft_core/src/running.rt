@@ -23,7 +23,6 @@ impl Core {
             let answer = self.answer(request);
             let _ = answers.push(answer);
         }
-        let _tree = self.tree();
         Ok(answers)
     }
 

@@ -161,7 +161,6 @@ impl LockedCells {
     pub(crate) fn entries_of(&self, dir: u64) -> Option<&Vec<usize>>
         ensures { AreEntriesOf self.now dir (listed_keys (option_copied result)) }
     {
-        let _keys = &self.keys;
         self.entries.of(dir)
     }
 
@@ -170,7 +169,6 @@ impl LockedCells {
     pub(crate) fn may_have_names(&self) -> bool
         ensures { result ≡ false → (d : ℕ) → finite.get self.now.cells (Names d) ≡ None }
     {
-        let _keys = &self.keys;
         self.has_names
     }
 

@@ -93,7 +93,7 @@ impl<'t> Look<'t> {
         Ok(size_of(&self.cursor, file))
     }
 
-    /// A file's number, to read the file later from where something was found last.
+    /// A file's number, to read or write the file later from where something was found last.
     pub fn hinted(&self, file: u64) -> HintedFile
         ensures { result ≡ file }
     {
@@ -221,7 +221,7 @@ fn note_edit(touched: &mut Touched, edit: &Edit<'_>) -> Result<(), Memory>
         Edit::Parent { dir, .. } => touched.write(Cell::Parent(*dir)),
         Edit::Links { file, .. } => touched.write(Cell::Links(*file)),
         Edit::Overwrite { file, .. } | Edit::Resize { file, .. } => {
-            touched.write(Cell::Bytes(*file))
+            touched.write(Cell::Bytes(file.number()))
         }
         Edit::Open { fd, .. } => touched.write(Cell::Fd(*fd)),
     }

@@ -47,17 +47,36 @@ impl From<Errno> for Stop {
 #[derive(Drop)]
 pub enum Edit<'c> {
     /// What an entry leads to.
-    Entry { entry: Entry, to: Option<Node> },
+    Entry {
+        entry: Entry,
+        to: Option<Node>,
+    },
     /// The directory that has a directory's entry.
-    Parent { dir: u64, to: Option<u64> },
+    Parent {
+        dir: u64,
+        to: Option<u64>,
+    },
     /// How many entries name a file.
-    Links { file: u64, to: u64 },
+    Links {
+        file: u64,
+        to: u64,
+    },
     /// Bytes of a file, those that have room from an offset on.
-    Overwrite { file: u64, at: u64, bytes: &'c [u8] },
+    Overwrite {
+        file: HintedFile,
+        at: u64,
+        bytes: &'c [u8],
+    },
     /// The size of a file.
-    Resize { file: u64, size: u64 },
+    Resize {
+        file: HintedFile,
+        size: u64,
+    },
     /// The open file description of a descriptor.
-    Open { fd: u64, to: Option<OpenFile> },
+    Open {
+        fd: u64,
+        to: Option<OpenFile>,
+    },
 }
 
 /// The edits of a call.

@@ -93,13 +93,13 @@ impl<'t> Cursor<'t> {
         self.tree.body_near(file, self.near)
     }
 
-    /// A file's number, to read the file later from where something was found last.
+    /// A file's number, to read or write the file later from where something was found last.
     pub fn hinted(&self, file: u64) -> HintedFile
         ensures { result ≡ file }
     {
         HintedFile {
             number: file,
-            near: self.near,
+            near: Some(self.near),
         }
     }
 
@@ -113,11 +113,11 @@ impl<'t> Cursor<'t> {
 
 /// The number of a file, with where the file may stand. Clauses see the number.
 ///
-/// To read the file where it does stand there takes no look-up of the number.
+/// To read or write the file where it does stand there takes no look-up of the number.
 #[derive(Debug, Drop)]
 pub struct HintedFile {
     pub(crate) number: u64,
-    pub(crate) near: Hint,
+    pub(crate) near: Option<Hint>,
 }
 
 impl Model for HintedFile {
@@ -129,14 +129,18 @@ impl Model for HintedFile {
 }
 
 impl HintedFile {
-    /// A file of which nothing was found yet, so that it is looked up.
+    /// A file of which nothing was found yet, so that it is sought where the tree was edited last.
     pub fn new(number: u64) -> HintedFile
         ensures { result ≡ number }
     {
-        HintedFile {
-            number,
-            near: Hint::first(),
-        }
+        HintedFile { number, near: None }
+    }
+
+    /// The number.
+    pub fn number(&self) -> u64
+        ensures { result ≡ self.now }
+    {
+        self.number
     }
 }
 

@@ -150,7 +150,7 @@ impl Tree {
     pub fn hinted_body(&self, file: &HintedFile) -> Option<&Body>
         ensures { option_copied result ≡ body_in self.now file.now }
     {
-        self.body_near(file.number, file.near)
+        self.body_near(file.number, self.hint_at(file))
     }
 
     /// The open file description of a descriptor, where it is open.
@@ -277,7 +277,7 @@ impl Tree {
     /// none.
     pub fn write_bytes(
         &mut self,
-        file: u64,
+        file: HintedFile,
         offset: u64,
         bytes: &[u8],
     ) -> Result<(u64, BodyUndo), Memory>
@@ -289,8 +289,9 @@ impl Tree {
         ensures err { OnErr result (self.new ≡ self.old) }
         ensures nothing { fitting bytes.now offset ≡ [] → IsOk result }
     {
-        self.near = self.inodes.hint_of(Node::File(file), self.near);
-        match self.inodes.file_mut(file, self.near) {
+        let number = file.number;
+        self.near = self.inodes.hint_of(Node::File(number), self.hint_at(&file));
+        match self.inodes.file_mut(number, self.near) {
             Some(stored) => stored.write_at(offset, bytes),
             None => unreachable!(),
         }
@@ -301,7 +302,7 @@ impl Tree {
     ///
     /// Refuses want of memory, and then nothing has changed. A file that has the size already takes
     /// none.
-    pub fn set_size(&mut self, file: u64, size: u64) -> Result<BodyUndo, Memory>
+    pub fn set_size(&mut self, file: HintedFile, size: u64) -> Result<BodyUndo, Memory>
         requires place { HasFilePlace self.old file }
         requires limit { size ≤ SIZE_LIMIT }
         ensures ok { OnOk result (self.new ≡ put_bytes self.old file (resized (bytes_of self.old file) size)) }
@@ -309,8 +310,9 @@ impl Tree {
         ensures err { OnErr result (self.new ≡ self.old) }
         ensures same { length (bytes_of self.old file) ≡ size → IsOk result }
     {
-        self.near = self.inodes.hint_of(Node::File(file), self.near);
-        match self.inodes.file_mut(file, self.near) {
+        let number = file.number;
+        self.near = self.inodes.hint_of(Node::File(number), self.hint_at(&file));
+        match self.inodes.file_mut(number, self.near) {
             Some(stored) => stored.set_len(size),
             None => unreachable!(),
         }
@@ -587,6 +589,11 @@ impl Tree {
             Some(directory) => directory.is_empty(),
             None => true,
         }
+    }
+
+    /// Where a file may stand: where the tree was edited last, if nothing says it.
+    fn hint_at(&self, file: &HintedFile) -> Hint {
+        file.near.unwrap_or(self.near)
     }
 
     /// Where what an entry or a description leads to stands, or else `near`.

@@ -118,7 +118,7 @@ impl Logs {
         ensures kept { OnErr result (AreLists self.new (list_in self.old)) }
         ensures opened { AreOpen self.new (is_open self.old) }
     {
-        // (it is filled where it stays: an undo is large to be moved)
+        // (its place comes first, so that nothing has to be taken back where there is none)
         let undo = Undo::new(alloc);
         if let Err(failed) = self.chains.push_front(txn, Logged { stamp, undo }) {
             drop(failed);

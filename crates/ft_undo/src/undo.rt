@@ -176,12 +176,14 @@ fn set(tree: &mut Tree, edit: Edit<'_>) -> Result<Back, Memory>
             Ok(Back::Links { file, was })
         }
         Edit::Overwrite { file, at, bytes } => {
+            let number = file.number();
             let (_, undo) = tree.write_bytes(file, at, bytes)?;
-            Ok(Back::Bytes { file, undo })
+            Ok(Back::Bytes { file: number, undo })
         }
         Edit::Resize { file, size } => {
+            let number = file.number();
             let undo = tree.set_size(file, size)?;
-            Ok(Back::Bytes { file, undo })
+            Ok(Back::Bytes { file: number, undo })
         }
         Edit::Open { fd, to } => {
             let was = tree.set_open_file(fd, to)?;

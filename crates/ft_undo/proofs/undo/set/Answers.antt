@@ -21,12 +21,14 @@ after_set setting old new i bytes is = ap (change (bytes_of old i)) (ap (λ (s :
 pub returns-in_ok-undo-in-Overwrite-clause-back : goal.returns-in_ok-undo-in-Overwrite-clause-back
 returns-in_ok-undo-in-Overwrite-clause-back c =
     let done = c.in_ok-undo-in-Overwrite in
-    ap (back.Bytes c.in-Overwrite.file) (done.ensures.undo ∙ after_set setting c.args.tree.now c.write_bytes.new.self c.in-Overwrite.file _ done.ensures.ok) ∙ sym (ap (back_of c.args.tree.now) c.in-Overwrite.is)
+    rw (c.number-number.ensures)
+    (ap (back.Bytes c.in-Overwrite.file) (done.ensures.undo ∙ after_set setting c.args.tree.now c.write_bytes.new.self c.in-Overwrite.file _ done.ensures.ok) ∙ sym (ap (back_of c.args.tree.now) c.in-Overwrite.is))
 
 pub returns-in_ok-undo-in-Resize-clause-back : goal.returns-in_ok-undo-in-Resize-clause-back
 returns-in_ok-undo-in-Resize-clause-back c =
     let done = c.in_ok-undo-in-Resize in
-    ap (back.Bytes c.in-Resize.file) (done.ensures.undo ∙ after_set setting c.args.tree.now c.set_size.new.self c.in-Resize.file _ done.ensures.ok) ∙ sym (ap (back_of c.args.tree.now) c.in-Resize.is)
+    rw (c.number-number-in-Resize.ensures)
+    (ap (back.Bytes c.in-Resize.file) (done.ensures.undo ∙ after_set setting c.args.tree.now c.set_size.new.self c.in-Resize.file _ done.ensures.ok) ∙ sym (ap (back_of c.args.tree.now) c.in-Resize.is))
 
 -- what makes an edit puts what it writes
 puts : (cells new : Cells) (edit made : Edit) → edit ≡ made → new ≡ put cells (write_of cells made) → new ≡ put cells (write_of cells edit)

@@ -3,6 +3,9 @@ use Rattle.std.specs.Vec.Iter.{into_iter_items}
 use Rattle.ft_core.specs.declared.request.Request.{Request}
 use Rattle.ft_core.specs.declared.request.Answer.{Answer}
 use Rattle.ft_core.specs.Steps.{IsRun, exact_rule}
+use Rattle.ft_core.proofs.Gathered.{state-is}
+use Rattle.ft_core.proofs.Known.{call_laws, lock_laws}
+use Rattle.ft_core.proofs.Legally.{IsLegalAt, legal-of, legal-run, legal-replies}
 use Rattle.ft_core.proofs.RunsOn.{run-push}
 use Rattle.ft_core.proofs.manager.Core.run.Goals as goal
 
@@ -20,3 +23,9 @@ loop-request-preserved c =
       rest = append_assoc c.loop-request.yielded (c.in-Some.request ∷ []) (into_iter_items c.next.new.self) ∙ ap (λ (rs : List Request). c.loop-request.yielded ++ rs) (sym rest) ∙ c.loop-request.invariant.rest;
       room = let upper = c.push.ensures.upper_bound in let capacity = c.push.ensures.capacity in omega arith;
     }
+
+pub returns-clause-headline : goal.returns-clause-headline
+returns-clause-headline c =
+    let l = c.loop-request in
+    let first : IsLegalAt c.args.self.now.state = subst IsLegalAt (state-is c.self.view_is) (legal-of c.self.invariant.kept) in
+    legal-replies call_laws l.self.state (legal-run call_laws lock_laws c.args.self.now.state l.yielded l.answers.items l.self.state first l.invariant.ran)
