@@ -1,5 +1,6 @@
 """Long lines, the most transactions and calls, and scripts that have to be linear."""
-import resource
+import re
+import shutil
 
 import playing
 import scripts
@@ -8,9 +9,12 @@ MOST_TRANSACTIONS = 100_000
 MOST_CALLS = 1_000_000
 LONGEST_LINE = 8_388_608
 
-# How much longer a script of four times the size may take. One whose time grows with the square
-# takes sixteen times as long.
-MOST_GROWTH = 8
+# How many times as many instructions a script of four times the size may take. One that grows with
+# the square takes sixteen times as many.
+MOST_GROWTH = 5
+
+# What counts the instructions of a program, and says on standard error how many there were.
+COUNTER = ["valgrind", "--tool=callgrind", "--callgrind-out-file=/dev/null"]
 
 
 def tests():
@@ -28,7 +32,10 @@ def lasting_tests():
 
 
 def tests_of_growth():
-    """What has to be tried with nothing beside it, since it is measured."""
+    """What is counted, where there is what counts."""
+    if shutil.which(COUNTER[0]) is None:
+        print(f"hostile: growth skipped: there is no {COUNTER[0]}")
+        return []
     return [
         ("deep paths are linear", deep_paths_are_linear),
         ("crowds are linear", crowds_are_linear),
@@ -137,7 +144,7 @@ def full_of_calls(bench):
 
 
 def deep_paths_are_linear(bench):
-    """Calls on a path of four times as many names take four times as long, its making apart."""
+    """Calls on a path of four times as many names take four times as much, its making apart."""
     return fault_of_growth(bench, "names", [500, 2000], stats_of_deep_path, deep_path)
 
 
@@ -154,7 +161,7 @@ def stats_of_deep_path(depth):
 
 
 def crowds_are_linear(bench):
-    """Four times as many transactions that each look at one directory take four times as long."""
+    """Four times as many transactions that each look at one directory take four times as much."""
     return fault_of_growth(bench, "transactions", [10_000, 40_000], stats_of_crowd, crowd)
 
 
@@ -168,23 +175,20 @@ def stats_of_crowd(size):
 
 
 def fault_of_growth(bench, what, sizes, whole, part):
-    """Why the time of a script, less that of a part of it, grows too fast, or nothing."""
-    times = [seconds(bench, whole(size)) - seconds(bench, part(size)) for size in sizes]
-    growth = times[1] / max(times[0], 0.001)
+    """Why what a script takes, less what a part of it takes, grows too fast, or nothing."""
+    taken = [instructions(bench, whole(size)) - instructions(bench, part(size)) for size in sizes]
+    growth = taken[1] / taken[0]
     if growth > MOST_GROWTH:
-        taken = f"{sizes[0]} {what} take {times[0]:.3f} s, {sizes[1]} take {times[1]:.3f} s"
-        return f"{taken}: {growth:.1f} times as long"
+        few, many = (f"{size} {what}: {count:,}" for size, count in zip(sizes, taken))
+        return f"instructions for {few}; for {many}: {growth:.1f} times as many"
     return None
 
 
-def seconds(bench, requests):
-    """The processor time of a script: the least of some runs, since what is beside it adds."""
-    script = scripts.script_of(requests)
-    return min(seconds_of_run(bench, script) for _ in range(5))
-
-
-def seconds_of_run(bench, script):
-    before = resource.getrusage(resource.RUSAGE_CHILDREN)
-    playing.run([bench.program, "play"], script)
-    after = resource.getrusage(resource.RUSAGE_CHILDREN)
-    return after.ru_utime - before.ru_utime + after.ru_stime - before.ru_stime
+def instructions(bench, requests):
+    """How many instructions a script takes. They are the same in each run, which times are not."""
+    words = [*COUNTER, bench.program, "play"]
+    ran = playing.run(words, scripts.script_of(requests))
+    counted = re.search(rb"Collected : (\d+)", ran.errors)
+    if ran.status != 0 or counted is None:
+        raise ValueError(f"status {ran.status}, {ran.errors!r}")
+    return int(counted[1])

@@ -60,7 +60,8 @@ StopsAtLine number old lines new =
     (done : List (List ℕ)) × (bytes : List ℕ) × (rest : List (List ℕ)) × (middle : State) × (lines ≡ done ++ bytes ∷ rest) × (number ≡ suc (length done))
     × PlaysWell old done middle × GoesBadly middle (meaning_of bytes) new
 
--- All lines did what they ask for, as many as this number, and a transaction is live behind the last.
+-- All lines did what they ask for, as many as this number, and a transaction is live behind the
+-- last.
 abbrev pub LeavesLive : ℕ → State → List (List ℕ) → State → Type 0
 LeavesLive number old lines new = (number ≡ length lines) × PlaysWell old lines new × (has_live new ≡ true)
 

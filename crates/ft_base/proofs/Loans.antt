@@ -1,4 +1,5 @@
--- Two ways to say what a loan leaves agree, where they agree at each value that may be left, and where nothing was lent.
+-- Two ways to say what a loan leaves agree, where they agree at each value that may be left, and
+-- where nothing was lent.
 use Rattle.std.proofs.Common.{◌≡◌, ◌⊎◌, inl, Option, Some, None, IsSome, subst, refl}
 use Rattle.std.proofs.lemmas.Bool.{false≢true}
 use Rattle.std.specs.Borrow.{MutBor}

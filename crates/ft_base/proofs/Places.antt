@@ -1,4 +1,5 @@
--- The finite map that a list of places makes: what it has at a number, and what a change of one place leaves.
+-- The finite map that a list of places makes: what it has at a number, and what a change of one
+-- place leaves.
 use Rattle.std.proofs.Common.{IsSome, ◌≤◌, ◌≡◌, ◌==◌, ◌<◌, ◌+◌, ℕ, zero, suc, List, [], ◌∷◌, ◌++◌, length, Option, Some, None, Bool, true, false, cond, set, get_or, replicate, take, drop, ltb, arith, refl, sym, ap, subst, ◌∙◌}
 use Rattle.std.proofs.lemmas.Bool.{false≢true, ne_eqb, eq-eqb, eqb-true, ltb-true, ltb-false}
 use Rattle.std.proofs.lemmas.List.{append_assoc, get_or-set_same, get_or-set_other, length-append, length-replicate, replicate-append-replicate}

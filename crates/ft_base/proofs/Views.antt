@@ -1,4 +1,5 @@
--- The finite map that the entries of a hashed map from numbers make: what it has at a number, and what a change of one number leaves.
+-- The finite map that the entries of a hashed map from numbers make: what it has at a number, and
+-- what a change of one number leaves.
 use Rattle.std.proofs.Common.{◌≡◌, ◌==◌, ℕ, List, [], ◌∷◌, Some, None, Option, IsSome, cond, subst, refl, sym, ap, ◌∙◌}
 use Rattle.std.proofs.lemmas.Bool.{false≢true}
 use Rattle.std.specs.Ordering.{nat_cmp, eq_by_cmp}

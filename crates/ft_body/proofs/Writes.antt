@@ -56,7 +56,8 @@ length-part : (xs : List ℕ) (from end : ℕ) → end ≤ length xs → length 
 unfolding part
 length-part xs from end h = grind (arith, places)
 
--- where a list agrees with another outside of a part, it is that other with the part laid over, index by index
+-- where a list agrees with another outside of a part, it is that other with the part laid over,
+-- index by index
 part_back-at : (xs after : List ℕ) (from end : ℕ) → from ≤ end → end ≤ length xs → length xs ≤ length after
     → ((k d : ℕ) → k < from → get_or after k d ≡ get_or xs k d) → ((k d : ℕ) → end ≤ k → k < length xs → get_or after k d ≡ get_or xs k d)
     → (k d : ℕ) → k < length xs → get_or (laid_over after from (part xs from end)) k d ≡ get_or xs k d

@@ -1,4 +1,5 @@
--- What is gathered from the entries of a finite map, and what they weigh, where one place is set or taken away.
+-- What is gathered from the entries of a finite map, and what they weigh, where one place is set
+-- or taken away.
 use Rattle.std.proofs.Common.{◌≡◌, ℕ, ◌+◌, true, cond, List, [], ◌∷◌, Option, Some, None, Ordering, arith, zero-add, refl, sym, ap, ◌∙◌}
 use Rattle.std.specs.Prelude.{T}
 use Rattle.std.specs.declared.cmp.Ordering.TheVariants.{Less, Equal, Greater}

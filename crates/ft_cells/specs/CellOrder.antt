@@ -6,7 +6,7 @@ use Rattle.std.specs.Prelude.{◌≡◌, ℕ, zero, suc, Bool, true, ◌==◌, L
 use Rattle.std.proofs.Common.{sym, ap, ◌∙◌}
 use Rattle.std.specs.declared.cmp.Ordering.{Ordering}
 use Rattle.std.specs.Ordering.{nat_cmp, is_eq, ordering_then}
-use Rattle.std.specs.Cmp.{IsTotalOrder, Equal-is, nat_cmp_total, on_total, then_total}
+use Rattle.std.specs.Cmp.{IsTotalOrder, Equal-is, eq_by_cmp_equiv, nat_cmp_total, on_total, then_total}
 use Rattle.std.specs.Cmp.Lexicographic.{slice_cmp, nat_list_cmp_total}
 use Rattle.std.proofs.lemmas.Map.Lookups.{CmpEqualImpliesEq, exact_unsigned, exact_bytes, exact_pairs}
 use Rattle.ft_cells.specs.Entries.{entry_at}
@@ -82,6 +82,10 @@ cell_cmp_exact x y tied =
     let same = exact_pairs nat_cmp (λ (a b : ℕ × List ℕ). ordering_then (nat_cmp a.0 b.0) (slice_cmp nat_cmp a.1 b.1)) exact_unsigned (exact_pairs nat_cmp (slice_cmp nat_cmp) exact_unsigned exact_bytes)
     (cell_rank x, (cell_number x, cell_name x)) (cell_rank y, (cell_number y, cell_name y)) tied in
     sym (cell_again x) ∙ ap (λ (k : ℕ × (ℕ × List ℕ)). cell_at k.0 k.1.0 k.1.1) same ∙ cell_again y
+
+-- each cell is the same as itself
+pub same_cell-refl : (x : Cell) → same_cell x x ≡ true
+same_cell-refl = (eq_by_cmp_equiv cell_cmp_total).refl
 
 -- cells that are the same are one
 pub same_cell-is : (x y : Cell) → same_cell x y ≡ true → x ≡ y

@@ -21,15 +21,15 @@ pub enum Choice {
     },
     /// Draw the last report on who waits for whom.
     Dot,
-    /// Write a script that makes what this directory holds. What a tree has no place for is left out
-    /// where it is to be skipped. How far it has come is not shown where it is to be quiet.
+    /// Write a script that makes what this directory holds. What a tree has no place for is left
+    /// out where it is to be skipped. How far it has come is not shown where it is to be quiet.
     Load {
         dir: String,
         skip: bool,
         quiet: bool,
     },
-    /// Make this directory of the last tree among replies. How far it has come is not shown where it
-    /// is to be quiet.
+    /// Make this directory of the last tree among replies. How far it has come is not shown where
+    /// it is to be quiet.
     Save {
         dir: String,
         quiet: bool,
@@ -53,8 +53,8 @@ pub enum Choice {
     Fault,
 }
 
-// How a script is run, how who waits for whom is drawn, how the jobs of a plan are run, and how they
-// begin with the files of one directory and end with those of another.
+// How a script is run, how who waits for whom is drawn, how the jobs of a plan are run, and how
+// they begin with the files of one directory and end with those of another.
 const EXAMPLE: &str =
     "Example:\n  ft_run play < script.ft\n  ft_run play < script.ft | ft_run dot | dot -Tsvg > waits.svg\n  ft_run jobs build.plan\n  ft_run load src > src.ft\n  ft_run jobs build.plan --after src.ft | ft_run save out";
 

@@ -1,4 +1,5 @@
--- What is copied from a source that tells something is copied from one that tells what follows from it.
+-- What is copied from a source that tells something is copied from one that tells what follows
+-- from it.
 use Rattle.std.proofs.Common.{◌⊎◌, ℕ, List, [], ◌∷◌, inl, inr}
 use Rattle.ft_copy.specs.declared.found.FileFacts.{FileFacts}
 use Rattle.ft_copy.specs.declared.found.Found.{Found}

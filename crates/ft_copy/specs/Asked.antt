@@ -2,7 +2,9 @@
 use Rattle.std.specs.Prelude.{◌≡◌, ℕ, Bool, true, false, List, [], ◌∷◌}
 use Rattle.std.specs.List.{list_any}
 
--- One thing that a target is asked for: to start; for a directory; for a file that is open; for bytes behind those of the open file; to close it; for a further name of a file; to finish; to give up.
+-- One thing that a target is asked for: to start; for a directory; for a file that is open; for
+-- bytes behind those of the open file; to close it; for a further name of a file; to finish; to
+-- give up.
 pub data Asked : Type 0 where
   Start : Asked
   Folder : (path : List ℕ) → Asked

@@ -102,7 +102,9 @@ module _ {T : Type 0} (tells : Told → Type 0) (does : T → Asked → T → Ty
   abbrev pub Begins : Standing → Standing → T → T → Type 0
   Begins walk next old new = does old Start new × Enters tells [] ROOT walk next
 
-  -- A whole tree was copied. What was visited is what the source told, from the root on, each place in its turn, until none was left; and for just that the target was asked, between its start and its finish.
+  -- A whole tree was copied. What was visited is what the source told, from the root on, each
+  -- place in its turn, until none was left; and for just that the target was asked, between its
+  -- start and its finish.
   pub record Copies (old new : T) : Type 0 where
     pub begun : Standing
     pub visits : List Visit

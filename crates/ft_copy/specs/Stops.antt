@@ -26,7 +26,8 @@ module _ {T : Type 0} (does : T → Asked → T → Type 0) (fails : T → Asked
   FailsAt trouble [] old new = ⊥
   FailsAt trouble (next ∷ more) old new = fails old next trouble new
 
-  -- The target did a beginning of this, and then nothing more, for a cause that is not its own; or it failed at what came next.
+  -- The target did a beginning of this, and then nothing more, for a cause that is not its own; or
+  -- it failed at what came next.
   abbrev pub StopsIn : Type 0 → Trouble → List Asked → T → T → Type 0
   StopsIn cause trouble asked old new =
       (done : List Asked) × (rest : List Asked) × (middle : T) × (asked ≡ done ++ rest) × DoesAll does old done middle
@@ -34,12 +35,14 @@ module _ {T : Type 0} (does : T → Asked → T → Type 0) (fails : T → Asked
 
 -- ---- a visit that is not made, or not to its end
 
--- A file that is read ends early where there is no memory for a piece, where its reader fails, or where it gives more bytes than a file may have.
+-- A file that is read ends early where there is no memory for a piece, where its reader fails, or
+-- where it gives more bytes than a file may have.
 abbrev pub EndsReading : Trouble → List (List ℕ) → Type 0
 EndsReading trouble pieces = (trouble ≡ Memory) ⊎ (trouble ≡ Read) ⊎ ((trouble ≡ TooLarge) × (SIZE_LIMIT < length (concat pieces)))
 
 module _ {T : Type 0} (does : T → Asked → T → Type 0) (fails : T → Asked → Trouble → T → Type 0) where
-  -- The target was to put the pieces of a file behind the bytes of the open one, and did so with a beginning of them.
+  -- The target was to put the pieces of a file behind the bytes of the open one, and did so with a
+  -- beginning of them.
   abbrev pub StopsPouring : Trouble → Option (List ℕ) → T → T → Type 0
   StopsPouring trouble left old new =
       (pieces : List (List ℕ)) × (after : Option (List ℕ)) × Consumes left after (concat pieces) × StopsIn does fails (EndsReading trouble pieces) trouble (map Piece pieces) old new
@@ -93,7 +96,8 @@ module _ (tells : Told → Type 0) where
 
 -- ---- a copy that is not made
 
--- How far a copy came: to the root; to a place behind these visits; to its end; or to more places than a number counts.
+-- How far a copy came: to the root; to a place behind these visits; to its end; or to more places
+-- than a number counts.
 pub data Reached : Type 0 where
   Root : Reached
   Amid : (visits : List Visit) → (place : Place) → (visit : Visit) → Reached

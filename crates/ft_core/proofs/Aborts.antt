@@ -1,4 +1,5 @@
--- An abort on its way: each live transaction at or below it is taken back and ended, before its parent.
+-- An abort on its way: each live transaction at or below it is taken back and ended, before its
+-- parent.
 use Rattle.std.proofs.Common.{◌≡◌, ◌≢◌, ◌<◌, ◌≤◌, ◌+◌, ◌==◌, ◌&&◌, ◌||◌, ℕ, Bool, true, false, not, cond, List, [], ◌∷◌, Option, Some, None, is_some, inl, inr, length, arith, refl, sym, ap, subst, ◌∙◌, eq-eqb, ne_eqb}
 use Rattle.std.proofs.lemmas.Bool.{false≢true, and_parts}
 use Rattle.std.specs.Ordering.{nat_cmp}
@@ -352,7 +353,8 @@ lists-closed lists middle new n a b x = b x ∙ by_number x n
 pub open-closed : (lists middle new : Lists Logged) (n : ℕ) → AreOpen middle (is_open lists) → AreOpen new (put (is_open middle) n false) → AreOpen new (put (is_open lists) n false)
 open-closed lists middle new n a b x = b x ∙ ap (cond (x == n) false) (a x)
 
--- An abort of t in a core is on its way: m calls are taken back, and the core's parts are now these.
+-- An abort of t in a core is on its way: m calls are taken back, and the core's parts are now
+-- these.
 abbrev pub IsAbortOf : Cells → Transactions → LockTable → Lists Logged → Journaled → ℕ → ℕ → Cells → Transactions → LockTable → Lists Logged → Journaled → Type 0
 IsAbortOf cells₀ forest₀ table₀ lists₀ j₀ t m cells forest table lists j =
     (W : CallLaws) (K : LockLaws) (core : IsCoreOf (state_of forest₀ j₀) (parts cells₀ forest₀ table₀ lists₀) j₀) (live : IsLive posix_calls forest₀.base (told_of j₀.events) t)

@@ -1,6 +1,6 @@
 -- Each place of no use is known to the locks: what keeps it so, and what a sweep makes of it.
 use Rattle.std.proofs.Common.{◌≡◌, ◌⊎◌, inl, inr, ℕ, Bool, true, false, cond, not, ◌&&◌, ◌||◌, ◌==◌, List, [], ◌∷◌, Option, Some, None, is_some, is_none, unwrap_or, map, refl, sym, ap, subst, ◌∙◌}
-use Rattle.std.proofs.lemmas.Bool.{false≢true, and_parts, and_from, or_left, or_right}
+use Rattle.std.proofs.lemmas.Bool.{false≢true, and_parts, and_from, or_cases, or_left, or_right}
 use Rattle.std.specs.Ordering.{nat_cmp}
 use Rattle.std.specs.Cmp.{nat_cmp_total, unsigned_tied}
 use Rattle.std.specs.Cmp.Lexicographic.{slice_cmp}
@@ -14,7 +14,7 @@ use Rattle.ft_cells.specs.declared.node.Node.{Node}
 use Rattle.ft_cells.specs.declared.cell.Cell.{Cell}
 use Rattle.ft_cells.specs.declared.cell.Cell.TheVariants.{Entry, Names, Parent, Links, Bytes, Fd}
 use Rattle.ft_cells.specs.declared.open_file.OpenFile.{OpenFile}
-use Rattle.ft_cells.specs.CellOrder.{same_cell}
+use Rattle.ft_cells.specs.CellOrder.{same_cell, same_cell-refl}
 use Rattle.ft_cells.specs.Cells.{Cells, DirCells, FileCells, no_dir, dir_of, is_there, has_file, fresh_cells}
 use Rattle.ft_tree.specs.Held.{held}
 use Rattle.ft_tree.specs.Sound.{AreSoundCells, IsFree}
@@ -28,10 +28,13 @@ use Rattle.ft_posix.proofs.Leaving.{at_place-more, same-place, dead-file, all-no
 use Rattle.ft_moss.specs.declared.line.LockLine.{LockLine}
 use Rattle.ft_moss.specs.Locks.{LockTable, is_locked, is_let_go, is_accessed, AreGranted}
 use Rattle.ft_moss.specs.Knowing.{is_known}
+use Rattle.ft_moss.specs.Law.{AreLocksOf}
 use Rattle.ft_history.proofs.Losing.{LosesOwn}
 use Rattle.ft_history.proofs.Words.{not_true}
+use Rattle.ft_core.specs.States.{State, history}
 use Rattle.ft_core.specs.Kept.{Item, IsOfWritten}
 use Rattle.ft_core.specs.Laws.{CallLaws, LockLaws}
+use Rattle.ft_core.specs.Sweeps.{EachUselessIsLocked}
 use Rattle.ft_core.proofs.Placing.{put-write}
 
 -- Two words for it.
@@ -167,3 +170,33 @@ pub none-useless : (t : LockTable) (cells : Cells) → ((c : Cell) → is_locked
 none-useless t cells free none c = by_test (is_useless cells c)
     (λ u. absurd (false≢true (sym (none c) ∙ and_from (is_useless cells c) (not (at_place (is_locked t) c)) u (ap not (none-locked (is_locked t) free c)))))
     (λ u. u)
+
+-- A place among some has one of its cells among them.
+placed-cell : (among : Cell → Bool) (c : Cell) → at_place among c ≡ true → (x : Cell) × (among x ≡ true) × (at_place (same_cell x) c ≡ true)
+placed-cell among (Entry entry) h = (Entry entry, h, same_cell-refl (Entry entry))
+placed-cell among (Names d) h = elim (or_cases (among (Names d)) (among (Parent d)) h) [
+  | inl names ↦ (Names d, names, or_left (same_cell (Names d) (Names d)) (same_cell (Names d) (Parent d)) (same_cell-refl (Names d)))
+  | inr parent ↦ (Parent d, parent, or_right (same_cell (Parent d) (Names d)) (same_cell (Parent d) (Parent d)) (same_cell-refl (Parent d)))
+]
+placed-cell among (Parent d) h = elim (or_cases (among (Names d)) (among (Parent d)) h) [
+  | inl names ↦ (Names d, names, or_left (same_cell (Names d) (Names d)) (same_cell (Names d) (Parent d)) (same_cell-refl (Names d)))
+  | inr parent ↦ (Parent d, parent, or_right (same_cell (Parent d) (Names d)) (same_cell (Parent d) (Parent d)) (same_cell-refl (Parent d)))
+]
+placed-cell among (Links i) h = elim (or_cases (among (Links i)) (among (Bytes i)) h) [
+  | inl links ↦ (Links i, links, or_left (same_cell (Links i) (Links i)) (same_cell (Links i) (Bytes i)) (same_cell-refl (Links i)))
+  | inr bytes ↦ (Bytes i, bytes, or_right (same_cell (Bytes i) (Links i)) (same_cell (Bytes i) (Bytes i)) (same_cell-refl (Bytes i)))
+]
+placed-cell among (Bytes i) h = elim (or_cases (among (Links i)) (among (Bytes i)) h) [
+  | inl links ↦ (Links i, links, or_left (same_cell (Links i) (Links i)) (same_cell (Links i) (Bytes i)) (same_cell-refl (Links i)))
+  | inr bytes ↦ (Bytes i, bytes, or_right (same_cell (Bytes i) (Links i)) (same_cell (Bytes i) (Bytes i)) (same_cell-refl (Bytes i)))
+]
+placed-cell among (Fd f) h = (Fd f, h, same_cell-refl (Fd f))
+
+-- What a sweep leaves of no use is locked.
+pub useless-locked : (K : LockLaws) (s : State) (t : LockTable) (cells : Cells) → AreLocksOf (history s) t → HasNoneToDrop (is_locked t) cells → EachUselessIsLocked s cells
+useless-locked K s t cells locks none c useless =
+    let locked : at_place (is_locked t) c ≡ true = by_test (at_place (is_locked t) c) (λ k. k)
+    (λ free. absurd (false≢true (sym (none c) ∙ and_from (is_useless cells c) (not (at_place (is_locked t) c)) useless (ap not free)))) in
+    let placed = placed-cell (is_locked t) c locked in
+    let found = K.known.locked t placed.0 placed.1 in
+    (found.0, sym (locks found.0) ∙ found.1, subst (λ x. at_place (same_cell x) c ≡ true) (sym found.2) placed.2)

@@ -86,7 +86,8 @@ module _ (W : CallLaws) (K : LockLaws) (p : Parts) (j : Journaled) (core : IsCor
     base-tree copy stamp same last =
         subst (λ c. IsBaseTree c stamp) (sym same) (subst (IsBaseTree cells) (sym last) (record { sound = core.kept.sound; free = free W core.kept }))
 
-    -- The core from the new base: nobody has a lock, nothing can be taken back, and no place is of no use.
+    -- The core from the new base: nobody has a lock, nothing can be taken back, and no place is of
+    -- no use.
     module _ (useless : (c : Cell) → is_useless cells c ≡ false) (fresh-lists : Lists Logged) (empty : AreLists fresh-lists (λ t. [])) (room : ℕ) where
       abbrev q : Journaled
       q = record (no_events j.rule (tidy cells) j.last_stamp) { room = room }

@@ -1,5 +1,5 @@
--- A core may go from thread to thread. The check finds this of a type by itself, but not of one that
--- holds a snapshot, which has no bytes, nor of what such a type stands in.
+-- A core may go from thread to thread. The check finds this of a type by itself, but not of one
+-- that holds a snapshot, which has no bytes, nor of what such a type stands in.
 use denote.Param.Send.{IsSend, sendable}
 use Rattle.std.proofs.Crossing.{crosses}
 use Rattle.ft_base.proofs.chains.Chains.TheSendSync as chains

@@ -26,7 +26,8 @@ use Rattle.ft_core.proofs.Joining.{start, values}
 use Rattle.ft_core.proofs.Reverting.{StayPlaces, placed-stays, is_taken_back}
 
 module _ (W : CallLaws) {base : Base} {h : History} {last_txn last_number : ℕ} {cells : Cells} {log : ℕ → List Item} (kept : IsKept base h last_txn last_number cells log) where
-  -- m inverses are put to the cells on the way of an abort of t, and the cells and the lists are now these
+  -- m inverses are put to the cells on the way of an abort of t, and the cells and the lists are
+  -- now these
   abbrev pub IsTaking : ℕ → ℕ → Cells → (ℕ → List Item) → Type 0
   IsTaking t m now left = IsTakingBack posix_calls (start W kept) h kept.hidden log t m now left
 
@@ -41,7 +42,8 @@ module _ (W : CallLaws) {base : Base} {h : History} {last_txn last_number : ℕ}
     pub named : HasNamedPlaces (taken_back ys now)
     pub accounted : IsAccounted (is_locked table) (is_let_go table) (taken_back ys now)
 
-  -- Where x is at or below t, and the lists strictly below x are empty, it can be taken back. What its calls wrote is locked.
+  -- Where x is at or below t, and the lists strictly below x are empty, it can be taken back. What
+  -- its calls wrote is locked.
   pub list-taken : (table : LockTable) (t x : ℕ) → over posix_calls h t x ≡ true → (ys : List Logged) (m : ℕ) (now : Cells) (lists : ℕ → List Item) → AreLogged (lists x) ys → ((y : ℕ) → over posix_calls h x y ≡ true → y ≢ x → lists y ≡ [])
       → ((e : Item) → In e (lists x) → ArePlaced now e) → ((e : Item) → In e (lists x) → (c : Cell) → writes_cell e.done.accesses c ≡ true → is_locked table c ≡ true)
       → HasNamedPlaces now → IsAccounted (is_locked table) (is_let_go table) now → IsTaking t m now lists → IsListTaken table t x m now lists ys

@@ -132,7 +132,8 @@ module _ (W : CallLaws) (K : LockLaws) {base : Base} {h : History} {asks : Asks}
   pub told-since : (k m : Option ℕ) (q : ℕ) → k ≡ option_map (λ (x : Logged). x.stamp) (newest_of (list_in lists t)) → m ≡ sub_in j t → m ≡ Some q → ((n : ℕ) → k ≡ Some n → n ≤ q) → fault_of_target (undo_target posix_calls h t) ≡ Some SubSinceFault
   told-since k m q first mark some old = ap fault_of_target (target-since q (sym (mark-is m mark) ∙ some) (λ x xs e. old x.stamp (first ∙ ap (λ ys. option_map (λ (x : Logged). x.stamp) (newest_of ys)) e)))
 
-  -- The newest of the list can be taken back, and then the core is that of the history with the undo.
+  -- The newest of the list can be taken back, and then the core is that of the history with the
+  -- undo.
   pub record Undoes (d : Granted) : Type 0 where
     pub newest : Logged
     pub rest : List Logged

@@ -1,4 +1,4 @@
--- What is true of every core.
+-- What is true of every core. (Which calls wait is not among it, but who does.)
 use Rattle.std.specs.Prelude.{◌≡◌, ℕ, true, Some, is_some}
 use Rattle.std.specs.FinMap as finite
 use Rattle.ft_tree.specs.Sound.{AreSoundCells}
@@ -9,7 +9,7 @@ use Rattle.ft_core.specs.States.{StoredState, history, fate_of}
 use Rattle.ft_core.specs.Promises.{IsHeadline}
 use Rattle.ft_core.specs.Kept.{IsStarted, start_of}
 
--- A state that a core can come to, with its tree stored in these cells.
+-- The state of a core, with its tree stored in these cells: what has happened was legal.
 pub record IsReached (core : StoredState) : Type 0 where
   -- the base is a sound tree, and the numbers go on from its last ones up to
   -- the state's, with none left out

@@ -25,8 +25,8 @@ pub fn exact_ledger()
     ensures { ExactLedger posix_calls }
 {}
 
-/// The state of a core is one that legal requests lead to: its history is legal from a base that is
-/// a sound tree, and the laws above hold of it.
+/// The history of a core is legal from a base that is a sound tree, so that the laws above hold of
+/// it; only live transactions wait; and its tree is the one of the headline, and sound.
 pub fn reached(core: &Core)
     ensures { IsReached core.now }
 {

@@ -164,7 +164,7 @@ impl Core {
         self.journal.base()
     }
 
-    /// What has happened since the base, in order: the state is one that legal requests lead to.
+    /// What has happened since the base, in order: a legal history from a sound tree.
     pub fn history(&self) -> &[Event]
         ensures events { result.now ≡ self.now.state.events }
         ensures reached { IsReached self.now }
@@ -187,8 +187,8 @@ impl Core {
         self.parts.forest.state(txn)
     }
 
-    /// The parent of a subtransaction; none of a top-level one, nor where there is no transaction of
-    /// this number since the base.
+    /// The parent of a subtransaction; none of a top-level one, nor where there is no transaction
+    /// of this number since the base.
     pub fn parent(&self, txn: TxnId) -> Option<TxnId>
         ensures { result ≡ parent_of posix_calls (history self.now.state) txn }
     {

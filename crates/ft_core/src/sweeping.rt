@@ -2,7 +2,7 @@
 ghost use Rattle.std.specs.Prelude.{◌≡◌, ◌<◌, ◌+◌, ◌-◌, ◌^◌};
 ghost use Rattle.ft_tree.specs.Sweep.{places_in};
 ghost use Rattle.ft_core.specs.Living.{NoneIsLive};
-ghost use Rattle.ft_core.specs.Sweeps.{HasNoUselessPlace};
+ghost use Rattle.ft_core.specs.Sweeps.{HasNoUselessPlace, EachUselessIsLocked};
 
 use crate::manager::Core;
 use crate::parts::Parts;
@@ -14,10 +14,12 @@ impl Core {
     /// what was let go.
     ///
     /// What an undo or an abort may need stays, and nothing is seen of a sweep: the state is the
-    /// same. Where no transaction is live, no place of no use is left.
+    /// same. No place of no use is left but those that are locked, and where no transaction is live
+    /// none at all.
     pub fn sweep(&mut self) -> u64
         ensures same { self.new.state ≡ self.old.state }
         ensures count { places_in self.old.cells < 2 ^ 64 - 1 → places_in self.old.cells ≡ result + places_in self.new.cells }
+        ensures locked { EachUselessIsLocked self.old.state self.new.cells }
         ensures none_left { NoneIsLive self.old.state → HasNoUselessPlace self.new.cells }
     {
         let Parts { tree, locks, .. } = &mut self.parts;

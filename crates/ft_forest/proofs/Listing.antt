@@ -141,7 +141,8 @@ none_twice = tt
 pub sorted-rising : (found sorted : List ℕ) → IsDistinct ◌==◌ found → IsPermutation found sorted → IsSorted nat_cmp sorted → IsStrictlyIncreasing sorted
 sorted-rising found sorted once moved rises = IsStrictlyIncreasing-from_distinct sorted (IsNonDecreasingBy-from_sort (λ x. x) sorted rises) (IsDistinct-IsPermutation ◌==◌ nat_eq_equiv.symm found sorted moved once)
 
--- What is listed stands at or below the children passed, and so the next one is new with what is below it.
+-- What is listed stands at or below the children passed, and so the next one is new with what is
+-- below it.
 module _ (m : Transactions) (forest : IsForest (parent_in m)) where
   tree : ForestLaws (parent_in m) (above (parent_in m))
   tree = forest_laws (parent_in m) forest

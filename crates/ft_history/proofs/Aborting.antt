@@ -1,4 +1,5 @@
--- An abort amid the calls of others: the lists of t and of all below it are taken back, each before that of its parent, from its newest on.
+-- An abort amid the calls of others: the lists of t and of all below it are taken back, each
+-- before that of its parent, from its newest on.
 use Rattle.std.proofs.Common.{◌≡◌, ◌≢◌, ◌<◌, ◌+◌, ℕ, suc, Bool, true, false, not, cond, Option, Some, None, List, [], ◌∷◌, ◌++◌, length, map, sym, refl, ap, ◌∙◌, subst, arith}
 use Rattle.std.proofs.lemmas.Bool.{false≢true}
 use Rattle.std.proofs.lemmas.List.{length_push}
@@ -152,7 +153,8 @@ module _ (C : Calls) (L : Lawful C) (parent : ℕ → Option ℕ) (above : ℕ �
     pub taking_first : (s : C.Store) → Runs C above owner base cs₀ log₀ → Holds C owner base hidden cs₀ log₀ s kept₀ → IsTaking 0 s kept₀
     taking_first s runs holds = record { calls = cs₀; log = log₀; drained = drained_first runs; holds = holds; same = λ x _. refl }
 
-    -- the newest inverse of x's list may be put to the store, and is, where the lists strictly below x are empty
+    -- the newest inverse of x's list may be put to the store, and is, where the lists strictly
+    -- below x are empty
     pub taking_step : (x n : ℕ) (s : C.Store) (kept : ℕ → List (Entry C)) (e : Entry C) (es : List (Entry C)) → above t x ≡ true → kept x ≡ e ∷ es → ((y : ℕ) → above x y ≡ true → y ≢ x → kept y ≡ []) → IsTaking n s kept
         → C.MayRevert s e.inverse × IsTaking (suc n) (C.revert s e.inverse) (put kept x es)
     taking_step x n s kept e es under is below h =
@@ -170,7 +172,8 @@ module _ (C : Calls) (L : Lawful C) (parent : ℕ → Option ℕ) (above : ℕ �
           },
         )
 
-    -- At the end, with all lists at or below t empty: the store and the lists hold what stays, and the count is that of the calls that went.
+    -- At the end, with all lists at or below t empty: the store and the lists hold what stays, and
+    -- the count is that of the calls that went.
     module _ (n : ℕ) (s : C.Store) (kept : ℕ → List (Entry C)) (empty : (x : ℕ) → above t x ≡ true → kept x ≡ []) (h : IsTaking n s kept) where
       none_left : (x : ℕ) → above t x ≡ true → h.log x ≡ []
       none_left x a = sym (h.holds.listed x) ∙ ap (map (λ z. z.done)) (empty x a)

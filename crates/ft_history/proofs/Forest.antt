@@ -112,7 +112,8 @@ module _ (parent : ℕ → Option ℕ) (lower : IsForest parent) where
       ])
       z
 
-  -- Where the parents of what lives below x live, up to x, and no child of x lives, nothing lives below x.
+  -- Where the parents of what lives below x live, up to x, and no child of x lives, nothing lives
+  -- below x.
   pub none_below : (Lives : ℕ → Type 0) (x : ℕ) → ((y p : ℕ) → Lives y → parent y ≡ Some p → above parent x p ≡ true → Lives p) → ((y : ℕ) → Lives y → parent y ≡ Some x → ⊥)
       → (y : ℕ) → above parent x y ≡ true → y ≢ x → Lives y → ⊥
   none_below Lives x up childless = climb (λ y. above parent x y ≡ true → y ≢ x → Lives y → ⊥)

@@ -1,4 +1,5 @@
--- A run of standing calls, and a store and lists of inverses that hold what it left: what a grant and the inverse of a newest call make of them.
+-- A run of standing calls, and a store and lists of inverses that hold what it left: what a grant
+-- and the inverse of a newest call make of them.
 use Rattle.std.proofs.Common.{◌≡◌, ◌≢◌, ◌<◌, ℕ, Bool, true, false, cond, Option, Some, List, [], ◌∷◌, ◌++◌, ◌⊎◌, inl, inr, length, map, suc, sym, refl, ap, ◌∙◌, subst, arith}
 use Rattle.std.proofs.lemmas.Bool.{false≢true}
 use Rattle.ft_laws.specs.Lists.{Each, In}
@@ -23,7 +24,8 @@ module _ (C : Calls) where
   along_map P Q R f s [] r h = tt
   along_map P Q R f s (c ∷ cs) r h = (f s c r.0 h.0, along_map P Q R f (C.act s c.call) cs r.1 h.1)
 
-  -- The calls can be made from the base, each does what is kept of it, and their owners and lists are in order.
+  -- The calls can be made from the base, each does what is kept of it, and their owners and lists
+  -- are in order.
   pub record Runs (above : ℕ → ℕ → Bool) (owner : Done C → Option ℕ) (base : C.Store) (cs : List (Done C)) (log : ℕ → List (Done C)) : Type 0 where
     pub able : Able C base cs
     pub faithful : Faithful C base cs
@@ -51,7 +53,8 @@ module _ (C : Calls) (L : Lawful C) where
   inverses_local : (kept : ℕ → List (Entry C)) → IsLocal C (AreInverses C kept)
   inverses_local kept s t c gs gt rs rt fit agree h u n i = reverts_alike C L s t c u gs gt rs rt fit agree (h u n i)
 
-  -- A call that is made in a store without the hidden files does the same as with them, and touches none of them.
+  -- A call that is made in a store without the hidden files does the same as with them, and
+  -- touches none of them.
   module _ (hidden : C.File → Bool) (r s : C.Store) (c : Done C) (sound : C.IsSound r) (ready : C.IsReady c.call r) (hides : Hides C hidden r s) (new : hidden (C.own c.call) ≡ false) (fits : Fits C s c) where
     pub whole : Fits C r c × Unseen C hidden c.accesses × Hides C hidden (C.act r c.call) (C.act s c.call)
     whole = stays_hidden C L hidden r s c hides sound ready new fits
@@ -145,7 +148,8 @@ module _ (C : Calls) (L : Lawful C) where
             In-more : (c : Done C) → In c (xs ++ ys) → In c (xs ++ d ∷ ys)
             In-more c i = In-with c xs d ys i
 
-  -- A call is granted to its asker, where each owner of a conflicting call is at or above the asker.
+  -- A call is granted to its asker, where each owner of a conflicting call is at or above the
+  -- asker.
   module _ (above : ℕ → ℕ → Bool) (owner : Done C → Option ℕ) (base : C.Store) (cs : List (Done C)) (log : ℕ → List (Done C)) (runs : Runs C above owner base cs log)
       (t : ℕ) (c : Done C) (mine : owner c ≡ Some t) (ready : C.IsReady c.call base) (newer : Each (λ b. number C b < number C c) cs) where
     pub granted_able : Able C base (cs ++ c ∷ [])

@@ -53,7 +53,8 @@ module _ (C : Calls) where
       absurd (omega arith)
   ordered R (c ∷ cs) x y rise h (inr i) (inr j) lt = ordered R cs x y rise.1 h.1 i j lt
 
-  -- The standing calls, oldest first, with their owners, and the lists of those that have owners, newest first.
+  -- The standing calls, oldest first, with their owners, and the lists of those that have owners,
+  -- newest first.
   pub record Kept (above : ℕ → ℕ → Bool) (owner : Done C → Option ℕ) (cs : List (Done C)) (log : ℕ → List (Done C)) : Type 0 where
     pub rising : Pairs (λ b a. number C b < number C a) cs
     pub nested : Pairs (IsNested C above owner) cs
@@ -232,7 +233,8 @@ module _ (C : Calls) (above : ℕ → ℕ → Bool) (owner : Done C → Option �
         (λ e. subst (λ o. Covers above o (moved t None (Some x))) (sym (moved_other t None y e))
         (subst (Covers above (Some y)) (sym (moved_other t None x (λ f. e (forest.at_top t y up (subst (λ z. above y z ≡ true) f h))))) h))
 
-    -- the list of p, behind which that of t goes: of two that conflict, t's is the later, for a later one of p's would have been refused
+    -- the list of p, behind which that of t goes: of two that conflict, t's is the later, for a
+    -- later one of p's would have been refused
     handed_cross : (p : ℕ) → parent t ≡ Some p → (x y : Done C) → In x (log t) → In y (log p) → IsInFront C x y
     handed_cross p up x y i j =
         let less : p < t = forest.lower t p up in

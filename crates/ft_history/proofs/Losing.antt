@@ -1,4 +1,5 @@
--- A call that is taken back: a file that something names before, and nothing after, is the call's own.
+-- A call that is taken back: a file that something names before, and nothing after, is the call's
+-- own.
 use Rattle.std.proofs.Common.{◌≡◌, ◌≢◌, ◌<◌, ℕ, Bool, true, false, cond, Option, List, [], ◌∷◌, ◌++◌, map, inl, inr, sym, refl, ap, ◌∙◌, subst}
 use Rattle.std.proofs.lemmas.Bool.{false≢true}
 use Rattle.ft_laws.specs.Lists.{Each}

@@ -29,7 +29,8 @@ pub none_hidden : (C : Calls) (o : Option C.File) → holds (λ i. false) o ≡ 
 none_hidden C None = refl
 none_hidden C (Some i) = refl
 
--- On the way of an abort of t that begins with the lists log: m inverses are put to the store, and the store and the lists are now these.
+-- On the way of an abort of t that begins with the lists log: m inverses are put to the store, and
+-- the store and the lists are now these.
 abbrev pub IsTakingBack : (C : Calls) (base : Base C) → List (Event C) → (C.File → Bool) → (ℕ → List (Entry C)) → ℕ → ℕ → C.Store → (ℕ → List (Entry C)) → Type 0
 IsTakingBack C base h hidden log t = Taking C (over C h) (owner C h) base.store t (standing C h) (lists C h) hidden log
 
@@ -66,7 +67,8 @@ module _ (C : Calls) (L : Lawful C) (base : Base C) (base_sound : C.IsSound base
     pub core_ready : (a : C.Call) → C.IsReady a base.store → last_stamp C base.stamp h < C.stamp a → C.IsReady a s
     core_ready a ready next = L.hides_ready hidden (outcome C base h) s a core.store (outcome_ready a ready next)
 
-    -- A new call does the same there as after the standing calls: the same accesses, and the same reply.
+    -- A new call does the same there as after the standing calls: the same accesses, and the same
+    -- reply.
     pub core_fits : (c : Done C) → C.IsReady c.call base.store → last_stamp C base.stamp h < number C c → Fits C s c → Fits C (outcome C base h) c
     core_fits c ready next fits = (whole C L hidden (outcome C base h) s c outcome_sound (outcome_ready c.call ready next) core.store (core.old c.call next) fits).0
 
@@ -183,7 +185,8 @@ module _ (C : Calls) (L : Lawful C) (base : Base C) (base_sound : C.IsSound base
     pub abort_first : (t : ℕ) → IsTakingBack C base h hidden log t 0 s log
     abort_first t = taking_first C L (parent C h) (over C h) (laws C L base h sound) (owner C h) base.store t (standing C h) (lists C h) hidden log s sound.runs holds_of
 
-    -- the newest inverse of the list of x, at or below t, may be put to the store, and is, where the lists strictly below x are empty
+    -- the newest inverse of the list of x, at or below t, may be put to the store, and is, where
+    -- the lists strictly below x are empty
     pub abort_step : (t x m : ℕ) (now : C.Store) (kept : ℕ → List (Entry C)) (e : Entry C) (es : List (Entry C)) → over C h t x ≡ true → kept x ≡ e ∷ es → ((y : ℕ) → over C h x y ≡ true → y ≢ x → kept y ≡ [])
         → IsTakingBack C base h hidden log t m now kept → C.MayRevert now e.inverse × IsTakingBack C base h hidden log t (suc m) (C.revert now e.inverse) (put kept x es)
     abort_step t x m now kept e es = taking_step C L (parent C h) (over C h) (laws C L base h sound) (owner C h) base.store t (standing C h) (lists C h) hidden log x m now kept e es
@@ -192,7 +195,8 @@ module _ (C : Calls) (L : Lawful C) (base : Base C) (base_sound : C.IsSound base
     pub ended_list : (x : ℕ) → (IsLive C base.transaction h x → ⊥) → log x ≡ []
     ended_list x ended = no_entries (λ e. e.done) (log x) (core.listed x ∙ no_list C L base h sound x ended)
 
-    -- at the end, with all lists at or below t empty: the core's, and as many inverses as calls that went
+    -- at the end, with all lists at or below t empty: the core's, and as many inverses as calls
+    -- that went
     pub core_aborted : (t m : ℕ) (now : C.Store) (kept : ℕ → List (Entry C)) → IsLive C base.transaction h t → ((x : ℕ) → over C h t x ≡ true → kept x ≡ []) → IsTakingBack C base h hidden log t m now kept
         → IsCore C base (Abort t ∷ h) hidden now kept × (length (standing C (Abort t ∷ h)) + m ≡ length (standing C h)) × ((x : ℕ) → kept x ≡ emptied (over C h) log t x)
     core_aborted t m now kept live empty taking =

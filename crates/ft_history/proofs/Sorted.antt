@@ -1,4 +1,5 @@
--- The calls by rising ranks are those of each rank, one rank behind another; so the serial list is the standing calls by the places of their roots.
+-- The calls by rising ranks are those of each rank, one rank behind another; so the serial list is
+-- the standing calls by the places of their roots.
 use Rattle.std.proofs.Common.{◌≡◌, ◌≢◌, ◌<◌, ◌≤◌, ◌+◌, ℕ, zero, suc, true, false, not, cond, is_some, List, [], ◌∷◌, ◌++◌, ◌⊎◌, nat_lt, inl, inr, length, sym, refl, ap, ◌∙◌, subst, arith, ◌==◌, eq-eqb, ne_eqb, append-nil, append_assoc}
 use Rattle.std.proofs.lemmas.Bool.{false≢true, or_left, or_right, or_from, le-ltb, lt-ltb}
 use Rattle.ft_laws.specs.Lists.{Each, Pairs, In, any}

@@ -1,4 +1,5 @@
--- Where nothing names a file any more, and no owned call touches it, taking an owned call back brings no name of it back.
+-- Where nothing names a file any more, and no owned call touches it, taking an owned call back
+-- brings no name of it back.
 use Rattle.std.proofs.Common.{◌≡◌, ℕ, Bool, true, false, Option, Some, None, List, [], ◌∷◌, inl, inr, refl, sym, ap, subst, ◌∙◌}
 use Rattle.std.proofs.lemmas.Bool.{false≢true}
 use Rattle.ft_laws.specs.Lists.{Each, Pairs}
@@ -41,7 +42,8 @@ module _ (C : Calls) (L : Lawful C) (above : ℕ → ℕ → Bool) (owned : Done
       (λ k. covered y (owned b) (owned d) own (nested k))
       (λ k. absurd (false≢true (sym (L.apart b.accesses d.accesses x k wrote) ∙ L.changes_touch d.accesses x writes)))
 
-  -- Something names the file still after the calls, where it was named in a cell that an owned call wrote before them.
+  -- Something names the file still after the calls, where it was named in a cell that an owned
+  -- call wrote before them.
   named_on : (s : C.Store) (b : Done C) (y : ℕ) (cs : List (Done C)) → owned b ≡ Some y → Able C s cs → Faithful C s cs → Each Spares cs → Each (IsNested C above owned b) cs → Pairs (IsNested C above owned) cs
       → (x : C.Cell) → C.changes b.accesses x ≡ true → C.names x (C.cell s x) i ≡ true → (z : C.Cell) × (C.names z (C.cell (run C s cs) z) i ≡ true)
   named_on s b y [] own able faithful spares nested pairs x wrote named = (x, named)
@@ -61,7 +63,8 @@ module _ (C : Calls) (L : Lawful C) (above : ℕ → ℕ → Bool) (owned : Done
       let same = L.kept s d.call able.sound able.ready.0 x (ap (λ f. C.changes f x) faithful.0.accesses ∙ stays) in
       absurd (false≢true (sym gone ∙ ap (λ v. C.names x v i) same ∙ named))))
 
-  -- In the run no owned call finds the file named in what it writes, where nothing names it in the end.
+  -- In the run no owned call finds the file named in what it writes, where nothing names it in the
+  -- end.
   pub brings_none : (s : C.Store) (cs : List (Done C)) → Able C s cs → Faithful C s cs → Each Spares cs → Pairs (IsNested C above owned) cs
       → ((z : C.Cell) → C.names z (C.cell (run C s cs) z) i ≡ false) → Along C BringsNone s cs
   brings_none s [] able faithful spares pairs none = tt
@@ -85,7 +88,8 @@ module _ (C : Calls) (L : Lawful C) (base : Base C) (base_sound : C.IsSound base
   past : Sound C L base h
   past = sound_all C L base base_sound h core.legal
 
-  -- A file that no lock covers and that nothing in the core's store names: in the run no owned call finds it named in what it writes.
+  -- A file that no lock covers and that nothing in the core's store names: in the run no owned
+  -- call finds it named in what it writes.
   pub core_brings_none : (i : C.File) → ((y : ℕ) (x : C.Cell) → C.file_of x ≡ Some i → owns_lock C h y (λ f. C.touches f x) ≡ false) → ((x : C.Cell) → C.names x (C.cell s x) i ≡ false)
       → Along C (BringsNone C L (over C h) (owner C h) i) base.store (standing C h)
   core_brings_none i unlocked unnamed =

@@ -1,4 +1,5 @@
--- The newest of a live transaction's list and the last commit of a child decide what an undo comes upon.
+-- The newest of a live transaction's list and the last commit of a child decide what an undo comes
+-- upon.
 use Rattle.std.proofs.Common.{◌≡◌, ◌≢◌, ◌<◌, ◌≤◌, ℕ, true, cond, ◌&&◌, Option, Some, None, List, [], ◌∷◌, ◌++◌, inl, inr, sym, refl, ap, ◌∙◌, subst, arith, ◌==◌, eq-eqb, ne_eqb}
 use Rattle.std.proofs.lemmas.Bool.{false≢true}
 use Rattle.ft_laws.specs.Lists.{Each, In}

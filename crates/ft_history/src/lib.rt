@@ -124,8 +124,8 @@ pub fn serial_store()
     ensures { Serial tiny_calls }
 {}
 
-/// What has committed stays: an event leaves the committed part of the serial list as it is, and the
-/// commit of a top-level transaction adds the standing calls below it at the end.
+/// What has committed stays: an event leaves the committed part of the serial list as it is, and
+/// the commit of a top-level transaction adds the standing calls below it at the end.
 pub fn committed_steps()
     ensures { CommittedSteps tiny_calls }
 {}

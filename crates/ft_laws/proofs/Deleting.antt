@@ -29,7 +29,8 @@ module _ (C : Calls) (L : Lawful C) where
         (λ k. L.kept t c.call gt rt x (subst (λ f. C.changes f x ≡ false) (sym alike.accesses) k)
         ∙ put x ∙ ap (λ v. cond (C.changes a.accesses x) (C.cell s₀ x) v) (sym (L.kept s c.call gs rs x k)))
 
-    -- Run on from both, calls that don't conflict with a do the same, and what depends on what they touch alone stays true.
+    -- Run on from both, calls that don't conflict with a do the same, and what depends on what
+    -- they touch alone stays true.
     deleted : (P : C.Store → Done C → Type 0) → IsLocal C P → (s t : C.Store) (ys : List (Done C)) → Able C s ys → Able C t ys → Clear C a ys → Faithful C s ys → PutBack C a.accesses s₀ s t
         → Along C P s ys → Along C P t ys × PutBack C a.accesses s₀ (run C s ys) (run C t ys)
     deleted P local s t [] hs ht clear faith put h = (tt, put)

@@ -1,4 +1,5 @@
--- Neighbours that don't conflict change places; so a call may go first, and calls may be made by rising ranks.
+-- Neighbours that don't conflict change places; so a call may go first, and calls may be made by
+-- rising ranks.
 use Rattle.std.proofs.Common.{◌≡◌, ◌≢◌, ◌<◌, ◌≤◌, ℕ, true, false, cond, nat_lt, List, [], ◌∷◌, ◌++◌, sym, refl, ap, ◌∙◌, subst, arith, ltb-true}
 use Rattle.std.proofs.lemmas.Bool.{false≢true}
 use Rattle.ft_laws.specs.Lists.{Each, Pairs}

@@ -36,7 +36,8 @@ module _ (C : Calls) (L : Lawful C) where
       (λ k. (x, ap (λ v. C.names x v i) (hides.others x k) ∙ named.1))
 
   module _ (tidy : C.Store → C.Store) (dead : C.Store → C.File → Bool) (law : IsTidying C tidy dead) where
-    -- Where r has what s hides, a file's cell that is dead in one of them is blank in the other when that is tidied.
+    -- Where r has what s hides, a file's cell that is dead in one of them is blank in the other
+    -- when that is tidied.
     tidy_alike : (hidden : C.File → Bool) (r s : C.Store) → Hides C hidden r s → C.IsSound r → C.IsSound s → Same C (tidy r) (tidy s)
     tidy_alike hidden r s hides gr gs x =
         by_test (is_hidden C (dead r) x)

@@ -1,4 +1,5 @@
--- What is true of each way that a tree of looks may end is true of the way that it goes; and it goes alike where what it looks at is alike.
+-- What is true of each way that a tree of looks may end is true of the way that it goes; and it
+-- goes alike where what it looks at is alike.
 use Rattle.std.proofs.Common.{◌≡◌, List, ◌∷◌, inl, inr, sym, refl, ap, ◌∙◌}
 use Rattle.ft_laws.specs.Lists.{In}
 use Rattle.ft_laws.specs.Looks.{Looks, follow}

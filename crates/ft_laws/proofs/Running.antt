@@ -1,4 +1,5 @@
--- What runs keep: what is able to run is able to go on, and a call does the same in stores that agree on what it touches.
+-- What runs keep: what is able to run is able to go on, and a call does the same in stores that
+-- agree on what it touches.
 use Rattle.std.proofs.Common.{◌≡◌, ◌≢◌, ℕ, true, false, cond, Option, None, Some, List, [], ◌∷◌, ◌++◌, sym, refl, ap, ◌∙◌, subst}
 use Rattle.std.proofs.lemmas.Bool.{false≢true}
 use Rattle.ft_laws.specs.Lists.{Each}
@@ -83,7 +84,8 @@ module _ (C : Calls) (L : Lawful C) where
       untouched (C.act s c.call) cs (able_next s c cs able) faith.1 x h.1
       ∙ L.kept s c.call able.sound able.ready.0 x (subst (λ f. C.changes f x ≡ false) (sym faith.0.accesses) h.0)
 
-  -- What is kept of a call fits each store that agrees on what it touches, and so does what its inverse does.
+  -- What is kept of a call fits each store that agrees on what it touches, and so does what its
+  -- inverse does.
   pub fits_alike : (s t : C.Store) (c : Done C) → C.IsSound s → C.IsSound t → C.IsReady c.call s → C.IsReady c.call t → Agree C c.accesses s t → Fits C s c → Fits C t c
   fits_alike s t c gs gt rs rt agree fit =
       let alike = L.frame s t c.call gs gt rs rt (λ x h. agree x (subst (λ f. C.touches f x ≡ true) fit.accesses h)) in
@@ -100,7 +102,8 @@ module _ (C : Calls) (L : Lawful C) where
             (λ k. ap (λ b. cond b (C.cell s x) (C.cell v x)) k ∙ ap (λ b. cond b (C.cell t x) (C.cell v x)) (sym k)),
       )
 
-  -- What a call writes is the same in stores that agree on what it touches; and where the stores are equal in a cell, they stay so.
+  -- What a call writes is the same in stores that agree on what it touches; and where the stores
+  -- are equal in a cell, they stay so.
   pub act_alike : (s t : C.Store) (c : Done C) → C.IsSound s → C.IsSound t → C.IsReady c.call s → C.IsReady c.call t → Fits C s c → Agree C c.accesses s t
       → (x : C.Cell) → C.cell s x ≡ C.cell t x → C.cell (C.act s c.call) x ≡ C.cell (C.act t c.call) x
   act_alike s t c gs gt rs rt fit agree x e =

@@ -110,7 +110,8 @@ covered_file (One c) x i h e = ap file_of (same_is c x h) ∙ e
 covered_file (Names d) (Entry f n) i h e = e
 covered_file (Names d) x i h e = absurd (false≢true h)
 
--- What is true of each file of which a cell is written or looked at is true of each of which a cell is touched.
+-- What is true of each file of which a cell is written or looked at is true of each of which a
+-- cell is touched.
 touched_file : (F : Type 0) (ws : List (Write Cell Shows)) (seen : List Place) (x : Cell) (i : ℕ) → Each (λ w. file_of w.cell ≡ Some i → F) ws → Each (λ p. place_file p ≡ Some i → F) seen
     → file_of x ≡ Some i → touch tiny (accesses_of ws seen) x ≡ true → F
 touched_file F [] [] x i hw hs e t = absurd (false≢true t)
@@ -168,7 +169,8 @@ at_own k i v w e = ap (λ b. cond b v w) (eq-eqb k i e)
 at_other : {A : Type 0} (k i : ℕ) (v w : A) → (k ≡ i → ⊥) → cond (k == i) v w ≡ w
 at_other k i v w ne = ap (λ b. cond b v w) (ne_eqb k i ne)
 
--- What is true of each outcome of a call with the stamp k: the store after it, and the files that it comes upon.
+-- What is true of each outcome of a call with the stamp k: the store after it, and the files that
+-- it comes upon.
 
 -- the file is the call's own, or an entry that was looked at names it
 abbrev Found : Store → ℕ → List Place → ℕ → Type 0

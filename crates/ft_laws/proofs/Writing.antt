@@ -39,7 +39,8 @@ module _ (E : Effects) (laws : SetsCells E) where
       write_kept (before E s ws) (E.write t w.cell (E.cell s w.cell)) x k
       ∙ subst (λ y. E.cell (E.write t w.cell (E.cell s w.cell)) y ≡ E.cell s y) (laws.same_is w.cell x here) (laws.cell_written t w.cell (E.cell s w.cell)))
 
-  -- What holds of each cell and value that is written holds of a written cell and the value that it then has.
+  -- What holds of each cell and value that is written holds of a written cell and the value that
+  -- it then has.
   pub written_all : (P : (x : E.Cell) → E.Value x → Type 0) (ws : List (Write E.Cell E.Value)) (s : E.Store) (x : E.Cell) → Each (λ w. P w.cell w.value) ws → is_written E ws x ≡ true → P x (E.cell (write_all E s ws) x)
   written_all P [] s x each h = absurd (false≢true h)
   written_all P (w ∷ ws) s x each h = by_test (is_written E ws x)

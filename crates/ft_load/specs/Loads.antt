@@ -12,7 +12,8 @@ use Rattle.ft_copy.specs.Runs.{Visit, WalksTo, asked_of}
 use Rattle.ft_copy.specs.Stops.{IsCause, IsReached, Reached, asked_before, asked_then, path_at}
 use Rattle.ft_load.specs.Scripts.{BreaksOff, fd_of, next_of, script_text}
 
--- What was visited is what the source told, from the root on, each place in its turn, until none was left; and the script of just that was written.
+-- What was visited is what the source told, from the root on, each place in its turn, until none
+-- was left; and the script of just that was written.
 pub record Loads (tells : Told → Type 0) (held held_after : Option (List ℕ)) : Type 0 where
   pub begun : Standing
   pub visits : List Visit
@@ -27,7 +28,8 @@ abbrev pub BreaksOffAt : Trouble → List Asked → ℕ → ℕ → Option (List
 BreaksOffAt trouble [] next fd held held_after = ⊥
 BreaksOffAt trouble (first ∷ more) next fd held held_after = BreaksOff trouble first next fd held held_after
 
--- A load came so far as the source told, and no further: of the script up to there a beginning was written, whole lines and a part of the next one at most.
+-- A load came so far as the source told, and no further: of the script up to there a beginning was
+-- written, whole lines and a part of the next one at most.
 pub record StopsLoad (tells : Told → Type 0) (stopped : Stopped) (held held_after : Option (List ℕ)) : Type 0 where
   pub reached : Reached
   pub told : IsReached tells reached

@@ -16,7 +16,8 @@ use Rattle.ft_copy.specs.Asked.{Asked, Start, Folder, Open, Piece, Close, Link, 
 abbrev pub call_line : Call → List ℕ
 call_line call = codes "1 " ++ call_text call ++ 10 ∷ []
 
--- What is written for each thing that is asked for, where the next call has the stamp `next`, and `fd` is the descriptor of the open file.
+-- What is written for each thing that is asked for, where the next call has the stamp `next`, and
+-- `fd` is the descriptor of the open file.
 abbrev pub text_at : Asked → ℕ → ℕ → List ℕ
 text_at Start next fd = codes "begin" ++ 10 ∷ []
 text_at (Folder path) next fd = call_line (calls.Mkdir path)
@@ -91,7 +92,8 @@ AsksFor call next held next_after held_after = Appends held held_after (call_lin
 abbrev pub Scripts : Asked → ℕ → ℕ → Option (List ℕ) → ℕ → ℕ → Option (List ℕ) → Type 0
 Scripts asked next fd held next_now fd_now held_now = Appends held held_now (text_at asked next fd) × (next_now ≡ next_after asked next) × (fd_now ≡ fd_after asked next fd)
 
--- A part of the text was written, and then the writer failed; or nothing was: there was no memory, or there are as many calls as a core grants, or a path has a null byte.
+-- A part of the text was written, and then the writer failed; or nothing was: there was no memory,
+-- or there are as many calls as a core grants, or a path has a null byte.
 abbrev pub BreaksOff : Trouble → Asked → ℕ → ℕ → Option (List ℕ) → Option (List ℕ) → Type 0
 BreaksOff trouble asked next fd held held_now =
     ((trouble ≡ Write) × WritesPart held held_now (text_at asked next fd))

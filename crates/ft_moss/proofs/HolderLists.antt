@@ -1,4 +1,5 @@
--- A list of holdings in which no owner stands twice: what stands in its middle decides what it has for one owner.
+-- A list of holdings in which no owner stands twice: what stands in its middle decides what it has
+-- for one owner.
 use Rattle.std.proofs.Common.{◌≡◌, ℕ, suc, ◌<◌, Bool, true, false, cond, not, ◌&&◌, ◌||◌, List, [], ◌∷◌, ◌++◌, Option, Some, None, refl, sym, ap, subst, ◌∙◌, set, take, drop, length, get_or, is_some, IsSome, unwrap_or, ◌==◌}
 use Rattle.std.proofs.lemmas.Bool.{false≢true}
 use Rattle.std.specs.Ordering.{nat_cmp, eq_by_cmp}

@@ -127,7 +127,8 @@ fewer rule forest txn u m mode no_way = by_over (over_in forest u txn)
     by_over true = by_rule (is_strict rule && not (u == txn))
     by_over false = no_way
 
--- Of a list of some of the owners of a cell, among them all whose locks conflict: it tells who is in the way.
+-- Of a list of some of the owners of a cell, among them all whose locks conflict: it tells who is
+-- in the way.
 module _ (rule : Rule) (forest : Transactions) (txn : ℕ) (list : List Holding) (owners : Owners) (mode : Mode)
     (all : (u : ℕ) (m : Marks) → finite.get owners u ≡ Some m → are_in_the_way m mode ≡ true → marks_in list u ≡ Some m)
     (had : (u : ℕ) (m : Marks) → marks_in list u ≡ Some m → finite.get owners u ≡ Some m) (apart : AreApart list) where

@@ -70,4 +70,4 @@ released old new txn are c h = by_test (is_locked new c)
     (λ let_go. or_left (is_let_go old c) (is_locked old c && not (is_locked new c)) let_go)))
 
 pub known_law : KnownLaw
-known_law = record { granted = granted; inherited = inherited; released = released; locked = λ t c e. let one = one-lock t c e in (one.0, one.1) }
+known_law = record { granted = granted; inherited = inherited; released = released; locked = one-lock }

@@ -1,4 +1,5 @@
--- What one look at a cell tells of those who are in the way there, and of the locks that are held already.
+-- What one look at a cell tells of those who are in the way there, and of the locks that are held
+-- already.
 use Rattle.std.proofs.Common.{◌≡◌, ◌<◌, ◌+◌, inl, inr, ℕ, Bool, true, false, not, ◌&&◌, ◌||◌, ◌==◌, List, [], ◌∷◌, take, length, get_or, Some, refl, sym, ap, subst, ◌∙◌, eq-eqb}
 use Rattle.std.proofs.lemmas.Bool.{false≢true, and_parts, and_from, or_cases, or_left, or_right}
 use Rattle.ft_laws.proofs.Tests.{by_test}
@@ -51,7 +52,8 @@ cover_one x WriteMode e = by_two x.write_held x.write_retained refl refl e
     by_two false true p q e = (WriteMode, Retained, q, λ w. refl)
     by_two false false p q e = absurd (false≢true e)
 
--- A lock of the transaction's own covers the access, and by Moss's rule no ancestor of it holds one that conflicts.
+-- A lock of the transaction's own covers the access, and by Moss's rule no ancestor of it holds
+-- one that conflicts.
 module _ (rule : Rule) (m : Cells) (forest : Transactions) (txn : ℕ) (apart : KeepOthersOut (has_line m) forest txn) (no_holder : is_strict rule ≡ true → KeepHoldersOut (has_line m) forest) (a : Access) (own : Marks) (is : Some own ≡ marks_at m a.cell txn) (covers : cover own a.mode ≡ true) where
   blocks_none : (u : ℕ) → blocks (against rule forest txn) m a u ≡ true → ⊥
   blocks_none u k =

@@ -16,5 +16,5 @@ pub record KnownLaw : Type 0 where
   pub granted : (old new : LockTable) (txn : ℕ) (accesses : List Access) → AreGranted old new txn accesses → (c : Cell) → (is_known old c || is_accessed accesses c) ≡ true → is_known new c ≡ true
   pub inherited : (old new : LockTable) (child parent : ℕ) → child ≢ parent → AreInherited old new child parent → (c : Cell) → is_known old c ≡ true → is_known new c ≡ true
   pub released : (old new : LockTable) (txn : ℕ) → AreReleased old new txn → (c : Cell) → is_known old c ≡ true → is_known new c ≡ true
-  -- a cell that is locked has a lock
-  pub locked : (t : LockTable) (c : Cell) → is_locked t c ≡ true → (l : LockLine) × (has_lock t l ≡ true)
+  -- on a cell that is locked there is a lock
+  pub locked : (t : LockTable) (c : Cell) → is_locked t c ≡ true → (l : LockLine) × (has_lock t l ≡ true) × (l.cell ≡ c)

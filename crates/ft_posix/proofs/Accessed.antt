@@ -2,12 +2,11 @@
 use Rattle.std.proofs.Common.{◌≡◌, Bool, true, false, cond, ◌||◌, List, [], ◌∷◌, map, ◌⊎◌, inl, inr, Option, Some, None, refl, sym, ap, subst, ◌∙◌}
 use Rattle.std.proofs.lemmas.Bool.{false≢true, or_cases, or_left, or_right}
 use Rattle.std.proofs.lemmas.Option.{none-some, same_Some}
-use Rattle.std.specs.Cmp.{eq_by_cmp_equiv}
 use Rattle.std.specs.List.{AllByRecursion}
 use Rattle.std.specs.FinMap.{find, get, insert, empty, entries, get-entries, get-empty, get-insert}
 use Rattle.ft_laws.specs.Lists.{In, any}
 use Rattle.ft_cells.specs.declared.cell.Cell.{Cell}
-use Rattle.ft_cells.specs.CellOrder.{cell_cmp, cell_cmp_total, same_cell, same_cell-is}
+use Rattle.ft_cells.specs.CellOrder.{cell_cmp, cell_cmp_total, same_cell, same_cell-refl, same_cell-is}
 use Rattle.ft_cells.specs.Looks.{Looks, Answer, Look, View, answer, looked_at}
 use Rattle.ft_posix.specs.declared.call.Mode.{Mode}
 use Rattle.ft_posix.specs.declared.call.Mode.TheVariants.{Read as ReadMode, Write as WriteMode}
@@ -51,10 +50,6 @@ all-at P (y ∷ ys) x h (inl e) = subst P (sym e) h.0
 all-at P (y ∷ ys) x h (inr i) = all-at P ys x h.1 i
 
 -- Cells in a list, by the test of cells.
-
--- each cell passes the test at itself
-pub same_cell-refl : (c : Cell) → same_cell c c ≡ true
-same_cell-refl = (eq_by_cmp_equiv cell_cmp_total).refl
 
 -- a member passes it somewhere
 in-cells : (c : Cell) (cs : List Cell) → In c cs → any (same_cell c) cs ≡ true

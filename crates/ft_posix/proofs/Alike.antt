@@ -15,6 +15,7 @@ use Rattle.ft_tree.specs.Views.{view_of}
 use Rattle.ft_cells.specs.Looks.{View, Agree, looked_at, answer-agree, looked_at-agree}
 use Rattle.ft_tree.specs.Held.{held}
 use Rattle.ft_tree.specs.Sound.{IsTree, SaysNothingOf, IsFree, SameValues}
+use Rattle.ft_cells.specs.CellOrder.{same_cell-refl}
 use Rattle.ft_posix.specs.declared.call.Call.{Call}
 use Rattle.ft_posix.specs.Outcomes.{Write}
 use Rattle.ft_posix.specs.Steps.{steps}
@@ -24,7 +25,7 @@ use Rattle.ft_posix.specs.Posix.{covers, HasSoundValues}
 use Rattle.ft_posix.proofs.Puts.{entry_after, parent_after, links_after, bytes_after, open_after, entry-put_all, parent-put_all, links-put_all, bytes-put_all, open-put_all}
 use Rattle.ft_posix.proofs.Tidied.{dir_names-find}
 use Rattle.ft_posix.proofs.Below.{IsEnough, StoredEnough, StepsAlike}
-use Rattle.ft_posix.proofs.Accessed.{same_cell-refl, with_accesses-parts}
+use Rattle.ft_posix.proofs.Accessed.{with_accesses-parts}
 use Rattle.ft_posix.proofs.Listed.{sorted_filled}
 
 -- Names.

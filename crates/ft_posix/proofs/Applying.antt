@@ -1,4 +1,5 @@
--- What a call comes to can be made: each written cell has its place or can make it, and no cell is written twice.
+-- What a call comes to can be made: each written cell has its place or can make it, and no cell is
+-- written twice.
 use Rattle.std.proofs.Common.{◌≡◌, ◌≢◌, ℕ, Bool, true, false, cond, List, [], ◌∷◌, Some, None, refl, sym, ap, subst, ◌∙◌}
 use Rattle.std.specs.Prelude.{◌==◌}
 use Rattle.std.proofs.lemmas.Bool.{false_from_ne_true}

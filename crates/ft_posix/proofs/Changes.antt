@@ -1,4 +1,5 @@
--- What a call changes: nothing, a directory that it makes or removes, a file that it makes, or files and descriptions that are there.
+-- What a call changes: nothing, a directory that it makes or removes, a file that it makes, or
+-- files and descriptions that are there.
 use Rattle.std.proofs.Common.{◌≡◌, ◌≢◌, ◌⊎◌, inl, inr, ℕ, ℤ, Bool, true, false, cond, List, [], ◌∷◌, Option, Some, None, IsSome, Result, Ok, Err, eq-eqb, refl, sym, subst, ◌∙◌}
 use Rattle.std.specs.Prelude.{◌-◌, ◌==◌, ◌&&◌, not, nat_lt, nat_le}
 use Rattle.std.specs.List.{AllByRecursion}
@@ -58,7 +59,8 @@ module _ (cells : Cells) where
   abbrev pub AreFileWrites : ℕ → List Write → Type 0
   AreFileWrites k ws = AllByRecursion (FileWrite k) ws
 
-  -- what the call with stamp k changes; with bytes or names for its reply it changes something only where it reads
+  -- what the call with stamp k changes; with bytes or names for its reply it changes something
+  -- only where it reads
   pub data Change (k : ℕ) (reads : Bool) : Outcome → Type 0 where
     no_change : (reply : Reply) → Change k reads (told reply)
     makes : (d : ℕ) (name : List ℕ) → Hangs (parent_of cells) d → entry_of cells d name ≡ None → Change k reads (made k d name)

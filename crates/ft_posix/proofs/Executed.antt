@@ -80,7 +80,8 @@ named-alike cells sound p alike i none =
 
 -- Files.
 
--- The plain tree has the files of the cells, and perhaps some that nothing names; a directory is none of them.
+-- The plain tree has the files of the cells, and perhaps some that nothing names; a directory is
+-- none of them.
 abbrev HasFiles : Cells → PlainTree → Type 0
 HasFiles cells p = (i : ℕ) → (contains_key (tidy cells).dirs i ≡ true → get p.files i ≡ None) × (has_file cells i ≡ true → get p.files i ≡ body_in cells i)
 
@@ -139,7 +140,8 @@ module _ (cells : Cells) (sound : AreSoundCells cells) where
   links-there : (i links : ℕ) → links ≡ links_of cells i → nat_lt 0 links ≡ true → has_file cells i ≡ true
   links-there i links same is = ap (λ b. b || is_open cells.opens i) (sym (ap (nat_lt 0) same) ∙ is)
 
-  -- a file was there, if it was where it has links, and no description names it but those of files that were there
+  -- a file was there, if it was where it has links, and no description names it but those of files
+  -- that were there
   there-before : (new : Cells) (i : ℕ) → (nat_lt 0 (links_of new i) ≡ true → has_file cells i ≡ true) → ((f : ℕ) (o : OpenFile) → open_of new f ≡ Some o → o.file ≡ i → has_file cells i ≡ true) → has_file new i ≡ true → has_file cells i ≡ true
   there-before new i linked each there = by_links (nat_lt 0 (links_of new i)) refl
     where
@@ -219,7 +221,8 @@ module _ (cells : Cells) (sound : AreSoundCells cells) where
               (λ f o is file. subst (λ j. has_file cells j ≡ true) file (was_open f o (sym (ap (λ g. g f) (open-put_all ws cells)) ∙ is))) there)),
         )
 
-  -- Entries, parents and links that are set: no bytes and no description, no directory where none was, and the links of files that were there.
+  -- Entries, parents and links that are set: no bytes and no description, no directory where none
+  -- was, and the links of files that were there.
   module _ (ws : List Write) (new : AreSoundCells (put_all cells ws)) (files : (put_all_plain (tidy cells) ws).files ≡ (tidy cells).files) (bytes : bytes_after (bytes_of cells) ws ≡ bytes_of cells) (opens : open_after (open_of cells) ws ≡ open_of cells)
       (no_dirs : (i : ℕ) → IsNoDir (parent_of cells) i → IsNoDir (parent_of (put_all cells ws)) i) (linked : (i : ℕ) → nat_lt 0 (links_after (links_of cells) ws i) ≡ true → has_file cells i ≡ true) where
     -- a directory was one before

@@ -44,7 +44,8 @@ module _ (cells : Cells) (k : ℕ) (seen : List Cell) where
   abbrev MeetsUpon : {A : Type 0} → Looks A → Type 0
   MeetsUpon s = Each IsMet (looked_at s (view_of cells))
 
-  -- where all that is looked at is seen, the files of it are come upon, and so are those of the writes
+  -- where all that is looked at is seen, the files of it are come upon, and so are those of the
+  -- writes
   abbrev pub GoesUpon : Looks Outcome → Type 0
   GoesUpon s = AreSeen seen (looked_at s (view_of cells)) → MeetsUpon s × AreUpon cells k seen (answer s (view_of cells)).writes
 

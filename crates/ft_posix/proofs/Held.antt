@@ -2,21 +2,17 @@
 use Rattle.std.proofs.Common.{◌≡◌, ◌≢◌, ℕ, true, false, cond, List, ap₂, nat_eq, eqb-true, eq-eqb, ne_eqb, refl, sym, ap, subst, ◌∙◌}
 use Rattle.std.specs.Prelude.{◌==◌}
 use Rattle.std.proofs.lemmas.Bool.{false≢true, and_parts, and_from, false_from_ne_true}
-use Rattle.std.specs.Cmp.{eq_by_cmp_equiv}
 use Rattle.std.specs.Cmp.Lexicographic.{pointwise, bytes_decides}
 use Rattle.ft_cells.specs.Entries.{entry_at}
 use Rattle.ft_cells.specs.declared.cell.Cell.{Cell}
 use Rattle.ft_cells.specs.declared.cell.Cell.TheVariants.{Entry, Names, Parent, Links, Bytes, Fd}
-use Rattle.ft_cells.specs.CellOrder.{cell_cmp_total, same_cell}
+use Rattle.ft_cells.specs.CellOrder.{same_cell, same_cell-refl}
 use Rattle.ft_cells.specs.Cells.{Cells, entry_of, parent_of, links_of, bytes_of, open_of}
 use Rattle.ft_tree.specs.Held.{Holds, held, set_cell}
 use Rattle.ft_posix.specs.Outcomes.{Write}
 use Rattle.ft_posix.specs.Accesses.{written_cell}
 use Rattle.ft_posix.specs.Stored.{put}
 use Rattle.ft_posix.proofs.Puts.{is_place, with_value, entry-put_entry, parent-put_entry, entry-put_parent, parent-put_parent, links-put_links, bytes-put_links, links-put_bytes, bytes-put_bytes, open-put_open}
-
-pub same_cell-refl : (c : Cell) → same_cell c c ≡ true
-same_cell-refl = (eq_by_cmp_equiv cell_cmp_total).refl
 
 -- cells that the test tells apart are different
 pub other_cell : (x y : Cell) → same_cell x y ≡ false → x ≢ y

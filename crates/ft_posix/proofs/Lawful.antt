@@ -27,7 +27,7 @@ use Rattle.ft_cells.specs.declared.node.Node.TheVariants.{Dir as DirNode, File a
 use Rattle.ft_cells.specs.declared.cell.Cell.{Cell}
 use Rattle.ft_cells.specs.declared.cell.Cell.TheVariants.{Entry, Names, Parent, Links, Bytes, Fd}
 use Rattle.ft_cells.specs.declared.open_file.OpenFile.{OpenFile}
-use Rattle.ft_cells.specs.CellOrder.{cell_number, same_cell, overlap, same_cell-is}
+use Rattle.ft_cells.specs.CellOrder.{cell_number, same_cell, overlap, same_cell-refl, same_cell-is}
 use Rattle.ft_cells.specs.Nodes.{number_of}
 use Rattle.ft_cells.specs.Cells.{Cells, FileCells, no_file, file_of as file_cells, stored_dirs, entry_of, links_of, bytes_of, open_of}
 use Rattle.ft_cells.specs.Plain.{view_in, links_in}
@@ -43,7 +43,7 @@ use Rattle.ft_posix.specs.Laws.{SoundnessLaw, FreshnessLaw}
 use Rattle.ft_posix.specs.RunLaws.{WritesLaw, writes_cell}
 use Rattle.ft_tree.specs.Held.{Holds, held, blank, set_cell}
 use Rattle.ft_posix.specs.Posix.{covers, Stamped, as_place, HasSoundValues, file_of, node_names, description_names, names_file, does, posix, posix_calls}
-use Rattle.ft_posix.proofs.Accessed.{in-any, any-in, in-map, map-in, same_cell-refl, looked-accessed, written-accessed, accessed-cases, accessed-written, access}
+use Rattle.ft_posix.proofs.Accessed.{in-any, any-in, in-map, map-in, looked-accessed, written-accessed, accessed-cases, accessed-written, access}
 use Rattle.ft_posix.proofs.Alike.{view-covered, agree-each, same_back, same_free, same_after, tree-values, looked, accesses-alike, does-alike, does-same}
 use Rattle.ft_posix.proofs.Below.{StoredEnough, StepsAlike}
 use Rattle.ft_posix.proofs.Upon.{Sees, sees_entry, sees_open, Upon, CallUpon, EachCallUpon}

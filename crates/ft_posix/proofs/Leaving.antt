@@ -16,7 +16,7 @@ use Rattle.ft_cells.specs.declared.node.Node.{Node}
 use Rattle.ft_cells.specs.declared.cell.Cell.{Cell}
 use Rattle.ft_cells.specs.declared.cell.Cell.TheVariants.{Entry, Names, Parent, Links, Bytes, Fd}
 use Rattle.ft_cells.specs.declared.open_file.OpenFile.{OpenFile}
-use Rattle.ft_cells.specs.CellOrder.{same_cell, same_cell-is}
+use Rattle.ft_cells.specs.CellOrder.{same_cell, same_cell-refl, same_cell-is}
 use Rattle.ft_cells.specs.Cells.{Cells, DirCells, FileCells, no_dir, no_file, dir_of, links_of, is_there, is_open, has_file, put_dir_entry, put_dir_parent, put_entry, put_file}
 use Rattle.ft_tree.specs.Held.{Holds, held, set_cell}
 use Rattle.ft_tree.specs.Sound.{AreSoundCells, IsFree}
@@ -30,7 +30,7 @@ use Rattle.ft_posix.specs.RunLaws.{writes_cell}
 use Rattle.ft_posix.specs.Posix.{covers, Stamped, HasSoundValues, file_of, description_names, names_file, does, posix, posix_calls}
 use Rattle.ft_posix.specs.Leaving.{accesses_cell, IsOfOpenFile, LeavingLaw, UselessLaw}
 use Rattle.ft_posix.proofs.Puts.{is_place, read-put_dir, read-kept}
-use Rattle.ft_posix.proofs.Held.{same_cell-refl, other_cell, place-other, cell_kept}
+use Rattle.ft_posix.proofs.Held.{other_cell, place-other, cell_kept}
 use Rattle.ft_posix.proofs.Opens.{named-open}
 use Rattle.ft_posix.proofs.Lawful.{covers-cases, write-put, writes-noted}
 use Rattle.ft_posix.proofs.Nameless.{nameless}
@@ -258,7 +258,8 @@ touched-accessed (a ∷ f) x i e h = elim (or_cases (covers a.place x) (touch po
 ]
 
 module _ (lawful : Lawful posix_calls) (soundness : SoundnessLaw) where
-  -- a file that was open and is not there any more is touched: its name was let go, and is left nowhere
+  -- a file that was open and is not there any more is touched: its name was let go, and is left
+  -- nowhere
   closed : (s : Cells) (a : Stamped) → AreSoundCells s → IsFree s a.stamp → (c : Cell) → is_useless (put_all s (does s a).writes) c ≡ true → IsOfOpenFile s c → at_place (accesses_cell (does s a).accesses) c ≡ true
   closed s a sound free c h shown =
       let new : Cells = put_all s (does s a).writes in

@@ -1,4 +1,5 @@
--- What stands in a place after one was set; and an entry that leads to a file, taken away, leaves a tree.
+-- What stands in a place after one was set; and an entry that leads to a file, taken away, leaves
+-- a tree.
 use Rattle.std.proofs.Common.{◌≡◌, ◌≢◌, ◌⊎◌, inl, inr, ℕ, Bool, true, false, cond, List, Option, Some, None, refl, sym, ap, ◌∙◌}
 use Rattle.std.proofs.lemmas.Option.{none-some}
 use Rattle.ft_cells.specs.declared.node.Node.{Node}

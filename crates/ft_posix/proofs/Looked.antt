@@ -1,4 +1,5 @@
--- What the calls look at: beside the bytes of files that are named, only what the plain tree shows as the stored cells do.
+-- What the calls look at: beside the bytes of files that are named, only what the plain tree shows
+-- as the stored cells do.
 use Rattle.std.proofs.Common.{◌≡◌, ℕ, zero, suc, ℤ, Bool, true, false, cond, length, List, [], ◌∷◌, Option, Some, None, unwrap_or, Result, Ok, Err, refl, sym}
 use Rattle.std.specs.Prelude.{◌==◌, ◌&&◌, not, nat_le}
 use Rattle.ft_body.specs.declared.TheConstants.{SIZE_LIMIT}
@@ -34,7 +35,8 @@ use Rattle.ft_posix.proofs.Named.{Named, by_entry, by_open}
 use Rattle.ft_posix.proofs.Walked.{IsSpot, EndsWell, walk-ends}
 
 module _ (cells : Cells) where
-  -- the plain tree shows the cell as the stored cells do: of bytes it has those of files that are named alone
+  -- the plain tree shows the cell as the stored cells do: of bytes it has those of files that are
+  -- named alone
   abbrev pub IsShown : Cell → Type 0
   IsShown (Entry entry) = Unit {0}
   IsShown (Names d) = Unit {0}

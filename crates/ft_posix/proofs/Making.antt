@@ -1,4 +1,5 @@
--- A call that leaves the name of its own file writes a cell of this file: else the file would have no place.
+-- A call that leaves the name of its own file writes a cell of this file: else the file would have
+-- no place.
 use Rattle.std.proofs.Common.{◌≡◌, inl, inr, ℕ, true, false, cond, not, ◌==◌, Option, Some, None, IsSome, eqb-true, eq-eqb, ne_eqb, refl, sym, ap, subst, ◌∙◌}
 use Rattle.std.proofs.lemmas.Bool.{false≢true, or_cases}
 use Rattle.std.specs.FinMap.{get}

@@ -21,7 +21,8 @@ tree-moved_file entry parent t d name i e other is empty from =
     tree-unlinked (with_entry entry e other (Some (FileNode i))) parent (tree-created entry parent t e other i empty no_dir.1 no_dir.0 from) d name i
     (entry-kept entry e other (Some (FileNode i)) d name (λ same. none-some (FileNode i) (sym empty ∙ sym same ∙ is)) ∙ is)
 
--- the name leads to the directory i, which is not met on the way up from the directory e of the new place
+-- the name leads to the directory i, which is not met on the way up from the directory e of the
+-- new place
 module _ (entry : ℕ → List ℕ → Option Node) (parent : ℕ → Option ℕ) (t : IsTree entry parent) (d : ℕ) (name : List ℕ) (i e : ℕ) (other : List ℕ) (is : entry d name ≡ Some (DirNode i)) (empty : entry e other ≡ None)
     (clear : Avoids parent i e) where
   abbrev drawn : ℕ → List ℕ → Option Node
@@ -149,7 +150,8 @@ module _ (entry : ℕ → List ℕ → Option Node) (parent : ℕ → Option ℕ
     hangs = λ f p h. hangs' f p (parents f p h);
   }
 
--- where directory j has no entry, it is on no way up but its own: one that avoided i does so without j
+-- where directory j has no entry, it is on no way up but its own: one that avoided i does so
+-- without j
 pub avoids-left : (entry : ℕ → List ℕ → Option Node) (parent : ℕ → Option ℕ) → IsTree entry parent → (j : ℕ) → ((m : List ℕ) → entry j m ≡ None) → (i f : ℕ) → f ≢ j → Avoids parent i f → Avoids (with_parent parent j None) i f
 avoids-left entry parent t j bare i _ apart (at_root differ) = at_root differ
 avoids-left entry parent t j bare i _ apart (not_here f p differ h up) =

@@ -1,4 +1,5 @@
--- The parents that are found among the edges of sound cells, and which numbers are directories there.
+-- The parents that are found among the edges of sound cells, and which numbers are directories
+-- there.
 use Rattle.std.proofs.Common.{◌≡◌, ℕ, Bool, true, false, cond, ◌||◌, List, [], ◌∷◌, Option, Some, None, is_some, eqb-true, eq-eqb, ne_eqb, refl, sym, ap, subst, ◌∙◌, ◌⊎◌, inl, inr, ⊎_elim}
 use Rattle.std.specs.Prelude.{◌==◌}
 use Rattle.std.proofs.lemmas.Bool.{false≢true}

@@ -69,7 +69,8 @@ put-again c m there d (a ∷ more) given found =
       | Greater ↦ λ h is. ap (λ es. (a.cell, a.mode) ∷ es) (put-again c m there d more h is)
     ] given found
 
--- a list in order, with one cell more or one of them accessed in another way, is the map with that cell put in
+-- a list in order, with one cell more or one of them accessed in another way, is the map with that
+-- cell put in
 pub noted-map : (c : Cell) (m : Mode) (old new : List Access) → AreInOrder old → as_entries new ≡ finite.put cell_cmp c m (as_entries old)
     → AreInOrder new × (map_of new ≡ finite.insert (map_of old) c m)
 noted-map c m old new order is =

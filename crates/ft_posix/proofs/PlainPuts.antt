@@ -1,4 +1,5 @@
--- To set a cell and then tidy is to tidy and then set it in the plain tree; but files that nothing names any more are still in the plain tree then.
+-- To set a cell and then tidy is to tidy and then set it in the plain tree; but files that nothing
+-- names any more are still in the plain tree then.
 use Rattle.std.proofs.Common.{◌≡◌, ℕ, Bool, true, false, cond, not, ◌&&◌, ◌||◌, List, [], ◌∷◌, Option, Some, None, is_some, eqb-true, refl, sym, ap, ◌∙◌}
 use Rattle.std.specs.Prelude.{◌==◌}
 use Rattle.std.proofs.lemmas.Map.Lookups.{exact_unsigned}

@@ -100,7 +100,8 @@ module _ (i d e : ℕ) where
       by_dir true at = λ x f. by_number (eqb-true d e at) f (f == i) refl x
       by_dir false at = refl
 
--- Where a directory is moved the cells are sound, no number is named that was not, and what was no directory is none.
+-- Where a directory is moved the cells are sound, no number is named that was not, and what was no
+-- directory is none.
 
 pub sound-moves_dir : (old new : Cells) (d : ℕ) (name : List ℕ) (i e : ℕ) (other : List ℕ) → Moves old new d name (DirNode i) e other (with_parent (parent_of old) i (Some e)) → AreSoundCells old → Avoids (parent_of old) i e → AreSoundCells new
 sound-moves_dir old new d name i e other m sound clear =

@@ -101,7 +101,8 @@ module _ (cells : Cells) (sound : AreSoundCells cells) (d : ℕ) (name : List �
       free-after cells unlinked_writes j too.above_root (no_parent too) (value-other (links_of cells) i (links_of cells i - 1) j other ∙ (no_links too)) (no_bytes too) (no_open too)
       (entries-apart cells d name None j too (λ x h. absurd (none-some x h))) (no_file too)
 
--- The new cells have what the old ones have, but that one entry is moved to an empty place, and the parents are these.
+-- The new cells have what the old ones have, but that one entry is moved to an empty place, and
+-- the parents are these.
 pub record Moves (old new : Cells) (d : ℕ) (name : List ℕ) (x : Node) (e : ℕ) (other : List ℕ) (parent : ℕ → Option ℕ) : Type 0 where
   pub was : entry_of old d name ≡ Some x
   pub empty : entry_of old e other ≡ None

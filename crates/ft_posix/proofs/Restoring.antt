@@ -1,4 +1,5 @@
--- A cell that was set and is taken back, its place too where that was new, leaves the cells as they were.
+-- A cell that was set and is taken back, its place too where that was new, leaves the cells as
+-- they were.
 use Rattle.std.proofs.Common.{◌≡◌, ℕ, Bool, true, false, cond, Option, None, Some, IsSome, unwrap_or, nat_cmp, Ordering, refl, sym, ap, subst, eq-eqb, ◌∙◌}
 use Rattle.std.proofs.lemmas.Bool.{false≢true}
 use Rattle.std.proofs.lemmas.Option.{none-some, same_Some}

@@ -114,7 +114,8 @@ module _ (cells : Cells) (sound : AreSoundCells cells) where
   all-shown [] shown = tt
   all-shown (c ∷ cs) shown = (sym (cell-shown c shown.0), all-shown cs shown.1)
 
-  -- so a call comes to the same on the plain tree as on the cells: the directories of either are enough
+  -- so a call comes to the same on the plain tree as on the cells: the directories of either are
+  -- enough
   pub outcome-shown : (k : ℕ) (call : Call) → answer (steps (len (tidy cells).dirs) k call) (view_in (tidy cells)) ≡ outcome cells k call
   outcome-shown k call =
       let n = len (tidy cells).dirs in

@@ -102,7 +102,8 @@ module _ (cells : Cells) (k : ℕ) (seen : List Cell) where
   abbrev pub MayGo : List Write → ℕ → Type 0
   MayGo all i = In (Links i) seen ⊎ IsLeft cells all i
 
-  -- one of all writes of a call: the file of its cell is come upon, and so is one that it names, and one that its cell named before may go
+  -- one of all writes of a call: the file of its cell is come upon, and so is one that it names,
+  -- and one that its cell named before may go
   pub data IsUpon (all : List Write) : Write → Type 0 where
     upon_entry : (d : ℕ) (name : List ℕ) (to : Option Node) → ((i : ℕ) → node_names to i ≡ true → Upon cells k seen i)
         → ((i : ℕ) → node_names (entry_of cells d name) i ≡ true → node_names to i ≡ false → MayGo all i) → IsUpon all (sets (Entry (entry_at d name)) to)

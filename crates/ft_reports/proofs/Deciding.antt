@@ -1,4 +1,5 @@
--- A derived `==` decides whether two values of an enum are the same, where the `==` of each field does.
+-- A derived `==` decides whether two values of an enum are the same, where the `==` of each field
+-- does.
 use Rattle.std.proofs.Common.{◌≡◌, Bool, true, false, ◌&&◌, List, [], ◌∷◌, Decides, refl, ap}
 use Rattle.std.proofs.lemmas.Bool.{false≢true}
 use Rattle.std.proofs.lemmas.Bool.Decides.{Decides-and}

@@ -1,4 +1,5 @@
--- What a function f makes of the elements of a list xs, against a list ys: of the first i of xs it makes the first `made` of ys.
+-- What a function f makes of the elements of a list xs, against a list ys: of the first i of xs it
+-- makes the first `made` of ys.
 use Rattle.std.proofs.Common.{◌≡◌, ℕ, zero, suc, ◌+◌, ◌<◌, ◌≤◌, List, [], ◌∷◌, ◌++◌, length, take, drop, Option, Some, None, sym, ap, ◌∙◌, arith, append-nil, subst}
 use Rattle.std.proofs.lemmas.List.{take_all, drop_all}
 use Rattle.std.proofs.lemmas.Option.{slice_get-get_or}

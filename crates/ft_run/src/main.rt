@@ -1,8 +1,8 @@
 //! The program `ft_run`: `ft_run play` runs a script of transactions on a tree of directories, from
 //! standard input to standard output; `ft_run dot` draws the last report on who waits for whom
 //! among the replies that such a run wrote; `ft_run jobs FILE` runs the jobs of a plan in threads,
-//! and prints what they came to; `ft_run load DIR` writes a script that makes what a directory holds,
-//! and `ft_run save DIR` makes a directory of the last tree among replies.
+//! and prints what they came to; `ft_run load DIR` writes a script that makes what a directory
+//! holds, and `ft_run save DIR` makes a directory of the last tree among replies.
 //!
 //! It ends with status 0, also after a help text, with 1 after a fault, of which a line
 //! `fault: NAME` tells on standard error, and with 2 where the command line asks for nothing that
@@ -139,8 +139,8 @@ fn save_dir(rt: &HostRuntime, dir: &str, quiet: bool) -> u8 {
     save_status(alloc, &mut rt.stdin(), &mut target, &mut rt.stderr())
 }
 
-// A core that grants calls by this rule, on which the script in a file was played first, if there is
-// one. Where that could not be, it was told, and the status to end with is answered.
+// A core that grants calls by this rule, on which the script in a file was played first, if there
+// is one. Where that could not be, it was told, and the status to end with is answered.
 fn core_for(rt: &HostRuntime, rule: Rule, after: Option<String>) -> Result<Core, u8>
     ensures { IfOk result (λ core. NoneIsLive core.state) }
 {

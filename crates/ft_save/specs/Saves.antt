@@ -45,7 +45,8 @@ module _ {T : Type 0} (does : T → Asked → T → Type 0) (fails : T → Asked
   StopsRows NoTree rows old new = ⊥
   StopsRows (Stopped stopped) rows old new = StopsCopy (Tells rows) does fails stopped old new
 
-  -- Nothing was saved: no report was found, and the target was asked for nothing; or the tree that it tells of was not copied.
+  -- Nothing was saved: no report was found, and the target was asked for nothing; or the tree that
+  -- it tells of was not copied.
   abbrev pub StopsSave : SaveFault → Option (List ℕ) → Option (List ℕ) → T → T → Type 0
   StopsSave fault left left_after old new =
       (FindsNone fault left left_after × (new ≡ old)) ⊎ ((rows : List Row) × IsLast left left_after rows × StopsRows fault rows old new)

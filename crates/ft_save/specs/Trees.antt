@@ -60,7 +60,8 @@ has_more rows node = unwrap_or (named_in rows node) false
 abbrev pub file_facts : ℕ → Bool → List ℕ → FileFacts
 file_facts node more bytes = record { id = record { device = 0; number = node }; links = if more then MOST_LINKS else 1; size = length bytes }
 
--- A directory has a row of its own and one name at most, and is not the root. So no directory is in itself, or in two places.
+-- A directory has a row of its own and one name at most, and is not the root. So no directory is
+-- in itself, or in two places.
 abbrev pub IsPlainFolder : List Row → ℕ → Type 0
 IsPlainFolder rows node = (is_folder rows node ≡ true) × (has_more rows node ≡ false) × ((node == ROOT) ≡ false)
 

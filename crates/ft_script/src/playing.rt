@@ -76,16 +76,14 @@ impl From<AllocError> for PlayFault {
 /// A fault ends the run early. All lines before the one at which it came were taken, and their
 /// replies written whole; no later line was taken.
 /// - Memory: there was none for a line or for the text of a reply, of which nothing was written.
-///   The line was carried out
-///   or not. (Want of memory in a request or for what a report tells of is a refusal, and is replied.)
+///   The line was carried out or not. (Want of memory in a request or for what a report tells of
+///   is a refusal, and is replied.)
 /// - Read: a read failed. A line that had not ended was not taken.
 /// - Write: a write failed, was interrupted or took nothing. The line was carried out, and its
-///   reply was not written, or
-///   a part of it.
+///   reply was not written, or a part of it.
 /// - TooLong: a line has more than `LONGEST_LINE` bytes. It was not taken.
 /// - Turns: `MOST_READS` reads did not reach the end. An interrupted read counts, and is tried
-///   again. A line that had not
-///   ended was not taken.
+///   again. A line that had not ended was not taken.
 pub fn play<R: Read, W: Write>(
     alloc: Global,
     reader: &mut R,

@@ -31,7 +31,8 @@ use Rattle.ft_serial.specs.Serials.{stamped}
 use Rattle.ft_serial.specs.Walks.{call_of, is_open_call, option_list, IsWalk}
 use Rattle.ft_serial.proofs.Listing.{granted_in, grants-are, granted-at, take-next}
 
--- the calls among these events that stand in the history, and whose top-level transaction has not committed there
+-- the calls among these events that stand in the history, and whose top-level transaction has not
+-- committed there
 abbrev pub open_in : History → List Event → List Granted
 open_in h events = passing (λ c. not (is_committed posix_calls h (root_of posix_calls h c))) (passing (is_standing posix_calls h) (granted_in events))
 

@@ -1,5 +1,5 @@
--- A session may go from thread to thread. The check finds this of a type by itself, but not of one that holds a snapshot, which
--- has no bytes, nor of what such a type stands in.
+-- A session may go from thread to thread. The check finds this of a type by itself, but not of one
+-- that holds a snapshot, which has no bytes, nor of what such a type stands in.
 use denote.Param.Send.{IsSend, sendable}
 use Rattle.std.proofs.Crossing.{crosses}
 use Rattle.ft_core.proofs.Crossing.{Core-send}

@@ -1,5 +1,6 @@
--- A core may go from thread to thread, and threads may share one that stands behind a lock. The check finds this of a type by
--- itself, but not of one that holds a snapshot, which has no bytes, nor of what such a type stands in.
+-- A core may go from thread to thread, and threads may share one that stands behind a lock. The
+-- check finds this of a type by itself, but not of one that holds a snapshot, which has no bytes,
+-- nor of what such a type stands in.
 use denote.RattleType.{RattleType}
 use denote.Param.Send.{IsSend, IsSync, sendable}
 use Rattle.std.proofs.Crossing.{crosses}

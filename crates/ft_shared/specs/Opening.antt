@@ -36,3 +36,9 @@ named_by o = record { book = o.book; base = o.core.state.base.tree }
 abbrev pub IsRefused : State → Cause → Type 0
 IsRefused s (FaultCause fault) = (fault ≡ Live) × SomeIsLive s
 IsRefused s (ViewCause fault) = (fault ≡ Memory) × NoneIsLive s
+
+-- Why views get no name: there was no memory, or no place for the reader. Nothing of the core
+-- stands in the way any more.
+abbrev pub IsNameless : Cause → Type 0
+IsNameless (FaultCause fault) = ⊥
+IsNameless (ViewCause fault) = Unit {0}

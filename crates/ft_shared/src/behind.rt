@@ -70,7 +70,7 @@ impl<J: Naming> Behind<J> {
         &self.core
     }
 
-    /// What is true whenever the lock is got: the core is in a state that legal requests lead to,
+    /// What is true whenever the lock is got: the history of the core is legal, from a sound base,
     /// and what is published is a beginning of the committed part of its serial list. It does
     /// nothing.
     pub fn stands(&self)

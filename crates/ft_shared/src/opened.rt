@@ -1,7 +1,7 @@
 // Views that were opened.
 ghost use Rattle.std.specs.Prelude.{◌≡◌, [], IfOk, IfErr, MatchResult};
 ghost use Rattle.ft_core.specs.Living.{NoneIsLive};
-ghost use Rattle.ft_shared.specs.Opening.{named_by, IsOpened, IsRefused};
+ghost use Rattle.ft_shared.specs.Opening.{named_by, IsOpened, IsRefused, IsNameless};
 
 use crate::behind::Behind;
 use crate::publisher::{Blank, Publisher};
@@ -91,7 +91,7 @@ impl Opened {
     pub fn named<J: Naming, R: Wait>(self, rt: &R) -> Result<(Shared<J>, Reader<J>), ViewsRefused>
         requires { named_by self ≡ J.opened }
         ensures reader { IfOk result (λ named. named.1 ≡ []) }
-        ensures refused { IfErr result (λ refused. refused.core ≡ self.core) }
+        ensures refused { IfErr result (λ refused. (refused.core ≡ self.core) × IsNameless refused.cause) }
     {
         let Opened { core, blank } = self;
         let alloc = core.alloc();

@@ -32,8 +32,8 @@ pub const MOST_PAUSE: u64 = 5;
 /// abort that is not refused also sweeps, in the same holding, what it has let go. What stands
 /// behind the lock is a `Core`: whenever the lock is got, its history is a legal one from a sound
 /// base, and its tree is what a plain tree holds after the standing calls alone. Which core it was,
-/// no clause can say: each says that the answer is a legal one of some core in some state that a
-/// core can come to. No clause says that a call returns.
+/// no clause can say: each says that the answer is a legal one of some core, of which holds what
+/// is true of every core. No clause says that a call returns.
 pub struct Shared<J: Naming = Brand> {
     behind: Mutex<Behind<J>>,
     // For copies of calls, which are made before the lock is got.
@@ -300,7 +300,7 @@ impl<J: Naming> Shared<J> {
         behind.into_inner().end(rt)
     }
 
-    /// Gets the lock. The core that stands there is in a state that legal requests lead to.
+    /// Gets the lock. The history of the core that stands there is legal, from a sound base.
     fn held<R: Wait>(&self, rt: &R) -> MutexGuard<'_, Behind<J>>
         ensures { IsReached (mutex_guard_value result).core }
     {

@@ -75,9 +75,9 @@ pub fn dot_status<R: Read, W: Write, E: Write>(
 }
 
 /// Runs the jobs of a plan on a core where no transaction is live, and answers the status to end
-/// with: 0, or 1 after a fault, of which a line tells on `errors`. Where that line can't be written,
-/// the status is the same. How far the jobs have come is shown on a screen while they run, if there
-/// is one.
+/// with: 0, or 1 after a fault, of which a line tells on `errors`. Where that line can't be
+/// written, the status is the same. How far the jobs have come is shown on a screen while they run,
+/// if there is one.
 pub fn jobs_status<R: Threads + Wait + Clock + Sync, S: Write + Send + Drop, W: Write, E: Write>(
     rt: &R,
     alloc: Global,

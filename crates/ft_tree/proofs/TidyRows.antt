@@ -1,4 +1,5 @@
--- The rows of a tidied tree are those of the stored directories, files and descriptions, in their order.
+-- The rows of a tidied tree are those of the stored directories, files and descriptions, in their
+-- order.
 use Rattle.std.proofs.Common.{◌≡◌, ℕ, Bool, true, false, cond, List, [], ◌∷◌, ◌++◌, map, filter, Option, Some, None, Ordering, refl, sym, ap, subst}
 use Rattle.std.specs.Prelude.{T}
 use Rattle.std.specs.declared.cmp.Ordering.TheVariants.{Less, Equal, Greater}

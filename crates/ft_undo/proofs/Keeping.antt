@@ -1,4 +1,5 @@
--- A call that is kept in a log: an empty undo is put in front of its transaction's list, and filled there.
+-- A call that is kept in a log: an empty undo is put in front of its transaction's list, and
+-- filled there.
 use Rattle.std.proofs.Common.{◌≡◌, ◌≢◌, ℕ, true, ◌∷◌, drop, slice_get, Option, Some, None, IsSome, refl, sym, ap, subst, ◌∙◌}
 use Rattle.std.proofs.lemmas.Bool.{false≢true}
 use Rattle.std.specs.Option.{unwrap_or, option_copied_mut}

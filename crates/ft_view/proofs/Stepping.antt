@@ -17,7 +17,8 @@ left_at xs i x less is =
     let next : suc i ≡ i + 1 = omega arith in
     subst (λ (j : ℕ). drop i xs ≡ x ∷ drop j xs) next (drop-cons xs i x less ∙ ap (λ (y : StampedCall). y ∷ drop (suc i) xs) (sym is))
 
--- What is true between two calls of a replay, of which these are left, and these replies were given.
+-- What is true between two calls of a replay, of which these are left, and these replies were
+-- given.
 pub record IsReplaying (base : PlainTree) (calls : List StampedCall) (cells : Cells) (left : List StampedCall) (replies : List Reply) : Type 0 where
   pub sound : AreSoundCells cells
   pub free : Each (λ call. IsFree cells call.stamp) left

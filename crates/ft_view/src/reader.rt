@@ -22,13 +22,13 @@ use thiserror::Error;
 pub enum ViewFault {
     /// There was no memory.
     #[error("Memory")]
-    Memory,
+    Memory = 1,
     /// There was no place for one more reader, or the views are published no more.
     ///
     /// It is also the answer of a view that is older than what the reader knows. There is none: a
     /// list is published before a receipt of it is given out, and never taken back.
     #[error("NoReader")]
-    NoReader,
+    NoReader = 2,
 }
 
 impl From<Memory> for ViewFault {

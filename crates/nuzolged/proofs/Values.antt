@@ -1,4 +1,5 @@
--- The machine value of a handle: a pointer, and the allocator. A loose box has the same one. Assumes `Logic`.
+-- The machine value of a handle: a pointer, and the allocator. A loose box has the same one.
+-- Assumes `Logic`.
 use Rattle.std.proofs.Common.{◌≡◌, List, [], ◌∷◌, ◌++◌, refl, subst, Option, T, ◌&&◌, true, lit<}
 use seplogic.Ra.Ura.{Ura}
 use mir.Syntax.{impl, tnil, dnil, ty_ptr}

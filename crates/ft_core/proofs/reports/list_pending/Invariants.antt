@@ -6,7 +6,8 @@ use Rattle.ft_laws.specs.Lists.{Each}
 use Rattle.ft_core.specs.Reports.{HasRisingBlockers, waits_from, as_wait}
 use Rattle.ft_core.proofs.reports.list_pending.Given as goal
 
--- what is listed so far and the asks left are all, and what is listed has its blockers in rising order if what was there has
+-- what is listed so far and the asks left are all, and what is listed has its blockers in rising
+-- order if what was there has
 abbrev pub invariant-loop-txn : goal.invariant-loop-txn
 invariant-loop-txn l =
     (goal.iterator-loop-txn).can_next l.txn-iterator × (goal.iterator-loop-txn).is_finite l.txn-iterator

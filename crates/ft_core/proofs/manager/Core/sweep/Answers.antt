@@ -1,8 +1,10 @@
 use Rattle.std.proofs.Common.{sym, ap, subst}
 use Rattle.ft_moss.specs.Locks.{LockTable}
+use Rattle.ft_core.specs.States.{State}
 use Rattle.ft_core.specs.Journals.{state_of}
 use Rattle.ft_core.specs.Living.{NoneIsLive}
-use Rattle.ft_core.proofs.Accounts.{none-useless}
+use Rattle.ft_core.specs.Sweeps.{EachUselessIsLocked}
+use Rattle.ft_core.proofs.Accounts.{none-useless, useless-locked}
 use Rattle.ft_core.proofs.Gathered.{state-is}
 use Rattle.ft_core.proofs.Known.{call_laws, lock_laws}
 use Rattle.ft_core.proofs.Sweeps.{core-swept, nobody-locks}
@@ -19,3 +21,10 @@ returns-clause-none_left c = λ none.
     let i = c.self.inside in
     let core = c.self.invariant in
     none-useless i.parts.locks c.sweep.new.self (nobody-locks call_laws lock_laws (state_of i.parts.forest i.journal) i.parts i.journal core (subst NoneIsLive (sym (state-is c.self.view_is)) none)) (c.sweep.ensures.none_left core.accounted)
+
+pub returns-clause-locked : goal.returns-clause-locked
+returns-clause-locked c =
+    let i = c.self.inside in
+    let core = c.self.invariant in
+    subst (λ (s : State). EachUselessIsLocked s c.sweep.new.self) (state-is c.self.view_is)
+    (useless-locked lock_laws (state_of i.parts.forest i.journal) i.parts.locks c.sweep.new.self core.locks (c.sweep.ensures.none_left core.accounted))
