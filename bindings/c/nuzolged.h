@@ -58,7 +58,7 @@ typedef struct nuz_answer {
  * 0          The request was carried out; a call was granted, and has its stamp.
  * 1 to 75    An errno, as Linux numbers them (errno.h). The call was granted, has its stamp,
  *            failed, and changed nothing. Only calls answer one.
- * 1001 on    The request is refused. Nothing has changed.
+ * 1001-1010  The request is refused. Nothing has changed.
  * 1100       NUZ_WAITS. The call waits for transactions, which nuz_blocker tells. It is kept:
  *            nuz_retry makes it, and nuz_drop forgets it; a further call replaces it.
  * 1200       NUZ_CLOSED. The handle holds no tree. Nothing has changed.
