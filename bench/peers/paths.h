@@ -1,0 +1,13 @@
+/* Paths, name by name. */
+#ifndef PATHS_H
+#define PATHS_H
+
+#include "play.h"
+
+/* Takes the next name of a path, or answers false where there is none left. */
+bool next_name(struct bytes *path, struct bytes *name);
+
+/* How many dots a name is: 1 or 2, and 0 where it is a name like others. */
+int dots(struct bytes name);
+
+#endif
