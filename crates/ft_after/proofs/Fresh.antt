@@ -22,6 +22,10 @@ no_fate false fate h = refl
 pub none_is_live : (rule : Rule) (base : Base) → NoneIsLive (at_base rule base)
 none_is_live rule base live = false≢true (sym (no_fate (nat_lt base.last_txn live.0 && nat_le live.0 base.last_txn) _ (nothing_between base.last_txn live.0)) ∙ ap is_live live.1)
 
+-- nothing has happened since its base
+pub at_its_base : (s : State) (rule : Rule) (base : Base) → s ≡ at_base rule base → s ≡ at_base s.rule s.base
+at_its_base s rule base is = is ∙ (λ i. at_base (sym is i).rule (sym is i).base)
+
 pub none_is_live_at : (s : State) (rule : Rule) (base : Base) → s ≡ at_base rule base → NoneIsLive s
 none_is_live_at s rule base is = subst (λ (t : State). NoneIsLive t) (sym is) (none_is_live rule base)
 

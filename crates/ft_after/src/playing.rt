@@ -18,6 +18,7 @@ use std::alloc::Global;
 pub fn core_after(alloc: Global, rule: Rule, script: Option<&[u8]>) -> Result<Core, AfterFault>
     ensures state { IfOk result (λ core. Begins rule (option_copied script.entry) core.state) }
     ensures none_live { IfOk result (λ core. NoneIsLive core.state) }
+    ensures base { IfOk result (λ core. core.state ≡ at_base core.state.rule core.state.base) }
     ensures fault { IfErr result (λ fault. StopsBegin fault rule (option_copied script.entry)) }
 {
     let Ok(mut core) = Core::with_rule(alloc, rule) else {

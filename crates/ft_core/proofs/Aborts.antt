@@ -1,6 +1,6 @@
 -- An abort on its way: each live transaction at or below it is taken back and ended, before its
 -- parent.
-use Rattle.std.proofs.Common.{◌≡◌, ◌≢◌, ◌<◌, ◌≤◌, ◌+◌, ◌==◌, ◌&&◌, ◌||◌, ℕ, Bool, true, false, not, cond, List, [], ◌∷◌, Option, Some, None, is_some, inl, inr, length, arith, refl, sym, ap, subst, ◌∙◌, eq-eqb, ne_eqb}
+use Rattle.std.proofs.Common.{◌≡◌, ◌≢◌, ◌≤◌, ◌+◌, ◌==◌, ◌&&◌, ◌||◌, ℕ, Bool, true, false, not, cond, List, [], ◌∷◌, Option, Some, None, is_some, inl, inr, length, arith, refl, sym, ap, subst, ◌∙◌, eq-eqb, ne_eqb}
 use Rattle.std.proofs.lemmas.Bool.{false≢true, and_parts}
 use Rattle.std.specs.Ordering.{nat_cmp}
 use Rattle.std.specs.Cmp.{nat_cmp_total}
@@ -42,7 +42,7 @@ use Rattle.ft_core.specs.Kept.{Item, ArePlaced, AreLogged, AreLogs, IsCoreAt, Is
 use Rattle.ft_core.specs.Laws.{CallLaws, LockLaws}
 use Rattle.ft_core.specs.Taking.{taken_back, CanTakeBack}
 use Rattle.ft_core.proofs.Accounts.{still-accounted}
-use Rattle.ft_core.proofs.Ends.{named, kept-ending, events-abort, same-live, live-in, not-live-in, fate-live}
+use Rattle.ft_core.proofs.Ends.{named, kept-ending, same-live, live-in, not-live-in, fate-live}
 use Rattle.ft_core.proofs.Joining.{start, values}
 use Rattle.ft_core.proofs.Lists.{IsTaking, IsListTaken, list-taken}
 use Rattle.ft_core.proofs.Noted.{removed-same, removed-other, opened-other, open-other}
@@ -121,13 +121,6 @@ module _ (W : CallLaws) (K : LockLaws) {base : Base} {h : History} {asks : Asks}
       no-ask : {A : Type 0} (o : Option A) → (is_some o ≡ true → ⊥) → o ≡ None
       no-ask None never = refl
       no-ask (Some x) never = absurd (never refl)
-
-  -- there is a place for the event
-  pub place-abort : 0 < j₀.spare
-  place-abort =
-      let fewer = events-abort W core.kept t live in
-      let le = core.spare in
-      omega arith
 
   module _ {m : ℕ} {cells : Cells} {forest : Transactions} {table : LockTable} {lists : Lists Logged} {j : Journaled} (way : IsOnWay m cells forest table lists j) where
     parents : (x : ℕ) → parent_in forest x ≡ parent posix_calls h x
@@ -326,12 +319,6 @@ module _ (W : CallLaws) (K : LockLaws) {base : Base} {h : History} {asks : Asks}
         waiting = λ x some. by_test (is_live_in (state_in forest x))
             (λ e. sym (fates-are x) ∙ ap fate_in (live-in (state_in forest x) e))
             (λ e. absurd (false≢true (sym (ap is_some (way.asks_ended x e)) ∙ some)));
-        spare =
-            let fewer = events-abort W core.kept t live in
-            let le = core.spare in
-            let same = ap (λ (q : Journaled). q.spare) told in
-            let kept = ap (λ (q : Journaled). q.spare) way.journal in
-            omega arith;
         accounted = way.accounted;
       }
         where

@@ -55,7 +55,7 @@ module _ (W : CallLaws) (K : LockLaws) (p : Parts) (j : Journaled) (core : IsCor
       let count : j.last_stamp - j.base_stamp ≡ length (grants posix_calls (history s)) = omega arith in
       (λ i. nat_le MOST_CALLS (count i) || nat_le LAST_NUMBER j.last_stamp)
 
-  touched-now : (call : Call) → accesses_of p.tree (next_stamp s) call ≡ accesses_now s call
+  pub touched-now : (call : Call) → accesses_of p.tree (next_stamp s) call ≡ accesses_now s call
   touched-now call = accesses-are W core.kept (next_stamp s) call
 
   -- who is in the way by the table is so by the rule
@@ -65,13 +65,12 @@ module _ (W : CallLaws) (K : LockLaws) (p : Parts) (j : Journaled) (core : IsCor
       ∙ ap (exact_rule s t) (touched ∙ touched-now call)
 
   -- nothing has changed but places
-  pub core-unmade : (p' : Parts) (j' : Journaled) → IsUnmade p p' → j' ≡ record j { room = j'.room } → IsCoreOf (state_of p'.forest j') p' j'
+  pub core-unmade : (p' : Parts) (j' : Journaled) → IsUnmade p p' → j' ≡ j → IsCoreOf (state_of p'.forest j') p' j'
   core-unmade p' j' un is =
-      let q : Journaled = record j { room = j'.room } in
-      let same : IsCoreOf s (record p { logs = p'.logs }) q =
-      core-opened W K core p.locks p'.logs q (record { journal = refl; subs = λ t ne. refl; locks = refl; opened = λ t e. e; listed = un.listed; open_still = λ t e. un.open_still t ∙ e }) in
+      let same : IsCoreOf s (record p { logs = p'.logs }) j =
+      core-opened W K core p.locks p'.logs j (record { journal = refl; subs = λ t ne. refl; locks = refl; opened = λ t e. e; listed = un.listed; open_still = λ t e. un.open_still t ∙ e }) in
       let whole : p' ≡ record p { logs = p'.logs } = λ i. record { tree = un.cells i; forest = un.forest i; locks = un.locks i; logs = p'.logs } in
-      subst (λ (r : Journaled). IsCoreOf (state_of p'.forest r) p' r) (sym is) (subst (λ (r : Parts). IsCoreOf (state_of r.forest q) r q) (sym whole) same)
+      subst (λ (r : Journaled). IsCoreOf (state_of p'.forest r) p' r) (sym is) (subst (λ (r : Parts). IsCoreOf (state_of r.forest j) r j) (sym whole) same)
 
   pub record IsGranted (t : ℕ) (call : Call) (reply : Reply) (p' : Parts) (j' : Journaled) : Type 0 where
     pub asked : IsAsked exact_rule s t call (Granted (next_stamp s) reply) (state_of p'.forest j')
@@ -79,16 +78,16 @@ module _ (W : CallLaws) (K : LockLaws) (p : Parts) (j : Journaled) (core : IsCor
 
   -- a call is granted and made
   pub core-called : (t : ℕ) (call : Call) (reply : Reply) (accesses : List Access) → fate_of s t ≡ Some Live → is_full j ≡ false → accesses ≡ accesses_of p.tree (next_stamp s) call → reply ≡ (outcome p.tree (next_stamp s) call).reply → AreBlockers s.rule p.locks p.forest t accesses []
-      → (p' : Parts) → IsMadeOn p p' (outcome p.tree (next_stamp s) call).writes t (next_stamp s) accesses → (j' : Journaled) (room : ℕ) → j' ≡ with_call (record j { room = room }) t call reply accesses → IsGranted t call reply p' j'
-  core-called t call reply accesses live few touched answered are p' made j' room is =
+      → (p' : Parts) → IsMadeOn p p' (outcome p.tree (next_stamp s) call).writes t (next_stamp s) accesses → (j' : Journaled) → j' ≡ with_call j t call reply accesses → IsGranted t call reply p' j'
+  core-called t call reply accesses live few touched answered are p' made j' is =
       let none : exact_rule s t (accesses_now s call) ≡ [] = sym (blocked t call accesses [] touched are) in
       let told : reply ≡ reply_of s call = answered ∙ reply-is W core.kept (next_stamp s) call (omega arith) in
       let seen : accesses ≡ accesses_now s call = touched ∙ touched-now call in
       let state : state_of p'.forest j' ≡ after_grant s t call = (λ i. state_of (made.forest i) (is i)) ∙ (λ i. after_call s t call (told i) (seen i)) in
-      let q : Journaled = with_call (record j { room = room }) t call reply accesses in
+      let q : Journaled = with_call j t call reply accesses in
       let at = core-granted W K core t call reply accesses (next_stamp s) refl (one-more j few) live touched answered
       (K.foreign (start W core.kept) (values W core.kept) (history s) core.kept.core.legal s.rule t (map as_place accesses) (ap (exact_rule s t) seen ∙ none)) p' made (finite.remove s.asks t)
-      (dropped core t) are q refl refl refl in
+      (dropped core t) are q refl refl in
       let whole : IsCoreOf (state_of p.forest q) (record p' { forest = p.forest }) q =
       subst (λ h. IsCoreAt s.base h (finite.remove s.asks t) s.last_txn (next_stamp s) p'.tree p.forest p'.locks p'.logs q) (sym (told-push s.events (CallEvent (next_stamp s) t call reply accesses))) at in
       record {
@@ -98,19 +97,19 @@ module _ (W : CallLaws) (K : LockLaws) (p : Parts) (j : Journaled) (core : IsCor
 
   -- a call that was tried and made is granted
   pub core-made : (t : ℕ) (call : Call) → fate_of s t ≡ Some Live → is_full j ≡ false → (stamp : ℕ) → stamp ≡ next_stamp s → (p' : Parts) (made : Made) → IsMade s.rule p p' t stamp call made
-      → (j1 j' : Journaled) → j1 ≡ record j { room = j1.room } → j' ≡ with_call j1 t call made.kept made.accesses.items → IsGranted t call made.kept p' j'
-  core-made t call live few stamp next p' made is j1 j' reserved told =
-      core-called t call made.kept made.accesses.items live few (is.accesses ∙ ap (λ n. accesses_of p.tree n call) next) (is.reply ∙ ap (λ n. (outcome p.tree n call).reply) next)
+      → (j' : Journaled) → j' ≡ with_call j t call made.reply made.accesses.items → IsGranted t call made.reply p' j'
+  core-made t call live few stamp next p' made is j' told =
+      core-called t call made.reply made.accesses.items live few (is.accesses ∙ ap (λ n. accesses_of p.tree n call) next) (is.reply ∙ ap (λ n. (outcome p.tree n call).reply) next)
       (subst (λ xs. AreBlockers s.rule p.locks p.forest t xs []) (sym is.accesses) is.free) p'
       (subst (λ n. IsMadeOn p p' (outcome p.tree n call).writes t n made.accesses.items) next
       (subst (IsMadeOn p p' (outcome p.tree stamp call).writes t stamp) (sym is.accesses) is.made_on))
-      j' j1.room (told ∙ ap (λ (q : Journaled). with_call q t call made.kept made.accesses.items) reserved)
+      j' told
 
-  asked-now : (now : State) → s ≡ now → (t : ℕ) (call : Call) (stamp : ℕ) → stamp ≡ next_stamp s → (reply kept : Reply) → reply ≡ kept → (p' : Parts) (j' : Journaled) → IsGranted t call kept p' j'
+  asked-now : (now : State) → s ≡ now → (t : ℕ) (call : Call) (stamp : ℕ) → stamp ≡ next_stamp s → (reply : Reply) (p' : Parts) (j' : Journaled) → IsGranted t call reply p' j'
       → IsAsked exact_rule now t call (Granted stamp reply) (state_of p'.forest j')
-  asked-now now is t call stamp next reply kept twice p' j' g =
-      subst (λ a. IsAsked exact_rule now t call a (state_of p'.forest j')) (λ x. Granted (sym (next ∙ ap next_stamp is) x) (sym twice x))
-      (subst (λ q. IsAsked exact_rule q t call (Granted (next_stamp q) kept) (state_of p'.forest j')) is g.asked)
+  asked-now now is t call stamp next reply p' j' g =
+      subst (λ a. IsAsked exact_rule now t call a (state_of p'.forest j')) (λ x. Granted (sym (next ∙ ap next_stamp is) x) reply)
+      (subst (λ q. IsAsked exact_rule q t call (Granted (next_stamp q) reply) (state_of p'.forest j')) is g.asked)
 
   -- whom a call waits for
   pub waits-for : (now : State) → s ≡ now → (t : ℕ) (call : Call) (stamp : ℕ) → stamp ≡ next_stamp s → (found : List ℕ) → AreBlockers s.rule p.locks p.forest t (accesses_of p.tree stamp call) found → found ≡ blockers_now now t call
@@ -119,17 +118,17 @@ module _ (W : CallLaws) (K : LockLaws) (p : Parts) (j : Journaled) (core : IsCor
 
   -- a call that was tried and made
   pub tried-made : (now : State) → s ≡ now → (t : ℕ) (call : Call) → fate_of now t ≡ Some Live → is_full j ≡ false → (stamp : ℕ) → stamp ≡ next_stamp s → (p' : Parts) (made : Made) → IsMade s.rule p p' t stamp call made
-      → (j1 j' : Journaled) → j1 ≡ record j { room = j1.room } → j' ≡ with_call j1 t call made.kept made.accesses.items → IsCoreOf (state_of p'.forest j') p' j' × IsAsked exact_rule now t call (Granted stamp made.reply) (state_of p'.forest j')
-  tried-made now is t call live few stamp next p' made as_made j1 j' reserved told =
-      let g = core-made t call (ap (λ (q : State). fate_of q t) is ∙ live) few stamp next p' made as_made j1 j' reserved told in
-      (g.kept, asked-now now is t call stamp next made.reply made.kept as_made.twice p' j' g)
+      → (j' : Journaled) → j' ≡ with_call j t call made.reply made.accesses.items → IsCoreOf (state_of p'.forest j') p' j' × IsAsked exact_rule now t call (Granted stamp made.reply) (state_of p'.forest j')
+  tried-made now is t call live few stamp next p' made as_made j' told =
+      let g = core-made t call (ap (λ (q : State). fate_of q t) is ∙ live) few stamp next p' made as_made j' told in
+      (g.kept, asked-now now is t call stamp next made.reply p' j' g)
 
   -- a transaction waits for a call, or waits on
   pub core-waits : (t : ℕ) (asked : Option Call) → fate_of s t ≡ Some Live → (j' : Journaled) → j' ≡ with_ask j t asked → IsCoreOf (state_of p.forest j') p j'
   core-waits t None live j' is = subst (λ (q : Journaled). IsCoreOf (state_of p.forest q) p q) (sym is) core
   core-waits t (Some call) live j' is =
       subst (λ (q : Journaled). IsCoreOf (state_of p.forest q) p q) (sym is)
-      (core-asks core (finite.insert j.asks t call) (awaited core t call live) (record j { asks = finite.insert j.asks t call }) refl refl refl)
+      (core-asks core (finite.insert j.asks t call) (awaited core t call live) (record j { asks = finite.insert j.asks t call }) refl refl)
 
 -- to wait for the call that one waits for changes nothing
 pub waits-again : (s : State) (t : ℕ) (call : Call) → finite.get s.asks t ≡ Some call → after_wait s t call ≡ s

@@ -1,9 +1,7 @@
 -- What a begin does to what a core keeps.
-use Rattle.std.proofs.Common.{◌≡◌, ◌≢◌, ◌<◌, ◌≤◌, ◌+◌, ℕ, Bool, true, false, not, cond, ◌&&◌, [], ◌∷◌, Option, Some, None, is_some, arith, refl, sym, ap, subst, ◌∙◌, ◌==◌}
+use Rattle.std.proofs.Common.{◌≡◌, ◌≢◌, ◌<◌, ◌+◌, ℕ, Bool, true, false, cond, [], ◌∷◌, Option, Some, None, arith, refl, sym, ap, subst, ◌∙◌, ◌==◌}
 use Rattle.std.specs.FinMap as finite
 use Rattle.ft_base.specs.Chains.{Lists}
-use Rattle.ft_laws.specs.Lists.{In}
-use Rattle.ft_laws.proofs.Lists.{Each-from, Each-at}
 use Rattle.ft_laws.proofs.Tests.{by_test}
 use Rattle.ft_cells.specs.Cells.{Cells}
 use Rattle.ft_tree.specs.Sweep.{IsAccounted}
@@ -15,7 +13,7 @@ use Rattle.ft_forest.specs.declared.state.State.TheVariants.{Live as LiveState}
 use Rattle.ft_forest.specs.Transactions.{Transactions, parent_in, state_in, last_in, HasBegun}
 use Rattle.ft_moss.specs.Locks.{LockTable, has_lock, is_locked, is_let_go, is_opened}
 use Rattle.ft_moss.specs.Rules.{is_strict}
-use Rattle.ft_history.specs.History.{Base as HistoryBase, Fate, fate, is_live, IsLive, last_transaction, last_stamp, begun, parent, is_child, is_undone, grants, number}
+use Rattle.ft_history.specs.History.{Base as HistoryBase, Fate, fate, IsLive, last_transaction, last_stamp, parent, is_child}
 use Rattle.ft_history.specs.History.Fate.{Live, Committed, Aborted}
 use Rattle.ft_history.specs.History.Event.{Begin as WasBegun, Call as WasGranted, Undo as WasUndone, Commit as WasCommitted, Abort as WasAborted}
 use Rattle.ft_history.specs.Legal.{Legal, MayBegin}
@@ -26,8 +24,8 @@ use Rattle.ft_history.proofs.Words.{by_number, put_same, put_other}
 use Rattle.ft_history.proofs.Fates.{numbered, fate_rules}
 use Rattle.ft_history.proofs.Owning.{some_is}
 use Rattle.ft_history.proofs.Living.{lived}
-use Rattle.ft_history.proofs.History.{Sound, begin_gone, begin_owner}
-use Rattle.ft_core.specs.Histories.{History, Granted}
+use Rattle.ft_history.proofs.History.{Sound}
+use Rattle.ft_core.specs.Histories.{History}
 use Rattle.ft_core.specs.declared.fault.Fault.{Fault}
 use Rattle.ft_core.specs.declared.fault.Fault.TheVariants.{Full, Deep}
 use Rattle.ft_core.specs.declared.request.Event.TheVariants.{Begin}
@@ -35,10 +33,9 @@ use Rattle.ft_core.specs.States.{Base, Asks, State, fate_of, is_deepest, has_mos
 use Rattle.ft_core.specs.Steps.{fault_if, fault_of_fate, refusal_of, begin_request}
 use Rattle.ft_core.specs.Journals.{Journaled, with_begin, state_of}
 use Rattle.ft_core.specs.declared.parts.Parts.{Parts}
-use Rattle.ft_core.specs.Kept.{is_owned, events_kept, AreLogged, IsCoreAt, IsCoreOf}
+use Rattle.ft_core.specs.Kept.{AreLogged, IsCoreAt, IsCoreOf}
 use Rattle.ft_core.specs.Opens.{AreAsBefore, IsOpenFor}
 use Rattle.ft_core.specs.Laws.{CallLaws, LockLaws}
-use Rattle.ft_core.proofs.Counts.{count-push, count-fewer}
 use Rattle.ft_core.proofs.Opening.{Subs}
 use Rattle.ft_core.proofs.Told.{told-push}
 use Rattle.ft_core.proofs.Joining.{start, values, past, may-begin, kept-begin}
@@ -93,30 +90,8 @@ module _ (W : CallLaws) (K : LockLaws) {base : Base} {h : History} {asks : Asks}
     still-live : (x : ℕ) → IsLive posix_calls base.last_txn h x → IsLive posix_calls base.last_txn after x
     still-live x was = fates x ∙ by_number x n (λ is. put_same (fate posix_calls base.last_txn h) n (Some Live) x is) (λ ne. put_other (fate posix_calls base.last_txn h) n (Some Live) x ne ∙ was)
 
-    same-owned : (c : Granted) → In c (grants posix_calls h) → is_owned after c ≡ is_owned h c
-    same-owned c i =
-        let known = Each-at (λ (d : Granted). d.asker ≤ last_transaction posix_calls base.last_txn h) (grants posix_calls h) c sound.askers i in
-        let gone = begin_gone posix_calls W.lawful from h sound n up may c.asker known in
-        let owner = begin_owner posix_calls W.lawful from h sound n up may c.asker known in
-        (λ x. (not (is_undone posix_calls h (number posix_calls c)) && not (gone x)) && is_some (owner x))
-
-    events-begin : events_kept base.last_txn after ≤ events_kept base.last_txn h + 1
-    events-begin =
-        let p : ℕ → Bool = λ t. is_live (fate posix_calls base.last_txn after t) in
-        let more = count-push p (begun posix_calls h) n in
-        let others = count-fewer p (λ t. is_live (fate posix_calls base.last_txn h t)) (begun posix_calls h)
-        (Each-from (λ x. p x ≡ true → is_live (fate posix_calls base.last_txn h x) ≡ true) (begun posix_calls h)
-        (λ x i e.
-        let last = (numbers.complete x).0 i in
-        let last_is = core.kept.started.last_txn_is in
-        let le = last.1 in
-        sym (ap is_live (fates x ∙ put_other (fate posix_calls base.last_txn h) n (Some Live) x (λ is. absurd (omega arith)))) ∙ e)) in
-        let owned = count-fewer (is_owned after) (is_owned h) (grants posix_calls h)
-        (Each-from (λ c. is_owned after c ≡ true → is_owned h c ≡ true) (grants posix_calls h) (λ c i e. sym (same-owned c i) ∙ e)) in
-        omega arith
-
-    pub core-begin : (forest' : Transactions) → HasBegun forest forest' up → IsOpenFor j table lists n → (j' : Journaled) → j'.rule ≡ j.rule → j'.subs ≡ j.subs → j'.spare ≡ j.spare + 1 → IsCoreAt base after asks n last_number cells forest' table lists j'
-    core-begin forest' has open_for j' rule subs more = record {
+    pub core-begin : (forest' : Transactions) → HasBegun forest forest' up → IsOpenFor j table lists n → (j' : Journaled) → j'.rule ≡ j.rule → j'.subs ≡ j.subs → IsCoreAt base after asks n last_number cells forest' table lists j'
+    core-begin forest' has open_for j' rule subs = record {
       log = core.log;
       kept = kept-begin W core.kept n up next live;
       transactions = record {
@@ -136,7 +111,6 @@ module _ (W : CallLaws) (K : LockLaws) {base : Base} {h : History} {asks : Asks}
           })
           (λ ne. let was = core.ready t (was-live t ne now) in record { locks = was.locks; log = was.log; sub = ap (λ m. finite.get m t) subs ∙ was.sub });
       waiting = λ t some. still-live t (core.waiting t some);
-      spare = let le = core.spare in let new = events-begin in omega arith;
       accounted = core.accounted;
     }
       where
@@ -161,7 +135,6 @@ module _ (W : CallLaws) (K : LockLaws) {base : Base} {h : History} {asks : Asks}
         let last_is = core.kept.started.last_txn_is in
         record { locks = same.opened t was.locks; log = same.open_still t was.log; sub = same.subs t (λ is. absurd (omega arith)) ∙ was.sub };
     waiting = core.waiting;
-    spare = let le = core.spare in let spare_is = ap (λ (q : Journaled). q.spare) same.journal in omega arith;
     accounted = subst (λ (q : LockTable). IsAccounted (is_locked q) (is_let_go q) cells) (sym same.locks) core.accounted;
   }
 
@@ -179,8 +152,8 @@ live-parent s (Some p) fine q e =
     ap (fate_of s) (sym is) ∙ live-fault (fate_of s p) (fault_if (is_deepest s p) Deep (fault_if (has_most_transactions s) Full None)) fine
 
 -- the state after a begin
-pub state-begun : (forest forest' : Transactions) (up : Option ℕ) (j j' : Journaled) (subs : Subs) (room : ℕ) → HasBegun forest forest' up → j' ≡ with_begin (record j { subs = subs; room = room }) (last_in forest + 1) up → state_of forest' j' ≡ after_begin (state_of forest j) up
-state-begun forest forest' up j j' subs room has is = λ i. record {
+pub state-begun : (forest forest' : Transactions) (up : Option ℕ) (j j' : Journaled) (subs : Subs) → HasBegun forest forest' up → j' ≡ with_begin (record j { subs = subs }) (last_in forest + 1) up → state_of forest' j' ≡ after_begin (state_of forest j) up
+state-begun forest forest' up j j' subs has is = λ i. record {
   rule = (is i).rule;
   base = record { tree = (is i).base_tree; last_txn = has.base i; last_stamp = (is i).base_stamp };
   events = (is i).events;
@@ -195,8 +168,8 @@ core-started W K p p' j j1 j' up core fine same open_for has tree is =
     let n = last_in p.forest + 1 in
     let s : State = state_of p.forest j in
     let opened = core-opened W K core p'.locks p'.logs j1 same in
-    let begun = core-begin W K opened n up refl (live-parent s up fine) p'.forest has open_for j' (ap (λ (q : Journaled). q.rule) is) (ap (λ (q : Journaled). q.subs) is) (ap (λ (q : Journaled). q.spare) is) in
+    let begun = core-begin W K opened n up refl (live-parent s up fine) p'.forest has open_for j' (ap (λ (q : Journaled). q.rule) is) (ap (λ (q : Journaled). q.subs) is) in
     let told : IsCoreOf (after_begin s up) (parts p.tree p'.forest p'.locks p'.logs) j' =
     subst (λ h. IsCoreAt s.base h s.asks n s.last_stamp p.tree p'.forest p'.locks p'.logs j') (sym (told-push s.events (Begin n up))) begun in
     subst (λ c. IsCoreOf (state_of p'.forest j') (parts c p'.forest p'.locks p'.logs) j') (sym tree)
-    (subst (λ q. IsCoreOf q (parts p.tree p'.forest p'.locks p'.logs) j') (sym (state-begun p.forest p'.forest up j j' j1.subs j1.room has (is ∙ ap (λ (q : Journaled). with_begin q n up) same.journal))) told)
+    (subst (λ q. IsCoreOf q (parts p.tree p'.forest p'.locks p'.logs) j') (sym (state-begun p.forest p'.forest up j j' j1.subs has (is ∙ ap (λ (q : Journaled). with_begin q n up) same.journal))) told)

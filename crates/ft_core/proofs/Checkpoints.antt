@@ -34,14 +34,14 @@ use Rattle.ft_core.specs.declared.request.Answer.{Answer}
 use Rattle.ft_core.specs.declared.request.Answer.TheVariants.{Cleared, Refused}
 use Rattle.ft_core.specs.Living.{SomeIsLive, NoneIsLive}
 use Rattle.ft_core.specs.States.{State, history, fate_of, tree_of, live_transactions, has_live, after_checkpoint, fate_in}
-use Rattle.ft_core.specs.Steps.{BlockingRule, IsStep, IsAnswered, answer_with, fault_if}
-use Rattle.ft_core.specs.Journals.{Journaled, IsBaseTree, no_events, state_of}
+use Rattle.ft_core.specs.Steps.{fault_if, refusal_of}
+use Rattle.ft_core.specs.Journals.{Journaled, no_events, state_of}
 use Rattle.ft_core.specs.declared.parts.Parts.{Parts}
 use Rattle.ft_core.specs.Kept.{start_of, AreLogged, IsCoreOf}
 use Rattle.ft_core.specs.Laws.{CallLaws, LockLaws}
 use Rattle.ft_core.proofs.Cores.{none-in, unborn}
 use Rattle.ft_core.proofs.Ends.{live-is}
-use Rattle.ft_core.proofs.Joining.{start, values, past, sound_values, tree_is, free}
+use Rattle.ft_core.proofs.Joining.{start, values, past, sound_values, tree_is}
 use Rattle.ft_core.proofs.Gathered.{parts}
 
 -- In a list of those who are live.
@@ -76,21 +76,23 @@ module _ (W : CallLaws) (K : LockLaws) (p : Parts) (j : Journaled) (core : IsCor
       there [] i = absurd i
       there (x ∷ xs) i = no-more x xs
 
+  -- where nothing refuses a checkpoint nobody is live
+  pub none-lives : refusal_of s Checkpoint ≡ None → NoneIsLive s
+  none-lives fine one = refuses (subst (λ b. fault_if b LiveFault None ≡ None) (some-lives one) fine)
+    where
+      refuses : {x : Fault} → Some x ≡ None → ⊥
+      refuses e = cc
+
   module _ (none : NoneIsLive s) where
     -- nobody is live in the forest
     pub none-in-forest : (x : ℕ) → state_in forest x ≡ Some LiveState → ⊥
     none-in-forest x is = none (x, sym (core.transactions.fates x) ∙ ap fate_in is)
 
-    -- the tree may be the base
-    pub base-tree : (copy : Cells) (stamp : ℕ) → copy ≡ cells → stamp ≡ j.last_stamp → IsBaseTree copy stamp
-    base-tree copy stamp same last =
-        subst (λ c. IsBaseTree c stamp) (sym same) (subst (IsBaseTree cells) (sym last) (record { sound = core.kept.sound; free = free W core.kept }))
-
     -- The core from the new base: nobody has a lock, nothing can be taken back, and no place is of
     -- no use.
-    module _ (useless : (c : Cell) → is_useless cells c ≡ false) (fresh-lists : Lists Logged) (empty : AreLists fresh-lists (λ t. [])) (room : ℕ) where
+    module _ (useless : (c : Cell) → is_useless cells c ≡ false) (fresh-lists : Lists Logged) (empty : AreLists fresh-lists (λ t. [])) where
       abbrev q : Journaled
-      q = record (no_events j.rule (tidy cells) j.last_stamp) { room = room }
+      q = no_events j.rule (tidy cells) j.last_stamp
 
       abbrev f : Transactions
       f = none_since (last_in forest)
@@ -134,7 +136,6 @@ module _ (W : CallLaws) (K : LockLaws) (p : Parts) (j : Journaled) (core : IsCor
         logs = record { logged = λ t. subst (AreLogged []) (sym (empty t)) tt; placed = λ t e i. absurd i };
         ready = λ t live. absurd (not_live (sym (unborn (last_in forest) t) ∙ live));
         waiting = λ t some. absurd (false≢true (sym (ap is_some (finite.get-empty {X = Call} nat_cmp t)) ∙ some));
-        spare = omega arith;
         accounted = λ c spare. absurd (false≢true (sym (useless c) ∙ (and_parts (is_useless cells c) (not (at_place (is_locked no_locks) c)) spare).0));
       }
         where
@@ -142,20 +143,18 @@ module _ (W : CallLaws) (K : LockLaws) (p : Parts) (j : Journaled) (core : IsCor
           not_live e = cc
 
     pub core-restarted : ((c : Cell) → is_useless cells c ≡ false) → (f' : Transactions) → f' ≡ none_since (last_in forest) → (copy : Cells) → copy ≡ cells → (rule : _) → rule ≡ j.rule → (stamp : ℕ) → stamp ≡ j.last_stamp
-        → (table' : LockTable) → table' ≡ no_locks → (lists' : Lists Logged) → AreLists lists' (λ t. []) → (j' : Journaled) → j' ≡ record (no_events rule (tidy copy) stamp) { room = j'.room } → IsCoreOf (state_of f' j') (parts cells f' table' lists') j'
+        → (table' : LockTable) → table' ≡ no_locks → (lists' : Lists Logged) → AreLists lists' (λ t. []) → (j' : Journaled) → j' ≡ no_events rule (tidy copy) stamp → IsCoreOf (state_of f' j') (parts cells f' table' lists') j'
     core-restarted useless f' first copy same rule is stamp last table' new lists' empty j' told =
-        subst (λ (k : Journaled). IsCoreOf (state_of f' k) (parts cells f' table' lists') k) (sym (told ∙ (λ i. record (no_events (is i) (tidy (same i)) (last i)) { room = j'.room })))
-        (subst (λ (m : Transactions). IsCoreOf (state_of m (q useless lists' empty j'.room)) (parts cells m table' lists') (q useless lists' empty j'.room)) (sym first)
-        (subst (λ (t : LockTable). IsCoreOf (at useless lists' empty j'.room) (parts cells (f useless lists' empty j'.room) t lists') (q useless lists' empty j'.room)) (sym new) (restarted useless lists' empty j'.room)))
+        subst (λ (k : Journaled). IsCoreOf (state_of f' k) (parts cells f' table' lists') k) (sym (told ∙ (λ i. no_events (is i) (tidy (same i)) (last i))))
+        (subst (λ (m : Transactions). IsCoreOf (state_of m (q useless lists' empty)) (parts cells m table' lists') (q useless lists' empty)) (sym first)
+        (subst (λ (t : LockTable). IsCoreOf (at useless lists' empty) (parts cells (f useless lists' empty) t lists') (q useless lists' empty)) (sym new) (restarted useless lists' empty)))
 
     pub state-restarted : (f' : Transactions) → f' ≡ none_since (last_in forest) → (copy : Cells) → copy ≡ cells → (rule : _) → rule ≡ j.rule → (stamp : ℕ) → stamp ≡ j.last_stamp
-        → (j' : Journaled) → j' ≡ record (no_events rule (tidy copy) stamp) { room = j'.room } → state_of f' j' ≡ after_checkpoint s
+        → (j' : Journaled) → j' ≡ no_events rule (tidy copy) stamp → state_of f' j' ≡ after_checkpoint s
     state-restarted f' first copy same rule is stamp last j' told =
         let tree : tidy copy ≡ tree_of s = ap tidy same ∙ tree_is W core.kept in
         let none_more : last_in forest + 0 ≡ last_in forest = omega arith in
         (λ i. state_of (first i) (told i)) ∙ (λ i. record { rule = is i; base = record { tree = tree i; last_txn = last_in forest; last_stamp = last i }; events = []; asks = finite.empty; last_txn = none_more i; last_stamp = last i })
-
--- Steps.
 
 pub no-lives : (s : State) → NoneIsLive s → has_live s ≡ false
 no-lives s none = ap (λ n. nat_lt 0 n) (nobody (begun posix_calls (history s)))
@@ -173,13 +172,3 @@ no-lives s none = ap (λ n. nat_lt 0 n) (nobody (begun posix_calls (history s)))
 pub lives : (b : Bool) (s : State) → (SomeIsLive s → has_live s ≡ true) → MatchBool b (SomeIsLive s) (NoneIsLive s) → b ≡ has_live s
 lives true s some found = sym (some found)
 lives false s some none = sym (no-lives s none)
-
-pub step-live : (rule : BlockingRule) (s : State) → has_live s ≡ true → IsStep rule s Checkpoint (Refused LiveFault) s
-step-live rule s some = subst (λ b. MatchOption (fault_if b LiveFault None) (IsAnswered rule s Checkpoint (Refused LiveFault) s) (λ f. (Refused LiveFault ≡ Refused f) × (s ≡ s))) (sym some) (refl, refl)
-
-pub step-cleared : (rule : BlockingRule) (s s' : State) → NoneIsLive s → s' ≡ after_checkpoint s → IsStep rule s Checkpoint Cleared s'
-step-cleared rule s s' none is = subst (λ b. MatchOption (fault_if b LiveFault None) (IsAnswered rule s Checkpoint Cleared s') (λ f. (Cleared ≡ Refused f) × (s' ≡ s))) (sym (no-lives s none)) is
-
-pub step-wanting : {A : Type 0} (rule : BlockingRule) (s s' : State) (told : A → Answer) (result : Result A Fault) → NoneIsLive s → IsErrAnd result (λ fault. fault ≡ Memory) → s' ≡ s → IsStep rule s Checkpoint (answer_with told result) s'
-step-wanting rule s s' told (Ok x) none is same = absurd is
-step-wanting rule s s' told (Err y) none is same = subst (λ b. MatchOption (fault_if b LiveFault None) (IsAnswered rule s Checkpoint (Refused y) s') (λ f. (Refused y ≡ Refused f) × (s' ≡ s))) (sym (no-lives s none)) (is, tt, same)

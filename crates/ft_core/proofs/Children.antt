@@ -1,30 +1,28 @@
 -- The live children of a transaction, and that there is no live transaction at all.
 use Rattle.std.proofs.Common.{◌≡◌, ℕ, Bool, true, false, cond, List, [], ◌∷◌, Option, Some, None, is_some, inl, length, arith, refl, sym, ap, subst, ◌∙◌}
 use Rattle.std.specs.Prelude.{nat_lt, MatchBool}
-use Rattle.std.proofs.lemmas.Bool.{false≢true, and_parts, lt-ltb}
+use Rattle.std.proofs.lemmas.Bool.{false≢true, lt-ltb}
 use Rattle.ft_base.specs.Chains.{Lists}
 use Rattle.ft_laws.specs.Lists.{Each, In}
-use Rattle.ft_laws.proofs.Lists.{Each-from}
-use Rattle.ft_laws.proofs.Tests.{by_test, by_option}
+use Rattle.ft_laws.proofs.Tests.{by_test}
 use Rattle.ft_cells.specs.Cells.{Cells}
 use Rattle.ft_posix.specs.Posix.{posix_calls}
 use Rattle.ft_undo.specs.declared.logs.Logged.{Logged}
 use Rattle.ft_forest.specs.declared.state.State.TheVariants.{Live as LiveState}
 use Rattle.ft_forest.specs.Transactions.{Transactions, state_in, IsLiveUnder, IsLiveChild, IsYoungestChild}
 use Rattle.ft_moss.specs.Locks.{LockTable}
-use Rattle.ft_moss.specs.Rules.{is_strict}
-use Rattle.ft_history.specs.History.{Base as HistoryBase, fate, is_live, IsLive, parent, live_children, begun, grants, owner_of, is_standing}
+use Rattle.ft_history.specs.History.{Base as HistoryBase, IsLive, parent, live_children}
 use Rattle.ft_history.specs.Logs.{passing}
 use Rattle.ft_history.proofs.Fates.{children}
 use Rattle.ft_history.proofs.Forest.{climb}
-use Rattle.ft_history.proofs.History.{Sound, owner_is_live}
+use Rattle.ft_history.proofs.History.{Sound}
 use Rattle.ft_history.proofs.Words.{by_list}
 use Rattle.ft_core.specs.Histories.{History}
 use Rattle.ft_core.specs.States.{Base, Asks, fate_in}
-use Rattle.ft_core.specs.Journals.{Journaled, with_none_kept}
-use Rattle.ft_core.specs.Kept.{is_owned, events_kept, IsCoreAt}
+use Rattle.ft_core.specs.Journals.{Journaled}
+use Rattle.ft_core.specs.Kept.{IsCoreAt}
 use Rattle.ft_core.specs.Laws.{CallLaws}
-use Rattle.ft_core.proofs.Ends.{live-is, fate-live}
+use Rattle.ft_core.proofs.Ends.{fate-live}
 use Rattle.ft_core.proofs.Joining.{start, values, past}
 
 nothing-passes : {A : Type 0} (p : A → Bool) (xs : List A) → Each (λ x. p x ≡ true → ⊥) xs → length (passing p xs) ≡ 0
@@ -72,32 +70,6 @@ module _ (W : CallLaws) {base : Base} {h : History} {asks : Asks} {last_txn last
     no-live = climb (parent posix_calls h) sound.forest (λ x. IsLive posix_calls base.last_txn h x → ⊥)
         (λ x top now. none x (record { child = core.transactions.parents x ∙ top; live = state-live x now }))
         (λ x p up ih now. ih (sound.live_up x p now up))
-
-    nothing-kept : events_kept base.last_txn h ≡ 0
-    nothing-kept =
-        let lives = nothing-passes (λ t. is_live (fate posix_calls base.last_txn h t)) (begun posix_calls h)
-        (Each-from (λ x. is_live (fate posix_calls base.last_txn h x) ≡ true → ⊥) (begun posix_calls h) (λ x i e. no-live x (live-is (fate posix_calls base.last_txn h x) e))) in
-        let owned = nothing-passes (is_owned h) (grants posix_calls h)
-        (Each-from (λ c. is_owned h c ≡ true → ⊥) (grants posix_calls h) (λ c i e.
-        let some = (and_parts (is_standing posix_calls h c) (is_some (owner_of posix_calls h c.asker)) e).1 in
-        by_option (owner_of posix_calls h c.asker)
-        (λ no. false≢true (sym (ap is_some no) ∙ some))
-        (λ o is. no-live o (owner_is_live posix_calls W.lawful from h sound c i o is)))) in
-        omega arith
-
-    pub core-freed : (j' : Journaled) → j' ≡ with_none_kept j → IsCoreAt base h asks last_txn last_number cells forest table lists j'
-    core-freed j' told = record {
-      log = core.log;
-      kept = core.kept;
-      transactions = core.transactions;
-      locks = core.locks;
-      no_holder = λ strict. core.no_holder (sym (ap (λ (q : Journaled). is_strict q.rule) told) ∙ strict);
-      logs = core.logs;
-      ready = λ t now. absurd (no-live t now);
-      waiting = core.waiting;
-      spare = let zero = nothing-kept in omega arith;
-      accounted = core.accounted;
-    }
 
 pub none_of : (forest : Transactions) (o : Option ℕ) → is_some o ≡ false → IsYoungestChild forest None o → (x : ℕ) → IsLiveUnder forest None x → ⊥
 none_of forest None e h = h

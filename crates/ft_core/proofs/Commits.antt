@@ -1,5 +1,5 @@
 -- What a commit does to what a core keeps.
-use Rattle.std.proofs.Common.{◌≡◌, ◌≢◌, ◌<◌, ◌==◌, ℕ, true, false, not, cond, List, [], ◌∷◌, ◌++◌, Option, Some, None, is_some, IsSome, arith, refl, sym, ap, subst, ◌∙◌, ne_eqb, eq-eqb}
+use Rattle.std.proofs.Common.{◌≡◌, ◌≢◌, ◌==◌, ℕ, true, false, not, cond, List, [], ◌∷◌, ◌++◌, Option, Some, None, is_some, IsSome, arith, refl, sym, ap, subst, ◌∙◌, ne_eqb, eq-eqb}
 use Rattle.std.proofs.lemmas.Bool.{false≢true, and_parts}
 use Rattle.std.specs.FinMap as finite
 use Rattle.ft_base.specs.Chains.{Lists, list_in}
@@ -38,7 +38,7 @@ use Rattle.ft_core.specs.Kept.{Item, AreLogged, IsCoreAt}
 use Rattle.ft_core.specs.Laws.{CallLaws, LockLaws}
 use Rattle.ft_core.proofs.Accounts.{still-accounted}
 use Rattle.ft_core.proofs.Children.{no-child}
-use Rattle.ft_core.proofs.Ends.{named, kept-ending, events-commit}
+use Rattle.ft_core.proofs.Ends.{named, kept-ending}
 use Rattle.ft_core.proofs.Joining.{start, values, past}
 use Rattle.ft_core.proofs.Noted.{inserted-same, inserted-other, removed-same, removed-other, opened-other, open-other}
 
@@ -142,10 +142,6 @@ module _ (W : CallLaws) (K : LockLaws) {base : Base} {h : History} {asks : Asks}
   rule-noted None = refl
   rule-noted (Some p) = refl
 
-  spare-noted : (up : Option ℕ) → (noted_up j up).spare ≡ j.spare
-  spare-noted None = refl
-  spare-noted (Some p) = refl
-
   pub core-commit : j.last_stamp ≡ last_number → (up : Option ℕ) → up ≡ parent_in forest t → (forest' : Transactions) → HasEnded forest forest' t CommittedState → (table' : LockTable) → AreHandedUp table table' t up
       → (lists' : Lists Logged) → AreLists lists' (handed (list_in lists) t up) → AreOpen lists' (put (is_open lists) t false) → (j' : Journaled) → j' ≡ with_event (without (noted_up j up) t) (Commit t)
       → IsCoreAt base after (finite.remove asks t) last_txn last_number cells forest' table' lists' j'
@@ -182,12 +178,6 @@ module _ (W : CallLaws) (K : LockLaws) {base : Base} {h : History} {asks : Asks}
         waiting = λ x some. by_number x t
             (λ same. absurd (none (sym (ap is_some (removed-same asks t x same)) ∙ some)))
             (λ ne. still-live x ne (core.waiting x (sym (ap is_some (removed-other asks t x ne)) ∙ some)));
-        spare =
-            let fewer = events-commit W core.kept t may in
-            let le = core.spare in
-            let same = ap (λ (q : Journaled). q.spare) is in
-            let noted = spare-noted up in
-            omega arith;
         accounted = still-accounted table table' cells (knows up parent_is table' handed_up) core.accounted;
       }
     where
@@ -217,12 +207,3 @@ module _ (W : CallLaws) (K : LockLaws) {base : Base} {h : History} {asks : Asks}
       by_parent (Some p) e =
           let about = up-live p (sym e) in
           some (finite.get j.subs p) _ (core.ready p about.0).sub
-
-  -- there is a place for the event
-  pub place-commit : (up : Option ℕ) (j' : Journaled) → j' ≡ without (noted_up j up) t → 0 < j'.spare
-  place-commit up j' is =
-      let fewer = events-commit W core.kept t may in
-      let le = core.spare in
-      let same = ap (λ (q : Journaled). q.spare) is in
-      let noted = spare-noted up in
-      omega arith

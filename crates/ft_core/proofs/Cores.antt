@@ -41,9 +41,9 @@ unborn first x = by_test (nat_lt first x && nat_le x first)
     (λ k. ap (λ b. cond b (Some (cond false Committed (cond false Aborted Live))) None) k)
 
 -- new: the root alone
-pub core-first : CallLaws → LockLaws → (rule : Rule) (cells : Cells) → cells ≡ fresh_cells → AreSoundCells cells → ((k : ℕ) → 2 ≤ k → IsFree cells k) → (lists : Lists Logged) → AreLists lists (λ t. []) → (room : ℕ)
-    → IsCoreOf (state_of (none_since 0) (record (no_events rule (tidy cells) 1) { room = room })) (parts cells (none_since 0) no_locks lists) (record (no_events rule (tidy cells) 1) { room = room })
-core-first W K rule cells fresh sound free lists none room = record {
+pub core-first : CallLaws → LockLaws → (rule : Rule) (cells : Cells) → cells ≡ fresh_cells → AreSoundCells cells → ((k : ℕ) → 2 ≤ k → IsFree cells k) → (lists : Lists Logged) → AreLists lists (λ t. [])
+    → IsCoreOf (state_of (none_since 0) (no_events rule (tidy cells) 1)) (parts cells (none_since 0) no_locks lists) (no_events rule (tidy cells) 1)
+core-first W K rule cells fresh sound free lists none = record {
   log = λ t. [];
   kept = record {
     started = record {
@@ -72,7 +72,6 @@ core-first W K rule cells fresh sound free lists none room = record {
   logs = record { logged = λ t. subst (AreLogged []) (sym (none t)) tt; placed = λ t e i. absurd i };
   ready = λ t live. absurd (not_live (sym (unborn 0 t) ∙ live));
   waiting = λ t some. absurd (false≢true (sym (ap is_some (finite.get-empty {X = Call} nat_cmp t)) ∙ some));
-  spare = omega arith;
   accounted = subst (IsAccounted (is_locked no_locks) (is_let_go no_locks)) (sym fresh) (fresh-accounted (is_locked no_locks) (is_let_go no_locks));
 }
   where
@@ -80,18 +79,18 @@ core-first W K rule cells fresh sound free lists none room = record {
     not_live e = cc
 
 pub core-new : CallLaws → LockLaws → (rule : Rule) (cells : Cells) → cells ≡ fresh_cells → AreSoundCells cells → ((k : ℕ) → 2 ≤ k → IsFree cells k) → (lists : Lists Logged) → AreLists lists (λ t. []) → (forest : Transactions) → forest ≡ none_since 0
-    → (table : LockTable) → table ≡ no_locks → (base : Cells) → base ≡ cells → (j : Journaled) → j ≡ record (no_events rule (tidy base) 1) { room = j.room } → IsCoreOf (state_of forest j) (parts cells forest table lists) j
-core-new W K rule cells fresh sound free lists none forest first table empty base same j is =
-    let q : Journaled = record (no_events rule (tidy cells) 1) { room = j.room } in
-    subst (λ (k : Journaled). IsCoreOf (state_of forest k) (parts cells forest table lists) k) (sym (is ∙ ap (λ b. record (no_events rule (tidy b) 1) { room = j.room }) same))
+    → (table : LockTable) → table ≡ no_locks → (j : Journaled) → j ≡ no_events rule (tidy cells) 1 → IsCoreOf (state_of forest j) (parts cells forest table lists) j
+core-new W K rule cells fresh sound free lists none forest first table empty j is =
+    let q : Journaled = no_events rule (tidy cells) 1 in
+    subst (λ (k : Journaled). IsCoreOf (state_of forest k) (parts cells forest table lists) k) (sym is)
     (subst (λ (m : Transactions). IsCoreOf (state_of m q) (parts cells m table lists) q) (sym first)
     (subst (λ (t : LockTable). IsCoreOf (state_of (none_since 0) q) (parts cells (none_since 0) t lists) q) (sym empty)
-    (core-first W K rule cells fresh sound free lists none j.room)))
+    (core-first W K rule cells fresh sound free lists none)))
 
 module _ {base : Base} {h : History} {asks : Asks} {last_txn last_number : ℕ} {cells : Cells} {forest : Transactions} {table : LockTable} {lists : Lists Logged} {j : Journaled} (core : IsCoreAt base h asks last_txn last_number cells forest table lists j) where
   -- others wait
-  pub core-asks : (asks' : Asks) → ((t : ℕ) → is_some (finite.get asks' t) ≡ true → IsLive posix_calls base.last_txn h t) → (j' : Journaled) → j'.rule ≡ j.rule → j'.subs ≡ j.subs → j'.spare ≡ j.spare → IsCoreAt base h asks' last_txn last_number cells forest table lists j'
-  core-asks asks' waiting j' rule subs spare = record {
+  pub core-asks : (asks' : Asks) → ((t : ℕ) → is_some (finite.get asks' t) ≡ true → IsLive posix_calls base.last_txn h t) → (j' : Journaled) → j'.rule ≡ j.rule → j'.subs ≡ j.subs → IsCoreAt base h asks' last_txn last_number cells forest table lists j'
+  core-asks asks' waiting j' rule subs = record {
     log = core.log;
     kept = core.kept;
     transactions = core.transactions;
@@ -100,7 +99,6 @@ module _ {base : Base} {h : History} {asks : Asks} {last_txn last_number : ℕ} 
     logs = core.logs;
     ready = λ t live. let was = core.ready t live in record { locks = was.locks; log = was.log; sub = ap (λ m. finite.get m t) subs ∙ was.sub };
     waiting = waiting;
-    spare = let le = core.spare in omega arith;
     accounted = core.accounted;
   }
 

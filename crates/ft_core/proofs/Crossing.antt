@@ -17,7 +17,7 @@ use Rattle.ft_undo.specs.contracts.undo.Back as Back
 use Rattle.ft_undo.specs.contracts.undo.Undo as Undo
 use Rattle.ft_undo.specs.contracts.logs.Logged as Logged
 use Rattle.ft_undo.specs.contracts.logs.Logs as Logs
-use Rattle.ft_core.proofs.request.Event.TheSendSync as event
+use Rattle.ft_core.proofs.past.Past.TheSendSync as past
 use Rattle.ft_core.specs.contracts.journal.Journal as Journal
 use Rattle.ft_core.specs.contracts.parts.Parts as Parts
 use Rattle.ft_core.specs.contracts.manager.Core as Core
@@ -38,7 +38,7 @@ Logs-send : IsSend Logs.the_row
 Logs-send = let chains = chains.the_send Logged.the_row Logged-send in search sendable depth 20
 
 Journal-send : IsSend Journal.the_row
-Journal-send = search (event.the_send, call.the_send, table.the_send, tree.the_send, crosses, sendable) depth 40
+Journal-send = search (past.the_send, call.the_send, table.the_send, tree.the_send, crosses, sendable) depth 40
 
 Parts-send : IsSend Parts.the_field.row
 Parts-send = search (tree.the_send, forest.the_send, locks.the_send, Logs-send, crosses, sendable) depth 40

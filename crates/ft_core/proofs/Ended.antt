@@ -70,7 +70,7 @@ told-less j₀ j j' e asks less are is = record {
 
 -- Steps.
 
-refused : (rule : BlockingRule) (s : State) (r : Request) (fault : Fault) → refusal_of s r ≡ Some fault → IsStep rule s r (Refused fault) s
+pub refused : (rule : BlockingRule) (s : State) (r : Request) (fault : Fault) → refusal_of s r ≡ Some fault → IsStep rule s r (Refused fault) s
 refused rule s r fault is = subst (λ (o : Option Fault). MatchOption o (IsAnswered rule s r (Refused fault) s) (λ f. (Refused fault ≡ Refused f) × (s ≡ s))) (sym is) (refl, refl)
 
 pub step-allowed : (rule : BlockingRule) (s s' : State) (r : Request) (a : Answer) → refusal_of s r ≡ None → IsAnswered rule s r a s' → IsStep rule s r a s'

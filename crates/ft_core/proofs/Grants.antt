@@ -36,11 +36,11 @@ use Rattle.ft_core.specs.Histories.{History, Granted, granted}
 use Rattle.ft_core.specs.States.{Base, Asks}
 use Rattle.ft_core.specs.Journals.{Journaled}
 use Rattle.ft_core.specs.declared.parts.Parts.{Parts}
-use Rattle.ft_core.specs.Kept.{Item, Change, is_owned, TakesBack, AreLogged, ArePlaced, IsStarted, IsCoreAt}
+use Rattle.ft_core.specs.Kept.{Item, Change, TakesBack, AreLogged, ArePlaced, IsStarted, IsCoreAt}
 use Rattle.ft_core.specs.Laws.{CallLaws, LockLaws}
 use Rattle.ft_core.specs.Makes.{IsMadeOn}
 use Rattle.ft_core.proofs.Accounts.{granted-accounted}
-use Rattle.ft_core.proofs.Counts.{count-push, length-push}
+use Rattle.ft_core.proofs.Counts.{length-push}
 use Rattle.ft_core.proofs.Joining.{start, values, free, sound_values}
 use Rattle.ft_core.proofs.Written.{of-written}
 use Rattle.ft_core.proofs.Placing.{put-write, put-stays, as-left, left-stored, files-stored, placed-stays}
@@ -155,8 +155,8 @@ module _ (W : CallLaws) (K : LockLaws) {base : Base} {h : History} {asks : Asks}
         ])
         (λ ne. placed-stays cells cells' stay e (core.logs.placed u e (subst (In e) (put_other core.log t (entry ∷ core.log t) u ne) i)))
 
-    pub core-granted : (asks' : Asks) → ((u : ℕ) → is_some (finite.get asks' u) ≡ true → IsLive posix_calls base.last_txn h u) → AreBlockers j.rule table forest t accesses [] → (j' : Journaled) → j'.rule ≡ j.rule → j'.subs ≡ j.subs → j'.spare ≡ j.spare + 1 → IsCoreAt base after asks' last_txn k cells' forest table' lists' j'
-    core-granted asks' waiting free j' rule subs spare = record {
+    pub core-granted : (asks' : Asks) → ((u : ℕ) → is_some (finite.get asks' u) ≡ true → IsLive posix_calls base.last_txn h u) → AreBlockers j.rule table forest t accesses [] → (j' : Journaled) → j'.rule ≡ j.rule → j'.subs ≡ j.subs → IsCoreAt base after asks' last_txn k cells' forest table' lists' j'
+    core-granted asks' waiting free j' rule subs = record {
       log = pushed core.log t entry;
       kept = record {
         started = started-granted base h last_txn last_number c next few core.kept.started;
@@ -174,6 +174,5 @@ module _ (W : CallLaws) (K : LockLaws) {base : Base} {h : History} {asks : Asks}
           let was = core.ready u alive in
           record { locks = ap (λ s. set.contains s u) made.granted.opened ∙ was.locks; log = made.open_still u ∙ was.log; sub = ap (λ m. finite.get m u) subs ∙ was.sub };
       waiting = waiting;
-      spare = let le = core.spare in let more = count-push (is_owned h) (grants posix_calls h) c in omega arith;
       accounted = subst (IsAccounted (is_locked table') (is_let_go table')) acted (granted-accounted W K cells table table' a t accesses core.kept.sound is_free touched made.granted core.accounted);
     }

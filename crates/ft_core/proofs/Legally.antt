@@ -1,5 +1,5 @@
 -- A legal step leads from a legal state to a legal one, and so does a legal run.
-use Rattle.std.proofs.Common.{◌≡◌, ◌<◌, ◌+◌, ℕ, Bool, true, false, nat_le, List, [], ◌∷◌, ◌++◌, Option, Some, None, MatchOption, length, map, arith, refl, sym, ap, subst}
+use Rattle.std.proofs.Common.{◌≡◌, ◌<◌, ℕ, Bool, true, false, nat_le, List, [], ◌∷◌, ◌++◌, Option, Some, None, MatchOption, length, map, arith, refl, sym, ap, subst}
 use Rattle.std.specs.FinMap as finite
 use Rattle.ft_cells.specs.Cells.{Cells}
 use Rattle.ft_posix.specs.declared.call.Call.{Call}
@@ -9,7 +9,7 @@ use Rattle.ft_history.specs.History.{Fate, last_stamp, grants}
 use Rattle.ft_history.specs.History.Fate.{Live, Committed as WasCommitted, Aborted as WasAborted}
 use Rattle.ft_history.specs.Undoing.{Target, undo_target}
 use Rattle.ft_history.specs.Undoing.Target.{Found, SubSince, Nothing}
-use Rattle.ft_history.specs.Legal.{outcome, MayGrant, Allowed, Legal}
+use Rattle.ft_history.specs.Legal.{outcome, MayGrant, Allowed}
 use Rattle.ft_history.specs.Core.{Machine, machine}
 use Rattle.ft_history.proofs.Machine.{machine_core, machine_same}
 use Rattle.ft_history.proofs.Methods.{core_same}
@@ -25,7 +25,8 @@ use Rattle.ft_core.specs.declared.request.Event.TheVariants.{Begin as BeginEvent
 use Rattle.ft_core.specs.Histories.{History, Granted, granted, as_happening}
 use Rattle.ft_core.specs.States.{Base, State, history, fate_of, live_children, has_live_child, has_most_calls, standing_calls, next_txn, next_stamp, reply_of, accesses_now, after_begin, after_grant, after_undo, after_commit, after_abort, after_checkpoint}
 use Rattle.ft_core.specs.Steps.{IsStep, IsRun, IsAsked, IsAnswered, IsUndone, exact_rule, refusal_of, fault_if, fault_of_fate, fault_of_ask, fault_of_target, begin_request}
-use Rattle.ft_core.specs.Kept.{Item, start_of, IsStarted, IsKept}
+use Rattle.ft_core.specs.Kept.{Item, start_of, IsKept}
+use Rattle.ft_core.specs.Reached.{IsLegalFrom, IsLegalAt}
 use Rattle.ft_core.specs.Laws.{CallLaws, LockLaws}
 use Rattle.ft_core.proofs.Alone.{childless}
 use Rattle.ft_core.proofs.Asks.{next-fits}
@@ -34,15 +35,6 @@ use Rattle.ft_core.proofs.Ends.{IsEnding, started-ending}
 use Rattle.ft_core.proofs.Grants.{started-granted}
 use Rattle.ft_core.proofs.Joining.{sound_values, runs-plainly, tree_is, replies_are, free, accesses-are, reply-is, kept-begin}
 use Rattle.ft_core.proofs.Told.{told-push}
-
--- The base is the tree of some cells, and from them each event was allowed when it came.
-pub record IsLegalFrom (base : Base) (h : History) (last_txn last_number : ℕ) : Type 0 where
-  pub started : IsStarted base h last_txn last_number
-  pub legal : Legal posix_calls (start_of base started.store) h
-
--- the state is legal
-abbrev pub IsLegalAt : State → Type 0
-IsLegalAt s = IsLegalFrom s.base (history s) s.last_txn s.last_stamp
 
 -- what a core keeps is legal
 pub legal-of : {base : Base} {h : History} {last_txn last_number : ℕ} {cells : Cells} {log : ℕ → List Item} → IsKept base h last_txn last_number cells log → IsLegalFrom base h last_txn last_number

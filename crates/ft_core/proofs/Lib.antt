@@ -1,9 +1,10 @@
 pub mod Told
+mod PastWalks
 mod Gathered
 mod Counts
 pub mod Joining
 mod Reporting
-mod Begins
+pub mod Begins
 mod Opening
 mod Refusing
 mod Owned
@@ -15,7 +16,7 @@ mod Grants
 mod Asks
 mod Reverting
 mod Lists
-mod Ends
+pub mod Ends
 mod Noted
 mod Commits
 mod Undoes
@@ -30,5 +31,5 @@ mod Sweeps
 mod Checkpoints
 pub mod Known
 mod Asked
-mod Legally
+pub mod Legally
 pub mod Crossing

@@ -1,5 +1,5 @@
 -- A transaction that is to begin is opened in the journal, in the lock table and in the logs.
-use Rattle.std.proofs.Common.{◌≡◌, ◌≢◌, ◌≤◌, ℕ, true, cond, Option, Some, None, refl, sym, ap, ◌∙◌, subst, ne_eqb, eq-eqb}
+use Rattle.std.proofs.Common.{◌≡◌, ◌≢◌, ℕ, true, cond, Option, Some, None, refl, sym, ap, ◌∙◌, ne_eqb, eq-eqb}
 use Rattle.std.proofs.lemmas.Bool.{or_left, or_right}
 use Rattle.std.specs.Ordering.{nat_cmp, eq_by_cmp}
 use Rattle.std.specs.Cmp.{nat_cmp_total, unsigned_tied}
@@ -32,9 +32,9 @@ open-same old new n is = ap (λ x. is_opened x n) is ∙ set.contains-insert nat
 pub logs-other : (old new : Lists Logged) (n : ℕ) → AreOpen new (put (is_open old) n true) → (t : ℕ) → is_open old t ≡ true → is_open new t ≡ true
 logs-other old new n are t e = are t ∙ by_number t n (λ is. put_same (is_open old) n true t is) (λ ne. put_other (is_open old) n true t ne ∙ e)
 
--- what differs in two places is what it is with these two as they are
-shape : (j j' : Journaled) {subs : Subs} {room : ℕ} → j' ≡ record j { subs = subs; room = room } → j' ≡ record j { subs = j'.subs; room = j'.room }
-shape j j' is = is ∙ (λ i. record j { subs = (sym is i).subs; room = (sym is i).room })
+-- what differs in one place is what it is with this one as it is
+shape : (j j' : Journaled) {subs : Subs} → j' ≡ record j { subs = subs } → j' ≡ record j { subs = j'.subs }
+shape j j' is = is ∙ (λ i. record j { subs = (sym is i).subs })
 
 -- the table is the same but for who is open
 pub locks-same : (old new : LockTable) → new ≡ old → new ≡ record old { opened = new.opened }
@@ -43,22 +43,21 @@ locks-same old new is = is ∙ (λ i. record old { opened = (sym is i).opened })
 pub locks-opened : (old new : LockTable) (n : ℕ) → new ≡ record old { opened = set.insert old.opened n } → new ≡ record old { opened = new.opened }
 locks-opened old new n is = is ∙ (λ i. record old { opened = (sym is i).opened })
 
-pub one-noted : (j middle j' : Journaled) (table table' : LockTable) (lists lists' : Lists Logged) (n : ℕ) → middle ≡ record j { room = middle.room } → j' ≡ record middle { subs = finite.insert middle.subs n None }
+pub one-noted : (j j' : Journaled) (table table' : LockTable) (lists lists' : Lists Logged) (n : ℕ) → j' ≡ record j { subs = finite.insert j.subs n None }
     → table' ≡ record table { opened = table'.opened } → ((t : ℕ) → is_opened table t ≡ true → is_opened table' t ≡ true) → AreLists lists' (list_in lists) → ((t : ℕ) → is_open lists t ≡ true → is_open lists' t ≡ true)
     → AreAsBefore j j' table table' lists lists' n
-one-noted j middle j' table table' lists lists' n one two locks opened listed still = record {
-  journal = shape j j' (two ∙ (λ i. record (one i) { subs = finite.insert middle.subs n None; room = middle.room }));
-  subs = λ t ne. ap (λ (q : Journaled). finite.get q.subs t) two ∙ noted-other middle.subs n None t ne ∙ ap (λ (q : Journaled). finite.get q.subs t) one;
+one-noted j j' table table' lists lists' n is locks opened listed still = record {
+  journal = shape j j' is;
+  subs = λ t ne. ap (λ (q : Journaled). finite.get q.subs t) is ∙ noted-other j.subs n None t ne;
   locks = locks;
   opened = opened;
   listed = listed;
   open_still = still;
 }
 
-pub ready-noted : (middle j' : Journaled) (table table' : LockTable) (lists lists' : Lists Logged) (n : ℕ) → j' ≡ record middle { subs = finite.insert middle.subs n None } → 2 ≤ middle.room → table' ≡ record table { opened = set.insert table.opened n } → AreOpen lists' (put (is_open lists) n true) → IsOpenFor j' table' lists' n
-ready-noted middle j' table table' lists lists' n is room opened are = record {
-  room = subst (λ k. 2 ≤ k) (ap (λ (q : Journaled). q.room) (sym is)) room;
-  sub = ap (λ (q : Journaled). finite.get q.subs n) is ∙ noted-same middle.subs n None n refl;
+pub ready-noted : (j j' : Journaled) (table table' : LockTable) (lists lists' : Lists Logged) (n : ℕ) → j' ≡ record j { subs = finite.insert j.subs n None } → table' ≡ record table { opened = set.insert table.opened n } → AreOpen lists' (put (is_open lists) n true) → IsOpenFor j' table' lists' n
+ready-noted j j' table table' lists lists' n is opened are = record {
+  sub = ap (λ (q : Journaled). finite.get q.subs n) is ∙ noted-same j.subs n None n refl;
   locks = open-same table table' n opened;
   log = are n ∙ put_same (is_open lists) n true n refl;
 }

@@ -234,7 +234,6 @@ module _ (W : CallLaws) (K : LockLaws) {base : Base} {h : History} {asks : Asks}
     logs = record { logged = core.logs.logged; placed = placed };
     ready = λ u live. let now = core.ready u live in record { locks = ap (λ s. set.contains s u) opened ∙ now.locks; log = now.log; sub = now.sub };
     waiting = core.waiting;
-    spare = core.spare;
     accounted = swept-accounted table table' new lines none_left;
   }
 

@@ -24,7 +24,6 @@ use Rattle.ft_history.specs.Legal.{Legal}
 use Rattle.ft_history.specs.Logs.{put}
 use Rattle.ft_history.specs.Undoing.{MayUndo, last_sub, undo_target}
 use Rattle.ft_history.specs.Undoing.Target.{Found, SubSince, Nothing}
-use Rattle.ft_history.proofs.Legal.{target_newest}
 use Rattle.ft_history.proofs.Losing.{LosesOwn, undo_loses}
 use Rattle.ft_history.proofs.Methods.{core_undone}
 use Rattle.ft_history.proofs.Targets.{target_by_stamps}
@@ -40,8 +39,8 @@ use Rattle.ft_core.specs.Laws.{CallLaws, LockLaws}
 use Rattle.ft_core.proofs.Accounts.{reverted-accounted}
 use Rattle.ft_core.proofs.Commits.{logged-put}
 use Rattle.ft_core.proofs.Children.{no-child}
-use Rattle.ft_core.proofs.Ends.{named, kept-ending, events-undo}
-use Rattle.ft_core.proofs.Joining.{start, values, past}
+use Rattle.ft_core.proofs.Ends.{named, kept-ending}
+use Rattle.ft_core.proofs.Joining.{start, values}
 use Rattle.ft_core.proofs.Owned.{written-locked}
 use Rattle.ft_core.proofs.Reverting.{placed-stays, is_taken_back}
 
@@ -180,23 +179,7 @@ module _ (W : CallLaws) (K : LockLaws) {base : Base} {h : History} {asks : Asks}
               };
               ready = λ u now. let was = core.ready u now in record { locks = was.locks; log = opened u ∙ was.log; sub = ap (λ (q : Journaled). finite.get q.subs u) told ∙ was.sub };
               waiting = core.waiting;
-              spare =
-                  let from_list = target_newest posix_calls W.lawful from (values W core.kept) h core.kept.core.legal t d live found in
-                  let there = ((past W core.kept).runs.kept.owned t d (subst (In d) (sym from_list.1) (inl refl))).0 in
-                  let fewer = events-undo W core.kept t d live there from_list.2 in
-                  let le = core.spare in
-                  let same = ap (λ (q : Journaled). q.spare) told in
-                  omega arith;
               accounted = subst (IsAccounted (is_locked table) (is_let_go table)) (sym reverted)
                   (reverted-accounted W cells e (core.logs.placed t e there).own table (written-locked W K core t e there) loses (subst AreSoundCells reverted kept.sound) core.accounted);
             };
       })
-
-  -- there is a place for the event
-  pub place-undo : (d : Granted) → undo_target posix_calls h t ≡ Found d → 0 < j.spare
-  place-undo d found =
-      let from_list = target_newest posix_calls W.lawful from (values W core.kept) h core.kept.core.legal t d live found in
-      let there = ((past W core.kept).runs.kept.owned t d (subst (In d) (sym from_list.1) (inl refl))).0 in
-      let fewer = events-undo W core.kept t d live there from_list.2 in
-      let le = core.spare in
-      omega arith

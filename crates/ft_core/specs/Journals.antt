@@ -22,7 +22,7 @@ use Rattle.ft_core.specs.contracts.request.Event as event
 use Rattle.ft_core.specs.States.{State, Asks, coded_asks}
 
 -- the rule for holders, the events and the asks, what is noted of each live transaction, the base,
--- the last stamp, and the places for events: those that are kept for ends and undos, and others
+-- and the last stamp
 pub record Journaled : Type 0 where
   pub rule : Rule
   pub events : List Event
@@ -32,17 +32,14 @@ pub record Journaled : Type 0 where
   pub base_tree : PlainTree
   pub base_stamp : ℕ
   pub last_stamp : ℕ
-  -- how many places are kept for ends and undos, and how many there are besides
-  pub spare : ℕ
-  pub room : ℕ
 
 -- a code of it, which a model needs
 abbrev pub coded_journaled : Coded Journaled
 coded_journaled =
-    code_by (Rule × (List Event × (Asks × (finite.FinMap nat_cmp (Option ℕ) × ((PlainTree × (ℕ × ℕ)) × (ℕ × ℕ))))))
-    (coded× rule.the_row.coded (coded× (coded_list event.the_row.coded) (coded× coded_asks (coded× (finite.code coded_ℕ (coded_option coded_ℕ)) (coded× (coded× coded_tree (coded× coded_ℕ coded_ℕ)) (coded× coded_ℕ coded_ℕ))))))
-    (λ j. (j.rule, (j.events, (j.asks, (j.subs, ((j.base_tree, (j.base_stamp, j.last_stamp)), (j.spare, j.room)))))))
-    (λ p. record { rule = p.0; events = p.1.0; asks = p.1.1.0; subs = p.1.1.1.0; base_tree = p.1.1.1.1.0.0; base_stamp = p.1.1.1.1.0.1.0; last_stamp = p.1.1.1.1.0.1.1; spare = p.1.1.1.1.1.0; room = p.1.1.1.1.1.1 }) (λ _. refl)
+    code_by (Rule × (List Event × (Asks × (finite.FinMap nat_cmp (Option ℕ) × (PlainTree × (ℕ × ℕ))))))
+    (coded× rule.the_row.coded (coded× (coded_list event.the_row.coded) (coded× coded_asks (coded× (finite.code coded_ℕ (coded_option coded_ℕ)) (coded× coded_tree (coded× coded_ℕ coded_ℕ))))))
+    (λ j. (j.rule, (j.events, (j.asks, (j.subs, (j.base_tree, (j.base_stamp, j.last_stamp)))))))
+    (λ p. record { rule = p.0; events = p.1.0; asks = p.1.1.0; subs = p.1.1.1.0; base_tree = p.1.1.1.1.0; base_stamp = p.1.1.1.1.1.0; last_stamp = p.1.1.1.1.1.1 }) (λ _. refl)
 
 -- A tree from which a history may go on: it is sound, and no number above
 -- the last stamp stands in it.
@@ -50,9 +47,9 @@ pub record IsBaseTree (cells : Cells) (stamp : ℕ) : Type 0 where
   pub sound : AreSoundCells cells
   pub free : (k : ℕ) → stamp < k → IsFree cells k
 
--- no event, and no place for one, from this tree and this stamp on
+-- no event, from this tree and this stamp on
 abbrev pub no_events : Rule → PlainTree → ℕ → Journaled
-no_events rule tree stamp = record { rule = rule; events = []; asks = finite.empty; subs = finite.empty; base_tree = tree; base_stamp = stamp; last_stamp = stamp; spare = 0; room = 0 }
+no_events rule tree stamp = record { rule = rule; events = []; asks = finite.empty; subs = finite.empty; base_tree = tree; base_stamp = stamp; last_stamp = stamp }
 
 -- the last stamp when a child of t last committed
 abbrev pub sub_in : Journaled → ℕ → Option ℕ
@@ -62,18 +59,16 @@ sub_in j t = option_flatten (finite.get j.subs t)
 abbrev pub is_full : Journaled → Bool
 is_full j = nat_le MOST_CALLS (j.last_stamp - j.base_stamp) || nat_le LAST_NUMBER j.last_stamp
 
--- the begin takes one of the new places, and the other is kept for the end
+-- a begin more
 abbrev pub with_begin : Journaled → ℕ → Option ℕ → Journaled
-with_begin j t parent = record j { events = j.events ++ Begin t parent ∷ []; spare = j.spare + 1; room = j.room - 2 }
+with_begin j t parent = record j { events = j.events ++ Begin t parent ∷ [] }
 
--- the call takes one of the new places, and the other is kept for its undo
+-- a call more, for which nobody waits
 abbrev pub with_call : Journaled → ℕ → Call → Reply → List Access → Journaled
 with_call j t call reply accesses = record j {
   events = j.events ++ CallEvent (j.last_stamp + 1) t call reply accesses ∷ [];
   asks = finite.remove j.asks t;
   last_stamp = j.last_stamp + 1;
-  spare = j.spare + 1;
-  room = j.room - 2;
 }
 
 -- the call that is asked for now, or else the one that is waited for
@@ -86,9 +81,9 @@ abbrev pub with_ask : Journaled → ℕ → Option Call → Journaled
 with_ask j t None = j
 with_ask j t (Some call) = record j { asks = finite.insert j.asks t call }
 
--- the event takes a place that was kept
+-- an event more
 abbrev pub with_event : Journaled → Event → Journaled
-with_event j e = record j { events = j.events ++ e ∷ []; spare = j.spare - 1 }
+with_event j e = record j { events = j.events ++ e ∷ [] }
 
 -- nothing is noted of t any more
 abbrev pub without : Journaled → ℕ → Journaled
@@ -118,7 +113,3 @@ state_of forest j = record {
   last_txn = last_in forest;
   last_stamp = j.last_stamp;
 }
-
--- no place is kept any more
-abbrev pub with_none_kept : Journaled → Journaled
-with_none_kept j = record j { spare = 0; room = j.room + j.spare }

@@ -1,5 +1,5 @@
 -- What a core keeps true of itself.
-use Rattle.std.specs.Prelude.{◌≡◌, ◌≤◌, ◌+◌, ℕ, Bool, true, false, ◌&&◌, is_some, List, [], ◌∷◌, Some, None, length, map}
+use Rattle.std.specs.Prelude.{◌≡◌, ◌≤◌, ◌+◌, ℕ, Bool, true, false, is_some, List, [], ◌∷◌, Some, None, length, map}
 use Rattle.std.specs.FinMap as finite
 use Rattle.ft_base.specs.Chains.{Lists, list_in}
 use Rattle.ft_laws.specs.Lists.{Each, Pairs, In}
@@ -23,11 +23,10 @@ use Rattle.ft_moss.specs.Locks.{LockTable, is_locked, is_let_go, is_opened}
 use Rattle.ft_moss.specs.Law.{AreLocksOf}
 use Rattle.ft_moss.specs.Rules.{is_strict}
 use Rattle.ft_moss.specs.Surveys.{HasNoHolderAbove}
-use Rattle.ft_history.specs.History.{Base as HistoryBase, IsFresh, last_transaction, last_stamp, begun, parent, fate, owner_of, grants, is_live, IsLive, is_standing}
+use Rattle.ft_history.specs.History.{Base as HistoryBase, IsFresh, last_transaction, last_stamp, begun, parent, fate, grants, IsLive}
 use Rattle.ft_history.specs.Core.{Entry, IsCore}
-use Rattle.ft_history.specs.Logs.{passing}
 use Rattle.ft_history.specs.Undoing.{last_sub}
-use Rattle.ft_core.specs.Histories.{History, Granted}
+use Rattle.ft_core.specs.Histories.{History}
 use Rattle.ft_core.specs.declared.parts.Parts.{Parts}
 use Rattle.ft_core.specs.States.{Base, State, Asks, fate_in, history}
 use Rattle.ft_core.specs.Journals.{Journaled}
@@ -119,17 +118,6 @@ pub record AreLogs (cells : Cells) (log : ℕ → List Item) (lists : Lists Logg
   pub logged : (t : ℕ) → AreLogged (log t) (list_in lists t)
   pub placed : (t : ℕ) (e : Item) → In e (log t) → ArePlaced cells e
 
--- Places for events.
-
--- a standing call that has an owner
-abbrev pub is_owned : History → Granted → Bool
-is_owned h c = is_standing posix_calls h c && is_some (owner_of posix_calls h c.asker)
-
--- an event for the end of each live transaction, and one for the undo of each standing call that
--- has an owner; the base's last transaction is first
-abbrev pub events_kept : ℕ → History → ℕ
-events_kept first h = length (passing (λ t. is_live (fate posix_calls first h t)) (begun posix_calls h)) + length (passing (is_owned h) (grants posix_calls h))
-
 -- A live transaction is open in the lock table and in the logs, and what is noted of its
 -- children's commits is there.
 pub record IsReady (base : Base) (h : History) (table : LockTable) (lists : Lists Logged) (j : Journaled) (t : ℕ) : Type 0 where
@@ -151,7 +139,6 @@ pub record IsCoreAt (base : Base) (h : History) (asks : Asks) (last_txn last_num
   pub ready : (t : ℕ) → IsLive posix_calls base.last_txn h t → IsReady base h table lists j t
   -- only live transactions wait
   pub waiting : (t : ℕ) → is_some (finite.get asks t) ≡ true → IsLive posix_calls base.last_txn h t
-  pub spare : events_kept base.last_txn h ≤ j.spare
   pub accounted : IsAccounted (is_locked table) (is_let_go table) cells
 
 -- a state, the parts of its core and its journal are such

@@ -16,3 +16,6 @@ pub mod Taking
 pub mod Handing
 pub mod Sweeps
 pub mod Reached
+pub mod PastCode
+pub mod Noted
+pub mod FullOutcomes

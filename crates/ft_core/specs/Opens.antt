@@ -1,6 +1,6 @@
 -- What it is that the lock table, the logs and the journal are ready for a
 -- transaction that is to begin.
-use Rattle.std.specs.Prelude.{◌≡◌, ◌≢◌, ◌≤◌, ℕ, true, Option, None, Some}
+use Rattle.std.specs.Prelude.{◌≡◌, ◌≢◌, ℕ, true, Option, None, Some}
 use Rattle.std.specs.FinMap as finite
 use Rattle.ft_base.specs.Chains.{Lists, list_in}
 use Rattle.ft_undo.specs.declared.logs.Logged.{Logged}
@@ -14,16 +14,15 @@ use Rattle.ft_core.specs.Journals.{Journaled}
 -- Each transaction has its locks, its list and what is noted of it, and at most
 -- the next one is open besides.
 pub record AreAsBefore (j j' : Journaled) (table table' : LockTable) (lists lists' : Lists Logged) (next : ℕ) : Type 0 where
-  pub journal : j' ≡ record j { subs = j'.subs; room = j'.room }
+  pub journal : j' ≡ record j { subs = j'.subs }
   pub subs : (t : ℕ) → t ≢ next → finite.get j'.subs t ≡ finite.get j.subs t
   pub locks : table' ≡ record table { opened = table'.opened }
   pub opened : (t : ℕ) → is_opened table t ≡ true → is_opened table' t ≡ true
   pub listed : AreLists lists' (list_in lists)
   pub open_still : (t : ℕ) → is_open lists t ≡ true → is_open lists' t ≡ true
 
--- The next one is open, and its begin and its end have their places.
+-- The next one is open.
 pub record IsOpenFor (j : Journaled) (table : LockTable) (lists : Lists Logged) (next : ℕ) : Type 0 where
-  pub room : 2 ≤ j.room
   pub sub : finite.get j.subs next ≡ Some None
   pub locks : is_opened table next ≡ true
   pub log : is_open lists next ≡ true

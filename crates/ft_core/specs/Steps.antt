@@ -56,6 +56,11 @@ refusal_of s (Abort t) = fault_of_fate (fate_of s t) None
 refusal_of s (Undo t) = fault_of_fate (fate_of s t) (fault_if (has_live_child s t) ChildLive (fault_of_target (undo_target posix_calls (history s) t)))
 refusal_of s Checkpoint = fault_if (has_live s) LiveFault None
 
+-- the fault with which something is refused, if it is
+abbrev pub refused_with : Result (Unit {0}) Fault → Option Fault
+refused_with (Ok done) = None
+refused_with (Err fault) = Some fault
+
 -- requests that may want memory; an abort, an undo, a commit and a drop never do
 abbrev pub MayWantMemory : Request → Type 0
 MayWantMemory Begin = Unit {0}

@@ -15,8 +15,7 @@ use Rattle.ft_core.specs.Makes.{IsMadeOn, IsUnmade}
 -- before; nobody was in the way of it
 pub record IsMade (rule : Rule) (old new : Parts) (t k : ℕ) (call : Call) (made : Made) : Type 0 where
   pub free : AreBlockers rule old.locks old.forest t (accesses_of old.tree k call) []
-  pub twice : made.reply ≡ made.kept
-  pub reply : made.kept ≡ (outcome old.tree k call).reply
+  pub reply : made.reply ≡ (outcome old.tree k call).reply
   pub accesses : made.accesses.items ≡ accesses_of old.tree k call
   pub made_on : IsMadeOn old new (outcome old.tree k call).writes t k (accesses_of old.tree k call)
 

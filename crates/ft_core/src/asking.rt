@@ -7,12 +7,13 @@ ghost use Rattle.ft_core.specs.declared.fault.Fault.TheVariants.{Memory as Memor
 ghost use Rattle.ft_core.specs.declared.request.Request.TheVariants.{Ask, Retry};
 ghost use Rattle.ft_core.specs.Journals.{asked_for};
 ghost use Rattle.ft_core.specs.States.{fate_of, has_most_calls};
-ghost use Rattle.ft_core.specs.Steps.{IsStep, IsAsked, exact_rule, answer_with, outcome_answer};
+ghost use Rattle.ft_core.specs.FullOutcomes.{IsToldInFull, full_answer};
+ghost use Rattle.ft_core.specs.Steps.{IsStep, IsAsked, exact_rule, refusal_of, refused_with, answer_with, outcome_answer};
 
 use crate::fault::Fault;
 use crate::manager::Core;
 use crate::parts::{Asker, Made, Tried};
-use crate::request::Outcome;
+use crate::request::{FullOutcome, Outcome};
 use ft_base::Sequence;
 use ft_calls::Call;
 use ft_forest::TxnId;
@@ -26,9 +27,29 @@ impl Core {
     pub fn ask(&mut self, txn: TxnId, call: Call) -> Result<Outcome, Fault>
         ensures { IsStep exact_rule self.old.state (Ask txn call) (answer_with outcome_answer result) self.new.state }
     {
+        self.may_ask(txn)?;
+        self.request(txn, Some(call))
+    }
+
+    /// Makes a call, as `ask` does, and hands out all that was made of it: the call, its reply, a
+    /// copy of that, and its accesses. It is for who keeps a record of what happens.
+    ///
+    /// Refuses what `ask` refuses, in its order.
+    pub fn ask_in_full(&mut self, txn: TxnId, call: Call) -> Result<FullOutcome, Fault>
+        ensures step { IsStep exact_rule self.old.state (Ask txn call) (answer_with full_answer result) self.new.state }
+        ensures told { IfOk result (IsToldInFull self.old.state call) }
+    {
+        self.may_ask(txn)?;
+        self.request_in_full(txn, Some(call))
+    }
+
+    /// Refuses what `ask` refuses whatever the call is, in its order: all but being out of memory.
+    pub fn may_ask(&self, txn: TxnId) -> Result<(), Fault>
+        ensures { (call : CallOf) → refusal_of self.now.state (Ask txn call) ≡ refused_with result }
+    {
         self.check_live(txn)?;
         self.check_calls()?;
-        self.request(txn, Some(call))
+        Ok(())
     }
 
     /// Makes a copy of a call, as `ask` makes the call.
@@ -37,8 +58,7 @@ impl Core {
     pub fn ask_copy(&mut self, txn: TxnId, call: &Call) -> Result<Outcome, Fault>
         ensures { IsStep exact_rule self.old.state (Ask txn call.now) (answer_with outcome_answer result) self.new.state }
     {
-        self.check_live(txn)?;
-        self.check_calls()?;
+        self.may_ask(txn)?;
         let copy = call.copy(self.alloc)?;
         self.request(txn, Some(copy))
     }
@@ -51,12 +71,32 @@ impl Core {
     pub fn retry(&mut self, txn: TxnId) -> Result<Outcome, Fault>
         ensures { IsStep exact_rule self.old.state (Retry txn) (answer_with outcome_answer result) self.new.state }
     {
+        self.may_retry(txn)?;
+        self.request(txn, None)
+    }
+
+    /// Makes the call that a transaction waits for, as `retry` does, and hands out all that was made
+    /// of it, as `ask_in_full` does.
+    ///
+    /// Refuses what `retry` refuses, in its order.
+    pub fn retry_in_full(&mut self, txn: TxnId) -> Result<FullOutcome, Fault>
+        ensures step { IsStep exact_rule self.old.state (Retry txn) (answer_with full_answer result) self.new.state }
+        ensures told { IfOk result (λ outcome. (call : CallOf) × (finite.get self.old.state.asks txn ≡ Some call) × IsToldInFull self.old.state call outcome) }
+    {
+        self.may_retry(txn)?;
+        self.request_in_full(txn, None)
+    }
+
+    /// Refuses what `retry` refuses, in its order, except for being out of memory.
+    pub fn may_retry(&self, txn: TxnId) -> Result<(), Fault>
+        ensures { refusal_of self.now.state (Retry txn) ≡ refused_with result }
+    {
         self.check_live(txn)?;
         if self.journal.pending(txn).is_none() {
             return Err(Fault::NoAsk);
         }
         self.check_calls()?;
-        self.request(txn, None)
+        Ok(())
     }
 
     /// Refuses a call more where as many are granted as may be.
@@ -81,12 +121,51 @@ impl Core {
         ensures memory { IfErr result (λ fault. fault ≡ MemoryFault) }
         ensures same { OnErr result (self.new.state ≡ self.old.state) }
     {
-        // (the place of its event: nothing wants memory once the call is made)
-        self.journal.reserve()?;
         let stamp = self.journal.next_stamp();
         let rule = self.journal.rule();
         let call = self.journal.wanted(txn, &asked);
-        let asker = Asker { txn, stamp };
+        let asker = Asker {
+            txn,
+            stamp,
+            twice: false,
+        };
+        match self.parts.try_call(self.alloc, asker, call, rule)? {
+            Tried::Made(
+                Made {
+                    reply,
+                    accesses,
+                    ..
+                },
+            ) => {
+                let _ = self.journal.grant(txn, asked, &reply, accesses.as_slice());
+                Ok(Outcome::Granted { stamp, reply })
+            }
+            Tried::Blocked(blockers) => {
+                self.journal.wait(txn, asked)?;
+                let blockers = Sequence::from(blockers);
+                Ok(Outcome::Waits { blockers })
+            }
+        }
+    }
+
+    /// Makes a call, or notes that the transaction waits for it, as `request` does, and hands out
+    /// all that was made of it.
+    fn request_in_full(&mut self, txn: TxnId, asked: Option<Call>) -> Result<FullOutcome, Fault>
+        requires few { has_most_calls self.old.state ≡ false }
+        requires live { fate_of self.old.state txn ≡ Some Live }
+        requires some { IsSome (asked_for asked (finite.get self.old.state.asks txn)) }
+        ensures asked { IfOk result (λ outcome. (call : CallOf) × (asked_for asked (finite.get self.old.state.asks txn) ≡ Some call) × IsAsked exact_rule self.old.state txn call (full_answer outcome) self.new.state × IsToldInFull self.old.state call outcome) }
+        ensures memory { IfErr result (λ fault. fault ≡ MemoryFault) }
+        ensures same { OnErr result (self.new.state ≡ self.old.state) }
+    {
+        let stamp = self.journal.next_stamp();
+        let rule = self.journal.rule();
+        let call = self.journal.wanted(txn, &asked);
+        let asker = Asker {
+            txn,
+            stamp,
+            twice: true,
+        };
         match self.parts.try_call(self.alloc, asker, call, rule)? {
             Tried::Made(
                 Made {
@@ -95,13 +174,19 @@ impl Core {
                     accesses,
                 },
             ) => {
-                self.journal.grant(txn, asked, kept, accesses);
-                Ok(Outcome::Granted { stamp, reply })
+                let call = self.journal.grant(txn, asked, &reply, accesses.as_slice());
+                Ok(FullOutcome::Granted {
+                    stamp,
+                    call,
+                    reply,
+                    kept,
+                    accesses,
+                })
             }
             Tried::Blocked(blockers) => {
                 self.journal.wait(txn, asked)?;
                 let blockers = Sequence::from(blockers);
-                Ok(Outcome::Waits { blockers })
+                Ok(FullOutcome::Waits { blockers })
             }
         }
     }

@@ -13,7 +13,7 @@ ghost use Rattle.ft_core.specs.Steps.{IsStep, exact_rule, answer_with, fault_of_
 
 use crate::fault::Fault;
 use crate::manager::Core;
-use crate::request::Event;
+use crate::past::Turn;
 use ft_forest::TxnId;
 
 impl Core {
@@ -34,8 +34,7 @@ impl Core {
         self.parts.hand_up(txn, &parent);
         self.journal.note_sub(parent);
         self.journal.forget(txn);
-        self.journal.tell(Event::Commit { txn });
-        self.give_places_back();
+        self.journal.tell(&Turn::Commit { txn });
         Ok(())
     }
 
@@ -50,9 +49,7 @@ impl Core {
         ensures alone { (before : StateOf) → RanAlone before self.old.state txn → (answer_with Aborted result ≡ Aborted (count_standing self.old.state txn)) × (tree_of self.new.state ≡ tree_of before) }
     {
         self.check_live(txn)?;
-        let count = self.abort_live(txn);
-        self.give_places_back();
-        Ok(count)
+        Ok(self.abort_live(txn))
     }
 
     /// Takes back what the live transactions at or below a live one have done, each before its
@@ -73,7 +70,7 @@ impl Core {
             self.journal.forget(next);
             last = next;
         }
-        self.journal.tell(Event::Abort { txn });
+        self.journal.tell(&Turn::Abort { txn });
         count
     }
 
@@ -94,7 +91,7 @@ impl Core {
         }
         let stamp = self.undo_target(txn)?;
         self.parts.take_newest(txn);
-        self.journal.tell(Event::Undo { stamp });
+        self.journal.tell(&Turn::Undo { stamp });
         Ok(stamp)
     }
 
@@ -115,15 +112,6 @@ impl Core {
                 Some(_) => Err(Fault::SubSince),
                 None => Err(Fault::NothingToUndo),
             },
-        }
-    }
-
-    /// Gives the places back that were kept for events, where no transaction is live any more.
-    fn give_places_back(&mut self)
-        ensures { self.new ≡ self.old }
-    {
-        if self.parts.forest.youngest_child(None).is_none() {
-            self.journal.keep_none();
         }
     }
 }

@@ -1,15 +1,16 @@
 // The journal: what has happened, and what is noted of the live transactions.
-ghost use Rattle.std.specs.Prelude.{◌≡◌, ◌<◌, ◌≤◌, ◌+◌, IsSome, Some, None, OnOk, OnErr, false};
+ghost use Rattle.std.specs.Prelude.{◌≡◌, ◌≤◌, ◌+◌, IsSome, Some, None, OnOk, OnErr, false};
 ghost use Rattle.std.specs.FinMap as finite;
 ghost use Rattle.std.specs.Option.{option_copied};
 ghost use Rattle.ft_tree.specs.Tidy.{tidy};
 ghost use Rattle.ft_posix.specs.declared.call.Call.{Call as CallOf};
 ghost use Rattle.ft_forest.specs.declared.TheConstants.{LAST_NUMBER as last_number};
-ghost use Rattle.ft_core.specs.Journals.{IsBaseTree, IsNoted, asked_for, no_events, sub_in, is_full, with_begin, with_call, with_ask, with_event, without, noted_up, with_none_kept};
+ghost use Rattle.ft_core.specs.Journals.{IsNoted, asked_for, no_events, sub_in, is_full, with_begin, with_call, with_ask, with_event, without, noted_up};
+ghost use Rattle.ft_core.specs.Noted.{event_of};
 
-use crate::request::Event;
+use crate::past::{Grant, Past, Turn};
 use crate::{LAST_NUMBER, MOST_CALLS};
-use ft_base::{DenseTable, Memory, Sequence, Table};
+use ft_base::{DenseTable, Memory, Table};
 use ft_calls::{Access, Call, Reply};
 use ft_forest::TxnId;
 use ft_moss::Rule;
@@ -19,12 +20,10 @@ use std::marker::Model;
 
 pub(crate) struct Journal {
     rule: Rule,
-    events: Vec<Event>,
-    // How many places are kept for the ends of transactions and for undos.
-    spare: usize,
+    // (no bytes: what has happened is seen by clauses alone)
+    past: Past,
     asks: Table<Call>,
     subs: DenseTable<Option<u64>>,
-    base: Tree,
     base_stamp: u64,
     last_stamp: u64,
 }
@@ -33,11 +32,9 @@ impl Drop for Journal {
     fn drop(self) {
         let Journal {
             rule: _,
-            events: _,
-            spare: _,
+            past: _,
             asks: _,
             subs: _,
-            base: _,
             base_stamp: _,
             last_stamp: _,
         } = self;
@@ -45,34 +42,31 @@ impl Drop for Journal {
 }
 
 impl Model for Journal {
-    ghost use Rattle.std.specs.Prelude.{◌-◌, ◌+◌, ◌≤◌, vec_len, vec_capacity};
-    ghost use Rattle.ft_tree.specs.Tidy.{tidy};
+    ghost use Rattle.std.specs.Prelude.{◌≤◌};
     ghost use Rattle.ft_forest.specs.declared.TheConstants.{LAST_NUMBER as last_number};
-    ghost use Rattle.ft_core.specs.Journals.{Journaled, IsBaseTree, coded_journaled};
+    ghost use Rattle.ft_core.specs.Journals.{Journaled, coded_journaled};
 
     ghost Value = { Journaled };
 
     ghost coded = { coded_journaled };
 
-    ghost view = { λ a. record { rule = a.rule; events = a.events.items; asks = a.asks; subs = a.subs; base_tree = tidy a.base; base_stamp = a.base_stamp; last_stamp = a.last_stamp; spare = a.spare; room = vec_capacity a.events - (vec_len a.events + a.spare) } };
+    ghost view = { λ a. record { rule = a.rule; events = a.past.events; asks = a.asks; subs = a.subs; base_tree = a.past.tree; base_stamp = a.base_stamp; last_stamp = a.last_stamp } };
 
-    ghost invariant = { λ a. (vec_len a.events + a.spare ≤ vec_capacity a.events) × (a.base_stamp ≤ a.last_stamp) × (a.last_stamp ≤ last_number) × IsBaseTree a.base a.base_stamp };
+    ghost invariant = { λ a. (a.base_stamp ≤ a.last_stamp) × (a.last_stamp ≤ last_number) };
 }
 
 impl Journal {
-    /// Nothing has happened since this tree; `stamp` is the last one given before. Takes no memory.
-    pub(crate) fn new(alloc: Global, rule: Rule, base: Tree, stamp: u64) -> Journal
-        requires last { stamp ≤ last_number }
-        requires base { IsBaseTree base stamp }
-        ensures { result ≡ record (no_events rule (tidy base) stamp) { room = result.room } }
+    /// Nothing has happened since this tree, which is not kept; `stamp` is the last one given
+    /// before. Takes no memory.
+    pub(crate) fn new(alloc: Global, rule: Rule, base: &Tree, stamp: u64) -> Journal
+        requires { stamp ≤ last_number }
+        ensures { result ≡ no_events rule (tidy base.now) stamp }
     {
         Journal {
             rule,
-            events: Vec::new(alloc),
-            spare: 0,
+            past: Past::new(base),
             asks: Table::new(alloc),
             subs: DenseTable::new(alloc),
-            base,
             base_stamp: stamp,
             last_stamp: stamp,
         }
@@ -83,20 +77,6 @@ impl Journal {
         ensures { result ≡ self.now.rule }
     {
         self.rule
-    }
-
-    /// The tree from which all began.
-    pub(crate) fn base(&self) -> &Tree
-        ensures tree { tidy result.now ≡ self.now.base_tree }
-        ensures base { IsBaseTree result.now self.now.base_stamp }
-    {
-        &self.base
-    }
-
-    pub(crate) fn events(&self) -> &[Event]
-        ensures { result.now ≡ self.now.events }
-    {
-        self.events.as_slice()
     }
 
     /// The calls that transactions wait for.
@@ -154,22 +134,6 @@ impl Journal {
         self.last_stamp + 1
     }
 
-    /// Makes the places of one more event, and of the one that ends or undoes it. Where they are
-    /// missing, an eighth of all is made besides, and not as many again: these places are large,
-    /// and many are kept free for ends and undos.
-    pub(crate) fn reserve(&mut self) -> Result<(), Memory>
-        ensures same { self.new ≡ record self.old { room = self.new.room } }
-        ensures room { OnOk result (2 ≤ self.new.room) }
-    {
-        let wanted = self.spare + 2;
-        if wanted <= self.events.capacity() - self.events.len() {
-            return Ok(());
-        }
-        let more = self.events.capacity() / 8;
-        self.events.reserve_exact(wanted + more)?;
-        Ok(())
-    }
-
     /// Makes the place of what is noted of a transaction that is to begin.
     pub(crate) fn open(&mut self, txn: u64) -> Result<(), Memory>
         ensures ok { OnOk result (self.new ≡ record self.old { subs = finite.insert self.old.subs txn None }) }
@@ -180,42 +144,39 @@ impl Journal {
 
     /// Tells that a transaction has begun.
     pub(crate) fn begin(&mut self, txn: TxnId, parent: Option<TxnId>)
-        requires { 2 ≤ self.old.room }
         ensures { self.new ≡ with_begin self.old txn parent }
     {
-        self.events.push_reserved(Event::Begin { txn, parent });
-        self.spare += 1;
+        self.past = self.past.then(&Turn::Begin { txn, parent });
     }
 
     /// Tells that a call was granted: the one that was asked for now, or without one the call that
-    /// the transaction waits for. It waits for nothing then.
+    /// the transaction waits for. It waits for nothing then. Hands the call back.
     pub(crate) fn grant(
         &mut self,
         txn: TxnId,
         asked: Option<Call>,
-        reply: Reply,
-        accesses: Vec<Access>,
-    )
-        requires room { 2 ≤ self.old.room }
+        reply: &Reply,
+        accesses: &[Access],
+    ) -> Call
         requires few { is_full self.old ≡ false }
         requires some { IsSome (asked_for asked (finite.get self.old.asks txn)) }
-        ensures { (call : CallOf) → asked_for asked (finite.get self.old.asks txn) ≡ Some call → self.new ≡ with_call self.old txn call reply accesses.items }
+        ensures call { asked_for asked (finite.get self.old.asks txn) ≡ Some result }
+        ensures told { (call : CallOf) → asked_for asked (finite.get self.old.asks txn) ≡ Some call → self.new ≡ with_call self.old txn call reply.now accesses.now }
     {
         let pending = self.take_ask(txn);
         let Some(call) = asked.or(pending) else {
             unreachable!();
         };
         let stamp = self.last_stamp + 1;
-        let event = Event::Call {
+        self.past = self.past.and(&Grant {
             stamp,
             txn,
-            call,
+            call: &call,
             reply,
-            accesses: Sequence::from(accesses),
-        };
-        self.events.push_reserved(event);
+            accesses,
+        });
         self.last_stamp = stamp;
-        self.spare += 1;
+        call
     }
 
     /// Notes that a transaction waits for a call that was asked for now. Without one it waits on.
@@ -248,13 +209,11 @@ impl Journal {
         let _ = self.take_ask(txn);
     }
 
-    /// Tells of the end of a transaction or of an undo, in a place that was kept.
-    pub(crate) fn tell(&mut self, event: Event)
-        requires { 0 < self.old.spare }
-        ensures { self.new ≡ with_event self.old event }
+    /// Tells of the end of a transaction or of an undo.
+    pub(crate) fn tell(&mut self, turn: &Turn)
+        ensures { self.new ≡ with_event self.old (event_of turn.now) }
     {
-        self.events.push_reserved(event);
-        self.spare -= 1;
+        self.past = self.past.then(turn);
     }
 
     /// Forgets what is noted of a transaction.
@@ -274,12 +233,5 @@ impl Journal {
         if let Some(txn) = parent {
             self.subs.set(txn.0, Some(self.last_stamp));
         }
-    }
-
-    /// Gives the places back that were kept: nothing can end or be undone any more.
-    pub(crate) fn keep_none(&mut self)
-        ensures { self.new ≡ with_none_kept self.old }
-    {
-        self.spare = 0;
     }
 }

@@ -30,5 +30,5 @@ pub fn exact_ledger()
 pub fn reached(core: &Core)
     ensures { IsReached core.now }
 {
-    let _ = core.history();
+    let _ = core.journal.rule();
 }

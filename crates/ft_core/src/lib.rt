@@ -10,6 +10,7 @@ mod journal;
 pub mod laws;
 mod manager;
 mod parts;
+mod past;
 mod reports;
 mod request;
 mod running;
@@ -20,7 +21,7 @@ pub use ft_forest::{LAST_NUMBER, MOST_DEPTH, MOST_TRANSACTIONS, State, TxnId};
 pub use ft_moss::Rule;
 pub use manager::Core;
 pub use reports::{LiveChild, Pending};
-pub use request::{Answer, Event, Outcome, Request};
+pub use request::{Answer, Event, FullOutcome, Outcome, Request};
 
 /// The most granted calls since the base. A call that was undone counts too: it was granted.
 pub const MOST_CALLS: u64 = 1_000_000;

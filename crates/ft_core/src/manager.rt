@@ -1,6 +1,7 @@
 // The core: nested transactions over one tree.
 ghost use Rattle.std.specs.Prelude.{◌≡◌, ◌<◌, ◌≤◌, ◌+◌, Some, None, Option, MatchBool, IfOk, IfErr, OnOk, OnErr};
 ghost use Rattle.ft_tree.specs.Tidy.{tidy};
+ghost use Rattle.ft_forest.specs.declared.TheConstants.{LAST_NUMBER as last_number};
 ghost use Rattle.ft_tree.specs.Sound.{IsSoundTree, AreSoundCells};
 ghost use Rattle.ft_core.specs.declared.fault.Fault.{Fault as FaultOf};
 ghost use Rattle.ft_core.specs.declared.fault.Fault.TheVariants.{Memory as MemoryFault};
@@ -14,17 +15,14 @@ ghost use Rattle.ft_core.specs.States.{at_base, first_base, fate_in, fate_of, ha
 ghost use Rattle.ft_core.specs.Journals.{IsBaseTree};
 ghost use Rattle.ft_core.specs.Living.{SomeIsLive, NoneIsLive};
 ghost use Rattle.ft_core.specs.Promises.{IsHeadline};
-ghost use Rattle.ft_core.specs.Reached.{IsReached};
-ghost use Rattle.ft_core.specs.Steps.{IsStep, exact_rule, fault_of_fate, answer_with, refusal_of, begin_request};
+ghost use Rattle.ft_core.specs.Steps.{IsStep, exact_rule, fault_of_fate, answer_with, refusal_of, refused_with, begin_request};
 ghost use Rattle.ft_core.specs.Opens.{AreAsBefore, IsOpenFor, add_refusal};
 ghost use Rattle.ft_forest.specs.Transactions.{last_in, HasBegun};
 ghost use Rattle.ft_forest.specs.Refusals.{IsRefusal};
-ghost use Rattle.ft_forest.specs.declared.TheConstants.{LAST_NUMBER as last_number};
 
 use crate::fault::Fault;
 use crate::journal::Journal;
 use crate::parts::Parts;
-use crate::request::Event;
 use ft_base::Memory;
 use ft_forest::{Forest, ForestFault, State, TxnId};
 use ft_locks::Locks;
@@ -81,12 +79,12 @@ impl Core {
     pub fn with_rule(alloc: Global, rule: Rule) -> Result<Core, Memory>
         ensures { IfOk result (λ core. core.state ≡ at_base rule first_base) }
     {
-        let base = Tree::new(alloc)?;
         let tree = Tree::new(alloc)?;
         let locks = Locks::new(alloc)?;
+        let journal = Journal::new(alloc, rule, &tree, 1);
         Ok(Core {
             alloc,
-            journal: Journal::new(alloc, rule, base, 1),
+            journal,
             parts: Parts {
                 tree,
                 forest: Forest::new(alloc, 0),
@@ -114,8 +112,24 @@ impl Core {
     pub fn begin(&mut self) -> Result<TxnId, Fault>
         ensures { IsStep exact_rule self.old.state Begin (answer_with Txn result) self.new.state }
     {
-        self.parts.forest.check_begin()?;
+        self.may_begin()?;
         self.start(None)
+    }
+
+    /// Refuses what `begin` refuses, except for being out of memory.
+    pub fn may_begin(&self) -> Result<(), Fault>
+        ensures { refusal_of self.now.state Begin ≡ refused_with result }
+    {
+        self.parts.forest.check_begin()?;
+        Ok(())
+    }
+
+    /// Refuses what `sub` refuses, in its order, except for being out of memory.
+    pub fn may_sub(&self, txn: TxnId) -> Result<(), Fault>
+        ensures { refusal_of self.now.state (Sub txn) ≡ refused_with result }
+    {
+        self.parts.forest.check_sub(txn)?;
+        Ok(())
     }
 
     /// Begins a subtransaction.
@@ -125,7 +139,7 @@ impl Core {
     pub fn sub(&mut self, txn: TxnId) -> Result<TxnId, Fault>
         ensures { IsStep exact_rule self.old.state (Sub txn) (answer_with Txn result) self.new.state }
     {
-        self.parts.forest.check_sub(txn)?;
+        self.may_sub(txn)?;
         self.start(Some(txn))
     }
 
@@ -149,27 +163,11 @@ impl Core {
         ensures stored { result.now ≡ self.now.cells }
         ensures headline { IsHeadline self.now.state result.now }
         ensures sound { AreSoundCells result.now }
+        ensures base { IsBaseTree result.now self.now.state.last_stamp }
+        ensures last { self.now.state.last_stamp ≤ last_number }
         ensures plain_sound { IsSoundTree (tidy result.now) }
     {
         &self.parts.tree
-    }
-
-    /// The tree of the base: the root alone, until a checkpoint. No number above the base's last
-    /// stamp stands in it, and that is no greater than `LAST_NUMBER`.
-    pub fn base(&self) -> &Tree
-        ensures tree { tidy result.now ≡ self.now.state.base.tree }
-        ensures base { IsBaseTree result.now self.now.state.base.last_stamp }
-        ensures last { self.now.state.base.last_stamp ≤ last_number }
-    {
-        self.journal.base()
-    }
-
-    /// What has happened since the base, in order: a legal history from a sound tree.
-    pub fn history(&self) -> &[Event]
-        ensures events { result.now ≡ self.now.state.events }
-        ensures reached { IsReached self.now }
-    {
-        self.journal.events()
     }
 
     /// Whether a transaction is live.
@@ -237,14 +235,13 @@ fn add(forest: &mut Forest, parent: &Option<TxnId>) -> Result<TxnId, ForestFault
     }
 }
 
-/// Makes the places of a transaction that is to begin: in the locks, in the logs, and of its begin
-/// and its end. Those that are made stay where memory is wanting; nothing is seen of them.
+/// Makes the places of a transaction that is to begin: in the journal, in the locks and in the logs.
+/// Those that are made stay where memory is wanting; nothing is seen of them.
 fn open(journal: &mut Journal, locks: &mut Locks, logs: &mut Logs, next: u64) -> Result<(), Memory>
     requires { 0 < next }
     ensures same { AreAsBefore journal.old journal.new locks.old locks.new logs.old logs.new next }
     ensures ready { OnOk result (IsOpenFor journal.new locks.new logs.new next) }
 {
-    journal.reserve()?;
     journal.open(next)?;
     locks.open(TxnId(next))?;
     logs.open(next)?;

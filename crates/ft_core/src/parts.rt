@@ -1,5 +1,5 @@
 // The parts of a core: the tree, and what is kept beside it.
-ghost use Rattle.std.specs.Prelude.{◌≡◌, ◌<◌, ◌≤◌, ◌^◌, ◌+◌, ◌∷◌, ℕ, List, [], Some, true, false, length, take, map, IfOk, OnOk, OnErr};
+ghost use Rattle.std.specs.Prelude.{◌≡◌, ◌<◌, ◌≤◌, ◌^◌, ◌+◌, ◌∷◌, ℕ, List, [], Some, None, cond, true, false, length, take, map, IfOk, OnOk, OnErr};
 ghost use Rattle.ft_base.specs.Chains.{list_in};
 ghost use Rattle.ft_tree.specs.Sound.{AreSoundCells};
 ghost use Rattle.ft_posix.specs.Comes.{outcome_of};
@@ -17,6 +17,7 @@ ghost use Rattle.ft_core.specs.Makes.{IsMadeOn, IsUnmade};
 ghost use Rattle.ft_core.specs.Surveys.{IsAloneIfChildless};
 ghost use Rattle.ft_core.specs.Taking.{taken_back, CanTakeBack};
 ghost use Rattle.ft_core.specs.Tries.{IsTried};
+ghost use Rattle.ft_core.specs.FullOutcomes.{IsTwice};
 
 use ft_base::Memory;
 use ft_calls::{Access, Call, Prepared, Reply, prepare};
@@ -36,18 +37,19 @@ pub(crate) struct Parts {
     pub logs: Logs,
 }
 
-/// Who asks, and the stamp of the call.
+/// Who asks, the stamp of the call, and whether its reply is wanted twice.
 #[derive(Clone, Copy)]
 pub(crate) struct Asker {
     pub txn: TxnId,
     pub stamp: u64,
+    pub twice: bool,
 }
 
-/// The reply of a call that was made, twice, and its accesses.
+/// The reply of a call that was made, a second time where that was wanted, and its accesses.
 #[derive(Drop)]
 pub(crate) struct Made {
     pub reply: Reply,
-    pub kept: Reply,
+    pub kept: Option<Reply>,
     pub accesses: Vec<Access>,
 }
 
@@ -96,6 +98,7 @@ impl Parts {
         requires log { is_open self.old.logs asker.txn ≡ true }
         requires alone { IsAloneIfChildless self.old.locks self.old.forest asker.txn }
         requires no_holder { is_strict rule ≡ true → HasNoHolderAbove self.old.locks self.old.forest }
+        ensures twice { IfOk result (IsTwice asker.twice) }
         ensures tried { IfOk result (IsTried rule self.old self.new asker.txn asker.stamp call.now) }
         ensures unmade { OnErr result (IsUnmade self.old self.new) }
     {
@@ -124,8 +127,8 @@ impl Parts {
         requires log { is_open self.old.logs asker.txn ≡ true }
         requires within { held ≤ length prepared.accesses.items }
         requires held { AreGranted self.old.locks self.old.locks asker.txn (take held prepared.accesses.items) }
-        ensures twice { IfOk result (λ made. made.reply ≡ made.kept) }
-        ensures reply { IfOk result (λ made. made.kept ≡ (outcome_of self.old.tree prepared.entry.intent).reply) }
+        ensures twice { IfOk result (λ made. made.kept ≡ cond asker.twice (Some made.reply) None) }
+        ensures reply { IfOk result (λ made. made.reply ≡ (outcome_of self.old.tree prepared.entry.intent).reply) }
         ensures accesses { IfOk result (λ made. made.accesses.items ≡ prepared.entry.accesses.items) }
         ensures made { OnOk result (IsMadeOn self.old self.new (outcome_of self.old.tree prepared.entry.intent).writes asker.txn asker.stamp prepared.entry.accesses.items) }
         ensures unmade { OnErr result (IsUnmade self.old self.new) }
@@ -134,9 +137,9 @@ impl Parts {
             accesses,
             mut intent,
         } = prepared;
-        // (the answer and the event both have the reply: it is copied before any edit is made)
+        // (what wants memory is made before any edit)
         let reply = intent.reply(alloc, &self.tree)?;
-        let kept = reply.copy(alloc)?;
+        let kept = second(alloc, &reply, asker.twice)?;
         self.logs.apply(
             alloc,
             asker.txn.0,
@@ -212,4 +215,14 @@ impl Parts {
             }
         }
     }
+}
+
+/// A reply a second time, where that is wanted.
+fn second(alloc: Global, reply: &Reply, twice: bool) -> Result<Option<Reply>, Memory>
+    ensures { IfOk result (λ kept. kept ≡ cond twice (Some reply.now) None) }
+{
+    if !twice {
+        return Ok(None);
+    }
+    Ok(Some(reply.copy(alloc)?))
 }

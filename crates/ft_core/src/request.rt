@@ -58,6 +58,24 @@ pub enum Outcome {
     Waits { blockers: Sequence<TxnId> },
 }
 
+/// What became of a call that was asked for, with all that was made of it.
+#[derive(Drop)]
+pub enum FullOutcome {
+    /// It was granted, with its stamp, and made: the call, its reply, a copy of the reply, and the
+    /// accesses.
+    Granted {
+        stamp: u64,
+        call: Call,
+        reply: Reply,
+        kept: Option<Reply>,
+        accesses: Vec<Access>,
+    },
+    /// It waits for these transactions, in rising order.
+    Waits {
+        blockers: Sequence<TxnId>,
+    },
+}
+
 /// What has happened.
 #[derive(Debug, PartialEq, Eq, Drop)]
 pub enum Event {

@@ -2,9 +2,10 @@
 ghost use Rattle.std.specs.Prelude.{◌≤◌};
 
 use ft_calls::{Call, Reply};
-use ft_core::{Core, Event, Fault, Outcome, TxnId};
+use ft_core::{Event, Fault, Outcome, TxnId};
 use ft_jobs::{End, Gate, JobFault, JobsOutcome, OpenGate, Plan, Report, run_jobs};
 use ft_path::Errno;
+use ft_record::Recorded;
 use ft_shared::{Manager, Shared};
 use ft_test_scripts::new_shared;
 use ft_tree::Kind;
@@ -218,7 +219,7 @@ impl Manager for Lying {
         self.shared.abort(rt, txn)
     }
 
-    fn into_core<R: Wait>(self, rt: &R) -> Core {
+    fn into_core<R: Wait>(self, rt: &R) -> Recorded {
         let Lying { shared, lie: _ } = self;
         shared.into_core(rt)
     }

@@ -1,6 +1,7 @@
 // What no clause says: the line that tells of a fault, and what jobs came to.
 use ft_after::core_after;
 use ft_core::Rule;
+use ft_record::Recorded;
 use ft_status::{jobs_status, play_status};
 use std::alloc::Global;
 use std::io;
@@ -120,7 +121,7 @@ fn jobs_program_text(rt: HostRuntime) -> Result<(), Fail> {
     let alloc = rt.alloc();
     let mut output = Narrow::new(alloc, 200);
     let mut errors = Narrow::new(alloc, 100);
-    let core = core_after(alloc, Rule::Profile, None)?;
+    let core = Recorded::new(alloc)?;
     let status = jobs_status(
         &rt,
         alloc,
@@ -134,7 +135,7 @@ fn jobs_program_text(rt: HostRuntime) -> Result<(), Fail> {
     assert!(rt;
         status == 0 && output.held.as_slice() == ONE_OUTCOME.as_bytes() && errors.held.is_empty()
     );
-    let core = core_after(alloc, Rule::Profile, None)?;
+    let core = Recorded::new(alloc)?;
     let status = jobs_status(
         &rt,
         alloc,
@@ -154,7 +155,7 @@ fn output_that_fails(rt: HostRuntime) -> Result<(), Fail> {
     let alloc = rt.alloc();
     let mut output = Narrow::new(alloc, 10);
     let mut errors = Narrow::new(alloc, 100);
-    let core = core_after(alloc, Rule::Profile, None)?;
+    let core = Recorded::new(alloc)?;
     let status = jobs_status(
         &rt,
         alloc,

@@ -5,8 +5,8 @@ ghost use Rattle.ft_reports.specs.Reports.{AreReports};
 use crate::board::Board;
 use crate::gate::Gate;
 use crate::job_run::{Work, run_job};
-use ft_core::Core;
 use ft_plan::{JobFault, Plan};
+use ft_record::Recorded;
 use ft_reports::{Report, are_reports};
 use ft_shared::Manager;
 use std::alloc::Global;
@@ -18,7 +18,7 @@ use std::time::Clock;
 #[derive(Drop)]
 pub struct JobsOutcome {
     /// The core, after all jobs have ended.
-    pub core: Core,
+    pub core: Recorded,
     /// A report of each job, in the order of the plan.
     pub reports: Vec<Report>,
 }
@@ -32,7 +32,7 @@ impl JobsOutcome {
     pub fn compared(
         alloc: Global,
         plan: &Plan,
-        core: Core,
+        core: Recorded,
         reports: Vec<Report>,
     ) -> Result<JobsOutcome, JobFault>
         ensures same { IfOk result (λ outcome. (outcome.core ≡ core) × (outcome.reports ≡ reports)) }

@@ -6,9 +6,9 @@ ghost use Rattle.ft_outcome.specs.Runs.{IsNoPlan, IsTextOfPlan, RunsPlan, StopsP
 
 use crate::text::OutcomeText;
 use ft_base::Memory;
-use ft_core::Core;
 use ft_jobs::{Job, JobFault, JobsOutcome, Plan};
 use ft_progress::run_shown;
+use ft_record::Recorded;
 use ft_script::write_out;
 use ft_shared::Shared;
 use std::alloc::Global;
@@ -53,7 +53,7 @@ impl From<JobFault> for RunFault {
 pub fn run_plan<R: Threads + Wait + Clock + Sync, S: Write + Send + Drop, W: Write>(
     rt: &R,
     alloc: Global,
-    core: Core,
+    core: Recorded,
     plan: &[u8],
     turns: u64,
     screen: Option<S>,
@@ -75,7 +75,7 @@ pub fn run_plan<R: Threads + Wait + Clock + Sync, S: Write + Send + Drop, W: Wri
 fn text_of<R: Threads + Wait + Clock + Sync, S: Write + Send + Drop>(
     rt: &R,
     alloc: Global,
-    core: Core,
+    core: Recorded,
     plan: &[u8],
     turns: u64,
     screen: Option<S>,
@@ -108,7 +108,7 @@ fn told(alloc: Global, jobs: &[Job], outcome: &JobsOutcome) -> Result<String, Me
 fn run_on<R: Threads + Wait + Clock + Sync, S: Write + Send + Drop>(
     rt: &R,
     alloc: Global,
-    core: Core,
+    core: Recorded,
     plan: &Plan,
     turns: u64,
     screen: Option<S>,

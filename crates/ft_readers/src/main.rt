@@ -5,8 +5,8 @@
 mod reading;
 
 use anyhow::{Result, bail};
-use ft_core::Core;
 use ft_jobs::Plan;
+use ft_record::Recorded;
 use ft_shared::with_views;
 use reading::read_beside;
 use std::marker::Brand;
@@ -17,7 +17,7 @@ const PLAN: &[u8] = b"job a\nmkdir /a\ncommit\njob b\nmkdir /b\ncommit\njob c\nm
 fn main(rt: HostRuntime) -> Result<()> {
     let alloc = rt.alloc();
     let plan = Plan::read(alloc, PLAN)?;
-    let Ok(opened) = with_views(Core::new(alloc)?) else {
+    let Ok(opened) = with_views(Recorded::new(alloc)?) else {
         bail!("there are no views");
     };
     let (jobs, seen) = read_beside::<Brand, HostRuntime>(&rt, alloc, &plan, opened)?;

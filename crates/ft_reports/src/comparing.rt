@@ -10,8 +10,9 @@ use crate::places::place_of;
 use crate::report::{End, Report};
 use crate::steps::is_done;
 use ft_base::Memory;
-use ft_core::{Core, Event, TxnId};
+use ft_core::{Event, TxnId};
 use ft_plan::{Job, Plan};
+use ft_record::Recorded;
 use std::alloc::Global;
 
 /// Whether these are the reports of what happened to the jobs of a plan, in the core that they
@@ -19,7 +20,7 @@ use std::alloc::Global;
 pub fn are_reports(
     alloc: Global,
     plan: &Plan,
-    core: &Core,
+    core: &Recorded,
     reports: &[Report],
 ) -> Result<bool, Memory>
     ensures { IfOk result (λ are. IsTrue are ↔ AreReports core.now.state plan.now reports.now) }
@@ -36,7 +37,7 @@ pub fn are_reports(
 }
 
 // Whether the transactions of the reports are committed or aborted as they say.
-fn have_their_fates(core: &Core, reports: &[Report]) -> bool
+fn have_their_fates(core: &Recorded, reports: &[Report]) -> bool
     ensures { IsTrue result ↔ All (HasItsFate core.now.state) reports.now }
 {
     for report in reports {
@@ -48,7 +49,7 @@ fn have_their_fates(core: &Core, reports: &[Report]) -> bool
 }
 
 // Whether the transaction of a report, if it has one, is committed or aborted as it says.
-fn has_its_fate(core: &Core, report: &Report) -> bool
+fn has_its_fate(core: &Recorded, report: &Report) -> bool
     ensures { IsTrue result ↔ HasItsFate core.now.state report.now }
 {
     match report.txn {

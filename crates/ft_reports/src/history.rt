@@ -9,7 +9,8 @@ ghost use Rattle.ft_reports.specs.Reports.{calls_of, stamps_rise};
 ghost use Rattle.ft_reports.specs.Reading.{granted_by, parent_after};
 
 use crate::report::CallReport;
-use ft_core::{Core, Event, State, TxnId};
+use ft_core::{Event, State, TxnId};
+use ft_record::Recorded;
 
 /// Whether these are all calls that a transaction was granted, in their order.
 pub fn are_calls_of(events: &[Event], txn: TxnId, calls: &[CallReport]) -> bool
@@ -92,7 +93,7 @@ fn parent_after(event: &Event, txn: TxnId, before: Option<TxnId>) -> Option<TxnI
 
 /// Whether a transaction has ended, committed or aborted as it says here.
 #[tactic(auto, using(crate::proofs::Ending::ended_is))]
-pub fn has_ended(core: &Core, txn: TxnId, committed: bool) -> bool
+pub fn has_ended(core: &Recorded, txn: TxnId, committed: bool) -> bool
     ensures { IsTrue result ↔ (fate_of core.now.state txn ≡ Some (cond committed WasCommitted WasAborted)) }
 {
     match core.state(txn) {

@@ -12,8 +12,9 @@
 mod disk_source;
 mod disk_target;
 
-ghost use Rattle.std.specs.Prelude.{IfOk};
+ghost use Rattle.std.specs.Prelude.{◌≡◌, IfOk};
 ghost use Rattle.ft_core.specs.Living.{NoneIsLive};
+ghost use Rattle.ft_core.specs.States.{at_base};
 
 use crate::disk_source::DiskSource;
 use crate::disk_target::DiskTarget;
@@ -21,6 +22,7 @@ use ft_after::core_after;
 use ft_command::{Choice, choose};
 use ft_core::{Core, Rule};
 use ft_jobs::LONGEST_PLAN;
+use ft_record::Recorded;
 use ft_script::PlayFault;
 use ft_shown::ShownTarget;
 use ft_status::{
@@ -95,10 +97,12 @@ fn begun_jobs(
     file: &str,
     rule: Rule,
     after: Option<String>,
-) -> Result<(Core, Vec<u8>), u8>
+) -> Result<(Recorded, Vec<u8>), u8>
     ensures { IfOk result (λ begun. NoneIsLive begun.0.state) }
 {
-    let core = core_for(rt, rule, after)?;
+    let Ok(core) = Recorded::of(core_for(rt, rule, after)?) else {
+        return Err(failed(&mut rt.stderr(), fault_line(PlayFault::Memory)));
+    };
     match read_file(rt, file, LONGEST_PLAN as u64 + 1) {
         Ok(plan) => Ok((core, plan)),
         Err(fault) => Err(failed(&mut rt.stderr(), fault_line(fault))),
@@ -142,7 +146,8 @@ fn save_dir(rt: &HostRuntime, dir: &str, quiet: bool) -> u8 {
 // A core that grants calls by this rule, on which the script in a file was played first, if there
 // is one. Where that could not be, it was told, and the status to end with is answered.
 fn core_for(rt: &HostRuntime, rule: Rule, after: Option<String>) -> Result<Core, u8>
-    ensures { IfOk result (λ core. NoneIsLive core.state) }
+    ensures none_live { IfOk result (λ core. NoneIsLive core.state) }
+    ensures base { IfOk result (λ core. core.state ≡ at_base core.state.rule core.state.base) }
 {
     let alloc = rt.alloc();
     let begun = match after {

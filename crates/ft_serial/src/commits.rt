@@ -6,7 +6,7 @@ ghost use Rattle.ft_serial.specs.Serials.{committed_calls, committed_in};
 use crate::walk::Walk;
 use ft_base::Memory;
 use ft_calls::StampedCall;
-use ft_core::Core;
+use ft_record::Recorded;
 use std::alloc::Global;
 use std::marker::Model;
 use std::snapshot::Snapshot;
@@ -18,7 +18,7 @@ use std::snapshot::Snapshot;
 pub struct Commits {
     walk: Walk,
     // The core as it was when it was last gone over. It has no bytes.
-    seen: Option<Snapshot<Core>>,
+    seen: Option<Snapshot<Recorded>>,
 }
 
 impl Drop for Commits {
@@ -57,7 +57,7 @@ impl Commits {
     ///
     /// Takes the time of the events that are gone over, and for each call among them and each that
     /// is given out that of its asker's depth.
-    pub fn next(&mut self, core: &Core) -> Result<Option<StampedCall>, Memory>
+    pub fn next(&mut self, core: &Recorded) -> Result<Option<StampedCall>, Memory>
         requires { IsPrefix self.old.events core.now.state.events }
         ensures call { IfOk result (λ next. IfSome next (λ call. self.new.given ≡ self.old.given ++ call ∷ [])) }
         ensures same { IfOk result (λ next. IfNone next (self.new.given ≡ self.old.given)) }

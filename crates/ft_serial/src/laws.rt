@@ -1,13 +1,13 @@
 //! Laws of the serial order: each is the contract of a function that does nothing.
 ghost use Rattle.ft_serial.specs.Serials.{CommittedStays, RunsSerially};
 
-use ft_core::Core;
-use ft_core::laws::reached;
+use ft_record::Recorded;
+use ft_record::laws::reached;
 
 /// The calls of the serial list are just the standing ones. Made one after another from the base,
 /// they leave the tree of the state, and each gets the reply that it got; the committed ones alone
 /// get their replies too. No two have one stamp, and all stamps are above the base's last one.
-pub fn serial_runs(core: &Core)
+pub fn serial_runs(core: &Recorded)
     ensures { RunsSerially core.now.state }
 {
     reached(core);

@@ -13,7 +13,8 @@ use crate::places::copy_at;
 use crate::walk::Walk;
 use ft_base::Memory;
 use ft_calls::StampedCall;
-use ft_core::{Core, State, TxnId};
+use ft_core::{State, TxnId};
+use ft_record::Recorded;
 
 /// All standing calls in the serial order: those of the top-level transactions that have
 /// committed, in the order of the commits, and behind them all others; the calls of one
@@ -21,7 +22,7 @@ use ft_core::{Core, State, TxnId};
 ///
 /// Want of memory is the only refusal. Takes the time of the history, and for each call that of its
 /// asker's depth.
-pub fn serial(core: &Core) -> Result<Vec<StampedCall>, Memory>
+pub fn serial(core: &Recorded) -> Result<Vec<StampedCall>, Memory>
     ensures { IfOk result (λ calls. calls.items ≡ serial_calls core.now.state) }
 {
     let mut walk = Walk::new(core.alloc());
@@ -35,7 +36,7 @@ pub fn serial(core: &Core) -> Result<Vec<StampedCall>, Memory>
 
 /// Lists the standing calls whose top-level transaction has not committed, in the order of their
 /// stamps.
-fn list_open(core: &Core, walk: &Walk, calls: &mut Vec<StampedCall>) -> Result<(), Memory>
+fn list_open(core: &Recorded, walk: &Walk, calls: &mut Vec<StampedCall>) -> Result<(), Memory>
     requires { IsWalk walk.now core.now.state.events calls.old.items }
     ensures { OnOk result (calls.new.items ≡ calls.old.items ++ map stamped (open_part posix_calls (history core.now.state))) }
 {
@@ -52,7 +53,7 @@ fn list_open(core: &Core, walk: &Walk, calls: &mut Vec<StampedCall>) -> Result<(
 
 /// Whether a call was granted at a place among the events that stands, and whose top-level
 /// transaction has not committed.
-fn is_open_at(core: &Core, walk: &Walk, place: usize) -> bool
+fn is_open_at(core: &Recorded, walk: &Walk, place: usize) -> bool
     requires { IsReached core.now }
     ensures { result ≡ is_open_call (finite.contains_key walk.now.undone) (history core.now.state) (slice_get core.now.state.events place) }
 {
@@ -63,7 +64,7 @@ fn is_open_at(core: &Core, walk: &Walk, place: usize) -> bool
 }
 
 /// Whether a transaction has committed.
-fn has_committed(core: &Core, txn: TxnId) -> bool
+fn has_committed(core: &Recorded, txn: TxnId) -> bool
     requires { IsReached core.now }
     ensures { result ≡ is_committed posix_calls (history core.now.state) txn }
 {

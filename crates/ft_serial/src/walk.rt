@@ -10,7 +10,8 @@ use crate::places::{copy_at, forget, forget_all, push_place};
 use crate::way::way_up;
 use ft_base::{Memory, Table};
 use ft_calls::StampedCall;
-use ft_core::{Core, Event, TxnId};
+use ft_core::{Event, TxnId};
+use ft_record::Recorded;
 use std::alloc::Global;
 
 /// What has been gone over of a core's events.
@@ -44,7 +45,7 @@ impl Walk {
     }
 
     /// The next committed call in the serial order, where there is one that was not given out.
-    pub(crate) fn next(&mut self, core: &Core) -> Result<Option<StampedCall>, Memory>
+    pub(crate) fn next(&mut self, core: &Recorded) -> Result<Option<StampedCall>, Memory>
         ensures next { (given : List CallValue) → IsWalkOf self.old core.now.state given → IsNext self.new core.now.state given result }
         ensures reached { IsReached core.now }
     {
@@ -61,7 +62,7 @@ impl Walk {
     }
 
     /// The next call of the transaction that committed last, where there is one.
-    fn take_closing(&mut self, core: &Core) -> Result<Option<StampedCall>, Memory>
+    fn take_closing(&mut self, core: &Recorded) -> Result<Option<StampedCall>, Memory>
         ensures taken { (given : List CallValue) → IsWalkOf self.old core.now.state given → IsTaken self.new core.now.state given result }
         ensures passed { self.new.passed ≡ self.old.passed }
     {
@@ -77,7 +78,7 @@ impl Walk {
     }
 
     /// Goes over the next event. Want of memory changes nothing.
-    fn pass(&mut self, core: &Core) -> Result<(), Memory>
+    fn pass(&mut self, core: &Recorded) -> Result<(), Memory>
         requires { self.old.passed < length core.now.state.events }
         ensures ok { OnOk result ((given : List CallValue) → IsWalkOf self.old core.now.state given → self.old.closing.items ≡ [] → IsWalkOf self.new core.now.state given) }
         ensures passed { OnOk result (self.new.passed ≡ self.old.passed + 1) }
@@ -109,7 +110,7 @@ impl Walk {
     }
 
     /// The call that was granted at a place among the events, where it stands.
-    fn standing_call(&self, core: &Core, place: usize) -> Result<Option<StampedCall>, Memory>
+    fn standing_call(&self, core: &Recorded, place: usize) -> Result<Option<StampedCall>, Memory>
         ensures { IfOk result (λ call. call ≡ standing_call_of (finite.contains_key self.now.undone) (history core.now.state) (slice_get core.now.state.events place)) }
     {
         if self.standing_top(core, place).is_none() {
@@ -119,7 +120,7 @@ impl Walk {
     }
 
     /// The top-level transaction of that call, where the call stands.
-    pub(crate) fn standing_top(&self, core: &Core, place: usize) -> Option<TxnId>
+    pub(crate) fn standing_top(&self, core: &Recorded, place: usize) -> Option<TxnId>
         ensures { result ≡ standing_top_of (finite.contains_key self.now.undone) (history core.now.state) (slice_get core.now.state.events place) }
     {
         let Some(Event::Call { stamp, txn, .. }) = core.history().get(place) else {

@@ -4,7 +4,7 @@
 use denote.RattleType.{RattleType}
 use denote.Param.Send.{IsSend, IsSync, sendable}
 use Rattle.std.proofs.Crossing.{crosses}
-use Rattle.ft_core.proofs.Crossing.{Core-send}
+use Rattle.ft_record.proofs.Crossing.{Recorded-send}
 use Rattle.ft_book.specs.declared.book.Naming as naming
 use Rattle.left_right.proofs.writer.Writer.TheSendSync as writer
 use Rattle.ft_posix.proofs.stamped.StampedCall.TheSendSync as stamped
@@ -26,7 +26,7 @@ module _ (J : RattleType) (views : naming.Ghosts J.Denot) where
   Publisher-send = search (writer.the_field_send, Commits-send, book.the_send, front.the_send, view.the_send, view.the_sync, published.the_send, stamped.the_send, crosses, sendable) depth 60
 
   Behind-send : IsSend (Behind.the_row J views)
-  Behind-send = search (Core-send, Publisher-send, crosses, sendable) depth 40
+  Behind-send = search (Recorded-send, Publisher-send, crosses, sendable) depth 40
 
   pub Shared-sync : IsSync (Shared.the_row J views)
   Shared-sync = search (Behind-send, crosses, sendable) depth 40

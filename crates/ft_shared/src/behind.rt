@@ -11,8 +11,9 @@ ghost use Rattle.ft_shared.specs.Publishing.{IsPublisherOf, fault_of_publish};
 
 use crate::publisher::Publisher;
 use ft_calls::Call;
-use ft_core::laws::reached;
-use ft_core::{Core, Fault, Outcome, TxnId};
+use ft_core::{Fault, Outcome, TxnId};
+use ft_record::Recorded;
+use ft_record::laws::reached;
 use ft_view::{Naming, Receipt};
 use std::marker::Model;
 use std::sync::Wait;
@@ -23,7 +24,7 @@ use std::sync::Wait;
 /// What is published is a beginning of the committed part of the core's serial list, whatever is
 /// requested. It is not `Drop`: end it by `end`.
 pub struct Behind<J: Naming> {
-    core: Core,
+    core: Recorded,
     publisher: Option<Publisher<J>>,
 }
 
@@ -41,7 +42,7 @@ impl<J: Naming> Model for Behind<J> {
 
 impl<J: Naming> Behind<J> {
     /// A core that has no views.
-    pub(crate) fn alone(core: Core) -> Behind<J>
+    pub(crate) fn alone(core: Recorded) -> Behind<J>
         ensures core { result.core ≡ core }
         ensures published { result.published ≡ None }
     {
@@ -52,7 +53,7 @@ impl<J: Naming> Behind<J> {
     }
 
     /// A core with its views.
-    pub(crate) fn with_views(core: Core, publisher: Publisher<J>) -> Behind<J>
+    pub(crate) fn with_views(core: Recorded, publisher: Publisher<J>) -> Behind<J>
         requires { IsPublisherOf J.opened.base core.state publisher }
         ensures core { result.core ≡ core }
         ensures published { result.published ≡ Some publisher.published }
@@ -64,7 +65,7 @@ impl<J: Naming> Behind<J> {
     }
 
     /// The core.
-    pub fn core(&self) -> &Core
+    pub fn core(&self) -> &Recorded
         ensures { result.now ≡ self.now.core }
     {
         &self.core
@@ -180,7 +181,7 @@ impl<J: Naming> Behind<J> {
     }
 
     /// Ends the views, and gives the core back.
-    pub(crate) fn end<R: Wait>(self, rt: &R) -> Core
+    pub(crate) fn end<R: Wait>(self, rt: &R) -> Recorded
         ensures { result ≡ self.core }
     {
         let Behind { core, publisher } = self;

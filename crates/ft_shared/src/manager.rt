@@ -3,7 +3,8 @@ ghost use Rattle.std.specs.Prelude.{◌≤◌};
 
 use crate::shared::Shared;
 use ft_calls::Call;
-use ft_core::{Core, Fault, Outcome, TxnId};
+use ft_core::{Fault, Outcome, TxnId};
+use ft_record::Recorded;
 use ft_view::Naming;
 use std::sync::Wait;
 use std::time::Clock;
@@ -37,7 +38,7 @@ pub trait Manager: Sync {
     fn abort<R: Wait>(&self, rt: &R, txn: TxnId) -> Result<u64, Fault>;
 
     /// Ends the manager, and gives the core back.
-    fn into_core<R: Wait>(self, rt: &R) -> Core;
+    fn into_core<R: Wait>(self, rt: &R) -> Recorded;
 }
 
 impl<J: Naming> Manager for Shared<J> {
@@ -67,7 +68,7 @@ impl<J: Naming> Manager for Shared<J> {
         self.abort(rt, txn)
     }
 
-    fn into_core<R: Wait>(self, rt: &R) -> Core {
+    fn into_core<R: Wait>(self, rt: &R) -> Recorded {
         self.into_core(rt)
     }
 }

@@ -8,7 +8,8 @@ use crate::publisher::{Blank, Publisher};
 use crate::shared::Shared;
 use ft_base::Memory;
 use ft_book::Book;
-use ft_core::{Core, Fault};
+use ft_core::Fault;
+use ft_record::Recorded;
 use ft_view::{Naming, Reader, View, ViewFault};
 use std::marker::Model;
 use std::sync::Wait;
@@ -16,7 +17,7 @@ use std::sync::Wait;
 /// A core whose views are opened and have no name yet. Clauses see the core and the book.
 #[derive(Drop)]
 pub struct Opened {
-    core: Core,
+    core: Recorded,
     blank: Blank,
 }
 
@@ -42,7 +43,7 @@ pub enum Cause {
 /// A core that has no views, and why.
 #[derive(Drop)]
 pub struct ViewsRefused {
-    pub core: Core,
+    pub core: Recorded,
     pub cause: Cause,
 }
 
@@ -50,7 +51,7 @@ pub struct ViewsRefused {
 /// committed.
 ///
 /// Refuses Live where a transaction is live, and then want of memory, and hands the core back.
-pub fn with_views(core: Core) -> Result<Opened, ViewsRefused>
+pub fn with_views(core: Recorded) -> Result<Opened, ViewsRefused>
     ensures { MatchResult result (λ opened. (opened.core ≡ core) × NoneIsLive core.state) (λ refused. (refused.core ≡ core) × IsRefused core.state refused.cause) }
 {
     if core.has_live() {
@@ -69,7 +70,7 @@ pub fn with_views(core: Core) -> Result<Opened, ViewsRefused>
 }
 
 /// Two copies of the core's base, with nothing of a new book.
-fn blank(core: &Core) -> Result<Blank, Memory>
+fn blank(core: &Recorded) -> Result<Blank, Memory>
     ensures { IfOk result (λ blank. IsOpened core.now.state blank.book blank.nothing blank.first blank.second) }
 {
     let base = core.base();

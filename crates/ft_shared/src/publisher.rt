@@ -8,7 +8,7 @@ use core::mem::replace_with;
 use ft_base::Memory;
 use ft_book::{Book, Front, Naming};
 use ft_calls::StampedCall;
-use ft_core::Core;
+use ft_record::Recorded;
 use ft_serial::Commits;
 use ft_view::{Inner, Published, Receipt, Shows, View, ViewFault, Writing};
 use std::alloc::Global;
@@ -103,7 +103,7 @@ impl<J: Naming> Publisher<J> {
     pub(crate) fn publish<R: Wait>(
         &mut self,
         rt: &R,
-        core: &Core,
+        core: &Recorded,
     ) -> Result<(u64, Receipt<J>), Memory>
         requires { IsPrefix self.old.commits.events core.now.state.events }
         ensures passed { IsPrefix self.new.commits.events core.now.state.events }
@@ -118,7 +118,7 @@ impl<J: Naming> Publisher<J> {
     }
 
     /// Gives the writer all committed calls that it has not got.
-    fn feed(&mut self, core: &Core) -> Result<(), Memory>
+    fn feed(&mut self, core: &Recorded) -> Result<(), Memory>
         requires { IsPrefix self.old.commits.events core.now.state.events }
         ensures passed { IsPrefix self.new.commits.events core.now.state.events }
         ensures published { self.new.published ≡ self.old.published }
@@ -132,7 +132,7 @@ impl<J: Naming> Publisher<J> {
     }
 
     /// Takes the next of the committed calls from the core, and answers whether there is one.
-    fn take_next(&mut self, core: &Core) -> Result<bool, Memory>
+    fn take_next(&mut self, core: &Recorded) -> Result<bool, Memory>
         requires passed { IsPrefix self.old.commits.events core.now.state.events }
         requires nothing { self.old.held ≡ None }
         ensures passed { IsPrefix self.new.commits.events core.now.state.events }

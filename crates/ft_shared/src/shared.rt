@@ -15,7 +15,8 @@ ghost use Rattle.ft_shared.specs.Behind.{OfSomeCore, InSomeCore, IsAborted, IsUn
 use crate::behind::Behind;
 use ft_base::Memory;
 use ft_calls::Call;
-use ft_core::{Core, Fault, Outcome, State, TxnId};
+use ft_core::{Fault, Outcome, State, TxnId};
+use ft_record::Recorded;
 use ft_view::{Naming, Receipt};
 use ft_waits::{Edge, Verdict, edges, with_verdict};
 use std::alloc::Global;
@@ -45,7 +46,7 @@ pub struct Shared<J: Naming = Brand> {
 /// A core that can't be shared, and why.
 #[derive(Drop)]
 pub struct Refused {
-    pub core: Core,
+    pub core: Recorded,
     pub fault: Fault,
 }
 
@@ -53,7 +54,7 @@ impl<J: Naming> Shared<J> {
     /// Puts a core behind a lock. Takes no memory.
     ///
     /// Refuses Live where a transaction is live, and hands the core back.
-    pub fn new(core: Core) -> Result<Shared<J>, Refused>
+    pub fn new(core: Recorded) -> Result<Shared<J>, Refused>
         ensures { MatchResult result (λ shared. NoneIsLive core.state) (λ refused. (refused.core ≡ core) × (refused.fault ≡ LiveFault) × SomeIsLive core.state) }
     {
         if core.has_live() {
@@ -265,7 +266,7 @@ impl<J: Naming> Shared<J> {
         ensures { IfOk result (λ edges. OfSomeCore (λ state. AreEdgesOf state edges.items)) }
     {
         let behind = self.held(rt);
-        let edges = edges(behind.core());
+        let edges = edges(behind.core().core());
         MutexGuard::unlock(behind);
         edges
     }
@@ -291,7 +292,7 @@ impl<J: Naming> Shared<J> {
 
     /// Ends the sharing, and gives the core back. It waits for the readers that read; readers
     /// answer NoReader from then on. Takes no memory.
-    pub fn into_core<R: Wait>(self, rt: &R) -> Core {
+    pub fn into_core<R: Wait>(self, rt: &R) -> Recorded {
         let Shared {
             behind,
             alloc: _,
@@ -311,7 +312,7 @@ impl<J: Naming> Shared<J> {
 }
 
 /// Whether these transactions are all live.
-fn are_live(core: &Core, txns: &[TxnId]) -> bool {
+fn are_live(core: &Recorded, txns: &[TxnId]) -> bool {
     txns.iter()
         .all(|txn| matches!(core.state(*txn), Some(State::Live)))
 }

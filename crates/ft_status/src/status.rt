@@ -17,6 +17,7 @@ use ft_core::Core;
 use ft_dot::draw;
 use ft_load::load;
 use ft_outcome::{RunFault, run_plan};
+use ft_record::Recorded;
 use ft_save::{SaveFault, save};
 use ft_script::{PlayFault, play, write_out};
 use ft_shown::ShownSource;
@@ -81,7 +82,7 @@ pub fn dot_status<R: Read, W: Write, E: Write>(
 pub fn jobs_status<R: Threads + Wait + Clock + Sync, S: Write + Send + Drop, W: Write, E: Write>(
     rt: &R,
     alloc: Global,
-    core: Core,
+    core: Recorded,
     plan: &[u8],
     turns: u64,
     screen: Option<S>,

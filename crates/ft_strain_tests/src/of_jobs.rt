@@ -1,7 +1,8 @@
 // Jobs whose transactions are taken away while they run.
 use ft_calls::Call;
-use ft_core::{Core, Fault, Outcome, TxnId};
+use ft_core::{Fault, Outcome, TxnId};
 use ft_jobs::{End, JobsOutcome, OpenGate, Plan, Report, run_jobs};
+use ft_record::Recorded;
 use ft_shared::{Manager, Shared};
 use ft_test_scripts::new_shared;
 use std::alloc::Global;
@@ -54,7 +55,7 @@ impl Manager for Aborting {
         self.shared.abort(rt, txn)
     }
 
-    fn into_core<R: Wait>(self, rt: &R) -> Core {
+    fn into_core<R: Wait>(self, rt: &R) -> Recorded {
         let Aborting { shared, parent: _ } = self;
         shared.into_core(rt)
     }

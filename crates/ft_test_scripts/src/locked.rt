@@ -1,5 +1,6 @@
 // A core behind a lock, and two transactions that wait for each other there.
-use ft_core::{Core, TxnId};
+use ft_core::TxnId;
+use ft_record::Recorded;
 use ft_shared::Shared;
 use ft_waits::{Edge, EdgeKind, Verdict};
 use std::alloc::Global;
@@ -8,7 +9,7 @@ use std::test::Fail;
 
 /// A new core behind a lock.
 pub fn new_shared(alloc: Global) -> Result<Shared, Fail> {
-    match Shared::<Brand>::new(Core::new(alloc)?) {
+    match Shared::<Brand>::new(Recorded::new(alloc)?) {
         Ok(shared) => Ok(shared),
         Err(_) => Err(Fail::from("a transaction is live")),
     }

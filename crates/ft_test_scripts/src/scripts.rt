@@ -2,6 +2,7 @@
 use ft_calls::{Call, Reply};
 use ft_core::{Answer, Core, Fault, Request, TxnId};
 use ft_path::{Errno, FilePath, Name};
+use ft_record::Recorded;
 use ft_tree::{AccessMode, Kind};
 use std::alloc::Global;
 use std::test::Fail;
@@ -196,6 +197,23 @@ pub trait Answers {
 impl Answers for Core {
     fn answer_to(&mut self, request: Request) -> Answer {
         self.answer(request)
+    }
+}
+
+impl Answers for Recorded {
+    fn answer_to(&mut self, request: Request) -> Answer {
+        let answer = match request {
+            Request::Begin => self.begin().map(Answer::Txn),
+            Request::Sub(parent) => self.sub(parent).map(Answer::Txn),
+            Request::Ask(txn, call) => self.ask(txn, call).map(Answer::from),
+            Request::Retry(txn) => self.retry(txn).map(Answer::from),
+            Request::Drop(txn) => self.drop_ask(txn).map(|()| Answer::Dropped),
+            Request::Commit(txn) => self.commit(txn).map(|()| Answer::Committed),
+            Request::Abort(txn) => self.abort(txn).map(Answer::Aborted),
+            Request::Undo(txn) => self.undo_call(txn).map(Answer::Undone),
+            Request::Checkpoint => self.checkpoint().map(|()| Answer::Cleared),
+        };
+        answer.unwrap_or_else(Answer::Refused)
     }
 }
 

@@ -4,6 +4,7 @@ use ft_calls::Mode;
 use ft_core::{Answer, Core, Fault, LiveChild, Request, Rule, TxnId};
 use ft_locks::{LockKind, LockLine};
 use ft_path::Errno;
+use ft_record::Recorded;
 use ft_test_scripts::{Answers, Line, Wanted, plays};
 use ft_tree::{Cell, TreeRow};
 use std::alloc::Global;
@@ -104,8 +105,9 @@ fn abort_in_log_order(rt: HostRuntime) -> Result<(), Fail> {
 /// Carries a script out on a new core, and says whether each line is answered as it says, so many
 /// events stand then, and the tree holds the root alone.
 fn walks_back(alloc: Global, script: &[(Line, Wanted)], events: usize) -> Result<bool, Fail> {
-    let mut core = Core::new(alloc)?;
-    Ok(plays(alloc, &mut core, script)? && core.history().len() == events && is_bare(&core)?)
+    let mut core = Recorded::new(alloc)?;
+    let is_played = plays(alloc, &mut core, script)?;
+    Ok(is_played && core.history().len() == events && is_bare(core.core())?)
 }
 
 #[test]
@@ -333,7 +335,7 @@ fn single_calls(rt: HostRuntime) -> Result<(), Fail> {
 }
 
 /// Whether the tree of the base is that of the core, and nothing has happened since.
-fn is_at_base(core: &Core) -> Result<bool, Fail> {
+fn is_at_base(core: &Recorded) -> Result<bool, Fail> {
     let base = core.base().rows()?;
     let tree = core.tree().rows()?;
     Ok(base.as_slice() == tree.as_slice() && core.history().is_empty())
@@ -342,7 +344,7 @@ fn is_at_base(core: &Core) -> Result<bool, Fail> {
 /// Carries a script out on a new core of this rule, and says whether each line is answered as it
 /// says, and the core then stands at its base, by the same rule.
 fn ends_at_base(alloc: Global, rule: Rule, script: &[(Line, Wanted)]) -> Result<bool, Fail> {
-    let mut core = Core::with_rule(alloc, rule)?;
+    let mut core = Recorded::with_rule(alloc, rule)?;
     Ok(plays(alloc, &mut core, script)? && is_at_base(&core)? && core.rule() == rule)
 }
 

@@ -1,8 +1,9 @@
 // Who waits for whom; threads that wait, and let others go on; what a sweep finds; what is handed
 // back. Scripts are case files, which ft_through plays.
 use ft_calls::Call;
-use ft_core::{Core, Fault, Outcome, TxnId};
+use ft_core::{Fault, Outcome, TxnId};
 use ft_path::FilePath;
+use ft_record::Recorded;
 use ft_shared::{MOST_PAUSE, Manager, Refused, Shared};
 use ft_test_scripts::{is_deadlock, new_shared};
 use std::alloc::Global;
@@ -225,7 +226,11 @@ fn manage<R: Wait + Clock, M: Manager>(rt: &R, manager: &M, call: &Call) -> Resu
 }
 
 /// The core in which that was done.
-fn managed<R: Wait + Clock, M: Manager>(rt: &R, manager: M, call: &Call) -> Result<Core, Fault> {
+fn managed<R: Wait + Clock, M: Manager>(
+    rt: &R,
+    manager: M,
+    call: &Call,
+) -> Result<Recorded, Fault> {
     let done = manage(rt, &manager, call);
     let core = manager.into_core(rt);
     done?;
@@ -251,7 +256,7 @@ fn is_handed_back(refused: &Refused) -> bool {
     refused.fault == Fault::Live && refused.core.history().len() == 1
 }
 
-fn is_refused<R: Wait>(rt: &R, core: Core) -> bool {
+fn is_refused<R: Wait>(rt: &R, core: Recorded) -> bool {
     match Shared::<Brand>::new(core) {
         Ok(shared) => {
             shared.into_core(rt);
@@ -263,7 +268,7 @@ fn is_refused<R: Wait>(rt: &R, core: Core) -> bool {
 
 #[test]
 fn single_calls(rt: HostRuntime) -> Result<(), Fail> {
-    let mut core = Core::new(rt.alloc())?;
+    let mut core = Recorded::new(rt.alloc())?;
     assert_eq!(rt; core.begin(), Ok(TxnId(1)));
     assert!(rt; is_refused(&rt, core));
     Ok(())

@@ -1,6 +1,7 @@
 // Requests through a lock.
 use anyhow::{Result, bail};
-use ft_core::{Answer, Core, Fault, Request};
+use ft_core::{Answer, Fault, Request};
+use ft_record::Recorded;
 use ft_shared::Shared;
 use std::alloc::Global;
 use std::marker::Brand;
@@ -8,7 +9,7 @@ use std::sync::Wait;
 
 /// A new core behind a lock.
 pub fn new_shared(alloc: Global) -> Result<Shared, Fault> {
-    Shared::<Brand>::new(Core::new(alloc)?).map_err(|refused| refused.fault)
+    Shared::<Brand>::new(Recorded::new(alloc)?).map_err(|refused| refused.fault)
 }
 
 /// Carries a request out through the lock. Fails for a checkpoint alone.

@@ -74,7 +74,7 @@ fn core_after<R: Wait>(rt: &R, alloc: Global, lines: &[&[u8]]) -> Result<Core> {
     let carried_out = carry_out_all(rt, alloc, &shared, lines);
     let core = shared.into_core(rt);
     carried_out?;
-    Ok(core)
+    Ok(core.into_core())
 }
 
 /// Carries out the requests of these lines through the lock.

@@ -5,9 +5,10 @@ ghost use Rattle.ft_laws.specs.Lists.{Each, Pairs};
 ghost use Rattle.ft_tree.specs.Sound.{AreSoundCells, IsFree};
 
 use ft_calls::Reply;
-use ft_core::laws::reached;
-use ft_core::{Core, Fault};
+use ft_core::Fault;
 use ft_posix::StampedCall;
+use ft_record::Recorded;
+use ft_record::laws::reached;
 use ft_serial::laws::serial_runs;
 use ft_serial::serial;
 use ft_test_scripts::{Line, Wanted, is_reply, plays};
@@ -16,7 +17,7 @@ use ft_view::replay;
 use std::test::Fail;
 
 /// Whether the calls of the serial list have these stamps.
-pub(crate) fn is_serial(core: &Core, stamps: &[u64]) -> Result<bool, Fail> {
+pub(crate) fn is_serial(core: &Recorded, stamps: &[u64]) -> Result<bool, Fail> {
     let calls = serial(core)?;
     Ok(
         calls
@@ -37,7 +38,12 @@ fn are_replies(calls: &[StampedCall], replies: &[Reply], wanted: &[Wanted]) -> b
 
 /// Whether calls, replayed from a tree, get the replies that are wanted, and leave the tree of the
 /// core.
-fn replays(core: &Core, from: &Tree, calls: &[StampedCall], wanted: &[Wanted]) -> Result<bool, Fail>
+fn replays(
+    core: &Recorded,
+    from: &Tree,
+    calls: &[StampedCall],
+    wanted: &[Wanted],
+) -> Result<bool, Fail>
     requires sound { AreSoundCells from.now }
     requires free { Each (λ call. IsFree from.now call.stamp) calls.now }
     requires distinct { Pairs (λ before after. before.stamp ≢ after.stamp) calls.now }
@@ -49,7 +55,7 @@ fn replays(core: &Core, from: &Tree, calls: &[StampedCall], wanted: &[Wanted]) -
 }
 
 /// The same of the serial list, from a new tree.
-pub(crate) fn replays_from_new(core: &Core, wanted: &[Wanted]) -> Result<bool, Fail> {
+pub(crate) fn replays_from_new(core: &Recorded, wanted: &[Wanted]) -> Result<bool, Fail> {
     reached(core);
     serial_runs(core);
     let calls = serial(core)?;
@@ -58,7 +64,7 @@ pub(crate) fn replays_from_new(core: &Core, wanted: &[Wanted]) -> Result<bool, F
 }
 
 /// The same from the base.
-fn replays_from_base(core: &Core, wanted: &[Wanted]) -> Result<bool, Fail> {
+fn replays_from_base(core: &Recorded, wanted: &[Wanted]) -> Result<bool, Fail> {
     reached(core);
     serial_runs(core);
     let calls = serial(core)?;
@@ -87,7 +93,7 @@ fn serial_leaves_out_the_aborted(rt: HostRuntime) -> Result<(), Fail> {
         Wanted::Done(4),
         Wanted::Directories(5, b"b".as_slice()),
     ];
-    let mut core = Core::new(alloc)?;
+    let mut core = Recorded::new(alloc)?;
     assert!(rt; is_serial(&core, &[])?);
     assert!(rt; plays(alloc, &mut core, &script)?);
     assert!(rt; is_serial(&core, &[2, 4, 5])?);
@@ -111,7 +117,7 @@ fn serial_from_a_checkpoint(rt: HostRuntime) -> Result<(), Fail> {
         (Line::Begin, Wanted::Txn(3)),
         (Line::Fstat(3, 2), Wanted::File(5, [2, 1, 0])),
     ];
-    let mut core = Core::new(alloc)?;
+    let mut core = Recorded::new(alloc)?;
     assert!(rt; plays(alloc, &mut core, &script)?);
     assert!(rt; is_serial(&core, &[5])?);
     assert!(rt; replays_from_base(&core, &[Wanted::File(5, [2, 1, 0])])?);

@@ -5,8 +5,9 @@ ghost use Rattle.ft_shared.specs.Opening.{named_by};
 
 use crate::of_serial::{is_serial, replays_from_new};
 use ft_calls::{Call, Reply};
-use ft_core::{Core, Fault, TxnId};
+use ft_core::{Fault, TxnId};
 use ft_path::{Errno, FilePath};
+use ft_record::Recorded;
 use ft_shared::{Opened, Shared, with_views};
 use ft_test_scripts::{Line, Through, Wanted, is_reply, plays};
 use ft_tree::Kind;
@@ -30,7 +31,11 @@ trait Steps {
 }
 
 /// Takes steps with views of a core, and gives the core back.
-fn through_views<S: Steps, R: Wait>(rt: &R, core: Core, steps: &S) -> Result<(bool, Core), Fail> {
+fn through_views<S: Steps, R: Wait>(
+    rt: &R,
+    core: Recorded,
+    steps: &S,
+) -> Result<(bool, Recorded), Fail> {
     let alloc = core.alloc();
     match with_views(core) {
         Ok(opened) => through_named::<Brand, S, R>(rt, alloc, opened, steps),
@@ -43,7 +48,7 @@ fn through_named<J: Naming, S: Steps, R: Wait>(
     alloc: Global,
     opened: Opened,
     steps: &S,
-) -> Result<(bool, Core), Fail>
+) -> Result<(bool, Recorded), Fail>
     requires { named_by opened ≡ J.opened }
 {
     match opened.named::<J, R>(rt) {
@@ -61,8 +66,8 @@ fn through_new_views<S: Steps, R: Wait>(
     rt: &R,
     alloc: Global,
     steps: &S,
-) -> Result<(bool, Core), Fail> {
-    through_views(rt, Core::new(alloc)?, steps)
+) -> Result<(bool, Recorded), Fail> {
+    through_views(rt, Recorded::new(alloc)?, steps)
 }
 
 /// How many calls are published then.
@@ -210,7 +215,7 @@ impl Steps for InCommitOrder {
 }
 
 /// Whether a core that has no views publishes nothing.
-fn publishes_nothing<R: Wait>(rt: &R, core: Core) -> bool {
+fn publishes_nothing<R: Wait>(rt: &R, core: Recorded) -> bool {
     match Shared::<Brand>::new(core) {
         Ok(shared) => {
             let answer = published(rt, &shared);
@@ -229,7 +234,7 @@ fn publish_in_commit_order(rt: HostRuntime) -> Result<(), Fail> {
     assert!(rt; is_serial(&core, &[3, 2, 4])?);
     let wanted = [Wanted::Done(3), Wanted::Done(2), Wanted::Done(4)];
     assert!(rt; replays_from_new(&core, &wanted)?);
-    assert!(rt; publishes_nothing(&rt, Core::new(alloc)?));
+    assert!(rt; publishes_nothing(&rt, Recorded::new(alloc)?));
     Ok(())
 }
 
@@ -270,7 +275,7 @@ fn views_of_another_base(rt: HostRuntime) -> Result<(), Fail> {
         (Line::Mkdir(2, b"/b".as_slice()), Wanted::Done(3)),
         (Line::Commit(2), Wanted::Committed),
     ];
-    let mut core = Core::new(alloc)?;
+    let mut core = Recorded::new(alloc)?;
     assert!(rt; plays(alloc, &mut core, &script)?);
     let (is_so, _) = through_views(&rt, core, &FromBase)?;
     assert!(rt; is_so);
@@ -314,7 +319,7 @@ fn views_right_after_a_checkpoint(rt: HostRuntime) -> Result<(), Fail> {
         (Line::Checkpoint, Wanted::Cleared),
         (Line::Commit(1), Wanted::Refused(Fault::NoTxn)),
     ];
-    let mut core = Core::new(alloc)?;
+    let mut core = Recorded::new(alloc)?;
     assert!(rt; plays(alloc, &mut core, &script)?);
     let (is_so, _) = through_views(&rt, core, &BareBase)?;
     assert!(rt; is_so);
@@ -445,7 +450,7 @@ fn publishes_beside_named<J: Naming + Send + Sync, R: Threads + Wait + Sync>(
 
 /// The same with a new core.
 fn publishes_beside_anew<R: Threads + Wait + Sync>(rt: &R, alloc: Global) -> Result<bool, Fail> {
-    match with_views(Core::new(alloc)?) {
+    match with_views(Recorded::new(alloc)?) {
         Ok(opened) => publishes_beside_named::<Brand, R>(rt, alloc, opened),
         Err(_) => Err(Fail::from("no views")),
     }

@@ -1,10 +1,10 @@
 use Rattle.std.proofs.Common.{List, ℕ, Option, Bor, inr, sym, subst, rules}
 use Rattle.std.proofs.lemmas.Result.{err_from_is_err_and}
 use Rattle.std.specs.Option.{option_copied}
-use Rattle.ft_core.specs.States.{State, first_base}
+use Rattle.ft_core.specs.States.{State, first_base, base_now}
 use Rattle.ft_words.specs.Spelling.{lines_of}
 use Rattle.ft_after.specs.After.{Begins, IsPlayedFirst, StopsBegin, StopsFirst}
-use Rattle.ft_after.proofs.Fresh.{none_after, none_is_live_at}
+use Rattle.ft_after.proofs.Fresh.{at_its_base, none_after, none_is_live_at}
 use Rattle.ft_after.proofs.playing.core_after.Goals as goal
 
 pub returns-in-None-clause-none_live : goal.returns-in-None-clause-none_live
@@ -27,3 +27,12 @@ returns-in_err-play_first-in-Some-clause-fault c =
     let begun = subst (λ (script : Option (Bor (List ℕ))). StopsBegin fault c.args.rule (option_copied script)) (sym c.in-Some.is) (inr (new, stopped)) in
     let p = err_from_is_err_and c.from_residual.result c.from_residual.ensures.1 in
     rw (p.1, p.2) begun
+
+pub returns-in-None-clause-base : goal.returns-in-None-clause-base
+returns-in-None-clause-base c = at_its_base c.in-Ok.core.state c.args.rule first_base c.in-Ok.ensures
+
+pub returns-in_ok-play_first-in-Some-clause-base : goal.returns-in_ok-play_first-in-Some-clause-base
+returns-in_ok-play_first-in-Some-clause-base c =
+    let ok = c.in_ok-play_first-in-Some.ensures.ok in
+    let played : State = ok.0 in
+    at_its_base c.play_first.new.core.state played.rule (base_now played) ok.3

@@ -3,17 +3,16 @@ use Rattle.ft_core.specs.declared.request.Answer.TheVariants.{Aborted}
 use Rattle.ft_core.specs.States.{State, tree_of}
 use Rattle.ft_core.specs.Steps.{exact_rule}
 use Rattle.ft_core.proofs.Ended.{step-abort, live-refused}
-use Rattle.ft_core.proofs.Gathered.{state-is}
 use Rattle.ft_core.proofs.manager.Core.abort.Goals as goal
 
 pub returns-clause-step : goal.returns-clause-step
 returns-clause-step c =
-    step-abort exact_rule c.args.self.now.state c.give_places_back.new.self.state c.args.txn c.abort_live-count.result c.in_ok-check_live.ensures.live c.abort_live-count.ensures.count (state-is c.give_places_back.ensures ∙ c.abort_live-count.ensures.ended)
+    step-abort exact_rule c.args.self.now.state c.abort_live.new.self.state c.args.txn c.abort_live.result c.in_ok-check_live.ensures.live c.abort_live.ensures.count c.abort_live.ensures.ended
 
 pub returns-clause-alone : goal.returns-clause-alone
 returns-clause-alone c = λ before alone. (
-  ap Aborted c.abort_live-count.ensures.count,
-  ap (λ (s : State). tree_of s) (state-is c.give_places_back.ensures ∙ c.abort_live-count.ensures.ended) ∙ c.abort_live-count.ensures.alone before alone,
+  ap Aborted c.abort_live.ensures.count,
+  ap (λ (s : State). tree_of s) c.abort_live.ensures.ended ∙ c.abort_live.ensures.alone before alone,
 )
 
 pub returns-in_err-check_live-clause-alone : goal.returns-in_err-check_live-clause-alone

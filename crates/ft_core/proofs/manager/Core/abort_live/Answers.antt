@@ -10,12 +10,12 @@ use Rattle.ft_history.specs.History.{over}
 use Rattle.ft_history.specs.History.Fate.{Live}
 use Rattle.ft_core.specs.declared.request.Event.TheVariants.{Abort as AbortEvent}
 use Rattle.ft_core.specs.declared.parts.Parts.{Parts}
-use Rattle.ft_core.specs.Journals.{Journaled, state_of}
+use Rattle.ft_core.specs.Journals.{state_of}
 use Rattle.ft_core.specs.States.{State, history, fate_of, after_abort, count_standing}
 use Rattle.ft_core.specs.Kept.{IsKept}
 use Rattle.ft_core.proofs.Gathered.{state-is}
 use Rattle.ft_core.proofs.Known.{call_laws, lock_laws}
-use Rattle.ft_core.proofs.Aborts.{IsOnWay, first, can-take, few-more, go-on, place-abort, asks-are, count-is, core-abort, lists-closed, open-closed}
+use Rattle.ft_core.proofs.Aborts.{IsOnWay, first, can-take, few-more, go-on, asks-are, count-is, core-abort, lists-closed, open-closed}
 use Rattle.ft_core.proofs.Ended.{core-ended, state-ended, told-less}
 use Rattle.ft_core.proofs.Alone.{aborts-alone}
 use Rattle.ft_core.proofs.manager.Core.abort_live.Goals as goal
@@ -82,16 +82,6 @@ loop-next-preserved c =
           (open-closed old.logs left.logs lists x taken.ensures.opened (subst (λ (n : ℕ). AreOpen lists (put (is_open left.logs) n false)) c.next.view_is c.close.ensures.opened)) c.forget.new.self c.forget.ensures));
       last = subst (λ (f : Transactions). IsLastOf f c.args.txn x) (sym (ap (λ (p : Parts). p.forest) taken.ensures.others)) c.in-Some.ensures.last;
     }
-
-pub tell-requires : goal.tell-requires
-tell-requires c =
-    let i = c.self.inside in
-    let s : State = state_of i.parts.forest i.journal in
-    let live : fate_of s c.args.txn ≡ Some Live = ap (λ (q : State). fate_of q c.args.txn) (state-is c.self.view_is) ∙ c.requires in
-    let way = c.loop-next.invariant.way call_laws lock_laws c.self.invariant live in
-    let place = place-abort call_laws lock_laws c.self.invariant c.args.txn live in
-    let same = ap (λ (q : Journaled). q.spare) way.journal in
-    omega arith
 
 pub invariant_of-self : goal.invariant_of-self
 invariant_of-self c =

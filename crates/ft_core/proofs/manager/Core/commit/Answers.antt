@@ -13,7 +13,7 @@ use Rattle.ft_core.specs.Steps.{exact_rule}
 use Rattle.ft_core.proofs.Gathered.{state-is}
 use Rattle.ft_core.proofs.Known.{call_laws, lock_laws}
 use Rattle.ft_core.proofs.Children.{no-child, some-child}
-use Rattle.ft_core.proofs.Commits.{core-commit, may-hand, may-note, place-commit}
+use Rattle.ft_core.proofs.Commits.{core-commit, may-hand, may-note}
 use Rattle.ft_core.proofs.Ended.{core-ended, state-ended, told-commit, step-child, step-commit, longer-none}
 use Rattle.ft_core.proofs.manager.Core.commit.Goals as goal
 
@@ -41,15 +41,6 @@ note_sub-requires c =
     let none : (x : ℕ) → IsLiveChild i.parts.forest c.args.txn x → ⊥ = c.live_children.ensures.none (omega arith) in
     may-note call_laws lock_laws c.self.invariant c.args.txn live none c.parent-parent.result c.parent-parent.ensures.parent
 
-pub tell-requires : goal.tell-requires
-tell-requires c =
-    let i = c.self.inside in
-    let s : State = state_of i.parts.forest i.journal in
-    let live : fate_of s c.args.txn ≡ Some Live = ap (λ (q : State). fate_of q c.args.txn) (state-is c.self.view_is) ∙ c.in_ok-check_live.ensures.live in
-    let none : (x : ℕ) → IsLiveChild i.parts.forest c.args.txn x → ⊥ = c.live_children.ensures.none (omega arith) in
-    place-commit call_laws lock_laws c.self.invariant c.args.txn live none c.parent-parent.result c.forget.new.self
-    (c.forget.ensures ∙ ap (λ (q : Journaled). without q c.args.txn) c.note_sub.ensures)
-
 pub invariant_of-self-2 : goal.invariant_of-self-2
 invariant_of-self-2 c =
     let i = c.self.inside in
@@ -75,5 +66,5 @@ returns c =
     c.tell.ensures ∙ ap (λ (q : Journaled). with_event q (CommitEvent c.args.txn)) (c.forget.ensures ∙ ap (λ (q : Journaled). without q c.args.txn) c.note_sub.ensures) in
     let state = state-ended i.parts.forest c.commit.new.self i.journal c.tell.new.self (CommitEvent c.args.txn) (finite.remove i.journal.asks c.args.txn) c.in_ok-commit.ensures.committed.base c.in_ok-commit.ensures.committed.last
     (told-commit i.journal c.tell.new.self c.args.txn c.parent-parent.result told) in
-    step-commit exact_rule c.args.self.now.state c.give_places_back.new.self.state c.args.txn c.in_ok-check_live.ensures.live (ap (λ (q : State). has_live_child q c.args.txn) (sym (state-is c.self.view_is)) ∙ none)
-    (state-is c.give_places_back.ensures ∙ ap (λ (p : Parts). state_of p.forest c.tell.new.self) c.hand_up.ensures.others ∙ state ∙ ap (λ (q : State). after_commit q c.args.txn) (state-is c.self.view_is))
+    step-commit exact_rule c.args.self.now.state (state_of c.hand_up.new.self.forest c.tell.new.self) c.args.txn c.in_ok-check_live.ensures.live (ap (λ (q : State). has_live_child q c.args.txn) (sym (state-is c.self.view_is)) ∙ none)
+    (ap (λ (p : Parts). state_of p.forest c.tell.new.self) c.hand_up.ensures.others ∙ state ∙ ap (λ (q : State). after_commit q c.args.txn) (state-is c.self.view_is))

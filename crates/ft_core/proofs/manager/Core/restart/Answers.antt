@@ -1,40 +1,38 @@
-use Rattle.std.proofs.Common.{◌≡◌, false, sym, subst, ◌∙◌}
+use Rattle.std.proofs.Common.{◌≡◌, false, None, refl, sym, subst, ◌∙◌}
 use Rattle.ft_cells.specs.declared.cell.Cell.{Cell}
 use Rattle.ft_tree.specs.Sweep.{is_useless}
+use Rattle.ft_core.specs.declared.request.Request.TheVariants.{Checkpoint}
 use Rattle.ft_core.specs.Journals.{state_of}
 use Rattle.ft_core.specs.Living.{NoneIsLive}
-use Rattle.ft_core.specs.States.{StoredState, after_checkpoint}
+use Rattle.ft_core.specs.States.{State, StoredState, after_checkpoint}
+use Rattle.ft_core.specs.Steps.{refusal_of}
 use Rattle.ft_core.specs.Sweeps.{HasNoUselessPlace}
-use Rattle.ft_core.proofs.Checkpoints.{none-in-forest, base-tree, core-restarted, state-restarted}
+use Rattle.ft_core.proofs.Checkpoints.{none-lives, none-in-forest, core-restarted, state-restarted}
 use Rattle.ft_core.proofs.Gathered.{state-is}
 use Rattle.ft_core.proofs.Known.{call_laws, lock_laws}
 use Rattle.ft_core.proofs.manager.Core.restart.Goals as goal
 
-pub new-requires-2-clause-base : goal.new-requires-2-clause-base
-new-requires-2-clause-base c =
-    let i = c.self-2.inside in
-    let none : NoneIsLive (state_of i.parts.forest i.journal) = subst NoneIsLive (sym (state-is c.self-2.view_is ∙ c.sweep.ensures.same)) c.requires in
-    base-tree call_laws lock_laws i.parts i.journal c.self-2.invariant none c.in_ok-base.base c.last_stamp-stamp.result c.in_ok-base.ensures c.last_stamp-stamp.ensures.stamp
-
 pub restart-requires : goal.restart-requires
 restart-requires c =
     let i = c.self-2.inside in
-    let none : NoneIsLive (state_of i.parts.forest i.journal) = subst NoneIsLive (sym (state-is c.self-2.view_is ∙ c.sweep.ensures.same)) c.requires in
+    let same : state_of i.parts.forest i.journal ≡ c.args.self.now.state = state-is c.self-2.view_is ∙ c.sweep.ensures.same in
+    let none = none-lives call_laws lock_laws i.parts i.journal c.self-2.invariant (subst (λ (q : State). refusal_of q Checkpoint ≡ None) (sym same) c.requires) in
     none-in-forest call_laws lock_laws i.parts i.journal c.self-2.invariant none
 
 pub invariant_of-self : goal.invariant_of-self
 invariant_of-self c =
     let i = c.self-2.inside in
-    let none : NoneIsLive (state_of i.parts.forest i.journal) = subst NoneIsLive (sym (state-is c.self-2.view_is ∙ c.sweep.ensures.same)) c.requires in
-    let useless : (x : Cell) → is_useless i.parts.tree x ≡ false = subst (λ (v : StoredState). HasNoUselessPlace v.cells) (sym c.self-2.view_is) (c.sweep.ensures.none_left c.requires) in
+    let same : state_of i.parts.forest i.journal ≡ c.args.self.now.state = state-is c.self-2.view_is ∙ c.sweep.ensures.same in
+    let none = none-lives call_laws lock_laws i.parts i.journal c.self-2.invariant (subst (λ (q : State). refusal_of q Checkpoint ≡ None) (sym same) c.requires) in
+    let useless : (x : Cell) → is_useless i.parts.tree x ≡ false = subst (λ (v : StoredState). HasNoUselessPlace v.cells) (sym c.self-2.view_is) (c.sweep.ensures.none_left (subst NoneIsLive same none)) in
     core-restarted call_laws lock_laws i.parts i.journal c.self-2.invariant none useless
-    c.restart.new.self c.restart.ensures c.in_ok-base.base c.in_ok-base.ensures c.rule-rule.result c.rule-rule.ensures c.last_stamp-stamp.result c.last_stamp-stamp.ensures.stamp
+    c.restart.new.self c.restart.ensures i.parts.tree refl c.rule-rule.result c.rule-rule.ensures c.last_stamp-stamp.result c.last_stamp-stamp.ensures.stamp
     c.in_ok-locks.locks c.in_ok-locks.ensures c.new-3.result c.new-3.ensures.lists c.new-2.result c.new-2.ensures
 
 pub returns-clause-ok : goal.returns-clause-ok
 returns-clause-ok c =
     let i = c.self-2.inside in
     let same : state_of i.parts.forest i.journal ≡ c.args.self.now.state = state-is c.self-2.view_is ∙ c.sweep.ensures.same in
-    state-restarted call_laws lock_laws i.parts i.journal c.self-2.invariant (subst NoneIsLive (sym same) c.requires)
-    c.restart.new.self c.restart.ensures c.in_ok-base.base c.in_ok-base.ensures c.rule-rule.result c.rule-rule.ensures c.last_stamp-stamp.result c.last_stamp-stamp.ensures.stamp c.new-2.result c.new-2.ensures
+    state-restarted call_laws lock_laws i.parts i.journal c.self-2.invariant (none-lives call_laws lock_laws i.parts i.journal c.self-2.invariant (subst (λ (q : State). refusal_of q Checkpoint ≡ None) (sym same) c.requires))
+    c.restart.new.self c.restart.ensures i.parts.tree refl c.rule-rule.result c.rule-rule.ensures c.last_stamp-stamp.result c.last_stamp-stamp.ensures.stamp c.new-2.result c.new-2.ensures
     ∙ (λ x. after_checkpoint (same x))

@@ -5,7 +5,8 @@ use Rattle.ft_core.specs.declared.request.Answer.{Answer}
 use Rattle.ft_core.specs.Steps.{IsRun, exact_rule}
 use Rattle.ft_core.proofs.Gathered.{state-is}
 use Rattle.ft_core.proofs.Known.{call_laws, lock_laws}
-use Rattle.ft_core.proofs.Legally.{IsLegalAt, legal-of, legal-run, legal-replies}
+use Rattle.ft_core.specs.Reached.{IsLegalAt}
+use Rattle.ft_core.proofs.Legally.{legal-of, legal-run, legal-replies}
 use Rattle.ft_core.proofs.RunsOn.{run-push}
 use Rattle.ft_core.proofs.manager.Core.run.Goals as goal
 

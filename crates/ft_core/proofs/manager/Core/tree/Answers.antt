@@ -1,9 +1,12 @@
-use Rattle.std.proofs.Common.{subst}
+use Rattle.std.proofs.Common.{◌≤◌, subst}
 use Rattle.ft_posix.proofs.PlainSound.{plain_soundness}
+use Rattle.ft_forest.specs.declared.TheConstants.{LAST_NUMBER}
+use Rattle.ft_core.specs.Journals.{IsBaseTree}
 use Rattle.ft_core.specs.Promises.{IsHeadline}
+use Rattle.ft_core.specs.States.{State}
 use Rattle.ft_core.proofs.Gathered.{state-is}
 use Rattle.ft_core.proofs.Known.{call_laws}
-use Rattle.ft_core.proofs.Joining.{tree_is, replies_are, order_is}
+use Rattle.ft_core.proofs.Joining.{tree_is, replies_are, order_is, free}
 use Rattle.ft_core.proofs.manager.Core.tree.Goals as goal
 
 pub returns-clause-headline : goal.returns-clause-headline
@@ -14,3 +17,11 @@ returns-clause-headline c =
 
 pub returns-clause-plain_sound : goal.returns-clause-plain_sound
 returns-clause-plain_sound c = plain_soundness c.self.inside.parts.tree c.self.invariant.kept.sound
+
+pub returns-clause-base : goal.returns-clause-base
+returns-clause-base c =
+    let core = c.self.invariant in
+    subst (λ s. IsBaseTree c.self.inside.parts.tree s.last_stamp) (state-is c.self.view_is) (record { sound = core.kept.sound; free = free call_laws core.kept })
+
+pub returns-clause-last : goal.returns-clause-last
+returns-clause-last c = subst (λ (s : State). s.last_stamp ≤ LAST_NUMBER) (state-is c.self.view_is) c.self.invariant.kept.started.within

@@ -25,7 +25,7 @@ use Rattle.ft_core.proofs.Alone.{step-last, just-live}
 use Rattle.ft_core.proofs.Children.{no-child, some-child}
 use Rattle.ft_core.proofs.Ended.{core-ended, state-ended, told-event, step-child, step-undo, longer-none, live-refused}
 use Rattle.ft_core.proofs.Refusing.{step-refused}
-use Rattle.ft_core.proofs.Undoes.{core-undo, place-undo}
+use Rattle.ft_core.proofs.Undoes.{core-undo}
 use Rattle.ft_core.proofs.manager.Core.undo_call.Goals as goal
 
 one : {x y : Logged} {xs ys : List Logged} → x ∷ xs ≡ y ∷ ys → x ≡ y
@@ -60,16 +60,6 @@ take_newest-requires c = λ x xs e.
     let found : undo_target posix_calls (history s) c.args.txn ≡ Found d = ap (λ (q : State). undo_target posix_calls (history q) c.args.txn) (state-is c.self.view_is) ∙ c.in_ok-stamp.ensures.found.1 in
     let undoes = core-undo call_laws lock_laws c.self.invariant c.args.txn live none d found in
     subst (λ (y : Logged). CanGiveAllBack i.parts.tree y.undo) (one (sym undoes.list ∙ e)) undoes.can
-
-pub tell-requires : goal.tell-requires
-tell-requires c =
-    let i = c.self.inside in
-    let s : State = state_of i.parts.forest i.journal in
-    let live : fate_of s c.args.txn ≡ Some Live = ap (λ (q : State). fate_of q c.args.txn) (state-is c.self.view_is) ∙ c.in_ok-check_live.ensures.live in
-    let none : (x : ℕ) → IsLiveChild i.parts.forest c.args.txn x → ⊥ = c.live_children.ensures.none (omega arith) in
-    let d : Granted = c.in_ok-stamp.ensures.found.0 in
-    let found : undo_target posix_calls (history s) c.args.txn ≡ Found d = ap (λ (q : State). undo_target posix_calls (history q) c.args.txn) (state-is c.self.view_is) ∙ c.in_ok-stamp.ensures.found.1 in
-    place-undo call_laws lock_laws c.self.invariant c.args.txn live d found
 
 pub invariant_of-self : goal.invariant_of-self
 invariant_of-self c =

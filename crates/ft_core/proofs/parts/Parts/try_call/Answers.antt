@@ -18,7 +18,6 @@ returns-clause-tried c =
     record {
       free = subst (λ xs. AreBlockers c.args.rule old.locks old.forest t xs []) (c.as_slice.ensures.value ∙ seen)
           (subst (λ ys. AreBlockers c.args.rule old.locks old.forest t c.as_slice.result.now ys) (nil_from_length found.items (sym found.ok.0 ∙ eqb-true (vec_len found) 0 (sym c.if-not-is_empty.ensures))) c.in_ok-blockers.ensures.blockers);
-      twice = c.in_ok-made.ensures.twice;
       reply = c.in_ok-made.ensures.reply ∙ ap (λ o. o.reply) comes;
       accesses = c.in_ok-made.ensures.accesses ∙ seen;
       made_on = subst (IsMadeOn old new (outcome old.tree k c.args.call.now).writes t k) seen

@@ -1,0 +1,74 @@
+// What has happened, for proofs alone.
+ghost use Rattle.std.specs.Prelude.{◌≡◌, List, []};
+ghost use Rattle.std.specs.Borrow.{ftrue};
+ghost use Rattle.ft_cells.specs.Plain.{PlainTree};
+ghost use Rattle.ft_tree.specs.Tidy.{tidy};
+ghost use Rattle.ft_core.specs.declared.request.Event.{Event as EventOf};
+ghost use Rattle.ft_core.specs.PastCode.{coded_events, coded_base_tree};
+
+use ft_calls::{Access, Call, Reply};
+use ft_forest::TxnId;
+use ft_tree::Tree;
+use std::marker::Model;
+
+/// The tree from which all began, and what has happened since. It has no bytes, and nothing of it
+/// is kept: clauses alone see it.
+#[derive(Drop)]
+pub(crate) struct Past {
+    pub ghost tree: { PlainTree } by { coded_base_tree },
+    pub ghost events: { List EventOf } by { coded_events },
+}
+
+impl Model for Past {
+    ghost also_owns = { λ _. ftrue };
+}
+
+// It owns nothing.
+unsafe impl Send for Past {}
+
+/// What happens, but for a granted call.
+#[derive(Clone, Copy, Drop)]
+pub(crate) enum Turn {
+    Begin { txn: TxnId, parent: Option<TxnId> },
+    Undo { stamp: u64 },
+    Commit { txn: TxnId },
+    Abort { txn: TxnId },
+}
+
+/// A call that is granted, by reference.
+#[derive(Clone, Copy, Drop)]
+pub(crate) struct Grant<'a> {
+    pub stamp: u64,
+    pub txn: TxnId,
+    pub call: &'a Call,
+    pub reply: &'a Reply,
+    pub accesses: &'a [Access],
+}
+
+impl Past {
+    ghost use Rattle.ft_core.specs.Noted.{turned, granted_too};
+
+    /// Nothing has happened since this tree.
+    #[inline(always)]
+    pub(crate) fn new(_tree: &Tree) -> Past
+        ensures { (result.tree ≡ tidy _tree.now) × (result.events ≡ []) }
+    {
+        Past {}
+    }
+
+    /// This happens too.
+    #[inline(always)]
+    pub(crate) fn then(&self, _turn: &Turn) -> Past
+        ensures { (result.tree ≡ self.now.tree) × (result.events ≡ turned self.now.events _turn.now) }
+    {
+        Past {}
+    }
+
+    /// This call is granted too.
+    #[inline(always)]
+    pub(crate) fn and(&self, _grant: &Grant<'_>) -> Past
+        ensures { (result.tree ≡ self.now.tree) × (result.events ≡ granted_too self.now.events _grant.now) }
+    {
+        Past {}
+    }
+}

@@ -1,0 +1,4 @@
+mod Counts
+pub mod Places
+pub mod Records
+pub mod Crossing

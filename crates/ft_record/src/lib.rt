@@ -1,0 +1,8 @@
+//! A core that keeps what has happened, and the tree from which it went on.
+#![tactic(auto)]
+
+pub mod laws;
+mod record;
+mod recorded;
+
+pub use recorded::Recorded;

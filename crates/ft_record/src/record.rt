@@ -1,0 +1,95 @@
+// A list of events, with places for those that are not to want memory.
+ghost use Rattle.std.specs.Prelude.{◌≡◌, ◌<◌, ◌≤◌, ◌+◌, OnOk, OnErr};
+ghost use Rattle.ft_record.specs.Recording.{nothing_recorded, with_new, with_told, with_none_kept};
+
+use ft_base::Memory;
+use ft_core::Event;
+use std::alloc::Global;
+use std::marker::Model;
+
+pub(crate) struct Record {
+    events: Vec<Event>,
+    // How many places are kept for the ends of transactions and for undos.
+    spare: usize,
+}
+
+impl Drop for Record {
+    fn drop(self) {
+        let Record {
+            events: _,
+            spare: _,
+        } = self;
+    }
+}
+
+impl Model for Record {
+    ghost use Rattle.std.specs.Prelude.{◌-◌, ◌+◌, ◌≤◌, vec_len, vec_capacity};
+    ghost use Rattle.ft_record.specs.Recording.{Recording, coded_recording};
+
+    ghost Value = { Recording };
+
+    ghost coded = { coded_recording };
+
+    ghost view = { λ a. record { events = a.events.items; spare = a.spare; room = vec_capacity a.events - (vec_len a.events + a.spare) } };
+
+    ghost invariant = { λ a. vec_len a.events + a.spare ≤ vec_capacity a.events };
+}
+
+impl Record {
+    /// Nothing has happened. Takes no memory.
+    pub(crate) fn new(alloc: Global) -> Record
+        ensures { result ≡ record nothing_recorded { room = result.room } }
+    {
+        Record {
+            events: Vec::new(alloc),
+            spare: 0,
+        }
+    }
+
+    pub(crate) fn events(&self) -> &[Event]
+        ensures { result.now ≡ self.now.events }
+    {
+        self.events.as_slice()
+    }
+
+    /// Makes the places of one more event, and of the one that ends or undoes it. Where they are
+    /// missing, an eighth of all is made besides, and not as many again: these places are large,
+    /// and many are kept free for ends and undos.
+    pub(crate) fn reserve(&mut self) -> Result<(), Memory>
+        ensures same { self.new ≡ record self.old { room = self.new.room } }
+        ensures room { OnOk result (2 ≤ self.new.room) }
+    {
+        let wanted = self.spare + 2;
+        if wanted <= self.events.capacity() - self.events.len() {
+            return Ok(());
+        }
+        let more = self.events.capacity() / 8;
+        self.events.reserve_exact(wanted + more)?;
+        Ok(())
+    }
+
+    /// Tells of a begin or a call, in a new place; the other is kept for its end or its undo.
+    pub(crate) fn add(&mut self, event: Event)
+        requires { 2 ≤ self.old.room }
+        ensures { self.new ≡ with_new self.old event }
+    {
+        self.events.push_reserved(event);
+        self.spare += 1;
+    }
+
+    /// Tells of the end of a transaction or of an undo, in a place that was kept.
+    pub(crate) fn tell(&mut self, event: Event)
+        requires { 0 < self.old.spare }
+        ensures { self.new ≡ with_told self.old event }
+    {
+        self.events.push_reserved(event);
+        self.spare -= 1;
+    }
+
+    /// Gives the places back that were kept: nothing can end or be undone any more.
+    pub(crate) fn keep_none(&mut self)
+        ensures { self.new ≡ with_none_kept self.old }
+    {
+        self.spare = 0;
+    }
+}

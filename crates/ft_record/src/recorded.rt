@@ -1,0 +1,342 @@
+// A core that keeps what has happened.
+ghost use Rattle.std.specs.Prelude.{◌≡◌, ◌<◌, ◌≤◌, ◌+◌, ◌-◌, ◌^◌, ℕ, MatchBool, OnOk, OnErr, IfOk};
+ghost use Rattle.ft_tree.specs.Tidy.{tidy};
+ghost use Rattle.ft_tree.specs.Sound.{IsSoundTree, AreSoundCells};
+ghost use Rattle.ft_tree.specs.Sweep.{places_in};
+ghost use Rattle.ft_forest.specs.declared.TheConstants.{LAST_NUMBER as last_number};
+ghost use Rattle.ft_moss.specs.declared.rule.Rule.TheVariants.{Profile};
+ghost use Rattle.ft_core.specs.declared.request.Request.TheVariants.{Begin, Sub, Ask, Retry, Drop as DropAsk, Commit, Abort, Undo, Checkpoint};
+ghost use Rattle.ft_core.specs.declared.request.Answer.TheVariants.{Txn, Dropped, Committed, Aborted, Undone, Cleared};
+ghost use Rattle.ft_core.specs.States.{State as StateOf, at_base, first_base, tree_of, count_standing, has_live, fate_in, fate_of, history};
+ghost use Rattle.ft_posix.specs.Posix.{posix_calls};
+ghost use Rattle.ft_history.specs.History.{parent as parent_of};
+ghost use Rattle.ft_core.specs.Journals.{IsBaseTree};
+ghost use Rattle.ft_core.specs.Living.{SomeIsLive, NoneIsLive};
+ghost use Rattle.ft_core.specs.Promises.{IsHeadline, IsJustMade, RanAlone};
+ghost use Rattle.ft_core.specs.Reached.{IsReached};
+ghost use Rattle.ft_core.specs.Steps.{IsStep, exact_rule, answer_with, outcome_answer};
+ghost use Rattle.ft_core.specs.Sweeps.{HasNoUselessPlace, EachUselessIsLocked};
+
+use crate::record::Record;
+use ft_base::{Memory, Sequence};
+use ft_calls::Call;
+use ft_core::laws::reached;
+use ft_core::{Core, Event, Fault, FullOutcome, Outcome, Rule, State, TxnId};
+use ft_tree::Tree;
+use std::alloc::Global;
+use std::marker::Model;
+
+/// A core with what has happened since its base, and the tree of the base.
+///
+/// Clauses see of it what they see of a core.
+pub struct Recorded {
+    pub(crate) core: Core,
+    past: Record,
+    base: Tree,
+}
+
+impl Drop for Recorded {
+    fn drop(self) {
+        let Recorded {
+            core: _,
+            past: _,
+            base: _,
+        } = self;
+    }
+}
+
+impl Model for Recorded {
+    ghost use Rattle.ft_core.specs.States.{StoredState, coded_stored};
+    ghost use Rattle.ft_record.specs.Recorded.{IsRecorded};
+
+    ghost Value = { StoredState };
+
+    ghost coded = { coded_stored };
+
+    ghost view = { λ a. a.core };
+
+    ghost invariant = { λ a. IsRecorded a.core.state a.past a.base };
+}
+
+impl Recorded {
+    /// A core over the empty tree: the root alone. Its rule is `Rule::Profile`.
+    pub fn new(alloc: Global) -> Result<Recorded, Memory>
+        ensures { IfOk result (λ core. core.state ≡ at_base Profile first_base) }
+    {
+        Recorded::with_rule(alloc, Rule::Profile)
+    }
+
+    /// A core over the empty tree that grants calls by this rule.
+    pub fn with_rule(alloc: Global, rule: Rule) -> Result<Recorded, Memory>
+        ensures { IfOk result (λ core. core.state ≡ at_base rule first_base) }
+    {
+        let base = Tree::new(alloc)?;
+        let core = Core::with_rule(alloc, rule)?;
+        Ok(Recorded {
+            core,
+            past: Record::new(alloc),
+            base,
+        })
+    }
+
+    /// A core on which nothing has happened since its base, with a record from there on.
+    pub fn of(core: Core) -> Result<Recorded, Memory>
+        requires { core.state ≡ at_base core.state.rule core.state.base }
+        ensures { IfOk result (λ recorded. recorded.state ≡ core.state) }
+    {
+        let base = core.tree().copy()?;
+        let past = Record::new(core.alloc());
+        Ok(Recorded { core, past, base })
+    }
+
+    /// The core, as it is now; what has happened is forgotten.
+    pub fn into_core(self) -> Core
+        ensures { result ≡ self }
+    {
+        let Recorded {
+            core,
+            past: _,
+            base: _,
+        } = self;
+        core
+    }
+
+    /// Where its memory comes from.
+    pub fn alloc(&self) -> Global {
+        self.core.alloc()
+    }
+
+    /// By which rule calls are granted. It never changes.
+    pub fn rule(&self) -> Rule
+        ensures { result ≡ self.now.state.rule }
+    {
+        self.core.rule()
+    }
+
+    /// Whether a transaction is live.
+    pub fn has_live(&self) -> bool
+        ensures found { MatchBool result (SomeIsLive self.now.state) (NoneIsLive self.now.state) }
+        ensures listed { result ≡ has_live self.now.state }
+    {
+        self.core.has_live()
+    }
+
+    /// What has become of a transaction, where there is one of this number since the base.
+    pub fn state(&self, txn: TxnId) -> Option<State>
+        ensures { fate_in result ≡ fate_of self.now.state txn }
+    {
+        self.core.state(txn)
+    }
+
+    /// The parent of a subtransaction; none of a top-level one, nor where there is no transaction
+    /// of this number since the base.
+    pub fn parent(&self, txn: TxnId) -> Option<TxnId>
+        ensures { result ≡ parent_of posix_calls (history self.now.state) txn }
+    {
+        self.core.parent(txn)
+    }
+
+    /// The core, for what only looks at it.
+    pub fn core(&self) -> &Core
+        ensures { result.now ≡ self.now }
+    {
+        &self.core
+    }
+
+    /// Begins a top-level transaction, as `Core::begin` does.
+    pub fn begin(&mut self) -> Result<TxnId, Fault>
+        ensures { IsStep exact_rule self.old.state Begin (answer_with Txn result) self.new.state }
+    {
+        self.core.may_begin()?;
+        self.past.reserve()?;
+        let txn = self.core.begin()?;
+        self.past.add(Event::Begin { txn, parent: None });
+        Ok(txn)
+    }
+
+    /// Begins a subtransaction, as `Core::sub` does.
+    pub fn sub(&mut self, txn: TxnId) -> Result<TxnId, Fault>
+        ensures { IsStep exact_rule self.old.state (Sub txn) (answer_with Txn result) self.new.state }
+    {
+        self.core.may_sub(txn)?;
+        self.past.reserve()?;
+        let child = self.core.sub(txn)?;
+        let parent = Some(txn);
+        self.past.add(Event::Begin { txn: child, parent });
+        Ok(child)
+    }
+
+    /// Makes a call in a transaction, or answers which transactions it waits for, as `Core::ask`
+    /// does.
+    pub fn ask(&mut self, txn: TxnId, call: Call) -> Result<Outcome, Fault>
+        ensures { IsStep exact_rule self.old.state (Ask txn call) (answer_with outcome_answer result) self.new.state }
+    {
+        self.core.may_ask(txn)?;
+        self.past.reserve()?;
+        match self.core.ask_in_full(txn, call)? {
+            FullOutcome::Granted {
+                stamp,
+                call,
+                reply,
+                kept,
+                accesses,
+            } => {
+                let Some(kept) = kept else {
+                    unreachable!();
+                };
+                self.past.add(Event::Call {
+                    stamp,
+                    txn,
+                    call,
+                    reply: kept,
+                    accesses: Sequence::from(accesses),
+                });
+                Ok(Outcome::Granted { stamp, reply })
+            }
+            FullOutcome::Waits { blockers } => Ok(Outcome::Waits { blockers }),
+        }
+    }
+
+    /// Makes a copy of a call, as `ask` makes the call.
+    pub fn ask_copy(&mut self, txn: TxnId, call: &Call) -> Result<Outcome, Fault>
+        ensures { IsStep exact_rule self.old.state (Ask txn call.now) (answer_with outcome_answer result) self.new.state }
+    {
+        self.core.may_ask(txn)?;
+        let copy = call.copy(self.core.alloc())?;
+        self.ask(txn, copy)
+    }
+
+    /// Makes the call that a transaction waits for, or answers again which transactions it waits
+    /// for, as `Core::retry` does.
+    pub fn retry(&mut self, txn: TxnId) -> Result<Outcome, Fault>
+        ensures { IsStep exact_rule self.old.state (Retry txn) (answer_with outcome_answer result) self.new.state }
+    {
+        self.core.may_retry(txn)?;
+        self.past.reserve()?;
+        match self.core.retry_in_full(txn)? {
+            FullOutcome::Granted {
+                stamp,
+                call,
+                reply,
+                kept,
+                accesses,
+            } => {
+                let Some(kept) = kept else {
+                    unreachable!();
+                };
+                self.past.add(Event::Call {
+                    stamp,
+                    txn,
+                    call,
+                    reply: kept,
+                    accesses: Sequence::from(accesses),
+                });
+                Ok(Outcome::Granted { stamp, reply })
+            }
+            FullOutcome::Waits { blockers } => Ok(Outcome::Waits { blockers }),
+        }
+    }
+
+    /// Forgets the call that a transaction waits for, as `Core::drop_ask` does.
+    pub fn drop_ask(&mut self, txn: TxnId) -> Result<(), Fault>
+        ensures { IsStep exact_rule self.old.state (DropAsk txn) (answer_with (λ done. Dropped) result) self.new.state }
+    {
+        self.core.drop_ask(txn)
+    }
+
+    /// Commits a transaction, as `Core::commit` does.
+    pub fn commit(&mut self, txn: TxnId) -> Result<(), Fault>
+        ensures { IsStep exact_rule self.old.state (Commit txn) (answer_with (λ done. Committed) result) self.new.state }
+    {
+        self.core.commit(txn)?;
+        self.past.tell(Event::Commit { txn });
+        self.give_places_back();
+        Ok(())
+    }
+
+    /// Aborts a transaction with all that is live below it, as `Core::abort` does.
+    pub fn abort(&mut self, txn: TxnId) -> Result<u64, Fault>
+        ensures step { IsStep exact_rule self.old.state (Abort txn) (answer_with Aborted result) self.new.state }
+
+        // If it ran alone, the tree is that of its begin.
+        ensures alone { (before : StateOf) → RanAlone before self.old.state txn → (answer_with Aborted result ≡ Aborted (count_standing self.old.state txn)) × (tree_of self.new.state ≡ tree_of before) }
+    {
+        let count = self.core.abort(txn)?;
+        self.past.tell(Event::Abort { txn });
+        self.give_places_back();
+        Ok(count)
+    }
+
+    /// Undoes the last of a transaction's own standing calls, as `Core::undo_call` does.
+    pub fn undo_call(&mut self, txn: TxnId) -> Result<u64, Fault>
+        ensures step { IsStep exact_rule self.old.state (Undo txn) (answer_with Undone result) self.new.state }
+
+        // The call just made is undone, and the tree is the one before it.
+        ensures just_made { (before : StateOf) (k : ℕ) → IsJustMade before self.old.state txn k → (answer_with Undone result ≡ Undone k) × (tree_of self.new.state ≡ tree_of before) }
+    {
+        let stamp = self.core.undo_call(txn)?;
+        self.past.tell(Event::Undo { stamp });
+        Ok(stamp)
+    }
+
+    /// Makes the tree as it stands the base, and forgets what has happened, as `Core::checkpoint`
+    /// does. Takes the memory and the time of a copy of the tree.
+    pub fn checkpoint(&mut self) -> Result<(), Fault>
+        ensures { IsStep exact_rule self.old.state Checkpoint (answer_with (λ done. Cleared) result) self.new.state }
+    {
+        self.core.may_checkpoint()?;
+        let base = self.core.tree().copy()?;
+        self.core.checkpoint()?;
+        self.base = base;
+        self.past = Record::new(self.core.alloc());
+        Ok(())
+    }
+
+    /// Drops places of the tree that are of no use any more, as `Core::sweep` does.
+    pub fn sweep(&mut self) -> u64
+        ensures same { self.new.state ≡ self.old.state }
+        ensures count { places_in self.old.cells < 2 ^ 64 - 1 → places_in self.old.cells ≡ result + places_in self.new.cells }
+        ensures locked { EachUselessIsLocked self.old.state self.new.cells }
+        ensures none_left { NoneIsLive self.old.state → HasNoUselessPlace self.new.cells }
+    {
+        self.core.sweep()
+    }
+
+    /// The tree.
+    pub fn tree(&self) -> &Tree
+        ensures stored { result.now ≡ self.now.cells }
+        ensures headline { IsHeadline self.now.state result.now }
+        ensures sound { AreSoundCells result.now }
+        ensures plain_sound { IsSoundTree (tidy result.now) }
+    {
+        self.core.tree()
+    }
+
+    /// The tree of the base: the root alone, until a checkpoint. No number above the base's last
+    /// stamp stands in it, and that is no greater than `LAST_NUMBER`.
+    pub fn base(&self) -> &Tree
+        ensures tree { tidy result.now ≡ self.now.state.base.tree }
+        ensures base { IsBaseTree result.now self.now.state.base.last_stamp }
+        ensures last { self.now.state.base.last_stamp ≤ last_number }
+    {
+        &self.base
+    }
+
+    /// What has happened since the base, in order: a legal history from a sound tree.
+    pub fn history(&self) -> &[Event]
+        ensures events { result.now ≡ self.now.state.events }
+        ensures reached { IsReached self.now }
+    {
+        reached(&self.core);
+        self.past.events()
+    }
+
+    /// Gives the places back that were kept for events, where no transaction is live any more.
+    fn give_places_back(&mut self)
+        ensures { self.new ≡ self.old }
+    {
+        if !self.core.has_live() {
+            self.past.keep_none();
+        }
+    }
+}
