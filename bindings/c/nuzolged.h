@@ -19,6 +19,8 @@
  *   process has threads.
  *
  * The caller keeps all that it passes: paths, bytes and lines are copied, and no pointer is kept.
+ * No more is copied of the bytes of a write than could have room in the file, and no more of a path
+ * than tells that it is too long.
  * The tree keeps all that it holds: no pointer into it is given out.
  *
  * The names of directories and files are bytes, of no encoding. A path is absolute or not, which is

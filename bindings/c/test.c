@@ -8,6 +8,8 @@
  *
  * It is linked with --wrap=malloc and --wrap=realloc, so that memory runs out when a test says so.
  */
+#define _DEFAULT_SOURCE /* for mmap and setrlimit */
+
 #include <nuzolged.h>
 
 #include <errno.h>
@@ -15,6 +17,8 @@
 #include <inttypes.h>
 #include <stdio.h>
 #include <stdlib.h>
+#include <sys/mman.h>
+#include <sys/resource.h>
 
 /* Ends a test, which has failed, where this does not hold. */
 #define CHECK(holds)                                                       \
@@ -421,6 +425,65 @@ static bool flags_of_open_are_kept_apart(void) {
     return true;
 }
 
+/* ---- what no file has room for */
+
+enum { LARGEST_FILE = 1048576 };
+
+/* Writes more bytes than a file has room for, at its offset and at places. */
+static bool fills_up(nuz_tree *t, const uint8_t *bytes, size_t len) {
+    CHECK(nuz_begin(t).number == 1 && nuz_begin(t).number == 2);
+    uint64_t fd = open_file(t, 1, "/f"), other = open_file(t, 2, "/g");
+    CHECK(nuz_lseek(t, 1, fd, 1, NUZ_SET).code == 0);
+    CHECK(nuz_write(t, 1, fd, bytes, len).number == LARGEST_FILE - 1);
+    CHECK(nuz_write(t, 1, fd, bytes, len).code == EFBIG && nuz_write(t, 1, fd, bytes, 0).code == 0);
+    CHECK(nuz_pwrite(t, 1, fd, bytes, len, 0).number == LARGEST_FILE);
+    CHECK(nuz_pwrite(t, 1, fd, bytes, len, LARGEST_FILE - 2).number == 2);
+    CHECK(nuz_pwrite(t, 1, fd, bytes, len, LARGEST_FILE).code == EFBIG);
+    CHECK(nuz_pwrite(t, 1, fd, bytes, 0, LARGEST_FILE).code == 0);
+    CHECK(nuz_pwrite(t, 1, fd, bytes, len, -1).code == EINVAL);
+    CHECK(nuz_fstat(t, 1, fd).size == LARGEST_FILE && nuz_fstat(t, 2, other).size == 0);
+    CHECK(nuz_commit(t, 1).code == 0 && nuz_lseek(t, 2, fd, 9, NUZ_SET).number == 9);
+    CHECK(nuz_begin(t).number == 3 && nuz_write(t, 3, fd, bytes, len).code == NUZ_WAITS);
+    CHECK(nuz_commit(t, 2).code == 0 && nuz_retry(t, 3).number == LARGEST_FILE - 9);
+    return true;
+}
+
+/* Writes 4 GiB, where a copy of so much has no room. */
+static bool bytes_without_room_are_not_copied(void) {
+    const size_t len = (size_t)4 << 30;
+    struct rlimit was, less;
+    nuz_tree t = NUZ_TREE_INIT;
+    if (is_short) {
+        return true;
+    }
+    void *bytes = mmap(NULL, len, PROT_READ, MAP_PRIVATE | MAP_ANONYMOUS | MAP_NORESERVE, -1, 0);
+    CHECK(bytes != MAP_FAILED && getrlimit(RLIMIT_AS, &was) == 0);
+    less = was;
+    less.rlim_cur = len + len / 2;
+    CHECK(opened(&t) && setrlimit(RLIMIT_AS, &less) == 0);
+    void *copy = __real_malloc(len);
+    bool wrote = fills_up(&t, bytes, len);
+    CHECK(setrlimit(RLIMIT_AS, &was) == 0 && copy == NULL && wrote);
+    nuz_tree_close(&t);
+    return munmap(bytes, len) == 0;
+}
+
+static bool paths_that_are_too_long_are_told(void) {
+    static uint8_t path[1 << 20];
+    nuz_tree t = NUZ_TREE_INIT;
+    memset(path, '/', sizeof path);
+    CHECK(opened(&t) && nuz_begin(&t).number == 1);
+    CHECK(nuz_mkdir(&t, 1, path, 4095).code == EEXIST);
+    CHECK(nuz_mkdir(&t, 1, path, 4096).code == ENAMETOOLONG);
+    CHECK(nuz_mkdir(&t, 1, path, sizeof path).code == ENAMETOOLONG);
+    CHECK(nuz_link(&t, 1, NUZ_S("/no"), path, sizeof path).code == ENAMETOOLONG);
+    path[sizeof path - 1] = '\0';
+    CHECK(nuz_mkdir(&t, 1, path, sizeof path).code == NUZ_BAD);
+    CHECK(nuz_rename(&t, 1, path, sizeof path, path, 1).code == NUZ_BAD);
+    nuz_tree_close(&t);
+    return true;
+}
+
 static bool constants_are_those_of_the_system(void) {
     CHECK(NUZ_READ_ONLY == O_RDONLY && NUZ_WRITE_ONLY == O_WRONLY && NUZ_READ_WRITE == O_RDWR);
     CHECK(NUZ_SET == SEEK_SET && NUZ_CUR == SEEK_CUR && NUZ_END == SEEK_END);
@@ -660,6 +723,8 @@ static const struct {
     TEST(bad_arguments_are_told),
     TEST(files_are_written_and_read),
     TEST(flags_of_open_are_kept_apart),
+    TEST(bytes_without_room_are_not_copied),
+    TEST(paths_that_are_too_long_are_told),
     TEST(constants_are_those_of_the_system),
     TEST(error_numbers_are_those_of_the_system),
     TEST(blockers_are_told),

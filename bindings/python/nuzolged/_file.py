@@ -101,7 +101,7 @@ class RawFile(io.RawIOBase):
         return self._ask("nuz_read", room, len(view)).number
 
     def write(self, data: Any) -> int:
-        raw = memoryview(data).tobytes()
+        raw = memoryview(data).cast("B")[: _library.LARGEST_FILE].tobytes()
         return self._ask("nuz_write", raw, len(raw)).number
 
     def seek(self, offset: int, whence: int = os.SEEK_SET) -> int:

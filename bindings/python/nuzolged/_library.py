@@ -11,6 +11,9 @@ DIR = 1
 READ_ONLY, WRITE_ONLY, READ_WRITE = 0, 1, 2
 PROFILE, MOSS = 0, 1
 
+#: How many bytes a file may have: a write takes no more.
+LARGEST_FILE = 1 << 20
+
 MEMORY = 1001
 WAITS = 1100
 CLOSED = 1200

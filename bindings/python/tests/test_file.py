@@ -112,6 +112,9 @@ class Contents(FileTest):
         with self.assertRaises(OSError) as full:
             self.job.write_bytes("/g", most + b"x")
         self.assertEqual((full.exception.errno, full.exception.filename), (errno.EFBIG, "/g"))
+        with self.job.open("/h", "wb", 0) as file:
+            self.assertEqual(file.write(most + most), len(most))
+        self.assertEqual(self.job.read_bytes("/h"), most)
 
 
 class Lives(FileTest):

@@ -2,6 +2,8 @@ pub mod Loans
 pub mod Views
 pub mod Orders
 pub mod Places
+pub mod Pages
+pub mod Tables
 pub mod Clones
 pub mod ChainShape
 pub mod ChainMoves

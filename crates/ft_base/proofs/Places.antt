@@ -1,9 +1,8 @@
 -- The finite map that a list of places makes: what it has at a number, and what a change of one
 -- place leaves.
-use Rattle.std.proofs.Common.{IsSome, ◌≤◌, ◌≡◌, ◌==◌, ◌<◌, ◌+◌, ℕ, zero, suc, List, [], ◌∷◌, ◌++◌, length, Option, Some, None, Bool, true, false, cond, set, get_or, replicate, take, drop, ltb, arith, refl, sym, ap, subst, ◌∙◌}
+use Rattle.std.proofs.Common.{IsSome, ◌≤◌, ◌≡◌, ◌==◌, ◌<◌, ◌+◌, ℕ, zero, suc, List, [], ◌∷◌, ◌++◌, length, Option, Some, None, Bool, true, false, cond, set, get_or, replicate, ltb, arith, refl, sym, ap, subst, ◌∙◌}
 use Rattle.std.proofs.lemmas.Bool.{false≢true, ne_eqb, eq-eqb, eqb-true, ltb-true, ltb-false}
-use Rattle.std.proofs.lemmas.List.{append_assoc, get_or-set_same, get_or-set_other, length-append, length-replicate, replicate-append-replicate}
-use Rattle.std.proofs.Math.Seq.{drop-append_seam, take-append_seam}
+use Rattle.std.proofs.lemmas.List.{append_assoc, get_or-set_same, get_or-set_other, replicate-append-replicate}
 use Rattle.std.proofs.lemmas.Option.{slice_get_past, slice_get-get_or, unwrap_or-slice_get}
 use Rattle.std.specs.Prelude.{slice_get, is_some, IfSome}
 use Rattle.std.specs.Slice.{IsItemAt}
@@ -12,7 +11,7 @@ use Rattle.std.specs.Option.{option_flatten, option_copied, unwrap_or}
 use Rattle.std.specs.Ordering.{nat_cmp}
 use Rattle.std.specs.Cmp.{nat_cmp_total}
 use Rattle.std.specs.FinMap.{FinMap, get, insert, remove, same_map, nat_cmp-IsAntisymmetric}
-use Rattle.ft_base.specs.Dense.{numbered, dense, spread}
+use Rattle.ft_base.specs.Paged.{numbered, dense}
 use Rattle.ft_base.proofs.Views.{at, get-view, view-put, view-remove}
 
 module _ {V : Type 0} where
@@ -51,7 +50,9 @@ module _ {V : Type 0} where
   place-taken xs k within = view-remove (numbered 0 xs) (numbered 0 (set xs k None)) (dense xs) k refl
       (λ q. at-place (set xs k None) q ∙ set-place xs k q None within ∙ ap (cond (k == q) None) (sym (at-place xs q)))
 
-  -- Places that are spread.
+  -- Places behind that of 0 and so many that nobody has.
+  abbrev pub laid : Option V → ℕ → List (Option V) → List (Option V)
+  laid z skipped places = z ∷ (replicate skipped None ++ places)
 
   within : (skipped : ℕ) (ys : List (Option V)) (d p : ℕ) → d ≡ skipped + p → get_or (replicate skipped None ++ ys) d None ≡ get_or ys p None
   within zero ys d p is = let same : d ≡ p = omega arith in ap (λ n. get_or ys n None) same
@@ -63,44 +64,44 @@ module _ {V : Type 0} where
   among (suc skipped) ys zero lt = refl
   among (suc skipped) ys (suc d) lt = among skipped ys d (omega arith)
 
-  spread-at : (o : Option V) (skipped : ℕ) (xs : List (Option V)) (q p : ℕ) → q ≡ skipped + p + 1 → get_or (spread o skipped xs) q None ≡ get_or xs p None
-  spread-at o skipped xs zero p is = absurd (omega arith)
-  spread-at o skipped xs (suc q) p is = within skipped xs q p (omega arith)
+  pub laid-at : (o : Option V) (skipped : ℕ) (xs : List (Option V)) (q p : ℕ) → q ≡ skipped + p + 1 → get_or (laid o skipped xs) q None ≡ get_or xs p None
+  laid-at o skipped xs zero p is = absurd (omega arith)
+  laid-at o skipped xs (suc q) p is = within skipped xs q p (omega arith)
 
   -- a number that is skipped has no value
-  spread-none : (o : Option V) (skipped : ℕ) (xs : List (Option V)) (q : ℕ) → 0 < q → q ≤ skipped → get_or (spread o skipped xs) q None ≡ None
-  spread-none o skipped xs zero least most = absurd (omega arith)
-  spread-none o skipped xs (suc q) least most = among skipped xs q (omega arith)
+  laid-none : (o : Option V) (skipped : ℕ) (xs : List (Option V)) (q : ℕ) → 0 < q → q ≤ skipped → get_or (laid o skipped xs) q None ≡ None
+  laid-none o skipped xs zero least most = absurd (omega arith)
+  laid-none o skipped xs (suc q) least most = among skipped xs q (omega arith)
 
   put-within : (skipped : ℕ) (ys : List (Option V)) (d p : ℕ) (o : Option V) → d ≡ skipped + p → (replicate skipped None ++ set ys p o) ≡ set (replicate skipped None ++ ys) d o
   put-within zero ys d p o is = let same : p ≡ d = omega arith in ap (λ n. set ys n o) same
   put-within (suc skipped) ys zero p o is = absurd (omega arith)
   put-within (suc skipped) ys (suc d) p o is = ap (λ zs. None ∷ zs) (put-within skipped ys d p o (omega arith))
 
-  spread-set : (z : Option V) (skipped : ℕ) (xs : List (Option V)) (q p : ℕ) (o : Option V) → q ≡ skipped + p + 1 → spread z skipped (set xs p o) ≡ set (spread z skipped xs) q o
-  spread-set z skipped xs zero p o is = absurd (omega arith)
-  spread-set z skipped xs (suc q) p o is = ap (λ zs. z ∷ zs) (put-within skipped xs q p o (omega arith))
+  laid-set : (z : Option V) (skipped : ℕ) (xs : List (Option V)) (q p : ℕ) (o : Option V) → q ≡ skipped + p + 1 → laid z skipped (set xs p o) ≡ set (laid z skipped xs) q o
+  laid-set z skipped xs zero p o is = absurd (omega arith)
+  laid-set z skipped xs (suc q) p o is = ap (λ zs. z ∷ zs) (put-within skipped xs q p o (omega arith))
 
   longer : (skipped : ℕ) (ys : List (Option V)) → length (replicate skipped None ++ ys) ≡ skipped + length ys
   longer zero ys = omega arith
   longer (suc skipped) ys = let more = longer skipped ys in omega arith
 
-  spread-long : (z : Option V) (skipped : ℕ) (xs : List (Option V)) (q p : ℕ) → q ≡ skipped + p + 1 → p < length xs → q < length (spread z skipped xs)
-  spread-long z skipped xs q p is lt = let long = longer skipped xs in omega arith
+  laid-long : (z : Option V) (skipped : ℕ) (xs : List (Option V)) (q p : ℕ) → q ≡ skipped + p + 1 → p < length xs → q < length (laid z skipped xs)
+  laid-long z skipped xs q p is lt = let long = longer skipped xs in omega arith
 
   -- a place that gets a value, and one that loses its own
-  pub spread-put : (z : Option V) (skipped : ℕ) (xs : List (Option V)) (q p : ℕ) (v : V) → q ≡ skipped + p + 1 → p < length xs → dense (spread z skipped (set xs p (Some v))) ≡ insert (dense (spread z skipped xs)) q v
-  spread-put z skipped xs q p v is lt = ap dense (spread-set z skipped xs q p (Some v) is) ∙ place-put (spread z skipped xs) q v (spread-long z skipped xs q p is lt)
+  pub laid-put : (z : Option V) (skipped : ℕ) (xs : List (Option V)) (q p : ℕ) (v : V) → q ≡ skipped + p + 1 → p < length xs → dense (laid z skipped (set xs p (Some v))) ≡ insert (dense (laid z skipped xs)) q v
+  laid-put z skipped xs q p v is lt = ap dense (laid-set z skipped xs q p (Some v) is) ∙ place-put (laid z skipped xs) q v (laid-long z skipped xs q p is lt)
 
-  pub spread-taken : (z : Option V) (skipped : ℕ) (xs : List (Option V)) (q p : ℕ) → q ≡ skipped + p + 1 → p < length xs → dense (spread z skipped (set xs p None)) ≡ remove (dense (spread z skipped xs)) q
-  spread-taken z skipped xs q p is lt = ap dense (spread-set z skipped xs q p None is) ∙ place-taken (spread z skipped xs) q (spread-long z skipped xs q p is lt)
+  pub laid-taken : (z : Option V) (skipped : ℕ) (xs : List (Option V)) (q p : ℕ) → q ≡ skipped + p + 1 → p < length xs → dense (laid z skipped (set xs p None)) ≡ remove (dense (laid z skipped xs)) q
+  laid-taken z skipped xs q p is lt = ap dense (laid-set z skipped xs q p None is) ∙ place-taken (laid z skipped xs) q (laid-long z skipped xs q p is lt)
 
   -- the same of the place of 0
-  pub zero-put : (z : Option V) (skipped : ℕ) (xs : List (Option V)) (v : V) → dense (spread (Some v) skipped xs) ≡ insert (dense (spread z skipped xs)) 0 v
-  zero-put z skipped xs v = place-put (spread z skipped xs) 0 v (omega arith)
+  pub zero-put : (z : Option V) (skipped : ℕ) (xs : List (Option V)) (v : V) → dense (laid (Some v) skipped xs) ≡ insert (dense (laid z skipped xs)) 0 v
+  zero-put z skipped xs v = place-put (laid z skipped xs) 0 v (omega arith)
 
-  pub zero-taken : (z : Option V) (skipped : ℕ) (xs : List (Option V)) → dense (spread None skipped xs) ≡ remove (dense (spread z skipped xs)) 0
-  zero-taken z skipped xs = place-taken (spread z skipped xs) 0 (omega arith)
+  pub zero-taken : (z : Option V) (skipped : ℕ) (xs : List (Option V)) → dense (laid None skipped xs) ≡ remove (dense (laid z skipped xs)) 0
+  zero-taken z skipped xs = place-taken (laid z skipped xs) 0 (omega arith)
 
   -- Lists of places that have the same values.
 
@@ -122,29 +123,20 @@ module _ {V : Type 0} where
   behind (x ∷ xs) n (suc q) = behind xs n q
 
   -- places more without values
-  pub spread-more : (z : Option V) (skipped : ℕ) (xs : List (Option V)) (n : ℕ) → dense (spread z skipped (xs ++ replicate n None)) ≡ dense (spread z skipped xs)
-  spread-more z skipped xs n =
-      ap (λ zs. dense (z ∷ zs)) (sym (append_assoc (replicate skipped None) xs (replicate n None))) ∙ alike (spread z skipped xs ++ replicate n None) (spread z skipped xs) (behind (spread z skipped xs) n)
+  pub laid-more : (z : Option V) (skipped : ℕ) (xs : List (Option V)) (n : ℕ) → dense (laid z skipped (xs ++ replicate n None)) ≡ dense (laid z skipped xs)
+  laid-more z skipped xs n =
+      ap (λ zs. dense (z ∷ zs)) (sym (append_assoc (replicate skipped None) xs (replicate n None))) ∙ alike (laid z skipped xs ++ replicate n None) (laid z skipped xs) (behind (laid z skipped xs) n)
 
   -- as many places more in front as are skipped less
-  pub spread-front : (z : Option V) (less n skipped : ℕ) (xs : List (Option V)) → skipped ≡ less + n → dense (spread z less (replicate n None ++ xs)) ≡ dense (spread z skipped xs)
-  spread-front z less n skipped xs is =
+  pub laid-front : (z : Option V) (less n skipped : ℕ) (xs : List (Option V)) → skipped ≡ less + n → dense (laid z less (replicate n None ++ xs)) ≡ dense (laid z skipped xs)
+  laid-front z less n skipped xs is =
       ap (λ zs. dense (z ∷ zs)) (sym (append_assoc (replicate less None) (replicate n None) xs) ∙ ap (λ ys. ys ++ xs) (replicate-append-replicate less n None ∙ ap (λ k. replicate k None) (sym is)))
 
-  pub lengthened : (xs ys : List (Option V)) (n : ℕ) → ys ≡ xs ++ replicate n None → length ys ≡ length xs + n
-  lengthened xs ys n is = ap length is ∙ length-append xs (replicate n None) ∙ ap (λ k. length xs + k) (length-replicate n None)
-
-  -- places more behind, turned to the front
-  pub turned : (xs ys : List (Option V)) (n k : ℕ) → ys ≡ xs ++ replicate n None → k ≡ length xs → drop k ys ++ take k ys ≡ replicate n None ++ xs
-  turned xs ys n k is long =
-      ap (λ k. drop k ys ++ take k ys) long ∙ ap (λ zs. drop (length xs) zs ++ take (length xs) zs) is
-      ∙ ap (λ zs. zs ++ take (length xs) (xs ++ replicate n None)) (drop-append_seam xs (replicate n None)) ∙ ap (λ zs. replicate n None ++ zs) (take-append_seam xs (replicate n None))
-
   -- where there are no places it is not seen how many are skipped
-  pub spread-empty : (z : Option V) (skipped skipped' : ℕ) (xs : List (Option V)) → xs ≡ [] → dense (spread z skipped xs) ≡ dense (spread z skipped' xs)
-  spread-empty z skipped skipped' xs is = subst (λ (ys : List (Option V)). dense (spread z skipped ys) ≡ dense (spread z skipped' ys)) (sym is) (alike (spread z skipped []) (spread z skipped' []) each)
+  pub laid-empty : (z : Option V) (skipped skipped' : ℕ) (xs : List (Option V)) → xs ≡ [] → dense (laid z skipped xs) ≡ dense (laid z skipped' xs)
+  laid-empty z skipped skipped' xs is = subst (λ (ys : List (Option V)). dense (laid z skipped ys) ≡ dense (laid z skipped' ys)) (sym is) (alike (laid z skipped []) (laid z skipped' []) each)
     where
-      each : (q : ℕ) → get_or (spread z skipped []) q None ≡ get_or (spread z skipped' []) q None
+      each : (q : ℕ) → get_or (laid z skipped []) q None ≡ get_or (laid z skipped' []) q None
       each zero = refl
       each (suc q) = behind-none skipped q ∙ sym (behind-none skipped' q)
         where
@@ -168,26 +160,29 @@ module _ {V : Type 0} where
       by_place None there is = sym (slice_get_past xs q (ltb-false q (length xs) (sym there)))
 
   -- what a look at a place finds
-  pub found-place : (z : Option V) (skipped : ℕ) (xs : List (Option V)) (q p : ℕ) (r : Option (Bor (Option V))) → q ≡ skipped + p + 1 → IsItemAt xs p r → option_flatten (option_copied r) ≡ get (dense (spread z skipped xs)) q
-  found-place z skipped xs q p r stands is = ap option_flatten (found xs p r is) ∙ read-place xs p ∙ sym (get-place (spread z skipped xs) q ∙ spread-at z skipped xs q p stands)
+  pub found-at : (xs : List (Option V)) (q : ℕ) (r : Option (Bor (Option V))) → IsItemAt xs q r → option_flatten (option_copied r) ≡ get_or xs q None
+  found-at xs q r is = ap option_flatten (found xs q r is) ∙ read-place xs q
+
+  pub found-place : (z : Option V) (skipped : ℕ) (xs : List (Option V)) (q p : ℕ) (r : Option (Bor (Option V))) → q ≡ skipped + p + 1 → IsItemAt xs p r → option_flatten (option_copied r) ≡ get (dense (laid z skipped xs)) q
+  found-place z skipped xs q p r stands is = ap option_flatten (found xs p r is) ∙ read-place xs p ∙ sym (get-place (laid z skipped xs) q ∙ laid-at z skipped xs q p stands)
 
   -- and where there is no place
-  pub found-none : (z : Option V) (skipped : ℕ) (xs : List (Option V)) (q : ℕ) → 0 < q → q ≤ skipped → get (dense (spread z skipped xs)) q ≡ None
-  found-none z skipped xs q least most = get-place (spread z skipped xs) q ∙ spread-none z skipped xs q least most
+  pub found-none : (z : Option V) (skipped : ℕ) (xs : List (Option V)) (q : ℕ) → 0 < q → q ≤ skipped → get (dense (laid z skipped xs)) q ≡ None
+  found-none z skipped xs q least most = get-place (laid z skipped xs) q ∙ laid-none z skipped xs q least most
 
-  pub found-zero : (z : Option V) (skipped : ℕ) (xs : List (Option V)) → z ≡ get (dense (spread z skipped xs)) 0
-  found-zero z skipped xs = sym (get-place (spread z skipped xs) 0)
+  pub found-zero : (z : Option V) (skipped : ℕ) (xs : List (Option V)) → z ≡ get (dense (laid z skipped xs)) 0
+  found-zero z skipped xs = sym (get-place (laid z skipped xs) 0)
 
-  inside : (xs : List (Option V)) (q : ℕ) → IsSome (get_or xs q None) → q < length xs
+  pub inside : (xs : List (Option V)) (q : ℕ) → IsSome (get_or xs q None) → q < length xs
   inside [] q some = absurd (false≢true some)
   inside (x ∷ xs) zero some = omega arith
   inside (x ∷ xs) (suc q) some = let le = inside xs q some in omega arith
 
   -- what has a value has a place
-  pub has-place : (z : Option V) (skipped : ℕ) (xs : List (Option V)) (m : FinMap nat_cmp V) (q p : ℕ) → q ≡ skipped + p + 1 → dense (spread z skipped xs) ≡ m → IsSome (get m q) → p < length xs
-  has-place z skipped xs m q p stands is some = inside xs p (subst IsSome (sym (ap (λ n. get n q) is) ∙ get-place (spread z skipped xs) q ∙ spread-at z skipped xs q p stands) some)
+  pub has-place : (z : Option V) (skipped : ℕ) (xs : List (Option V)) (m : FinMap nat_cmp V) (q p : ℕ) → q ≡ skipped + p + 1 → dense (laid z skipped xs) ≡ m → IsSome (get m q) → p < length xs
+  has-place z skipped xs m q p stands is some = inside xs p (subst IsSome (sym (ap (λ n. get n q) is) ∙ get-place (laid z skipped xs) q ∙ laid-at z skipped xs q p stands) some)
 
-  pub is-past : (z : Option V) (skipped : ℕ) (xs : List (Option V)) (m : FinMap nat_cmp V) (q : ℕ) → 0 < q → dense (spread z skipped xs) ≡ m → IsSome (get m q) → skipped < q
+  pub is-past : (z : Option V) (skipped : ℕ) (xs : List (Option V)) (m : FinMap nat_cmp V) (q : ℕ) → 0 < q → dense (laid z skipped xs) ≡ m → IsSome (get m q) → skipped < q
   is-past z skipped xs m q least is some = by_test (ltb skipped q) refl
     where
       by_test : (b : Bool) → ltb skipped q ≡ b → skipped < q
@@ -202,8 +197,8 @@ module _ {V : Type 0} where
       by_test true q e = at-place xs q ∙ ap (λ n. get_or xs n None) (sym (eqb-true k q e)) ∙ none
       by_test false q e = refl
 
-  pub no-place : (z : Option V) (skipped : ℕ) (xs : List (Option V)) (q p : ℕ) → q ≡ skipped + p + 1 → length xs ≤ p → dense (spread z skipped xs) ≡ remove (dense (spread z skipped xs)) q
-  no-place z skipped xs q p stands past = absent (spread z skipped xs) q (spread-at z skipped xs q p stands ∙ sym (unwrap_or-slice_get xs p None) ∙ ap (λ o. unwrap_or o None) (slice_get_past xs p past))
+  pub no-place : (z : Option V) (skipped : ℕ) (xs : List (Option V)) (q p : ℕ) → q ≡ skipped + p + 1 → length xs ≤ p → dense (laid z skipped xs) ≡ remove (dense (laid z skipped xs)) q
+  no-place z skipped xs q p stands past = absent (laid z skipped xs) q (laid-at z skipped xs q p stands ∙ sym (unwrap_or-slice_get xs p None) ∙ ap (λ o. unwrap_or o None) (slice_get_past xs p past))
 
-  pub no-number : (z : Option V) (skipped : ℕ) (xs : List (Option V)) (q : ℕ) → 0 < q → q ≤ skipped → dense (spread z skipped xs) ≡ remove (dense (spread z skipped xs)) q
-  no-number z skipped xs q least most = absent (spread z skipped xs) q (spread-none z skipped xs q least most)
+  pub no-number : (z : Option V) (skipped : ℕ) (xs : List (Option V)) (q : ℕ) → 0 < q → q ≤ skipped → dense (laid z skipped xs) ≡ remove (dense (laid z skipped xs)) q
+  no-number z skipped xs q least most = absent (laid z skipped xs) q (laid-none z skipped xs q least most)

@@ -4,5 +4,5 @@ pub mod Pairs
 pub mod Copies
 pub mod Chains
 pub mod Linked
-pub mod Dense
+pub mod Paged
 pub mod Lent

@@ -1,5 +1,5 @@
 -- What a table ends as, where a value of it is lent to be written.
--- What clauses say of `Table`, `DenseTable` and `Chains` is otherwise std's finite map,
+-- What clauses say of `Table`, `PagedTable` and `Chains` is otherwise std's finite map,
 -- `Rattle.std.specs.FinMap` (`empty`, `get`, `contains_key`, `insert`, `remove`, `len`,
 -- `entries`), at the order of numbers.
 use Rattle.std.specs.Prelude.{ℕ, Option}

@@ -1,13 +1,13 @@
 // Lists of values by their owners, linked in one slab.
-ghost use Rattle.std.specs.Prelude.{◌≡◌, ◌≢◌, ◌↔◌, ◌∷◌, [], drop, slice_get, option_copied, IsSome, IsTrue, IsOk, OnOk, OnErr, IfErr, OnSome, IfNone};
+ghost use Rattle.std.specs.Prelude.{◌≡◌, ◌≢◌, ◌↔◌, ◌∷◌, [], false, drop, slice_get, option_copied, IsSome, IsTrue, IsOk, OnOk, OnErr, IfErr, OnSome, IfNone};
 ghost use Rattle.std.specs.Option.{option_copied_mut};
 ghost use Rattle.std.specs.Borrow.{sem};
 ghost use Rattle.std.specs.FinMap as finite;
 ghost use Rattle.ft_base.specs.Chains.{list_in, IsOpen, moved, spliced};
 
-use crate::dense_table::DenseTable;
 use crate::memory::Memory;
 use crate::node::{Ends, Node, first_key, from_node, last_key_or, set_next};
+use crate::paged_table::PagedTable;
 use crate::values::Values;
 use slab::Slab;
 use std::alloc::{AllocFailed, Global};
@@ -18,12 +18,11 @@ use std::marker::Model;
 /// A value moves from the front of one list to that of another, and a whole list in front of
 /// another, without memory. Each call takes the same time, however many owners are open and however
 /// long their lists are. All values stand in one slab, whose places are used again. Owners are
-/// numbered one after another: there is a place for 0, and for each number from the first that was
-/// opened to the greatest.
+/// numbered one after another: those that share a page of 64 numbers with an open one have a place.
 #[derive(Drop)]
 pub struct Chains<T> {
     nodes: Slab<Node<T>>,
-    ends: DenseTable<Option<Ends>>,
+    ends: PagedTable<Option<Ends>>,
 }
 
 impl<T> Model for Chains<T> {
@@ -49,7 +48,7 @@ impl<T> Chains<T> {
     {
         Chains {
             nodes: Slab::new(alloc),
-            ends: DenseTable::new(alloc),
+            ends: PagedTable::new(alloc),
         }
     }
 
@@ -72,6 +71,14 @@ impl<T> Chains<T> {
         }
         self.ends.insert(owner, None)?;
         Ok(())
+    }
+
+    /// Opens owner 0, which is not open, with an empty list. Takes no memory.
+    pub fn open_zero(&mut self)
+        requires { finite.contains_key self.old 0 ≡ false }
+        ensures { self.new ≡ finite.insert self.old 0 (list_in self.old 0) }
+    {
+        self.ends.set_zero(None);
     }
 
     /// Closes an owner whose list is empty. Takes no memory.

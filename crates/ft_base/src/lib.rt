@@ -3,18 +3,22 @@
 #![tactic(auto)]
 
 mod chains;
-mod dense_table;
 mod few;
 mod memory;
 mod node;
+mod page;
+mod paged_table;
 mod sequence;
 mod table;
 mod values;
 
 pub use chains::Chains;
-pub use dense_table::DenseTable;
 pub use few::Few;
 pub use memory::Memory;
+pub use paged_table::PagedTable;
 pub use sequence::Sequence;
 pub use table::Table;
 pub use values::Values;
+
+/// How many numbers share a page of a `PagedTable`.
+const PAGE_LEN: usize = 64;

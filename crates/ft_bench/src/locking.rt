@@ -158,7 +158,7 @@ fn run_in(
 /// The same in a new table.
 pub fn run(alloc: Global, asking: Asking, count: u64, size: u64) -> Result<u64, Failed> {
     let forest = Forest::new(alloc, 0);
-    let locks = Locks::new(alloc)?;
+    let locks = Locks::new(alloc);
     let mut table = Table { forest, locks };
     let done = run_in(alloc, &mut table, asking, count, size);
     // To drop the table is no part of an ask.

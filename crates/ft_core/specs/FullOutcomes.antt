@@ -1,5 +1,5 @@
 -- What became of a call that was asked for, with all that was made of it.
-use Rattle.std.specs.Prelude.{◌≡◌, Bool, cond, Some, None}
+use Rattle.std.specs.Prelude.{◌≡◌, Bool, true, cond, Some, None}
 use Rattle.ft_posix.specs.declared.call.Call.{Call}
 use Rattle.ft_core.specs.declared.parts.Tried.{Tried}
 use Rattle.ft_core.specs.declared.parts.Tried.TheVariants.{Made as WasMade, Blocked}
@@ -20,10 +20,15 @@ outcome_of (full.Waits blockers) = outcome.Waits blockers
 abbrev pub full_answer : FullOutcome → Answer
 full_answer w = outcome_answer (outcome_of w)
 
--- if it was made: the call, a copy of its reply, and its accesses on the tree of the state
+-- if it was made: the call, a copy of its reply where that was wanted, and its accesses on the tree
+-- of the state
+abbrev pub IsTold : Bool → State → Call → FullOutcome → Type 0
+IsTold twice s call (full.Granted k made reply kept accesses) = (made ≡ call) × (kept ≡ cond twice (Some reply) None) × (accesses.items ≡ accesses_now s call)
+IsTold twice s call (full.Waits blockers) = Unit {0}
+
+-- the same where the copy was wanted
 abbrev pub IsToldInFull : State → Call → FullOutcome → Type 0
-IsToldInFull s call (full.Granted k made reply kept accesses) = (made ≡ call) × (kept ≡ Some reply) × (accesses.items ≡ accesses_now s call)
-IsToldInFull s call (full.Waits blockers) = Unit {0}
+IsToldInFull = IsTold true
 
 -- the reply of a call that was tried and made, a second time where that was wanted
 abbrev pub IsTwice : Bool → Tried → Type 0

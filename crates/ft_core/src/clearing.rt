@@ -1,5 +1,6 @@
 // Checkpoints.
-ghost use Rattle.std.specs.Prelude.{◌≡◌, None, OnOk, OnErr};
+ghost use Rattle.std.specs.Prelude.{◌≡◌, None, IfErr};
+ghost use Rattle.ft_core.specs.declared.fault.Fault.TheVariants.{Live as LiveFault};
 ghost use Rattle.ft_core.specs.declared.request.Request.TheVariants.{Checkpoint};
 ghost use Rattle.ft_core.specs.declared.request.Answer.TheVariants.{Cleared};
 ghost use Rattle.ft_core.specs.States.{after_checkpoint};
@@ -8,7 +9,6 @@ ghost use Rattle.ft_core.specs.Steps.{IsStep, exact_rule, refusal_of, refused_wi
 use crate::fault::Fault;
 use crate::journal::Journal;
 use crate::manager::Core;
-use ft_base::Memory;
 use ft_locks::Locks;
 use ft_undo::Logs;
 
@@ -16,18 +16,20 @@ impl Core {
     /// Makes the tree as it stands the base, and forgets the transactions and all that has
     /// happened: limits count from here, and the next numbers go on.
     ///
-    /// Refuses Live where a transaction is live. Want of memory changes nothing.
+    /// Refuses Live where a transaction is live, and nothing else. Takes no memory.
     pub fn checkpoint(&mut self) -> Result<(), Fault>
-        ensures { IsStep exact_rule self.old.state Checkpoint (answer_with (λ done. Cleared) result) self.new.state }
+        ensures step { IsStep exact_rule self.old.state Checkpoint (answer_with (λ done. Cleared) result) self.new.state }
+        ensures live { IfErr result (λ fault. fault ≡ LiveFault) }
     {
         self.may_checkpoint()?;
-        self.restart()?;
+        self.restart();
         Ok(())
     }
 
-    /// Refuses what `checkpoint` refuses, except for being out of memory.
+    /// Refuses what `checkpoint` refuses.
     pub fn may_checkpoint(&self) -> Result<(), Fault>
-        ensures { refusal_of self.now.state Checkpoint ≡ refused_with result }
+        ensures refused { refusal_of self.now.state Checkpoint ≡ refused_with result }
+        ensures live { IfErr result (λ fault. fault ≡ LiveFault) }
     {
         if self.has_live() {
             return Err(Fault::Live);
@@ -36,19 +38,16 @@ impl Core {
     }
 
     /// Makes the tree the base, where no transaction is live.
-    fn restart(&mut self) -> Result<(), Memory>
+    fn restart(&mut self)
         requires { refusal_of self.old.state Checkpoint ≡ None }
-        ensures ok { OnOk result (self.new.state ≡ after_checkpoint self.old.state) }
-        ensures err { OnErr result (self.new.state ≡ self.old.state) }
+        ensures { self.new.state ≡ after_checkpoint self.old.state }
     {
-        let locks = Locks::new(self.alloc)?;
         self.sweep();
         let rule = self.journal.rule();
         let stamp = self.journal.last_stamp();
         self.journal = Journal::new(self.alloc, rule, &self.parts.tree, stamp);
         self.parts.forest.restart();
-        self.parts.locks = locks;
+        self.parts.locks = Locks::new(self.alloc);
         self.parts.logs = Logs::new(self.alloc);
-        Ok(())
     }
 }

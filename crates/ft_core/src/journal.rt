@@ -10,7 +10,7 @@ ghost use Rattle.ft_core.specs.Noted.{event_of};
 
 use crate::past::{Grant, Past, Turn};
 use crate::{LAST_NUMBER, MOST_CALLS};
-use ft_base::{DenseTable, Memory, Table};
+use ft_base::{Memory, PagedTable, Table};
 use ft_calls::{Access, Call, Reply};
 use ft_forest::TxnId;
 use ft_moss::Rule;
@@ -23,7 +23,7 @@ pub(crate) struct Journal {
     // (no bytes: what has happened is seen by clauses alone)
     past: Past,
     asks: Table<Call>,
-    subs: DenseTable<Option<u64>>,
+    subs: PagedTable<Option<u64>>,
     base_stamp: u64,
     last_stamp: u64,
 }
@@ -66,7 +66,7 @@ impl Journal {
             rule,
             past: Past::new(base),
             asks: Table::new(alloc),
-            subs: DenseTable::new(alloc),
+            subs: PagedTable::new(alloc),
             base_stamp: stamp,
             last_stamp: stamp,
         }

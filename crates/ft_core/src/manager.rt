@@ -80,7 +80,6 @@ impl Core {
         ensures { IfOk result (λ core. core.state ≡ at_base rule first_base) }
     {
         let tree = Tree::new(alloc)?;
-        let locks = Locks::new(alloc)?;
         let journal = Journal::new(alloc, rule, &tree, 1);
         Ok(Core {
             alloc,
@@ -88,7 +87,7 @@ impl Core {
             parts: Parts {
                 tree,
                 forest: Forest::new(alloc, 0),
-                locks,
+                locks: Locks::new(alloc),
                 logs: Logs::new(alloc),
             },
         })

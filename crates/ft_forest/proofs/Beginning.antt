@@ -1,5 +1,5 @@
 -- The links after a transaction has begun.
-use Rattle.std.proofs.Common.{◌≡◌, ◌≢◌, ◌<◌, ◌≤◌, ◌+◌, ◌==◌, ◌&&◌, ℕ, cond, Option, Some, None, inl, inr, IsSome, refl, sym, ap, subst, ◌∙◌, arith, add-one}
+use Rattle.std.proofs.Common.{◌≡◌, ◌≢◌, ◌<◌, ◌≤◌, ◌+◌, ◌==◌, ◌&&◌, ℕ, true, cond, Option, Some, None, inl, inr, IsSome, refl, sym, ap, subst, ◌∙◌, arith, add-one}
 use Rattle.std.proofs.lemmas.Bool.{cases_lt}
 use Rattle.ft_laws.proofs.Tests.{by_option}
 use Rattle.ft_history.specs.Forest.{is_some_and}
@@ -8,7 +8,7 @@ use Rattle.ft_history.proofs.Words.{put_same, put_other, by_number}
 use Rattle.ft_forest.specs.declared.TheConstants.{MOST_DEPTH}
 use Rattle.ft_forest.specs.declared.state.State.TheVariants.{Live}
 use Rattle.ft_forest.specs.Transactions.{is_live, count_below}
-use Rattle.ft_forest.specs.Records.{Links, AreLinked, IsSibling, IsYoungest, IsOlder, IsYounger, begun_links, is_child_at, DepthIs}
+use Rattle.ft_forest.specs.Records.{Links, AreLinked, IsSibling, IsYoungest, IsOlder, IsYounger, begun_links, put_youngest, is_child_at, DepthIs}
 use Rattle.ft_forest.proofs.Counting.{by_parent, put_youngest_same, put_youngest_other, put_at_same, put_at_other, child-is, child-not, count-same, count-none}
 
 none_live : None ≡ Some Live → ⊥
@@ -45,11 +45,29 @@ module _ (s : Links) (h : AreLinked s) (parent : Option ℕ) (depth : ℕ) (live
       let l = sym (put_other s.state new (Some Live) i ne) ∙ is.live in
       before (was_begun i l) (record { parent = sym (put_other s.parent new parent i ne) ∙ is.parent; live = l }))
 
+  -- nothing stood below the new one
+  none_below : s.youngest (Some new) ≡ None
+  none_below = by_option (s.youngest (Some new))
+      (λ none. none)
+      (λ y some.
+      let was = subst (IsYoungest s (Some new)) some (h.youngest (Some new)) in
+      let up = h.lower y new was.0.parent in
+      let lt = was_begun y was.0.live in
+      absurd (omega arith))
+
+  abbrev put_new : Option ℕ → Option ℕ
+  put_new = put_youngest s.youngest (Some new) None
+
+  as_before : (q : Option ℕ) → put_new q ≡ s.youngest q
+  as_before q = by_parent q (Some new)
+      (λ e. put_youngest_same s.youngest (Some new) None q e ∙ sym none_below ∙ ap s.youngest (sym e))
+      (λ ne. put_youngest_other s.youngest (Some new) None q ne)
+
   youngest-after : (q : Option ℕ) → IsYoungest after q (after.youngest q)
   youngest-after q = by_parent q parent
-      (λ e. subst (IsYoungest after q) (sym (put_youngest_same s.youngest parent (Some new) q e))
+      (λ e. subst (IsYoungest after q) (sym (put_youngest_same put_new parent (Some new) q e))
       (subst (λ p. IsSibling after p new) (sym e) new_sibling, λ i is. siblings q i is (λ same _. let k : i ≡ new = same in omega arith) (λ lt _. omega arith)))
-      (λ ne. subst (IsYoungest after q) (sym (put_youngest_other s.youngest parent (Some new) q ne))
+      (λ ne. subst (IsYoungest after q) (sym (put_youngest_other put_new parent (Some new) q ne ∙ as_before q))
       (by_option (s.youngest q)
       (λ none. subst (IsYoungest after q) (sym none) (λ i is. siblings q i is (λ _ e. ne e) (λ _ old. subst (IsYoungest s q) none (h.youngest q) i old)))
       (λ y some.
@@ -151,19 +169,23 @@ module _ (s : Links) (h : AreLinked s) (parent : Option ℕ) (depth : ℕ) (live
   depth-old None d lt was = was
   depth-old (Some p) d lt was = let k = lt p refl in was ∙ ap (λ n. n + 1) (sym (put_other s.depth new depth p (omega arith)))
 
-  depth-after : (i : ℕ) → i < new + 1 → DepthIs after (after.parent i) (after.depth i)
-  depth-after i lt = by_number i new
+  depth-after : (i : ℕ) → after.state i ≡ Some Live → DepthIs after (after.parent i) (after.depth i)
+  depth-after i l = by_number i new
       (λ e. subst (λ j. DepthIs after (after.parent j) (after.depth j)) (sym e)
       (subst (λ o. DepthIs after o (after.depth new)) (sym new_sibling.parent) (subst (DepthIs after parent) (sym (put_same s.depth new depth new refl)) (depth-old parent depth parent_begun deeper))))
       (λ ne.
-      let old : i < new = omega arith in
+      let was = sym (put_other s.state new (Some Live) i ne) ∙ l in
+      let old = was_begun i was in
       subst (λ o. DepthIs after o (after.depth i)) (sym (put_other s.parent new parent i ne))
-      (subst (DepthIs after (s.parent i)) (sym (put_other s.depth new depth i ne)) (depth-old (s.parent i) (s.depth i) (λ p e. let k = h.lower i p e in omega arith) (h.depth i old))))
+      (subst (DepthIs after (s.parent i)) (sym (put_other s.depth new depth i ne)) (depth-old (s.parent i) (s.depth i) (λ p e. let k = h.lower i p e in omega arith) (h.depth i was))))
 
   pub begun-linked : AreLinked after
   begun-linked = record {
     begun = λ i lt. by_number i new (λ e. subst IsSome (sym (put_same s.state new (Some Live) i e)) refl) (λ ne. subst IsSome (sym (put_other s.state new (Some Live) i ne)) (h.begun i (omega arith)));
     unbegun = λ i ge. put_other s.state new (Some Live) i (omega arith) ∙ h.unbegun i (omega arith);
+    kept = λ i. by_number i new
+        (λ e. put_same s.kept new true i e ∙ sym (ap is_live (put_same s.state new (Some Live) i e)))
+        (λ ne. put_other s.kept new true i ne ∙ h.kept i ∙ sym (ap is_live (put_other s.state new (Some Live) i ne)));
     lower = λ i p e. by_number i new
         (λ same. let k : i ≡ new = same in let lt = parent_begun p (sym (put_same s.parent new parent i same) ∙ e) in omega arith)
         (λ ne. h.lower i p (sym (put_other s.parent new parent i ne) ∙ e));
@@ -178,5 +200,5 @@ module _ (s : Links) (h : AreLinked s) (parent : Option ℕ) (depth : ℕ) (live
     younger = younger-after;
     children = children-after;
     depth = depth-after;
-    shallow = λ i lt. by_number i new (λ e. subst (λ d. d ≤ MOST_DEPTH) (sym (put_same s.depth new depth i e)) shallow) (λ ne. subst (λ d. d ≤ MOST_DEPTH) (sym (put_other s.depth new depth i ne)) (h.shallow i (omega arith)));
+    shallow = λ i l. by_number i new (λ e. subst (λ d. d ≤ MOST_DEPTH) (sym (put_same s.depth new depth i e)) shallow) (λ ne. subst (λ d. d ≤ MOST_DEPTH) (sym (put_other s.depth new depth i ne)) (h.shallow i (sym (put_other s.state new (Some Live) i ne) ∙ l)));
   }

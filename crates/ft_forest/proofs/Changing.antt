@@ -4,15 +4,15 @@ use Rattle.std.specs.Prelude.{◌||◌, nat_le}
 use Rattle.std.specs.Option.{option_map}
 use Rattle.std.proofs.lemmas.List.{length-map}
 use Rattle.std.proofs.lemmas.Bool.{false≢true, leb-false, cases_lt}
-use Rattle.ft_history.proofs.Words.{put_same, put_other, by_number}
+use Rattle.ft_history.proofs.Words.{put_same, put_other, by_number, none_some}
 use Rattle.ft_forest.specs.declared.TheConstants.{MOST_TRANSACTIONS, MOST_DEPTH, LAST_NUMBER}
 use Rattle.ft_forest.specs.declared.state.State.{State}
 use Rattle.ft_forest.specs.declared.state.State.TheVariants.{Live}
 use Rattle.ft_forest.specs.declared.records.Records.{Records}
-use Rattle.ft_forest.specs.Transactions.{Transactions, parent_in, state_in, last_in, is_live_state, IsLiveChild, HasBegun, HasEnded}
+use Rattle.ft_forest.specs.Transactions.{Transactions, parent_in, state_in, last_in, is_live_state, is_live, IsLiveChild, HasBegun, HasEnded}
 use Rattle.ft_forest.specs.Refusals.{is_full, begin_refusal}
 use Rattle.ft_forest.specs.Places.{IsDepthBelow}
-use Rattle.ft_forest.specs.Records.{Links, AreLinked, IsSibling, IsOlder, IsYounger, transaction_from, links_of, links_by, number_at, transactions_of, AreRecords, begun_links, ended_links, DepthIs, is_child_at}
+use Rattle.ft_forest.specs.Records.{Links, AreLinked, IsSibling, IsYoungest, IsOlder, IsYounger, transaction_from, no_links, links_of, links_by, number_at, transactions_of, AreRecords, begun_links, ended_links, DepthIs, is_child_at}
 use Rattle.ft_forest.proofs.Refusing.{not_full}
 use Rattle.ft_forest.proofs.Counting.{count-most}
 use Rattle.ft_forest.proofs.Seeing.{by_place, same_place, state-at, parent-at, state-none, parent-none, last-is, depth-seen}
@@ -37,11 +37,21 @@ module _ (base : ℕ) (r : Records) (h : AreRecords base r) where
   pub live-begun : (i : ℕ) → s.state i ≡ Some Live → i < length r.list.items
   live-begun i l = elim (cases_lt i (length r.list.items)) [ inl lt ↦ lt | inr ge ↦ absurd (none_live (sym (h.linked.unbegun i ge) ∙ l)) ]
 
-  pub older-begun : (i : ℕ) → s.state i ≡ Some Live → (y : ℕ) → s.older i ≡ Some y → y < length r.list.items
-  older-begun i l y is = live-begun y (subst (IsOlder s (s.parent i) i) is (h.linked.older i l)).0.live
+  -- more is kept of who is live
+  pub live-kept : (i : ℕ) → s.state i ≡ Some Live → s.kept i ≡ true
+  live-kept i l = h.linked.kept i ∙ ap is_live l
 
-  pub younger-begun : (i : ℕ) → s.state i ≡ Some Live → (y : ℕ) → s.younger i ≡ Some y → y < length r.list.items
-  younger-begun i l y is = live-begun y (subst (IsYounger s (s.parent i) i) is (h.linked.younger i l)).0.live
+  pub parent-kept : (i : ℕ) → s.state i ≡ Some Live → (p : ℕ) → s.parent i ≡ Some p → s.kept p ≡ true
+  parent-kept i l p is = live-kept p (h.linked.live_parent i p l is)
+
+  pub older-kept : (i : ℕ) → s.state i ≡ Some Live → (y : ℕ) → s.older i ≡ Some y → s.kept y ≡ true
+  older-kept i l y is = live-kept y (subst (IsOlder s (s.parent i) i) is (h.linked.older i l)).0.live
+
+  pub younger-kept : (i : ℕ) → s.state i ≡ Some Live → (y : ℕ) → s.younger i ≡ Some y → s.kept y ≡ true
+  younger-kept i l y is = live-kept y (subst (IsYounger s (s.parent i) i) is (h.linked.younger i l)).0.live
+
+  pub youngest-kept : (p : Option ℕ) (y : ℕ) → s.youngest p ≡ Some y → s.kept y ≡ true
+  youngest-kept p y is = live-kept y (subst (IsYoungest s p) is (h.linked.youngest p)).0.live
 
   pub few-children : (p : ℕ) → s.children p < 2 ^ 63
   few-children p =
@@ -99,12 +109,18 @@ module _ (base : ℕ) (r : Records) (h : AreRecords base r) where
     pub parent-begun : (p : ℕ) → parent ≡ Some p → p < length r.list.items
     parent-begun p e = live-begun p (live-parent p e)
 
+    pub above-kept : (p : ℕ) → parent ≡ Some p → s.kept p ≡ true
+    above-kept p e = live-kept p (live-parent p e)
+
+    pub has-room : length r.list.items < MOST_TRANSACTIONS
+    has-room = (room (not_full old free)).0
+
     deeper-at : DepthIs s parent depth
     deeper-at = by_parent-depth parent refl deeper
       where
         by_parent-depth : (o : Option ℕ) → parent ≡ o → IsDepthBelow old o depth → DepthIs s o depth
         by_parent-depth None e d = d
-        by_parent-depth (Some p) e d = d ∙ ap (λ n. n + 1) (sym (depth-seen base r h p (parent-begun p e)))
+        by_parent-depth (Some p) e d = d ∙ ap (λ n. n + 1) (sym (depth-seen base r h p (live-parent p e)))
 
     module _ (r' : Records) (now : links_of r' ≡ begun_links (links_of r) parent depth) where
       count-is : length r'.list.items ≡ length r.list.items + 1
@@ -144,9 +160,34 @@ module _ (base : ℕ) (r : Records) (h : AreRecords base r) where
       }
 
 -- the same records
-pub records-same : (base : ℕ) (r r' : Records) → AreRecords base r → r'.list.items ≡ r.list.items → r'.youngest ≡ r.youngest → AreRecords base r'
-records-same base r r' h items youngest = record {
-  linked = subst AreLinked (λ i. links_by (sym youngest i) (sym items i)) h.linked;
+pub records-same : (base : ℕ) (r r' : Records) → AreRecords base r → r'.list.items ≡ r.list.items → r'.youngest ≡ r.youngest → r'.live ≡ r.live → AreRecords base r'
+records-same base r r' h items youngest live = record {
+  linked = subst AreLinked (λ i. links_by (sym youngest i) (sym items i) (sym live i)) h.linked;
   few = subst (λ rs. length rs ≤ MOST_TRANSACTIONS) (sym items) h.few;
   numbers = λ i lt. h.numbers i (subst (λ rs. i < length rs) items lt);
 }
+
+-- the records of no transaction are sound
+pub none-linked : AreLinked no_links
+none-linked = record {
+  begun = λ i lt. absurd (omega arith);
+  unbegun = λ i ge. refl;
+  kept = λ i. refl;
+  lower = λ i p e. absurd (none_some p e);
+  live_parent = λ i p l e. absurd (none_some p e);
+  youngest = λ p x is. none_live is.live;
+  older = λ i l. absurd (none_live l);
+  younger = λ i l. absurd (none_live l);
+  children = λ p. refl;
+  depth = λ i l. absurd (none_live l);
+  shallow = λ i l. absurd (none_live l);
+}
+
+pub records-none : (base : ℕ) (r : Records) → links_of r ≡ no_links → AreRecords base r
+records-none base r none =
+    let count : length r.list.items ≡ 0 = ap (λ (l : Links). l.count) none in
+    record {
+      linked = subst AreLinked (sym none) none-linked;
+      few = omega arith;
+      numbers = λ i lt. absurd (omega arith);
+    }

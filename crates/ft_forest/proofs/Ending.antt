@@ -1,14 +1,16 @@
 -- The links after a transaction has ended.
-use Rattle.std.proofs.Common.{◌≡◌, ◌≢◌, ◌<◌, ◌≤◌, ◌-◌, ◌==◌, ◌&&◌, ℕ, false, Option, Some, None, ◌⊎◌, inl, inr, IsSome, refl, sym, ap, subst, ◌∙◌, arith}
+use Rattle.std.proofs.Common.{◌≡◌, ◌≢◌, ◌<◌, ◌≤◌, ◌+◌, ◌-◌, ◌==◌, ◌&&◌, ℕ, false, Option, Some, None, ◌⊎◌, inl, inr, IsSome, refl, sym, ap, subst, ◌∙◌, arith}
 use Rattle.std.proofs.lemmas.Bool.{false≢true, cases_lt}
-use Rattle.ft_laws.proofs.Tests.{by_option}
+use Rattle.ft_laws.proofs.Tests.{by_test, by_option}
 use Rattle.ft_history.specs.Forest.{is_some_and}
 use Rattle.ft_history.proofs.Words.{put_same, put_other, by_number, none_some}
+use Rattle.ft_forest.specs.declared.TheConstants.{MOST_DEPTH}
 use Rattle.ft_forest.specs.declared.state.State.{State}
 use Rattle.ft_forest.specs.declared.state.State.TheVariants.{Live}
 use Rattle.ft_forest.specs.Transactions.{is_live_state, is_live, count_below}
-use Rattle.ft_forest.specs.Records.{Links, AreLinked, IsSibling, IsYoungest, IsOlder, IsYounger, ended_links, put_youngest, where_some, is_child_at}
-use Rattle.ft_forest.proofs.Counting.{by_parent, put_youngest_same, put_youngest_other, put_at_same, put_at_other, live-is, child-is, child-not, dead-not, count-same, count-less}
+use Rattle.ft_forest.specs.Records.{Links, AreLinked, IsSibling, IsYoungest, IsOlder, IsYounger, ended_links, put_youngest, put_at, where_some, is_child_at, DepthIs}
+use Rattle.ft_forest.proofs.Counting.{by_parent, put_youngest_same, put_youngest_other, put_at_same, put_at_other, live-is, child-is, child-not, dead-not, count-same, count-none, count-less}
+use Rattle.ft_forest.proofs.Seeing.{live-of}
 
 none_live : None ≡ Some Live → ⊥
 none_live e = cc
@@ -94,12 +96,24 @@ module _ (s : Links) (h : AreLinked s) (x : ℕ) (state : State) (ended : is_liv
             absurd (omega arith)),
       )
 
-  youngest-after : (q : Option ℕ) → IsYoungest after q (after.youngest q)
-  youngest-after q = by_option younger
+  -- nobody is left below x
+  abbrev closed_youngest : Option ℕ → Option ℕ
+  closed_youngest = where_some younger s.youngest (put_youngest s.youngest up older)
+
+  youngest-others : (q : Option ℕ) → IsYoungest after q (closed_youngest q)
+  youngest-others q = by_option younger
       (λ none. by_parent q up
       (λ same. subst (λ v. IsYoungest after q v) (sym (ap (λ y. where_some y s.youngest (put_youngest s.youngest up older) q) none ∙ put_youngest_same s.youngest up older q same)) (subst (λ p. IsYoungest after p older) (sym same) (youngest-here none)))
       (λ ne. subst (λ v. IsYoungest after q v) (sym (ap (λ y. where_some y s.youngest (put_youngest s.youngest up older) q) none ∙ put_youngest_other s.youngest up older q ne)) (youngest-kept q (λ is. ne (is_youngest q is).0))))
       (λ y some. subst (λ v. IsYoungest after q v) (sym (ap (λ y. where_some y s.youngest (put_youngest s.youngest up older) q) some)) (youngest-kept q (λ is. none_some y (sym (is_youngest q is).1 ∙ some))))
+
+  none_below : IsYoungest after (Some x) None
+  none_below z i = childless z (down (Some x) z i).0
+
+  youngest-after : (q : Option ℕ) → IsYoungest after q (after.youngest q)
+  youngest-after q = by_parent q (Some x)
+      (λ is. subst (IsYoungest after q) (sym (put_youngest_same closed_youngest (Some x) None q is)) (subst (λ p. IsYoungest after p None) (sym is) none_below))
+      (λ ne. subst (IsYoungest after q) (sym (put_youngest_other closed_youngest (Some x) None q ne)) (youngest-others q))
 
   -- of two siblings that are next to one another, none lies between
   older-kept : (z : ℕ) → s.state z ≡ Some Live → s.older z ≢ Some x → IsOlder after (s.parent z) z (s.older z)
@@ -196,19 +210,25 @@ module _ (s : Links) (h : AreLinked s) (x : ℕ) (state : State) (ended : is_liv
             ],
       ))
 
+  abbrev closed_older : ℕ → Option ℕ
+  closed_older = put_at s.older younger (λ _. older)
+
+  abbrev closed_younger : ℕ → Option ℕ
+  closed_younger = put_at s.younger older (λ _. younger)
+
   older-after : (z : ℕ) → after.state z ≡ Some Live → IsOlder after (after.parent z) z (after.older z)
   older-after z l =
       let was = (still z l).0 in
-      by_parent younger (Some z)
+      subst (IsOlder after (s.parent z) z) (sym (put_other closed_older x None z (still z l).1)) (by_parent younger (Some z)
       (λ is. subst (IsOlder after (s.parent z) z) (sym (put_at_same s.older younger (λ _. older) z is)) (subst (λ q. IsOlder after q z older) (sym (the_younger z is).0.parent) (over-older z is)))
-      (λ ne. subst (IsOlder after (s.parent z) z) (sym (put_at_other s.older younger (λ _. older) z ne)) (older-kept z was (λ is. ne (is_older z was is))))
+      (λ ne. subst (IsOlder after (s.parent z) z) (sym (put_at_other s.older younger (λ _. older) z ne)) (older-kept z was (λ is. ne (is_older z was is)))))
 
   younger-after : (z : ℕ) → after.state z ≡ Some Live → IsYounger after (after.parent z) z (after.younger z)
   younger-after z l =
       let was = (still z l).0 in
-      by_parent older (Some z)
+      subst (IsYounger after (s.parent z) z) (sym (put_other closed_younger x None z (still z l).1)) (by_parent older (Some z)
       (λ is. subst (IsYounger after (s.parent z) z) (sym (put_at_same s.younger older (λ _. younger) z is)) (subst (λ q. IsYounger after q z younger) (sym (the_older z is).0.parent) (over-younger z is)))
-      (λ ne. subst (IsYounger after (s.parent z) z) (sym (put_at_other s.younger older (λ _. younger) z ne)) (younger-kept z was (λ is. ne (is_younger z was is))))
+      (λ ne. subst (IsYounger after (s.parent z) z) (sym (put_at_other s.younger older (λ _. younger) z ne)) (younger-kept z was (λ is. ne (is_younger z was is)))))
 
   -- a child less
   counts : (q i : ℕ) → i ≢ x → is_child_at s q i ≡ is_child_at after q i
@@ -217,8 +237,11 @@ module _ (s : Links) (h : AreLinked s) (x : ℕ) (state : State) (ended : is_liv
   own-dead : (q : ℕ) → is_child_at after q x ≡ false
   own-dead q = dead-not after q x (ap is_live (put_same s.state x (Some state) x refl) ∙ ended)
 
-  children-after : (q : ℕ) → after.children q ≡ count_below (is_child_at after q) s.count
-  children-after q = by_parent up (Some q)
+  abbrev closed_children : ℕ → ℕ
+  closed_children = put_at s.children up (λ n. n - 1)
+
+  children-others : (q : ℕ) → closed_children q ≡ count_below (is_child_at after q) s.count
+  children-others q = by_parent up (Some q)
       (λ is.
       let less = count-less (is_child_at s q) (is_child_at after q) s.count x within (child-is s q x is live) (own-dead q) (counts q) in
       let was = h.children q in
@@ -231,16 +254,41 @@ module _ (s : Links) (h : AreLinked s) (x : ℕ) (state : State) (ended : is_liv
       within : x < s.count
       within = elim (cases_lt x s.count) [ inl lt ↦ lt | inr ge ↦ absurd (none_live (sym (h.unbegun x ge) ∙ live)) ]
 
+  -- none counts as a child of x
+  no-child : (i : ℕ) → is_child_at after x i ≡ false
+  no-child i = by_parent (s.parent i) (Some x)
+      (λ is. by_test (is_live (after.state i))
+      (λ k. absurd (childless i (record { parent = is; live = (still i (live-of (after.state i) k)).0 })))
+      (λ k. dead-not after x i k))
+      (λ ne. child-not after x i ne)
+
+  children-after : (q : ℕ) → after.children q ≡ count_below (is_child_at after q) s.count
+  children-after q = by_number q x
+      (λ e. put_same closed_children x 0 q e ∙ sym (count-none (is_child_at after x) s.count (λ i lt. no-child i)) ∙ ap (λ p. count_below (is_child_at after p) s.count) (sym e))
+      (λ ne. put_other closed_children x 0 q ne ∙ children-others q)
+
+  -- how deep
+  depth-after : (i : ℕ) → after.state i ≡ Some Live → DepthIs after (s.parent i) (after.depth i)
+  depth-after i l =
+      let was = still i l in
+      subst (DepthIs after (s.parent i)) (sym (put_other s.depth x 0 i was.1)) (by_option (s.parent i)
+      (λ none. subst (λ o. DepthIs after o (s.depth i)) (sym none) (subst (λ o. DepthIs s o (s.depth i)) none (h.depth i was.0)))
+      (λ p some. subst (λ o. DepthIs after o (s.depth i)) (sym some) (subst (λ o. DepthIs s o (s.depth i)) some (h.depth i was.0)
+      ∙ ap (λ n. n + 1) (sym (put_other s.depth x 0 p (λ same. childless i (record { parent = some ∙ ap Some same; live = was.0 })))))))
+
   pub ended-linked : AreLinked after
   ended-linked = record {
     begun = λ i lt. by_number i x (λ e. subst IsSome (sym (put_same s.state x (Some state) i e)) refl) (λ ne. subst IsSome (sym (put_other s.state x (Some state) i ne)) (h.begun i lt));
     unbegun = λ i ge. put_other s.state x (Some state) i (λ e. none_live (sym (h.unbegun x (subst (λ k. s.count ≤ k) e ge)) ∙ live)) ∙ h.unbegun i ge;
+    kept = λ i. by_number i x
+        (λ e. put_same s.kept x false i e ∙ sym ended ∙ sym (ap is_live (put_same s.state x (Some state) i e)))
+        (λ ne. put_other s.kept x false i ne ∙ h.kept i ∙ sym (ap is_live (put_other s.state x (Some state) i ne)));
     lower = h.lower;
     live_parent = λ i p l e. let was = still i l in put_other s.state x (Some state) p (λ same. childless i (record { parent = e ∙ ap Some same; live = was.0 })) ∙ h.live_parent i p was.0 e;
     youngest = youngest-after;
     older = older-after;
     younger = younger-after;
     children = children-after;
-    depth = h.depth;
-    shallow = h.shallow;
+    depth = depth-after;
+    shallow = λ i l. let was = still i l in subst (λ d. d ≤ MOST_DEPTH) (sym (put_other s.depth x 0 i was.1)) (h.shallow i was.0);
   }

@@ -1,6 +1,6 @@
 -- On the way through a list of all that is live.
 use Rattle.std.proofs.Common.{◌≡◌, ◌≢◌, ◌<◌, ◌≤◌, ◌+◌, ◌-◌, ◌^◌, ◌==◌, ℕ, true, eqb, eqb-true, Option, Some, None, List, [], ◌∷◌, ◌++◌, ◌⊎◌, inl, inr, length, sym, ap, subst, ◌∙◌, arith}
-use Rattle.std.specs.Prelude.{Contains, slice_get}
+use Rattle.std.specs.Prelude.{Contains}
 use Rattle.std.specs.List.{IsDistinct, list_any}
 use Rattle.std.specs.Option.{option_map}
 use Rattle.std.specs.List.Sorted.{IsPermutation, IsSorted, IsStrictlyIncreasing}
@@ -18,9 +18,8 @@ use Rattle.ft_history.proofs.Forest.{climb, ForestLaws, forest_laws}
 use Rattle.ft_forest.specs.declared.state.State.TheVariants.{Live}
 use Rattle.ft_forest.specs.Transactions.{Transactions, parent_in, state_in, last_in, over_in, IsLiveUnder, IsYoungestChild, IsOlderSibling}
 use Rattle.ft_forest.specs.Places.{IsStrictlyBelow, number_of}
-use Rattle.ft_forest.specs.declared.records.Record.{Record}
 use Rattle.ft_forest.specs.declared.records.Records.{Records}
-use Rattle.ft_forest.specs.Records.{AreRecords, links_of, number_at, transactions_of, older_from}
+use Rattle.ft_forest.specs.Records.{AreRecords, links_of, number_at, transactions_of}
 use Rattle.ft_forest.proofs.Seeing.{value-forest, live-parent, state-at, youngest-seen, older-seen, numbers-fit}
 use Rattle.ft_forest.proofs.Changing.{live-begun}
 use Rattle.ft_forest.proofs.Aborting.{begun-last}
@@ -254,10 +253,10 @@ module _ (base : ℕ) (r : Records) (h : AreRecords base r) (m : Transactions) (
     number-fits = subst (λ n. number_at n.base i < 2 ^ 64) seen (numbers-fit base r h i live-at)
 
     -- and its record tells its next older sibling
-    pub older-of : (x : Record) → slice_get r.list.items i ≡ Some x → IsOlderSibling m (number_at m.base i) (number_of m x.older)
-    older-of x there =
-        subst (λ n. IsOlderSibling n (number_at n.base i) (number_of n x.older)) seen
-        (subst (λ o. IsOlderSibling (transactions_of base r) (number_at base i) (option_map (number_at base) o)) (ap older_from there) (older-seen base r h i live-at))
+    pub older-of : (o : Option ℕ) → o ≡ (links_of r).older i → IsOlderSibling m (number_at m.base i) (number_of m o)
+    older-of o is =
+        subst (λ n. IsOlderSibling n (number_at n.base i) (number_of n o)) seen
+        (subst (λ o. IsOlderSibling (transactions_of base r) (number_at base i) (option_map (number_at base) o)) (sym is) (older-seen base r h i live-at))
 
 -- a live child is nearer to the last
 pub child-nearer : (m : Transactions) → IsForest (parent_in m) → (parent : Option ℕ) (c : ℕ) → IsLiveUnder m parent c → depth_left m (Some c) < depth_left m parent

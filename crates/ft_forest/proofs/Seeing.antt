@@ -12,7 +12,7 @@ use Rattle.ft_history.proofs.Words.{by_number, same_some, none_some}
 use Rattle.ft_history.proofs.Forest.{climb, ForestLaws, forest_laws}
 use Rattle.ft_forest.specs.declared.state.State.{State}
 use Rattle.ft_forest.specs.declared.state.State.TheVariants.{Live, Committed, Aborted}
-use Rattle.ft_forest.specs.declared.records.Record.{Record}
+use Rattle.ft_forest.specs.declared.record.Record.{Record}
 use Rattle.ft_forest.specs.declared.records.Records.{Records}
 use Rattle.ft_forest.specs.Transactions.{Transactions, transaction_in, parent_of, state_of, parent_in, state_in, last_in, over_in, is_live, depth_within, depth_in, is_live_child, live_children_in, IsLiveChild, IsLiveUnder, IsYoungestChild, IsOlderSibling, count_below}
 use Rattle.ft_forest.specs.Records.{Links, IsSibling, IsYoungest, IsOlder, links_of, number_at, transaction_from, transactions_of, AreRecords, is_child_at, DepthIs, parent_from, state_from}
@@ -97,9 +97,6 @@ module _ (base : ℕ) (r : Records) (i : ℕ) (x : Record) (there : slice_get r.
   pub state-here : state_in (transactions_of base r) t ≡ Some x.state
   state-here = ap (state_in (transactions_of base r)) is ∙ state-at base r i ∙ ap state_from there
 
-  pub parent-here : parent_in (transactions_of base r) t ≡ option_map (number_at base) x.parent
-  parent-here = ap (parent_in (transactions_of base r)) is ∙ parent-at base r i ∙ ap (λ o. option_map (number_at base) (parent_from o)) there
-
 -- How deep.
 module _ (parent : ℕ → Option ℕ) (lower : IsForest parent) where
   depth_steps : (j k x : ℕ) → x ≤ j → x ≤ k → depth_within parent j x ≡ depth_within parent k x
@@ -126,15 +123,14 @@ module _ (parent : ℕ → Option ℕ) (lower : IsForest parent) where
 
 module _ (base : ℕ) (r : Records) (h : AreRecords base r) where
   -- the depth that is kept is the depth
-  pub depth-seen : (i : ℕ) → i < length r.list.items → (links_of r).depth i ≡ depth_in (transactions_of base r) (number_at base i)
-  depth-seen = climb (links_of r).parent h.linked.lower (λ i. i < length r.list.items → (links_of r).depth i ≡ depth_in (transactions_of base r) (number_at base i))
-      (λ i none lt.
-      subst (λ o. DepthIs (links_of r) o ((links_of r).depth i)) none (h.linked.depth i lt)
+  pub depth-seen : (i : ℕ) → (links_of r).state i ≡ Some Live → (links_of r).depth i ≡ depth_in (transactions_of base r) (number_at base i)
+  depth-seen = climb (links_of r).parent h.linked.lower (λ i. (links_of r).state i ≡ Some Live → (links_of r).depth i ≡ depth_in (transactions_of base r) (number_at base i))
+      (λ i none live.
+      subst (λ o. DepthIs (links_of r) o ((links_of r).depth i)) none (h.linked.depth i live)
       ∙ sym (depth_root (parent_in (transactions_of base r)) (value-forest base r h) (number_at base i) (parent-at base r i ∙ ap (option_map (number_at base)) none)))
-      (λ i p some ih lt.
-      let below = h.linked.lower i p some in
-      subst (λ o. DepthIs (links_of r) o ((links_of r).depth i)) some (h.linked.depth i lt)
-      ∙ ap (λ n. n + 1) (ih (omega arith))
+      (λ i p some ih live.
+      subst (λ o. DepthIs (links_of r) o ((links_of r).depth i)) some (h.linked.depth i live)
+      ∙ ap (λ n. n + 1) (ih (h.linked.live_parent i p live some))
       ∙ sym (depth_child (parent_in (transactions_of base r)) (value-forest base r h) (number_at base i) (number_at base p) (parent-at base r i ∙ ap (option_map (number_at base)) some)))
 
 -- How many children.

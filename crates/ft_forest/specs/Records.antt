@@ -1,33 +1,47 @@
 -- How the records of the transactions are linked, seen as functions of a place: what a forest
 -- keeps, which no public contract cites.
-use Rattle.std.specs.Prelude.{◌≡◌, ◌<◌, ◌≤◌, ◌+◌, ◌-◌, ◌==◌, ◌&&◌, ◌⊎◌, ℕ, Bool, Option, Some, None, List, map, length, slice_get, IsSome}
+use Rattle.std.specs.Prelude.{◌≡◌, ◌<◌, ◌≤◌, ◌+◌, ◌-◌, ◌==◌, ◌&&◌, ◌⊎◌, ℕ, zero, suc, Bool, true, false, Option, Some, None, is_some, List, map, length, slice_get, IsSome}
 use Rattle.std.specs.Option.{option_map}
+use Rattle.std.specs.Ordering.{nat_cmp}
+use Rattle.std.specs.FinMap as finite
 use Rattle.ft_history.specs.Forest.{is_some_and}
 use Rattle.ft_history.specs.Logs.{put}
 use Rattle.ft_forest.specs.declared.TheConstants.{MOST_TRANSACTIONS, MOST_DEPTH, LAST_NUMBER}
 use Rattle.ft_forest.specs.declared.state.State.{State}
 use Rattle.ft_forest.specs.declared.state.State.TheVariants.{Live}
-use Rattle.ft_forest.specs.declared.records.Record.{Record}
+use Rattle.ft_forest.specs.declared.record.Record.{Record}
+use Rattle.ft_forest.specs.declared.record.LiveRecord.{LiveRecord}
 use Rattle.ft_forest.specs.declared.records.Records.{Records}
 use Rattle.ft_forest.specs.Transactions.{Transaction, Transactions, is_live, count_below}
 
--- The transaction at each place: its parent's place, what has become of it, its depth, how many
--- live children it has, the youngest of them, and its next older and its next younger live
--- sibling. The youngest of no transaction is the youngest live top-level one.
+-- The transaction at each place: its parent's place, what has become of it, and whether more is
+-- kept of it. That is its depth, how many live children it has, the youngest of them, and its next
+-- older and its next younger live sibling. The youngest of no transaction is the youngest live
+-- top-level one.
 pub record Links : Type 0 where
   pub count : ℕ
   pub parent : ℕ → Option ℕ
   pub state : ℕ → Option State
+  pub kept : ℕ → Bool
   pub depth : ℕ → ℕ
   pub children : ℕ → ℕ
   pub youngest : Option ℕ → Option ℕ
   pub older : ℕ → Option ℕ
   pub younger : ℕ → Option ℕ
 
+-- what is kept of the live transactions alone, by their places
+abbrev pub LiveRecords : Type 0
+LiveRecords = finite.FinMap nat_cmp LiveRecord
+
+-- the place before this one, if there is one
+abbrev pub place_before : ℕ → Option ℕ
+place_before zero = None
+place_before (suc p) = Some p
+
 -- the parent's place that a record tells, if there is a record
 abbrev pub parent_from : Option Record → Option ℕ
 parent_from None = None
-parent_from (Some r) = r.parent
+parent_from (Some r) = place_before r.above
 
 -- what has become of it, if there is a record
 abbrev pub state_from : Option Record → Option State
@@ -35,51 +49,66 @@ state_from None = None
 state_from (Some r) = Some r.state
 
 -- its depth, or 0
-abbrev pub depth_from : Option Record → ℕ
+abbrev pub depth_from : Option LiveRecord → ℕ
 depth_from None = 0
 depth_from (Some r) = r.depth
 
 -- how many live children it has, or 0
-abbrev pub children_from : Option Record → ℕ
+abbrev pub children_from : Option LiveRecord → ℕ
 children_from None = 0
 children_from (Some r) = r.children
 
 -- the youngest of them, if there is a record and a child
-abbrev pub youngest_from : Option Record → Option ℕ
+abbrev pub youngest_from : Option LiveRecord → Option ℕ
 youngest_from None = None
 youngest_from (Some r) = r.youngest
 
 -- its next older live sibling, if there is a record and a sibling
-abbrev pub older_from : Option Record → Option ℕ
+abbrev pub older_from : Option LiveRecord → Option ℕ
 older_from None = None
 older_from (Some r) = r.older
 
 -- its next younger live sibling, if there is a record and a sibling
-abbrev pub younger_from : Option Record → Option ℕ
+abbrev pub younger_from : Option LiveRecord → Option ℕ
 younger_from None = None
 younger_from (Some r) = r.younger
 
 -- the youngest live one under a parent, or at the top level
-abbrev pub youngest_by : Option ℕ → List Record → Option ℕ → Option ℕ
-youngest_by top rs None = top
-youngest_by top rs (Some p) = youngest_from (slice_get rs p)
+abbrev pub youngest_by : Option ℕ → LiveRecords → Option ℕ → Option ℕ
+youngest_by top live None = top
+youngest_by top live (Some p) = youngest_from (finite.get live p)
 
 -- the links that these records tell, with the youngest at the top level
-abbrev pub links_by : Option ℕ → List Record → Links
-links_by top rs = record {
+abbrev pub links_by : Option ℕ → List Record → LiveRecords → Links
+links_by top rs live = record {
   count = length rs;
   parent = λ i. parent_from (slice_get rs i);
   state = λ i. state_from (slice_get rs i);
-  depth = λ i. depth_from (slice_get rs i);
-  children = λ i. children_from (slice_get rs i);
-  youngest = youngest_by top rs;
-  older = λ i. older_from (slice_get rs i);
-  younger = λ i. younger_from (slice_get rs i);
+  kept = λ i. is_some (finite.get live i);
+  depth = λ i. depth_from (finite.get live i);
+  children = λ i. children_from (finite.get live i);
+  youngest = youngest_by top live;
+  older = λ i. older_from (finite.get live i);
+  younger = λ i. younger_from (finite.get live i);
 }
 
 -- the links that the records of a forest tell
 abbrev pub links_of : Records → Links
-links_of r = links_by r.youngest r.list.items
+links_of r = links_by r.youngest r.list.items r.live
+
+-- the links of no transaction
+abbrev pub no_links : Links
+no_links = record {
+  count = 0;
+  parent = λ _. None;
+  state = λ _. None;
+  kept = λ _. false;
+  depth = λ _. 0;
+  children = λ _. 0;
+  youngest = λ _. None;
+  older = λ _. None;
+  younger = λ _. None;
+}
 
 -- f with a new value for the children of a transaction, or for the top level
 abbrev pub put_youngest : (Option ℕ → Option ℕ) → Option ℕ → Option ℕ → Option ℕ → Option ℕ
@@ -106,12 +135,23 @@ closed_links s parent older younger = record s {
   younger = put_at s.younger older (λ _. younger);
 }
 
+-- of the transaction at x no more is kept than of one that has ended
+abbrev pub forgotten_links : Links → ℕ → Links
+forgotten_links s x = record s {
+  kept = put s.kept x false;
+  depth = put s.depth x 0;
+  children = put s.children x 0;
+  youngest = put_youngest s.youngest (Some x) None;
+  older = put s.older x None;
+  younger = put s.younger x None;
+}
+
 -- the transaction at x ends
 abbrev pub ended_links : Links → ℕ → State → Links
-ended_links s x state = closed_links (record s {
+ended_links s x state = forgotten_links (closed_links (record s {
   state = put s.state x (Some state);
   children = put_at s.children (s.parent x) (λ n. n - 1);
-}) (s.parent x) (s.older x) (s.younger x)
+}) (s.parent x) (s.older x) (s.younger x)) x
 
 -- a live transaction comes behind all others
 abbrev pub begun_links : Links → Option ℕ → ℕ → Links
@@ -119,9 +159,10 @@ begun_links s parent depth = record {
   count = s.count + 1;
   parent = put s.parent s.count parent;
   state = put s.state s.count (Some Live);
+  kept = put s.kept s.count true;
   depth = put s.depth s.count depth;
   children = put_at (put s.children s.count 0) parent (λ n. n + 1);
-  youngest = put_youngest s.youngest parent (Some s.count);
+  youngest = put_youngest (put_youngest s.youngest (Some s.count) None) parent (Some s.count);
   older = put s.older s.count (s.youngest parent);
   younger = put_at (put s.younger s.count None) (s.youngest parent) (λ _. Some s.count);
 }
@@ -155,18 +196,20 @@ abbrev pub DepthIs : Links → Option ℕ → ℕ → Type 0
 DepthIs s None d = d ≡ 1
 DepthIs s (Some p) d = d ≡ s.depth p + 1
 
--- the links tell the live siblings in order, and how deep each transaction stands
+-- the links tell the live siblings in order, how deep each live transaction stands, and of those
+-- that have ended no more than the parent and the state
 pub record AreLinked (s : Links) : Type 0 where
   pub begun : (i : ℕ) → i < s.count → IsSome (s.state i)
   pub unbegun : (i : ℕ) → s.count ≤ i → s.state i ≡ None
+  pub kept : (i : ℕ) → s.kept i ≡ is_live (s.state i)
   pub lower : (i p : ℕ) → s.parent i ≡ Some p → p < i
   pub live_parent : (i p : ℕ) → s.state i ≡ Some Live → s.parent i ≡ Some p → s.state p ≡ Some Live
   pub youngest : (p : Option ℕ) → IsYoungest s p (s.youngest p)
   pub older : (i : ℕ) → s.state i ≡ Some Live → IsOlder s (s.parent i) i (s.older i)
   pub younger : (i : ℕ) → s.state i ≡ Some Live → IsYounger s (s.parent i) i (s.younger i)
   pub children : (p : ℕ) → s.children p ≡ count_below (is_child_at s p) s.count
-  pub depth : (i : ℕ) → i < s.count → DepthIs s (s.parent i) (s.depth i)
-  pub shallow : (i : ℕ) → i < s.count → s.depth i ≤ MOST_DEPTH
+  pub depth : (i : ℕ) → s.state i ≡ Some Live → DepthIs s (s.parent i) (s.depth i)
+  pub shallow : (i : ℕ) → s.state i ≡ Some Live → s.depth i ≤ MOST_DEPTH
 
 -- the number of the transaction at a place
 abbrev pub number_at : ℕ → ℕ → ℕ
@@ -174,7 +217,7 @@ number_at base i = base + 1 + i
 
 -- what callers see of a record
 abbrev pub transaction_from : ℕ → Record → Transaction
-transaction_from base r = record { parent = option_map (number_at base) r.parent; state = r.state }
+transaction_from base r = record { parent = option_map (number_at base) (place_before r.above); state = r.state }
 
 -- the transactions that the records tell
 abbrev pub transactions_of : ℕ → Records → Transactions

@@ -59,10 +59,7 @@ impl Forest {
     {
         Forest {
             base,
-            records: Records {
-                youngest: None,
-                list: Vec::new(alloc),
-            },
+            records: Records::new(alloc),
         }
     }
 
@@ -74,10 +71,7 @@ impl Forest {
     {
         let alloc = *self.records.list.allocator();
         self.base = self.last();
-        self.records = Records {
-            youngest: None,
-            list: Vec::new(alloc),
-        };
+        self.records = Records::new(alloc);
     }
 
     /// The last transaction's number; where there is none yet, the base's last one.
@@ -105,7 +99,7 @@ impl Forest {
         ensures live { (x p : ℕ) → parent_in self.now x ≡ Some p → state_in self.now x ≡ Some Live → state_in self.now p ≡ Some Live }
     {
         let place = place_of(self.base, self.records.list.len(), txn)?;
-        numbered(self.base, self.records.list[place].parent)
+        numbered(self.base, self.records.parent_of(place))
     }
 
     /// Whether a transaction is `upper` or one below it. Takes the time of the transaction's depth.
@@ -129,7 +123,7 @@ impl Forest {
         ensures none { result ≡ 0 → (x : ℕ) → IsLiveChild self.now txn x → ⊥ }
     {
         match place_of(self.base, self.records.list.len(), txn) {
-            Some(place) => self.records.list[place].children,
+            Some(place) => self.records.children_of(place),
             None => 0,
         }
     }
@@ -142,7 +136,7 @@ impl Forest {
         match parent {
             Some(txn) => {
                 let place = place_of(self.base, self.records.list.len(), txn)?;
-                numbered(self.base, self.records.list[place].youngest)
+                numbered(self.base, self.records.youngest_of(Some(place)))
             }
             None => numbered(self.base, self.records.youngest),
         }
@@ -155,7 +149,7 @@ impl Forest {
         ensures { IsOlderSibling self.now txn result }
     {
         let place = place_of(self.base, self.records.list.len(), txn)?;
-        numbered(self.base, self.records.list[place].older)
+        numbered(self.base, self.records.older_of(place))
     }
 
     /// All live transactions, in rising order.
@@ -187,7 +181,7 @@ impl Forest {
         while let Some(place) = next {
             live.push(TxnId(self.base + 1 + place as u64))?;
             self.list_below(Some(place), live)?;
-            next = self.records.list[place].older;
+            next = self.records.older_of(place);
         }
         Ok(())
     }
@@ -202,11 +196,11 @@ impl Forest {
         ensures next { IfSome result (λ next. IsNextToEnd self.now txn next) }
         ensures none { IfNone result ((x : ℕ) → over_in self.now txn x ≡ true → state_in self.now x ≢ Some Live) }
     {
-        let list = &self.records.list;
+        let records = &self.records;
         let Ok(mut place) = self.live_place(txn) else {
             return None;
         };
-        while let Some(child) = list[place].youngest {
+        while let Some(child) = records.youngest_of(Some(place)) {
             place = child;
         }
         Some(TxnId(self.base + 1 + place as u64))
@@ -241,7 +235,7 @@ impl Forest {
         ensures { MatchResult result (λ _. sub_refusal self.now txn ≡ None) (λ fault. sub_refusal self.now txn ≡ Some fault) }
     {
         let parent = self.live_place(txn)?;
-        let is_deepest = self.records.list[parent].depth >= MOST_DEPTH;
+        let is_deepest = self.records.depth_of(parent) >= MOST_DEPTH;
         if is_deepest {
             return Err(ForestFault::Deep);
         }
@@ -260,7 +254,7 @@ impl Forest {
     {
         self.check_sub(txn)?;
         let parent = self.live_place(txn)?;
-        let depth = self.records.list[parent].depth;
+        let depth = self.records.depth_of(parent);
         self.add(Some(parent), depth + 1)
     }
 

@@ -3,6 +3,7 @@
 
 mod fault;
 mod forest;
+mod record;
 mod records;
 mod state;
 mod txn;

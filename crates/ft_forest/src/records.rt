@@ -1,57 +1,55 @@
 // The records of the transactions, and how they are linked.
-ghost use Rattle.std.specs.Prelude.{◌≡◌, ◌<◌, ◌+◌, ◌-◌, ◌^◌, ℕ, Some, None, IfOk, IfSome, OnOk, OnErr, length};
+ghost use Rattle.std.specs.Prelude.{◌≡◌, ◌<◌, ◌+◌, ◌-◌, ◌^◌, ℕ, [], true, Some, None, IfOk, IfSome, OnOk, OnErr, length};
 ghost use Rattle.std.specs.Option.{ForSome};
 ghost use Rattle.ft_history.specs.Logs.{put};
-ghost use Rattle.ft_forest.specs.Records.{links_of, put_youngest, put_at, closed_links, ended_links, begun_links};
+ghost use Rattle.ft_forest.specs.Records.{no_links, links_of, put_youngest, put_at, closed_links, forgotten_links, ended_links, begun_links};
 
+use crate::record::{LiveRecord, Record};
 use crate::state::State;
-use ft_base::Memory;
+use ft_base::{Memory, PagedTable};
+use std::alloc::Global;
 
-// One transaction. Others are named by their places, which are in the order of their numbers.
-#[derive(Clone, Copy)]
-pub struct Record {
-    pub parent: Option<usize>,
-    pub state: State,
-    pub depth: u64,
-    // How many live children it has, and the youngest of them.
-    pub children: u64,
-    pub youngest: Option<usize>,
-    // Its next live siblings. At the top level all are siblings.
-    pub older: Option<usize>,
-    pub younger: Option<usize>,
-}
-
-// All transactions since the base, in order, and the youngest live one at the top level.
+// All transactions since the base, in order, what is kept besides of the live ones, by their
+// places, and the youngest live one at the top level.
 #[derive(Drop)]
 pub struct Records {
     pub youngest: Option<usize>,
     pub list: Vec<Record>,
+    pub live: PagedTable<LiveRecord>,
 }
 
 impl Records {
+    // No transaction. Takes no memory.
+    pub fn new(alloc: Global) -> Records
+        ensures links { links_of result ≡ no_links }
+        ensures list { result.list.items ≡ [] }
+    {
+        Records {
+            youngest: None,
+            list: Vec::new(alloc),
+            live: PagedTable::new(alloc),
+        }
+    }
+
     // Puts a live transaction behind all others, as the youngest child of its parent.
     pub fn begin(&mut self, parent: Option<usize>, depth: u64) -> Result<(), Memory>
-        requires few { length self.old.list.items < 2 ^ 63 }
+        requires few { length self.old.list.items + 1 < 2 ^ 32 }
         requires parent { ForSome parent (λ p. p < length self.old.list.items) }
+        requires kept { ForSome parent (λ p. (links_of self.old).kept p ≡ true) }
         requires children { (p : ℕ) → (links_of self.old).children p < 2 ^ 63 }
-        requires youngest { ForSome ((links_of self.old).youngest parent) (λ y. y < length self.old.list.items) }
+        requires youngest { ForSome ((links_of self.old).youngest parent) (λ y. (links_of self.old).kept y ≡ true) }
         ensures ok { OnOk result (links_of self.new ≡ begun_links (links_of self.old) parent depth) }
         ensures same_list { OnErr result (self.new.list.items ≡ self.old.list.items) }
         ensures same_youngest { OnErr result (self.new.youngest ≡ self.old.youngest) }
+        ensures same_live { OnErr result (self.new.live ≡ self.old.live) }
     {
         let place = self.list.len();
         let older = self.youngest_of(parent);
-        self.list.push(Record {
-            parent,
-            state: State::Live,
-            depth,
-            children: 0,
-            youngest: None,
-            older,
-            younger: None,
-        })?;
-        self.add_child(parent);
-        self.set_youngest(parent, Some(place));
+        self.list.reserve(1)?;
+        self.live
+            .insert(place as u64, LiveRecord::begun(depth, older))?;
+        self.list.push_reserved(Record::begun(parent));
+        self.add_child(parent, place);
         if let Some(sibling) = older {
             self.set_younger(sibling, Some(place));
         }
@@ -61,27 +59,25 @@ impl Records {
     // Ends the live transaction at a place.
     pub fn end(&mut self, place: usize, state: State)
         requires there { place < length self.old.list.items }
-        requires parent { ForSome ((links_of self.old).parent place) (λ p. p < length self.old.list.items) }
-        requires older { ForSome ((links_of self.old).older place) (λ p. p < length self.old.list.items) }
-        requires younger { ForSome ((links_of self.old).younger place) (λ p. p < length self.old.list.items) }
+        requires kept { (links_of self.old).kept place ≡ true }
+        requires parent { ForSome ((links_of self.old).parent place) (λ p. (links_of self.old).kept p ≡ true) }
+        requires older { ForSome ((links_of self.old).older place) (λ p. (links_of self.old).kept p ≡ true) }
+        requires younger { ForSome ((links_of self.old).younger place) (λ p. (links_of self.old).kept p ≡ true) }
         ensures { links_of self.new ≡ ended_links (links_of self.old) place state }
     {
-        let Record {
-            parent,
-            older,
-            younger,
-            ..
-        } = self.list[place];
+        let parent = self.parent_of(place);
+        let LiveRecord { older, younger, .. } = self.live.get(place as u64).unwrap();
         self.set_state(place, state);
         self.take_child(parent);
         self.close_gap(parent, older, younger);
+        self.forget(place);
     }
 
     // Links what stands on both sides of a gap between siblings.
     fn close_gap(&mut self, parent: Option<usize>, older: Option<usize>, younger: Option<usize>)
-        requires parent { ForSome parent (λ p. p < length self.old.list.items) }
-        requires older { ForSome older (λ p. p < length self.old.list.items) }
-        requires younger { ForSome younger (λ p. p < length self.old.list.items) }
+        requires parent { ForSome parent (λ p. (links_of self.old).kept p ≡ true) }
+        requires older { ForSome older (λ p. (links_of self.old).kept p ≡ true) }
+        requires younger { ForSome younger (λ p. (links_of self.old).kept p ≡ true) }
         ensures { links_of self.new ≡ closed_links (links_of self.old) parent older younger }
     {
         match younger {
@@ -93,50 +89,91 @@ impl Records {
         }
     }
 
+    // The parent's place, where there is a parent.
+    pub fn parent_of(&self, place: usize) -> Option<usize>
+        requires { place < length self.now.list.items }
+        ensures { result ≡ (links_of self.now).parent place }
+    {
+        self.list[place].parent()
+    }
+
+    // How deep a live transaction stands; 0 if it is not live.
+    pub fn depth_of(&self, place: usize) -> u64
+        ensures { result ≡ (links_of self.now).depth place }
+    {
+        match self.live.get(place as u64) {
+            Some(record) => record.depth,
+            None => 0,
+        }
+    }
+
+    // How many live children a transaction has.
+    pub fn children_of(&self, place: usize) -> u64
+        ensures { result ≡ (links_of self.now).children place }
+    {
+        match self.live.get(place as u64) {
+            Some(record) => record.children,
+            None => 0,
+        }
+    }
+
     // The youngest live child of a transaction, or the youngest live one at the top level.
     pub fn youngest_of(&self, parent: Option<usize>) -> Option<usize>
-        requires { ForSome parent (λ p. p < length self.now.list.items) }
         ensures { result ≡ (links_of self.now).youngest parent }
     {
         match parent {
-            Some(place) => self.list[place].youngest,
+            Some(place) => self.live.get(place as u64)?.youngest,
             None => self.youngest,
         }
     }
 
+    // The next older sibling of a live transaction.
+    pub fn older_of(&self, place: usize) -> Option<usize>
+        ensures { result ≡ (links_of self.now).older place }
+    {
+        self.live.get(place as u64)?.older
+    }
+
     fn set_youngest(&mut self, parent: Option<usize>, youngest: Option<usize>)
-        requires { ForSome parent (λ p. p < length self.old.list.items) }
+        requires { ForSome parent (λ p. (links_of self.old).kept p ≡ true) }
         ensures { links_of self.new ≡ (let s = links_of self.old in record s { youngest = put_youngest s.youngest parent youngest }) }
     {
         match parent {
             Some(place) => {
-                let record = &mut self.list[place];
+                let mut record = self.live.get(place as u64).unwrap();
                 record.youngest = youngest;
+                self.live.set(place as u64, record);
             }
             None => self.youngest = youngest,
         }
     }
 
-    // One more live child.
-    fn add_child(&mut self, parent: Option<usize>)
-        requires there { ForSome parent (λ p. p < length self.old.list.items) }
+    // One more live child, the youngest.
+    fn add_child(&mut self, parent: Option<usize>, child: usize)
+        requires kept { ForSome parent (λ p. (links_of self.old).kept p ≡ true) }
         requires few { (p : ℕ) → (links_of self.old).children p < 2 ^ 63 }
-        ensures { links_of self.new ≡ (let s = links_of self.old in record s { children = put_at s.children parent (λ n. n + 1) }) }
+        ensures { links_of self.new ≡ (let s = links_of self.old in record s { children = put_at s.children parent (λ n. n + 1); youngest = put_youngest s.youngest parent (Some child) }) }
     {
-        if let Some(place) = parent {
-            let record = &mut self.list[place];
-            record.children += 1;
+        match parent {
+            Some(place) => {
+                let mut record = self.live.get(place as u64).unwrap();
+                record.children += 1;
+                record.youngest = Some(child);
+                self.live.set(place as u64, record);
+            }
+            None => self.youngest = Some(child),
         }
     }
 
     // One live child less.
     fn take_child(&mut self, parent: Option<usize>)
-        requires { ForSome parent (λ p. p < length self.old.list.items) }
+        requires { ForSome parent (λ p. (links_of self.old).kept p ≡ true) }
         ensures { links_of self.new ≡ (let s = links_of self.old in record s { children = put_at s.children parent (λ n. n - 1) }) }
     {
         if let Some(place) = parent {
-            let record = &mut self.list[place];
+            let mut record = self.live.get(place as u64).unwrap();
             record.children = record.children.saturating_sub(1);
+            self.live.set(place as u64, record);
         }
     }
 
@@ -149,18 +186,27 @@ impl Records {
     }
 
     fn set_older(&mut self, place: usize, older: Option<usize>)
-        requires { place < length self.old.list.items }
+        requires { (links_of self.old).kept place ≡ true }
         ensures { links_of self.new ≡ (let s = links_of self.old in record s { older = put s.older place older }) }
     {
-        let record = &mut self.list[place];
+        let mut record = self.live.get(place as u64).unwrap();
         record.older = older;
+        self.live.set(place as u64, record);
     }
 
     fn set_younger(&mut self, place: usize, younger: Option<usize>)
-        requires { place < length self.old.list.items }
+        requires { (links_of self.old).kept place ≡ true }
         ensures { links_of self.new ≡ (let s = links_of self.old in record s { younger = put s.younger place younger }) }
     {
-        let record = &mut self.list[place];
+        let mut record = self.live.get(place as u64).unwrap();
         record.younger = younger;
+        self.live.set(place as u64, record);
+    }
+
+    // Lets go what is kept of a live transaction alone.
+    fn forget(&mut self, place: usize)
+        ensures { links_of self.new ≡ forgotten_links (links_of self.old) place }
+    {
+        self.live.remove(place as u64);
     }
 }

@@ -103,6 +103,15 @@ impl Holdings {
         self.chains.open(owner)
     }
 
+    /// Opens owner 0, that of the cells that are let go, where it is not open. Takes no memory.
+    pub(crate) fn open_zero(&mut self)
+        requires { finite.contains_key self.old.lists 0 ≡ false }
+        ensures cells { self.new.cells ≡ self.old.cells }
+        ensures lists { self.new.lists ≡ finite.insert self.old.lists 0 (list_in self.old.lists 0) }
+    {
+        self.chains.open_zero();
+    }
+
     /// Closes an owner that has no place. Takes no memory.
     pub(crate) fn close(&mut self, owner: u64)
         requires { list_in self.old.lists owner ≡ [] }

@@ -60,13 +60,13 @@ impl Model for Locks {
 }
 
 impl Locks {
-    /// No lock.
-    pub fn new(alloc: Global) -> Result<Locks, Memory>
-        ensures { IfOk result (λ locks. locks ≡ no_locks) }
+    /// No lock. Takes no memory.
+    pub fn new(alloc: Global) -> Locks
+        ensures { result ≡ no_locks }
     {
         let mut holdings = Holdings::new(alloc);
-        holdings.open(LET_GO)?;
-        Ok(Locks { alloc, holdings })
+        holdings.open_zero();
+        Locks { alloc, holdings }
     }
 
     /// Whether a transaction is open: it was opened, and neither released nor its locks inherited

@@ -46,7 +46,7 @@ impl Crowd {
 /// others to read it. None is asked whether others are in its way.
 fn gather(alloc: Global) -> Result<Crowd, Fail> {
     let forest = Forest::new(alloc, 0);
-    let locks = Locks::new(alloc)?;
+    let locks = Locks::new(alloc);
     let mut crowd = Crowd { forest, locks };
     for _ in 0..CROWD {
         let txn = crowd.begin()?;
@@ -73,7 +73,7 @@ fn are_all(blockers: &[TxnId]) -> bool {
 
 #[test]
 fn small_calls(rt: HostRuntime) -> Result<(), Fail> {
-    let locks = Locks::new(rt.alloc())?;
+    let locks = Locks::new(rt.alloc());
     assert!(rt; has_no_line(&locks)?);
     Ok(())
 }

@@ -1,4 +1,5 @@
 mod Counts
 pub mod Places
+pub mod Moving
 pub mod Records
 pub mod Crossing

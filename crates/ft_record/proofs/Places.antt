@@ -20,7 +20,7 @@ use Rattle.ft_history.proofs.History.{Sound, laws, stands, live_owner, owner_is_
 use Rattle.ft_core.specs.Histories.{History, Granted}
 use Rattle.ft_core.specs.States.{Base}
 use Rattle.ft_core.specs.Kept.{IsStarted, start_of}
-use Rattle.ft_record.specs.Recorded.{is_owned, events_kept}
+use Rattle.ft_record.specs.Recent.{is_owned, events_kept}
 use Rattle.ft_core.specs.Laws.{CallLaws}
 use Rattle.ft_record.proofs.Counts.{taken, left as passed_over, count-fewer, count-push}
 use Rattle.ft_core.proofs.Ends.{live-is}

@@ -1,8 +1,9 @@
 -- What a step does to what is recorded.
-use Rattle.std.proofs.Common.{◌≡◌, ◌≤◌, ◌<◌, ◌+◌, ◌-◌, ℕ, suc, List, [], ◌∷◌, ◌++◌, Option, Some, None, Result, Ok, Err, MatchOption, IsErrAnd, inl, length, arith, add-one, refl, sym, ap, subst, ◌∙◌}
+use Rattle.std.proofs.Common.{◌≡◌, ◌≤◌, ◌<◌, ◌+◌, ◌-◌, ℕ, suc, List, [], ◌∷◌, ◌++◌, drop, Option, Some, None, Result, Ok, Err, MatchOption, IsErrAnd, inl, length, length-append, arith, add-one, refl, sym, ap, subst, ◌∙◌}
 use Rattle.std.specs.Prelude.{nat_lt}
 use Rattle.std.specs.FinMap as finite
 use Rattle.std.proofs.lemmas.Bool.{lt-ltb}
+use Rattle.std.proofs.lemmas.List.{drop-append-le, drop_all}
 use Rattle.ft_laws.specs.Lists.{In}
 use Rattle.ft_cells.specs.Cells.{Cells}
 use Rattle.ft_posix.specs.declared.call.Call.{Call}
@@ -24,7 +25,6 @@ use Rattle.ft_core.specs.declared.request.FullOutcome.{FullOutcome}
 use Rattle.ft_core.specs.declared.request.FullOutcome.TheVariants as full
 use Rattle.ft_core.specs.FullOutcomes.{IsToldInFull, full_answer}
 use Rattle.ft_moss.specs.declared.rule.Rule.{Rule}
-use Rattle.ft_tree.specs.Tidy.{tidy}
 use Rattle.ft_core.specs.declared.request.Answer.{Answer}
 use Rattle.ft_core.specs.declared.request.Answer.TheVariants.{Txn, Granted, Dropped, Committed, Aborted, Undone, Cleared, Refused}
 use Rattle.ft_core.specs.Histories.{as_happening, told, granted}
@@ -41,15 +41,15 @@ use Rattle.ft_core.proofs.Joining.{sound_values}
 use Rattle.ft_core.proofs.Legally.{legal-step}
 use Rattle.ft_core.proofs.Told.{told-push}
 use Rattle.ft_record.specs.Recording.{Recording, with_none_kept}
-use Rattle.ft_record.specs.Recorded.{IsRecorded, events_kept}
+use Rattle.ft_record.specs.Recent.{Remembered, IsRecent, events_kept}
+use Rattle.ft_record.specs.Recorded.{IsRecorded}
 use Rattle.ft_record.proofs.Places.{sound, events-begin, events-call, events-commit, events-abort, events-undo, nothing-kept}
 
 -- the same base and the same events
-pub recorded-same : (s s' : State) (r r' : Recording) (base : Cells) → IsRecorded s r base → s'.base ≡ s.base → s'.events ≡ s.events → IsLegalAt s' → r'.events ≡ r.events → r'.spare ≡ r.spare → IsRecorded s' r' base
-recorded-same s s' r r' base was same same_events legal events spare = record {
-  events = events ∙ was.events ∙ sym same_events;
-  tree = was.tree ∙ ap (λ (b : Base). b.tree) (sym same);
-  base_is = subst (λ (b : Base). IsBaseTree base b.last_stamp) (sym same) was.base_is;
+pub recent-same : (s s' : State) (r r' : Recording) (gone : ℕ) → IsRecent s r gone → s'.base ≡ s.base → s'.events ≡ s.events → IsLegalAt s' → r'.events ≡ r.events → r'.spare ≡ r.spare → IsRecent s' r' gone
+recent-same s s' r r' gone was same same_events legal events spare = record {
+  events = events ∙ was.events ∙ ap (drop gone) (sym same_events);
+  within = let le = was.within in subst (λ (es : List Event). gone ≤ length es) (sym same_events) le;
   legal = legal;
   spare =
       let le = was.spare in
@@ -58,26 +58,25 @@ recorded-same s s' r r' base was same same_events legal events spare = record {
 }
 
 -- one event more, in a new place or in one that was kept
-module _ (s s' : State) (r : Recording) (base : Cells) (e : Event) (was : IsRecorded s r base) (same : s'.base ≡ s.base) (same_events : s'.events ≡ s.events ++ e ∷ []) (legal : IsLegalAt s') where
+module _ (s s' : State) (r : Recording) (gone : ℕ) (e : Event) (was : IsRecent s r gone) (same : s'.base ≡ s.base) (same_events : s'.events ≡ s.events ++ e ∷ []) (legal : IsLegalAt s') where
   kept-is : events_kept s'.base.last_txn (history s') ≡ events_kept s.base.last_txn (as_happening e ∷ history s)
   kept-is = (λ i. events_kept (same i).last_txn (told (same_events i))) ∙ ap (events_kept s.base.last_txn) (told-push s.events e)
 
-  recorded-events : (r' : Recording) → r'.events ≡ r.events ++ e ∷ [] → events_kept s'.base.last_txn (history s') ≤ r'.spare → IsRecorded s' r' base
-  recorded-events r' events spare = record {
-    events = events ∙ ap (λ (es : List Event). es ++ e ∷ []) was.events ∙ sym same_events;
-    tree = was.tree ∙ ap (λ (b : Base). b.tree) (sym same);
-    base_is = subst (λ (b : Base). IsBaseTree base b.last_stamp) (sym same) was.base_is;
+  recent-events : (r' : Recording) → r'.events ≡ r.events ++ e ∷ [] → events_kept s'.base.last_txn (history s') ≤ r'.spare → IsRecent s' r' gone
+  recent-events r' events spare = record {
+    events = events ∙ ap (λ (es : List Event). es ++ e ∷ []) was.events ∙ sym (drop-append-le gone s.events (e ∷ []) was.within) ∙ ap (drop gone) (sym same_events);
+    within = subst (λ (es : List Event). gone ≤ length es) (sym same_events) (let both = length-append s.events (e ∷ []) in let le = was.within in omega arith);
     legal = legal;
     spare = spare;
   }
 
-  pub recorded-new : events_kept s.base.last_txn (as_happening e ∷ history s) ≤ events_kept s.base.last_txn (history s) + 1 → (r' : Recording) → r'.events ≡ r.events ++ e ∷ [] → r'.spare ≡ r.spare + 1 → IsRecorded s' r' base
-  recorded-new more r' events spare = recorded-events r' events (let le = was.spare in let is = kept-is in omega arith)
+  pub recent-new : events_kept s.base.last_txn (as_happening e ∷ history s) ≤ events_kept s.base.last_txn (history s) + 1 → (r' : Recording) → r'.events ≡ r.events ++ e ∷ [] → r'.spare ≡ r.spare + 1 → IsRecent s' r' gone
+  recent-new more r' events spare = recent-events r' events (let le = was.spare in let is = kept-is in omega arith)
 
-  pub recorded-told : events_kept s.base.last_txn (as_happening e ∷ history s) + 1 ≤ events_kept s.base.last_txn (history s) → (0 < r.spare) × ((r' : Recording) → r'.events ≡ r.events ++ e ∷ [] → r'.spare ≡ r.spare - 1 → IsRecorded s' r' base)
-  recorded-told fewer = (
+  pub recent-told : events_kept s.base.last_txn (as_happening e ∷ history s) + 1 ≤ events_kept s.base.last_txn (history s) → (0 < r.spare) × ((r' : Recording) → r'.events ≡ r.events ++ e ∷ [] → r'.spare ≡ r.spare - 1 → IsRecent s' r' gone)
+  recent-told fewer = (
     (let le = was.spare in omega arith),
-    λ r' events spare. recorded-events r' events (let le = was.spare in let is = kept-is in omega arith),
+    λ r' events spare. recent-events r' events (let le = was.spare in let is = kept-is in omega arith),
   )
 
 -- Steps.
@@ -116,56 +115,34 @@ pub step-wanting : {A : Type 0} (told : A → Answer) (s : State) (r : Request) 
 step-wanting told s r (Ok x) fine may is = absurd is
 step-wanting told s r (Err f) fine may is = subst (λ o. MatchOption o (IsAnswered exact_rule s r (Refused f) s) (λ g. (Refused f ≡ Refused g) × (s ≡ s))) (sym fine) (is, may, refl)
 
-pub recorded-refused : (s s' : State) (r : Request) (f : Fault) (was : Recording) (base : Cells) → IsRecorded s was base → IsStep exact_rule s r (Refused f) s' → (now : Recording) → now.events ≡ was.events → now.spare ≡ was.spare → IsRecorded s' now base
-recorded-refused s s' r f was base h step now events spare =
+pub recent-refused : (s s' : State) (r : Request) (f : Fault) (was : Recording) (gone : ℕ) → IsRecent s was gone → IsStep exact_rule s r (Refused f) s' → (now : Recording) → now.events ≡ was.events → now.spare ≡ was.spare → IsRecent s' now gone
+recent-refused s s' r f was gone h step now events spare =
     let same = unchanged s s' r f step in
-    recorded-same s s' was now base h (ap (λ (q : State). q.base) same) (ap (λ (q : State). q.events) same) (subst IsLegalAt (sym same) h.legal) events spare
+    recent-same s s' was now gone h (ap (λ (q : State). q.base) same) (ap (λ (q : State). q.events) same) (subst IsLegalAt (sym same) h.legal) events spare
 
 -- a pending call that is forgotten, or is not
-pub recorded-dropped : (s s' : State) (t : ℕ) (result : Result (Unit {0}) Fault) (r : Recording) (base : Cells) → IsRecorded s r base → IsStep exact_rule s (request.Drop t) (answer_with (λ done. Dropped) result) s' → IsRecorded s' r base
-recorded-dropped s s' t (Ok done) r base h step =
+pub recent-dropped : (s s' : State) (t : ℕ) (result : Result (Unit {0}) Fault) (r : Recording) (gone : ℕ) → IsRecent s r gone → IsStep exact_rule s (request.Drop t) (answer_with (λ done. Dropped) result) s' → IsRecent s' r gone
+recent-dropped s s' t (Ok done) r gone h step =
     let is = (allowed (refusal_of s (request.Drop t)) Dropped (λ f. s' ≡ s) step (λ f e. cc)).1 in
-    recorded-same s s' r r base h (ap (λ (q : State). q.base) is) (ap (λ (q : State). q.events) is) (subst IsLegalAt (sym is) h.legal) refl refl
-recorded-dropped s s' t (Err f) r base h step = recorded-refused s s' (request.Drop t) f r base h step r refl refl
+    recent-same s s' r r gone h (ap (λ (q : State). q.base) is) (ap (λ (q : State). q.events) is) (subst IsLegalAt (sym is) h.legal) refl refl
+recent-dropped s s' t (Err f) r gone h step = recent-refused s s' (request.Drop t) f r gone h step r refl refl
 
 -- a call that waits
-pub recorded-waits : (s s' : State) (t : ℕ) (call : Call) (w : FullOutcome) (blockers : _) → w ≡ full.Waits blockers → (was : Recording) (base : Cells) → IsRecorded s was base → IsStep exact_rule s (request.Ask t call) (full_answer w) s' → (now : Recording) → now.events ≡ was.events → now.spare ≡ was.spare → IsRecorded s' now base
-recorded-waits s s' t call w blockers is was base h step now events spare =
+pub recent-waits : (s s' : State) (t : ℕ) (call : Call) (w : FullOutcome) (blockers : _) → w ≡ full.Waits blockers → (was : Recording) (gone : ℕ) → IsRecent s was gone → IsStep exact_rule s (request.Ask t call) (full_answer w) s' → (now : Recording) → now.events ≡ was.events → now.spare ≡ was.spare → IsRecent s' now gone
+recent-waits s s' t call w blockers is was gone h step now events spare =
     let waits = (allowed (refusal_of s (request.Ask t call)) (full_answer (full.Waits blockers)) (λ f. s' ≡ s) (subst (λ x. IsStep exact_rule s (request.Ask t call) (full_answer x) s') is step) (λ f e. cc)).1 in
-    recorded-same s s' was now base h (ap (λ (q : State). q.base) waits.2) (ap (λ (q : State). q.events) waits.2) (subst IsLegalAt (sym waits.2) h.legal) events spare
+    recent-same s s' was now gone h (ap (λ (q : State). q.base) waits.2) (ap (λ (q : State). q.events) waits.2) (subst IsLegalAt (sym waits.2) h.legal) events spare
 
-pub recorded-waits-on : (s s' : State) (t : ℕ) (w : FullOutcome) (blockers : _) → w ≡ full.Waits blockers → (was : Recording) (base : Cells) → IsRecorded s was base → IsStep exact_rule s (request.Retry t) (full_answer w) s' → (now : Recording) → now.events ≡ was.events → now.spare ≡ was.spare → IsRecorded s' now base
-recorded-waits-on s s' t w blockers is was base h step now events spare =
+pub recent-waits-on : (s s' : State) (t : ℕ) (w : FullOutcome) (blockers : _) → w ≡ full.Waits blockers → (was : Recording) (gone : ℕ) → IsRecent s was gone → IsStep exact_rule s (request.Retry t) (full_answer w) s' → (now : Recording) → now.events ≡ was.events → now.spare ≡ was.spare → IsRecent s' now gone
+recent-waits-on s s' t w blockers is was gone h step now events spare =
     let waits = (allowed (refusal_of s (request.Retry t)) (full_answer (full.Waits blockers)) (λ f. s' ≡ s) (subst (λ x. IsStep exact_rule s (request.Retry t) (full_answer x) s') is step) (λ f e. cc)).1.2 in
-    recorded-same s s' was now base h (ap (λ (q : State). q.base) waits.2) (ap (λ (q : State). q.events) waits.2) (subst IsLegalAt (sym waits.2) h.legal) events spare
-
--- the base's last stamp is no greater than the last one of all
-pub last-base : (s : State) → IsLegalAt s → s.base.last_stamp ≤ LAST_NUMBER
-last-base s at = let stamped = at.started.stamped in let within = at.started.within in omega arith
-
--- nothing has happened since a base from which numbers go on
-pub legal-base : (rule : Rule) (b : Base) (base : Cells) → tidy base ≡ b.tree → IsBaseTree base b.last_stamp → b.last_stamp ≤ LAST_NUMBER → IsLegalAt (at_base rule b)
-legal-base rule b base tree base_is last = record {
-  started = record {
-    store = base;
-    sound = base_is.sound;
-    tree = tree;
-    fresh = λ a next. base_is.free a.stamp next;
-    last_txn_is = refl;
-    last_stamp_is = refl;
-    counted = omega arith;
-    stamped = omega arith;
-    within = last;
-  };
-  legal = tt;
-}
+    recent-same s s' was now gone h (ap (λ (q : State). q.base) waits.2) (ap (λ (q : State). q.events) waits.2) (subst IsLegalAt (sym waits.2) h.legal) events spare
 
 -- from a base on
-pub recorded-at : (rule : Rule) (b : Base) (s : State) → s ≡ at_base rule b → (r : Recording) → r.events ≡ [] → (base : Cells) → tidy base ≡ b.tree → IsBaseTree base b.last_stamp → IsLegalAt s → IsRecorded s r base
-recorded-at rule b s is r none base tree base_is legal = record {
+pub recent-at : (rule : Rule) (b : Base) (s : State) → s ≡ at_base rule b → (r : Recording) → r.events ≡ [] → IsLegalAt s → IsRecent s r 0
+recent-at rule b s is r none legal = record {
   events = none ∙ ap (λ (q : State). q.events) (sym is);
-  tree = tree ∙ ap (λ (q : State). q.base.tree) (sym is);
-  base_is = subst (λ (q : State). IsBaseTree base q.base.last_stamp) (sym is) base_is;
+  within = omega arith;
   legal = legal;
   spare = let zero : events_kept s.base.last_txn (history s) ≡ 0 = ap (λ (q : State). events_kept q.base.last_txn (history q)) is in omega arith;
 }
@@ -180,70 +157,70 @@ lives s t later e =
     (live, sym (ap (λ o. fault_of_fate o later) live) ∙ e)
 
 module _ (W : CallLaws) (K : LockLaws) (s : State) where
-  stepped : (s' : State) (request : Request) (answer : Answer) (r : Recording) (base : Cells) → IsRecorded s r base → IsStep exact_rule s request answer s' → IsLegalAt s'
-  stepped s' request answer r base was = legal-step W K s s' request answer was.legal
+  stepped : (s' : State) (request : Request) (answer : Answer) (r : Recording) (gone : ℕ) → IsRecent s r gone → IsStep exact_rule s request answer s' → IsLegalAt s'
+  stepped s' request answer r gone was = legal-step W K s s' request answer was.legal
 
   -- a begin
   pub begun-is : (up : Option ℕ) (t : ℕ) (s' : State) → IsStep exact_rule s (begin_request up) (Txn t) s' → (refusal_of s (begin_request up) ≡ None) × ((t ≡ next_txn s) × (s' ≡ after_begin s up))
   begun-is None t s' step = allowed (refusal_of s request.Begin) (Txn t) (λ f. s' ≡ s) step (λ f e. cc)
   begun-is (Some p) t s' step = allowed (refusal_of s (request.Sub p)) (Txn t) (λ f. s' ≡ s) step (λ f e. cc)
 
-  pub recorded-begun : (up : Option ℕ) (t : ℕ) (s' : State) (r : Recording) (base : Cells) → IsRecorded s r base → IsStep exact_rule s (begin_request up) (Txn t) s' → (r' : Recording) → r'.events ≡ r.events ++ Begin t up ∷ [] → r'.spare ≡ r.spare + 1 → IsRecorded s' r' base
-  recorded-begun up t s' r base was step r' events spare =
+  pub recent-begun : (up : Option ℕ) (t : ℕ) (s' : State) (r : Recording) (gone : ℕ) → IsRecent s r gone → IsStep exact_rule s (begin_request up) (Txn t) s' → (r' : Recording) → r'.events ≡ r.events ++ Begin t up ∷ [] → r'.spare ≡ r.spare + 1 → IsRecent s' r' gone
+  recent-begun up t s' r gone was step r' events spare =
       let is = begun-is up t s' step in
       let started = was.legal.started in
       let may : MayBegin posix_calls s.base.last_txn (history s) (next_txn s) up = record { next = add-one s.last_txn ∙ ap suc started.last_txn_is; live = live-parent s up is.0 } in
-      recorded-new s s' r base (Begin (next_txn s) up) was (ap (λ (q : State). q.base) is.1.1) (ap (λ (q : State). q.events) is.1.1) (stepped s' (begin_request up) (Txn t) r base was step)
+      recent-new s s' r gone (Begin (next_txn s) up) was (ap (λ (q : State). q.base) is.1.1) (ap (λ (q : State). q.events) is.1.1) (stepped s' (begin_request up) (Txn t) r gone was step)
       (events-begin W started was.legal.legal (next_txn s) up may refl) r' (events ∙ ap (λ n. r.events ++ Begin n up ∷ []) is.1.0) spare
 
   -- a call that was granted
-  pub recorded-granted : (t k : ℕ) (call : Call) (reply : Reply) (s' : State) (r : Recording) (base : Cells) → IsRecorded s r base → IsLegalAt s' → IsAsked exact_rule s t call (Granted k reply) s'
+  pub recent-granted : (t k : ℕ) (call : Call) (reply : Reply) (s' : State) (r : Recording) (gone : ℕ) → IsRecent s r gone → IsLegalAt s' → IsAsked exact_rule s t call (Granted k reply) s'
       → (made : Call) → made ≡ call → (kept : Reply) → kept ≡ reply → (accesses : List Access) → accesses ≡ accesses_now s call
-      → (r' : Recording) → r'.events ≡ r.events ++ CallEvent k t made kept accesses ∷ [] → r'.spare ≡ r.spare + 1 → IsRecorded s' r' base
-  recorded-granted t k call reply s' r base was legal is made made_is kept kept_is accesses accesses_are r' events spare =
+      → (r' : Recording) → r'.events ≡ r.events ++ CallEvent k t made kept accesses ∷ [] → r'.spare ≡ r.spare + 1 → IsRecent s' r' gone
+  recent-granted t k call reply s' r gone was legal is made made_is kept kept_is accesses accesses_are r' events spare =
       let e : Event = CallEvent (next_stamp s) t call (reply_of s call) (accesses_now s call) in
       let same : CallEvent k t made kept accesses ≡ e = (λ i. CallEvent (is.1 i) t (made_is i) ((kept_is ∙ is.2) i) (accesses_are i)) in
-      recorded-new s s' r base e was (ap (λ (q : State). q.base) is.3) (ap (λ (q : State). q.events) is.3) legal
+      recent-new s s' r gone e was (ap (λ (q : State). q.base) is.3) (ap (λ (q : State). q.events) is.3) legal
       (events-call W was.legal.started was.legal.legal (granted (next_stamp s) t call (reply_of s call) (accesses_now s call))) r' (events ∙ ap (λ x. r.events ++ x ∷ []) same) spare
 
   -- a call that was made, with all that was told of it
-  pub recorded-made : (t k : ℕ) (call made : Call) (reply kept : Reply) (o : Option Reply) (accesses : _) (w : FullOutcome) → w ≡ full.Granted k made reply o accesses → o ≡ Some kept → (s' : State) (r : Recording) (base : Cells) → IsRecorded s r base
+  pub recent-made : (t k : ℕ) (call made : Call) (reply kept : Reply) (o : Option Reply) (accesses : _) (w : FullOutcome) → w ≡ full.Granted k made reply o accesses → o ≡ Some kept → (s' : State) (r : Recording) (gone : ℕ) → IsRecent s r gone
       → IsLegalAt s' → IsAsked exact_rule s t call (Granted k reply) s' → IsToldInFull s call w
-      → (r' : Recording) → r'.events ≡ r.events ++ CallEvent k t made kept accesses.items ∷ [] → r'.spare ≡ r.spare + 1 → IsRecorded s' r' base
-  recorded-made t k call made reply kept o accesses w is some s' r base was legal asked told r' events spare =
+      → (r' : Recording) → r'.events ≡ r.events ++ CallEvent k t made kept accesses.items ∷ [] → r'.spare ≡ r.spare + 1 → IsRecent s' r' gone
+  recent-made t k call made reply kept o accesses w is some s' r gone was legal asked told r' events spare =
       let about : IsToldInFull s call (full.Granted k made reply o accesses) = subst (IsToldInFull s call) is told in
-      recorded-granted t k call reply s' r base was legal asked made about.0 kept (one (sym some ∙ about.1)) accesses.items about.2 r' events spare
+      recent-granted t k call reply s' r gone was legal asked made about.0 kept (one (sym some ∙ about.1)) accesses.items about.2 r' events spare
     where
       one : {x y : Reply} → Some x ≡ Some y → x ≡ y
       one e = cc
 
-  pub recorded-in-full : (t k : ℕ) (call made : Call) (reply kept : Reply) (o : Option Reply) (accesses : _) (w : FullOutcome) → w ≡ full.Granted k made reply o accesses → o ≡ Some kept → (s' : State) (r : Recording) (base : Cells) → IsRecorded s r base
+  pub recent-in-full : (t k : ℕ) (call made : Call) (reply kept : Reply) (o : Option Reply) (accesses : _) (w : FullOutcome) → w ≡ full.Granted k made reply o accesses → o ≡ Some kept → (s' : State) (r : Recording) (gone : ℕ) → IsRecent s r gone
       → IsStep exact_rule s (request.Ask t call) (full_answer w) s' → IsToldInFull s call w
-      → (r' : Recording) → r'.events ≡ r.events ++ CallEvent k t made kept accesses.items ∷ [] → r'.spare ≡ r.spare + 1 → IsRecorded s' r' base
-  recorded-in-full t k call made reply kept o accesses w is some s' r base was step told r' events spare =
+      → (r' : Recording) → r'.events ≡ r.events ++ CallEvent k t made kept accesses.items ∷ [] → r'.spare ≡ r.spare + 1 → IsRecent s' r' gone
+  recent-in-full t k call made reply kept o accesses w is some s' r gone was step told r' events spare =
       let asked = (allowed (refusal_of s (request.Ask t call)) (Granted k reply) (λ f. s' ≡ s) (subst (λ x. IsStep exact_rule s (request.Ask t call) (full_answer x) s') is step) (λ f e. cc)).1 in
-      recorded-made t k call made reply kept o accesses w is some s' r base was (stepped s' (request.Ask t call) (full_answer w) r base was step) asked told r' events spare
+      recent-made t k call made reply kept o accesses w is some s' r gone was (stepped s' (request.Ask t call) (full_answer w) r gone was step) asked told r' events spare
 
   -- a call that was waited for
-  pub recorded-retried : (t k : ℕ) (made : Call) (reply kept : Reply) (o : Option Reply) (accesses : _) (w : FullOutcome) → w ≡ full.Granted k made reply o accesses → o ≡ Some kept → (s' : State) (r : Recording) (base : Cells) → IsRecorded s r base
+  pub recent-retried : (t k : ℕ) (made : Call) (reply kept : Reply) (o : Option Reply) (accesses : _) (w : FullOutcome) → w ≡ full.Granted k made reply o accesses → o ≡ Some kept → (s' : State) (r : Recording) (gone : ℕ) → IsRecent s r gone
       → IsStep exact_rule s (request.Retry t) (full_answer w) s' → (call : Call) × (finite.get s.asks t ≡ Some call) × IsToldInFull s call w
-      → (r' : Recording) → r'.events ≡ r.events ++ CallEvent k t made kept accesses.items ∷ [] → r'.spare ≡ r.spare + 1 → IsRecorded s' r' base
-  recorded-retried t k made reply kept o accesses w is some s' r base was step told r' events spare =
+      → (r' : Recording) → r'.events ≡ r.events ++ CallEvent k t made kept accesses.items ∷ [] → r'.spare ≡ r.spare + 1 → IsRecent s' r' gone
+  recent-retried t k made reply kept o accesses w is some s' r gone was step told r' events spare =
       let asked = (allowed (refusal_of s (request.Retry t)) (Granted k reply) (λ f. s' ≡ s) (subst (λ x. IsStep exact_rule s (request.Retry t) (full_answer x) s') is step) (λ f e. cc)).1 in
       let same : told.0 ≡ asked.0 = only (sym told.1 ∙ asked.1) in
-      recorded-made t k asked.0 made reply kept o accesses w is some s' r base was (stepped s' (request.Retry t) (full_answer w) r base was step) asked.2 (subst (λ x. IsToldInFull s x w) same told.2) r' events spare
+      recent-made t k asked.0 made reply kept o accesses w is some s' r gone was (stepped s' (request.Retry t) (full_answer w) r gone was step) asked.2 (subst (λ x. IsToldInFull s x w) same told.2) r' events spare
     where
       only : {x y : Call} → Some x ≡ Some y → x ≡ y
       only e = cc
 
   -- a commit
-  pub recorded-committed : (t : ℕ) (s' : State) (r : Recording) (base : Cells) → IsRecorded s r base → IsStep exact_rule s (request.Commit t) Committed s'
-      → (0 < r.spare) × ((r' : Recording) → r'.events ≡ r.events ++ Commit t ∷ [] → r'.spare ≡ r.spare - 1 → IsRecorded s' r' base)
-  recorded-committed t s' r base was step =
+  pub recent-committed : (t : ℕ) (s' : State) (r : Recording) (gone : ℕ) → IsRecent s r gone → IsStep exact_rule s (request.Commit t) Committed s'
+      → (0 < r.spare) × ((r' : Recording) → r'.events ≡ r.events ++ Commit t ∷ [] → r'.spare ≡ r.spare - 1 → IsRecent s' r' gone)
+  recent-committed t s' r gone was step =
       let is = allowed (refusal_of s (request.Commit t)) Committed (λ f. s' ≡ s) step (λ f e. cc) in
       let live = lives s t (fault_if (has_live_child s t) ChildLive None) is.0 in
       let may : MayCommit posix_calls s.base.last_txn (history s) t = record { live = live.0; no_child = childless (live_children s t) live.1 } in
-      recorded-told s s' r base (Commit t) was (ap (λ (q : State). q.base) is.1) (ap (λ (q : State). q.events) is.1) (stepped s' (request.Commit t) Committed r base was step) (events-commit W was.legal.started was.legal.legal t may)
+      recent-told s s' r gone (Commit t) was (ap (λ (q : State). q.base) is.1) (ap (λ (q : State). q.events) is.1) (stepped s' (request.Commit t) Committed r gone was step) (events-commit W was.legal.started was.legal.legal t may)
     where
       childless : (xs : List ℕ) → fault_if (nat_lt 0 (length xs)) ChildLive None ≡ None → xs ≡ []
       childless [] e = refl
@@ -253,39 +230,56 @@ module _ (W : CallLaws) (K : LockLaws) (s : State) where
           some e = cc
 
   -- an abort
-  pub recorded-aborted : (t n : ℕ) (s' : State) (r : Recording) (base : Cells) → IsRecorded s r base → IsStep exact_rule s (request.Abort t) (Aborted n) s'
-      → (0 < r.spare) × ((r' : Recording) → r'.events ≡ r.events ++ Abort t ∷ [] → r'.spare ≡ r.spare - 1 → IsRecorded s' r' base)
-  recorded-aborted t n s' r base was step =
+  pub recent-aborted : (t n : ℕ) (s' : State) (r : Recording) (gone : ℕ) → IsRecent s r gone → IsStep exact_rule s (request.Abort t) (Aborted n) s'
+      → (0 < r.spare) × ((r' : Recording) → r'.events ≡ r.events ++ Abort t ∷ [] → r'.spare ≡ r.spare - 1 → IsRecent s' r' gone)
+  recent-aborted t n s' r gone was step =
       let is = allowed (refusal_of s (request.Abort t)) (Aborted n) (λ f. s' ≡ s) step (λ f e. cc) in
       let live = lives s t None is.0 in
-      recorded-told s s' r base (Abort t) was (ap (λ (q : State). q.base) is.1.1) (ap (λ (q : State). q.events) is.1.1) (stepped s' (request.Abort t) (Aborted n) r base was step) (events-abort W was.legal.started was.legal.legal t live.0)
+      recent-told s s' r gone (Abort t) was (ap (λ (q : State). q.base) is.1.1) (ap (λ (q : State). q.events) is.1.1) (stepped s' (request.Abort t) (Aborted n) r gone was step) (events-abort W was.legal.started was.legal.legal t live.0)
 
   -- an undo
-  pub recorded-undone : (t k : ℕ) (s' : State) (r : Recording) (base : Cells) → IsRecorded s r base → IsStep exact_rule s (request.Undo t) (Undone k) s'
-      → (0 < r.spare) × ((r' : Recording) → r'.events ≡ r.events ++ Undo k ∷ [] → r'.spare ≡ r.spare - 1 → IsRecorded s' r' base)
-  recorded-undone t k s' r base was step =
+  pub recent-undone : (t k : ℕ) (s' : State) (r : Recording) (gone : ℕ) → IsRecent s r gone → IsStep exact_rule s (request.Undo t) (Undone k) s'
+      → (0 < r.spare) × ((r' : Recording) → r'.events ≡ r.events ++ Undo k ∷ [] → r'.spare ≡ r.spare - 1 → IsRecent s' r' gone)
+  recent-undone t k s' r gone was step =
       let is = allowed (refusal_of s (request.Undo t)) (Undone k) (λ f. s' ≡ s) step (λ f e. cc) in
       let live = lives s t (fault_if (has_live_child s t) ChildLive (fault_of_target (undo_target posix_calls (history s) t))) is.0 in
       by_target live.0 (undo_target posix_calls (history s) t) refl is.1
     where
       by_target : fate_of s t ≡ Some Live → (x : Target posix_calls) → undo_target posix_calls (history s) t ≡ x → IsUndone s x k s'
-          → (0 < r.spare) × ((r' : Recording) → r'.events ≡ r.events ++ Undo k ∷ [] → r'.spare ≡ r.spare - 1 → IsRecorded s' r' base)
+          → (0 < r.spare) × ((r' : Recording) → r'.events ≡ r.events ++ Undo k ∷ [] → r'.spare ≡ r.spare - 1 → IsRecent s' r' gone)
       by_target live (Found d) found is =
           let from = start_of s.base was.legal.started.store in
           let newest = target_newest posix_calls W.lawful from (sound_values was.legal.started.store was.legal.started.sound) (history s) was.legal.legal t d live found in
           let there = ((sound W was.legal.started was.legal.legal).runs.kept.owned t d (subst (In d) (sym newest.1) (inl refl))).0 in
           let fewer = events-undo W was.legal.started was.legal.legal t d live there newest.2 in
-          recorded-told s s' r base (Undo k) was (ap (λ (q : State). q.base) is.1) (ap (λ (q : State). q.events) is.1) (stepped s' (request.Undo t) (Undone k) r base was step)
+          recent-told s s' r gone (Undo k) was (ap (λ (q : State). q.base) is.1) (ap (λ (q : State). q.events) is.1) (stepped s' (request.Undo t) (Undone k) r gone was step)
           (subst (λ n. events_kept s.base.last_txn (as_happening (Undo n) ∷ history s) + 1 ≤ events_kept s.base.last_txn (history s)) (sym is.0) fewer)
       by_target live SubSince found is = absurd is
       by_target live Nothing found is = absurd is
 
   -- no place is kept where nobody is live
-  pub recorded-freed : (r : Recording) (base : Cells) → IsRecorded s r base → NoneIsLive s → (r' : Recording) → r' ≡ with_none_kept r → IsRecorded s r' base
-  recorded-freed r base was none r' is = record {
+  pub recent-freed : (r : Recording) (gone : ℕ) → IsRecent s r gone → NoneIsLive s → (r' : Recording) → r' ≡ with_none_kept r → IsRecent s r' gone
+  recent-freed r gone was none r' is = record {
     events = ap (λ (q : Recording). q.events) is ∙ was.events;
-    tree = was.tree;
-    base_is = was.base_is;
+    within = was.within;
     legal = was.legal;
     spare = let zero = nothing-kept W was.legal.started was.legal.legal (λ x live. none (x, live)) in omega arith;
   }
+
+-- all is forgotten
+pub recent-forgotten : (s : State) (r r' : Recording) (gone n : ℕ) → IsRecent s r gone → n ≡ length s.events → r'.events ≡ [] → r'.spare ≡ r.spare → IsRecent s r' n
+recent-forgotten s r r' gone n was all none spare = record {
+  events = none ∙ sym (drop_all n s.events (omega (arith, all)));
+  within = omega (arith, all);
+  legal = was.legal;
+  spare = let le = was.spare in omega arith;
+}
+
+-- The base of a record stays, whatever is asked of it but a checkpoint.
+pub still-recorded : (r r' : Remembered) (base : Cells) → IsRecorded r base → r'.core.state.base ≡ r.core.state.base → r'.forgotten ≡ r.forgotten → IsRecorded r' base
+still-recorded r r' base was same forgotten = record {
+  all = forgotten ∙ was.all;
+  tree = was.tree ∙ ap (λ (b : Base). b.tree) (sym same);
+  base_is = subst (λ (b : Base). IsBaseTree base b.last_stamp) (sym same) was.base_is;
+  last = subst (λ (b : Base). b.last_stamp ≤ LAST_NUMBER) (sym same) was.last;
+}

@@ -9,5 +9,5 @@ use ft_core::laws::reached as reached_core;
 pub fn reached(core: &Recorded)
     ensures { IsReached core.now }
 {
-    reached_core(&core.core);
+    reached_core(core.core());
 }

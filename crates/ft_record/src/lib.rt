@@ -2,7 +2,9 @@
 #![tactic(auto)]
 
 pub mod laws;
+mod recent;
 mod record;
 mod recorded;
 
+pub use recent::Recent;
 pub use recorded::Recorded;

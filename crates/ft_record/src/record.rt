@@ -1,5 +1,5 @@
 // A list of events, with places for those that are not to want memory.
-ghost use Rattle.std.specs.Prelude.{◌≡◌, ◌<◌, ◌≤◌, ◌+◌, OnOk, OnErr};
+ghost use Rattle.std.specs.Prelude.{◌≡◌, ◌<◌, ◌≤◌, ◌+◌, [], OnOk, OnErr};
 ghost use Rattle.ft_record.specs.Recording.{nothing_recorded, with_new, with_told, with_none_kept};
 
 use ft_base::Memory;
@@ -84,6 +84,13 @@ impl Record {
     {
         self.events.push_reserved(event);
         self.spare -= 1;
+    }
+
+    /// Forgets the events. Places stay kept.
+    pub(crate) fn forget(&mut self)
+        ensures same { self.new ≡ record self.old { events = []; room = self.new.room } }
+    {
+        self.events.clear();
     }
 
     /// Gives the places back that were kept: nothing can end or be undone any more.

@@ -17,11 +17,11 @@ ghost use Rattle.ft_core.specs.Reached.{IsReached};
 ghost use Rattle.ft_core.specs.Steps.{IsStep, exact_rule, answer_with, outcome_answer};
 ghost use Rattle.ft_core.specs.Sweeps.{HasNoUselessPlace, EachUselessIsLocked};
 
-use crate::record::Record;
-use ft_base::{Memory, Sequence};
+use crate::recent::Recent;
+use ft_base::Memory;
 use ft_calls::Call;
 use ft_core::laws::reached;
-use ft_core::{Core, Event, Fault, FullOutcome, Outcome, Rule, State, TxnId};
+use ft_core::{Core, Event, Fault, Outcome, Rule, State, TxnId};
 use ft_tree::Tree;
 use std::alloc::Global;
 use std::marker::Model;
@@ -30,18 +30,13 @@ use std::marker::Model;
 ///
 /// Clauses see of it what they see of a core.
 pub struct Recorded {
-    pub(crate) core: Core,
-    past: Record,
+    recent: Recent,
     base: Tree,
 }
 
 impl Drop for Recorded {
     fn drop(self) {
-        let Recorded {
-            core: _,
-            past: _,
-            base: _,
-        } = self;
+        let Recorded { recent: _, base: _ } = self;
     }
 }
 
@@ -53,9 +48,9 @@ impl Model for Recorded {
 
     ghost coded = { coded_stored };
 
-    ghost view = { λ a. a.core };
+    ghost view = { λ a. a.recent.core };
 
-    ghost invariant = { λ a. IsRecorded a.core.state a.past a.base };
+    ghost invariant = { λ a. IsRecorded a.recent a.base };
 }
 
 impl Recorded {
@@ -70,13 +65,8 @@ impl Recorded {
     pub fn with_rule(alloc: Global, rule: Rule) -> Result<Recorded, Memory>
         ensures { IfOk result (λ core. core.state ≡ at_base rule first_base) }
     {
-        let base = Tree::new(alloc)?;
         let core = Core::with_rule(alloc, rule)?;
-        Ok(Recorded {
-            core,
-            past: Record::new(alloc),
-            base,
-        })
+        Recorded::of(core)
     }
 
     /// A core on which nothing has happened since its base, with a record from there on.
@@ -85,32 +75,28 @@ impl Recorded {
         ensures { IfOk result (λ recorded. recorded.state ≡ core.state) }
     {
         let base = core.tree().copy()?;
-        let past = Record::new(core.alloc());
-        Ok(Recorded { core, past, base })
+        let recent = Recent::of(core);
+        Ok(Recorded { recent, base })
     }
 
     /// The core, as it is now; what has happened is forgotten.
     pub fn into_core(self) -> Core
         ensures { result ≡ self }
     {
-        let Recorded {
-            core,
-            past: _,
-            base: _,
-        } = self;
-        core
+        let Recorded { recent, base: _ } = self;
+        recent.into_core()
     }
 
     /// Where its memory comes from.
     pub fn alloc(&self) -> Global {
-        self.core.alloc()
+        self.core().alloc()
     }
 
     /// By which rule calls are granted. It never changes.
     pub fn rule(&self) -> Rule
         ensures { result ≡ self.now.state.rule }
     {
-        self.core.rule()
+        self.core().rule()
     }
 
     /// Whether a transaction is live.
@@ -118,14 +104,14 @@ impl Recorded {
         ensures found { MatchBool result (SomeIsLive self.now.state) (NoneIsLive self.now.state) }
         ensures listed { result ≡ has_live self.now.state }
     {
-        self.core.has_live()
+        self.core().has_live()
     }
 
     /// What has become of a transaction, where there is one of this number since the base.
     pub fn state(&self, txn: TxnId) -> Option<State>
         ensures { fate_in result ≡ fate_of self.now.state txn }
     {
-        self.core.state(txn)
+        self.core().state(txn)
     }
 
     /// The parent of a subtransaction; none of a top-level one, nor where there is no transaction
@@ -133,37 +119,28 @@ impl Recorded {
     pub fn parent(&self, txn: TxnId) -> Option<TxnId>
         ensures { result ≡ parent_of posix_calls (history self.now.state) txn }
     {
-        self.core.parent(txn)
+        self.core().parent(txn)
     }
 
     /// The core, for what only looks at it.
     pub fn core(&self) -> &Core
         ensures { result.now ≡ self.now }
     {
-        &self.core
+        self.recent.core()
     }
 
     /// Begins a top-level transaction, as `Core::begin` does.
     pub fn begin(&mut self) -> Result<TxnId, Fault>
         ensures { IsStep exact_rule self.old.state Begin (answer_with Txn result) self.new.state }
     {
-        self.core.may_begin()?;
-        self.past.reserve()?;
-        let txn = self.core.begin()?;
-        self.past.add(Event::Begin { txn, parent: None });
-        Ok(txn)
+        self.recent.begin()
     }
 
     /// Begins a subtransaction, as `Core::sub` does.
     pub fn sub(&mut self, txn: TxnId) -> Result<TxnId, Fault>
         ensures { IsStep exact_rule self.old.state (Sub txn) (answer_with Txn result) self.new.state }
     {
-        self.core.may_sub(txn)?;
-        self.past.reserve()?;
-        let child = self.core.sub(txn)?;
-        let parent = Some(txn);
-        self.past.add(Event::Begin { txn: child, parent });
-        Ok(child)
+        self.recent.sub(txn)
     }
 
     /// Makes a call in a transaction, or answers which transactions it waits for, as `Core::ask`
@@ -171,39 +148,14 @@ impl Recorded {
     pub fn ask(&mut self, txn: TxnId, call: Call) -> Result<Outcome, Fault>
         ensures { IsStep exact_rule self.old.state (Ask txn call) (answer_with outcome_answer result) self.new.state }
     {
-        self.core.may_ask(txn)?;
-        self.past.reserve()?;
-        match self.core.ask_in_full(txn, call)? {
-            FullOutcome::Granted {
-                stamp,
-                call,
-                reply,
-                kept,
-                accesses,
-            } => {
-                let Some(kept) = kept else {
-                    unreachable!();
-                };
-                self.past.add(Event::Call {
-                    stamp,
-                    txn,
-                    call,
-                    reply: kept,
-                    accesses: Sequence::from(accesses),
-                });
-                Ok(Outcome::Granted { stamp, reply })
-            }
-            FullOutcome::Waits { blockers } => Ok(Outcome::Waits { blockers }),
-        }
+        self.recent.ask(txn, call)
     }
 
     /// Makes a copy of a call, as `ask` makes the call.
     pub fn ask_copy(&mut self, txn: TxnId, call: &Call) -> Result<Outcome, Fault>
         ensures { IsStep exact_rule self.old.state (Ask txn call.now) (answer_with outcome_answer result) self.new.state }
     {
-        self.core.may_ask(txn)?;
-        let copy = call.copy(self.core.alloc())?;
-        self.ask(txn, copy)
+        self.recent.ask_copy(txn, call)
     }
 
     /// Makes the call that a transaction waits for, or answers again which transactions it waits
@@ -211,47 +163,21 @@ impl Recorded {
     pub fn retry(&mut self, txn: TxnId) -> Result<Outcome, Fault>
         ensures { IsStep exact_rule self.old.state (Retry txn) (answer_with outcome_answer result) self.new.state }
     {
-        self.core.may_retry(txn)?;
-        self.past.reserve()?;
-        match self.core.retry_in_full(txn)? {
-            FullOutcome::Granted {
-                stamp,
-                call,
-                reply,
-                kept,
-                accesses,
-            } => {
-                let Some(kept) = kept else {
-                    unreachable!();
-                };
-                self.past.add(Event::Call {
-                    stamp,
-                    txn,
-                    call,
-                    reply: kept,
-                    accesses: Sequence::from(accesses),
-                });
-                Ok(Outcome::Granted { stamp, reply })
-            }
-            FullOutcome::Waits { blockers } => Ok(Outcome::Waits { blockers }),
-        }
+        self.recent.retry(txn)
     }
 
     /// Forgets the call that a transaction waits for, as `Core::drop_ask` does.
     pub fn drop_ask(&mut self, txn: TxnId) -> Result<(), Fault>
         ensures { IsStep exact_rule self.old.state (DropAsk txn) (answer_with (λ done. Dropped) result) self.new.state }
     {
-        self.core.drop_ask(txn)
+        self.recent.drop_ask(txn)
     }
 
     /// Commits a transaction, as `Core::commit` does.
     pub fn commit(&mut self, txn: TxnId) -> Result<(), Fault>
         ensures { IsStep exact_rule self.old.state (Commit txn) (answer_with (λ done. Committed) result) self.new.state }
     {
-        self.core.commit(txn)?;
-        self.past.tell(Event::Commit { txn });
-        self.give_places_back();
-        Ok(())
+        self.recent.commit(txn)
     }
 
     /// Aborts a transaction with all that is live below it, as `Core::abort` does.
@@ -261,10 +187,7 @@ impl Recorded {
         // If it ran alone, the tree is that of its begin.
         ensures alone { (before : StateOf) → RanAlone before self.old.state txn → (answer_with Aborted result ≡ Aborted (count_standing self.old.state txn)) × (tree_of self.new.state ≡ tree_of before) }
     {
-        let count = self.core.abort(txn)?;
-        self.past.tell(Event::Abort { txn });
-        self.give_places_back();
-        Ok(count)
+        self.recent.abort(txn)
     }
 
     /// Undoes the last of a transaction's own standing calls, as `Core::undo_call` does.
@@ -274,9 +197,7 @@ impl Recorded {
         // The call just made is undone, and the tree is the one before it.
         ensures just_made { (before : StateOf) (k : ℕ) → IsJustMade before self.old.state txn k → (answer_with Undone result ≡ Undone k) × (tree_of self.new.state ≡ tree_of before) }
     {
-        let stamp = self.core.undo_call(txn)?;
-        self.past.tell(Event::Undo { stamp });
-        Ok(stamp)
+        self.recent.undo_call(txn)
     }
 
     /// Makes the tree as it stands the base, and forgets what has happened, as `Core::checkpoint`
@@ -284,11 +205,11 @@ impl Recorded {
     pub fn checkpoint(&mut self) -> Result<(), Fault>
         ensures { IsStep exact_rule self.old.state Checkpoint (answer_with (λ done. Cleared) result) self.new.state }
     {
-        self.core.may_checkpoint()?;
-        let base = self.core.tree().copy()?;
-        self.core.checkpoint()?;
+        let core = self.recent.core();
+        core.may_checkpoint()?;
+        let base = core.tree().copy()?;
+        self.recent.checkpoint()?;
         self.base = base;
-        self.past = Record::new(self.core.alloc());
         Ok(())
     }
 
@@ -299,7 +220,7 @@ impl Recorded {
         ensures locked { EachUselessIsLocked self.old.state self.new.cells }
         ensures none_left { NoneIsLive self.old.state → HasNoUselessPlace self.new.cells }
     {
-        self.core.sweep()
+        self.recent.sweep()
     }
 
     /// The tree.
@@ -309,7 +230,7 @@ impl Recorded {
         ensures sound { AreSoundCells result.now }
         ensures plain_sound { IsSoundTree (tidy result.now) }
     {
-        self.core.tree()
+        self.core().tree()
     }
 
     /// The tree of the base: the root alone, until a checkpoint. No number above the base's last
@@ -327,16 +248,7 @@ impl Recorded {
         ensures events { result.now ≡ self.now.state.events }
         ensures reached { IsReached self.now }
     {
-        reached(&self.core);
-        self.past.events()
-    }
-
-    /// Gives the places back that were kept for events, where no transaction is live any more.
-    fn give_places_back(&mut self)
-        ensures { self.new ≡ self.old }
-    {
-        if !self.core.has_live() {
-            self.past.keep_none();
-        }
+        reached(self.core());
+        self.recent.events()
     }
 }

@@ -8,14 +8,15 @@
 mod steps;
 
 use anyhow::{Result, bail};
-use ft_record::Recorded;
+use ft_core::Core;
+use ft_record::Recent;
 use ft_shared::with_views;
 use std::marker::Brand;
 use steps::publish_each;
 
 fn main(rt: HostRuntime) -> Result<()> {
     let alloc = rt.alloc();
-    let Ok(opened) = with_views(Recorded::new(alloc)?) else {
+    let Ok(opened) = with_views(Recent::of(Core::new(alloc)?)) else {
         bail!("there are no views");
     };
     publish_each::<Brand, HostRuntime>(&rt, alloc, opened)

@@ -6,6 +6,7 @@ use anyhow::{Result, bail};
 use ft_calls::{Call, Reply};
 use ft_core::Fault;
 use ft_path::FilePath;
+use ft_record::Recent;
 use ft_shared::{Opened, Shared};
 use ft_view::{Naming, Reader};
 use std::alloc::Global;
@@ -17,7 +18,11 @@ const DIRECTORIES: u64 = 40;
 
 /// Makes directories and publishes each, and says after each how many calls are published, and how
 /// many names a reader sees then.
-pub fn publish_each<J: Naming, R: Wait + Print>(rt: &R, alloc: Global, opened: Opened) -> Result<()>
+pub fn publish_each<J: Naming, R: Wait + Print>(
+    rt: &R,
+    alloc: Global,
+    opened: Opened<Recent>,
+) -> Result<()>
     requires { named_by opened ≡ J.opened }
 {
     let Ok((shared, reader)) = opened.named::<J, R>(rt) else {
@@ -31,7 +36,7 @@ pub fn publish_each<J: Naming, R: Wait + Print>(rt: &R, alloc: Global, opened: O
 fn through<J: Naming, R: Wait + Print>(
     rt: &R,
     alloc: Global,
-    shared: &Shared<J>,
+    shared: &Shared<J, Recent>,
     mut reader: Reader<J>,
 ) -> Result<()> {
     let root = FilePath::new(alloc, b"/".as_slice())?;
@@ -48,7 +53,7 @@ fn through<J: Naming, R: Wait + Print>(
 fn make_at_last<J: Naming, R: Wait + Print>(
     rt: &R,
     alloc: Global,
-    shared: &Shared<J>,
+    shared: &Shared<J, Recent>,
     number: u64,
 ) -> Result<()> {
     if let Err(fault) = make(rt, alloc, shared, number) {
@@ -62,7 +67,7 @@ fn make_at_last<J: Naming, R: Wait + Print>(
 fn make<J: Naming, R: Wait>(
     rt: &R,
     alloc: Global,
-    shared: &Shared<J>,
+    shared: &Shared<J, Recent>,
     number: u64,
 ) -> Result<(), Fault> {
     let Ok(text) = format!(in alloc; "/{number}") else {
@@ -85,7 +90,7 @@ fn make<J: Naming, R: Wait>(
 /// publishes once more. Answers how many calls are published.
 fn publish_at_last<J: Naming, R: Wait + Print>(
     rt: &R,
-    shared: &Shared<J>,
+    shared: &Shared<J, Recent>,
     reader: &mut Reader<J>,
     root: &FilePath,
 ) -> Result<u64> {

@@ -1,4 +1,5 @@
 pub mod Listing
+pub mod Listed
 pub mod Lasting
 pub mod Going
 pub mod Reaching

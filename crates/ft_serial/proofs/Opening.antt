@@ -151,7 +151,7 @@ module _ (base : HistoryBase posix_calls) (base_sound : posix_calls.IsSound base
           (λ m. absurd (false≢true (sym ((numbered posix_calls lawful_calls base base_sound h legal).later r (leb-false r (last_transaction posix_calls base.transaction h) m)).1 ∙ k)))
 
   -- a walk over all events knows it
-  pub walk-knows : (w : Walk) (given : List StampedCall) → IsWalk w events given → (place : ℕ) → Knows (finite.contains_key w.undone) h (slice_get events place)
+  pub walk-knows : (w : Walk) (given : List StampedCall) → IsWalk 0 w events given → (place : ℕ) → Knows (finite.contains_key w.undone) h (slice_get events place)
   walk-knows w given walk place k t call reply accesses there left open_top =
       let forest = (sound_all posix_calls lawful_calls base base_sound h legal).forest in
       let r = root (parent posix_calls h) t in

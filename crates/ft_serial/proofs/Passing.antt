@@ -1,5 +1,5 @@
 -- The next event of a core is gone over.
-use Rattle.std.proofs.Common.{◌≡◌, ◌<◌, ◌≤◌, ◌+◌, ℕ, suc, Some, List, [], ◌∷◌, ◌++◌, length, take, drop, get_or, sym, ap, subst, ◌∙◌, arith}
+use Rattle.std.proofs.Common.{◌≡◌, ◌<◌, ◌≤◌, ◌+◌, ℕ, zero, suc, Some, List, [], ◌∷◌, ◌++◌, length, take, drop, get_or, refl, sym, ap, subst, ◌∙◌, arith}
 use Rattle.std.specs.Prelude.{slice_get}
 use Rattle.std.proofs.lemmas.Option.{slice_get-get_or}
 use Rattle.std.proofs.lemmas.List.{take-append-drop}
@@ -19,8 +19,14 @@ use Rattle.ft_serial.proofs.Listing.{take-next}
 use Rattle.ft_serial.proofs.Lasting.{legal-before, top-later}
 use Rattle.ft_serial.proofs.Reaching.{start, values}
 
-pub event-at : (xs ys : List Event) (i : ℕ) (r e : Event) → xs ≡ ys → i < length ys → r ≡ get_or xs i r → r ≡ e → slice_get ys i ≡ Some e
-event-at xs ys i r e same lt there is = slice_get-get_or ys i r lt ∙ ap Some (ap (λ (zs : List Event). get_or zs i r) (sym same) ∙ sym there ∙ is)
+get-drop : (n : ℕ) (xs : List Event) (i : ℕ) → slice_get (drop n xs) i ≡ slice_get xs (n + i)
+get-drop zero xs i = let is : i ≡ 0 + i = omega arith in ap (slice_get xs) is
+get-drop (suc n) [] i = refl
+get-drop (suc n) (x ∷ xs) i = let is : suc (n + i) ≡ suc n + i = omega arith in get-drop n xs i ∙ ap (slice_get (x ∷ xs)) is
+
+-- the event at a place among those that are not forgotten
+pub event-at : (xs ys : List Event) (n i : ℕ) (r e : Event) → xs ≡ drop n ys → i < length xs → r ≡ get_or xs i r → r ≡ e → slice_get ys (n + i) ≡ Some e
+event-at xs ys n i r e same lt there is = sym (get-drop n ys i) ∙ ap (λ (zs : List Event). slice_get zs i) (sym same) ∙ slice_get-get_or xs i r lt ∙ ap Some (sym there ∙ is)
 
 module _ (core : StoredState) (reached : IsReached core) (n : ℕ) (e : Event) (at : slice_get core.state.events n ≡ Some e) where
   abbrev pub first : List Event
@@ -47,8 +53,8 @@ module _ (core : StoredState) (reached : IsReached core) (n : ℕ) (e : Event) (
       ap (λ (h : History). root (parent posix_calls h) t) whole
       ∙ top-later (start core reached) (values core reached) (told first) (e ∷ rest) all t le
 
-  pub gone-over : (w : Walk) (given : List StampedCall) → w.passed ≡ n + 1 → IsWalk w (first ++ e ∷ []) given → IsWalkOf w core.state given
-  gone-over w given passed walk = subst (λ (es : List Event). IsWalk w es given) (sym (ap (λ m. take m core.state.events) (passed ∙ next) ∙ take-next core.state.events n e at)) walk
+  pub gone-over : (forgotten : ℕ) (w : Walk) (given : List StampedCall) → forgotten + w.passed ≡ n + 1 → IsWalk forgotten w (first ++ e ∷ []) given → IsWalkOf forgotten w core.state given
+  gone-over forgotten w given passed walk = subst (λ (es : List Event). IsWalk forgotten w es given) (sym (ap (λ m. take m core.state.events) (passed ∙ next) ∙ take-next core.state.events n e at)) walk
     where
       next : n + 1 ≡ suc n
       next = omega arith

@@ -1,12 +1,12 @@
 -- A walk goes over one event more, and gives one call more out.
 use Rattle.std.proofs.Common.{◌≡◌, ◌≢◌, ◌<◌, ◌≤◌, ◌+◌, ℕ, Bool, true, false, not, cond, is_some, ◌&&◌, ◌||◌, ◌==◌, Option, Some, None, List, [], ◌∷◌, ◌++◌, map, length, reverse, inl, inr, refl, sym, ap, subst, ◌∙◌, arith, eqb-true, eq-eqb, ne_eqb, append-nil, append_assoc}
-use Rattle.std.specs.Prelude.{nat_le, slice_get}
+use Rattle.std.specs.Prelude.{nat_le}
 use Rattle.std.specs.Cmp.{nat_cmp_total, unsigned_tied}
 use Rattle.std.specs.FinMap as finite
 use Rattle.std.proofs.lemmas.Bool.{false≢true, leb-true, leb-false, or_left, or_right, or_cases, or_parts}
 use Rattle.std.proofs.lemmas.List.{map-append, reverse-append, reverse-reverse}
 use Rattle.ft_laws.specs.Lists.{Each, Pairs, In}
-use Rattle.ft_laws.proofs.Lists.{Each-at, Each-from, Each-map, Each-both, Each-front, Each-back, Pairs-before, In-cases}
+use Rattle.ft_laws.proofs.Lists.{Each-at, Each-both, Each-front, Each-back, Pairs-before, In-cases}
 use Rattle.ft_laws.proofs.Tests.{by_test, by_number}
 use Rattle.ft_posix.specs.declared.call.Call.{Call as CallOf}
 use Rattle.ft_posix.specs.declared.call.Reply.{Reply}
@@ -33,9 +33,11 @@ use Rattle.ft_core.proofs.Known.{lawful_calls}
 use Rattle.ft_core.proofs.Told.{told-push, told_after-append}
 use Rattle.ft_serial.specs.declared.walk.Walk.{Walk}
 use Rattle.ft_serial.specs.Serials.{stamped}
-use Rattle.ft_serial.specs.Places.{Places, listed, places_in, places_from, places_under}
-use Rattle.ft_serial.specs.Walks.{Stamps, without_call, without_calls, call_of, standing_call, option_list, call_at, IsOpen, HasCommitted, IsWalkBy, IsWalk}
-use Rattle.ft_serial.proofs.Listing.{granted_in, grants-are, granted-at, places-agree, places-push, Passes, places-pass, rising-places, stamps-rise, one-call, calls-at, at-front}
+use Rattle.ft_serial.specs.declared.asked.Asked.{Asked}
+use Rattle.ft_serial.specs.Asked.{Lists, listed, asked, calls_in, granted_under}
+use Rattle.ft_serial.specs.Walks.{Stamps, without_calls, stands, standing_call, IsOpen, HasCommitted, IsWalkBy, IsWalk}
+use Rattle.ft_serial.proofs.Listing.{one-call}
+use Rattle.ft_serial.proofs.Listed.{passing-agree, listed-push, each-listed, rising-listed, standing-listed}
 use Rattle.ft_serial.proofs.Lasting.{legal-before, stays, gone-later}
 
 length-push : (events : List Event) (e : Event) → length (events ++ e ∷ []) ≡ length events + 1
@@ -43,7 +45,7 @@ length-push [] e = refl
 length-push (d ∷ events) e = let ih = length-push events e in omega arith
 
 -- the table without one transaction
-removed : (m : Places) (t top : ℕ) → top ≢ t → places_in (finite.remove m t) top ≡ places_in m top
+removed : (m : Lists) (t top : ℕ) → top ≢ t → calls_in (finite.remove m t) top ≡ calls_in m top
 removed m t top ne = ap listed (finite.get-remove nat_cmp_total m t top ∙ ap (λ b. cond b None (finite.get m top)) (unsigned_tied top t ∙ ne_eqb top t ne))
 
 none-pass : (p : Granted → Bool) (calls : List Granted) → ((c : Granted) → p c ≡ false) → passing p calls ≡ []
@@ -54,37 +56,23 @@ none-pass p (c ∷ calls) none = ap (λ b. cond b (c ∷ passing p calls) (passi
 without-stamp : (m : Stamps) (j k : ℕ) → finite.contains_key (finite.remove m j) k ≡ is_some (cond (k == j) None (finite.get m k))
 without-stamp m j k = ap is_some (finite.get-remove nat_cmp_total m j k ∙ ap (λ b. cond b None (finite.get m k)) (unsigned_tied k j))
 
--- the call that is granted there, if there is one, has another stamp
-abbrev HasOther : ℕ → Option Event → Type 0
-HasOther k o = (j u : ℕ) (call : CallOf) (reply : Reply) (accesses : List Access) → o ≡ Some (Call j u call reply accesses) → j ≢ k
+kept-one : (m : Stamps) (j k : ℕ) → k ≢ j → finite.contains_key (finite.remove m j) k ≡ finite.contains_key m k
+kept-one m j k other = without-stamp m j k ∙ ap (λ b. is_some (cond b None (finite.get m k))) (ne_eqb k j other)
 
-kept-one : (m : Stamps) (o : Option Event) (k : ℕ) → HasOther k o → finite.contains_key (without_call m (call_of o)) k ≡ finite.contains_key m k
-kept-one m None k other = refl
-kept-one m (Some (Begin u p)) k other = refl
-kept-one m (Some (Call j u call reply accesses)) k other = without-stamp m j k ∙ ap (λ b. is_some (cond b None (finite.get m k))) (ne_eqb k j (λ e. other j u call reply accesses refl (sym e)))
-kept-one m (Some (Undo j)) k other = refl
-kept-one m (Some (Commit u)) k other = refl
-kept-one m (Some (Abort u)) k other = refl
-
-less-one : (m : Stamps) (o : Option Event) (k : ℕ) → finite.contains_key (without_call m (call_of o)) k ≡ true → finite.contains_key m k ≡ true
-less-one m None k there = there
-less-one m (Some (Begin u p)) k there = there
-less-one m (Some (Call j u call reply accesses)) k there = out (k == j) (finite.get m k) (sym (without-stamp m j k) ∙ there)
+less-one : (m : Stamps) (j k : ℕ) → finite.contains_key (finite.remove m j) k ≡ true → finite.contains_key m k ≡ true
+less-one m j k there = out (k == j) (finite.get m k) (sym (without-stamp m j k) ∙ there)
   where
     out : (b : Bool) (o : Option (Unit {0})) → is_some (cond b None o) ≡ true → is_some o ≡ true
     out true o is = absurd (false≢true is)
     out false o is = is
-less-one m (Some (Undo j)) k there = there
-less-one m (Some (Commit u)) k there = there
-less-one m (Some (Abort u)) k there = there
 
-kept-all : (m : Stamps) (events : List Event) (places : List ℕ) (k : ℕ) → Each (λ place. HasOther k (slice_get events place)) places → finite.contains_key (without_calls m events places) k ≡ finite.contains_key m k
-kept-all m events [] k others = refl
-kept-all m events (place ∷ places) k others = kept-all (without_call m (call_of (slice_get events place))) events places k others.1 ∙ kept-one m (slice_get events place) k others.0
+kept-all : (m : Stamps) (calls : List Asked) (k : ℕ) → Each (λ a. k ≢ a.call.stamp) calls → finite.contains_key (without_calls m calls) k ≡ finite.contains_key m k
+kept-all m [] k others = refl
+kept-all m (a ∷ calls) k others = kept-all (finite.remove m a.call.stamp) calls k others.1 ∙ kept-one m a.call.stamp k others.0
 
-less-all : (m : Stamps) (events : List Event) (places : List ℕ) (k : ℕ) → finite.contains_key (without_calls m events places) k ≡ true → finite.contains_key m k ≡ true
-less-all m events [] k there = there
-less-all m events (place ∷ places) k there = less-one m (slice_get events place) k (less-all (without_call m (call_of (slice_get events place))) events places k there)
+less-all : (m : Stamps) (calls : List Asked) (k : ℕ) → finite.contains_key (without_calls m calls) k ≡ true → finite.contains_key m k ≡ true
+less-all m [] k there = there
+less-all m (a ∷ calls) k there = less-one m a.call.stamp k (less-all (finite.remove m a.call.stamp) calls k there)
 
 module _ (base : HistoryBase posix_calls) (base_sound : posix_calls.IsSound base.store) where
   -- what is open after an event was open before it
@@ -100,7 +88,7 @@ module _ (base : HistoryBase posix_calls) (base_sound : posix_calls.IsSound base
   open-before h (Commit t) legal top o = record { uncommitted = (or_parts (top == t) (is_committed posix_calls h top) o.uncommitted).1; there = o.there }
   open-before h (Abort t) legal top o = record { uncommitted = o.uncommitted; there = (or_parts (over posix_calls h t top) (is_gone posix_calls h top) o.there).1 }
 
-module _ (base : HistoryBase posix_calls) (base_sound : posix_calls.IsSound base.store) (events : List Event) (given : List StampedCall) (w w' : Walk) (was : IsWalk w events given) (none : w.closing.items ≡ []) (passed : w'.passed ≡ w.passed + 1) where
+module _ (base : HistoryBase posix_calls) (base_sound : posix_calls.IsSound base.store) (events : List Event) (given : List StampedCall) (forgotten : ℕ) (w w' : Walk) (was : IsWalk forgotten w events given) (none : w.closing.items ≡ []) (passed : w'.passed ≡ w.passed + 1) where
   abbrev h : History
   h = told events
 
@@ -108,8 +96,8 @@ module _ (base : HistoryBase posix_calls) (base_sound : posix_calls.IsSound base
     abbrev after : History
     after = as_happening e ∷ h
 
-    moved-on : w'.passed ≡ length (events ++ e ∷ [])
-    moved-on = passed ∙ ap (λ n. n + 1) was.passed ∙ sym (length-push events e)
+    moved-on : forgotten + w'.passed ≡ length (events ++ e ∷ [])
+    moved-on = omega (arith, passed, was.passed, length-push events e)
 
     sound : Sound posix_calls lawful_calls base h
     sound = sound_all posix_calls lawful_calls base base_sound h legal.1
@@ -120,35 +108,26 @@ module _ (base : HistoryBase posix_calls) (base_sound : posix_calls.IsSound base
     known-before : (c : Granted) → In c (grants posix_calls h) → IsOpen after (root_of posix_calls after c) → finite.contains_key w.undone c.call.stamp ≡ is_undone posix_calls h c.call.stamp
     known-before c i o = was.known c i (open-before base base_sound h e legal (root_of posix_calls h c) (subst (IsOpen after) (same-root c i) o))
 
-    closed-none : w'.closing.items ≡ [] → Each (HasCommitted w'.undone after (events ++ e ∷ [])) w'.closing.items
-    closed-none empty = subst (Each (HasCommitted w'.undone after (events ++ e ∷ []))) (sym empty) tt
+    closed-none : w'.closing.items ≡ [] → Each (HasCommitted w'.undone after) w'.closing.items
+    closed-none empty = subst (Each (HasCommitted w'.undone after)) (sym empty) tt
 
-    falls-none : w'.closing.items ≡ [] → Pairs (λ x y. y < x) w'.closing.items
-    falls-none empty = subst (Pairs (λ x y. y < x)) (sym empty) tt
+    falls-none : w'.closing.items ≡ [] → Pairs (λ x y. y.call.stamp < x.call.stamp) w'.closing.items
+    falls-none empty = subst (Pairs (λ x y. y.call.stamp < x.call.stamp)) (sym empty) tt
 
     -- an event that adds no committed call
-    split-same : newly_committed posix_calls h (as_happening e) ≡ [] → w'.closing.items ≡ [] → map stamped (committed_part posix_calls after) ≡ given ++ joined (call_at after (events ++ e ∷ [])) (reverse w'.closing.items)
+    split-same : newly_committed posix_calls h (as_happening e) ≡ [] → w'.closing.items ≡ [] → map stamped (committed_part posix_calls after) ≡ given ++ joined (standing_call after) (reverse w'.closing.items)
     split-same nothing empty =
         ap (map stamped) (committed_steps posix_calls lawful_calls base base_sound h (as_happening e) legal ∙ ap (λ cs. committed_part posix_calls h ++ cs) nothing ∙ append-nil (committed_part posix_calls h))
-        ∙ was.split ∙ ap (λ xs. given ++ joined (call_at h events) (reverse xs)) none ∙ sym (ap (λ xs. given ++ joined (call_at after (events ++ e ∷ [])) (reverse xs)) empty)
+        ∙ was.split ∙ ap (λ xs. given ++ joined (standing_call h) (reverse xs)) none ∙ sym (ap (λ xs. given ++ joined (standing_call after) (reverse xs)) empty)
 
-    -- one that grants no call
-    under-same : (m : Places) (top : ℕ) → parent posix_calls after ≡ parent posix_calls h → places_from (length events) (λ t. root (parent posix_calls after) t == top) (e ∷ []) ≡ [] → places_in m top ≡ places_under h events top → places_in m top ≡ places_under after (events ++ e ∷ []) top
-    under-same m top same nothing was =
-        was ∙ ap (λ (up : ℕ → Option ℕ). places_from 0 (λ t. root up t == top) events) (sym same)
-        ∙ sym (append-nil (places_from 0 (λ t. root (parent posix_calls after) t == top) events))
-        ∙ ap (λ xs. places_from 0 (λ t. root (parent posix_calls after) t == top) events ++ xs) (sym nothing)
-        ∙ ap (λ n. places_from 0 (λ t. root (parent posix_calls after) t == top) events ++ places_from n (λ t. root (parent posix_calls after) t == top) (e ∷ [])) (omega arith)
-        ∙ sym (places-push 0 (λ t. root (parent posix_calls after) t == top) events e)
-
-    walks : IsWalkBy w' after (events ++ e ∷ []) given → IsWalk w' (events ++ e ∷ []) given
-    walks by = subst (λ g. IsWalkBy w' g (events ++ e ∷ []) given) (sym (told-push events e)) by
+    walks : IsWalkBy forgotten w' after (events ++ e ∷ []) given → IsWalk forgotten w' (events ++ e ∷ []) given
+    walks by = subst (λ g. IsWalkBy forgotten w' g (events ++ e ∷ []) given) (sym (told-push events e)) by
 
   same-knows : w'.undone ≡ w.undone → (k : ℕ) → finite.contains_key w'.undone k ≡ finite.contains_key w.undone k
   same-knows undone k = ap (λ (m : Stamps). finite.contains_key m k) undone
 
   -- a begin
-  pub walk-begun : (n : ℕ) (up : Option ℕ) → Legal posix_calls base (as_happening (Begin n up) ∷ h) → w'.undone ≡ w.undone → w'.under ≡ w.under → w'.closing.items ≡ [] → IsWalk w' (events ++ Begin n up ∷ []) given
+  pub walk-begun : (n : ℕ) (up : Option ℕ) → Legal posix_calls base (as_happening (Begin n up) ∷ h) → w'.undone ≡ w.undone → w'.under ≡ w.under → w'.closing.items ≡ [] → IsWalk forgotten w' (events ++ Begin n up ∷ []) given
   walk-begun n up legal undone under empty =
       let e : Event = Begin n up in
       let so = sound e legal in
@@ -158,12 +137,8 @@ module _ (base : HistoryBase posix_calls) (base_sound : posix_calls.IsSound base
         undone = λ k there. was.undone k (sym (same-knows undone k) ∙ there);
         known = λ c i o. same-knows undone c.call.stamp ∙ known-before e legal c i o;
         under = λ top o.
-            ap (λ (m : Places). places_in m top) under ∙ was.under top (open-before base base_sound h e legal top o)
-            ∙ places-agree 0 (λ t. root (parent posix_calls h) t == top) (λ t. root (parent posix_calls (after e legal)) t == top) events
-            (subst (Each (λ c. (root (parent posix_calls h) c.asker == top) ≡ (root (parent posix_calls (after e legal)) c.asker == top))) (grants-are events)
-            (Each-from (λ c. (root (parent posix_calls h) c.asker == top) ≡ (root (parent posix_calls (after e legal)) c.asker == top)) (grants posix_calls h) (λ c i. ap (λ r. r == top) (sym (same-root e legal c i)))))
-            ∙ sym (append-nil (places_from 0 (λ t. root (parent posix_calls (after e legal)) t == top) events))
-            ∙ sym (places-push 0 (λ t. root (parent posix_calls (after e legal)) t == top) events e);
+            ap (λ (m : Lists). calls_in m top) under ∙ was.under top (open-before base base_sound h e legal top o)
+            ∙ ap (map asked) (passing-agree (λ c. root_of posix_calls h c == top) (λ c. root_of posix_calls (after e legal) c == top) (grants posix_calls h) (λ c i. ap (λ r. r == top) (sym (same-root e legal c i))));
         closing = closed-none e legal empty;
         falling = falls-none e legal empty;
         split = split-same e legal refl empty;
@@ -171,7 +146,7 @@ module _ (base : HistoryBase posix_calls) (base_sound : posix_calls.IsSound base
 
   -- a granted call
   pub walk-granted : (k t : ℕ) (call : CallOf) (reply : Reply) (accesses : List Access) → Legal posix_calls base (as_happening (Call k t call reply accesses) ∷ h) → w'.undone ≡ w.undone
-      → ((top : ℕ) → places_in w'.under top ≡ cond (top == root (parent posix_calls h) t) (places_in w.under top ++ w.passed ∷ []) (places_in w.under top)) → w'.closing.items ≡ [] → IsWalk w' (events ++ Call k t call reply accesses ∷ []) given
+      → ((top : ℕ) → calls_in w'.under top ≡ cond (top == root (parent posix_calls h) t) (calls_in w.under top ++ asked (granted k t call reply accesses) ∷ []) (calls_in w.under top)) → w'.closing.items ≡ [] → IsWalk forgotten w' (events ++ Call k t call reply accesses ∷ []) given
   walk-granted k t call reply accesses legal undone under empty =
       let e : Event = Call k t call reply accesses in
       let new : Granted = granted k t call reply accesses in
@@ -184,28 +159,25 @@ module _ (base : HistoryBase posix_calls) (base_sound : posix_calls.IsSound base
           | inr j ↦ subst (λ (d : Granted). finite.contains_key w.undone d.call.stamp ≡ is_undone posix_calls h d.call.stamp) (sym (elim j [ inl is ↦ is | inr nothing ↦ absurd nothing ])) unknown
         ];
         under = λ top o.
-            let test : ℕ → Bool = λ u. root (parent posix_calls h) u == top in
+            let test : Granted → Bool = λ c. root_of posix_calls h c == top in
             let old = was.under top (open-before base base_sound h e legal top o) in
             under top ∙ by_number top (root (parent posix_calls h) t)
             (λ is.
-            ap (λ b. cond b (places_in w.under top ++ w.passed ∷ []) (places_in w.under top)) (eq-eqb top (root (parent posix_calls h) t) is)
-            ∙ ap (λ xs. xs ++ w.passed ∷ []) old ∙ ap (λ n. places_from 0 test events ++ n ∷ []) (was.passed ∙ zeroes (length events))
-            ∙ ap (λ b. places_from 0 test events ++ cond b ((0 + length events) ∷ []) []) (sym (eq-eqb (root (parent posix_calls h) t) top (sym is))))
+            ap (λ b. cond b (calls_in w.under top ++ asked new ∷ []) (calls_in w.under top)) (eq-eqb top (root (parent posix_calls h) t) is)
+            ∙ ap (λ xs. xs ++ asked new ∷ []) old
+            ∙ ap (λ b. granted_under h top ++ cond b (asked new ∷ []) []) (sym (eq-eqb (root (parent posix_calls h) t) top (sym is))))
             (λ ne.
-            ap (λ b. cond b (places_in w.under top ++ w.passed ∷ []) (places_in w.under top)) (ne_eqb top (root (parent posix_calls h) t) ne)
-            ∙ old ∙ sym (append-nil (places_from 0 test events))
-            ∙ ap (λ b. places_from 0 test events ++ cond b ((0 + length events) ∷ []) []) (sym (ne_eqb (root (parent posix_calls h) t) top (λ is. ne (sym is)))))
-            ∙ sym (places-push 0 test events e);
+            ap (λ b. cond b (calls_in w.under top ++ asked new ∷ []) (calls_in w.under top)) (ne_eqb top (root (parent posix_calls h) t) ne)
+            ∙ old ∙ sym (append-nil (granted_under h top))
+            ∙ ap (λ b. granted_under h top ++ cond b (asked new ∷ []) []) (sym (ne_eqb (root (parent posix_calls h) t) top (λ is. ne (sym is)))))
+            ∙ sym (listed-push test (grants posix_calls h) new);
         closing = closed-none e legal empty;
         falling = falls-none e legal empty;
         split = split-same e legal refl empty;
       })
-    where
-      zeroes : (n : ℕ) → n ≡ 0 + n
-      zeroes n = omega arith
 
   -- an undo
-  pub walk-undone : (k : ℕ) → Legal posix_calls base (as_happening (Undo k) ∷ h) → w'.undone ≡ finite.insert w.undone k tt → w'.under ≡ w.under → w'.closing.items ≡ [] → IsWalk w' (events ++ Undo k ∷ []) given
+  pub walk-undone : (k : ℕ) → Legal posix_calls base (as_happening (Undo k) ∷ h) → w'.undone ≡ finite.insert w.undone k tt → w'.under ≡ w.under → w'.closing.items ≡ [] → IsWalk forgotten w' (events ++ Undo k ∷ []) given
   walk-undone k legal undone under empty =
       let e : Event = Undo k in
       walks e legal (record {
@@ -215,7 +187,7 @@ module _ (base : HistoryBase posix_calls) (base_sound : posix_calls.IsSound base
           | inr m ↦ or_right (j == k) (is_undone posix_calls h j) (was.undone j m)
         ];
         known = λ c i o. one-more c.call.stamp ∙ ap (λ b. (c.call.stamp == k) || b) (known-before e legal c i o);
-        under = λ top o. under-same e legal w'.under top refl refl (ap (λ (m : Places). places_in m top) under ∙ was.under top (open-before base base_sound h e legal top o));
+        under = λ top o. ap (λ (m : Lists). calls_in m top) under ∙ was.under top (open-before base base_sound h e legal top o);
         closing = closed-none e legal empty;
         falling = falls-none e legal empty;
         split = split-same e legal refl empty;
@@ -231,56 +203,45 @@ module _ (base : HistoryBase posix_calls) (base_sound : posix_calls.IsSound base
           ∙ ap is_some (finite.get-insert nat_cmp_total w.undone k tt j ∙ ap (λ b. cond b (Some tt) (finite.get w.undone j)) (unsigned_tied j k)) ∙ out (j == k) (finite.get w.undone j)
 
   -- an abort
-  pub walk-aborted : (t : ℕ) (more : List Event) → Legal posix_calls base (as_happening (Abort t) ∷ h) → w'.undone ≡ without_calls w.undone (events ++ more) (places_in w.under t) → w'.under ≡ finite.remove w.under t → w'.closing.items ≡ []
-      → IsWalk w' (events ++ Abort t ∷ []) given
-  walk-aborted t more legal undone under empty =
+  pub walk-aborted : (t : ℕ) → Legal posix_calls base (as_happening (Abort t) ∷ h) → w'.undone ≡ without_calls w.undone (calls_in w.under t) → w'.under ≡ finite.remove w.under t → w'.closing.items ≡ []
+      → IsWalk forgotten w' (events ++ Abort t ∷ []) given
+  walk-aborted t legal undone under empty =
       let e : Event = Abort t in
       let so = sound e legal in
       let l = lived posix_calls base.transaction h t legal.0 in
-      let test : ℕ → Bool = λ u. root (parent posix_calls h) u == t in
-      let places : places_in w.under t ≡ places_from 0 test events = was.under t (record { uncommitted = l.uncommitted; there = l.there }) in
+      let calls : calls_in w.under t ≡ granted_under h t = was.under t (record { uncommitted = l.uncommitted; there = l.there }) in
       let fall : (top : ℕ) → IsOpen (after e legal) top → top ≢ t = λ top o is.
       false≢true (sym (or_parts (over posix_calls h t top) (is_gone posix_calls h top) o.there).0 ∙ ap (over posix_calls h t) is ∙ (forest_laws (parent posix_calls h) so.forest).itself t) in
-      let others : (c : Granted) → In c (grants posix_calls h) → IsOpen (after e legal) (root_of posix_calls h c) → Each (λ place. HasOther c.call.stamp (slice_get (events ++ more) place)) (places_in w.under t) = λ c i o.
-      subst (Each (λ place. HasOther c.call.stamp (slice_get (events ++ more) place))) (sym places)
-      (Each-map (Passes (slice_get events) test (length events)) (λ place. HasOther c.call.stamp (slice_get (events ++ more) place))
-      (λ place p j u call reply accesses there is.
-      let at = sym (at-front events more place p.within) ∙ there in
-      let one = one-call (grants posix_calls h) so.rising (granted j u call reply accesses) c (subst (In (granted j u call reply accesses)) (sym (grants-are events)) (granted-at events place j u call reply accesses at)) i is in
-      fall (root_of posix_calls h c) o (sym (ap (root_of posix_calls h) one) ∙ eqb-true (root (parent posix_calls h) u) t (p.passes j u call reply accesses at)))
-      (places_from 0 test events) (places-pass (slice_get events) test (length events) 0 events (omega arith) (λ n lt. ap (slice_get events) (zeroes n)))) in
+      let others : (c : Granted) → In c (grants posix_calls h) → IsOpen (after e legal) (root_of posix_calls h c) → Each (λ a. c.call.stamp ≢ a.call.stamp) (calls_in w.under t) = λ c i o.
+      subst (Each (λ a. c.call.stamp ≢ a.call.stamp)) (sym calls)
+      (each-listed (λ a. c.call.stamp ≢ a.call.stamp) (λ d. root_of posix_calls h d == t) (grants posix_calls h) (λ d j below same.
+      fall (root_of posix_calls h c) o (ap (root_of posix_calls h) (one-call (grants posix_calls h) so.rising c d i j same) ∙ eqb-true (root_of posix_calls h d) t below))) in
       walks e legal (record {
         passed = moved-on e legal;
-        undone = λ j there. was.undone j (less-all w.undone (events ++ more) (places_in w.under t) j (sym (ap (λ (m : Stamps). finite.contains_key m j) undone) ∙ there));
-        known = λ c i o. ap (λ (m : Stamps). finite.contains_key m c.call.stamp) undone ∙ kept-all w.undone (events ++ more) (places_in w.under t) c.call.stamp (others c i o) ∙ known-before e legal c i o;
+        undone = λ j there. was.undone j (less-all w.undone (calls_in w.under t) j (sym (ap (λ (m : Stamps). finite.contains_key m j) undone) ∙ there));
+        known = λ c i o. ap (λ (m : Stamps). finite.contains_key m c.call.stamp) undone ∙ kept-all w.undone (calls_in w.under t) c.call.stamp (others c i o) ∙ known-before e legal c i o;
         under = λ top o.
-            under-same e legal w'.under top refl refl (ap (λ (m : Places). places_in m top) under ∙ removed w.under t top (fall top o) ∙ was.under top (open-before base base_sound h e legal top o));
+            ap (λ (m : Lists). calls_in m top) under ∙ removed w.under t top (fall top o) ∙ was.under top (open-before base base_sound h e legal top o);
         closing = closed-none e legal empty;
         falling = falls-none e legal empty;
         split = split-same e legal refl empty;
       })
-    where
-      zeroes : (i : ℕ) → 0 + i ≡ i
-      zeroes i = omega arith
 
   -- a commit
-  pub walk-committed : (t : ℕ) → Legal posix_calls base (as_happening (Commit t) ∷ h) → w'.undone ≡ w.undone → w'.under ≡ finite.remove w.under t → w'.closing.items ≡ reverse (places_in w.under t) → IsWalk w' (events ++ Commit t ∷ []) given
+  pub walk-committed : (t : ℕ) → Legal posix_calls base (as_happening (Commit t) ∷ h) → w'.undone ≡ w.undone → w'.under ≡ finite.remove w.under t → w'.closing.items ≡ reverse (calls_in w.under t) → IsWalk forgotten w' (events ++ Commit t ∷ []) given
   walk-committed t legal undone under closed =
       let so = sound (Commit t) legal in
       let l = lived posix_calls base.transaction h t legal.0.live in
-      let test : ℕ → Bool = λ u. root (parent posix_calls h) u == t in
-      let next : List Event = events ++ Commit t ∷ [] in
-      let places : places_in w.under t ≡ places_from 0 test events = was.under t (record { uncommitted = l.uncommitted; there = l.there }) in
-      let are : (i : ℕ) → i < length events → slice_get next (0 + i) ≡ slice_get events i = λ i lt. ap (slice_get next) (zeroes i) ∙ at-front events (Commit t ∷ []) i lt in
-      let longer = length-push events (Commit t) in
-      let calls : joined (call_at (as_happening (Commit t) ∷ h) next) (reverse w'.closing.items) ≡ map stamped (calls_under posix_calls h t) =
-      ap (λ xs. joined (call_at (as_happening (Commit t) ∷ h) next) (reverse xs)) closed ∙ ap (joined (call_at (as_happening (Commit t) ∷ h) next)) (reverse-reverse (places_in w.under t) ∙ places)
-      ∙ calls-at (as_happening (Commit t) ∷ h) test (slice_get next) 0 events are
-      ∙ ap (λ cs. map stamped (passing (λ c. test c.asker) (passing (is_standing posix_calls h) cs))) (sym (grants-are events)) in
+      let still : IsOpen h t = record { uncommitted = l.uncommitted; there = l.there } in
+      let test : Granted → Bool = λ c. root_of posix_calls h c == t in
+      let calls : calls_in w.under t ≡ granted_under h t = was.under t still in
+      let due : joined (standing_call (as_happening (Commit t) ∷ h)) (reverse w'.closing.items) ≡ map stamped (calls_under posix_calls h t) =
+      ap (λ xs. joined (standing_call (as_happening (Commit t) ∷ h)) (reverse xs)) closed ∙ ap (joined (standing_call (as_happening (Commit t) ∷ h))) (reverse-reverse (calls_in w.under t) ∙ calls)
+      ∙ standing-listed (as_happening (Commit t) ∷ h) test (grants posix_calls h) in
       let new : newly_committed posix_calls h (as_happening (Commit t)) ≡ calls_under posix_calls h t = by_test (is_some (parent posix_calls h t))
       (λ k.
       ap (λ b. cond b [] (calls_under posix_calls h t)) k
-      ∙ sym (none-pass (λ c. test c.asker) (passing (is_standing posix_calls h) (grants posix_calls h)) (λ c. ne_eqb (root (parent posix_calls h) c.asker) t (λ e.
+      ∙ sym (none-pass test (passing (is_standing posix_calls h) (grants posix_calls h)) (λ c. ne_eqb (root (parent posix_calls h) c.asker) t (λ e.
       false≢true (sym (ap is_some (ap (parent posix_calls h) (sym e) ∙ root_is_top (parent posix_calls h) so.forest c.asker)) ∙ k)))))
       (λ k. ap (λ b. cond b [] (calls_under posix_calls h t)) k) in
       walks (Commit t) legal (record {
@@ -290,46 +251,23 @@ module _ (base : HistoryBase posix_calls) (base_sound : posix_calls.IsSound base
         under = λ top o.
             let tests = or_parts (top == t) (is_committed posix_calls h top) o.uncommitted in
             let other : top ≢ t = λ e. false≢true (sym tests.0 ∙ eq-eqb top t e) in
-            under-same (Commit t) legal w'.under top refl refl
-            (ap (λ (m : Places). places_in m top) under ∙ removed w.under t top other ∙ was.under top (record { uncommitted = tests.1; there = o.there }));
-        closing = subst (Each (HasCommitted w'.undone (as_happening (Commit t) ∷ h) next)) (sym (closed ∙ ap reverse places)) (Each-reverse (HasCommitted w'.undone (as_happening (Commit t) ∷ h) next) (places_from 0 test events)
-            (Each-map (Passes (slice_get next) test (length next)) (HasCommitted w'.undone (as_happening (Commit t) ∷ h) next)
-            (λ place p. record {
-              within = p.within;
-              committed = λ k u call reply accesses there. or_left (root (parent posix_calls h) u == t) (is_committed posix_calls h (root (parent posix_calls h) u)) (p.passes k u call reply accesses there);
-              known = λ k u call reply accesses there.
-                  let c : Granted = granted k u call reply accesses in
-                  same-knows undone k ∙ was.known c (listed-next c (granted-at next place k u call reply accesses there))
-                  (subst (IsOpen h) (sym (eqb-true (root (parent posix_calls h) u) t (p.passes k u call reply accesses there))) (record { uncommitted = l.uncommitted; there = l.there }));
-            })
-            (places_from 0 test events) (places-pass (slice_get next) test (length next) 0 events (omega (arith, longer)) are)));
-        falling = subst (Pairs (λ x y. y < x)) (sym (closed ∙ ap reverse places)) (Pairs-reverse (λ x y. x < y) (places_from 0 test events) (rising-places test events));
+            ap (λ (m : Lists). calls_in m top) under ∙ removed w.under t top other ∙ was.under top (record { uncommitted = tests.1; there = o.there });
+        closing = subst (Each (HasCommitted w'.undone (as_happening (Commit t) ∷ h))) (sym (closed ∙ ap reverse calls)) (Each-reverse (HasCommitted w'.undone (as_happening (Commit t) ∷ h)) (granted_under h t)
+            (each-listed (HasCommitted w'.undone (as_happening (Commit t) ∷ h)) test (grants posix_calls h)
+            (λ c i below. record {
+              granted = (c, i, refl);
+              committed = or_left (root_of posix_calls h c == t) (is_committed posix_calls h (root_of posix_calls h c)) below;
+              known = same-knows undone c.call.stamp ∙ was.known c i (subst (IsOpen h) (sym (eqb-true (root_of posix_calls h c) t below)) still);
+            })));
+        falling = subst (Pairs (λ x y. y.call.stamp < x.call.stamp)) (sym (closed ∙ ap reverse calls)) (Pairs-reverse (λ x y. x.call.stamp < y.call.stamp) (granted_under h t) (rising-listed test (grants posix_calls h) so.rising));
         split =
             ap (map stamped) (committed_steps posix_calls lawful_calls base base_sound h (as_happening (Commit t)) legal ∙ ap (λ cs. committed_part posix_calls h ++ cs) new)
             ∙ map-append stamped (committed_part posix_calls h) (calls_under posix_calls h t)
-            ∙ ap (λ xs. xs ++ map stamped (calls_under posix_calls h t)) (was.split ∙ ap (λ xs. given ++ joined (call_at h events) (reverse xs)) none ∙ append-nil given)
-            ∙ ap (λ xs. given ++ xs) (sym calls);
+            ∙ ap (λ xs. xs ++ map stamped (calls_under posix_calls h t)) (was.split ∙ ap (λ xs. given ++ joined (standing_call h) (reverse xs)) none ∙ append-nil given)
+            ∙ ap (λ xs. given ++ xs) (sym due);
       })
-    where
-      zeroes : (i : ℕ) → 0 + i ≡ i
-      zeroes i = omega arith
-
-      listed-next : (c : Granted) → In c (granted_in (events ++ Commit t ∷ [])) → In c (grants posix_calls h)
-      listed-next c i = subst (λ (g : History). In c (grants posix_calls g)) (told-push events (Commit t)) (subst (In c) (sym (grants-are (events ++ Commit t ∷ []))) i)
 
 -- One call more is given out.
-same-call : (u v : ℕ → Bool) (h g : History) (o : Option Event) → ((k t : ℕ) (call : CallOf) (reply : Reply) (accesses : List Access) → o ≡ Some (Call k t call reply accesses) → (u k ≡ v k) × (is_gone posix_calls h t ≡ is_gone posix_calls g t))
-    → standing_call u h o ≡ standing_call v g o
-same-call u v h g None same = refl
-same-call u v h g (Some (Begin t up)) same = refl
-same-call u v h g (Some (Call k t call reply accesses)) same =
-    let is = same k t call reply accesses refl in
-    ap (λ b. cond (not b && not (is_gone posix_calls h t)) (Some (record { stamp = k; call = call })) None) is.0
-    ∙ ap (λ b. cond (not (v k) && not b) (Some (record { stamp = k; call = call })) None) is.1
-same-call u v h g (Some (Undo k)) same = refl
-same-call u v h g (Some (Commit t)) same = refl
-same-call u v h g (Some (Abort t)) same = refl
-
 module _ (base : HistoryBase posix_calls) (base_sound : posix_calls.IsSound base.store) (events more : List Event) (legal : Legal posix_calls base (told (events ++ more))) where
   first_part : Legal posix_calls base (told_after (told events) more)
   first_part = subst (Legal posix_calls base) (told_after-append [] events more) legal
@@ -337,58 +275,47 @@ module _ (base : HistoryBase posix_calls) (base_sound : posix_calls.IsSound base
   past : Sound posix_calls lawful_calls base (told events)
   past = sound_all posix_calls lawful_calls base base_sound (told events) (legal-before base (told events) more first_part)
 
-  among : (place k t : ℕ) (call : CallOf) (reply : Reply) (accesses : List Access) → slice_get events place ≡ Some (Call k t call reply accesses) → In (granted k t call reply accesses) (grants posix_calls (told events))
-  among place k t call reply accesses there = subst (In (granted k t call reply accesses)) (sym (grants-are events)) (granted-at events place k t call reply accesses there)
-
-  pub walk-taken : (w w' : Walk) (given : List StampedCall) (front : List ℕ) (place : ℕ) (call : Option StampedCall) → IsWalk w events given → w.closing.items ≡ front ++ place ∷ [] → w'.passed ≡ w.passed
-      → w'.undone ≡ without_call w.undone (call_of (slice_get (events ++ more) place)) → w'.under ≡ w.under → w'.closing.items ≡ front
-      → call ≡ standing_call (finite.contains_key w.undone) (told (events ++ more)) (slice_get (events ++ more) place) → IsWalk w' events (given ++ option_list call)
-  walk-taken w w' given front place call was ends passed undone under left is =
+  pub walk-taken : (forgotten : ℕ) (w w' : Walk) (given : List StampedCall) (front : List Asked) (a : Asked) (does : Bool) → IsWalk forgotten w events given → w.closing.items ≡ front ++ a ∷ [] → w'.passed ≡ w.passed
+      → w'.undone ≡ finite.remove w.undone a.call.stamp → w'.under ≡ w.under → w'.closing.items ≡ front
+      → does ≡ stands (finite.contains_key w.undone) (told (events ++ more)) a.call.stamp a.txn → IsWalk forgotten w' events (given ++ cond does (a.call ∷ []) [])
+  walk-taken forgotten w w' given front a does was ends passed undone under left is =
       let h = told events in
-      let closing = subst (Each (HasCommitted w.undone h events)) ends was.closing in
-      let falling = subst (Pairs (λ x y. y < x)) ends was.falling in
-      let own : HasCommitted w.undone h events place = (Each-back (HasCommitted w.undone h events) front (place ∷ []) closing).0 in
-      let one = at-front events more place own.within in
-      let knows : (k : ℕ) → finite.contains_key w'.undone k ≡ finite.contains_key (without_call w.undone (call_of (slice_get (events ++ more) place))) k = λ k. ap (λ (m : Stamps). finite.contains_key m k) undone in
-      let here : call ≡ standing_call (is_undone posix_calls h) h (slice_get events place) =
-      is ∙ ap (standing_call (finite.contains_key w.undone) (told (events ++ more))) one
-      ∙ same-call (finite.contains_key w.undone) (is_undone posix_calls h) (told (events ++ more)) h (slice_get events place)
-      (λ k t c reply accesses there. (
-        own.known k t c reply accesses there,
-        ap (λ (g : History). is_gone posix_calls g t) (told_after-append [] events more)
-            ∙ gone-later base base_sound h more first_part t
-            (Each-at (λ d. d.asker ≤ last_transaction posix_calls base.transaction h) (grants posix_calls h) (granted k t c reply accesses) past.askers (among place k t c reply accesses there))
-            (own.committed k t c reply accesses there),
-      )) in
+      let closing = subst (Each (HasCommitted w.undone h)) ends was.closing in
+      let falling = subst (Pairs (λ x y. y.call.stamp < x.call.stamp)) ends was.falling in
+      let own : HasCommitted w.undone h a = (Each-back (HasCommitted w.undone h) front (a ∷ []) closing).0 in
+      let one = own.granted.0 in
+      let among : In one (grants posix_calls h) = own.granted.1 in
+      let same : a ≡ asked one = own.granted.2 in
+      let knows : (k : ℕ) → finite.contains_key w'.undone k ≡ finite.contains_key (finite.remove w.undone a.call.stamp) k = λ k. ap (λ (m : Stamps). finite.contains_key m k) undone in
+      let asker = ap (λ (x : Asked). x.txn) same in
+      let begun : a.txn ≤ last_transaction posix_calls base.transaction h = subst (λ t. t ≤ last_transaction posix_calls base.transaction h) (sym asker) (Each-at (λ d. d.asker ≤ last_transaction posix_calls base.transaction h) (grants posix_calls h) one past.askers among) in
+      let here : cond does (a.call ∷ []) [] ≡ standing_call h a =
+      ap (λ b. cond b (a.call ∷ []) [])
+      (is ∙ ap (λ b. not b && not (is_gone posix_calls (told (events ++ more)) a.txn)) own.known
+      ∙ ap (λ b. not (is_undone posix_calls h a.call.stamp) && not b) (ap (λ (g : History). is_gone posix_calls g a.txn) (told_after-append [] events more) ∙ gone-later base base_sound h more first_part a.txn begun own.committed)) in
       record {
-        passed = passed ∙ was.passed;
-        undone = λ k there. was.undone k (less-one w.undone (slice_get (events ++ more) place) k (sym (knows k) ∙ there));
+        passed = ap (λ n. forgotten + n) passed ∙ was.passed;
+        undone = λ k there. was.undone k (less-one w.undone a.call.stamp k (sym (knows k) ∙ there));
         known = λ c i o.
             knows c.call.stamp
-            ∙ kept-one w.undone (slice_get (events ++ more) place) c.call.stamp (λ j u d reply accesses there same.
-            let at = sym one ∙ there in
-            let both = one-call (grants posix_calls h) past.rising (granted j u d reply accesses) c (among place j u d reply accesses at) i same in
-            false≢true (sym o.uncommitted ∙ ap (λ (x : Granted). is_committed posix_calls h (root_of posix_calls h x)) (sym both) ∙ own.committed j u d reply accesses at))
+            ∙ kept-one w.undone a.call.stamp c.call.stamp (λ stamps.
+            let both : c ≡ one = one-call (grants posix_calls h) past.rising c one i among (stamps ∙ ap (λ (x : Asked). x.call.stamp) same) in
+            false≢true (sym o.uncommitted ∙ ap (λ t. is_committed posix_calls h (root (parent posix_calls h) t)) (ap (λ (x : Granted). x.asker) both ∙ sym asker) ∙ own.committed))
             ∙ was.known c i o;
-        under = λ top o. ap (λ (m : Places). places_in m top) under ∙ was.under top o;
-        closing = subst (Each (HasCommitted w'.undone h events)) (sym left)
-            (Each-both (HasCommitted w.undone h events) (λ x. place < x) (HasCommitted w'.undone h events)
+        under = λ top o. ap (λ (m : Lists). calls_in m top) under ∙ was.under top o;
+        closing = subst (Each (HasCommitted w'.undone h)) (sym left)
+            (Each-both (HasCommitted w.undone h) (λ x. a.call.stamp < x.call.stamp) (HasCommitted w'.undone h)
             (λ x has lt. record {
-              within = has.within;
+              granted = has.granted;
               committed = has.committed;
-              known = λ k t c reply accesses there.
-                  knows k
-                  ∙ kept-one w.undone (slice_get (events ++ more) place) k (λ j u d answer touched back same.
-                  let earlier : j < k = stamps-rise events place x j k u t d c answer reply touched accesses (subst (Pairs (λ b a. b.call.stamp < a.call.stamp)) (grants-are events) past.rising) lt (sym one ∙ back) there in
-                  omega (arith, same, earlier))
-                  ∙ has.known k t c reply accesses there;
+              known = knows x.call.stamp ∙ kept-one w.undone a.call.stamp x.call.stamp (λ stamps. omega (arith, stamps, lt)) ∙ has.known;
             })
-            front (Each-front (HasCommitted w.undone h events) front (place ∷ []) closing) (Pairs-before (λ x y. y < x) front place [] falling));
-        falling = subst (Pairs (λ x y. y < x)) (sym left) (Pairs-front (λ x y. y < x) front (place ∷ []) falling);
+            front (Each-front (HasCommitted w.undone h) front (a ∷ []) closing) (Pairs-before (λ x y. y.call.stamp < x.call.stamp) front a [] falling));
+        falling = subst (Pairs (λ x y. y.call.stamp < x.call.stamp)) (sym left) (Pairs-front (λ x y. y.call.stamp < x.call.stamp) front (a ∷ []) falling);
         split =
-            was.split ∙ ap (λ xs. given ++ joined (call_at h events) (reverse xs)) ends
-            ∙ ap (λ xs. given ++ joined (call_at h events) xs) (reverse-append front (place ∷ []))
-            ∙ ap (λ xs. given ++ (option_list xs ++ joined (call_at h events) (reverse front))) (sym here)
-            ∙ sym (append_assoc given (option_list call) (joined (call_at h events) (reverse front)))
-            ∙ ap (λ xs. (given ++ option_list call) ++ joined (call_at h events) (reverse xs)) (sym left);
+            was.split ∙ ap (λ xs. given ++ joined (standing_call h) (reverse xs)) ends
+            ∙ ap (λ xs. given ++ joined (standing_call h) xs) (reverse-append front (a ∷ []))
+            ∙ ap (λ xs. given ++ (xs ++ joined (standing_call h) (reverse front))) (sym here)
+            ∙ sym (append_assoc given (cond does (a.call ∷ []) []) (joined (standing_call h) (reverse front)))
+            ∙ ap (λ xs. (given ++ cond does (a.call ∷ []) []) ++ joined (standing_call h) (reverse xs)) (sym left);
       }

@@ -1,4 +1,4 @@
 pub mod Serials
-pub mod Places
+pub mod Asked
 pub mod Walks
 pub mod Commits

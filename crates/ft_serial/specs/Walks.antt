@@ -1,12 +1,10 @@
 -- How a walk along the events of a core stands, inside the crate.
-use Rattle.std.specs.Prelude.{◌≡◌, ◌<◌, ℕ, Bool, true, false, not, cond, ◌&&◌, List, [], ◌∷◌, ◌++◌, Option, Some, None, Result, Ok, Err, map, length, reverse, take, slice_get}
+use Rattle.std.specs.Prelude.{◌≡◌, ◌<◌, ◌+◌, ℕ, Bool, true, false, not, cond, ◌&&◌, List, [], ◌∷◌, ◌++◌, Option, Some, None, Result, Ok, Err, map, length, reverse, take}
 use Rattle.std.specs.Ordering.{nat_cmp}
 use Rattle.std.specs.FinMap as finite
 use Rattle.ft_base.specs.declared.memory.Memory.{Memory}
 use Rattle.ft_laws.specs.Lists.{Each, Pairs, In}
 use Rattle.ft_posix.specs.declared.call.Call.{Call as CallOf}
-use Rattle.ft_posix.specs.declared.call.Reply.{Reply}
-use Rattle.ft_posix.specs.declared.call.Access.{Access}
 use Rattle.ft_posix.specs.declared.stamped.StampedCall.{StampedCall}
 use Rattle.ft_posix.specs.Posix.{posix_calls}
 use Rattle.ft_history.specs.Forest.{root}
@@ -18,9 +16,10 @@ use Rattle.ft_core.specs.declared.request.Event.{Event}
 use Rattle.ft_core.specs.declared.request.Event.TheVariants.{Begin, Call, Undo, Commit, Abort}
 use Rattle.ft_core.specs.Histories.{History, Granted, told}
 use Rattle.ft_core.specs.States.{State}
+use Rattle.ft_serial.specs.declared.asked.Asked.{Asked}
 use Rattle.ft_serial.specs.declared.walk.Walk.{Walk}
 use Rattle.ft_serial.specs.Serials.{stamped, committed_in}
-use Rattle.ft_serial.specs.Places.{places_in, places_under}
+use Rattle.ft_serial.specs.Asked.{asked, calls_in, granted_under}
 
 -- the stamps of calls that were undone
 abbrev pub Stamps : Type 0
@@ -46,27 +45,14 @@ by_call other made (Some (Abort txn)) = other
 abbrev pub call_of : Option Event → Option StampedCall
 call_of = by_call None (λ stamp txn call. Some (record { stamp = stamp; call = call }))
 
--- the stamps without that of a call
-abbrev pub without_call : Stamps → Option StampedCall → Stamps
-without_call undone None = undone
-without_call undone (Some call) = finite.remove undone call.stamp
-
--- the stamps without those of the calls at these places among the events
-abbrev pub without_calls : Stamps → List Event → List ℕ → Stamps
-without_calls undone events [] = undone
-without_calls undone events (place ∷ places) = without_calls (without_call undone (call_of (slice_get events place))) events places
+-- the stamps without those of these calls
+abbrev pub without_calls : Stamps → List Asked → Stamps
+without_calls undone [] = undone
+without_calls undone (call ∷ calls) = without_calls (finite.remove undone call.call.stamp) calls
 
 -- a call is not undone, and nobody at or above its asker is aborted
 abbrev pub stands : (ℕ → Bool) → History → ℕ → ℕ → Bool
 stands undone h stamp txn = not (undone stamp) && not (is_gone posix_calls h txn)
-
--- of the call that an event grants, where it stands, the top-level transaction
-abbrev pub standing_top : (ℕ → Bool) → History → Option Event → Option ℕ
-standing_top undone h = by_call None (λ stamp txn call. cond (stands undone h stamp txn) (Some (root (parent posix_calls h) txn)) None)
-
--- of the call that an event grants, where it stands, the call itself
-abbrev pub standing_call : (ℕ → Bool) → History → Option Event → Option StampedCall
-standing_call undone h = by_call None (λ stamp txn call. cond (stands undone h stamp txn) (Some (record { stamp = stamp; call = call })) None)
 
 -- the call that an event grants stands, and its top-level transaction has not committed
 abbrev pub is_open_call : (ℕ → Bool) → History → Option Event → Bool
@@ -77,54 +63,54 @@ abbrev pub option_list : Option StampedCall → List StampedCall
 option_list None = []
 option_list (Some call) = call ∷ []
 
--- the call at a place among the events, where it stands in the history
-abbrev pub call_at : History → List Event → ℕ → List StampedCall
-call_at h events place = option_list (standing_call (is_undone posix_calls h) h (slice_get events place))
+-- a call, where it stands in the history
+abbrev pub standing_call : History → Asked → List StampedCall
+standing_call h a = cond (stands (is_undone posix_calls h) h a.call.stamp a.txn) (a.call ∷ []) []
 
 -- the top-level transaction has neither committed nor been aborted
 pub record IsOpen (h : History) (top : ℕ) : Type 0 where
   pub uncommitted : is_committed posix_calls h top ≡ false
   pub there : is_gone posix_calls h top ≡ false
 
--- the top-level transaction of the call at this place among the events has committed, and it is
--- known whether the call was undone
-pub record HasCommitted (undone : Stamps) (h : History) (events : List Event) (place : ℕ) : Type 0 where
-  pub within : place < length events
-  pub committed : (stamp txn : ℕ) (call : CallOf) (reply : Reply) (accesses : List Access) → slice_get events place ≡ Some (Call stamp txn call reply accesses) → is_committed posix_calls h (root (parent posix_calls h) txn) ≡ true
-  pub known : (stamp txn : ℕ) (call : CallOf) (reply : Reply) (accesses : List Access) → slice_get events place ≡ Some (Call stamp txn call reply accesses) → finite.contains_key undone stamp ≡ is_undone posix_calls h stamp
+-- this call was granted, its top-level transaction has committed, and it is known whether the call
+-- was undone
+pub record HasCommitted (undone : Stamps) (h : History) (a : Asked) : Type 0 where
+  pub granted : (c : Granted) × In c (grants posix_calls h) × (a ≡ asked c)
+  pub committed : is_committed posix_calls h (root (parent posix_calls h) a.txn) ≡ true
+  pub known : finite.contains_key undone a.call.stamp ≡ is_undone posix_calls h a.call.stamp
 
--- The walk has gone over these events, which are the history, and given these calls out.
-pub record IsWalkBy (walk : Walk) (h : History) (events : List Event) (given : List StampedCall) : Type 0 where
-  pub passed : walk.passed ≡ length events
+-- The walk has gone over these events, which are the history, and given these calls out; so many
+-- events are not counted any more.
+pub record IsWalkBy (forgotten : ℕ) (walk : Walk) (h : History) (events : List Event) (given : List StampedCall) : Type 0 where
+  pub passed : forgotten + walk.passed ≡ length events
   -- It knows no stamp that was not undone,
   pub undone : (stamp : ℕ) → finite.contains_key walk.undone stamp ≡ true → is_undone posix_calls h stamp ≡ true
   -- which calls were undone of the top-level transactions that have not ended,
   pub known : (c : Granted) → In c (grants posix_calls h) → IsOpen h (root_of posix_calls h c) → finite.contains_key walk.undone c.call.stamp ≡ is_undone posix_calls h c.call.stamp
-  -- the places of the calls of each of them,
-  pub under : (top : ℕ) → IsOpen h top → places_in walk.under top ≡ places_under h events top
+  -- the calls of each of them,
+  pub under : (top : ℕ) → IsOpen h top → calls_in walk.under top ≡ granted_under h top
   -- and those of the one that committed last, the newest first,
-  pub closing : Each (HasCommitted walk.undone h events) walk.closing.items
-  pub falling : Pairs (λ x y. y < x) walk.closing.items
+  pub closing : Each (HasCommitted walk.undone h) walk.closing.items
+  pub falling : Pairs (λ x y. y.call.stamp < x.call.stamp) walk.closing.items
   -- of which are all committed calls that were not given out.
-  pub split : map stamped (committed_part posix_calls h) ≡ given ++ joined (call_at h events) (reverse walk.closing.items)
+  pub split : map stamped (committed_part posix_calls h) ≡ given ++ joined (standing_call h) (reverse walk.closing.items)
 
 -- The same, where the history is that of the events.
-abbrev pub IsWalk : Walk → List Event → List StampedCall → Type 0
-IsWalk walk events given = IsWalkBy walk (told events) events given
+abbrev pub IsWalk : ℕ → Walk → List Event → List StampedCall → Type 0
+IsWalk forgotten walk events given = IsWalkBy forgotten walk (told events) events given
 
 -- So it is, where these are the first events of the state.
-abbrev pub IsWalkOf : Walk → State → List StampedCall → Type 0
-IsWalkOf walk s given = IsWalk walk (take walk.passed s.events) given
+abbrev pub IsWalkOf : ℕ → Walk → State → List StampedCall → Type 0
+IsWalkOf forgotten walk s given = IsWalk forgotten walk (take (forgotten + walk.passed) s.events) given
 
 -- What comes of the next call of the transaction that committed last: it is given out, or there
 -- is none.
-abbrev pub IsTaken : Walk → State → List StampedCall → Result (Option StampedCall) Memory → Type 0
-IsTaken walk s given (Ok (Some call)) = IsWalkOf walk s (given ++ call ∷ [])
-IsTaken walk s given (Ok None) = IsWalkOf walk s given × (walk.closing.items ≡ [])
-IsTaken walk s given (Err memory) = IsWalkOf walk s given
+abbrev pub IsTaken : ℕ → Walk → State → List StampedCall → Option StampedCall → Type 0
+IsTaken forgotten walk s given (Some call) = IsWalkOf forgotten walk s (given ++ call ∷ [])
+IsTaken forgotten walk s given None = IsWalkOf forgotten walk s given × (walk.closing.items ≡ [])
 
 -- What comes of the next committed call: it is given out, or all were.
-abbrev pub IsNext : Walk → State → List StampedCall → Result (Option StampedCall) Memory → Type 0
-IsNext walk s given (Ok (Some call)) = IsWalkOf walk s (given ++ call ∷ [])
-IsNext walk s given (Ok None) = IsWalk walk s.events given × (given ≡ committed_in s.events)
-IsNext walk s given (Err memory) = IsWalkOf walk s given
+abbrev pub IsNext : ℕ → Walk → State → List StampedCall → Result (Option StampedCall) Memory → Type 0
+IsNext forgotten walk s given (Ok (Some call)) = IsWalkOf forgotten walk s (given ++ call ∷ [])
+IsNext forgotten walk s given (Ok None) = IsWalk forgotten walk s.events given × (given ≡ committed_in s.events)
+IsNext forgotten walk s given (Err memory) = IsWalkOf forgotten walk s given

@@ -2,10 +2,10 @@
 //! committed, in the order of the commits, and then all other standing calls.
 #![tactic(auto)]
 
+mod asked;
 mod commits;
 pub mod laws;
 mod order;
-mod places;
 mod walk;
 mod way;
 

@@ -4,17 +4,19 @@ ghost use Rattle.std.specs.FinMap as finite;
 ghost use Rattle.ft_core.specs.States.{history};
 ghost use Rattle.ft_core.specs.Reached.{IsReached};
 ghost use Rattle.ft_posix.specs.Posix.{posix_calls};
-ghost use Rattle.ft_history.specs.History.{is_committed};
+ghost use Rattle.ft_history.specs.Forest.{root};
+ghost use Rattle.ft_history.specs.History.{is_committed, parent as parent_of};
 ghost use Rattle.ft_history.specs.Serial.{open_part};
 ghost use Rattle.ft_serial.specs.Serials.{serial_calls, stamped};
-ghost use Rattle.ft_serial.specs.Walks.{is_open_call, IsWalk};
+ghost use Rattle.ft_serial.specs.Walks.{call_of, is_open_call, IsWalk};
 
-use crate::places::copy_at;
 use crate::walk::Walk;
+use crate::way::way_up;
 use ft_base::Memory;
 use ft_calls::StampedCall;
-use ft_core::{State, TxnId};
+use ft_core::{Core, Event, State, TxnId};
 use ft_record::Recorded;
+use std::alloc::Global;
 
 /// All standing calls in the serial order: those of the top-level transactions that have
 /// committed, in the order of the commits, and behind them all others; the calls of one
@@ -27,7 +29,7 @@ pub fn serial(core: &Recorded) -> Result<Vec<StampedCall>, Memory>
 {
     let mut walk = Walk::new(core.alloc());
     let mut calls = Vec::new(core.alloc());
-    while let Some(call) = walk.next(core)? {
+    while let Some(call) = walk.next(core.core(), core.history())? {
         calls.push(call)?;
     }
     list_open(core, &walk, &mut calls)?;
@@ -37,7 +39,7 @@ pub fn serial(core: &Recorded) -> Result<Vec<StampedCall>, Memory>
 /// Lists the standing calls whose top-level transaction has not committed, in the order of their
 /// stamps.
 fn list_open(core: &Recorded, walk: &Walk, calls: &mut Vec<StampedCall>) -> Result<(), Memory>
-    requires { IsWalk walk.now core.now.state.events calls.old.items }
+    requires { IsWalk 0 walk.now core.now.state.events calls.old.items }
     ensures { OnOk result (calls.new.items ≡ calls.old.items ++ map stamped (open_part posix_calls (history core.now.state))) }
 {
     let events = core.history();
@@ -51,24 +53,37 @@ fn list_open(core: &Recorded, walk: &Walk, calls: &mut Vec<StampedCall>) -> Resu
     Ok(())
 }
 
+/// Another one of the call that was granted at a place among the events, where one was.
+fn copy_at(alloc: Global, events: &[Event], place: usize) -> Result<Option<StampedCall>, Memory>
+    ensures { IfOk result (λ call. call ≡ call_of (slice_get events.now place)) }
+{
+    let Some(Event::Call { stamp, call, .. }) = events.get(place) else {
+        return Ok(None);
+    };
+    Ok(Some(StampedCall {
+        stamp: *stamp,
+        call: call.copy(alloc)?,
+    }))
+}
+
 /// Whether a call was granted at a place among the events that stands, and whose top-level
 /// transaction has not committed.
 fn is_open_at(core: &Recorded, walk: &Walk, place: usize) -> bool
     requires { IsReached core.now }
     ensures { result ≡ is_open_call (finite.contains_key walk.now.undone) (history core.now.state) (slice_get core.now.state.events place) }
 {
-    match walk.standing_top(core, place) {
-        Some(top) => !has_committed(core, top),
-        None => false,
-    }
+    let Some(Event::Call { stamp, txn, .. }) = core.history().get(place) else {
+        return false;
+    };
+    walk.stands(core.core(), *stamp, *txn) && !has_committed(core.core(), *txn)
 }
 
-/// Whether a transaction has committed.
-fn has_committed(core: &Recorded, txn: TxnId) -> bool
+/// Whether the top-level transaction at or above a transaction has committed.
+fn has_committed(core: &Core, txn: TxnId) -> bool
     requires { IsReached core.now }
-    ensures { result ≡ is_committed posix_calls (history core.now.state) txn }
+    ensures { result ≡ is_committed posix_calls (history core.now.state) (root (parent_of posix_calls (history core.now.state)) txn) }
 {
-    match core.state(txn) {
+    match core.state(way_up(core, txn).top) {
         Some(State::Committed) => true,
         Some(State::Live | State::Aborted) => false,
         None => false,

@@ -1,39 +1,39 @@
 // A walk along the events of a core that gives the committed calls out.
-ghost use Rattle.std.specs.Prelude.{◌≡◌, ◌<◌, ◌+◌, [], ℕ, List, IfOk, OnOk, OnErr, length, slice_get};
+ghost use Rattle.std.specs.Prelude.{◌≡◌, ◌<◌, ◌+◌, [], ℕ, List, drop, length, OnOk, OnErr};
 ghost use Rattle.std.specs.FinMap as finite;
 ghost use Rattle.ft_posix.specs.declared.stamped.StampedCall.{StampedCall as CallValue};
 ghost use Rattle.ft_core.specs.States.{history};
 ghost use Rattle.ft_core.specs.Reached.{IsReached};
-ghost use Rattle.ft_serial.specs.Walks.{standing_top as standing_top_of, standing_call as standing_call_of, IsWalk, IsWalkOf, IsTaken, IsNext};
+ghost use Rattle.ft_serial.specs.Walks.{stands as stands_in, IsWalk, IsWalkOf, IsTaken, IsNext};
 
-use crate::places::{copy_at, forget, forget_all, push_place};
+use crate::asked::{Asked, forget_all, push_call};
 use crate::way::way_up;
 use ft_base::{Memory, Table};
 use ft_calls::StampedCall;
-use ft_core::{Event, TxnId};
-use ft_record::Recorded;
+use ft_core::laws::reached;
+use ft_core::{Core, Event, TxnId};
 use std::alloc::Global;
 
-/// What has been gone over of a core's events.
+/// What has been gone over of a core's events. It keeps what it has to know of them, so that they
+/// may be forgotten.
 #[derive(Drop)]
 pub(crate) struct Walk {
     alloc: Global,
-    /// How many events that are.
+    /// How many of the events that are kept were gone over.
     pub(crate) passed: usize,
-    /// The stamps that were undone, of the calls whose places are listed below.
+    /// The stamps that were undone, of the calls that are listed below.
     undone: Table<()>,
-    /// For each top-level transaction that has not ended the places of its granted calls among the
-    /// events, the oldest first.
-    under: Table<Vec<usize>>,
-    /// The places of the transaction that committed last which are still to be looked at, the
+    /// For each top-level transaction that has not ended its granted calls, the oldest first.
+    under: Table<Vec<Asked>>,
+    /// The calls of the transaction that committed last which are still to be looked at, the
     /// newest first.
-    closing: Vec<usize>,
+    closing: Vec<Asked>,
 }
 
 impl Walk {
     /// Nothing was gone over. Takes no memory.
     pub(crate) fn new(alloc: Global) -> Walk
-        ensures { IsWalk result [] [] }
+        ensures { IsWalk 0 result [] [] }
     {
         Walk {
             alloc,
@@ -44,63 +44,80 @@ impl Walk {
         }
     }
 
-    /// The next committed call in the serial order, where there is one that was not given out.
-    pub(crate) fn next(&mut self, core: &Recorded) -> Result<Option<StampedCall>, Memory>
-        ensures next { (given : List CallValue) → IsWalkOf self.old core.now.state given → IsNext self.new core.now.state given result }
+    /// The next committed call in the serial order, where there is one that was not given out. The
+    /// events are those of the core but for the forgotten ones.
+    pub(crate) fn next(
+        &mut self,
+        core: &Core,
+        events: &[Event],
+    ) -> Result<Option<StampedCall>, Memory>
+        ensures next { (given : List CallValue) (n : ℕ) → events.now ≡ drop n core.now.state.events → IsWalkOf n self.old core.now.state given → IsNext n self.new core.now.state given result }
         ensures reached { IsReached core.now }
     {
-        let count = core.history().len();
+        reached(core);
         loop {
-            if let Some(call) = self.take_closing(core)? {
+            if let Some(call) = self.take_closing(core) {
                 return Ok(Some(call));
             }
-            if self.passed >= count {
+            if self.passed >= events.len() {
                 return Ok(None);
             }
-            self.pass(core)?;
+            self.pass(core, events)?;
         }
     }
 
-    /// The next call of the transaction that committed last, where there is one.
-    fn take_closing(&mut self, core: &Recorded) -> Result<Option<StampedCall>, Memory>
-        ensures taken { (given : List CallValue) → IsWalkOf self.old core.now.state given → IsTaken self.new core.now.state given result }
+    /// The next call of the transaction that committed last, where there is one. Takes no memory.
+    fn take_closing(&mut self, core: &Core) -> Option<StampedCall>
+        requires { IsReached core.now }
+        ensures taken { (given : List CallValue) (n : ℕ) → IsWalkOf n self.old core.now.state given → IsTaken n self.new core.now.state given result }
         ensures passed { self.new.passed ≡ self.old.passed }
     {
-        while let Some(place) = self.closing.last().copied() {
-            let call = self.standing_call(core, place)?;
-            self.closing.pop();
-            forget(&mut self.undone, core.history(), place);
-            if call.is_some() {
-                return Ok(call);
+        while let Some(asked) = self.closing.pop() {
+            let Asked { txn, call } = asked;
+            let stands = self.stands(core, call.stamp, txn);
+            self.undone.remove(call.stamp);
+            if stands {
+                return Some(call);
             }
         }
-        Ok(None)
+        None
     }
 
     /// Goes over the next event. Want of memory changes nothing.
-    fn pass(&mut self, core: &Recorded) -> Result<(), Memory>
-        requires { self.old.passed < length core.now.state.events }
-        ensures ok { OnOk result ((given : List CallValue) → IsWalkOf self.old core.now.state given → self.old.closing.items ≡ [] → IsWalkOf self.new core.now.state given) }
+    fn pass(&mut self, core: &Core, events: &[Event]) -> Result<(), Memory>
+        requires reached { IsReached core.now }
+        requires next { self.old.passed < length events.now }
+        ensures ok { OnOk result ((given : List CallValue) (n : ℕ) → events.now ≡ drop n core.now.state.events → IsWalkOf n self.old core.now.state given → self.old.closing.items ≡ [] → IsWalkOf n self.new core.now.state given) }
         ensures passed { OnOk result (self.new.passed ≡ self.old.passed + 1) }
-        ensures err { OnErr result ((given : List CallValue) → IsWalkOf self.old core.now.state given → IsWalkOf self.new core.now.state given) }
+        ensures err { OnErr result ((given : List CallValue) (n : ℕ) → IsWalkOf n self.old core.now.state given → IsWalkOf n self.new core.now.state given) }
     {
-        match &core.history()[self.passed] {
-            Event::Call { txn, .. } => {
+        match &events[self.passed] {
+            Event::Call {
+                stamp,
+                txn,
+                call,
+                ..
+            } => {
                 let top = way_up(core, *txn).top;
-                push_place(self.alloc, &mut self.under, top, self.passed)?;
+                let call = call.copy(self.alloc)?;
+                let call = StampedCall {
+                    stamp: *stamp,
+                    call,
+                };
+                push_call(self.alloc, &mut self.under, top, Asked { txn: *txn, call })?;
             }
             Event::Undo { stamp } => {
                 self.undone.insert(*stamp, ())?;
             }
             Event::Commit { txn } => {
-                if let Some(mut places) = self.under.remove(txn.0) {
-                    places.reverse();
-                    self.closing = places;
+                if let Some(mut calls) = self.under.remove(txn.0) {
+                    calls.reverse();
+                    self.closing = calls;
                 }
             }
             Event::Abort { txn } => {
-                if let Some(places) = self.under.remove(txn.0) {
-                    forget_all(&mut self.undone, core.history(), &places);
+                if let Some(calls) = self.under.remove(txn.0) {
+                    forget_all(&mut self.undone, &calls);
                 }
             }
             Event::Begin { .. } => {}
@@ -109,30 +126,12 @@ impl Walk {
         Ok(())
     }
 
-    /// The call that was granted at a place among the events, where it stands.
-    fn standing_call(&self, core: &Recorded, place: usize) -> Result<Option<StampedCall>, Memory>
-        ensures { IfOk result (λ call. call ≡ standing_call_of (finite.contains_key self.now.undone) (history core.now.state) (slice_get core.now.state.events place)) }
+    /// Whether a call that was granted stands: it is not undone, and nobody at or above who asked
+    /// for it is aborted.
+    pub(crate) fn stands(&self, core: &Core, stamp: u64, txn: TxnId) -> bool
+        requires { IsReached core.now }
+        ensures { result ≡ stands_in (finite.contains_key self.now.undone) (history core.now.state) stamp txn }
     {
-        if self.standing_top(core, place).is_none() {
-            return Ok(None);
-        }
-        copy_at(self.alloc, core.history(), place)
-    }
-
-    /// The top-level transaction of that call, where the call stands.
-    pub(crate) fn standing_top(&self, core: &Recorded, place: usize) -> Option<TxnId>
-        ensures { result ≡ standing_top_of (finite.contains_key self.now.undone) (history core.now.state) (slice_get core.now.state.events place) }
-    {
-        let Some(Event::Call { stamp, txn, .. }) = core.history().get(place) else {
-            return None;
-        };
-        if self.undone.contains(*stamp) {
-            return None;
-        }
-        let way = way_up(core, *txn);
-        if way.is_gone {
-            return None;
-        }
-        Some(way.top)
+        !self.undone.contains(stamp) && !way_up(core, txn).is_gone
     }
 }

@@ -7,8 +7,7 @@ ghost use Rattle.ft_core.specs.States.{history, fate_of};
 ghost use Rattle.ft_core.specs.Reached.{IsReached};
 ghost use Rattle.ft_serial.specs.Walks.{is_aborted as is_aborted_fate};
 
-use ft_core::{State, TxnId};
-use ft_record::Recorded;
+use ft_core::{Core, State, TxnId};
 
 /// Where the way up from a transaction leads.
 #[derive(Clone, Copy)]
@@ -20,7 +19,7 @@ pub(crate) struct Way {
 }
 
 /// Goes up from a transaction. Takes the time of its depth.
-pub(crate) fn way_up(core: &Recorded, txn: TxnId) -> Way
+pub(crate) fn way_up(core: &Core, txn: TxnId) -> Way
     requires { IsReached core.now }
     ensures top { result.top ≡ root (parent_of posix_calls (history core.now.state)) txn }
     ensures gone { result.is_gone ≡ is_gone_of posix_calls (history core.now.state) txn }
@@ -36,7 +35,7 @@ pub(crate) fn way_up(core: &Recorded, txn: TxnId) -> Way
 }
 
 /// Whether a transaction is aborted.
-fn is_aborted(core: &Recorded, txn: TxnId) -> bool
+fn is_aborted(core: &Core, txn: TxnId) -> bool
     ensures { result ≡ is_aborted_fate (fate_of core.now.state txn) }
 {
     match core.state(txn) {

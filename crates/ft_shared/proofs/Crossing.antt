@@ -6,6 +6,7 @@ use denote.Param.Send.{IsSend, IsSync, sendable}
 use Rattle.std.proofs.Crossing.{crosses}
 use Rattle.ft_record.proofs.Crossing.{Recorded-send}
 use Rattle.ft_book.specs.declared.book.Naming as naming
+use Rattle.ft_shared.specs.declared.shareable.Shareable as shareable
 use Rattle.left_right.proofs.writer.Writer.TheSendSync as writer
 use Rattle.ft_posix.proofs.stamped.StampedCall.TheSendSync as stamped
 use Rattle.ft_book.proofs.book.Book.TheSendSync as book
@@ -14,6 +15,7 @@ use Rattle.ft_view.proofs.view.View.TheSendSync as view
 use Rattle.ft_view.proofs.view.Published.TheSendSync as published
 use Rattle.ft_serial.proofs.walk.Walk.TheSendSync as walk
 use Rattle.ft_serial.specs.contracts.commits.Commits as Commits
+use Rattle.ft_record.specs.contracts.recorded.Recorded as Recorded
 use Rattle.ft_shared.specs.contracts.publisher.Publisher as Publisher
 use Rattle.ft_shared.specs.contracts.behind.Behind as Behind
 use Rattle.ft_shared.specs.contracts.shared.Shared as Shared
@@ -25,8 +27,10 @@ module _ (J : RattleType) (views : naming.Ghosts J.Denot) where
   Publisher-send : IsSend (Publisher.the_row J views)
   Publisher-send = search (writer.the_field_send, Commits-send, book.the_send, front.the_send, view.the_send, view.the_sync, published.the_send, stamped.the_send, crosses, sendable) depth 60
 
-  Behind-send : IsSend (Behind.the_row J views)
-  Behind-send = search (Recorded-send, Publisher-send, crosses, sendable) depth 40
+  -- a record behind a lock
+  module _ (core : shareable.Ghosts Recorded.the_row.Denot) where
+    Behind-send : IsSend (Behind.the_row J Recorded.the_row views core)
+    Behind-send = search (Recorded-send, Publisher-send, crosses, sendable) depth 40
 
-  pub Shared-sync : IsSync (Shared.the_row J views)
-  Shared-sync = search (Behind-send, crosses, sendable) depth 40
+    pub Shared-sync : IsSync (Shared.the_row J Recorded.the_row views core)
+    Shared-sync = search (Behind-send, crosses, sendable) depth 40

@@ -1,3 +1,4 @@
+pub mod Sharing
 pub mod Behind
 pub mod Publishing
 pub mod Opening

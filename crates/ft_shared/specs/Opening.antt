@@ -2,6 +2,7 @@
 use Rattle.std.specs.Prelude.{◌≡◌, [], refl}
 use Rattle.std.specs.Coded.{Coded, code_by, coded×}
 use Rattle.logbook.specs.Pages.{Book, book_coded}
+use Rattle.ft_cells.specs.Plain.{PlainTree}
 use Rattle.ft_core.specs.declared.fault.Fault.TheVariants.{Live}
 use Rattle.ft_core.specs.Living.{SomeIsLive, NoneIsLive}
 use Rattle.ft_core.specs.States.{State, StoredState, coded_stored}
@@ -20,12 +21,16 @@ pub record Opening : Type 0 where
 abbrev pub coded_opening : Coded Opening
 coded_opening = code_by (StoredState × Book) (coded× coded_stored book_coded) (λ o. (o.core, o.book)) (λ p. record { core = p.0; book = p.1 }) (λ _. refl)
 
--- Both copies are the core's base, with nothing in their list.
-pub record IsOpened (core : State) (book : Book) (nothing : Fronted) (first second : Shown) : Type 0 where
+-- Both copies are this tree, with nothing in their list.
+pub record AreCopies (base : PlainTree) (book : Book) (nothing : Fronted) (first second : Shown) : Type 0 where
   pub of_book : nothing.book ≡ book
   pub empty : nothing.calls ≡ []
-  pub one : first ≡ record { tree = core.base.tree; front = nothing }
-  pub other : second ≡ record { tree = core.base.tree; front = nothing }
+  pub one : first ≡ record { tree = base; front = nothing }
+  pub other : second ≡ record { tree = base; front = nothing }
+
+-- the tree is that of the core's base
+abbrev pub IsOpened : State → Book → Fronted → Shown → Shown → Type 0
+IsOpened core book nothing first second = AreCopies core.base.tree book nothing first second
 
 -- what a name of them names
 abbrev pub named_by : Opening → Views

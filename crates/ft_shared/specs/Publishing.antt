@@ -1,7 +1,7 @@
 -- What is published, and what the writer of the views was given.
 use Rattle.std.specs.Prelude.{◌≡◌, ◌⊎◌, ℕ, List, [], ◌∷◌, ◌++◌, drop, fold, refl, Option, Some, None, Result, OnOk, OnErr}
 use mathlib.Core.List.{IsPrefix}
-use Rattle.std.specs.Coded.{Coded, code_by, coded×, coded_list, coded_option}
+use Rattle.std.specs.Coded.{Coded, code_by, coded×, coded_ℕ, coded_list, coded_option}
 use Rattle.logbook.specs.Pages.{Book}
 use Rattle.ft_base.specs.declared.memory.Memory.{Memory}
 use Rattle.ft_cells.specs.Plain.{PlainTree}
@@ -69,9 +69,11 @@ pub record IsPublishing (opened : Views) (book : Book) (shown : Shown) (behind :
   pub given : commits.given ≡ fed.calls ++ listed held
   pub stands : IsPrefix commits.given (committed_in commits.events)
 
--- what stands behind the lock: a core, and the list that is published where it has views
+-- what stands behind the lock: a core, how many events it has forgotten where it keeps any, and the
+-- list that is published where it has views
 pub record Backed : Type 0 where
   pub core : StoredState
+  pub forgotten : Option ℕ
   pub published : Option Calls
 
 -- the list that readers see, where there are views
@@ -79,16 +81,17 @@ abbrev pub published_in : Option Publishing → Option Calls
 published_in None = None
 published_in (Some p) = Some p.published
 
--- The views start from the core's base, and the events that the publisher has gone over are a
--- beginning of the core's.
-pub record IsPublisherOf (start : PlainTree) (core : State) (p : Publishing) : Type 0 where
+-- The views start from the core's base, the events that the publisher has gone over are a beginning
+-- of the core's, and it knows which ones are forgotten.
+pub record IsPublisherOf (start : PlainTree) (core : State) (forgotten : Option ℕ) (p : Publishing) : Type 0 where
   pub base : core.base.tree ≡ start
   pub passed : IsPrefix p.commits.events core.events
+  pub forgotten_is : forgotten ≡ Some p.commits.forgotten
 
 -- so it is of a core that has views; of one that has none, nothing
-abbrev pub ArePublished : PlainTree → State → Option Publishing → Type 0
-ArePublished start core None = Unit {0}
-ArePublished start core (Some p) = IsPublisherOf start core p
+abbrev pub ArePublished : PlainTree → State → Option ℕ → Option Publishing → Type 0
+ArePublished start core forgotten None = Unit {0}
+ArePublished start core forgotten (Some p) = IsPublisherOf start core forgotten p
 
 -- why nothing was published: NoViews where there are no views, else Memory
 abbrev pub fault_of_publish : Option Calls → Fault
@@ -97,7 +100,7 @@ fault_of_publish (Some calls) = MemoryFault
 
 -- how what was gone over is coded
 abbrev pub coded_gone_over : Coded GoneOver
-coded_gone_over = code_by (List Event × Calls) (coded× (coded_list event.the_row.coded) coded_calls) (λ g. (g.events, g.given)) (λ p. record { events = p.0; given = p.1 }) (λ _. refl)
+coded_gone_over = code_by (List Event × (ℕ × Calls)) (coded× (coded_list event.the_row.coded) (coded× coded_ℕ coded_calls)) (λ g. (g.events, (g.forgotten, g.given))) (λ p. record { events = p.0; forgotten = p.1.0; given = p.1.1 }) (λ _. refl)
 
 -- how what a publisher has is coded
 abbrev pub coded_publishing : Coded Publishing
@@ -105,4 +108,4 @@ coded_publishing = code_by (Calls × (Calls × (Calls × (Option StampedCall × 
 
 -- how what stands behind the lock is coded
 abbrev pub coded_backed : Coded Backed
-coded_backed = code_by (StoredState × Option Calls) (coded× coded_stored (coded_option coded_calls)) (λ b. (b.core, b.published)) (λ p. record { core = p.0; published = p.1 }) (λ _. refl)
+coded_backed = code_by (StoredState × (Option ℕ × Option Calls)) (coded× coded_stored (coded× (coded_option coded_ℕ) (coded_option coded_calls))) (λ b. (b.core, (b.forgotten, b.published))) (λ p. record { core = p.0; forgotten = p.1.0; published = p.1.1 }) (λ _. refl)

@@ -1,5 +1,5 @@
 // What stands behind the lock.
-ghost use Rattle.std.specs.Prelude.{◌≡◌, length, Some, None, IfSome, IfOk, IfErr, OnOk, OnErr};
+ghost use Rattle.std.specs.Prelude.{◌≡◌, length, cond, Some, None, IfSome, IfOk, IfErr, OnOk, OnErr};
 ghost use mathlib.Core.List.{IsPrefix};
 ghost use Rattle.ft_core.specs.declared.request.Request.TheVariants.{Begin, Sub, Ask, Retry, Drop as DropAsk, Commit};
 ghost use Rattle.ft_core.specs.declared.request.Answer.TheVariants.{Txn, Dropped, Committed, Aborted, Undone};
@@ -10,10 +10,10 @@ ghost use Rattle.ft_shared.specs.Behind.{IsAborted, IsUndone};
 ghost use Rattle.ft_shared.specs.Publishing.{IsPublisherOf, fault_of_publish};
 
 use crate::publisher::Publisher;
+use crate::shareable::Shareable;
 use ft_calls::Call;
-use ft_core::{Fault, Outcome, TxnId};
-use ft_record::Recorded;
-use ft_record::laws::reached;
+use ft_core::laws::reached;
+use ft_core::{Core, Fault, Outcome, TxnId};
 use ft_view::{Naming, Receipt};
 use std::marker::Model;
 use std::sync::Wait;
@@ -23,27 +23,27 @@ use std::sync::Wait;
 ///
 /// What is published is a beginning of the committed part of the core's serial list, whatever is
 /// requested. It is not `Drop`: end it by `end`.
-pub struct Behind<J: Naming> {
-    core: Recorded,
+pub struct Behind<J: Naming, C: Shareable> {
+    core: C,
     publisher: Option<Publisher<J>>,
 }
 
-impl<J: Naming> Model for Behind<J> {
+impl<J: Naming, C: Shareable> Model for Behind<J, C> {
     ghost use Rattle.ft_shared.specs.Publishing.{Backed, coded_backed, published_in, ArePublished};
 
     ghost Value = { Backed };
 
     ghost coded = { coded_backed };
 
-    ghost view = { λ a. record { core = a.core; published = published_in a.publisher } };
+    ghost view = { λ a. record { core = C.stored a.core; forgotten = C.forgotten a.core; published = published_in a.publisher } };
 
-    ghost invariant = { λ a. ArePublished J.opened.base a.core.state a.publisher };
+    ghost invariant = { λ a. ArePublished J.opened.base (C.stored a.core).state (C.forgotten a.core) a.publisher };
 }
 
-impl<J: Naming> Behind<J> {
+impl<J: Naming, C: Shareable> Behind<J, C> {
     /// A core that has no views.
-    pub(crate) fn alone(core: Recorded) -> Behind<J>
-        ensures core { result.core ≡ core }
+    pub(crate) fn alone(core: C) -> Behind<J, C>
+        ensures core { result.core ≡ C.stored core }
         ensures published { result.published ≡ None }
     {
         Behind {
@@ -53,9 +53,9 @@ impl<J: Naming> Behind<J> {
     }
 
     /// A core with its views.
-    pub(crate) fn with_views(core: Recorded, publisher: Publisher<J>) -> Behind<J>
-        requires { IsPublisherOf J.opened.base core.state publisher }
-        ensures core { result.core ≡ core }
+    pub(crate) fn with_views(core: C, publisher: Publisher<J>) -> Behind<J, C>
+        requires { IsPublisherOf J.opened.base (C.stored core).state (C.forgotten core) publisher }
+        ensures core { result.core ≡ C.stored core }
         ensures published { result.published ≡ Some publisher.published }
     {
         Behind {
@@ -65,10 +65,10 @@ impl<J: Naming> Behind<J> {
     }
 
     /// The core.
-    pub fn core(&self) -> &Recorded
+    pub fn core(&self) -> &Core
         ensures { result.now ≡ self.now.core }
     {
-        &self.core
+        self.core.core()
     }
 
     /// What is true whenever the lock is got: the history of the core is legal, from a sound base,
@@ -78,7 +78,7 @@ impl<J: Naming> Behind<J> {
         ensures reached { IsReached self.now.core }
         ensures published { IfSome self.now.published (λ calls. IsPrefix calls (committed_calls self.now.core.state)) }
     {
-        reached(&self.core);
+        reached(self.core.core());
         if let Some(publisher) = &self.publisher {
             publisher.stands();
         }
@@ -173,16 +173,23 @@ impl<J: Naming> Behind<J> {
         ensures receipt { IfOk result (λ told. told.1 ≡ committed_calls self.old.core.state) }
         ensures same { OnErr result (self.new.published ≡ self.old.published) }
         ensures fault { IfErr result (λ fault. fault ≡ fault_of_publish self.old.published) }
+
+        // What has happened is forgotten then, if the core ever forgets.
+        ensures forgotten { OnOk result (self.new.forgotten ≡ cond C.forgets (Some (length self.old.core.state.events)) self.old.forgotten) }
     {
         let Some(publisher) = &mut self.publisher else {
             return Err(Fault::NoViews);
         };
-        Ok(publisher.publish(rt, &self.core)?)
+        let told = publisher.publish(rt, self.core.core(), self.core.events())?;
+        if self.core.forget() {
+            publisher.forget(self.core.core());
+        }
+        Ok(told)
     }
 
     /// Ends the views, and gives the core back.
-    pub(crate) fn end<R: Wait>(self, rt: &R) -> Recorded
-        ensures { result ≡ self.core }
+    pub(crate) fn end<R: Wait>(self, rt: &R) -> C
+        ensures { C.stored result ≡ self.core }
     {
         let Behind { core, publisher } = self;
         match publisher {

@@ -7,9 +7,11 @@ pub mod laws;
 mod manager;
 mod opened;
 mod publisher;
+mod shareable;
 mod shared;
 
 pub use manager::Manager;
 pub use opened::{Cause, Opened, ViewsRefused, with_views};
 pub use publisher::MOST_READERS;
+pub use shareable::Shareable;
 pub use shared::{MOST_PAUSE, Refused, Shared};

@@ -41,7 +41,7 @@ pub trait Manager: Sync {
     fn into_core<R: Wait>(self, rt: &R) -> Recorded;
 }
 
-impl<J: Naming> Manager for Shared<J> {
+impl<J: Naming> Manager for Shared<J, Recorded> {
     fn begin<R: Wait>(&self, rt: &R) -> Result<TxnId, Fault> {
         self.begin(rt)
     }

@@ -1,36 +1,42 @@
 // Views that were opened.
-ghost use Rattle.std.specs.Prelude.{◌≡◌, [], IfOk, IfErr, MatchResult};
+ghost use Rattle.std.specs.Prelude.{◌≡◌, [], Some, IfOk, IfErr, MatchResult};
+ghost use Rattle.ft_tree.specs.Tidy.{tidy};
 ghost use Rattle.ft_core.specs.Living.{NoneIsLive};
-ghost use Rattle.ft_shared.specs.Opening.{named_by, IsOpened, IsRefused, IsNameless};
+ghost use Rattle.ft_view.specs.Replay.{IsReadable};
+ghost use Rattle.ft_shared.specs.Opening.{named_by, AreCopies, IsRefused, IsNameless};
 
 use crate::behind::Behind;
 use crate::publisher::{Blank, Publisher};
+use crate::shareable::Shareable;
 use crate::shared::Shared;
 use ft_base::Memory;
 use ft_book::Book;
 use ft_core::Fault;
 use ft_record::Recorded;
+use ft_tree::Tree;
 use ft_view::{Naming, Reader, View, ViewFault};
+use std::alloc::Global;
 use std::marker::Model;
 use std::sync::Wait;
 
 /// A core whose views are opened and have no name yet. Clauses see the core and the book.
 #[derive(Drop)]
-pub struct Opened {
-    core: Recorded,
+pub struct Opened<C: Shareable = Recorded> {
+    core: C,
     blank: Blank,
 }
 
-impl Model for Opened {
+impl<C: Shareable> Model for Opened<C> {
+    ghost use Rattle.std.specs.Prelude.{◌≡◌, Some};
     ghost use Rattle.ft_shared.specs.Opening.{Opening, coded_opening, IsOpened};
 
     ghost Value = { Opening };
 
     ghost coded = { coded_opening };
 
-    ghost view = { λ a. record { core = a.core; book = a.blank.book } };
+    ghost view = { λ a. record { core = C.stored a.core; book = a.blank.book } };
 
-    ghost invariant = { λ a. IsOpened a.core.state a.blank.book a.blank.nothing a.blank.first a.blank.second };
+    ghost invariant = { λ a. (C.forgotten a.core ≡ Some 0) × IsOpened (C.stored a.core).state a.blank.book a.blank.nothing a.blank.first a.blank.second };
 }
 
 /// Why a core has no views: it can't be shared, or want of memory or of a place for the reader.
@@ -42,8 +48,8 @@ pub enum Cause {
 
 /// A core that has no views, and why.
 #[derive(Drop)]
-pub struct ViewsRefused {
-    pub core: Recorded,
+pub struct ViewsRefused<C = Recorded> {
+    pub core: C,
     pub cause: Cause,
 }
 
@@ -51,16 +57,18 @@ pub struct ViewsRefused {
 /// committed.
 ///
 /// Refuses Live where a transaction is live, and then want of memory, and hands the core back.
-pub fn with_views(core: Recorded) -> Result<Opened, ViewsRefused>
-    ensures { MatchResult result (λ opened. (opened.core ≡ core) × NoneIsLive core.state) (λ refused. (refused.core ≡ core) × IsRefused core.state refused.cause) }
+pub fn with_views<C: Shareable>(core: C) -> Result<Opened<C>, ViewsRefused<C>>
+    requires kept { C.forgotten core ≡ Some 0 }
+    requires base { C.knows_base core }
+    ensures { MatchResult result (λ opened. (opened.core ≡ C.stored core) × NoneIsLive (C.stored core).state) (λ refused. (refused.core ≡ core) × IsRefused (C.stored core).state refused.cause) }
 {
-    if core.has_live() {
+    if core.core().has_live() {
         return Err(ViewsRefused {
             core,
             cause: Cause::Fault(Fault::Live),
         });
     }
-    match blank(&core) {
+    match blank(core.core().alloc(), core.base()) {
         Ok(blank) => Ok(Opened { core, blank }),
         Err(Memory) => Err(ViewsRefused {
             core,
@@ -69,33 +77,36 @@ pub fn with_views(core: Recorded) -> Result<Opened, ViewsRefused>
     }
 }
 
-/// Two copies of the core's base, with nothing of a new book.
-fn blank(core: &Recorded) -> Result<Blank, Memory>
-    ensures { IfOk result (λ blank. IsOpened core.now.state blank.book blank.nothing blank.first blank.second) }
+/// Two copies of the base, with nothing of a new book.
+fn blank(alloc: Global, base: &Tree) -> Result<Blank, Memory>
+    requires { IsReadable base.now }
+    ensures { IfOk result (λ blank. AreCopies (tidy base.now) blank.book blank.nothing blank.first blank.second) }
 {
-    let base = core.base();
     let (first, second) = (base.copy()?, base.copy()?);
     let (book, nothing) = Book::new();
     Ok(Blank {
         book,
-        first: View::new(core.alloc(), first, nothing.again()),
-        second: View::new(core.alloc(), second, nothing.again()),
+        first: View::new(alloc, first, nothing.again()),
+        second: View::new(alloc, second, nothing.again()),
         nothing,
     })
 }
 
-impl Opened {
+impl<C: Shareable> Opened<C> {
     /// Names the views, and makes of them what threads share and a reader that has seen nothing.
     ///
     /// The name, `J`, is in the proofs alone: it ties readers and receipts to these views. Refuses
     /// want of memory and then of a place for the reader, and hands the core back.
-    pub fn named<J: Naming, R: Wait>(self, rt: &R) -> Result<(Shared<J>, Reader<J>), ViewsRefused>
+    pub fn named<J: Naming, R: Wait>(
+        self,
+        rt: &R,
+    ) -> Result<(Shared<J, C>, Reader<J>), ViewsRefused<C>>
         requires { named_by self ≡ J.opened }
         ensures reader { IfOk result (λ named. named.1 ≡ []) }
-        ensures refused { IfErr result (λ refused. (refused.core ≡ self.core) × IsNameless refused.cause) }
+        ensures refused { IfErr result (λ refused. (C.stored refused.core ≡ self.core) × IsNameless refused.cause) }
     {
         let Opened { core, blank } = self;
-        let alloc = core.alloc();
+        let alloc = core.core().alloc();
         let nothing = blank.nothing.again();
         let publisher = match Publisher::<J>::new(alloc, blank) {
             Ok(publisher) => publisher,

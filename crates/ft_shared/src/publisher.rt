@@ -1,5 +1,5 @@
 // What publishes the committed calls of a core.
-ghost use Rattle.std.specs.Prelude.{◌≡◌, ◌++◌, ◌∷◌, [], length, None, MatchBool, IfOk, IsSome, OnOk, OnErr};
+ghost use Rattle.std.specs.Prelude.{◌≡◌, ◌++◌, ◌∷◌, [], drop, length, None, MatchBool, IfOk, IsSome, OnOk, OnErr};
 ghost use mathlib.Core.List.{IsPrefix};
 ghost use Rattle.ft_serial.specs.Serials.{committed_calls, committed_in};
 ghost use Rattle.ft_shared.specs.Publishing.{IsPublishable, IsPublished, listed};
@@ -8,7 +8,7 @@ use core::mem::replace_with;
 use ft_base::Memory;
 use ft_book::{Book, Front, Naming};
 use ft_calls::StampedCall;
-use ft_record::Recorded;
+use ft_core::{Core, Event};
 use ft_serial::Commits;
 use ft_view::{Inner, Published, Receipt, Shows, View, ViewFault, Writing};
 use std::alloc::Global;
@@ -63,6 +63,7 @@ impl<J: Naming> Publisher<J> {
         requires second { blank.second ≡ record { tree = J.opened.base; front = blank.nothing } }
         ensures published { IfOk result (λ publisher. publisher.published ≡ []) }
         ensures passed { IfOk result (λ publisher. publisher.commits.events ≡ []) }
+        ensures forgotten { IfOk result (λ publisher. publisher.commits.forgotten ≡ 0) }
     {
         let Blank {
             book,
@@ -103,45 +104,65 @@ impl<J: Naming> Publisher<J> {
     pub(crate) fn publish<R: Wait>(
         &mut self,
         rt: &R,
-        core: &Recorded,
+        core: &Core,
+        events: &[Event],
     ) -> Result<(u64, Receipt<J>), Memory>
-        requires { IsPrefix self.old.commits.events core.now.state.events }
+        requires passed { IsPrefix self.old.commits.events core.now.state.events }
+        requires events { events.now ≡ drop self.old.commits.forgotten core.now.state.events }
+        ensures forgotten { self.new.commits.forgotten ≡ self.old.commits.forgotten }
         ensures passed { IsPrefix self.new.commits.events core.now.state.events }
+        ensures gone { OnOk result (self.new.commits.events ≡ core.now.state.events) }
         ensures whole { OnOk result (self.new.published ≡ committed_calls core.now.state) }
         ensures count { IfOk result (λ told. told.0 ≡ length (committed_calls core.now.state)) }
         ensures receipt { IfOk result (λ told. told.1 ≡ committed_calls core.now.state) }
         ensures same { OnErr result (self.new.published ≡ self.old.published) }
     {
-        self.feed(core)?;
+        self.feed(core, events)?;
         self.show(rt)?;
         Ok((self.fed.len(), Receipt::new(self.fed.again())))
     }
 
+    /// The events of the core, all gone over, are forgotten: the next ones are given without them.
+    pub(crate) fn forget(&mut self, core: &Core)
+        requires { self.old.commits.events ≡ core.now.state.events }
+        ensures published { self.new.published ≡ self.old.published }
+        ensures passed { self.new.commits.events ≡ self.old.commits.events }
+        ensures forgotten { self.new.commits.forgotten ≡ length core.now.state.events }
+    {
+        self.commits.forget(core);
+    }
+
     /// Gives the writer all committed calls that it has not got.
-    fn feed(&mut self, core: &Recorded) -> Result<(), Memory>
-        requires { IsPrefix self.old.commits.events core.now.state.events }
+    fn feed(&mut self, core: &Core, events: &[Event]) -> Result<(), Memory>
+        requires passed { IsPrefix self.old.commits.events core.now.state.events }
+        requires events { events.now ≡ drop self.old.commits.forgotten core.now.state.events }
+        ensures forgotten { self.new.commits.forgotten ≡ self.old.commits.forgotten }
         ensures passed { IsPrefix self.new.commits.events core.now.state.events }
         ensures published { self.new.published ≡ self.old.published }
+        ensures gone { OnOk result (self.new.commits.events ≡ core.now.state.events) }
         ensures all { OnOk result (self.new.fed ≡ committed_calls core.now.state) }
     {
         self.give()?;
-        while self.take_next(core)? {
+        while self.take_next(core, events)? {
             self.give()?;
         }
         Ok(())
     }
 
     /// Takes the next of the committed calls from the core, and answers whether there is one.
-    fn take_next(&mut self, core: &Recorded) -> Result<bool, Memory>
+    fn take_next(&mut self, core: &Core, events: &[Event]) -> Result<bool, Memory>
         requires passed { IsPrefix self.old.commits.events core.now.state.events }
+        requires events { events.now ≡ drop self.old.commits.forgotten core.now.state.events }
         requires nothing { self.old.held ≡ None }
         ensures passed { IsPrefix self.new.commits.events core.now.state.events }
         ensures published { self.new.published ≡ self.old.published }
+        ensures forgotten { self.new.commits.forgotten ≡ self.old.commits.forgotten }
         ensures taken { OnOk result (self.new.commits.given ≡ self.old.commits.given ++ listed self.new.held) }
         ensures first { IsPrefix self.new.commits.given (committed_calls core.now.state) }
+        ensures gone { IfOk result (λ more. MatchBool more (IsSome self.new.held) (self.new.commits.events ≡ core.now.state.events)) }
         ensures more { IfOk result (λ more. MatchBool more (IsSome self.new.held) (self.new.fed ≡ committed_calls core.now.state)) }
     {
-        self.held = self.commits.next(core)?;
+        self.held = self.commits.next(core, events)?;
         Ok(self.held.is_some())
     }
 }

@@ -13,9 +13,10 @@ ghost use Rattle.ft_serial.specs.Serials.{committed_calls};
 ghost use Rattle.ft_shared.specs.Behind.{OfSomeCore, InSomeCore, IsAborted, IsUndone};
 
 use crate::behind::Behind;
+use crate::shareable::Shareable;
 use ft_base::Memory;
 use ft_calls::Call;
-use ft_core::{Fault, Outcome, State, TxnId};
+use ft_core::{Core, Fault, Outcome, State, TxnId};
 use ft_record::Recorded;
 use ft_view::{Naming, Receipt};
 use ft_waits::{Edge, Verdict, edges, with_verdict};
@@ -35,8 +36,8 @@ pub const MOST_PAUSE: u64 = 5;
 /// base, and its tree is what a plain tree holds after the standing calls alone. Which core it was,
 /// no clause can say: each says that the answer is a legal one of some core, of which holds what
 /// is true of every core. No clause says that a call returns.
-pub struct Shared<J: Naming = Brand> {
-    behind: Mutex<Behind<J>>,
+pub struct Shared<J: Naming = Brand, C: Shareable = Recorded> {
+    behind: Mutex<Behind<J, C>>,
     // For copies of calls, which are made before the lock is got.
     alloc: Global,
     // A transaction has committed or is aborted.
@@ -45,19 +46,19 @@ pub struct Shared<J: Naming = Brand> {
 
 /// A core that can't be shared, and why.
 #[derive(Drop)]
-pub struct Refused {
-    pub core: Recorded,
+pub struct Refused<C = Recorded> {
+    pub core: C,
     pub fault: Fault,
 }
 
-impl<J: Naming> Shared<J> {
+impl<J: Naming, C: Shareable> Shared<J, C> {
     /// Puts a core behind a lock. Takes no memory.
     ///
     /// Refuses Live where a transaction is live, and hands the core back.
-    pub fn new(core: Recorded) -> Result<Shared<J>, Refused>
-        ensures { MatchResult result (λ shared. NoneIsLive core.state) (λ refused. (refused.core ≡ core) × (refused.fault ≡ LiveFault) × SomeIsLive core.state) }
+    pub fn new(core: C) -> Result<Shared<J, C>, Refused<C>>
+        ensures { MatchResult result (λ shared. NoneIsLive (C.stored core).state) (λ refused. (refused.core ≡ core) × (refused.fault ≡ LiveFault) × SomeIsLive (C.stored core).state) }
     {
-        if core.has_live() {
+        if core.core().has_live() {
             return Err(Refused {
                 core,
                 fault: Fault::Live,
@@ -67,7 +68,7 @@ impl<J: Naming> Shared<J> {
     }
 
     /// Puts a core, with its views where it has any, behind a lock.
-    pub(crate) fn over(behind: Behind<J>) -> Shared<J> {
+    pub(crate) fn over(behind: Behind<J, C>) -> Shared<J, C> {
         Shared {
             alloc: behind.core().alloc(),
             behind: Mutex::new(behind),
@@ -266,7 +267,7 @@ impl<J: Naming> Shared<J> {
         ensures { IfOk result (λ edges. OfSomeCore (λ state. AreEdgesOf state edges.items)) }
     {
         let behind = self.held(rt);
-        let edges = edges(behind.core().core());
+        let edges = edges(behind.core());
         MutexGuard::unlock(behind);
         edges
     }
@@ -292,7 +293,7 @@ impl<J: Naming> Shared<J> {
 
     /// Ends the sharing, and gives the core back. It waits for the readers that read; readers
     /// answer NoReader from then on. Takes no memory.
-    pub fn into_core<R: Wait>(self, rt: &R) -> Recorded {
+    pub fn into_core<R: Wait>(self, rt: &R) -> C {
         let Shared {
             behind,
             alloc: _,
@@ -302,7 +303,7 @@ impl<J: Naming> Shared<J> {
     }
 
     /// Gets the lock. The history of the core that stands there is legal, from a sound base.
-    fn held<R: Wait>(&self, rt: &R) -> MutexGuard<'_, Behind<J>>
+    fn held<R: Wait>(&self, rt: &R) -> MutexGuard<'_, Behind<J, C>>
         ensures { IsReached (mutex_guard_value result).core }
     {
         let behind = self.behind.lock(rt);
@@ -312,7 +313,7 @@ impl<J: Naming> Shared<J> {
 }
 
 /// Whether these transactions are all live.
-fn are_live(core: &Recorded, txns: &[TxnId]) -> bool {
+fn are_live(core: &Core, txns: &[TxnId]) -> bool {
     txns.iter()
         .all(|txn| matches!(core.state(*txn), Some(State::Live)))
 }

@@ -1,19 +1,22 @@
 // Requests through a lock.
 use anyhow::{Result, bail};
-use ft_core::{Answer, Fault, Request};
-use ft_record::Recorded;
+use ft_core::{Answer, Core, Fault, Request};
 use ft_shared::Shared;
 use std::alloc::Global;
 use std::marker::Brand;
 use std::sync::Wait;
 
 /// A new core behind a lock.
-pub fn new_shared(alloc: Global) -> Result<Shared, Fault> {
-    Shared::<Brand>::new(Recorded::new(alloc)?).map_err(|refused| refused.fault)
+pub fn new_shared(alloc: Global) -> Result<Shared<Brand, Core>, Fault> {
+    Shared::new(Core::new(alloc)?).map_err(|refused| refused.fault)
 }
 
 /// Carries a request out through the lock. Fails for a checkpoint alone.
-pub fn carry_out<R: Wait>(rt: &R, shared: &Shared, request: Request) -> Result<Answer> {
+pub fn carry_out<R: Wait>(
+    rt: &R,
+    shared: &Shared<Brand, Core>,
+    request: Request,
+) -> Result<Answer> {
     let answer = match request {
         Request::Begin => shared.begin(rt).map(Answer::Txn),
         Request::Sub(parent) => shared.sub(rt, parent).map(Answer::Txn),

@@ -7,6 +7,7 @@ use ft_script::write_out;
 use ft_shared::Shared;
 use std::alloc::Global;
 use std::io::Write;
+use std::marker::Brand;
 use std::sync::Wait;
 
 /// Plays a script, line by line, and writes the replies.
@@ -21,7 +22,7 @@ pub fn play<R: Wait, W: Write>(rt: &R, alloc: Global, script: &[u8], writer: &mu
 fn play_through<R: Wait, W: Write>(
     rt: &R,
     alloc: Global,
-    shared: &Shared,
+    shared: &Shared<Brand, Core>,
     script: &[u8],
     writer: &mut W,
 ) -> Result<()> {
@@ -38,7 +39,7 @@ fn play_through<R: Wait, W: Write>(
 fn reply_through<R: Wait>(
     rt: &R,
     alloc: Global,
-    shared: &Shared,
+    shared: &Shared<Brand, Core>,
     before: &[&[u8]],
     line: &[u8],
 ) -> Result<String> {
@@ -58,7 +59,7 @@ fn reply_through<R: Wait>(
 }
 
 /// Who waits for whom behind the lock.
-fn waits_reply<R: Wait>(rt: &R, alloc: Global, shared: &Shared) -> Result<String> {
+fn waits_reply<R: Wait>(rt: &R, alloc: Global, shared: &Shared<Brand, Core>) -> Result<String> {
     let (edges, verdict) = shared.waits(rt)?;
     let text = WaitsText {
         edges: edges.as_slice(),
@@ -74,11 +75,16 @@ fn core_after<R: Wait>(rt: &R, alloc: Global, lines: &[&[u8]]) -> Result<Core> {
     let carried_out = carry_out_all(rt, alloc, &shared, lines);
     let core = shared.into_core(rt);
     carried_out?;
-    Ok(core.into_core())
+    Ok(core)
 }
 
 /// Carries out the requests of these lines through the lock.
-fn carry_out_all<R: Wait>(rt: &R, alloc: Global, shared: &Shared, lines: &[&[u8]]) -> Result<()> {
+fn carry_out_all<R: Wait>(
+    rt: &R,
+    alloc: Global,
+    shared: &Shared<Brand, Core>,
+    lines: &[&[u8]],
+) -> Result<()> {
     for line in lines {
         if let Line::Request(request) = meaning_of(alloc, line)? {
             carry_out(rt, shared, request)?;

@@ -1,5 +1,5 @@
 -- What is shown to readers.
-use Rattle.std.specs.Prelude.{◌≡◌, [], refl}
+use Rattle.std.specs.Prelude.{◌≡◌, refl}
 use Rattle.std.specs.Coded.{Coded, code_by, coded×}
 use Rattle.ft_cells.specs.Plain.{PlainTree}
 use Rattle.ft_cells.specs.PlainCode.{coded_tree}
@@ -21,13 +21,6 @@ coded_shown = code_by (PlainTree × Fronted) (coded× coded_tree coded_fronted) 
 pub record IsViewOf (opened : Views) (s : Shown) : Type 0 where
   pub book : s.front.book ≡ opened.book
   pub tree : s.tree ≡ replayed opened.base s.front.calls
-
--- What a reader knows is a list of the book of these views, and so is the empty list from which
--- others start.
-pub record IsReaderOf (opened : Views) (known nothing : Fronted) : Type 0 where
-  pub seen : known.book ≡ opened.book
-  pub start : nothing.book ≡ opened.book
-  pub empty : nothing.calls ≡ []
 
 -- the tree with one call more made, and the list that the call ends
 abbrev pub advanced : Shown → StampedCall → Fronted → Shown

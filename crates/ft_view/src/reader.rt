@@ -74,6 +74,13 @@ impl<J: Naming> Receipt<J> {
             of: PhantomData,
         }
     }
+
+    /// Another one like it, for one more reader. Takes no memory.
+    pub fn again(&self) -> Receipt<J>
+        ensures { result ≡ self.now }
+    {
+        Receipt::new(self.front.again())
+    }
 }
 
 /// A reader of the views. Clauses see it as what it knows: the longest list that it has seen or was
@@ -85,19 +92,17 @@ pub struct Reader<J: Naming> {
     alloc: Global,
     inner: Option<Inner<J>>,
     known: Front,
-    nothing: Front,
 }
 
 impl<J: Naming> Model for Reader<J> {
-    ghost use Rattle.std.specs.Prelude.{List};
+    ghost use Rattle.std.specs.Prelude.{◌≡◌, List};
     ghost use Rattle.ft_posix.specs.declared.stamped.StampedCall.{StampedCall};
-    ghost use Rattle.ft_view.specs.Shown.{IsReaderOf};
 
     ghost Value = { List StampedCall };
 
     ghost view = { λ a. a.known.calls };
 
-    ghost invariant = { λ a. IsReaderOf J.opened a.known a.nothing };
+    ghost invariant = { λ a. a.known.book ≡ J.opened.book };
 }
 
 impl<J: Naming> Reader<J> {
@@ -110,23 +115,34 @@ impl<J: Naming> Reader<J> {
         Reader {
             alloc,
             inner: Some(inner),
-            known: nothing.again(),
-            nothing,
+            known: nothing,
         }
     }
 
-    /// Another reader of the same views, which has seen nothing yet. Refuses NoReader where there
-    /// is no place for it, or no memory.
+    /// Another reader of the same views, which knows what this one knows. Refuses NoReader where
+    /// there is no place for it, or no memory.
     pub fn again(&self) -> Result<Reader<J>, ViewFault>
-        ensures { IfOk result (λ reader. reader ≡ []) }
+        ensures { IfOk result (λ reader. reader ≡ self.now) }
     {
         let Some(inner) = &self.inner else {
             return Err(ViewFault::NoReader);
         };
         match inner.factory().reader() {
-            Ok(inner) => Ok(Reader::new(self.alloc, inner, self.nothing.again())),
+            Ok(inner) => Ok(Reader {
+                alloc: self.alloc,
+                inner: Some(inner),
+                known: self.known.again(),
+            }),
             Err(_) => Err(ViewFault::NoReader),
         }
+    }
+
+    /// A receipt of what it knows: a reader that learns it sees no older list from then on. Takes
+    /// no memory.
+    pub fn receipt(&self) -> Receipt<J>
+        ensures { result ≡ self.now }
+    {
+        Receipt::new(self.known.again())
     }
 
     /// Takes in what a receipt tells: each list that the reader sees from now on begins with that

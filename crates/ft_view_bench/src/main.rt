@@ -9,7 +9,8 @@ mod working;
 
 use anyhow::{Result, bail};
 use counts::Counts;
-use ft_record::Recorded;
+use ft_core::Core;
+use ft_record::Recent;
 use ft_shared::with_views;
 use std::env;
 use std::marker::Brand;
@@ -20,7 +21,7 @@ fn main(rt: HostRuntime) -> Result<()> {
     let Some(counts) = Counts::read(words.as_slice()) else {
         bail!("usage: ft_view_bench MAKES EVERY READS ASKS");
     };
-    let Ok(opened) = with_views(Recorded::new(rt.alloc())?) else {
+    let Ok(opened) = with_views(Recent::of(Core::new(rt.alloc())?)) else {
         bail!("there are no views");
     };
     let published = work::<Brand, HostRuntime>(&rt, rt.alloc(), counts, opened)?;

@@ -6,6 +6,7 @@ use crate::counts::Counts;
 use anyhow::{Result, bail};
 use ft_calls::Call;
 use ft_path::FilePath;
+use ft_record::Recent;
 use ft_shared::{Opened, Shared};
 use ft_view::{Naming, Reader};
 use std::alloc::Global;
@@ -16,7 +17,7 @@ pub fn work<J: Naming, R: Wait>(
     rt: &R,
     alloc: Global,
     counts: Counts,
-    opened: Opened,
+    opened: Opened<Recent>,
 ) -> Result<u64>
     requires { named_by opened ≡ J.opened }
 {
@@ -32,7 +33,7 @@ fn work_through<J: Naming, R: Wait>(
     rt: &R,
     alloc: Global,
     counts: Counts,
-    shared: &Shared<J>,
+    shared: &Shared<J, Recent>,
     reader: &mut Reader<J>,
 ) -> Result<u64> {
     make(rt, alloc, counts, shared)?;
@@ -47,7 +48,7 @@ fn make<J: Naming, R: Wait>(
     rt: &R,
     alloc: Global,
     counts: Counts,
-    shared: &Shared<J>,
+    shared: &Shared<J, Recent>,
 ) -> Result<()> {
     for number in 0..counts.makes {
         let text = format!(in alloc; "/{number}")?;
@@ -73,7 +74,12 @@ fn read<J: Naming>(reader: &mut Reader<J>, reads: u64, path: &FilePath) -> Resul
 }
 
 /// Asks for a stat so many times, in one transaction.
-fn ask<J: Naming, R: Wait>(rt: &R, asks: u64, path: &FilePath, shared: &Shared<J>) -> Result<()> {
+fn ask<J: Naming, R: Wait>(
+    rt: &R,
+    asks: u64,
+    path: &FilePath,
+    shared: &Shared<J, Recent>,
+) -> Result<()> {
     let txn = shared.begin(rt)?;
     for _ in 0..asks {
         let call = Call::Stat {

@@ -1,2 +1,6 @@
 mod Carried
 mod Values
+mod CutCalls
+mod CutHistories
+mod CutStates
+mod CutLaws

@@ -9,11 +9,14 @@ use Rattle.ft_posix.specs.declared.call.Whence.TheVariants.{Set, Cur, End}
 use Rattle.ft_core.specs.declared.request.Answer.{Answer}
 use Rattle.ft_core.specs.declared.request.Request.{Request}
 use Rattle.ft_core.specs.declared.request.Request.TheVariants.{Ask}
+use Rattle.ft_core.specs.States.{State}
+use Rattle.ft_core.specs.Steps.{IsStep, exact_rule}
 use Rattle.ft_session.specs.declared.session.Session.{Session}
 use Rattle.ft_session.specs.Sessions.{HasAnswered}
 use Rattle.nuzolged.specs.declared.told.Told.{Told}
 use Rattle.nuzolged.specs.declared.asking.Unasked.{Unasked}
 use Rattle.nuzolged.specs.declared.asking.Unasked.TheVariants as unasked
+use Rattle.nuzolged.specs.Cuts.{cut_path, cut_of, AreAlike}
 use Rattle.nuzolged.specs.Numbers.{told_of_answer, no_memory, closed, bad}
 
 -- The handle is closed, and stays so. Or the core of its session has made one legal step for just
@@ -21,6 +24,14 @@ use Rattle.nuzolged.specs.Numbers.{told_of_answer, no_memory, closed, bad}
 abbrev pub IsAsked : Option Session → Request → Told → Option Session → Type 0
 IsAsked None request told new = (told ≡ closed) × (new ≡ None)
 IsAsked (Some old) request told new = (session : Session) × (answer : Answer) × (new ≡ Some session) × HasAnswered old request answer session × (told ≡ told_of_answer answer)
+
+-- The same of a call that is cut (`Cuts`). The core has made one legal step for what is left of it;
+-- and one for the call itself has the same answer, and leaves a state that is alike.
+abbrev pub IsCallAsked : Option Session → ℕ → Call → Told → Option Session → Type 0
+IsCallAsked None txn call told new = (told ≡ closed) × (new ≡ None)
+IsCallAsked (Some old) txn call told new =
+    (session : Session) × (answer : Answer) × (new ≡ Some session) × HasAnswered old (Ask txn (cut_of call)) answer session × (told ≡ told_of_answer answer)
+    × ((whole : State) × IsStep exact_rule old.core.state (Ask txn call) answer whole × AreAlike session.core.state whole)
 
 -- Nothing has changed: the handle is closed, an argument is bad, or there was no memory for a
 -- copy of one.
@@ -31,7 +42,7 @@ IsTurnedAway is_bad (Some old) told new = (told ≡ cond is_bad bad no_memory) �
 -- A call in a transaction: it is turned away where an argument is bad, and else only for want of
 -- memory.
 abbrev pub IsCalled : Bool → Option Session → ℕ → Call → Told → Option Session → Type 0
-IsCalled is_bad old txn call told new = ((is_bad ≡ false) × IsAsked old (Ask txn call) told new) ⊎ IsTurnedAway is_bad old told new
+IsCalled is_bad old txn call told new = ((is_bad ≡ false) × IsCallAsked old txn call told new) ⊎ IsTurnedAway is_bad old told new
 
 -- ---- arguments
 
@@ -40,15 +51,20 @@ abbrev pub is_bad : Unasked → Bool
 is_bad unasked.Memory = false
 is_bad unasked.Bad = true
 
--- a path of these bytes, or why there is none
+-- what is left of a path of these bytes, or why there is none
 abbrev pub IsPath : List ℕ → Result (List ℕ) Unasked → Type 0
-IsPath bytes (Ok path) = (path ≡ bytes) × (has_nul bytes ≡ false)
+IsPath bytes (Ok path) = (path ≡ cut_path bytes) × (has_nul bytes ≡ false)
 IsPath bytes (Err why) = has_nul bytes ≡ is_bad why
 
 -- the same of two
 abbrev pub ArePaths : List ℕ → List ℕ → Result (List ℕ × List ℕ) Unasked → Type 0
-ArePaths from to (Ok paths) = (paths.0 ≡ from) × (paths.1 ≡ to) × ((has_nul from || has_nul to) ≡ false)
+ArePaths from to (Ok paths) = (paths.0 ≡ cut_path from) × (paths.1 ≡ cut_path to) × ((has_nul from || has_nul to) ≡ false)
 ArePaths from to (Err why) = (has_nul from || has_nul to) ≡ is_bad why
+
+-- a copy of these bytes, or there was no memory for it
+abbrev pub AreKept : List ℕ → Result (List ℕ) Unasked → Type 0
+AreKept bytes (Ok kept) = kept ≡ bytes
+AreKept bytes (Err why) = is_bad why ≡ false
 
 -- the access of a number, as O_RDONLY, O_WRONLY and O_RDWR
 abbrev pub access_of : ℕ → Option AccessMode

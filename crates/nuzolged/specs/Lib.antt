@@ -1,5 +1,6 @@
 pub mod Handles
 pub mod Numbers
+pub mod Cuts
 pub mod Asked
 pub mod Opened
 pub mod Parts

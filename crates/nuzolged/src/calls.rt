@@ -6,11 +6,11 @@ ghost use Rattle.ft_session.specs.Buffers.{filled_by};
 ghost use Rattle.nuzolged.specs.Asked.{IsAsked, IsCalled, IsTurnedAway, whence_of};
 ghost use Rattle.nuzolged.specs.Parts.{bytes_held};
 
-use crate::asking::{Unasked, call, turn_away};
+use crate::asking::{Unasked, bytes_of, call, most_at, turn_away};
 use crate::handle::Handle;
 use crate::parts::nuz_bytes;
 use crate::told::Told;
-use ft_base::Sequence;
+use ft_body::SIZE_LIMIT;
 use ft_calls::{Call, Whence};
 use std::alloc::Global;
 
@@ -62,7 +62,7 @@ pub extern "C" fn nuz_lseek(
     }
 }
 
-/// Writes at the offset. How many bytes were written is told.
+/// Writes at the offset. How many bytes were written is told. No more are copied than a file has.
 #[unsafe(no_mangle)]
 pub extern "C" fn nuz_write(
     alloc: Global,
@@ -73,16 +73,13 @@ pub extern "C" fn nuz_write(
 ) -> Told
     ensures { IsCalled false tree.old.session txn (calls.Write fd bytes.now) result tree.new.session }
 {
-    match bytes.to_vec(alloc) {
-        Ok(bytes) => {
-            let bytes = Sequence::from(bytes);
-            call(alloc, tree, txn, Call::Write { fd, bytes })
-        }
-        Err(_) => turn_away(alloc, tree, Unasked::Memory),
+    match bytes_of(alloc, bytes, SIZE_LIMIT) {
+        Ok(bytes) => call(alloc, tree, txn, Call::Write { fd, bytes }),
+        Err(why) => turn_away(alloc, tree, why),
     }
 }
 
-/// Writes at a place. How many bytes were written is told.
+/// Writes at a place. How many bytes were written is told. No more are copied than have room there.
 #[unsafe(no_mangle)]
 pub extern "C" fn nuz_pwrite(
     alloc: Global,
@@ -94,12 +91,9 @@ pub extern "C" fn nuz_pwrite(
 ) -> Told
     ensures { IsCalled false tree.old.session txn (calls.Pwrite fd off bytes.now) result tree.new.session }
 {
-    match bytes.to_vec(alloc) {
-        Ok(bytes) => {
-            let bytes = Sequence::from(bytes);
-            call(alloc, tree, txn, Call::Pwrite { fd, off, bytes })
-        }
-        Err(_) => turn_away(alloc, tree, Unasked::Memory),
+    match bytes_of(alloc, bytes, most_at(off)) {
+        Ok(bytes) => call(alloc, tree, txn, Call::Pwrite { fd, off, bytes }),
+        Err(why) => turn_away(alloc, tree, why),
     }
 }
 

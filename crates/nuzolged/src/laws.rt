@@ -1,5 +1,7 @@
-//! A law of handles, as the contract of a function that does nothing.
+//! Laws of handles and of what is cut from calls: each is the contract of a function that does
+//! nothing.
 ghost use Rattle.std.specs.Prelude.{◌≡◌};
+ghost use Rattle.nuzolged.specs.Cuts.{CutLaw};
 
 use crate::handle::Handle;
 
@@ -16,3 +18,10 @@ fn crossed<T: Send>(value: T) -> T
 {
     value
 }
+
+/// What is cut from a call is unseen. The cut of a call is answered as the call itself, in a state
+/// that differs in no more than what was cut before; and so is all that is asked later, and each
+/// report.
+pub fn cut_is_unseen()
+    ensures { CutLaw }
+{}

@@ -1,3 +1,4 @@
+use Rattle.std.proofs.Common.{false}
 use denote.Struct.Declared.{shape}
 use denote.Param.Send.{IsSync, struct_sync_at, sendable}
 use Rattle.std.specs.contracts.marker.Brand as Brand
@@ -9,7 +10,7 @@ use Rattle.ft_job_tests.proofs.of_jobs.ends_under.Goals as goal
 -- field by field, at one value: a core behind a lock is shared as it is elsewhere
 Lying-sync : IsSync Lying.the_row
 Lying-sync = record {
-  shared = λ d. struct_sync_at (shape Lying.the_type) (Lying.the_type.to d) ((Shared-sync Brand.the_row _).shared d.shared, (lie.the_field_sync.shared _, tt));
+  shared = λ d. struct_sync_at (shape Lying.the_type) (Lying.the_type.to d) ((Shared-sync Brand.the_row _ (record { stored = _; forgotten = _; forgets = false; knows_base = λ _. Unit {0} })).shared d.shared, (lie.the_field_sync.shared _, tt));
 }
 
 pub run_jobs-requires-sync-M : goal.run_jobs-requires-sync-M

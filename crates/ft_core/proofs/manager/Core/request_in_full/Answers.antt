@@ -1,4 +1,4 @@
-use Rattle.std.proofs.Common.{◌≡◌, Some, true, refl, sym, ap, subst, ◌∙◌}
+use Rattle.std.proofs.Common.{◌≡◌, Some, refl, sym, ap, subst, ◌∙◌}
 use Rattle.std.specs.FinMap as finite
 use Rattle.ft_moss.specs.Rules.{is_strict}
 use Rattle.ft_core.specs.States.{State, fate_of, has_most_calls, accesses_now, after_wait}
@@ -52,7 +52,7 @@ returns-in-Made-clause-asked c =
       told.1,
       (
         one (sym c.grant-call.ensures.call ∙ c.wanted-call.ensures),
-        subst (IsTwice true) c.in-Made.is c.in_ok-reply.ensures.twice,
+        subst (IsTwice c.args.twice) c.in-Made.is c.in_ok-reply.ensures.twice,
         made.accesses ∙ ap (λ n. accesses_of i.parts.tree n call) stamp ∙ touched-now call_laws lock_laws i.parts i.journal c.self.invariant call ∙ ap (λ (q : State). accesses_now q call) (state-is c.self.view_is),
       ),
     )

@@ -1,13 +1,12 @@
-use Rattle.std.proofs.Common.{◌==◌, ◌<◌, ℕ, ◌∷◌, [], Some, None, length, refl, sym, ap, subst, arith}
+use Rattle.std.proofs.Common.{◌==◌, ◌<◌, ℕ, ◌∷◌, [], Some, None, length, sym, ap, subst, arith}
 use Rattle.std.specs.Prelude.{Contains}
 use Rattle.std.specs.List.{IsDistinct}
 use Rattle.std.proofs.lemmas.List.Elements.{Contains-append_left, Contains-push}
-use Rattle.std.proofs.lemmas.Option.{slice_get_read}
 use Rattle.ft_history.proofs.Words.{same_some}
 use Rattle.ft_forest.specs.Transactions.{IsYoungestChild}
 use Rattle.ft_forest.specs.Records.{number_at}
 use Rattle.ft_forest.specs.Places.{IsStrictlyBelow, number_of}
-use Rattle.ft_forest.proofs.Listing.{IsGrown, IsPassed, IsLiveBelow, AreListedTo, depth_left, after_next, none_grown, first-listed, next-listed, all-listed, child-nearer, after-older, older-nearer, not_below, once-pushed, grown-child, grown-below, forest-seen, parents-live, youngest-of, older-of, begun-at, listed-at, number-fits, pushed-seen}
+use Rattle.ft_forest.proofs.Listing.{IsGrown, IsPassed, IsLiveBelow, AreListedTo, depth_left, after_next, none_grown, first-listed, next-listed, all-listed, child-nearer, after-older, older-nearer, not_below, once-pushed, grown-child, grown-below, forest-seen, parents-live, youngest-of, older-of, listed-at, number-fits, pushed-seen}
 use Rattle.ft_forest.proofs.forest.Forest.+list_below.Goals as goal
 
 pub loop-next-init : goal.loop-next-init
@@ -27,13 +26,6 @@ overflow_add-self-inside-in-Some t c =
     let fits = number-fits c.self.inside.base c.self.inside.records c.self.invariant m c.self.view_is c.in-Some.place listed.0.live in
     let same = ap (λ n. number_at n.base c.in-Some.place) c.self.view_is in
     omega arith
-
-pub index-requires : goal.index-requires
-index-requires t c =
-    let m = c.args.self.now in
-    let listed = subst (λ o. AreListedTo m (number_of m c.args.parent) c.loop-next.live.items (number_of m o)) c.in-Some.is c.loop-next.invariant.listed in
-    let there = begun-at c.self.inside.base c.self.inside.records c.self.invariant m c.self.view_is c.in-Some.place listed.0.live in
-    subst (λ n. c.in-Some.place < n) (sym c.self.inside.records.list.ok.0) there
 
 pub list_below-requires : goal.list_below-requires
 list_below-requires t c =
@@ -63,9 +55,8 @@ loop-next-smaller t c =
     let xs = c.loop-next.live.items in
     let child = number_at m.base c.in-Some.place in
     let listed = subst (λ o. AreListedTo m parent xs (number_of m o)) c.in-Some.is c.loop-next.invariant.listed in
-    let there = slice_get_read _ _ _ _ refl (begun-at c.self.inside.base c.self.inside.records c.self.invariant m c.self.view_is c.in-Some.place listed.0.live) c.index.ensures in
-    let older = older-of c.self.inside.base c.self.inside.records c.self.invariant m c.self.view_is c.in-Some.place listed.0.live c.index.result.now there in
-    subst (λ o. after_next c.index.result.now.older < after_next o) (sym c.in-Some.is) (older-nearer m c.in-Some.place c.index.result.now.older older)
+    let older = older-of c.self.inside.base c.self.inside.records c.self.invariant m c.self.view_is c.in-Some.place listed.0.live c.older_of-next.result c.older_of-next.ensures in
+    subst (λ o. after_next c.older_of-next.result < after_next o) (sym c.in-Some.is) (older-nearer m c.in-Some.place c.older_of-next.result older)
 
 pub loop-next-preserved : goal.loop-next-preserved
 loop-next-preserved t c =
@@ -78,9 +69,8 @@ loop-next-preserved t c =
     let pushed = pushed-seen c.self.inside.base c.self.inside.records c.self.invariant m c.self.view_is c.in-Some.place xs c.push.new.self.items c.in_ok-push.ensures.items in
     let forest = forest-seen c.self.inside.base c.self.inside.records c.self.invariant m c.self.view_is in
     let below = subst (λ zs. IsGrown (IsLiveBelow m (Some child)) zs c.list_below.new.live.items) pushed (record { keeps = c.list_below.ensures.keeps; sound = c.list_below.ensures.sound }) in
-    let there = slice_get_read _ _ _ _ refl (begun-at c.self.inside.base c.self.inside.records c.self.invariant m c.self.view_is c.in-Some.place listed.0.live) c.index.ensures in
-    let older = older-of c.self.inside.base c.self.inside.records c.self.invariant m c.self.view_is c.in-Some.place listed.0.live c.index.result.now there in
-    let next = number_of m c.index.result.now.older in
+    let older = older-of c.self.inside.base c.self.inside.records c.self.invariant m c.self.view_is c.in-Some.place listed.0.live c.older_of-next.result c.older_of-next.ensures in
+    let next = number_of m c.older_of-next.result in
     record {
       grown = grown-child m forest parent child next c.args.live.now.items xs c.list_below.new.live.items listed.0 (after-older m child next older) grown below;
       listed = next-listed m parent child next xs c.list_below.new.live.items listed (λ x i. below.keeps x (Contains-append_left xs (child ∷ []) x i))

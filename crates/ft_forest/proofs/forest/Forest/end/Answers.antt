@@ -2,18 +2,28 @@ use Rattle.std.proofs.Common.{◌≡◌, ◌<◌, ◌∙◌, ℕ, length, sym, a
 use Rattle.ft_forest.specs.Transactions.{state_in, IsLiveChild, HasEnded}
 use Rattle.ft_forest.specs.Records.{transactions_of}
 use Rattle.ft_forest.proofs.Seeing.{state-absent}
-use Rattle.ft_forest.proofs.Changing.{live-links, older-begun, younger-begun, records-ended, value-ended, none_live}
+use Rattle.ft_forest.proofs.Changing.{live-links, live-kept, parent-kept, older-kept, younger-kept, records-ended, value-ended, none_live}
 use Rattle.ft_forest.proofs.forest.Forest.end.Goals as goal
+
+pub end-requires-clause-kept : goal.end-requires-clause-kept
+end-requires-clause-kept c =
+    let live = live-links c.self.inside.base c.self.inside.records c.self.invariant c.in-Some.place c.args.txn c.in-Some.ensures.there (ap (λ m. state_in m c.args.txn) c.self.view_is ∙ c.requires.live) in
+    live-kept c.self.inside.base c.self.inside.records c.self.invariant c.in-Some.place live
+
+pub end-requires-clause-parent : goal.end-requires-clause-parent
+end-requires-clause-parent c =
+    let live = live-links c.self.inside.base c.self.inside.records c.self.invariant c.in-Some.place c.args.txn c.in-Some.ensures.there (ap (λ m. state_in m c.args.txn) c.self.view_is ∙ c.requires.live) in
+    parent-kept c.self.inside.base c.self.inside.records c.self.invariant c.in-Some.place live
 
 pub end-requires-clause-older : goal.end-requires-clause-older
 end-requires-clause-older c =
     let live = live-links c.self.inside.base c.self.inside.records c.self.invariant c.in-Some.place c.args.txn c.in-Some.ensures.there (ap (λ m. state_in m c.args.txn) c.self.view_is ∙ c.requires.live) in
-    older-begun c.self.inside.base c.self.inside.records c.self.invariant c.in-Some.place live
+    older-kept c.self.inside.base c.self.inside.records c.self.invariant c.in-Some.place live
 
 pub end-requires-clause-younger : goal.end-requires-clause-younger
 end-requires-clause-younger c =
     let live = live-links c.self.inside.base c.self.inside.records c.self.invariant c.in-Some.place c.args.txn c.in-Some.ensures.there (ap (λ m. state_in m c.args.txn) c.self.view_is ∙ c.requires.live) in
-    younger-begun c.self.inside.base c.self.inside.records c.self.invariant c.in-Some.place live
+    younger-kept c.self.inside.base c.self.inside.records c.self.invariant c.in-Some.place live
 
 pub invariant_of-self : goal.invariant_of-self
 invariant_of-self c =

@@ -1,16 +1,12 @@
-use Rattle.std.proofs.Common.{◌≡◌, ◌<◌, ◌∙◌, ℕ, length, refl, sym, ap, subst}
-use Rattle.std.proofs.lemmas.Option.{slice_get_read}
+use Rattle.std.proofs.Common.{◌≡◌, ◌<◌, ◌∙◌, ℕ, length, sym, ap, subst}
 use Rattle.ft_forest.specs.Transactions.{live_children_in, IsLiveChild}
-use Rattle.ft_forest.specs.Records.{transactions_of, children_from}
+use Rattle.ft_forest.specs.Records.{transactions_of}
 use Rattle.ft_forest.proofs.Seeing.{children-seen, some-child, no-child, absent-children}
 use Rattle.ft_forest.proofs.forest.Forest.live_children.Goals as goal
 
 pub returns-in-Some-clause-count : goal.returns-in-Some-clause-count
 returns-in-Some-clause-count c =
-    let count : c.len.result ≡ length c.self.inside.records.list.items = c.len.ensures ∙ c.self.inside.records.list.ok.0 in
-    let lt = subst (λ n. c.in-Some.place < n) count c.in-Some.ensures.within in
-    let there = slice_get_read _ _ _ _ refl lt c.index.ensures in
-    sym (ap children_from there) ∙ c.self.invariant.linked.children c.in-Some.place
+    c.children_of.ensures ∙ c.self.invariant.linked.children c.in-Some.place
     ∙ sym (children-seen c.self.inside.base c.self.inside.records c.in-Some.place)
     ∙ ap (live_children_in (transactions_of c.self.inside.base c.self.inside.records)) (sym c.in-Some.ensures.there)
     ∙ ap (λ m. live_children_in m c.args.txn) c.self.view_is

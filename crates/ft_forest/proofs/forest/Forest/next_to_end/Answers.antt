@@ -1,11 +1,10 @@
-use Rattle.std.proofs.Common.{◌≡◌, ◌≢◌, ◌∙◌, Option, Some, None, true, refl, sym, ap, subst, arith}
-use Rattle.std.proofs.lemmas.Option.{slice_get_read}
+use Rattle.std.proofs.Common.{◌≡◌, ◌≢◌, ◌∙◌, Option, Some, None, true, sym, ap, subst, arith}
 use Rattle.ft_forest.specs.declared.fault.ForestFault.{ForestFault}
 use Rattle.ft_forest.specs.declared.state.State.{State}
 use Rattle.ft_forest.specs.declared.state.State.TheVariants.{Live}
 use Rattle.ft_forest.specs.Transactions.{state_in, over_in, IsNextToEnd}
 use Rattle.ft_forest.specs.Refusals.{refusal_of}
-use Rattle.ft_forest.specs.Records.{number_at, transactions_of, IsYoungest, links_of, youngest_from}
+use Rattle.ft_forest.specs.Records.{number_at, transactions_of, IsYoungest, links_of}
 use Rattle.ft_forest.proofs.Seeing.{value-laws, live-over, over-child, child-sibling, state-at}
 use Rattle.ft_forest.proofs.Changing.{live-links, live-begun}
 use Rattle.ft_forest.proofs.forest.Forest.next_to_end.Goals as goal
@@ -37,8 +36,7 @@ loop-child-init c =
 pub loop-child-smaller : goal.loop-child-smaller
 loop-child-smaller c =
     let r = c.self.inside.records in
-    let there = slice_get_read _ _ _ _ refl c.loop-child.invariant.within c.index.ensures in
-    let youngest = subst (IsYoungest (links_of r) (Some c.loop-child.place)) (ap youngest_from there ∙ c.in-Some.is) (c.self.invariant.linked.youngest (Some c.loop-child.place)) in
+    let youngest = subst (IsYoungest (links_of r) (Some c.loop-child.place)) (sym c.youngest_of.ensures ∙ c.in-Some.is) (c.self.invariant.linked.youngest (Some c.loop-child.place)) in
     let above = c.self.invariant.linked.lower c.in-Some.child c.loop-child.place youngest.0.parent in
     let within = live-begun c.self.inside.base r c.self.invariant c.in-Some.child youngest.0.live in
     omega arith
@@ -47,8 +45,7 @@ pub loop-child-preserved : goal.loop-child-preserved
 loop-child-preserved c =
     let base = c.self.inside.base in
     let r = c.self.inside.records in
-    let there = slice_get_read _ _ _ _ refl c.loop-child.invariant.within c.index.ensures in
-    let youngest = subst (IsYoungest (links_of r) (Some c.loop-child.place)) (ap youngest_from there ∙ c.in-Some.is) (c.self.invariant.linked.youngest (Some c.loop-child.place)) in
+    let youngest = subst (IsYoungest (links_of r) (Some c.loop-child.place)) (sym c.youngest_of.ensures ∙ c.in-Some.is) (c.self.invariant.linked.youngest (Some c.loop-child.place)) in
     record {
       within = live-begun base r c.self.invariant c.in-Some.child youngest.0.live;
       live = youngest.0.live;
@@ -60,8 +57,7 @@ pub returns-clause-next : goal.returns-clause-next
 returns-clause-next c =
     let base = c.self.inside.base in
     let r = c.self.inside.records in
-    let there = slice_get_read _ _ _ _ refl c.loop-child.invariant.within c.index.ensures in
-    let youngest = subst (IsYoungest (links_of r) (Some c.loop-child.place)) (ap youngest_from there ∙ c.in_default-youngest.is) (c.self.invariant.linked.youngest (Some c.loop-child.place)) in
+    let youngest = subst (IsYoungest (links_of r) (Some c.loop-child.place)) (sym c.youngest_of.ensures ∙ c.in_default-youngest_of.is) (c.self.invariant.linked.youngest (Some c.loop-child.place)) in
     subst (λ m. IsNextToEnd m c.args.txn (number_at base c.loop-child.place)) c.self.view_is
     (record {
       below = subst (λ m. over_in m c.args.txn (number_at base c.loop-child.place) ≡ true) (sym c.self.view_is) c.loop-child.invariant.below;

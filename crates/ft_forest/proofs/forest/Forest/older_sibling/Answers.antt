@@ -1,8 +1,7 @@
-use Rattle.std.proofs.Common.{◌≡◌, ◌<◌, ◌∙◌, length, refl, sym, ap, subst}
+use Rattle.std.proofs.Common.{◌≡◌, ◌<◌, ◌∙◌, length, sym, ap, subst}
 use Rattle.std.specs.Option.{option_map}
-use Rattle.std.proofs.lemmas.Option.{slice_get_read}
 use Rattle.ft_forest.specs.Transactions.{state_in, IsOlderSibling}
-use Rattle.ft_forest.specs.Records.{IsOlder, links_of, number_at, transactions_of, older_from}
+use Rattle.ft_forest.specs.Records.{IsOlder, links_of, number_at, transactions_of}
 use Rattle.ft_forest.proofs.Seeing.{older-seen, numbers-fit, state-absent}
 use Rattle.ft_forest.proofs.Changing.{live-links, none_live}
 use Rattle.ft_forest.proofs.forest.Forest.older_sibling.Goals as goal
@@ -16,20 +15,14 @@ pub numbered-requires : goal.numbered-requires
 numbered-requires c = λ y is.
     let base = c.self.inside.base in
     let r = c.self.inside.records in
-    let count : c.len.result ≡ length r.list.items = c.len.ensures ∙ r.list.ok.0 in
-    let lt = subst (λ n. c.in_ok-place.place < n) count c.in_ok-place.ensures.within in
-    let there = slice_get_read _ _ _ _ refl lt c.index.ensures in
     let live = live-links base r c.self.invariant c.in_ok-place.place c.args.txn c.in_ok-place.ensures.there (ap (λ m. state_in m c.args.txn) c.self.view_is ∙ c.requires) in
-    numbers-fit base r c.self.invariant y (subst (IsOlder (links_of r) ((links_of r).parent c.in_ok-place.place) c.in_ok-place.place) (ap older_from there ∙ is) (c.self.invariant.linked.older c.in_ok-place.place live)).0.live
+    numbers-fit base r c.self.invariant y (subst (IsOlder (links_of r) ((links_of r).parent c.in_ok-place.place) c.in_ok-place.place) (sym c.older_of.ensures ∙ is) (c.self.invariant.linked.older c.in_ok-place.place live)).0.live
 
 pub returns : goal.returns
 returns c =
     let base = c.self.inside.base in
     let r = c.self.inside.records in
-    let count : c.len.result ≡ length r.list.items = c.len.ensures ∙ r.list.ok.0 in
-    let lt = subst (λ n. c.in_ok-place.place < n) count c.in_ok-place.ensures.within in
-    let there = slice_get_read _ _ _ _ refl lt c.index.ensures in
     let live = live-links base r c.self.invariant c.in_ok-place.place c.args.txn c.in_ok-place.ensures.there (ap (λ m. state_in m c.args.txn) c.self.view_is ∙ c.requires) in
     subst (λ m. IsOlderSibling m c.args.txn c.numbered.result) c.self.view_is
     (subst (λ t. IsOlderSibling (transactions_of base r) t c.numbered.result) (sym c.in_ok-place.ensures.there)
-    (subst (IsOlderSibling (transactions_of base r) (number_at base c.in_ok-place.place)) (ap (λ o. option_map (number_at base) (older_from o)) there ∙ sym c.numbered.ensures) (older-seen base r c.self.invariant c.in_ok-place.place live)))
+    (subst (IsOlderSibling (transactions_of base r) (number_at base c.in_ok-place.place)) (sym (c.numbered.ensures ∙ ap (option_map (number_at base)) c.older_of.ensures)) (older-seen base r c.self.invariant c.in_ok-place.place live)))

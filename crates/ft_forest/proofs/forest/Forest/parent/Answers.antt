@@ -1,10 +1,10 @@
-use Rattle.std.proofs.Common.{ℕ, Some, ◌≡◌, ◌<◌, ◌∙◌, length, refl, sym, ap, subst, arith}
-use Rattle.std.proofs.lemmas.Option.{slice_get_read}
+use Rattle.std.proofs.Common.{ℕ, Some, ◌≡◌, ◌<◌, ◌∙◌, length, sym, ap, subst, arith}
+use Rattle.std.specs.Option.{option_map}
 use Rattle.ft_history.specs.Forest.{IsForest}
 use Rattle.ft_forest.specs.declared.state.State.TheVariants.{Live}
 use Rattle.ft_forest.specs.Transactions.{parent_in, state_in}
-use Rattle.ft_forest.specs.Records.{parent_from}
-use Rattle.ft_forest.proofs.Seeing.{parent-here, parent-absent, value-forest, live-parent}
+use Rattle.ft_forest.specs.Records.{number_at}
+use Rattle.ft_forest.proofs.Seeing.{parent-at, parent-absent, value-forest, live-parent}
 use Rattle.ft_forest.proofs.forest.Forest.parent.Goals as goal
 
 pub returns-in_err-place-clause-parent : goal.returns-in_err-place-clause-parent
@@ -18,11 +18,9 @@ returns-in_err-place-clause-forest c = subst (λ m. IsForest (parent_in m)) c.se
 
 pub returns-clause-parent : goal.returns-clause-parent
 returns-clause-parent c =
-    let count : c.len.result ≡ length c.self.inside.records.list.items = c.len.ensures ∙ c.self.inside.records.list.ok.0 in
-    let lt = subst (λ n. c.in_ok-place.place < n) count c.in_ok-place.ensures.within in
-    let there = slice_get_read _ _ _ _ refl lt c.index.ensures in
-    c.numbered.ensures
-    ∙ sym (ap (λ m. parent_in m c.args.txn) (sym c.self.view_is) ∙ parent-here c.self.inside.base c.self.inside.records c.in_ok-place.place c.index.result.now there c.args.txn c.in_ok-place.ensures.there)
+    let base = c.self.inside.base in
+    c.numbered.ensures ∙ ap (option_map (number_at base)) c.parent_of.ensures
+    ∙ sym (ap (λ m. parent_in m c.args.txn) (sym c.self.view_is) ∙ ap (parent_in _) c.in_ok-place.ensures.there ∙ parent-at base c.self.inside.records c.in_ok-place.place)
 
 pub returns-clause-forest : goal.returns-clause-forest
 returns-clause-forest c = subst (λ m. IsForest (parent_in m)) c.self.view_is (value-forest c.self.inside.base c.self.inside.records c.self.invariant)
@@ -37,7 +35,6 @@ pub numbered-requires : goal.numbered-requires
 numbered-requires c = λ p is.
     let count : c.len.result ≡ length c.self.inside.records.list.items = c.len.ensures ∙ c.self.inside.records.list.ok.0 in
     let lt = subst (λ n. c.in_ok-place.place < n) count c.in_ok-place.ensures.within in
-    let there = slice_get_read _ _ _ _ refl lt c.index.ensures in
-    let up = c.self.invariant.linked.lower c.in_ok-place.place p (ap parent_from there ∙ is) in
+    let up = c.self.invariant.linked.lower c.in_ok-place.place p (sym c.parent_of.ensures ∙ is) in
     let small = c.self.invariant.numbers c.in_ok-place.place lt in
     omega arith

@@ -1,8 +1,7 @@
-use Rattle.std.proofs.Common.{◌≡◌, ◌<◌, ◌∙◌, length, Some, None, refl, sym, ap, subst}
+use Rattle.std.proofs.Common.{◌≡◌, ◌<◌, ◌∙◌, length, Some, None, sym, ap, subst}
 use Rattle.std.specs.Option.{option_map}
-use Rattle.std.proofs.lemmas.Option.{slice_get_read}
 use Rattle.ft_forest.specs.Transactions.{IsYoungestChild}
-use Rattle.ft_forest.specs.Records.{IsYoungest, links_of, number_at, transactions_of, youngest_from}
+use Rattle.ft_forest.specs.Records.{IsYoungest, links_of, number_at, transactions_of}
 use Rattle.ft_forest.proofs.Seeing.{youngest-seen, numbers-fit, no-child, absent-children}
 use Rattle.ft_forest.proofs.forest.Forest.youngest_child.Goals as goal
 
@@ -19,10 +18,7 @@ pub numbered-requires : goal.numbered-requires
 numbered-requires c = λ y is.
     let base = c.self.inside.base in
     let r = c.self.inside.records in
-    let count : c.len.result ≡ length r.list.items = c.len.ensures ∙ r.list.ok.0 in
-    let lt = subst (λ n. c.in_ok-place-in-Some.place < n) count c.in_ok-place-in-Some.ensures.within in
-    let there = slice_get_read _ _ _ _ refl lt c.index.ensures in
-    numbers-fit base r c.self.invariant y (subst (IsYoungest (links_of r) (Some c.in_ok-place-in-Some.place)) (ap youngest_from there ∙ is) (c.self.invariant.linked.youngest (Some c.in_ok-place-in-Some.place))).0.live
+    numbers-fit base r c.self.invariant y (subst (IsYoungest (links_of r) (Some c.in_ok-place-in-Some.place)) (sym c.youngest_of.ensures ∙ is) (c.self.invariant.linked.youngest (Some c.in_ok-place-in-Some.place))).0.live
 
 pub numbered-requires-in-None : goal.numbered-requires-in-None
 numbered-requires-in-None c = λ y is.
@@ -32,12 +28,9 @@ pub returns-in_ok-place-in-Some : goal.returns-in_ok-place-in-Some
 returns-in_ok-place-in-Some c =
     let base = c.self.inside.base in
     let r = c.self.inside.records in
-    let count : c.len.result ≡ length r.list.items = c.len.ensures ∙ r.list.ok.0 in
-    let lt = subst (λ n. c.in_ok-place-in-Some.place < n) count c.in_ok-place-in-Some.ensures.within in
-    let there = slice_get_read _ _ _ _ refl lt c.index.ensures in
     subst (λ m. IsYoungestChild m c.args.parent c.numbered.result) c.self.view_is
     (subst (λ p. IsYoungestChild (transactions_of base r) p c.numbered.result) (sym (c.in-Some.is ∙ ap Some c.in_ok-place-in-Some.ensures.there))
-    (subst (IsYoungestChild (transactions_of base r) (Some (number_at base c.in_ok-place-in-Some.place))) (ap (λ o. option_map (number_at base) (youngest_from o)) there ∙ sym c.numbered.ensures) (youngest-seen base r c.self.invariant (Some c.in_ok-place-in-Some.place))))
+    (subst (IsYoungestChild (transactions_of base r) (Some (number_at base c.in_ok-place-in-Some.place))) (sym (c.numbered.ensures ∙ ap (option_map (number_at base)) c.youngest_of.ensures)) (youngest-seen base r c.self.invariant (Some c.in_ok-place-in-Some.place))))
 
 pub returns-in-None : goal.returns-in-None
 returns-in-None c =

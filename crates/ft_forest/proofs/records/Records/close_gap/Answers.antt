@@ -11,6 +11,15 @@ half_closed s parent older younger = record s {
   older = put_at s.older younger (λ _. older);
 }
 
+pub set_younger-requires : goal.set_younger-requires
+set_younger-requires c =
+    let half : links_of c.match-younger.self ≡ half_closed (links_of c.args.self.now) c.args.parent c.args.older c.args.younger =
+    elim c.match-younger.branch [
+      | in-Some w ↦ ap links_of w.self-is ∙ w.set_older.ensures ∙ ap (half_closed (links_of c.args.self.now) c.args.parent c.args.older) (sym w.in-Some.is)
+      | in-None w ↦ ap links_of w.self-is ∙ w.set_youngest.ensures ∙ ap (half_closed (links_of c.args.self.now) c.args.parent c.args.older) (sym w.in-None.is)
+    ] in
+    ap (λ (l : Links). l.kept c.in-Some-older.sibling) half ∙ c.requires.older c.in-Some-older.sibling c.in-Some-older.is
+
 pub returns-in-Some-older : goal.returns-in-Some-older
 returns-in-Some-older c =
     let s = links_of c.args.self.now in

@@ -1,7 +1,9 @@
-use Rattle.std.proofs.Common.{refl}
-use Rattle.std.proofs.lemmas.Option.{slice_get_read}
+use Rattle.std.proofs.Common.{◌∙◌, sym, ap}
+use Rattle.ft_forest.specs.Records.{links_by}
 use Rattle.ft_forest.proofs.Setting.{write-younger}
 use Rattle.ft_forest.proofs.records.Records.set_younger.Goals as goal
 
 pub returns : goal.returns
-returns c = write-younger c.args.self.now.youngest c.args.self.now.list.items c.args.place c.index_mut-record.result.now c.requires (slice_get_read _ _ _ _ refl c.requires c.index_mut-record.ensures.value) c.args.younger
+returns c =
+    let r = c.args.self.now in
+    ap (links_by r.youngest r.list.items) c.set.ensures ∙ write-younger r.youngest r.list.items r.live c.args.place c.unwrap-record.result (sym c.get.ensures ∙ c.unwrap-record.ensures) c.args.younger

@@ -1,12 +1,13 @@
-use Rattle.std.proofs.Common.{◌+◌, ◌∷◌, ◌++◌, [], None, ap, ◌∙◌}
-use Rattle.ft_core.specs.declared.request.Event.TheVariants as event
-use Rattle.ft_core.proofs.Known.{call_laws, lock_laws}
-use Rattle.ft_record.specs.Recording.{Recording}
-use Rattle.ft_record.proofs.Records.{recorded-begun}
+use Rattle.std.proofs.Common.{refl}
+use Rattle.ft_core.specs.declared.request.Request.TheVariants as request
+use Rattle.ft_core.specs.declared.request.Answer.TheVariants.{Txn}
+use Rattle.ft_core.specs.Steps.{answer_with}
+use Rattle.ft_record.proofs.Moving.{goes-on}
+use Rattle.ft_record.proofs.Records.{still-recorded}
 use Rattle.ft_record.proofs.recorded.Recorded.begin.Goals as goal
 
-pub invariant_of-self-2 : goal.invariant_of-self-2
-invariant_of-self-2 c =
+pub invariant_of-self : goal.invariant_of-self
+invariant_of-self c =
     let i = c.self.inside in
-    recorded-begun call_laws lock_laws i.core.state None c.in_ok-txn.txn c.begin.new.self.state i.past i.base c.self.invariant c.in_ok-txn.ensures c.add.new.self
-    (ap (λ (q : Recording). q.events) c.add.ensures ∙ ap (λ (q : Recording). q.events ++ event.Begin c.in_ok-txn.txn None ∷ []) c.reserve.ensures.same) (ap (λ (q : Recording). q.spare) c.add.ensures ∙ ap (λ (q : Recording). q.spare + 1) c.reserve.ensures.same)
+    let new = c.begin.new.self in
+    still-recorded i.recent new i.base c.self.invariant (goes-on i.recent.core.state new.core.state request.Begin (answer_with Txn c.begin.result) refl c.begin.ensures.step).0 c.begin.ensures.forgotten

@@ -1,20 +1,28 @@
-use Rattle.std.proofs.Common.{sym, ap, subst, ◌∙◌}
-use Rattle.ft_core.specs.declared.request.Request.TheVariants as request
-use Rattle.ft_core.specs.States.{State, base_now}
-use Rattle.ft_core.proofs.Known.{call_laws, lock_laws}
-use Rattle.ft_core.specs.declared.request.Answer.TheVariants.{Cleared}
-use Rattle.ft_core.proofs.Legally.{legal-step}
-use Rattle.ft_record.specs.Recording.{Recording}
+use Rattle.std.proofs.Common.{◌≡◌, ◌≤◌, sym, ap, subst, ◌∙◌}
 use Rattle.ft_tree.specs.Tidy.{tidy}
+use Rattle.ft_forest.specs.declared.TheConstants.{LAST_NUMBER}
+use Rattle.ft_core.specs.declared.request.Request.TheVariants as request
 use Rattle.ft_core.specs.Journals.{IsBaseTree}
-use Rattle.ft_record.proofs.Records.{recorded-at, cleared-is}
+use Rattle.ft_core.specs.States.{Base, State, StoredState, tree_of}
+use Rattle.ft_record.proofs.Records.{unchanged, still-recorded, cleared-is}
 use Rattle.ft_record.proofs.recorded.Recorded.checkpoint.Goals as goal
+
+pub invariant_of-self : goal.invariant_of-self
+invariant_of-self c =
+    let i = c.self.inside in
+    let new = c.checkpoint.new.self in
+    still-recorded i.recent new i.base c.self.invariant (ap (λ (s : State). s.base) (unchanged i.recent.core.state new.core.state request.Checkpoint c.in_err-checkpoint.field-0.0 c.in_err-checkpoint.ensures.step)) c.in_err-checkpoint.ensures.err
 
 pub invariant_of-self-2 : goal.invariant_of-self-2
 invariant_of-self-2 c =
-    let i = c.self.inside in
-    let s : State = i.core.state in
+    let s : State = c.self.inside.recent.core.state in
+    let now = c.core-core.ensures in
     let copy = c.in_ok-base.ensures in
-    recorded-at s.rule (base_now s) c.checkpoint.new.self.state (cleared-is s c.checkpoint.new.self.state c.in_ok-checkpoint.ensures) c.new.result (ap (λ (q : Recording). q.events) c.new.ensures) c.in_ok-base.base
-    (ap tidy copy ∙ c.tree.ensures.headline.tree) (subst (λ x. IsBaseTree x s.last_stamp) (sym copy) c.tree.ensures.base)
-    (legal-step call_laws lock_laws s c.checkpoint.new.self.state request.Checkpoint Cleared c.self.invariant.legal c.in_ok-checkpoint.ensures)
+    let base = ap (λ (q : State). q.base) (cleared-is s c.checkpoint.new.self.core.state c.in_ok-checkpoint.ensures.step) in
+    let stamp : c.core-core.result.now.state.last_stamp ≡ s.last_stamp = ap (λ (k : StoredState). k.state.last_stamp) now in
+    record {
+      all = c.in_ok-checkpoint.ensures.ok;
+      tree = ap tidy copy ∙ c.tree.ensures.headline.tree ∙ ap (λ (k : StoredState). tree_of k.state) now ∙ ap (λ (b : Base). b.tree) (sym base);
+      base_is = subst (λ (b : Base). IsBaseTree c.in_ok-base.base b.last_stamp) (sym base) (subst (λ k. IsBaseTree c.in_ok-base.base k) stamp (subst (λ x. IsBaseTree x c.core-core.result.now.state.last_stamp) (sym copy) c.tree.ensures.base));
+      last = subst (λ (b : Base). b.last_stamp ≤ LAST_NUMBER) (sym base) (subst (λ k. k ≤ LAST_NUMBER) stamp c.tree.ensures.last);
+    }

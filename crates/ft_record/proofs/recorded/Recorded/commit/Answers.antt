@@ -1,20 +1,13 @@
-use Rattle.std.proofs.Common.{refl, ap}
+use Rattle.std.proofs.Common.{refl}
 use Rattle.ft_core.specs.declared.request.Request.TheVariants as request
-use Rattle.ft_core.proofs.Known.{call_laws, lock_laws}
-use Rattle.ft_record.specs.Recording.{Recording}
-use Rattle.ft_record.proofs.Records.{recorded-refused, recorded-committed}
+use Rattle.ft_core.specs.declared.request.Answer.TheVariants.{Committed}
+use Rattle.ft_core.specs.Steps.{answer_with}
+use Rattle.ft_record.proofs.Moving.{goes-on}
+use Rattle.ft_record.proofs.Records.{still-recorded}
 use Rattle.ft_record.proofs.recorded.Recorded.commit.Goals as goal
 
 pub invariant_of-self : goal.invariant_of-self
 invariant_of-self c =
     let i = c.self.inside in
-    recorded-refused i.core.state c.commit.new.self.state (request.Commit c.args.txn) c.in_err-commit.field-0.0 i.past i.base c.self.invariant c.in_err-commit.ensures i.past refl refl
-
-pub tell-requires : goal.tell-requires
-tell-requires c = let i = c.self.inside in (recorded-committed call_laws lock_laws i.core.state c.args.txn c.commit.new.self.state i.past i.base c.self.invariant c.in_ok-commit.ensures).0
-
-pub invariant_of-self-2 : goal.invariant_of-self-2
-invariant_of-self-2 c =
-    let i = c.self.inside in
-    (recorded-committed call_laws lock_laws i.core.state c.args.txn c.commit.new.self.state i.past i.base c.self.invariant c.in_ok-commit.ensures).1 c.tell.new.self
-    (ap (λ (q : Recording). q.events) c.tell.ensures) (ap (λ (q : Recording). q.spare) c.tell.ensures)
+    let new = c.commit.new.self in
+    still-recorded i.recent new i.base c.self.invariant (goes-on i.recent.core.state new.core.state (request.Commit c.args.txn) (answer_with (λ done. Committed) c.commit.result) refl c.commit.ensures.step).0 c.commit.ensures.forgotten

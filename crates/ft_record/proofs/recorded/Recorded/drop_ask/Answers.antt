@@ -1,5 +1,13 @@
-use Rattle.ft_record.proofs.Records.{recorded-dropped}
+use Rattle.std.proofs.Common.{refl}
+use Rattle.ft_core.specs.declared.request.Request.TheVariants as request
+use Rattle.ft_core.specs.declared.request.Answer.TheVariants.{Dropped}
+use Rattle.ft_core.specs.Steps.{answer_with}
+use Rattle.ft_record.proofs.Moving.{goes-on}
+use Rattle.ft_record.proofs.Records.{still-recorded}
 use Rattle.ft_record.proofs.recorded.Recorded.drop_ask.Goals as goal
 
 pub invariant_of-self : goal.invariant_of-self
-invariant_of-self c = recorded-dropped c.self.inside.core.state c.drop_ask.new.self.state c.args.txn c.drop_ask.result c.self.inside.past c.self.inside.base c.self.invariant c.drop_ask.ensures
+invariant_of-self c =
+    let i = c.self.inside in
+    let new = c.drop_ask.new.self in
+    still-recorded i.recent new i.base c.self.invariant (goes-on i.recent.core.state new.core.state (request.Drop c.args.txn) (answer_with (λ done. Dropped) c.drop_ask.result) refl c.drop_ask.ensures.step).0 c.drop_ask.ensures.forgotten

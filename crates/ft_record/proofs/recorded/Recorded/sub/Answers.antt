@@ -1,19 +1,13 @@
-use Rattle.std.proofs.Common.{◌+◌, ◌∷◌, ◌++◌, [], Some, ap, ◌∙◌}
-use Rattle.ft_core.specs.declared.request.Event.TheVariants as event
+use Rattle.std.proofs.Common.{refl}
 use Rattle.ft_core.specs.declared.request.Request.TheVariants as request
-use Rattle.ft_core.proofs.Known.{call_laws, lock_laws}
-use Rattle.ft_record.specs.Recording.{Recording}
-use Rattle.ft_record.proofs.Records.{recorded-begun, recorded-refused}
+use Rattle.ft_core.specs.declared.request.Answer.TheVariants.{Txn}
+use Rattle.ft_core.specs.Steps.{answer_with}
+use Rattle.ft_record.proofs.Moving.{goes-on}
+use Rattle.ft_record.proofs.Records.{still-recorded}
 use Rattle.ft_record.proofs.recorded.Recorded.sub.Goals as goal
 
-pub invariant_of-self-in_err-child : goal.invariant_of-self-in_err-child
-invariant_of-self-in_err-child c =
+pub invariant_of-self : goal.invariant_of-self
+invariant_of-self c =
     let i = c.self.inside in
-    recorded-refused i.core.state c.sub.new.self.state (request.Sub c.args.txn) c.in_err-child.field-0.0 i.past i.base c.self.invariant c.in_err-child.ensures c.reserve.new.self
-    (ap (λ (q : Recording). q.events) c.reserve.ensures.same) (ap (λ (q : Recording). q.spare) c.reserve.ensures.same)
-
-pub invariant_of-self-2 : goal.invariant_of-self-2
-invariant_of-self-2 c =
-    let i = c.self.inside in
-    recorded-begun call_laws lock_laws i.core.state (Some c.args.txn) c.in_ok-child.child c.sub.new.self.state i.past i.base c.self.invariant c.in_ok-child.ensures c.add.new.self
-    (ap (λ (q : Recording). q.events) c.add.ensures ∙ ap (λ (q : Recording). q.events ++ event.Begin c.in_ok-child.child (Some c.args.txn) ∷ []) c.reserve.ensures.same) (ap (λ (q : Recording). q.spare) c.add.ensures ∙ ap (λ (q : Recording). q.spare + 1) c.reserve.ensures.same)
+    let new = c.sub.new.self in
+    still-recorded i.recent new i.base c.self.invariant (goes-on i.recent.core.state new.core.state (request.Sub c.args.txn) (answer_with Txn c.sub.result) refl c.sub.ensures.step).0 c.sub.ensures.forgotten

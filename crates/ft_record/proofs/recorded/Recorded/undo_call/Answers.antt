@@ -1,34 +1,18 @@
-use Rattle.std.proofs.Common.{◌≡◌, ℕ, refl, sym, ap, subst}
+use Rattle.std.proofs.Common.{refl, sym, subst}
 use Rattle.ft_core.specs.declared.request.Request.TheVariants as request
+use Rattle.ft_core.specs.declared.request.Answer.TheVariants.{Undone}
 use Rattle.ft_core.specs.States.{StoredState}
-use Rattle.ft_core.proofs.Known.{call_laws, lock_laws}
-use Rattle.ft_record.specs.Recording.{Recording}
-use Rattle.ft_core.specs.declared.fault.Fault.{Fault}
-use Rattle.ft_core.specs.declared.request.Answer.TheVariants.{Undone, Refused}
 use Rattle.ft_core.specs.Promises.{IsJustMade}
-use Rattle.ft_record.proofs.Records.{recorded-refused, recorded-undone}
+use Rattle.ft_core.specs.Steps.{answer_with}
+use Rattle.ft_record.proofs.Moving.{goes-on}
+use Rattle.ft_record.proofs.Records.{still-recorded}
 use Rattle.ft_record.proofs.recorded.Recorded.undo_call.Goals as goal
 
 pub invariant_of-self : goal.invariant_of-self
 invariant_of-self c =
     let i = c.self.inside in
-    recorded-refused i.core.state c.undo_call.new.self.state (request.Undo c.args.txn) c.in_err-stamp.field-0.0 i.past i.base c.self.invariant c.in_err-stamp.ensures.step i.past refl refl
-
-pub tell-requires : goal.tell-requires
-tell-requires c = let i = c.self.inside in (recorded-undone call_laws lock_laws i.core.state c.args.txn c.in_ok-stamp.stamp c.undo_call.new.self.state i.past i.base c.self.invariant c.in_ok-stamp.ensures.step).0
-
-pub invariant_of-self-2 : goal.invariant_of-self-2
-invariant_of-self-2 c =
-    let i = c.self.inside in
-    (recorded-undone call_laws lock_laws i.core.state c.args.txn c.in_ok-stamp.stamp c.undo_call.new.self.state i.past i.base c.self.invariant c.in_ok-stamp.ensures.step).1 c.tell.new.self
-    (ap (λ (q : Recording). q.events) c.tell.ensures) (ap (λ (q : Recording). q.spare) c.tell.ensures)
-
-never : {f : Fault} {k : ℕ} → Refused f ≡ Undone k → ⊥
-never e = cc
-
-pub returns-in_err-stamp-clause-just_made : goal.returns-in_err-stamp-clause-just_made
-returns-in_err-stamp-clause-just_made c = λ before k just.
-    absurd (never (c.in_err-stamp.ensures.just_made before k (subst (λ (v : StoredState). IsJustMade before v.state c.args.txn k) (sym c.self.view_is) just)).0)
+    let new = c.undo_call.new.self in
+    still-recorded i.recent new i.base c.self.invariant (goes-on i.recent.core.state new.core.state (request.Undo c.args.txn) (answer_with Undone c.undo_call.result) refl c.undo_call.ensures.step).0 c.undo_call.ensures.forgotten
 
 pub returns-clause-just_made : goal.returns-clause-just_made
-returns-clause-just_made c = λ before k just. c.in_ok-stamp.ensures.just_made before k (subst (λ (v : StoredState). IsJustMade before v.state c.args.txn k) (sym c.self.view_is) just)
+returns-clause-just_made c = λ before k just. c.undo_call.ensures.just_made before k (subst (λ (v : StoredState). IsJustMade before v.state c.args.txn k) (sym c.self.view_is) just)

@@ -1,0 +1,60 @@
+-- A map from numbers whose values stand in pages, each at the place of its number.
+use Rattle.std.specs.Prelude.{◌≡◌, ◌⊎◌, ◌*◌, ℕ, suc, List, [], ◌∷◌, ◌++◌, length, replicate, Option, Some, None}
+use Rattle.std.specs.Ordering.{nat_cmp}
+use Rattle.std.specs.List.{AllByRecursion}
+use Rattle.std.specs.FinMap as finite
+use Rattle.ft_base.specs.declared.TheConstants.{PAGE_LEN}
+
+module _ {V : Type 0} where
+  -- the values of the places, from this number on, with their numbers
+  abbrev pub numbered : ℕ → List (Option V) → List (ℕ × V)
+  numbered k [] = []
+  numbered k (None ∷ places) = numbered (suc k) places
+  numbered k (Some value ∷ places) = (k, value) ∷ numbered (suc k) places
+
+  -- the map that they make: each value at the number of its place
+  abbrev pub dense : List (Option V) → finite.FinMap nat_cmp V
+  dense places = finite.from_entries (numbered 0 places)
+
+  -- a page without a value
+  abbrev pub blank : List (Option V)
+  blank = replicate PAGE_LEN None
+
+  -- the places of a page: those that stand in memory, or all without a value where none does
+  abbrev pub all_places : List (Option V) → List (Option V)
+  all_places [] = blank
+  all_places (place ∷ places) = place ∷ places
+
+  -- how many places have a value
+  abbrev pub valued : List (Option V) → ℕ
+  valued [] = 0
+  valued (None ∷ places) = valued places
+  valued (Some value ∷ places) = suc (valued places)
+
+  -- all places of a page stand in memory, or none
+  abbrev pub IsWhole : List (Option V) → Type 0
+  IsWhole places = (length places ≡ 0) ⊎ (length places ≡ PAGE_LEN)
+
+  -- and so many have a value
+  pub record IsPage (used : ℕ) (places : List (Option V)) : Type 0 where
+    pub whole : IsWhole places
+    pub counted : used ≡ valued places
+
+  -- the places of pages, one page after another
+  abbrev pub joined_places : List (List (Option V)) → List (Option V)
+  joined_places [] = []
+  joined_places (page ∷ pages) = page ++ joined_places pages
+
+  -- all places, where the pages have those behind the skipped ones: of 0, of the numbers whose
+  -- pages are skipped, which nobody has, and those of the pages
+  abbrev pub spread : Option V → ℕ → List (List (Option V)) → List (Option V)
+  spread zero skipped pages = zero ∷ (replicate (PAGE_LEN * skipped) None ++ joined_places pages)
+
+  -- each page has all its places
+  abbrev pub ArePages : List (List (Option V)) → Type 0
+  ArePages = AllByRecursion (λ page. length page ≡ PAGE_LEN)
+
+  -- all pages have all their places, and the spare one has no value
+  pub record IsPagedTable (pages : List (List (Option V))) (spare : List (Option V)) : Type 0 where
+    pub whole : ArePages pages
+    pub unused : spare ≡ blank

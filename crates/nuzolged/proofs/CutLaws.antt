@@ -1,0 +1,92 @@
+-- What is cut from a call is unseen.
+use Rattle.std.proofs.Common.{◌≡◌, ◌∙◌, ℕ, List, Option, Some, None, ap, sym, refl, subst, take-take, arith}
+use Rattle.std.specs.FinMap as finite
+use Rattle.ft_laws.specs.Lists as lists
+use Rattle.ft_cells.specs.Rows.{rows_of}
+use Rattle.ft_posix.specs.declared.call.Call.{Call}
+use Rattle.ft_posix.specs.declared.call.Call.TheVariants.{Mkdir, Rmdir, List as ListDir, Open, Close, Read, Write, Pread, Pwrite, Lseek, Truncate, Ftruncate, Stat, Fstat, Link, Unlink, Rename}
+use Rattle.ft_moss.specs.declared.line.LockLine.{LockLine}
+use Rattle.ft_waits.specs.declared.edge.Edge.{Edge}
+use Rattle.ft_waits.specs.declared.edge.EdgeKind.{EdgeKind}
+use Rattle.ft_waits.specs.declared.edge.EdgeKind.TheVariants.{Lock, Child}
+use Rattle.ft_waits.specs.Edges.{AreEdgesOf, WaitsFor}
+use Rattle.ft_words.specs.Texts.{tree_text}
+use Rattle.ft_core.specs.States.{State}
+use Rattle.ft_core.specs.Reports.{AreLockLines}
+use Rattle.ft_replies.specs.declared.line.Report.{Report}
+use Rattle.ft_replies.specs.declared.line.Report.TheVariants.{Tree, Locks, Waits}
+use Rattle.ft_replies.specs.Lines.{IsReportText}
+use Rattle.ft_core.specs.declared.request.Request.TheVariants.{Ask}
+use Rattle.ft_session.specs.declared.session.Session.{Session}
+use Rattle.nuzolged.specs.declared.told.Told.{Told}
+use Rattle.nuzolged.specs.Asked.{IsAsked, IsCallAsked}
+use Rattle.nuzolged.specs.Cuts.{cut_path, most_at, cut_of, AreAlike, CutLaw}
+use Rattle.nuzolged.proofs.CutStates.{left, alike_ask, tree-same, lock-same, fate-same, children-same, blockers-same, accesses-same, calls, requests}
+
+-- ---- what is left of what is left
+
+path-left : (path : List ℕ) → cut_path (cut_path path) ≡ cut_path path
+path-left path = take-take 4096 4096 path (omega arith)
+
+left-left : (call : Call) → cut_of (cut_of call) ≡ cut_of call
+left-left (Mkdir path) = ap Mkdir (path-left path)
+left-left (Rmdir path) = ap Rmdir (path-left path)
+left-left (ListDir path) = ap ListDir (path-left path)
+left-left (Open path access create excl trunc append) = ap (λ p. Open p access create excl trunc append) (path-left path)
+left-left (Close fd) = refl
+left-left (Read fd len) = refl
+left-left (Write fd bytes) = ap (Write fd) (take-take 1048576 1048576 bytes (omega arith))
+left-left (Pread fd off len) = refl
+left-left (Pwrite fd off bytes) = ap (Pwrite fd off) (take-take (most_at off) (most_at off) bytes (omega arith))
+left-left (Lseek fd whence off) = refl
+left-left (Truncate len path) = ap (Truncate len) (path-left path)
+left-left (Ftruncate fd len) = refl
+left-left (Stat path) = ap Stat (path-left path)
+left-left (Fstat fd) = refl
+left-left (Link old new) = λ i. Link (path-left old i) (path-left new i)
+left-left (Unlink path) = ap Unlink (path-left path)
+left-left (Rename old new) = λ i. Rename (path-left old i) (path-left new i)
+
+-- ---- reports
+
+module _ (s s' : State) (alike : AreAlike s s') where
+  back : AreAlike s' s
+  back = record { rule = sym alike.rule; base = sym alike.base; events = sym alike.events; asks = λ t. sym (alike.asks t); last_txn = sym alike.last_txn; last_stamp = sym alike.last_stamp }
+
+  waits-alike : (kind : EdgeKind) (from to : ℕ) → WaitsFor s kind from to → WaitsFor s' kind from to
+  waits-alike Lock from to waits =
+      let other = alike_ask (finite.get s'.asks from) waits.call (alike.asks from ∙ ap left waits.pending) in record {
+        call = other.other;
+        pending = other.is;
+        blocked = subst (lists.In to) (sym (blockers-same s s' alike from _ _ (accesses-same s s' alike waits.call other.other other.alike))) waits.blocked;
+      }
+  waits-alike Child from to waits = record { live = fate-same s s' alike from ∙ waits.live; child = subst (lists.In to) (sym (children-same s s' alike from)) waits.child }
+
+  locks-alike : (lines : List LockLine) → AreLockLines s lines → AreLockLines s' lines
+  locks-alike lines are = record { order = are.order; exact = λ l. ((λ inside. lock-same s s' alike l ∙ (are.exact l).0 inside), (λ is. (are.exact l).1 (sym (lock-same s s' alike l) ∙ is))) }
+
+edges-alike : (s s' : State) → AreAlike s s' → (edges : List Edge) → AreEdgesOf s edges → AreEdgesOf s' edges
+edges-alike s s' alike edges are = record {
+  order = are.order;
+  exact = λ e. ((λ inside. waits-alike s s' alike e.kind e.from e.to ((are.exact e).0 inside)), (λ waits. (are.exact e).1 (waits-alike s' s (back s s' alike) e.kind e.from e.to waits)));
+}
+
+reports-alike : (s s' : State) → AreAlike s s' → (report : Report) (text : List ℕ) → IsReportText s report text → IsReportText s' report text
+reports-alike s s' alike Tree text is = is ∙ sym (ap (λ tree. tree_text (rows_of tree)) (tree-same s s' alike))
+reports-alike s s' alike Locks text is = (is.0, locks-alike s s' alike is.0 is.1, is.2)
+reports-alike s s' alike Waits text is = (is.0, is.1, edges-alike s s' alike is.0 is.2, is.3, is.4)
+
+-- ---- the law
+
+pub cut_law : CutLaw
+cut_law = record { calls = calls; requests = requests; reports = reports-alike; left = left-left }
+
+-- a state is alike itself
+same_state : (s : State) → AreAlike s s
+same_state s = record { rule = refl; base = refl; events = refl; asks = λ t. refl; last_txn = refl; last_stamp = refl }
+
+-- what is asked by the cut of a call is asked by the call itself
+pub whole_asked : (old new : Option Session) (txn : ℕ) (told : Told) (call : Call) → IsAsked old (Ask txn (cut_of call)) told new → IsCallAsked old txn call told new
+whole_asked None new txn told call has = has
+whole_asked (Some old) new txn told call has =
+    let s = old.core.state in (has.0, has.1, has.2, has.3, has.4, calls s s (same_state s) txn (cut_of call) call (sym (left-left call)) has.1 has.0.core.state has.3.0)

@@ -1,0 +1,90 @@
+-- What is cut from a call before it is made, which nobody can tell from what it answers: more of a
+-- path than tells that it is too long, and more bytes than could have room.
+use Rattle.std.specs.Prelude.{◌≡◌, ℕ, ◌+◌, max, ℤ, pos, negsuc, List, take, map, option_map}
+use Rattle.std.specs.FinMap as finite
+use Rattle.ft_path.specs.declared.TheConstants.{LONGEST_PATH}
+use Rattle.ft_body.specs.declared.TheConstants.{SIZE_LIMIT}
+use Rattle.ft_body.specs.Bytes.{room_at}
+use Rattle.ft_posix.specs.declared.call.Call.{Call}
+use Rattle.ft_posix.specs.declared.call.Call.TheVariants.{Mkdir, Rmdir, List as ListDir, Open, Close, Read, Write, Pread, Pwrite, Lseek, Truncate, Ftruncate, Stat, Fstat, Link, Unlink, Rename}
+use Rattle.ft_core.specs.declared.request.Event.{Event}
+use Rattle.ft_core.specs.declared.request.Event.TheVariants.{Begin, Call as CallEvent, Undo, Commit, Abort}
+use Rattle.ft_core.specs.declared.request.Answer.{Answer}
+use Rattle.ft_core.specs.declared.request.Request.{Request}
+use Rattle.ft_core.specs.declared.request.Request.TheVariants.{Ask}
+use Rattle.ft_core.specs.States.{State}
+use Rattle.ft_core.specs.Steps.{IsStep, exact_rule}
+use Rattle.ft_replies.specs.declared.line.Report.{Report}
+use Rattle.ft_replies.specs.Lines.{IsReportText}
+
+-- one byte more of a path than it may have: a longer one is ENAMETOOLONG, whatever stands behind
+-- (POSIX.1-2017, System Interfaces, 2.3)
+abbrev pub cut_path : List ℕ → List ℕ
+cut_path path = take (LONGEST_PATH + 1) path
+
+-- as many bytes of a write as a file may have: where they go is known when it is granted
+abbrev pub cut_bytes : List ℕ → List ℕ
+cut_bytes bytes = take SIZE_LIMIT bytes
+
+-- as many bytes of a pwrite as have room at its place (POSIX.1-2017, System Interfaces, pwrite);
+-- and one where none has, since to write none is no error
+abbrev pub most_at : ℤ → ℕ
+most_at (pos at) = max 1 (room_at at)
+most_at (negsuc n) = 1
+
+-- what is left of a call
+abbrev pub cut_of : Call → Call
+cut_of (Mkdir path) = Mkdir (cut_path path)
+cut_of (Rmdir path) = Rmdir (cut_path path)
+cut_of (ListDir path) = ListDir (cut_path path)
+cut_of (Open path access create excl trunc append) = Open (cut_path path) access create excl trunc append
+cut_of (Close fd) = Close fd
+cut_of (Read fd len) = Read fd len
+cut_of (Write fd bytes) = Write fd (cut_bytes bytes)
+cut_of (Pread fd off len) = Pread fd off len
+cut_of (Pwrite fd off bytes) = Pwrite fd off (take (most_at off) bytes)
+cut_of (Lseek fd whence off) = Lseek fd whence off
+cut_of (Truncate len path) = Truncate len (cut_path path)
+cut_of (Ftruncate fd len) = Ftruncate fd len
+cut_of (Stat path) = Stat (cut_path path)
+cut_of (Fstat fd) = Fstat fd
+cut_of (Link old new) = Link (cut_path old) (cut_path new)
+cut_of (Unlink path) = Unlink (cut_path path)
+cut_of (Rename old new) = Rename (cut_path old) (cut_path new)
+
+-- ---- what a core keeps
+
+-- what is left of an event
+abbrev pub cut_event : Event → Event
+cut_event (Begin t parent) = Begin t parent
+cut_event (CallEvent k t call reply accesses) = CallEvent k t (cut_of call) reply accesses
+cut_event (Undo k) = Undo k
+cut_event (Commit t) = Commit t
+cut_event (Abort t) = Abort t
+
+-- Two states are the same, but for what could be cut from the calls that were made and from those
+-- that wait.
+pub record AreAlike (s s' : State) : Type 0 where
+  pub rule : s'.rule ≡ s.rule
+  pub base : s'.base ≡ s.base
+  pub events : map cut_event s'.events ≡ map cut_event s.events
+  pub asks : (t : ℕ) → option_map cut_of (finite.get s'.asks t) ≡ option_map cut_of (finite.get s.asks t)
+  pub last_txn : s'.last_txn ≡ s.last_txn
+  pub last_stamp : s'.last_stamp ≡ s.last_stamp
+
+-- what a step answers to the one request in the one state, a step answers to the other in the
+-- other, and they leave states that are alike
+abbrev pub AnswerAlike : State → Request → State → Request → Type 0
+AnswerAlike s request s' request' =
+    (answer : Answer) (after : State) → IsStep exact_rule s request answer after → (after' : State) × IsStep exact_rule s' request' answer after' × AreAlike after after'
+
+-- Nobody sees what is cut: from states that are alike on,
+pub record CutLaw : Type 0 where
+  -- calls of which the same is left have the same answers;
+  pub calls : (s s' : State) → AreAlike s s' → (t : ℕ) (call call' : Call) → cut_of call' ≡ cut_of call → AnswerAlike s (Ask t call) s' (Ask t call')
+  -- so has whatever else is asked, and asked later, since what is left is alike;
+  pub requests : (s s' : State) → AreAlike s s' → (request : Request) → AnswerAlike s request s' request
+  -- and reports are the same.
+  pub reports : (s s' : State) → AreAlike s s' → (report : Report) (text : List ℕ) → IsReportText s report text → IsReportText s' report text
+  -- A call and what is left of it are such calls.
+  pub left : (call : Call) → cut_of (cut_of call) ≡ cut_of call
