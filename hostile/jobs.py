@@ -1,12 +1,10 @@
 """Jobs in threads: each allocation refused, and each thread."""
 import os
+import sys
 import tempfile
 
 import playing
 import scripts
-
-# Every so many allocations, where not all are tried.
-STRIDE = 3
 
 # Two jobs side by side, and two inside the first: each makes a directory and looks at it.
 PLAN = b"""job a
@@ -88,14 +86,13 @@ def refused_memory_for_good(bench):
 def fault_of_refusals(bench, settings):
     """Each allocation: the run ends well, or for want of memory or of a thread."""
     plan = Plan(bench)
-    number, refused = 1, 1
-    while refused > 0:
+    for number in bench.part(range(1, sys.maxsize)):
         ran, counts = plan.run(allocation=number, **settings)
         fault = fault_of_run(ran)
         if fault is not None:
             return f"allocation {number}: {fault}"
-        refused = counts.refused
-        number += bench.stride(STRIDE)
+        if counts.refused == 0:
+            break
     return None
 
 

@@ -7,9 +7,6 @@ without.
 import playing
 import scripts
 
-# Every so many allocations, where not all are tried.
-STRIDE = 3
-
 REFUSED = b"refused Memory\n"
 
 # So many allocations more than it makes by itself a request is tried with behind reports, which
@@ -74,7 +71,7 @@ class Refusals:
 
     def fault_of_each(self, counts):
         """Each allocation of the script, one at a time."""
-        for number in range(1, counts.allocations + 1, self.bench.stride(STRIDE)):
+        for number in self.bench.part(range(1, counts.allocations + 1)):
             ran, refused = self.play(self.case.script, allocation=number)
             fault = self.fault_of_refusal(ran)
             if refused.refused != 1:
@@ -112,7 +109,7 @@ class Refusals:
             if not request.startswith(TAKES_NONE):
                 made = ends[at + 1] - ends[at]
                 places += [(at, number) for number in range(1, made + MORE + 1)]
-        for at, number in places[:: self.bench.stride(STRIDE)]:
+        for at, number in self.bench.part(places):
             fault = self.fault_of_again(at, number) or self.fault_of_abort(at, number)
             if fault is not None:
                 return f"{self.requests[at]!r}, allocation {number}: {fault}"

@@ -2,9 +2,6 @@
 import playing
 import scripts
 
-# Every so many bytes, where a script is not cut after each.
-STRIDE = 3
-
 # What reads and writes are tried with: files, locks and transactions of every kind of reply.
 TRIED = ["files_are_written_and_read", "locks_held_and_retained", "deadlock_is_reported"]
 
@@ -28,7 +25,7 @@ def lasting_tests():
 
 def fault_of_cuts(bench, case):
     """The script up to each byte: its whole lines are answered, and what is left of the next."""
-    for end in range(0, len(case.script) + 1, bench.stride(STRIDE)):
+    for end in bench.part(range(len(case.script) + 1)):
         fault = fault_of_cut(bench, case, end)
         if fault is not None:
             return f"cut after byte {end}: {fault}"
@@ -36,9 +33,11 @@ def fault_of_cuts(bench, case):
 
 
 def fault_of_cut(bench, case, end):
+    """What is left of a line is answered as a line of its own."""
     whole, left = split_behind_lines(case.script[:end])
     before = text_before(case, whole)
-    ran = playing.run([bench.program, "play", *case.words], case.script[:end])
+    words = [bench.program, "play", *case.words]
+    ran = playing.run(words, case.script[:end])
     if ran.status != 0:
         return f"status {ran.status}, {ran.errors!r}"
     if not ran.text.startswith(before):
@@ -46,7 +45,7 @@ def fault_of_cut(bench, case, end):
     last = ran.text[len(before) :]
     if scripts.has_reply(left) != (last != b"") or (last and not scripts.is_one_reply(last)):
         return f"{left!r} was answered {playing.shown(last)}"
-    return None
+    return playing.fault_of(playing.run(words, whole + left + b"\n"), ran.text)
 
 
 def split_behind_lines(script):

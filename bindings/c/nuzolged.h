@@ -59,8 +59,9 @@ typedef struct nuz_answer {
  *
  * 0          The request was carried out; a call was granted, and has its stamp.
  * 1 to 75    An errno, as Linux numbers them (errno.h). The call was granted, has its stamp,
- *            failed, and changed nothing. Only calls answer one.
- * 1001-1010  The request is refused. Nothing has changed.
+ *            failed, and changed nothing of the tree. As any other it has locks, counts towards
+ *            NUZ_FULL, and is what an undo may take back. Only calls answer one.
+ * 1001-1010  The request is refused. Nothing of the tree has changed.
  * 1100       NUZ_WAITS. The call waits for transactions, which nuz_blocker tells. It is kept:
  *            nuz_retry makes it, and nuz_drop forgets it; a further call replaces it.
  * 1200       NUZ_CLOSED. The handle holds no tree. Nothing has changed.
@@ -113,7 +114,8 @@ void nuz_tree_close(nuz_tree *tree);
 
 /* ---- transactions
  *
- * Each of these answers NUZ_CLOSED, the refusals that it names, in their order, or what it says. */
+ * Each of these answers NUZ_CLOSED, the refusals that it names, in their order, or what it says.
+ * Those that take no memory never answer NUZ_MEMORY. */
 
 /* Begins a transaction: number is that of the transaction. The caller ends it, by a commit or an
  * abort. Refused: NUZ_FULL, NUZ_MEMORY. */
@@ -132,8 +134,9 @@ nuz_answer nuz_commit(nuz_tree *tree, uint64_t txn);
  * NUZ_ENDED. */
 nuz_answer nuz_abort(nuz_tree *tree, uint64_t txn);
 
-/* Takes back the last of txn's own calls that stand: stamp is that of the call. Takes no memory.
- * Refused: NUZ_NO_TXN, NUZ_ENDED, NUZ_CHILD_LIVE, then NUZ_SUB_SINCE or NUZ_NOTHING_TO_UNDO. */
+/* Takes back the last of txn's own calls that stand: stamp is that of the call. It may be one that
+ * only looked, as nuz_stat, or that failed. Takes no memory. Refused: NUZ_NO_TXN, NUZ_ENDED,
+ * NUZ_CHILD_LIVE, then NUZ_SUB_SINCE or NUZ_NOTHING_TO_UNDO. */
 nuz_answer nuz_undo(nuz_tree *tree, uint64_t txn);
 
 /* Forgets the call that txn waits for. Takes no memory. Refused: NUZ_NO_TXN, NUZ_ENDED,
@@ -153,11 +156,8 @@ nuz_answer nuz_checkpoint(nuz_tree *tree);
  *
  * Each makes one call inside txn, and is what POSIX.1-2017 says of the function of that name.
  * Each answers NUZ_CLOSED; NUZ_BAD where a path has a null byte; the refusals NUZ_NO_TXN,
- * NUZ_ENDED, NUZ_FULL, in this order, and NUZ_MEMORY; NUZ_WAITS; or was granted, with its stamp: 0,
- * or one of the errnos that it names. A path also gives ENOENT, ENOTDIR and ENAMETOOLONG.
- *
- * Want of memory for the copy of a path or of bytes is answered before it is looked for the
- * transaction. */
+ * NUZ_ENDED, NUZ_FULL and NUZ_MEMORY, in this order; NUZ_WAITS; or was granted, with its stamp: 0,
+ * or one of the errnos that it names. A path also gives ENOENT, ENOTDIR and ENAMETOOLONG. */
 
 /* Makes a directory. EEXIST. */
 nuz_answer nuz_mkdir(nuz_tree *tree, uint64_t txn, const uint8_t *path, size_t len);
@@ -228,9 +228,8 @@ nuz_answer nuz_pwrite(nuz_tree *tree, uint64_t txn, uint64_t fd, const uint8_t *
 /* ---- parts of the last answer
  *
  * They read the answer to the last request of this tree that was carried out, refused or made to
- * wait, and change nothing. (One that was answered NUZ_BAD, or that had no memory for a copy of its
- * path or bytes, was none.) Each answers 0; NUZ_CLOSED; or NUZ_BAD where that answer has no such
- * part. */
+ * wait, and change nothing. (NUZ_BAD answers none.) Each answers 0; NUZ_CLOSED; or NUZ_BAD where
+ * that answer has no such part. */
 
 /* A name of a list, counted from 0, in the order of bytes: kind, and in size how long it is. As
  * much of it as has room is copied to buffer, whose rest is untouched; there is no null byte behind
@@ -253,8 +252,8 @@ nuz_answer nuz_bytes(nuz_tree *tree, uint8_t *buffer, size_t room);
  * report, `tree`, `locks` or `waits`, changes nothing of the tree, and is answered 0; so is an
  * empty line or a comment, which asks for nothing: size is how long the reply is. NUZ_BAD: the line
  * asks for none of these. NUZ_MEMORY too where there was none for the words of the line, or for the
- * text of a report; where there was none for what a report tells of, its reply is `refused
- * Memory`. */
+ * text of a report: then the last answer stays. Where there was none for what a report tells of,
+ * its reply is `refused Memory`. */
 nuz_answer nuz_request(nuz_tree *tree, const uint8_t *line, size_t len);
 
 /* The text of the reply to the last request, whether it was a line or not, each of its lines with

@@ -625,9 +625,11 @@ static bool reports_are_told(void) {
 
 /* ---- want of memory */
 
-/* Whether each request for which there may be none is refused for want of memory. */
+/* Whether each request for which there may be none is refused for want of memory, which is the last
+ * answer then; and one that is refused anyhow as with memory. */
 static bool are_refused(nuz_tree *t, uint64_t fd) {
-    CHECK(nuz_mkdir(t, 1, NUZ_S("/d")).code == NUZ_MEMORY);
+    CHECK(nuz_mkdir(t, 1, NUZ_S("/d")).code == NUZ_MEMORY && nuz_blocker(t, 0).code == NUZ_BAD);
+    CHECK(nuz_mkdir(t, 9, NUZ_S("/d")).code == NUZ_NO_TXN);
     CHECK(nuz_rename(t, 1, NUZ_S("/f"), NUZ_S("/g")).code == NUZ_MEMORY);
     CHECK(nuz_pwrite(t, 1, fd, NUZ_S("new"), 0).code == NUZ_MEMORY);
     CHECK(nuz_request(t, NUZ_S("tree")).code == NUZ_MEMORY);
@@ -640,14 +642,17 @@ static bool want_of_memory_changes_nothing(void) {
     uint64_t fd = open_file(&t, 1, "/f");
     CHECK(nuz_sub(&t, 1).number == 2 && nuz_mkdir(&t, 2, NUZ_S("/two")).code == 0);
     CHECK(nuz_sub(&t, 1).number == 3 && nuz_mkdir(&t, 3, NUZ_S("/three")).code == 0);
+    CHECK(nuz_list(&t, 1, NUZ_S("/")).code == NUZ_WAITS && nuz_blocker(&t, 0).number == 2);
     allocations_left = 0;
     uint32_t no_tree = nuz_tree_open(&other, NUZ_PROFILE);
     bool refused = are_refused(&t, fd);
-    nuz_answer committed = nuz_commit(&t, 2), aborted = nuz_abort(&t, 3), undone = nuz_undo(&t, 1);
+    nuz_answer committed = nuz_commit(&t, 2), ended = nuz_write(&t, 2, fd, NUZ_S("new"));
+    nuz_answer aborted = nuz_abort(&t, 3), undone = nuz_undo(&t, 1);
     nuz_tree_close(&other);
     allocations_left = -1;
     CHECK(no_tree == NUZ_MEMORY && other.at == NULL && refused);
-    CHECK(committed.code == 0 && aborted.code == 0 && undone.code == NUZ_SUB_SINCE);
+    CHECK(committed.code == 0 && ended.code == NUZ_ENDED);
+    CHECK(aborted.code == 0 && undone.code == NUZ_SUB_SINCE);
     CHECK(says(&t, "tree", "tree 6\ndir 1\ndir 6\nedge 1 f 2\nedge 1 two 6\nfile 2 3 old\n"
                            "fd 5 2 rw 0\n"));
     nuz_tree_close(&t);

@@ -149,7 +149,10 @@ class Transaction:
         return count
 
     def undo(self) -> int:
-        """Takes back the last of its own calls that stand, and answers the stamp of that call."""
+        """Takes back the last of its own calls that stand, and answers the stamp of that call.
+
+        It may be one that only looked, as `stat` does, or that failed.
+        """
         return self._ask("nuz_undo").stamp
 
     def forget(self) -> None:

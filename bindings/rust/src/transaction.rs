@@ -144,7 +144,8 @@ impl<R: Reach> Transaction<R> {
         Ok(self.end(Handle::abort)?.number)
     }
 
-    /// Takes back the last of its own calls that stand, and answers the stamp of that call.
+    /// Takes back the last of its own calls that stand, and answers the stamp of that call. It may
+    /// be one that only looked, as `stat` does, or that failed.
     pub fn undo(&self) -> Result<u64> {
         Ok(self.ask(Handle::undo)?.stamp)
     }

@@ -1,7 +1,8 @@
 -- What a script does that is played first.
-use Rattle.std.specs.Prelude.{◌≡◌, ◌⊎◌, ℕ, suc, Bool, true, false, List, [], ◌∷◌, ◌++◌, length, Option, None, Some}
+use Rattle.std.specs.Prelude.{◌≡◌, ◌≢◌, ◌⊎◌, ℕ, suc, Bool, true, false, List, [], ◌∷◌, ◌++◌, length, Option, None, Some}
 use Rattle.ft_moss.specs.declared.rule.Rule.{Rule}
 use Rattle.ft_posix.specs.declared.call.Reply.TheVariants.{Done, Names, Number, Bytes, Info, Failed}
+use Rattle.ft_core.specs.declared.fault.Fault.TheVariants.{Memory as MemoryFault}
 use Rattle.ft_core.specs.declared.request.Answer.{Answer}
 use Rattle.ft_core.specs.declared.request.Answer.TheVariants.{Txn, Granted, Waits, Dropped, Committed, Aborted, Undone, Cleared, Refused}
 use Rattle.ft_core.specs.States.{State, after_checkpoint, at_base, first_base, has_live}
@@ -37,11 +38,13 @@ GoesWell old line.Bad new = ⊥
 GoesWell old (line.Request request) new = (answer : Answer) × IsLegal old request answer new × (is_well answer ≡ true)
 GoesWell old (line.Report report) new = new ≡ old
 
--- A line asks for nothing, or its request is refused, fails or waits.
+-- A line asks for nothing, or its request is refused, except for being out of memory, fails or
+-- waits.
 abbrev pub GoesBadly : State → Line → State → Type 0
 GoesBadly old line.Silent new = ⊥
 GoesBadly old line.Bad new = new ≡ old
-GoesBadly old (line.Request request) new = (answer : Answer) × IsLegal old request answer new × (is_well answer ≡ false)
+GoesBadly old (line.Request request) new =
+    (answer : Answer) × IsLegal old request answer new × (is_well answer ≡ false) × (answer ≢ Refused MemoryFault)
 GoesBadly old (line.Report report) new = ⊥
 
 -- Lines do, one after another.
@@ -65,7 +68,8 @@ StopsAtLine number old lines new =
 abbrev pub LeavesLive : ℕ → State → List (List ℕ) → State → Type 0
 LeavesLive number old lines new = (number ≡ length lines) × PlaysWell old lines new × (has_live new ≡ true)
 
--- Some lines did what they ask for, and then there was no memory.
+-- Some lines did what they ask for, and then there was no memory: for the next line, for its
+-- request, or for the checkpoint.
 abbrev pub WantsMemory : State → List (List ℕ) → State → Type 0
 WantsMemory old lines new = (done : List (List ℕ)) × (rest : List (List ℕ)) × (lines ≡ done ++ rest) × PlaysWell old done new
 

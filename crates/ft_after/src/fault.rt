@@ -5,7 +5,7 @@ use thiserror::Error;
 /// Why a script was not played first.
 #[derive(Clone, Copy, Debug, PartialEq, Eq, Error)]
 pub enum AfterFault {
-    /// There was no memory.
+    /// There was no memory, for a line or for what it asks for.
     #[error("Memory")]
     Memory,
     /// The line of this number, from 1, asks for nothing, or its request is refused, fails or

@@ -1,5 +1,5 @@
 // A script that is played first.
-ghost use Rattle.std.specs.Prelude.{◌≡◌, ◌<◌, ◌^◌, true, false, length, option_copied, IfErr, IfOk, OnOk};
+ghost use Rattle.std.specs.Prelude.{◌≡◌, ◌↔◌, ◌<◌, ◌^◌, true, false, length, option_copied, IfErr, IfOk, IsTrue, OnErr, OnOk};
 ghost use Rattle.ft_core.specs.Living.{NoneIsLive};
 ghost use Rattle.ft_core.specs.States.{at_base, first_base};
 ghost use Rattle.ft_replies.specs.Requests.{meaning_of};
@@ -7,6 +7,7 @@ ghost use Rattle.ft_words.specs.Spelling.{lines_of};
 ghost use Rattle.ft_after.specs.After.{Begins, GoesBadly, GoesWell, IsPlayedFirst, PlaysWell, StopsBegin, StopsFirst, is_well};
 
 use crate::fault::AfterFault;
+use ft_base::Memory;
 use ft_calls::Reply;
 use ft_core::{Answer, Core, Fault, Request, Rule};
 use ft_replies::{Line, carry_out, meaning_of};
@@ -38,7 +39,7 @@ pub fn core_after(alloc: Global, rule: Rule, script: Option<&[u8]>) -> Result<Co
 ///
 /// Each line has to do what it asks for: a line that asks for nothing, and a request that is
 /// refused, fails or waits, end it with their number, and so does a transaction that is left live.
-/// Reports are left out.
+/// Where there is no memory, also for a request, that is the fault. Reports are left out.
 pub fn play_first(alloc: Global, script: &[u8], core: &mut Core) -> Result<(), AfterFault>
     ensures ok { OnOk result (IsPlayedFirst core.old.state (lines_of script.now) core.new.state) }
     ensures fault { IfErr result (λ fault. StopsFirst fault core.old.state (lines_of script.now) core.new.state) }
@@ -73,22 +74,34 @@ fn play_all(alloc: Global, script: &[u8], core: &mut Core) -> Result<u64, AfterF
 fn play_line(alloc: Global, line: &[u8], core: &mut Core) -> Result<bool, AfterFault>
     ensures well { IfOk result (λ well. well ≡ true → GoesWell core.old.state (meaning_of line.now) core.new.state) }
     ensures badly { IfOk result (λ well. well ≡ false → GoesBadly core.old.state (meaning_of line.now) core.new.state) }
-    ensures memory { IfErr result (λ fault. (fault ≡ AfterFault.Memory) × (core.new ≡ core.old)) }
+    ensures memory { IfErr result (λ fault. (fault ≡ AfterFault.Memory) × (core.new.state ≡ core.old.state)) }
 {
     match meaning_of(alloc, line)? {
         Line::Silent | Line::Report(_) => Ok(true),
         Line::Bad => Ok(false),
-        Line::Request(request) => Ok(does_well(core, request)),
+        Line::Request(request) => Ok(does_well(core, request)?),
     }
 }
 
-// Carries out a request, and answers whether it was granted and did not fail.
-fn does_well(core: &mut Core, request: Request) -> bool
-    ensures well { result ≡ true → GoesWell core.old.state (Line.Request request) core.new.state }
-    ensures badly { result ≡ false → GoesBadly core.old.state (Line.Request request) core.new.state }
+// Carries out a request, and answers whether it was granted and did not fail. Its only error is
+// that there was no memory for it.
+fn does_well(core: &mut Core, request: Request) -> Result<bool, Memory>
+    ensures well { IfOk result (λ well. well ≡ true → GoesWell core.old.state (Line.Request request) core.new.state) }
+    ensures badly { IfOk result (λ well. well ≡ false → GoesBadly core.old.state (Line.Request request) core.new.state) }
+    ensures memory { OnErr result (core.new.state ≡ core.old.state) }
 {
     let answer = carry_out(core, request);
-    is_well(&answer)
+    if wants_memory(&answer) {
+        return Err(Memory);
+    }
+    Ok(is_well(&answer))
+}
+
+// Whether there was no memory for a request.
+fn wants_memory(answer: &Answer) -> bool
+    ensures { IsTrue result ↔ answer.now ≡ Answer.Refused Fault.Memory }
+{
+    matches!(answer, Answer::Refused(Fault::Memory))
 }
 
 // Whether a request was granted and did not fail.

@@ -1,20 +1,19 @@
 -- The bytes of a file (POSIX.1-2017, Base Definitions, 3.164 File): what a read gives, and what a
 -- write and a change of the length leave. XSH is POSIX.1-2017, System Interfaces.
 use Rattle.std.specs.Prelude.{ℕ, ◌+◌, ◌-◌, List, [], ◌∷◌, ◌++◌, length, take, drop, replicate}
-use Rattle.ft_body.specs.declared.TheConstants.{SIZE_LIMIT}
 
 -- the bytes from an offset on, at most so many; at or past the end none (XSH read, pread)
 abbrev pub bytes_at : List ℕ → ℕ → ℕ → List ℕ
 bytes_at bytes offset count = take count (drop offset bytes)
 
--- how many bytes there is room for at an offset below the limit (XSH write, which leaves the
--- limit open; this one is a rule of this project)
-abbrev pub room_at : ℕ → ℕ
-room_at offset = SIZE_LIMIT - offset
+-- how many bytes there is room for at an offset below a limit (XSH write, which leaves the limit
+-- open)
+abbrev pub room_at : ℕ → ℕ → ℕ
+room_at limit offset = limit - offset
 
--- as many of the bytes as there is room for at an offset (XSH write)
-abbrev pub fitting : List ℕ → ℕ → List ℕ
-fitting bytes offset = take (room_at offset) bytes
+-- as many of the bytes as there is room for at an offset below a limit (XSH write)
+abbrev pub fitting : ℕ → List ℕ → ℕ → List ℕ
+fitting limit bytes offset = take (room_at limit offset) bytes
 
 -- the bytes, and behind them zeros up to a length (XSH lseek on gaps, ftruncate)
 abbrev pub padded : List ℕ → ℕ → List ℕ

@@ -1,12 +1,13 @@
 // The body of a file, seen as a list of bytes.
 ghost use Rattle.std.specs.Prelude.{◌≡◌, ◌==◌, ◌≤◌, ◌+◌, ◌/◌, ℕ, false, [], length, slice_index, IsOk, IfOk, OnOk, OnErr};
+ghost use Rattle.ft_body.specs.declared.TheConstants.{LARGEST_SIZE};
 ghost use Rattle.ft_body.specs.Bytes.{bytes_at, fitting, written, resized};
 ghost use Rattle.ft_body.specs.Paging.{made_pages, is_made, KeepsPagesOutside, MakesNoPage};
 
 use crate::page::Page;
 use crate::pages::{Lost, copy_of_pages, read, resize, write};
 use crate::undo::BodyUndo;
-use crate::{PAGE_SIZE, SIZE_LIMIT};
+use crate::{LARGEST_SIZE, PAGE_SIZE};
 use ft_base::Memory;
 use std::alloc::Global;
 use std::marker::Model;
@@ -49,7 +50,7 @@ impl Body {
     /// How many bytes there are.
     pub fn len(&self) -> u64
         ensures count { result ≡ length self.now }
-        ensures limit { result ≤ SIZE_LIMIT }
+        ensures limit { result ≤ LARGEST_SIZE }
     {
         self.size as u64
     }
@@ -74,19 +75,19 @@ impl Body {
         read(alloc, &self.pages, start as usize, count as usize)
     }
 
-    /// Writes as many of the bytes as there is room for below the size limit at an offset, and
+    /// Writes as many of the bytes as there is room for below `LARGEST_SIZE` at an offset, and
     /// answers how many those are. Zeros fill a gap before them. Where none is written nothing
     /// changes, and that takes no memory.
     pub fn write_at(&mut self, offset: u64, bytes: &[u8]) -> Result<(u64, BodyUndo), Memory>
-        requires { offset ≤ SIZE_LIMIT }
-        ensures taken { IfOk result (λ done. done.0 ≡ length (fitting bytes.now offset)) }
-        ensures after { OnOk result (self.new ≡ written self.old offset (fitting bytes.now offset)) }
+        requires { offset ≤ LARGEST_SIZE }
+        ensures taken { IfOk result (λ done. done.0 ≡ length (fitting LARGEST_SIZE bytes.now offset)) }
+        ensures after { OnOk result (self.new ≡ written self.old offset (fitting LARGEST_SIZE bytes.now offset)) }
         ensures undo { IfOk result (λ done. done.1 ≡ record { before = self.old; after = self.new }) }
         ensures err { OnErr result (self.new ≡ self.old) }
-        ensures nothing { fitting bytes.now offset ≡ [] → IsOk result }
-        ensures pages { OnOk result (KeepsPagesOutside self.old self.new offset (offset + length (fitting bytes.now offset))) }
+        ensures nothing { fitting LARGEST_SIZE bytes.now offset ≡ [] → IsOk result }
+        ensures pages { OnOk result (KeepsPagesOutside self.old self.new offset (offset + length (fitting LARGEST_SIZE bytes.now offset))) }
     {
-        let taken = (SIZE_LIMIT - offset).min(bytes.len() as u64) as usize;
+        let taken = (LARGEST_SIZE - offset).min(bytes.len() as u64) as usize;
         if taken == 0 {
             return Ok((0, self.unchanged()));
         }
@@ -115,7 +116,7 @@ impl Body {
     /// Cuts the body to a size, or adds zeros up to it. To set the size that it has takes no
     /// memory.
     pub fn set_len(&mut self, size: u64) -> Result<BodyUndo, Memory>
-        requires { size ≤ SIZE_LIMIT }
+        requires { size ≤ LARGEST_SIZE }
         ensures after { OnOk result (self.new ≡ resized self.old size) }
         ensures undo { IfOk result (λ undo. undo ≡ record { before = self.old; after = self.new }) }
         ensures err { OnErr result (self.new ≡ self.old) }

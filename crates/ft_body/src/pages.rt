@@ -7,7 +7,7 @@ ghost use Rattle.ft_body.specs.PutBack.{PutsBack, PutPartsBack};
 
 use crate::buffer::LostBytes;
 use crate::page::Page;
-use crate::{PAGE_SIZE, SIZE_LIMIT};
+use crate::{LARGEST_SIZE, PAGE_SIZE};
 use ft_base::Memory;
 use smallvec::SmallVec;
 use std::alloc::Global;
@@ -58,7 +58,7 @@ pub(crate) fn read(
     start: usize,
     count: usize,
 ) -> Result<Vec<u8>, Memory>
-    requires limit { start + count ≤ SIZE_LIMIT }
+    requires limit { start + count ≤ LARGEST_SIZE }
     requires room { count_of (start + count) ≤ length pages.now }
     requires pages { ArePages pages.now }
     ensures count { IfOk result (λ read. length read.items ≡ count) }
@@ -95,7 +95,7 @@ pub(crate) fn copy_of_pages(alloc: Global, pages: &[Page]) -> Result<Vec<Page>, 
 
 /// Writes bytes, at least one, from `offset` on.
 pub(crate) fn write(pages: &mut Vec<Page>, offset: usize, bytes: &[u8]) -> Result<Lost, Memory>
-    requires limit { offset + length bytes.now ≤ SIZE_LIMIT }
+    requires limit { offset + length bytes.now ≤ LARGEST_SIZE }
     requires some { 0 < length bytes.now }
     requires pages { ArePages pages.old.items }
     ensures count { OnOk result (vec_len pages.new ≡ max (vec_len pages.old) (count_of (offset + length bytes.now))) }
@@ -127,7 +127,7 @@ fn write_each(
     offset: usize,
     bytes: &[u8],
 ) -> Result<SmallVec<LostBytes, 1>, Memory>
-    requires limit { offset + length bytes.now ≤ SIZE_LIMIT }
+    requires limit { offset + length bytes.now ≤ LARGEST_SIZE }
     requires some { 0 < length bytes.now }
     requires room { offset + length bytes.now ≤ length pages.old * PAGE_SIZE }
     requires pages { ArePages pages.old }
@@ -158,7 +158,7 @@ fn write_each(
 /// Cuts pages that hold `old_size` bytes to so many, or adds holes up to them.
 pub(crate) fn resize(pages: &mut Vec<Page>, old_size: usize, size: usize) -> Result<Lost, Memory>
     requires paged { IsPaged old_size pages.old.items }
-    requires limit { size ≤ SIZE_LIMIT }
+    requires limit { size ≤ LARGEST_SIZE }
     ensures paged { OnOk result (IsPaged size pages.new.items) }
     ensures after { OnOk result (bytes_in size pages.new.items ≡ resized (bytes_in old_size pages.old.items) size) }
     ensures lost { IfOk result (λ lost. PutsBack lost pages.new.items pages.old.items) }
@@ -176,7 +176,7 @@ pub(crate) fn resize(pages: &mut Vec<Page>, old_size: usize, size: usize) -> Res
 /// Cuts to so many bytes.
 fn cut(pages: &mut Vec<Page>, size: usize) -> Result<Lost, Memory>
     requires room { count_of size ≤ vec_len pages.old }
-    requires limit { size ≤ SIZE_LIMIT }
+    requires limit { size ≤ LARGEST_SIZE }
     requires pages { ArePages pages.old.items }
     ensures count { OnOk result (vec_len pages.new ≡ count_of size) }
     ensures pages { OnOk result (ArePages pages.new.items) }

@@ -3,6 +3,7 @@ use Rattle.std.specs.Prelude.{List, refl}
 use Rattle.std.specs.FinMap as finite
 use Rattle.std.specs.Coded.{Coded, code_by, coded×, coded_list}
 use Rattle.logbook.specs.Pages.{Book, book_coded}
+use Rattle.ft_cells.specs.Limits.{default_limits}
 use Rattle.ft_cells.specs.Plain.{PlainTree}
 use Rattle.ft_posix.specs.declared.stamped.StampedCall.{StampedCall}
 use Rattle.ft_posix.specs.contracts.stamped.StampedCall as stamped
@@ -16,7 +17,7 @@ pub record Views : Type 0 where
 abbrev pub no_views : Views
 no_views = record {
   book = record { number = 0; log_name = 0; cells_name = 0 };
-  base = record { edges = finite.empty; dirs = finite.empty; files = finite.empty; opens = finite.empty };
+  base = record { limits = default_limits; edges = finite.empty; dirs = finite.empty; files = finite.empty; opens = finite.empty };
 }
 
 -- a beginning of a book's history

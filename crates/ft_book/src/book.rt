@@ -54,18 +54,26 @@ impl Plain<StampedCall, StampedCall, u64> for Add {
     ghost state = { λ call. None };
 }
 
-/// Which views are meant: their book, and the tree from which its calls start. A program picks it
-/// at a call, for views that it has just opened, and `Brand` is a type to pick it for.
+/// Which views are meant: their book, the tree from which its calls start, and which lists of its
+/// calls are whole, so that readers may be shown them. `Brand` is a type to pick them for, at a
+/// call.
 pub trait Naming {
+    ghost use Rattle.std.specs.Prelude.{List};
+    ghost use Rattle.ft_posix.specs.declared.stamped.StampedCall.{StampedCall};
     ghost use Rattle.ft_book.specs.Names.{Views};
 
     ghost opened: { Views };
+
+    // The lists that may be shown.
+    ghost shows: { List StampedCall → Type 0 };
 }
 
 impl Naming for Brand {
     ghost use Rattle.ft_book.specs.Names.{no_views};
 
     ghost opened = { no_views };
+
+    ghost shows = { λ calls. ⊥ };
 }
 
 /// The word that threads share: the length of the history. Clauses see which book it is.

@@ -1,6 +1,6 @@
 // What the calls on descriptors come to.
-ghost use Rattle.std.specs.Prelude.{◌≡◌, ◌<◌, ◌≤◌, [], length};
-ghost use Rattle.ft_body.specs.declared.TheConstants.{SIZE_LIMIT};
+ghost use Rattle.std.specs.Prelude.{◌≡◌, ◌<◌, ◌≤◌, ◌+◌, [], length};
+ghost use Rattle.ft_body.specs.declared.TheConstants.{LARGEST_SIZE};
 ghost use Rattle.ft_body.specs.Bytes.{fitting};
 ghost use Rattle.ft_posix.specs.Descriptors.{with_open, any_open, is_readable, is_writable, at_offset, close_open, read_open, pread_at, pread_open, write_place, write_at, write_open, pwrite_at, pwrite_open, seek_from, seek_open, moved, sought, ftruncate_open, fstat_open};
 ghost use Rattle.ft_cells.specs.Looks.{Answer};
@@ -11,11 +11,10 @@ ghost use Rattle.ft_posix.specs.Intended.{intended};
 use crate::files::{cut_file, file_info};
 use crate::offsets::{not_negative, seek_place, to_size};
 use ft_base::Memory;
-use ft_body::SIZE_LIMIT;
 use ft_looks::Look;
 use ft_path::Errno;
 use ft_posix::{Edit, Edits, Stop, Told, Whence};
-use ft_tree::OpenFile;
+use ft_tree::{OpenFile, TreeLimits};
 
 /// Writes at the offset, which becomes the end of what was written.
 pub(crate) fn write<'c>(
@@ -25,11 +24,12 @@ pub(crate) fn write<'c>(
     bytes: &'c [u8],
 ) -> Result<Told, Stop>
     requires { edits.old ≡ [] }
-    ensures { Comes look.old (with_open fd is_writable (write_open fd bytes.now)) look.new (intended edits.new result) }
+    ensures { Comes look.old (with_open fd is_writable (write_open look.old.cells.limits fd bytes.now)) look.new (intended edits.new result) }
 {
+    let limits = look.limits();
     match look.open_file(fd)? {
         Some(description) if description.access.can_write() => {
-            write_open(look, edits, fd, bytes, description)
+            write_open(look, edits, limits, fd, bytes, description)
         }
         _ => Err(Stop::Errno(Errno::EBADF)),
     }
@@ -39,18 +39,20 @@ pub(crate) fn write<'c>(
 fn write_open<'c>(
     look: &mut Look<'_>,
     edits: &mut Edits<'c>,
+    limits: TreeLimits,
     fd: u64,
     bytes: &'c [u8],
     description: OpenFile,
 ) -> Result<Told, Stop>
-    requires { edits.old ≡ [] }
-    ensures { Comes look.old (write_open fd bytes.now description) look.new (intended edits.new result) }
+    requires none { edits.old ≡ [] }
+    requires size { limits.file_size ≤ LARGEST_SIZE }
+    ensures { Comes look.old (write_open limits fd bytes.now description) look.new (intended edits.new result) }
 {
     if bytes.is_empty() {
         return Ok(Told::Number(0));
     }
     let place = write_place(look, description)?;
-    write_at(look, edits, fd, description, bytes, place)
+    write_at(look, edits, limits, fd, description, bytes, place)
 }
 
 /// Where bytes are to go: with append, to the end of the file.
@@ -67,20 +69,23 @@ fn write_place(look: &mut Look<'_>, description: OpenFile) -> Result<u64, Memory
 fn write_at<'c>(
     look: &mut Look<'_>,
     edits: &mut Edits<'c>,
+    limits: TreeLimits,
     fd: u64,
     description: OpenFile,
     bytes: &'c [u8],
     at: u64,
 ) -> Result<Told, Stop>
-    requires { edits.old ≡ [] }
-    ensures { Comes look.old (write_at fd description bytes.now at) look.new (intended edits.new result) }
+    requires none { edits.old ≡ [] }
+    requires size { limits.file_size ≤ LARGEST_SIZE }
+    ensures { Comes look.old (write_at limits fd description bytes.now at) look.new (intended edits.new result) }
 {
-    if at >= SIZE_LIMIT {
+    if at >= limits.file_size {
         return Err(Stop::Errno(Errno::EFBIG));
     }
     look.size(description.file)?;
     let file = look.hinted(description.file);
-    let taken = room_for(bytes, at);
+    let bytes = with_room(limits, bytes, at);
+    let taken = bytes.len() as u64;
     edits.push(Edit::Overwrite { file, at, bytes })?;
     edits.push(Edit::Open {
         fd,
@@ -89,14 +94,16 @@ fn write_at<'c>(
     Ok(Told::Number(taken))
 }
 
-/// How many of the bytes have room at a place.
-fn room_for(bytes: &[u8], at: u64) -> u64
-    requires { at < SIZE_LIMIT }
-    ensures count { result ≡ length (fitting bytes.now at) }
-    ensures limit { result ≤ SIZE_LIMIT }
+/// As many of the bytes as have room at a place.
+fn with_room(limits: TreeLimits, bytes: &[u8], at: u64) -> &[u8]
+    requires place { at < limits.file_size }
+    requires size { limits.file_size ≤ LARGEST_SIZE }
+    ensures bytes { result.now ≡ fitting limits.file_size bytes.now at }
+    ensures all_fit { fitting LARGEST_SIZE result.now at ≡ result.now }
+    ensures end { at + length result.now ≤ LARGEST_SIZE }
 {
-    let room = SIZE_LIMIT - at;
-    (bytes.len() as u64).min(room)
+    let room = limits.file_size - at;
+    &bytes[..room.min(bytes.len() as u64) as usize]
 }
 
 /// A description with another offset.
@@ -227,11 +234,12 @@ pub(crate) fn pwrite<'c>(
     bytes: &'c [u8],
 ) -> Result<Told, Stop>
     requires { edits.old ≡ [] }
-    ensures { Comes look.old (with_open fd is_writable (pwrite_open offset bytes.now)) look.new (intended edits.new result) }
+    ensures { Comes look.old (with_open fd is_writable (pwrite_open look.old.cells.limits offset bytes.now)) look.new (intended edits.new result) }
 {
+    let limits = look.limits();
     match look.open_file(fd)? {
         Some(description) if description.access.can_write() => {
-            pwrite_open(look, edits, offset, bytes, description)
+            pwrite_open(look, edits, limits, offset, bytes, description)
         }
         _ => Err(Stop::Errno(Errno::EBADF)),
     }
@@ -241,38 +249,44 @@ pub(crate) fn pwrite<'c>(
 fn pwrite_open<'c>(
     look: &mut Look<'_>,
     edits: &mut Edits<'c>,
+    limits: TreeLimits,
     offset: i64,
     bytes: &'c [u8],
     description: OpenFile,
 ) -> Result<Told, Stop>
-    requires { edits.old ≡ [] }
-    ensures { Comes look.old (pwrite_open offset bytes.now description) look.new (intended edits.new result) }
+    requires none { edits.old ≡ [] }
+    requires size { limits.file_size ≤ LARGEST_SIZE }
+    ensures { Comes look.old (pwrite_open limits offset bytes.now description) look.new (intended edits.new result) }
 {
     let at = not_negative(offset)?;
-    pwrite_at(look, edits, description, bytes, at)
+    pwrite_at(look, edits, limits, description, bytes, at)
 }
 
 /// Writes to a description's file, as many bytes as have room there.
 fn pwrite_at<'c>(
     look: &mut Look<'_>,
     edits: &mut Edits<'c>,
+    limits: TreeLimits,
     description: OpenFile,
     bytes: &'c [u8],
     at: u64,
 ) -> Result<Told, Stop>
-    requires { edits.old ≡ [] }
-    ensures { Comes look.old (pwrite_at description bytes.now at) look.new (intended edits.new result) }
+    requires none { edits.old ≡ [] }
+    requires size { limits.file_size ≤ LARGEST_SIZE }
+    ensures { Comes look.old (pwrite_at limits description bytes.now at) look.new (intended edits.new result) }
 {
     if bytes.is_empty() {
         return Ok(Told::Number(0));
     }
-    if at >= SIZE_LIMIT {
+    if at >= limits.file_size {
         return Err(Stop::Errno(Errno::EFBIG));
     }
     look.size(description.file)?;
     let file = look.hinted(description.file);
+    let bytes = with_room(limits, bytes, at);
+    let taken = bytes.len() as u64;
     edits.push(Edit::Overwrite { file, at, bytes })?;
-    Ok(Told::Number(room_for(bytes, at)))
+    Ok(Told::Number(taken))
 }
 
 /// Sets the offset.
@@ -347,11 +361,12 @@ pub(crate) fn ftruncate(
     length: i64,
 ) -> Result<Told, Stop>
     requires { edits.old ≡ [] }
-    ensures { Comes look.old (with_open fd is_writable (ftruncate_open length)) look.new (intended edits.new result) }
+    ensures { Comes look.old (with_open fd is_writable (ftruncate_open look.old.cells.limits length)) look.new (intended edits.new result) }
 {
+    let limits = look.limits();
     match look.open_file(fd)? {
         Some(description) if description.access.can_write() => {
-            ftruncate_open(look, edits, length, description)
+            ftruncate_open(look, edits, limits, length, description)
         }
         _ => Err(Stop::Errno(Errno::EBADF)),
     }
@@ -361,13 +376,15 @@ pub(crate) fn ftruncate(
 fn ftruncate_open(
     look: &mut Look<'_>,
     edits: &mut Edits<'_>,
+    limits: TreeLimits,
     length: i64,
     description: OpenFile,
 ) -> Result<Told, Stop>
-    requires { edits.old ≡ [] }
-    ensures { Comes look.old (ftruncate_open length description) look.new (intended edits.new result) }
+    requires none { edits.old ≡ [] }
+    requires size { limits.file_size ≤ LARGEST_SIZE }
+    ensures { Comes look.old (ftruncate_open limits length description) look.new (intended edits.new result) }
 {
-    let size = to_size(length)?;
+    let size = to_size(limits, length)?;
     cut_file(look, edits, description.file, size)
 }
 

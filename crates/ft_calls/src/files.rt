@@ -1,6 +1,6 @@
 // What open, truncate and stat come to.
 ghost use Rattle.std.specs.Prelude.{◌≡◌, ◌≤◌, [], Ok, None};
-ghost use Rattle.ft_body.specs.declared.TheConstants.{SIZE_LIMIT};
+ghost use Rattle.ft_body.specs.declared.TheConstants.{LARGEST_SIZE};
 ghost use Rattle.ft_path.specs.FilePath.{parts_of};
 ghost use Rattle.ft_cells.specs.Entries.{entry_in};
 ghost use Rattle.ft_cells.specs.Looks.{Answer};
@@ -141,10 +141,10 @@ pub(crate) fn truncate(
     path: &FilePath,
 ) -> Result<Told, Stop>
     requires { edits.old ≡ [] }
-    ensures { Comes look.old (truncate_parts length (parts_of path.now)) look.new (intended edits.new result) }
+    ensures { Comes look.old (truncate_parts look.old.cells.limits length (parts_of path.now)) look.new (intended edits.new result) }
 {
     let parts = text_parts(alloc, path)?;
-    let size = to_size(length)?;
+    let size = to_size(look.limits(), length)?;
     truncate_to(look, edits, size, &parts)
 }
 
@@ -155,7 +155,7 @@ fn truncate_to(
     size: u64,
     parts: &Parts,
 ) -> Result<Told, Stop>
-    requires size { size ≤ SIZE_LIMIT }
+    requires size { size ≤ LARGEST_SIZE }
     requires none { edits.old ≡ [] }
     ensures { Comes look.old (from_parts (Ok parts.now) (truncate_spot size)) look.new (intended edits.new result) }
 {
@@ -170,7 +170,7 @@ fn truncate_spot(
     size: u64,
     spot: Spot<'_>,
 ) -> Result<Told, Stop>
-    requires size { size ≤ SIZE_LIMIT }
+    requires size { size ≤ LARGEST_SIZE }
     requires none { edits.old ≡ [] }
     ensures { Comes look.old (truncate_spot size (seen_at spot.entry)) look.new (intended edits.new result) }
 {
@@ -191,7 +191,7 @@ pub(crate) fn cut_file(
     file: u64,
     size: u64,
 ) -> Result<Told, Stop>
-    requires size { size ≤ SIZE_LIMIT }
+    requires size { size ≤ LARGEST_SIZE }
     requires none { edits.old ≡ [] }
     ensures { Comes look.old (cut_file file size) look.new (intended edits.new result) }
 {

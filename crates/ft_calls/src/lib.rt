@@ -12,7 +12,7 @@ mod offsets;
 mod preparing;
 
 pub use ft_posix::{
-    Access, Call, Edit, Edits, Intent, LAST_OFFSET, MOST_LINKS, Mode, OpenFlags, Reply,
-    StampedCall, Told, Whence,
+    Access, Call, Edit, Edits, Intent, LAST_OFFSET, Mode, OpenFlags, Reply, StampedCall, Told,
+    Whence,
 };
 pub use preparing::{Prepared, accesses, prepare};

@@ -15,8 +15,8 @@ ghost use Rattle.ft_posix.specs.Intended.{intended};
 use ft_base::Memory;
 use ft_looks::{Look, text_parts};
 use ft_path::{Errno, FilePath, LastName, Parts};
-use ft_posix::{Edit, Edits, MOST_LINKS, Stop, Told};
-use ft_tree::{EntryRef, Node, Spot};
+use ft_posix::{Edit, Edits, Stop, Told};
+use ft_tree::{EntryRef, Node, Spot, TreeLimits};
 use std::alloc::Global;
 
 /// Removes an entry of a file.
@@ -66,43 +66,46 @@ pub(crate) fn link(
     new: &FilePath,
 ) -> Result<Told, Stop>
     requires { edits.old ≡ [] }
-    ensures { Comes look.old (link_parts (parts_of old.now) (parts_of new.now)) look.new (intended edits.new result) }
+    ensures { Comes look.old (link_parts look.old.cells.limits (parts_of old.now) (parts_of new.now)) look.new (intended edits.new result) }
 {
     let from = text_parts(alloc, old)?;
     let to = text_parts(alloc, new)?;
-    link_parts(look, edits, &from, &to)
+    let limits = look.limits();
+    link_parts(look, edits, limits, &from, &to)
 }
 
 /// Links the file that a path's components lead to, where those of another lead.
 fn link_parts(
     look: &mut Look<'_>,
     edits: &mut Edits<'_>,
+    limits: TreeLimits,
     old: &Parts,
     new: &Parts,
 ) -> Result<Told, Stop>
     requires { edits.old ≡ [] }
-    ensures { Comes look.old (link_parts (Ok old.now) (Ok new.now)) look.new (intended edits.new result) }
+    ensures { Comes look.old (link_parts limits (Ok old.now) (Ok new.now)) look.new (intended edits.new result) }
 {
     let spot = look.walk(old)?;
-    link_old(look, edits, new, spot)
+    link_old(look, edits, limits, new, spot)
 }
 
 /// Links the file at which a walk ended.
 fn link_old(
     look: &mut Look<'_>,
     edits: &mut Edits<'_>,
+    limits: TreeLimits,
     new: &Parts,
     spot: Spot<'_>,
 ) -> Result<Told, Stop>
     requires { edits.old ≡ [] }
-    ensures { Comes look.old (link_old new.now (seen_at spot.entry)) look.new (intended edits.new result) }
+    ensures { Comes look.old (link_old limits new.now (seen_at spot.entry)) look.new (intended edits.new result) }
 {
     match spot {
         Spot::Named { node: None, .. } => Err(Stop::Errno(Errno::ENOENT)),
         Spot::Named {
             node: Some(Node::File(file)),
             ..
-        } => link_file(look, edits, file, new),
+        } => link_file(look, edits, limits, file, new),
         _ => Err(Stop::Errno(Errno::EPERM)),
     }
 }
@@ -111,26 +114,28 @@ fn link_old(
 fn link_file(
     look: &mut Look<'_>,
     edits: &mut Edits<'_>,
+    limits: TreeLimits,
     file: u64,
     new: &Parts,
 ) -> Result<Told, Stop>
     requires { edits.old ≡ [] }
-    ensures { Comes look.old (from_parts (Ok new.now) (link_new file new.now.trailing)) look.new (intended edits.new result) }
+    ensures { Comes look.old (from_parts (Ok new.now) (link_new limits file new.now.trailing)) look.new (intended edits.new result) }
 {
     let spot = look.walk(new)?;
-    link_new(look, edits, file, new.trailing, spot)
+    link_new(look, edits, limits, file, new.trailing, spot)
 }
 
-/// Links a file where a walk ended, unless it has as many links as a file may have.
+/// Links a file where a walk ended, unless it has as many links as the tree allows.
 fn link_new(
     look: &mut Look<'_>,
     edits: &mut Edits<'_>,
+    limits: TreeLimits,
     file: u64,
     trailing: bool,
     spot: Spot<'_>,
 ) -> Result<Told, Stop>
     requires { edits.old ≡ [] }
-    ensures { Comes look.old (link_new file trailing (seen_at spot.entry)) look.new (intended edits.new result) }
+    ensures { Comes look.old (link_new limits file trailing (seen_at spot.entry)) look.new (intended edits.new result) }
 {
     let Spot::Named { entry, node: None } = spot else {
         return Err(Stop::Errno(Errno::EEXIST));
@@ -139,7 +144,7 @@ fn link_new(
         return Err(Stop::Errno(Errno::ENOENT));
     }
     let links = look.links(file)?;
-    if links >= MOST_LINKS {
+    if links >= limits.links {
         return Err(Stop::Errno(Errno::EMLINK));
     }
     edits.push_entry(entry, Some(Node::File(file)))?;

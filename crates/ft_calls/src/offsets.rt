@@ -1,12 +1,11 @@
 // The numbers that a call may give for sizes and offsets.
 ghost use Rattle.std.specs.Prelude.{◌≡◌, ◌≤◌, IfOk};
-ghost use Rattle.ft_body.specs.declared.TheConstants.{SIZE_LIMIT};
 ghost use Rattle.ft_posix.specs.Files.{to_size};
 ghost use Rattle.ft_posix.specs.Descriptors.{not_negative, moved, offset_within};
 
-use ft_body::SIZE_LIMIT;
 use ft_path::Errno;
 use ft_posix::LAST_OFFSET;
+use ft_tree::TreeLimits;
 
 /// An offset that is not negative.
 pub(crate) fn not_negative(offset: i64) -> Result<u64, Errno>
@@ -19,12 +18,12 @@ pub(crate) fn not_negative(offset: i64) -> Result<u64, Errno>
 }
 
 /// A length that a file may have.
-pub(crate) fn to_size(length: i64) -> Result<u64, Errno>
-    ensures size { result ≡ to_size length }
-    ensures limit { IfOk result (λ size. size ≤ SIZE_LIMIT) }
+pub(crate) fn to_size(limits: TreeLimits, length: i64) -> Result<u64, Errno>
+    ensures size { result ≡ to_size limits length }
+    ensures limit { IfOk result (λ size. size ≤ limits.file_size) }
 {
     let size = not_negative(length)?;
-    if size > SIZE_LIMIT {
+    if size > limits.file_size {
         return Err(Errno::EFBIG);
     }
     Ok(size)

@@ -58,7 +58,7 @@ fn tell_or_fail<'c>(
 ) -> Result<Told, Memory>
     requires { edits.old ≡ [] }
     ensures outcome { IfOk result (λ told. outcome_of look.old.cells (record { told = told; edits = edits.new }) ≡ outcome look.old.cells stamp call.now) }
-    ensures looks { OnOk result (look.new ≡ noted look.old (steps (stored_dirs look.old.cells) stamp call.now)) }
+    ensures looks { OnOk result (look.new ≡ noted look.old (steps look.old.cells.limits (stored_dirs look.old.cells) stamp call.now)) }
 {
     match tell(alloc, look, edits, stamp, call) {
         Ok(told) => Ok(told),
@@ -79,7 +79,7 @@ fn tell<'c>(
     call: &'c Call,
 ) -> Result<Told, Stop>
     requires { edits.old ≡ [] }
-    ensures { Comes look.old (steps (stored_dirs look.old.cells) stamp call.now) look.new (intended edits.new result) }
+    ensures { Comes look.old (steps look.old.cells.limits (stored_dirs look.old.cells) stamp call.now) look.new (intended edits.new result) }
 {
     match call {
         Call::Mkdir { path } => mkdir(alloc, look, edits, stamp, path),

@@ -13,6 +13,8 @@ use Rattle.ft_cells.specs.declared.node.Kind.TheVariants.{Dir as DirKind, File a
 use Rattle.ft_cells.specs.declared.node.Node.{Node}
 use Rattle.ft_cells.specs.declared.open_file.OpenFile.{OpenFile}
 use Rattle.ft_cells.specs.contracts.open_file.OpenFile as open_file
+use Rattle.ft_cells.specs.declared.limits.TreeLimits.{TreeLimits}
+use Rattle.ft_cells.specs.contracts.limits.TreeLimits as allowed
 use Rattle.ft_cells.specs.Nodes.{coded_node}
 
 -- What is stored of one directory: the directory that has its entry, or none, and a place for
@@ -42,8 +44,9 @@ abbrev pub Opens : Type 0
 Opens = map.FinMap nat_cmp (Option OpenFile)
 
 -- The stored cells of a tree: directories and files by number, and the descriptions by
--- descriptor.
+-- descriptor; and what the tree allows.
 pub record Cells : Type 0 where
+  pub limits : TreeLimits
   pub directories : map.FinMap nat_cmp DirCells
   pub files : map.FinMap nat_cmp FileCells
   pub opens : Opens
@@ -51,9 +54,9 @@ pub record Cells : Type 0 where
 -- how they are coded. Nothing a reader has to know.
 abbrev pub coded_cells : Coded Cells
 coded_cells =
-    code_by (map.FinMap nat_cmp DirCells × (map.FinMap nat_cmp FileCells × Opens))
-    (coded× (map.code coded_ℕ coded_dir_cells) (coded× (map.code coded_ℕ coded_file_cells) (map.code coded_ℕ (coded_option open_file.the_row.coded))))
-    (λ c. (c.directories, (c.files, c.opens))) (λ p. record { directories = p.0; files = p.1.0; opens = p.1.1 }) (λ _. refl)
+    code_by (TreeLimits × (map.FinMap nat_cmp DirCells × (map.FinMap nat_cmp FileCells × Opens)))
+    (coded× allowed.the_row.coded (coded× (map.code coded_ℕ coded_dir_cells) (coded× (map.code coded_ℕ coded_file_cells) (map.code coded_ℕ (coded_option open_file.the_row.coded)))))
+    (λ c. (c.limits, (c.directories, (c.files, c.opens)))) (λ p. record { limits = p.0; directories = p.1.0; files = p.1.1.0; opens = p.1.1.1 }) (λ _. refl)
 
 -- what a name leads to in one directory; a place that is empty, or not there, is no entry
 abbrev pub dir_entry : DirCells → List ℕ → Option Node
@@ -183,8 +186,8 @@ abbrev pub without_dir_place : DirCells → List ℕ → DirCells
 without_dir_place d name = record { parent = d.parent; entries = map.remove d.entries name }
 
 -- the root alone, without an entry: the tree at first (Root Directory)
-abbrev pub fresh_cells : Cells
-fresh_cells = record { directories = map.insert map.empty 1 no_dir; files = map.empty; opens = map.empty }
+abbrev pub fresh_cells : TreeLimits → Cells
+fresh_cells limits = record { limits = limits; directories = map.insert map.empty 1 no_dir; files = map.empty; opens = map.empty }
 
 -- a stored directory is there where it is the root or has a parent; else it is a place that was
 -- emptied (a rule of this project)

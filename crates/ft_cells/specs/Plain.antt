@@ -9,6 +9,7 @@ use Rattle.std.specs.FinMap as finite
 use Rattle.ft_cells.specs.declared.node.Node.{Node}
 use Rattle.ft_cells.specs.declared.node.Node.TheVariants.{Dir as DirNode, File as FileNode}
 use Rattle.ft_cells.specs.declared.open_file.OpenFile.{OpenFile}
+use Rattle.ft_cells.specs.declared.limits.TreeLimits.{TreeLimits}
 use Rattle.ft_cells.specs.declared.cell.Cell.TheVariants.{Entry, Names, Parent, Links, Bytes, Fd}
 use Rattle.ft_cells.specs.Entries.{entry_cmp}
 use Rattle.ft_cells.specs.Looks.{View}
@@ -20,6 +21,8 @@ NumberSet = finite.FinMap nat_cmp (Unit {0})
 
 -- a tree with nothing kept beside what it is: no place, no parent and no count of links
 pub record PlainTree : Type 0 where
+  -- how large files may be, and how many links they may have
+  pub limits : TreeLimits
   -- what number each entry leads to
   pub edges : finite.FinMap entry_cmp ℕ
   -- the numbers that are directories

@@ -11,6 +11,7 @@
 mod cell;
 mod entry;
 mod hint;
+mod limits;
 mod node;
 mod open_file;
 mod row;
@@ -18,6 +19,13 @@ mod row;
 pub use cell::Cell;
 pub use entry::{Entry, EntryRef};
 pub use hint::{Hint, Hinted, seen_in, value_in, with_hint};
+pub use limits::TreeLimits;
 pub use node::{Found, Kind, Node, Spot};
 pub use open_file::{AccessMode, OpenFile};
 pub use row::TreeRow;
+
+/// How many bytes a file may have where nobody asks for more: a mebibyte, a rule of this project.
+pub const DEFAULT_FILE_SIZE: u64 = 1_048_576;
+
+/// How many entries may name a file where nobody asks for more, a rule of this project.
+pub const DEFAULT_LINKS: u64 = 1_000;

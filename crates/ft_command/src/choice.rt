@@ -28,8 +28,8 @@ pub enum Choice {
         skip: bool,
         quiet: bool,
     },
-    /// Make this directory of the last tree among replies. How far it has come is not shown where
-    /// it is to be quiet.
+    /// Make this directory of the tree with which replies end. How far it has come is not shown
+    /// where it is to be quiet.
     Save {
         dir: String,
         quiet: bool,
@@ -274,7 +274,7 @@ fn save_command<'a>(alloc: Global) -> Result<Command<'a>, AllocError>
     ensures local { IfOk result HasNoGlobals }
 {
     Command::new(alloc, "save")
-        .about("Makes a directory of the last tree among replies")
+        .about("Makes a directory of the tree with which replies end")
         .arg(dir_arg(alloc))?
         .arg(quiet_arg(alloc))
 }

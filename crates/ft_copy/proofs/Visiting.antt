@@ -1,8 +1,7 @@
 -- What is done at one place.
 use Rattle.std.proofs.Common.{◌≡◌, ◌<◌, ◌≤◌, ℕ, false, List, [], ◌∷◌, length, map, Option, Some, inl, inr, refl, sym, subst}
-use Rattle.ft_body.specs.declared.TheConstants.{SIZE_LIMIT}
+use Rattle.ft_cells.specs.declared.TheConstants.{DEFAULT_FILE_SIZE, DEFAULT_LINKS}
 use Rattle.ft_path.specs.declared.TheConstants.{LONGEST_PATH}
-use Rattle.ft_posix.specs.declared.TheConstants.{MOST_LINKS}
 use Rattle.ft_copy.specs.declared.found.FileFacts.{FileFacts}
 use Rattle.ft_copy.specs.declared.found.Found.TheVariants as found
 use Rattle.ft_copy.specs.declared.found.Place.{Place}
@@ -13,13 +12,13 @@ use Rattle.ft_copy.specs.Runs.{CopiesFile, IsNoted, OfFile, OfFolder, OfFurther,
 use Rattle.ft_copy.proofs.Doing.{does_more, does_one}
 
 module _ {T : Type 0} (tells : Told → Type 0) (does : T → Asked → T → Type 0) (old new : T) where
-  pub first_name : (place : Place) (facts : FileFacts) (walk next : Standing) (path : List ℕ) → path ≡ place.path → facts.links ≤ MOST_LINKS → facts.size ≤ SIZE_LIMIT
+  pub first_name : (place : Place) (facts : FileFacts) (walk next : Standing) (path : List ℕ) → path ≡ place.path → facts.links ≤ DEFAULT_LINKS → facts.size ≤ DEFAULT_FILE_SIZE
       → IsNoted facts place.path walk next → CopiesFile tells does path place.node old new → VisitsFile tells does place facts walk next old new
   first_name place facts walk next path is few small noted made =
       let copied = subst (λ p. CopiesFile tells does p place.node old new) is made in
       (OfFile place.path copied.0, (few, small, inl (copied.0, refl, copied.1, noted)), copied.2)
 
-  pub further_name : (place : Place) (facts : FileFacts) (walk : Standing) (first path : List ℕ) → path ≡ place.path → facts.links ≤ MOST_LINKS → facts.size ≤ SIZE_LIMIT
+  pub further_name : (place : Place) (facts : FileFacts) (walk : Standing) (first path : List ℕ) → path ≡ place.path → facts.links ≤ DEFAULT_LINKS → facts.size ≤ DEFAULT_FILE_SIZE
       → 1 < facts.links → walk.firsts facts.id ≡ Some first → does old (Link first path) new → VisitsFile tells does place facts walk walk old new
   further_name place facts walk first path is few small more met linked =
       (OfFurther first place.path, (few, small, inr (first, refl, more, met, refl)), does_one does old new (Link first place.path) (subst (λ p. does old (Link first p) new) is linked))

@@ -1,9 +1,8 @@
 -- What a copy comes to: which places were visited, and what the target was asked for at each.
 use Rattle.std.specs.Prelude.{◌≡◌, ◌⊎◌, ◌<◌, ◌≤◌, ℕ, false, List, [], ◌∷◌, ◌++◌, map, length, Option, None, Some}
 use Rattle.std.specs.List.{flat_map}
-use Rattle.ft_body.specs.declared.TheConstants.{SIZE_LIMIT}
+use Rattle.ft_cells.specs.declared.TheConstants.{DEFAULT_FILE_SIZE, DEFAULT_LINKS}
 use Rattle.ft_path.specs.declared.TheConstants.{LONGEST_PATH}
-use Rattle.ft_posix.specs.declared.TheConstants.{MOST_LINKS}
 use Rattle.ft_copy.specs.declared.found.TheConstants.{ROOT}
 use Rattle.ft_copy.specs.declared.found.FileFacts.{FileFacts}
 use Rattle.ft_copy.specs.declared.found.Found.{Found}
@@ -54,7 +53,7 @@ module _ (tells : Told → Type 0) where
   -- A visit of a file, which is within the limits.
   abbrev pub IsFileVisit : Place → FileFacts → Standing → Visit → Standing → Type 0
   IsFileVisit place facts old visit new =
-      (facts.links ≤ MOST_LINKS) × (facts.size ≤ SIZE_LIMIT) × (IsFirstName place facts old visit new ⊎ IsFurtherName place facts old visit new)
+      (facts.links ≤ DEFAULT_LINKS) × (facts.size ≤ DEFAULT_FILE_SIZE) × (IsFirstName place facts old visit new ⊎ IsFurtherName place facts old visit new)
 
   -- A visit of what was found.
   abbrev pub IsVisitOf : Place → Found → Standing → Visit → Standing → Type 0

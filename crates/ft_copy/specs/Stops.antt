@@ -2,9 +2,8 @@
 use Rattle.std.specs.Prelude.{◌≡◌, ◌⊎◌, ◌<◌, ◌≤◌, ◌-◌, ◌^◌, ℕ, true, List, [], ◌∷◌, ◌++◌, map, length, IsSome, IsSomeAnd, Option, None, Some}
 use Rattle.std.specs.List.{concat, flat_map}
 use Rattle.std.specs.Io.KnownBytes.{Consumes}
-use Rattle.ft_body.specs.declared.TheConstants.{SIZE_LIMIT}
+use Rattle.ft_cells.specs.declared.TheConstants.{DEFAULT_FILE_SIZE, DEFAULT_LINKS}
 use Rattle.ft_path.specs.declared.TheConstants.{LONGEST_PATH}
-use Rattle.ft_posix.specs.declared.TheConstants.{MOST_LINKS}
 use Rattle.ft_copy.specs.declared.found.TheConstants.{ROOT}
 use Rattle.ft_copy.specs.declared.found.FileFacts.{FileFacts}
 use Rattle.ft_copy.specs.declared.found.Found.{Found}
@@ -38,7 +37,7 @@ module _ {T : Type 0} (does : T → Asked → T → Type 0) (fails : T → Asked
 -- A file that is read ends early where there is no memory for a piece, where its reader fails, or
 -- where it gives more bytes than a file may have.
 abbrev pub EndsReading : Trouble → List (List ℕ) → Type 0
-EndsReading trouble pieces = (trouble ≡ Memory) ⊎ (trouble ≡ Read) ⊎ ((trouble ≡ TooLarge) × (SIZE_LIMIT < length (concat pieces)))
+EndsReading trouble pieces = (trouble ≡ Memory) ⊎ (trouble ≡ Read) ⊎ ((trouble ≡ TooLarge) × (DEFAULT_FILE_SIZE < length (concat pieces)))
 
 module _ {T : Type 0} (does : T → Asked → T → Type 0) (fails : T → Asked → Trouble → T → Type 0) where
   -- The target was to put the pieces of a file behind the bytes of the open one, and did so with a
@@ -84,8 +83,8 @@ module _ (tells : Told → Type 0) where
   Hinders Memory place visit = Unit {0}
   Hinders Read place visit = IsSome (read_of visit)
   Hinders Special place visit = tells (Finds place.path place.node found.Special) × tells (Keeps place.path)
-  Hinders TooLarge place visit = FindsFile place (λ facts. SIZE_LIMIT < facts.size) ⊎ IsSomeAnd (read_of visit) (λ bytes. SIZE_LIMIT < length bytes)
-  Hinders TooManyLinks place visit = FindsFile place (λ facts. MOST_LINKS < facts.links)
+  Hinders TooLarge place visit = FindsFile place (λ facts. DEFAULT_FILE_SIZE < facts.size) ⊎ IsSomeAnd (read_of visit) (λ bytes. DEFAULT_FILE_SIZE < length bytes)
+  Hinders TooManyLinks place visit = FindsFile place (λ facts. DEFAULT_LINKS < facts.links)
   Hinders PathTooLong place visit = LONGEST_PATH < length place.path
   Hinders BadName place visit = is_dotted place.path ≡ true
   Hinders other place visit = ⊥

@@ -14,9 +14,8 @@ use crate::target::Target;
 use crate::trouble::{Stopped, Trouble};
 use crate::walk::{Walk, enter};
 use ft_base::Sequence;
-use ft_body::SIZE_LIMIT;
+use ft_cells::{DEFAULT_FILE_SIZE, DEFAULT_LINKS};
 use ft_path::LONGEST_PATH;
-use ft_posix::MOST_LINKS;
 use std::alloc::Global;
 
 /// Copies what a source tells of to a target: each directory before what stands in it, the names of
@@ -156,10 +155,10 @@ fn visit_file<S: Source, T: Target>(
         → IfErr result (λ trouble. StopsVisit (S.tells source.now) T.does T.fails trouble place.now (standing walk.old) target.old target.new) }
 {
     let path = place.path.as_slice();
-    if facts.links > MOST_LINKS {
+    if facts.links > DEFAULT_LINKS {
         return Err(Trouble::TooManyLinks);
     }
-    if facts.size > SIZE_LIMIT {
+    if facts.size > DEFAULT_FILE_SIZE {
         return Err(Trouble::TooLarge);
     }
     if facts.links <= 1 {

@@ -13,14 +13,14 @@ ghost use Rattle.ft_copy.specs.Walks.{Standing};
 use crate::source::Source;
 use crate::target::Target;
 use crate::trouble::Trouble;
-use ft_body::SIZE_LIMIT;
+use ft_cells::DEFAULT_FILE_SIZE;
 use std::alloc::{AllocError, Global};
 use std::io::{ErrorKind, Read};
 
 /// The most bytes of a piece in which a file is copied.
 pub const PIECE: usize = 65_536;
 
-/// Copies a file. One that turns out to have more than `SIZE_LIMIT` bytes is refused.
+/// Copies a file. One that turns out to have more than `DEFAULT_FILE_SIZE` bytes is refused.
 pub(crate) fn copy_file<S: Source, T: Target>(
     alloc: Global,
     source: &S,
@@ -45,7 +45,7 @@ fn pour<R: Read, T: Target>(alloc: Global, file: &mut R, target: &mut T) -> Resu
 {
     let mut room = room_for_piece(alloc)?;
     let piece = room.as_mut_slice();
-    let mut left = SIZE_LIMIT as usize;
+    let mut left = DEFAULT_FILE_SIZE as usize;
     loop {
         let count = read_piece(file, piece)?;
         if count == 0 {

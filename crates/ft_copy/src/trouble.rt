@@ -43,6 +43,15 @@ pub enum Trouble {
 
 /// Why a copy was not made, and the path at which it came. The path is empty where it came at the
 /// root, or before the first file or behind the last.
+///
+/// A trouble is what the source said where it could not tell, or what the target failed with. Else:
+///
+/// - Memory: there was none, at any time;
+/// - Special: the source told of something special that is not to be left out;
+/// - TooLarge, TooManyLinks: a file is over the limit, by what was told or read;
+/// - PathTooLong: the path has more than 4,095 bytes; BadName: its last name is `.` or `..`;
+/// - Read: a file was open to be read;
+/// - Full: behind 2^64 - 1 places.
 #[derive(Debug, PartialEq, Eq, Drop)]
 pub struct Stopped {
     pub trouble: Trouble,

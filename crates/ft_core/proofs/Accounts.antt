@@ -15,6 +15,7 @@ use Rattle.ft_cells.specs.declared.cell.Cell.{Cell}
 use Rattle.ft_cells.specs.declared.cell.Cell.TheVariants.{Entry, Names, Parent, Links, Bytes, Fd}
 use Rattle.ft_cells.specs.declared.open_file.OpenFile.{OpenFile}
 use Rattle.ft_cells.specs.CellOrder.{same_cell, same_cell-refl}
+use Rattle.ft_cells.specs.declared.limits.TreeLimits.{TreeLimits}
 use Rattle.ft_cells.specs.Cells.{Cells, DirCells, FileCells, no_dir, dir_of, is_there, has_file, fresh_cells}
 use Rattle.ft_tree.specs.Held.{held}
 use Rattle.ft_tree.specs.Sound.{AreSoundCells, IsFree}
@@ -73,42 +74,43 @@ accounted-of t cells all c spare =
 
 -- At first.
 
-fresh-get : (d : ℕ) → finite.get fresh_cells.directories d ≡ cond (d == 1) (Some no_dir) None
-fresh-get d = finite.get-insert nat_cmp_total finite.empty 1 no_dir d ∙ (λ i. cond (unsigned_tied d 1 i) (Some no_dir) (finite.get-empty {X = DirCells} nat_cmp d i))
+module _ (limits : TreeLimits) where
+  fresh-get : (d : ℕ) → finite.get (fresh_cells limits).directories d ≡ cond (d == 1) (Some no_dir) None
+  fresh-get d = finite.get-insert nat_cmp_total finite.empty 1 no_dir d ∙ (λ i. cond (unsigned_tied d 1 i) (Some no_dir) (finite.get-empty {X = DirCells} nat_cmp d i))
 
-fresh-dir : (d : ℕ) → dir_of fresh_cells d ≡ no_dir
-fresh-dir d = ap (λ o. unwrap_or o no_dir) (fresh-get d) ∙ by_root (d == 1)
-  where
-    by_root : (b : Bool) → unwrap_or (cond b (Some no_dir) None) no_dir ≡ no_dir
-    by_root true = refl
-    by_root false = refl
+  fresh-dir : (d : ℕ) → dir_of (fresh_cells limits) d ≡ no_dir
+  fresh-dir d = ap (λ o. unwrap_or o no_dir) (fresh-get d) ∙ by_root (d == 1)
+    where
+      by_root : (b : Bool) → unwrap_or (cond b (Some no_dir) None) no_dir ≡ no_dir
+      by_root true = refl
+      by_root false = refl
 
-abbrev useless_dir : ℕ → Option DirCells → Bool
-useless_dir d o = is_some o && not (option_map_or (is_there d) o false) && (finite.len (unwrap_or o no_dir).entries == 0)
+  abbrev useless_dir : ℕ → Option DirCells → Bool
+  useless_dir d o = is_some o && not (option_map_or (is_there d) o false) && (finite.len (unwrap_or o no_dir).entries == 0)
 
--- the root is there
-no-directory : (d : ℕ) → is_useless fresh_cells (Parent d) ≡ false
-no-directory d = ap (λ (o : Option DirCells). useless_dir d o) (fresh-get d) ∙ by_root (d == 1) refl
-  where
-    by_root : (b : Bool) → (d == 1) ≡ b → useless_dir d (cond b (Some no_dir) None) ≡ false
-    by_root true is = ap (λ b. true && not (b || false) && (finite.len no_dir.entries == 0)) is
-    by_root false is = refl
+  -- the root is there
+  no-directory : (d : ℕ) → is_useless (fresh_cells limits) (Parent d) ≡ false
+  no-directory d = ap (λ (o : Option DirCells). useless_dir d o) (fresh-get d) ∙ by_root (d == 1) refl
+    where
+      by_root : (b : Bool) → (d == 1) ≡ b → useless_dir d (cond b (Some no_dir) None) ≡ false
+      by_root true is = ap (λ b. true && not (b || false) && (finite.len no_dir.entries == 0)) is
+      by_root false is = refl
 
-no-file : (i : ℕ) → is_useless fresh_cells (Links i) ≡ false
-no-file i = ap (λ (o : Option FileCells). is_some o && not (has_file fresh_cells i)) (finite.get-empty {X = FileCells} nat_cmp i)
+  no-file : (i : ℕ) → is_useless (fresh_cells limits) (Links i) ≡ false
+  no-file i = ap (λ (o : Option FileCells). is_some o && not (has_file (fresh_cells limits) i)) (finite.get-empty {X = FileCells} nat_cmp i)
 
-fresh-none : (c : Cell) → is_useless fresh_cells c ≡ false
-fresh-none (Entry entry) =
-    ap (λ (x : DirCells). finite.contains_key x.entries entry.name && is_none (option_flatten (finite.get x.entries entry.name))) (fresh-dir entry.dir)
-    ∙ ap (λ (o : Option (Option Node)). is_some o && is_none (option_flatten o)) (finite.get-empty {X = Option Node} (slice_cmp nat_cmp) entry.name)
-fresh-none (Names d) = no-directory d
-fresh-none (Parent d) = no-directory d
-fresh-none (Links i) = no-file i
-fresh-none (Bytes i) = no-file i
-fresh-none (Fd f) = ap (λ (o : Option (Option OpenFile)). is_some o && is_none (option_flatten o)) (finite.get-empty {X = Option OpenFile} nat_cmp f)
+  fresh-none : (c : Cell) → is_useless (fresh_cells limits) c ≡ false
+  fresh-none (Entry entry) =
+      ap (λ (x : DirCells). finite.contains_key x.entries entry.name && is_none (option_flatten (finite.get x.entries entry.name))) (fresh-dir entry.dir)
+      ∙ ap (λ (o : Option (Option Node)). is_some o && is_none (option_flatten o)) (finite.get-empty {X = Option Node} (slice_cmp nat_cmp) entry.name)
+  fresh-none (Names d) = no-directory d
+  fresh-none (Parent d) = no-directory d
+  fresh-none (Links i) = no-file i
+  fresh-none (Bytes i) = no-file i
+  fresh-none (Fd f) = ap (λ (o : Option (Option OpenFile)). is_some o && is_none (option_flatten o)) (finite.get-empty {X = Option OpenFile} nat_cmp f)
 
-pub fresh-accounted : (kept let_go : Cell → Bool) → IsAccounted kept let_go fresh_cells
-fresh-accounted kept let_go c spare = absurd (false≢true (sym (fresh-none c) ∙ (and_parts (is_useless fresh_cells c) (not (at_place kept c)) spare).0))
+  pub fresh-accounted : (kept let_go : Cell → Bool) → IsAccounted kept let_go (fresh_cells limits)
+  fresh-accounted kept let_go c spare = absurd (false≢true (sym (fresh-none c) ∙ (and_parts (is_useless (fresh_cells limits) c) (not (at_place kept c)) spare).0))
 
 -- The locks change, and know what they knew.
 
@@ -131,6 +133,16 @@ granted-accounted W K cells t t' a txn accesses sound free touched granted all =
 
 -- A call is taken back, whose owner has its locks still.
 
+-- what names a file is a cell
+named-cell : (s : Cells) (z : Option Cell) (i : ℕ) → posix_calls.names z (posix_calls.cell s z) i ≡ true → (x : Cell) × (names_file x (held s x) i ≡ true)
+named-cell s None i h = absurd (false≢true h)
+named-cell s (Some x) i h = (x, h)
+
+-- and what no cell names, nothing does
+pub not-named : (s : Cells) (i : ℕ) → ((x : Cell) → names_file x (held s x) i ≡ false) → (z : Option Cell) → posix_calls.names z (posix_calls.cell s z) i ≡ false
+not-named s i none None = refl
+not-named s i none (Some x) = none x
+
 module _ (W : CallLaws) (cells : Cells) (e : Item) (own : IsOfWritten e) (t : LockTable) (locked : (c : Cell) → writes_cell e.done.accesses c ≡ true → is_locked t c ≡ true) where
   abbrev new : Cells
   new = posix_calls.revert cells e.inverse
@@ -144,8 +156,10 @@ module _ (W : CallLaws) (cells : Cells) (e : Item) (own : IsOfWritten e) (t : Lo
       -- a file that was open is the call's own, so the call wrote to it
       closed : (c : Cell) → is_useless new c ≡ true → IsOfOpenFile cells c → at_place (is_known t) c ≡ true
       closed c u shown =
-          let lost = loses (Fd shown.descriptor) shown.file shown.opened (W.nameless new sound shown.file (dead-file new c shown.file shown.belongs u)) in
-          let made = W.making lost.store e.done.call lost.sound lost.ready lost.cell (subst (λ i. names_file lost.cell (held (posix_calls.act lost.store e.done.call) lost.cell) i ≡ true) (sym lost.own) lost.named) in
+          let lost = loses (Some (Fd shown.descriptor)) shown.file shown.opened (not-named new shown.file (W.nameless new sound shown.file (dead-file new c shown.file shown.belongs u))) in
+          let there = named-cell (posix_calls.act lost.store e.done.call) lost.cell e.done.call.stamp
+          (subst (λ i. posix_calls.names lost.cell (posix_calls.cell (posix_calls.act lost.store e.done.call) lost.cell) i ≡ true) (sym lost.own) lost.named) in
+          let made = W.making lost.store e.done.call lost.sound lost.ready there.0 there.1 in
           same-place (is_known t) made.0 c shown.file (made.1 ∙ ap Some lost.own) shown.belongs (written-known made.0 (subst (λ f. writes_cell f made.0 ≡ true) lost.accesses made.2))
 
       by_left : (c : Cell) → is_useless new c ≡ true → (is_useless cells c ≡ true) ⊎ ((at_place (is_written posix e.inverse.before) c ≡ true) ⊎ IsOfOpenFile cells c) → at_place (is_known t) c ≡ true

@@ -7,6 +7,7 @@ use Rattle.std.specs.Ordering.{nat_cmp}
 use Rattle.std.specs.FinMap as finite
 use Rattle.ft_base.specs.Chains.{Lists}
 use Rattle.ft_laws.proofs.Tests.{by_test}
+use Rattle.ft_cells.specs.declared.limits.TreeLimits.{TreeLimits}
 use Rattle.ft_cells.specs.Cells.{Cells, fresh_cells}
 use Rattle.ft_tree.specs.Sound.{AreSoundCells, IsFree}
 use Rattle.ft_tree.specs.Sweep.{IsAccounted}
@@ -41,9 +42,9 @@ unborn first x = by_test (nat_lt first x && nat_le x first)
     (λ k. ap (λ b. cond b (Some (cond false Committed (cond false Aborted Live))) None) k)
 
 -- new: the root alone
-pub core-first : CallLaws → LockLaws → (rule : Rule) (cells : Cells) → cells ≡ fresh_cells → AreSoundCells cells → ((k : ℕ) → 2 ≤ k → IsFree cells k) → (lists : Lists Logged) → AreLists lists (λ t. [])
+pub core-first : CallLaws → LockLaws → (rule : Rule) (limits : TreeLimits) (cells : Cells) → cells ≡ fresh_cells limits → AreSoundCells cells → ((k : ℕ) → 2 ≤ k → IsFree cells k) → (lists : Lists Logged) → AreLists lists (λ t. [])
     → IsCoreOf (state_of (none_since 0) (no_events rule (tidy cells) 1)) (parts cells (none_since 0) no_locks lists) (no_events rule (tidy cells) 1)
-core-first W K rule cells fresh sound free lists none = record {
+core-first W K rule limits cells fresh sound free lists none = record {
   log = λ t. [];
   kept = record {
     started = record {
@@ -72,20 +73,20 @@ core-first W K rule cells fresh sound free lists none = record {
   logs = record { logged = λ t. subst (AreLogged []) (sym (none t)) tt; placed = λ t e i. absurd i };
   ready = λ t live. absurd (not_live (sym (unborn 0 t) ∙ live));
   waiting = λ t some. absurd (false≢true (sym (ap is_some (finite.get-empty {X = Call} nat_cmp t)) ∙ some));
-  accounted = subst (IsAccounted (is_locked no_locks) (is_let_go no_locks)) (sym fresh) (fresh-accounted (is_locked no_locks) (is_let_go no_locks));
+  accounted = subst (IsAccounted (is_locked no_locks) (is_let_go no_locks)) (sym fresh) (fresh-accounted limits (is_locked no_locks) (is_let_go no_locks));
 }
   where
     not_live : {f : Fate} → None ≡ Some f → ⊥
     not_live e = cc
 
-pub core-new : CallLaws → LockLaws → (rule : Rule) (cells : Cells) → cells ≡ fresh_cells → AreSoundCells cells → ((k : ℕ) → 2 ≤ k → IsFree cells k) → (lists : Lists Logged) → AreLists lists (λ t. []) → (forest : Transactions) → forest ≡ none_since 0
+pub core-new : CallLaws → LockLaws → (rule : Rule) (limits : TreeLimits) (cells : Cells) → cells ≡ fresh_cells limits → AreSoundCells cells → ((k : ℕ) → 2 ≤ k → IsFree cells k) → (lists : Lists Logged) → AreLists lists (λ t. []) → (forest : Transactions) → forest ≡ none_since 0
     → (table : LockTable) → table ≡ no_locks → (j : Journaled) → j ≡ no_events rule (tidy cells) 1 → IsCoreOf (state_of forest j) (parts cells forest table lists) j
-core-new W K rule cells fresh sound free lists none forest first table empty j is =
+core-new W K rule limits cells fresh sound free lists none forest first table empty j is =
     let q : Journaled = no_events rule (tidy cells) 1 in
     subst (λ (k : Journaled). IsCoreOf (state_of forest k) (parts cells forest table lists) k) (sym is)
     (subst (λ (m : Transactions). IsCoreOf (state_of m q) (parts cells m table lists) q) (sym first)
     (subst (λ (t : LockTable). IsCoreOf (state_of (none_since 0) q) (parts cells (none_since 0) t lists) q) (sym empty)
-    (core-first W K rule cells fresh sound free lists none)))
+    (core-first W K rule limits cells fresh sound free lists none)))
 
 module _ {base : Base} {h : History} {asks : Asks} {last_txn last_number : ℕ} {cells : Cells} {forest : Transactions} {table : LockTable} {lists : Lists Logged} {j : Journaled} (core : IsCoreAt base h asks last_txn last_number cells forest table lists j) where
   -- others wait

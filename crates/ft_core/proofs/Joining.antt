@@ -25,7 +25,7 @@ use Rattle.ft_core.proofs.Counts.{length-push}
 
 -- sound cells have sound values
 pub sound_values : (cells : Cells) → AreSoundCells cells → HasSoundValues cells
-sound_values cells sound = record { with_places = cells; sound = sound; same = record { values = λ c. refl } }
+sound_values cells sound = record { with_places = cells; sound = sound; same = record { limits = refl; values = λ c. refl } }
 
 -- the run of the standing calls of a legal history
 pub runs-plainly : CallLaws → {base : Base} {h : History} {last_txn last_number : ℕ} (started : IsStarted base h last_txn last_number) → Legal posix_calls (start_of base started.store) h → RunsPlainly started.store (standing posix_calls h)

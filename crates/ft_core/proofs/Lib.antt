@@ -3,6 +3,7 @@ mod PastWalks
 mod Gathered
 mod Counts
 pub mod Joining
+pub mod Limits
 mod Reporting
 pub mod Begins
 mod Opening

@@ -1,6 +1,7 @@
 -- What a sweep does to what a core keeps.
 use Rattle.std.proofs.Common.{◌≡◌, ◌<◌, ◌&&◌, ◌||◌, ℕ, zero, suc, Bool, true, false, cond, not, List, [], ◌∷◌, Option, Some, None, IsSome, is_some, unwrap_or, inl, inr, arith, refl, sym, ap, subst, ◌∙◌, eq-eqb}
 use Rattle.std.specs.Prelude.{nat_le, nat_lt}
+use Rattle.std.proofs.lemmas.Option.{none-some}
 use Rattle.std.proofs.lemmas.Bool.{false≢true, and_parts, or_right, leb-false, lt-leb, lt-ltb}
 use Rattle.std.specs.FinMap as finite
 use Rattle.std.specs.FinSet as set
@@ -34,7 +35,7 @@ use Rattle.ft_core.specs.States.{Base, Asks, State, history}
 use Rattle.ft_core.specs.Journals.{Journaled}
 use Rattle.ft_core.specs.Kept.{Item, Change, file_is_stored, ArePlaced, IsCoreAt, IsCoreOf}
 use Rattle.ft_core.specs.Laws.{CallLaws, LockLaws}
-use Rattle.ft_core.proofs.Accounts.{swept-accounted}
+use Rattle.ft_core.proofs.Accounts.{not-named, swept-accounted}
 use Rattle.ft_core.proofs.Joining.{start, values, past, free}
 use Rattle.ft_core.proofs.Owned.{owned-by, written-locked}
 use Rattle.ft_core.proofs.Written.{written-changes, set-once}
@@ -102,7 +103,7 @@ module _ (W : CallLaws) (K : LockLaws) {base : Base} {h : History} {asks : Asks}
   abbrev more : ℕ → Bool
   more i = hidden i || (gone i && nat_le i last_number)
 
-  unlocked : (i : ℕ) → gone i ≡ true → (y : ℕ) (x : Cell) → file_of x ≡ Some i → owns_lock posix_calls h y (λ f. posix_calls.touches f x) ≡ false
+  unlocked : (i : ℕ) → gone i ≡ true → (y : ℕ) (x : Cell) → file_of x ≡ Some i → owns_lock posix_calls h y (λ f. posix_calls.touches f (Some x)) ≡ false
   unlocked i k y x e = K.cover from with_values h table core.locks x i e (file-cell (λ c. is_locked table c ≡ false) i (swept.files i k).links (swept.files i k).bytes x e) y
 
   unnamed : (i : ℕ) → gone i ≡ true → (x : Cell) → names_file x (held cells x) i ≡ false
@@ -128,30 +129,46 @@ module _ (W : CallLaws) (K : LockLaws) {base : Base} {h : History} {asks : Asks}
   bytes-gone : (i : ℕ) → more i ≡ true → bytes_of new i ≡ []
   bytes-gone i unseen = by_test (finite.contains_key new.files i)
       (λ k. by_test (hidden i)
-      (λ was. swept.bytes i (stored-place new i k) ∙ core.kept.core.store.gone (Bytes i) was)
+      (λ was. swept.bytes i (stored-place new i k) ∙ core.kept.core.store.gone (Some (Bytes i)) was)
       (λ seen. absurd (false≢true (sym (ap not k) ∙ (and_parts (finite.contains_key cells.files i) (not (finite.contains_key new.files i)) (gone-of i seen unseen)).1))))
       (not-stored new i)
 
   links-gone : (i : ℕ) → more i ≡ true → links_of new i ≡ 0
   links-gone i unseen = swept.links i ∙ by_test (hidden i)
-      (λ was. core.kept.core.store.gone (Links i) was)
+      (λ was. core.kept.core.store.gone (Some (Links i)) was)
       (λ seen. no-links (links_of cells i) _ (swept.files i (gone-of i seen unseen)).dead)
 
-  others : (x : Cell) → is_hidden posix_calls more x ≡ false → held new x ≡ held cells x
-  others (Entry entry) k = swept.entries entry.dir entry.name
-  others (Names d) k = refl
-  others (Parent d) k = swept.parents d
-  others (Links i) k = swept.links i
-  others (Bytes i) k = bytes-same i k
-  others (Fd f) k = swept.opens f
+  others : (x : Option Cell) → is_hidden posix_calls more x ≡ false → posix_calls.cell new x ≡ posix_calls.cell cells x
+  others None k = swept.limits
+  others (Some (Entry entry)) k = swept.entries entry.dir entry.name
+  others (Some (Names d)) k = refl
+  others (Some (Parent d)) k = swept.parents d
+  others (Some (Links i)) k = swept.links i
+  others (Some (Bytes i)) k = bytes-same i k
+  others (Some (Fd f)) k = swept.opens f
 
-  blanked : (x : Cell) → is_hidden posix_calls more x ≡ true → held new x ≡ blank x
-  blanked (Entry entry) k = absurd (false≢true k)
-  blanked (Names d) k = absurd (false≢true k)
-  blanked (Parent d) k = absurd (false≢true k)
-  blanked (Links i) k = links-gone i k
-  blanked (Bytes i) k = bytes-gone i k
-  blanked (Fd f) k = absurd (false≢true k)
+  blanked : (x : Option Cell) → is_hidden posix_calls more x ≡ true → posix_calls.cell new x ≡ posix_calls.blank x
+  blanked None k = absurd (false≢true k)
+  blanked (Some (Entry entry)) k = absurd (false≢true k)
+  blanked (Some (Names d)) k = absurd (false≢true k)
+  blanked (Some (Parent d)) k = absurd (false≢true k)
+  blanked (Some (Links i)) k = links-gone i k
+  blanked (Some (Bytes i)) k = bytes-gone i k
+  blanked (Some (Fd f)) k = absurd (false≢true k)
+
+  -- nothing names a hidden file
+  none-named : (x : Option Cell) (i : ℕ) → more i ≡ true → posix_calls.names x (posix_calls.cell cells x) i ≡ false
+  none-named None i k = refl
+  none-named (Some x) i k = by_test (hidden i)
+      (λ was. core.kept.core.store.unnamed (Some x) i was)
+      (λ seen. unnamed i (gone-of i seen k) x)
+
+  -- and nobody has locked one that is hidden now
+  none-locked : (y : ℕ) (x : Option Cell) → is_hidden posix_calls more x ≡ true → is_hidden posix_calls hidden x ≡ false → owns_lock posix_calls h y (λ f. posix_calls.touches f x) ≡ false
+  none-locked y None k seen = absurd (false≢true k)
+  none-locked y (Some x) k seen = by_option (file_of x)
+      (λ none. absurd (false≢true (sym (ap (holds more) none) ∙ k)))
+      (λ i e. unlocked i (gone-of i (sym (ap (holds hidden) e) ∙ seen) (sym (ap (holds more) e) ∙ k)) y x e)
 
   is-sweep : IsSweep posix_calls base.last_stamp h hidden more cells new
   is-sweep = record {
@@ -160,12 +177,8 @@ module _ (W : CallLaws) (K : LockLaws) {base : Base} {h : History} {asks : Asks}
         ap (λ b. b || (gone a.stamp && nat_le a.stamp last_number)) (core.kept.core.old a next)
         ∙ ap (λ b. gone a.stamp && b) (past-last a.stamp (subst (λ n. n < a.stamp) (sym core.kept.started.last_stamp_is) next))
         ∙ and-false (gone a.stamp);
-    unnamed = λ x i k. by_test (hidden i)
-        (λ was. core.kept.core.store.unnamed x i was)
-        (λ seen. unnamed i (gone-of i seen k) x);
-    unlocked = λ y x k seen. by_option (file_of x)
-        (λ none. absurd (false≢true (sym (ap (holds more) none) ∙ k)))
-        (λ i e. unlocked i (gone-of i (sym (ap (holds hidden) e) ∙ seen) (sym (ap (holds more) e) ∙ k)) y x e);
+    unnamed = none-named;
+    unlocked = none-locked;
     others = others;
     blanked = blanked;
   }
@@ -179,6 +192,14 @@ module _ (W : CallLaws) (K : LockLaws) {base : Base} {h : History} {asks : Asks}
 
   core' : IsCore posix_calls from h more new core.log
   core' = core_swept posix_calls W.lawful from with_values h hidden cells core.log core.kept.core more new is-sweep
+
+  -- The same of every cell, that of what the tree allows among them.
+  all-unlocked : (i : ℕ) → gone i ≡ true → (y : ℕ) (x : Option Cell) → posix_calls.file_of x ≡ Some i → owns_lock posix_calls h y (λ f. posix_calls.touches f x) ≡ false
+  all-unlocked i k y None e = absurd (none-some i e)
+  all-unlocked i k y (Some x) e = unlocked i k y x e
+
+  all-unnamed : (i : ℕ) → gone i ≡ true → (x : Option Cell) → posix_calls.names x (posix_calls.cell cells x) i ≡ false
+  all-unnamed i k = not-named cells i (unnamed i k)
 
   -- Places of what takes owned calls back.
 
@@ -196,12 +217,12 @@ module _ (W : CallLaws) (K : LockLaws) {base : Base} {h : History} {asks : Asks}
     brings : (w : Change) → In w e.inverse.before → (k : ℕ) → gone k ≡ true → names_file w.cell w.value k ≡ false
     brings w j k g =
         let at = along-at (BringsNone posix_calls W.lawful (over posix_calls h) (owner posix_calls h) k) (AreInverses posix_calls core.log) from.store (standing posix_calls h)
-        (core_brings_none posix_calls W.lawful from with_values h hidden cells core.log core.kept.core k (unlocked k g) (unnamed k g)) core.kept.core.inverses e.done owned.0 in
+        (core_brings_none posix_calls W.lawful from with_values h hidden cells core.log core.kept.core k (all-unlocked k g) (all-unnamed k g)) core.kept.core.inverses e.done owned.0 in
         let after = posix_calls.act at.0 e.done.call in
         let changes = written-changes e.done.accesses w.cell (Each-at (λ (v : Change). writes_cell e.done.accesses v.cell ≡ true) e.inverse.before w was.own.before j) in
-        let back = (at.2 e.inverse t i after (λ x c. refl)).1 w.cell in
+        let back = (at.2 e.inverse t i after (λ x c. refl)).1 (Some w.cell) in
         let value : w.value ≡ held at.0 w.cell = sym (set-once W.setting e.inverse.before after was.own.apart w j) ∙ back ∙ ap (λ b. cond b (held at.0 w.cell) (held after w.cell)) changes in
-        ap (λ v. names_file w.cell v k) value ∙ at.1 t owned.1 w.cell changes
+        ap (λ v. names_file w.cell v k) value ∙ at.1 t owned.1 (Some w.cell) changes
 
     file-kept : (c : Cell) (v : Holds c) → ((k : ℕ) → gone k ≡ true → names_file c v k ≡ false) → file_is_stored cells c v → file_is_stored new c v
     file-kept (Entry entry) v none stored = tt

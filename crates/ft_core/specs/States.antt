@@ -6,6 +6,7 @@ use Rattle.std.specs.Prelude.{ℕ, ◌+◌, Bool, not, ◌||◌, nat_le, nat_lt,
 use Rattle.std.specs.Ordering.{nat_cmp}
 use Rattle.std.specs.FinMap as finite
 use Rattle.std.specs.Coded.{Coded, code_by, coded×, coded_ℕ, coded_list}
+use Rattle.ft_cells.specs.Limits.{default_limits}
 use Rattle.ft_cells.specs.Cells.{Cells, fresh_cells}
 use Rattle.ft_cells.specs.Plain.{PlainTree}
 use Rattle.ft_cells.specs.PlainCode.{coded_tree}
@@ -85,9 +86,10 @@ pub record StoredState : Type 0 where
 abbrev pub coded_stored : Coded StoredState
 coded_stored = code_by (State × Cells) (coded× coded_state tree.the_row.coded) (λ s. (s.state, s.cells)) (λ p. record { state = p.0; cells = p.1 }) (λ _. refl)
 
--- the root alone, of number 1; no transaction, and the stamp 1
+-- the root alone, of number 1, in a tree with the limits that it has by default; no transaction,
+-- and the stamp 1
 abbrev pub first_base : Base
-first_base = record { tree = tidy fresh_cells; last_txn = 0; last_stamp = 1 }
+first_base = record { tree = tidy (fresh_cells default_limits); last_txn = 0; last_stamp = 1 }
 
 -- the state of a rule and a base: nothing has happened since
 abbrev pub at_base : Rule → Base → State

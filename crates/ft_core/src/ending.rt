@@ -1,5 +1,5 @@
 // How transactions end, and how a call is undone.
-ghost use Rattle.std.specs.Prelude.{◌≡◌, ℕ, Some, IfOk, IfErr};
+ghost use Rattle.std.specs.Prelude.{◌≡◌, ℕ, Some, Ok, IfOk, IfErr};
 ghost use Rattle.ft_posix.specs.Posix.{posix_calls};
 ghost use Rattle.ft_history.specs.History.Fate.{Live};
 ghost use Rattle.ft_history.specs.Undoing.{undo_target};
@@ -46,7 +46,7 @@ impl Core {
         ensures step { IsStep exact_rule self.old.state (Abort txn) (answer_with Aborted result) self.new.state }
 
         // If it ran alone, the tree is that of its begin.
-        ensures alone { (before : StateOf) → RanAlone before self.old.state txn → (answer_with Aborted result ≡ Aborted (count_standing self.old.state txn)) × (tree_of self.new.state ≡ tree_of before) }
+        ensures alone { (before : StateOf) → RanAlone before self.old.state txn → (result ≡ Ok (count_standing self.old.state txn)) × (tree_of self.new.state ≡ tree_of before) }
     {
         self.check_live(txn)?;
         Ok(self.abort_live(txn))
@@ -74,8 +74,8 @@ impl Core {
         count
     }
 
-    /// Undoes the last of a transaction's own standing calls, and answers its stamp. Takes no
-    /// memory.
+    /// Undoes the last of a transaction's own standing calls, and answers its stamp. It may be one
+    /// that only looked, as a stat, or that failed. Takes no memory.
     ///
     /// Refuses NoTxn, Ended, ChildLive, and NothingToUndo where there is none or SubSince where a
     /// child has committed since, in this order.
@@ -83,7 +83,7 @@ impl Core {
         ensures step { IsStep exact_rule self.old.state (Undo txn) (answer_with Undone result) self.new.state }
 
         // The call just made is undone, and the tree is the one before it.
-        ensures just_made { (before : StateOf) (k : ℕ) → IsJustMade before self.old.state txn k → (answer_with Undone result ≡ Undone k) × (tree_of self.new.state ≡ tree_of before) }
+        ensures just_made { (before : StateOf) (k : ℕ) → IsJustMade before self.old.state txn k → (result ≡ Ok k) × (tree_of self.new.state ≡ tree_of before) }
     {
         self.check_live(txn)?;
         if self.parts.forest.live_children(txn) > 0 {

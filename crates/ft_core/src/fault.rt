@@ -35,7 +35,7 @@ pub enum Fault {
     /// The transaction has no pending ask.
     #[error("NoAsk")]
     NoAsk = 10,
-    /// There are no views.
+    /// There are no views. No core answers it, but `publish` of one behind a lock (ft_shared).
     #[error("NoViews")]
     NoViews = 11,
 }

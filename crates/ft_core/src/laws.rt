@@ -1,7 +1,7 @@
 //! Laws of the histories that a core can have, and of its state: each is the contract of a function
 //! that does nothing.
 ghost use Rattle.ft_posix.specs.Posix.{posix_calls};
-ghost use Rattle.ft_history.specs.Promises.{Ownership, LogOrder, ExactLedger};
+ghost use Rattle.ft_history.specs.Promises.{Ownership, LogOrder, ExactLedger, AbortCount};
 ghost use Rattle.ft_core.specs.Reached.{IsReached};
 
 use crate::manager::Core;
@@ -23,6 +23,12 @@ pub fn log_order()
 /// are no others.
 pub fn exact_ledger()
     ensures { ExactLedger posix_calls }
+{}
+
+/// An abort takes back as many calls as stand at or below the transaction, with one inverse each,
+/// in whichever order it goes through their lists.
+pub fn abort_count()
+    ensures { AbortCount posix_calls }
 {}
 
 /// The history of a core is legal from a base that is a sound tree, so that the laws above hold of

@@ -1,5 +1,6 @@
 // The core: nested transactions over one tree.
 ghost use Rattle.std.specs.Prelude.{◌≡◌, ◌<◌, ◌≤◌, ◌+◌, Some, None, Option, MatchBool, IfOk, IfErr, OnOk, OnErr};
+ghost use Rattle.ft_body.specs.declared.TheConstants.{LARGEST_SIZE};
 ghost use Rattle.ft_tree.specs.Tidy.{tidy};
 ghost use Rattle.ft_forest.specs.declared.TheConstants.{LAST_NUMBER as last_number};
 ghost use Rattle.ft_tree.specs.Sound.{IsSoundTree, AreSoundCells};
@@ -27,7 +28,7 @@ use ft_base::Memory;
 use ft_forest::{Forest, ForestFault, State, TxnId};
 use ft_locks::Locks;
 use ft_moss::Rule;
-use ft_tree::Tree;
+use ft_tree::{Tree, TreeLimits};
 use ft_undo::Logs;
 use std::alloc::Global;
 use std::marker::Model;
@@ -105,6 +106,14 @@ impl Core {
         self.journal.rule()
     }
 
+    /// How large files may be, and how many links they may have. It never changes.
+    pub fn tree_limits(&self) -> TreeLimits
+        ensures limits { result ≡ self.now.state.base.tree.limits }
+        ensures size { result.file_size ≤ LARGEST_SIZE }
+    {
+        self.parts.tree.limits()
+    }
+
     /// Begins a top-level transaction.
     ///
     /// Refuses Full where there are as many transactions as there may be.
@@ -178,7 +187,7 @@ impl Core {
     }
 
     /// What has become of a transaction, where there is one of this number since the base.
-    pub fn state(&self, txn: TxnId) -> Option<State>
+    pub fn fate(&self, txn: TxnId) -> Option<State>
         ensures { fate_in result ≡ fate_of self.now.state txn }
     {
         self.parts.forest.state(txn)
@@ -197,7 +206,7 @@ impl Core {
         ensures live { OnOk result (fate_of self.now.state txn ≡ Some Live) }
         ensures refused { IfErr result (λ fault. (later : Option FaultOf) → fault_of_fate (fate_of self.now.state txn) later ≡ Some fault) }
     {
-        match self.state(txn) {
+        match self.fate(txn) {
             None => Err(Fault::NoTxn),
             Some(State::Live) => Ok(()),
             Some(State::Committed | State::Aborted) => Err(Fault::Ended),

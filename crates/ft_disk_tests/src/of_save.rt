@@ -11,10 +11,9 @@ use std::test::Fail;
 // More turns than any save here takes.
 const ALL: u64 = 1_000_000;
 
-/// Three reports, of which the last is cut off: in the second a file has two names, one is empty,
-/// and one is open and has no name.
+/// Two reports: in the second a file has two names, one is empty, and one is open and has no name.
 pub const REPLIES: &str =
-    "txn 1\ntree 3\ndir 1\ndir 2\nedge 1 old 2\nok\ntree 10\ndir 1\ndir 2\nedge 1 %25 3\nedge 1 a 2\nedge 2 again 3\nedge 2 nothing 4\nfile 3 3 a%20b\nfile 4 0 \nfile 5 6 orphan\nfd 9 5 w 0\nok\ntree 3\ndir 1\nedge 1 cut 2\n";
+    "txn 1\ntree 3\ndir 1\ndir 2\nedge 1 old 2\nok\ntree 10\ndir 1\ndir 2\nedge 1 %25 3\nedge 1 a 2\nedge 2 again 3\nedge 2 nothing 4\nfile 3 3 a%20b\nfile 4 0 \nfile 5 6 orphan\nfd 9 5 w 0\n";
 
 // The tree of the second.
 const SAVED: &[Row<'static>] = &[
@@ -57,13 +56,57 @@ fn leaves_nothing(alloc: Global, replies: &[u8], turns: u64, trouble: Trouble) -
     }
 }
 
+// Whether no tree is found in replies.
+fn finds_none(alloc: Global, replies: &str) -> bool {
+    let fault = stopped_by(alloc, replies.as_bytes(), ALL);
+    matches!(fault, Some(SaveFault::NoTree))
+}
+
 #[test]
 fn no_tree(rt: HostRuntime) -> Result<(), Fail> {
-    let replies = b"txn 1\nok\ntree 2\ndir 1\n".as_slice();
+    assert!(rt; finds_none(rt.alloc(), "txn 1\nok\ntree 2\ndir 1\n"));
+    Ok(())
+}
+
+#[test]
+fn no_older_tree(rt: HostRuntime) -> Result<(), Fail> {
+    let alloc = rt.alloc();
+    for behind in [
+        "tree 3\ndir 1\nedge 1 cut 2\n",
+        "refused Memory\n",
+        "ok\n",
+        "\n",
+        "tree",
+    ] {
+        let replies = format!(in alloc; "{REPLIES}{behind}")?;
+        assert!(rt;
+            finds_none(alloc, replies.as_str()),
+            "behind which stands {behind}"
+        );
+    }
+    Ok(())
+}
+
+#[test]
+fn no_line_that_is_cut(rt: HostRuntime) -> Result<(), Fail> {
+    assert!(rt; finds_none(rt.alloc(), "tree 3\ndir 1\nedge 1 f 2\nfile 2 1 %"));
+    Ok(())
+}
+
+// Whether the report with which replies end tells of no tree.
+fn is_bad_tree(alloc: Global, replies: &str) -> bool {
+    leaves_nothing(alloc, replies.as_bytes(), ALL, Trouble::BadTree)
+}
+
+#[test]
+fn rows_of_no_tree(rt: HostRuntime) -> Result<(), Fail> {
+    let alloc = rt.alloc();
+    assert!(rt; is_bad_tree(alloc, "tree 4\ndir 1\nedge 1 f 2\nfile 2 1 x\nfile 2 1 y\n"));
+    assert!(rt; is_bad_tree(alloc, "tree 4\ndir 1\ndir 2\nedge 1 f 2\nfile 2 1 x\n"));
     assert!(rt;
-        matches!(
-            stopped_by(rt.alloc(), replies, ALL),
-            Some(SaveFault::NoTree)
+        is_bad_tree(
+            alloc,
+            "tree 5\ndir 1\nedge 1 f 2\nedge 2 g 3\nfile 2 0\nfile 3 0\n"
         )
     );
     Ok(())

@@ -41,7 +41,8 @@ fn load_shown(alloc: Global, rows: &[Row<'_>], step: u64, seen: &mut Seen) -> u8
     };
     let script = Vec::new(alloc);
     let screen = Some(&mut seen.screen);
-    load_status(&clock, alloc, &source, screen, script, &mut seen.errors)
+    let (_, status) = load_status(&clock, alloc, &source, screen, script, &mut seen.errors);
+    status
 }
 
 // The same of a save in so many turns.

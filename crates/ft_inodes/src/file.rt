@@ -1,6 +1,6 @@
 // One file: how many entries name it, and its bytes.
 ghost use Rattle.std.specs.Prelude.{◌≡◌, ◌≤◌, [], length, IsOk, IfOk, OnOk, OnErr};
-ghost use Rattle.ft_body.specs.declared.TheConstants.{SIZE_LIMIT};
+ghost use Rattle.ft_body.specs.declared.TheConstants.{LARGEST_SIZE};
 ghost use Rattle.ft_body.specs.Bytes.{fitting, written, resized};
 ghost use Rattle.ft_cells.specs.Cells.{FileCells, coded_file_cells};
 
@@ -60,19 +60,19 @@ impl File {
 
     /// Writes bytes at an offset, as `Body::write_at` does.
     pub fn write_at(&mut self, offset: u64, bytes: &[u8]) -> Result<(u64, BodyUndo), Memory>
-        requires { offset ≤ SIZE_LIMIT }
-        ensures taken { IfOk result (λ done. done.0 ≡ length (fitting bytes.now offset)) }
-        ensures file { OnOk result (self.new ≡ record { links = self.old.links; bytes = written self.old.bytes offset (fitting bytes.now offset) }) }
+        requires { offset ≤ LARGEST_SIZE }
+        ensures taken { IfOk result (λ done. done.0 ≡ length (fitting LARGEST_SIZE bytes.now offset)) }
+        ensures file { OnOk result (self.new ≡ record { links = self.old.links; bytes = written self.old.bytes offset (fitting LARGEST_SIZE bytes.now offset) }) }
         ensures undo { IfOk result (λ done. done.1 ≡ record { before = self.old.bytes; after = self.new.bytes }) }
         ensures err { OnErr result (self.new ≡ self.old) }
-        ensures nothing { fitting bytes.now offset ≡ [] → IsOk result }
+        ensures nothing { fitting LARGEST_SIZE bytes.now offset ≡ [] → IsOk result }
     {
         self.body.write_at(offset, bytes)
     }
 
     /// Cuts it to a size, or adds zeros up to it.
     pub fn set_len(&mut self, size: u64) -> Result<BodyUndo, Memory>
-        requires { size ≤ SIZE_LIMIT }
+        requires { size ≤ LARGEST_SIZE }
         ensures file { OnOk result (self.new ≡ record { links = self.old.links; bytes = resized self.old.bytes size }) }
         ensures undo { IfOk result (λ undo. undo ≡ record { before = self.old.bytes; after = self.new.bytes }) }
         ensures err { OnErr result (self.new ≡ self.old) }

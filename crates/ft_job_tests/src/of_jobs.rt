@@ -159,6 +159,8 @@ enum Lie {
     SubsAtTop,
     /// It commits nothing.
     NoCommit,
+    /// It undoes a transaction's last call before it commits it.
+    UndoFirst,
     /// It refuses to begin.
     NoBegin,
 }
@@ -211,6 +213,10 @@ impl Manager for Lying {
     fn commit<R: Wait>(&self, rt: &R, txn: TxnId) -> Result<(), Fault> {
         match self.lie {
             Lie::NoCommit => Ok(()),
+            Lie::UndoFirst => {
+                self.shared.undo_call(rt, txn)?;
+                self.shared.commit(rt, txn)
+            }
             _ => self.shared.commit(rt, txn),
         }
     }
@@ -283,6 +289,7 @@ fn lies_are_mismatches(rt: HostRuntime) -> Result<(), Fail> {
     assert!(rt; is_mismatch(&ends_under(&rt, alloc, Lie::DoneIsFailed)?));
     assert!(rt; is_mismatch(&ends_under(&rt, alloc, Lie::SubsAtTop)?));
     assert!(rt; is_mismatch(&ends_under(&rt, alloc, Lie::NoCommit)?));
+    assert!(rt; is_mismatch(&ends_under(&rt, alloc, Lie::UndoFirst)?));
     Ok(())
 }
 

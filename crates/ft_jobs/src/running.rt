@@ -1,5 +1,6 @@
 // All jobs of a plan, side by side.
-ghost use Rattle.std.specs.Prelude.{◌≡◌, ◌≢◌, ◌≤◌, IfOk, IfErr, IsErrOf};
+ghost use Rattle.std.specs.Prelude.{◌≡◌, ◌≢◌, ◌≤◌, ◌⊎◌, IfOk, IfErr, IsErrOf};
+ghost use Rattle.ft_core.specs.Living.{NoneIsLive, SomeIsLive};
 ghost use Rattle.ft_reports.specs.Reports.{AreReports};
 
 use crate::board::Board;
@@ -27,8 +28,8 @@ impl JobsOutcome {
     /// The reports of the jobs of a plan, with the core that they left, once they are compared with
     /// its history.
     ///
-    /// Answers Mismatch where they are not what happened. At a fault the core is dropped. Any other
-    /// fault is Memory.
+    /// Answers Mismatch where they are not what happened, or a transaction is live. At a fault the
+    /// core is dropped. Any other fault is Memory.
     pub fn compared(
         alloc: Global,
         plan: &Plan,
@@ -37,10 +38,11 @@ impl JobsOutcome {
     ) -> Result<JobsOutcome, JobFault>
         ensures same { IfOk result (λ outcome. (outcome.core ≡ core) × (outcome.reports ≡ reports)) }
         ensures ok { IfOk result (λ outcome. AreReports outcome.core.state plan.now outcome.reports.items) }
-        ensures mismatch { IsErrOf result JobFault.Mismatch → ¬ AreReports core.state plan.now reports.items }
+        ensures none_live { IfOk result (λ outcome. NoneIsLive outcome.core.state) }
+        ensures mismatch { IsErrOf result JobFault.Mismatch → SomeIsLive core.state ⊎ ¬ AreReports core.state plan.now reports.items }
         ensures cause { IfErr result (λ fault. fault ≢ JobFault.BadPlan) }
     {
-        if !are_reports(alloc, plan, &core, reports.as_slice())? {
+        if core.has_live() || !are_reports(alloc, plan, &core, reports.as_slice())? {
             return Err(JobFault::Mismatch);
         }
         Ok(JobsOutcome { core, reports })
@@ -52,8 +54,9 @@ impl JobsOutcome {
 /// is asked for so many times until it is granted.
 ///
 /// At the end the reports are compared with the history, whatever the manager answered. Answers
-/// Mismatch where they are not what happened, and Thread where a thread could not be started, after
-/// those that were have ended. At a fault the core is dropped. Any other fault is Memory.
+/// Mismatch where they are not what happened or a transaction is live, and Thread where a thread
+/// could not be started, after those that were have ended. At a fault the core is dropped. Any
+/// other fault is Memory. The core is the one that the manager hands back.
 pub fn run_jobs<M: Manager, G: Gate, R: Threads + Wait + Clock + Sync>(
     rt: &R,
     alloc: Global,
@@ -64,6 +67,8 @@ pub fn run_jobs<M: Manager, G: Gate, R: Threads + Wait + Clock + Sync>(
 ) -> Result<JobsOutcome, JobFault>
     requires { 1 ≤ turns }
     ensures ok { IfOk result (λ outcome. AreReports outcome.core.state plan.now outcome.reports.items) }
+    ensures core { IfOk result (λ outcome. M.hands_back outcome.core.state) }
+    ensures none_live { IfOk result (λ outcome. NoneIsLive outcome.core.state) }
     ensures cause { IfErr result (λ fault. fault ≢ JobFault.BadPlan) }
 {
     let run = report_jobs(rt, alloc, plan, &manager, gate, turns);

@@ -21,7 +21,7 @@ module _ (C : Calls) (L : Lawful C) where
         → C.conflict a.accesses c.accesses ≡ false → PutBack C a.accesses s₀ s t → PutBack C a.accesses s₀ (C.act s c.call) (C.act t c.call)
     still_put s t c gs gt rs rt fit clear put x =
         let agree = still_apart s t c clear put in
-        let alike = L.frame s t c.call gs gt rs rt (λ y h. agree y (subst (λ f. C.touches f y ≡ true) fit.accesses h)) in
+        let alike = L.frame s t c.call gs gt rs rt tt (λ y h. agree y (subst (λ f. C.touches f y ≡ true) fit.accesses h)) in
         by_test (C.changes (C.accesses s c.call) x)
         (λ k. by_test (C.changes a.accesses x)
         (λ w. absurd (false≢true (sym (apart_changes C L a.accesses c.accesses x clear w) ∙ subst (λ f. C.changes f x ≡ true) fit.accesses k)))

@@ -3,7 +3,7 @@ use Rattle.std.proofs.Common.{◌≡◌, Bool, true, false, cond, ◌||◌, ◌&
 use Rattle.std.proofs.lemmas.Bool.{false≢true, or_cases, or_parts, or_from, or_left, or_right, and_parts, and_from}
 use Rattle.ft_laws.specs.Lists.{In, any}
 use Rattle.ft_laws.specs.Calls.{IsAsLeft}
-use Rattle.ft_laws.specs.Laws.{Lawful}
+use Rattle.ft_laws.specs.Laws.{LawfulAmong}
 use Rattle.ft_laws.specs.Effects.{Access, Write, Effects, Has, reversal_of, is_written, write_all, before, touch, change, conflict, some_conflict, calls_of, EffectLaws}
 use Rattle.ft_laws.proofs.Tests.{by_test}
 use Rattle.ft_laws.proofs.Writing.{write_kept, write_same, before_written, before_back}
@@ -43,7 +43,7 @@ any_swap r s xs (y ∷ ys) h = or_from (any (r y) xs) (any (λ z. any (r z) xs) 
         let parts = or_parts (any (r z) (y ∷ ys)) (any (λ x. any (r x) (y ∷ ys)) zs) k in
         or_from (any (r z) ys) (any (λ x. any (r x) ys) zs) (or_parts (r z y) (any (r z) ys) parts.0).1 (rest zs parts.1)
 
-module _ (E : Effects) (laws : EffectLaws E) where
+module _ (E : Effects) (Akin : E.Store → E.Store → Type 0) (laws : EffectLaws E Akin) where
   apart : (f g : List (Access E.Place)) (x : E.Cell) → some_conflict E f g ≡ false → change E f x ≡ true → touch E g x ≡ false
   apart [] g x h c = absurd (false≢true c)
   apart (a ∷ f) g x h c =
@@ -78,13 +78,13 @@ module _ (E : Effects) (laws : EffectLaws E) where
       -- a cell that isn't the same as itself has one value alone
       (λ k. sym (laws.sets.cell_kept t w.cell (E.cell end w.cell) w.cell k) ∙ laws.sets.cell_written t w.cell (E.cell end w.cell)))
 
-  pub effects_lawful : Lawful (calls_of E)
+  pub effects_lawful : LawfulAmong (calls_of E) Akin
   effects_lawful = record {
     changes_touch = λ f x h. any_weaker (λ a. a.writes && E.covers a.place x) (λ a. E.covers a.place x) (λ a k. (and_parts a.writes (E.covers a.place x) k).1) f h;
     conflict_sym = λ f g h. any_swap (conflict E) (λ a b. ap (λ o. o && (a.writes || b.writes)) (laws.overlap_sym a.place b.place) ∙ ap (λ o. E.overlap b.place a.place && o) (or_swap a.writes b.writes)) f g h;
     apart = apart;
-    frame = λ s t a gs gt rs rt agree.
-        let e = laws.local s t a gs gt rs rt agree in
+    frame = λ s t a gs gt rs rt akin agree.
+        let e = laws.local s t a gs gt rs rt akin agree in
         record {
           accesses = ap (λ d. d.accesses) e;
           reply = ap (λ d. d.reply) e;

@@ -30,7 +30,7 @@ module _ (C : Calls) (L : Lawful C) where
       (λ k. absurd (false≢true (sym (L.apart b.accesses a.accesses x back k) ∙ touched)))
       (λ k. sym (L.kept s b.call able.sound ready_b x (subst (λ f. C.changes f x ≡ false) (sym fit_b.accesses) k))) in
       let fit_a : Fits C sb a = fits_alike C L s sb a able.sound sound_b ready_a after_b agree faith.0 in
-      let alike = L.frame s sb a.call able.sound sound_b ready_a after_b (λ x h. agree x (subst (λ f. C.touches f x ≡ true) faith.0.accesses h)) in (
+      let alike = L.frame s sb a.call able.sound sound_b ready_a after_b tt (λ x h. agree x (subst (λ f. C.touches f x ≡ true) faith.0.accesses h)) in (
         (fit_b, (fit_a, tt)),
         λ x.
             by_test (C.changes a.accesses x)

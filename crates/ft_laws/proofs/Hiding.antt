@@ -48,7 +48,7 @@ module _ (C : Calls) (L : Lawful C) where
       by_test (C.touches (C.accesses s a) x) (λ touched. absurd (knows_none hidden r s a hides own f.0 f.2 (L.comes_upon s a gs rs x f.0 f.1 touched))) (λ no. no) in
       let unwritten : (x : C.Cell) → is_hidden C hidden x ≡ true → C.changes (C.accesses s a) x ≡ false =
       λ x k. by_test (C.changes (C.accesses s a) x) (λ w. absurd (false≢true (sym (unseen x k) ∙ L.changes_touch (C.accesses s a) x w))) (λ no. no) in
-      let alike = L.frame s r a gs gr rs rr (unseen_agree C hidden (C.accesses s a) s r (λ x k. sym (hides.others x k)) unseen) in (
+      let alike = L.frame s r a gs gr rs rr tt (unseen_agree C hidden (C.accesses s a) s r (λ x k. sym (hides.others x k)) unseen) in (
         alike,
         unseen,
         record {

@@ -5,6 +5,7 @@ pub mod Deleting
 pub mod Exchanging
 pub mod Writing
 pub mod Effects
+pub mod Settled
 pub mod Hiding
 pub mod Looks
 pub mod Tiny

@@ -88,13 +88,13 @@ module _ (C : Calls) (L : Lawful C) where
   -- inverse does.
   pub fits_alike : (s t : C.Store) (c : Done C) → C.IsSound s → C.IsSound t → C.IsReady c.call s → C.IsReady c.call t → Agree C c.accesses s t → Fits C s c → Fits C t c
   fits_alike s t c gs gt rs rt agree fit =
-      let alike = L.frame s t c.call gs gt rs rt (λ x h. agree x (subst (λ f. C.touches f x ≡ true) fit.accesses h)) in
+      let alike = L.frame s t c.call gs gt rs rt tt (λ x h. agree x (subst (λ f. C.touches f x ≡ true) fit.accesses h)) in
       record { accesses = alike.accesses ∙ fit.accesses; reply = alike.reply ∙ fit.reply }
 
   pub reverts_alike : (s t : C.Store) (c : Done C) (u : C.Inverse) → C.IsSound s → C.IsSound t → C.IsReady c.call s → C.IsReady c.call t → Fits C s c → Agree C c.accesses s t
       → Reverts C s c.call c.accesses u → Reverts C t c.call c.accesses u
   reverts_alike s t c u gs gt rs rt fit agree reverts v h =
-      let alike = L.frame s t c.call gs gt rs rt (λ y k. agree y (subst (λ f. C.touches f y ≡ true) fit.accesses k)) in
+      let alike = L.frame s t c.call gs gt rs rt tt (λ y k. agree y (subst (λ f. C.touches f y ≡ true) fit.accesses k)) in
       let back = reverts v (λ y k. h y k ∙ alike.written y (subst (λ f. C.changes f y ≡ true) (sym fit.accesses) k)) in (
         back.0,
         λ x. back.1 x ∙ by_test (C.changes c.accesses x)
@@ -107,7 +107,7 @@ module _ (C : Calls) (L : Lawful C) where
   pub act_alike : (s t : C.Store) (c : Done C) → C.IsSound s → C.IsSound t → C.IsReady c.call s → C.IsReady c.call t → Fits C s c → Agree C c.accesses s t
       → (x : C.Cell) → C.cell s x ≡ C.cell t x → C.cell (C.act s c.call) x ≡ C.cell (C.act t c.call) x
   act_alike s t c gs gt rs rt fit agree x e =
-      let alike = L.frame s t c.call gs gt rs rt (λ y h. agree y (subst (λ f. C.touches f y ≡ true) fit.accesses h)) in
+      let alike = L.frame s t c.call gs gt rs rt tt (λ y h. agree y (subst (λ f. C.touches f y ≡ true) fit.accesses h)) in
       by_test (C.changes (C.accesses s c.call) x)
       (λ k. sym (alike.written x k))
       (λ k. L.kept s c.call gs rs x k ∙ e ∙ sym (L.kept t c.call gt rt x (subst (λ f. C.changes f x ≡ false) (sym alike.accesses) k)))

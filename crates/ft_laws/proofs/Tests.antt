@@ -12,3 +12,7 @@ by_option (Some x) n s = s x refl
 
 pub by_number : {P : Type 0} (a b : ℕ) → (a ≡ b → P) → ((a ≡ b → ⊥) → P) → P
 by_number a b t f = by_test (a == b) (λ e. t (eqb-true a b e)) (λ e. f (λ is. false≢true (sym e ∙ eq-eqb a b is)))
+
+-- nothing is not something
+pub none_some : {A : Type 0} (x : A) → None ≡ Some x → ⊥
+none_some x e = cc

@@ -12,7 +12,7 @@ use Rattle.ft_laws.specs.Tiny.Node.{DirNode, FileNode}
 use Rattle.ft_laws.specs.Tiny.Cell.{Entry, Parent, Links, Bytes}
 use Rattle.ft_laws.specs.Tiny.Place.{One, Names}
 use Rattle.ft_laws.specs.Tiny.What.{Mkdir, Rmdir, Create, Unlink, Rename, Fill, Stat}
-use Rattle.ft_laws.proofs.Tests.{by_test, by_option, by_number}
+use Rattle.ft_laws.proofs.Tests.{by_test, by_option, by_number, none_some}
 use Rattle.ft_laws.proofs.Lists.{Each-map}
 use Rattle.ft_laws.proofs.Looks.{Ends, ends, follow_alike}
 use Rattle.ft_laws.proofs.Writing.{write_kept, written_all}
@@ -128,9 +128,6 @@ touched_file F (w ∷ ws) seen x i hw hs e t = elim (or_cases (same_cell w.cell 
 
 same_some : {A : Type 0} (x y : A) → Some x ≡ Some y → x ≡ y
 same_some x y e = cc
-
-none_some : {A : Type 0} (x : A) → None ≡ Some x → ⊥
-none_some x e = cc
 
 dir_is : (i j : ℕ) → DirNode i ≡ DirNode j → i ≡ j
 dir_is i j e = cc
@@ -633,13 +630,13 @@ module _ (hidden : ℕ → Bool) (r s : Store) (hides : Hides tiny_calls hidden 
     no_bytes = still_blank (Bytes a.stamp) re.no_bytes;
   }
 
-tiny_laws : EffectLaws tiny
+tiny_laws : EffectLaws tiny (λ s t. Unit {0})
 tiny_laws = record {
   sets = sets;
   overlaps = overlaps;
   overlap_sym = overlap_sym;
   told = λ s a x. changes_written (outcome s a).writes (gone_way s a) x;
-  local = λ s t a gs gt rs rt same. local s t a same;
+  local = λ s t a gs gt rs rt akin same. local s t a same;
   stays_sound = λ s a so re. (fine s a so re).sound;
   stays_ready = λ s a b so ra rb ne. (fine s a so ra).ready b ne rb;
   nameless = nameless;
@@ -657,7 +654,7 @@ tiny_laws = record {
 }
 
 pub tiny_lawful : Lawful tiny_calls
-tiny_lawful = effects_lawful tiny tiny_laws
+tiny_lawful = effects_lawful tiny (λ s t. Unit {0}) tiny_laws
 
 -- Runs can start: the empty tree is sound, and each call whose names are small may be made there.
 pub empty_sound : IsSound empty

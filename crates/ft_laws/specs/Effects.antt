@@ -129,8 +129,8 @@ module _ (E : Effects) where
     pub cell_written : (s : E.Store) (x : E.Cell) (v : E.Value x) → E.cell (E.write s x v) x ≡ v
     pub cell_kept : (s : E.Store) (x : E.Cell) (v : E.Value x) (y : E.Cell) → E.same_cell x y ≡ false → E.cell (E.write s x v) y ≡ E.cell s y
 
-  -- What is left to prove of the kinds of call.
-  pub record EffectLaws : Type 0 where
+  -- What is left to prove of the kinds of call, among stores that stand so to each other.
+  pub record EffectLaws (Akin : E.Store → E.Store → Type 0) : Type 0 where
     pub sets : SetsCells
     -- Places that cover a cell in common overlap, and overlapping is symmetric.
     pub overlaps : (p q : E.Place) (x : E.Cell) → E.covers p x ≡ true → E.covers q x ≡ true → E.overlap p q ≡ true
@@ -138,7 +138,7 @@ module _ (E : Effects) where
     -- The accesses that write tell what is written.
     pub told : (s : E.Store) (a : E.Call) (x : E.Cell) → change (E.does s a).accesses x ≡ is_written (E.does s a).writes x
     -- The effect depends on the cells that it touches alone.
-    pub local : (s t : E.Store) (a : E.Call) → E.IsSound s → E.IsSound t → E.IsReady a s → E.IsReady a t
+    pub local : (s t : E.Store) (a : E.Call) → E.IsSound s → E.IsSound t → E.IsReady a s → E.IsReady a t → Akin s t
         → ((x : E.Cell) → touch (E.does s a).accesses x ≡ true → E.cell s x ≡ E.cell t x) → E.does t a ≡ E.does s a
     pub stays_sound : (s : E.Store) (a : E.Call) → E.IsSound s → E.IsReady a s → E.IsSound (write_all s (E.does s a).writes)
     pub stays_ready : (s : E.Store) (a b : E.Call) → E.IsSound s → E.IsReady a s → E.IsReady b s → E.stamp a ≢ E.stamp b → E.IsReady b (write_all s (E.does s a).writes)

@@ -41,8 +41,9 @@ module _ (C : Calls) where
     pub gone : (x : C.Cell) → is_hidden hidden x ≡ true → C.cell s x ≡ C.blank x
     pub unnamed : (x : C.Cell) (i : C.File) → hidden i ≡ true → C.names x (C.cell s x) i ≡ false
 
-  -- What each kind of call must meet.
-  pub record Lawful : Type 0 where
+  -- What each kind of call must meet, among stores that stand to each other as two from one
+  -- beginning do.
+  pub record LawfulAmong (Akin : C.Store → C.Store → Type 0) : Type 0 where
     -- What is written is touched.
     pub changes_touch : (f : C.Accesses) (x : C.Cell) → C.changes f x ≡ true → C.touches f x ≡ true
     -- Where there is no conflict, there is none the other way round, and what one
@@ -50,7 +51,7 @@ module _ (C : Calls) where
     pub conflict_sym : (f g : C.Accesses) → C.conflict f g ≡ false → C.conflict g f ≡ false
     pub apart : (f g : C.Accesses) (x : C.Cell) → C.conflict f g ≡ false → C.changes f x ≡ true → C.touches g x ≡ false
     -- The frame law: in stores that agree on what a call touches in one of them, it does the same.
-    pub frame : (s t : C.Store) (a : C.Call) → C.IsSound s → C.IsSound t → C.IsReady a s → C.IsReady a t → Agree C (C.accesses s a) s t → Alike s t a
+    pub frame : (s t : C.Store) (a : C.Call) → C.IsSound s → C.IsSound t → C.IsReady a s → C.IsReady a t → Akin s t → Agree C (C.accesses s a) s t → Alike s t a
     -- Nothing else changes: a cell that a call doesn't write stays.
     pub kept : (s : C.Store) (a : C.Call) → C.IsSound s → C.IsReady a s → (x : C.Cell) → C.changes (C.accesses s a) x ≡ false → C.cell (C.act s a) x ≡ C.cell s x
     -- A sound store stays sound.
@@ -75,3 +76,7 @@ module _ (C : Calls) where
     -- made may be made without them.
     pub hides_sound : (hidden : C.File → Bool) (r s : C.Store) → Hides hidden r s → C.IsSound r → C.IsSound s
     pub hides_ready : (hidden : C.File → Bool) (r s : C.Store) (a : C.Call) → Hides hidden r s → C.IsReady a r → C.IsReady a s
+
+  -- What they must meet, whatever the stores.
+  abbrev pub Lawful : Type 0
+  Lawful = LawfulAmong (λ s t. Unit {0})

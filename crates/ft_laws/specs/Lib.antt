@@ -3,6 +3,7 @@ pub mod Calls
 pub mod Laws
 pub mod Runs
 pub mod Effects
+pub mod Settled
 pub mod Hiding
 pub mod Looks
 pub mod Tiny

@@ -15,7 +15,7 @@ use std::io::Write;
 /// pieces in which it was read, and closed; where it is met again it gets a further name by a link.
 ///
 /// The writer is handed back. Where something fails, a part of the script was written, and its
-/// transaction does not commit.
+/// transaction does not commit, unless only the last line feed is missing.
 pub fn load<S: Source, W: Write>(alloc: Global, source: &S, writer: W) -> (W, Result<(), Stopped>)
     ensures ok { OnOk result.1 (Loads (S.tells source.now) (W.contents writer) (W.contents result.0)) }
     ensures stopped { IfErr result.1 (λ stopped. StopsLoad (S.tells source.now) stopped (W.contents writer) (W.contents result.0)) }

@@ -2,7 +2,7 @@
 ghost use Rattle.std.specs.Prelude.{◌≡◌, ◌≤◌, length, option_copied, IfOk, OnOk};
 ghost use Rattle.std.specs.Option.{option_to_list};
 ghost use Rattle.std.specs.FinMap as finite;
-ghost use Rattle.ft_body.specs.declared.TheConstants.{SIZE_LIMIT};
+ghost use Rattle.ft_body.specs.declared.TheConstants.{LARGEST_SIZE};
 ghost use Rattle.ft_path.specs.FilePath.{parts_of};
 ghost use Rattle.ft_cells.specs.declared.cell.Cell.TheVariants.{Links, Names, Fd};
 ghost use Rattle.ft_cells.specs.Cells.{bytes_of, stored_dirs};
@@ -17,10 +17,11 @@ ghost use Rattle.ft_posix.specs.Edits.{edit_cell, with_edits};
 
 use crate::touched::Touched;
 use ft_base::Memory;
-use ft_body::SIZE_LIMIT;
 use ft_path::{FilePath, Name, Parts, PartsFault};
 use ft_posix::{Access, Edit, Edits, Stop};
-use ft_tree::{Cell, Cursor, EntryRef, HintedFile, Node, OpenFile, ROOT, Reader, Spot, Tree, walk};
+use ft_tree::{
+    Cell, Cursor, EntryRef, HintedFile, Node, OpenFile, ROOT, Reader, Spot, Tree, TreeLimits, walk,
+};
 use std::alloc::Global;
 use std::marker::Model;
 
@@ -50,6 +51,14 @@ impl<'t> Look<'t> {
             cursor: Cursor::new(tree),
             touched: Touched::new(alloc),
         }
+    }
+
+    /// What the tree allows.
+    pub fn limits(&self) -> TreeLimits
+        ensures are { result ≡ self.now.cells.limits }
+        ensures size { result.file_size ≤ LARGEST_SIZE }
+    {
+        self.cursor.tree().limits()
     }
 
     /// How many entries name a file.
@@ -87,7 +96,7 @@ impl<'t> Look<'t> {
     /// The size of a file.
     pub fn size(&mut self, file: u64) -> Result<u64, Memory>
         ensures found { Finds self.old (size_at file) self.new result }
-        ensures limit { IfOk result (λ size. size ≤ SIZE_LIMIT) }
+        ensures limit { IfOk result (λ size. size ≤ LARGEST_SIZE) }
     {
         self.touched.read(Cell::Bytes(file))?;
         Ok(size_of(&self.cursor, file))
@@ -168,7 +177,7 @@ impl<'t> Reader for Look<'t> {
 /// The size of a file, in bytes.
 fn size_of(cursor: &Cursor<'_>, file: u64) -> u64
     ensures size { result ≡ length (bytes_of cursor.now file) }
-    ensures limit { result ≤ SIZE_LIMIT }
+    ensures limit { result ≤ LARGEST_SIZE }
 {
     match cursor.body(file) {
         Some(body) => body.len(),

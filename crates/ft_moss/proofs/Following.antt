@@ -373,9 +373,9 @@ place_is (Bytes i) file is (Fd f) = refl
 place_is (Fd f) file is place = absurd (none_some file is)
 
 pub cover_law : CoverLaw
-cover_law base sound h t locks c file is unlocked y = by_test (owns_lock posix_calls h y (λ f. posix_calls.touches f c))
+cover_law base sound h t locks c file is unlocked y = by_test (owns_lock posix_calls h y (λ f. posix_calls.touches f (Some c)))
     (λ owns.
-    let o = owns_one posix_calls h y (λ f. posix_calls.touches f c) owns in
+    let o = owns_one posix_calls h y (λ f. posix_calls.touches f (Some c)) owns in
     let one = any_one (λ a. covers a.place c) o.call.accesses o.passes in
     let own = lock_of h o.call y one.0 o.granted o.owner one.1 in
     let there = cell_locked t (access_line one.0 y own.0) (locks (access_line one.0 y own.0) ∙ own.1) in

@@ -127,7 +127,7 @@ pub record HolderLaw : Type 0 where
 -- A file's cell on which the table has no lock is touched by no lock of the
 -- history, so it may be swept.
 abbrev pub CoverLaw : Type 0
-CoverLaw = OfLocks (λ base h t. (c : Cell) (file : ℕ) → file_of c ≡ Some file → is_locked t c ≡ false → (y : ℕ) → owns_lock posix_calls h y (λ accesses. posix_calls.touches accesses c) ≡ false)
+CoverLaw = OfLocks (λ base h t. (c : Cell) (file : ℕ) → file_of c ≡ Some file → is_locked t c ≡ false → (y : ℕ) → owns_lock posix_calls h y (λ accesses. posix_calls.touches accesses (Some c)) ≡ false)
 
 -- The cell of each lock is locked.
 abbrev pub LockedLaw : Type 0

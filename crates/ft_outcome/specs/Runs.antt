@@ -2,7 +2,8 @@
 use Rattle.std.specs.Prelude.{◌≡◌, ℕ, List, Option}
 use Rattle.std.specs.Io.KnownBytes.{Appends, Keeps}
 use Rattle.ft_cells.specs.Rows.{rows_of}
-use Rattle.ft_core.specs.States.{tree_of}
+use Rattle.ft_core.specs.States.{State, tree_of}
+use Rattle.ft_record.specs.Going.{GoesOn}
 use Rattle.ft_plan.specs.declared.fault.JobFault.TheVariants.{Memory, BadPlan, Mismatch, Thread}
 use Rattle.ft_plan.specs.declared.job.Job.{Job}
 use Rattle.ft_plan.specs.Plans.{IsPlanOf}
@@ -18,12 +19,13 @@ use Rattle.ft_outcome.specs.Texts.{outcome_text}
 abbrev pub text_of_outcome : List Job → JobsOutcome → List ℕ
 text_of_outcome jobs outcome = outcome_text jobs outcome.reports.items outcome.core.state.events (rows_of (tree_of outcome.core.state))
 
--- The bytes are the plan of some jobs, and the text is that of an outcome of them: they have run,
--- and their reports are what happened.
-pub record IsTextOfPlan (bytes text : List ℕ) : Type 0 where
+-- The bytes are the plan of some jobs, and the text is that of an outcome of them: they have run on
+-- a core that was in this state, and their reports are what happened.
+pub record IsTextOfPlan (from : State) (bytes text : List ℕ) : Type 0 where
   pub jobs : List Job
   pub outcome : JobsOutcome
   pub plan : IsPlanOf bytes jobs
+  pub goes_on : GoesOn from outcome.core.state
   pub reports : AreReports outcome.core.state jobs outcome.reports.items
   pub told : text ≡ text_of_outcome jobs outcome
 
@@ -32,14 +34,14 @@ abbrev pub IsNoPlan : List ℕ → Type 0
 IsNoPlan bytes = (jobs : List Job) → IsPlanOf bytes jobs → ⊥
 
 -- A plan was run, and such a text was written, whole and nothing else.
-abbrev pub RunsPlan : List ℕ → Option (List ℕ) → Option (List ℕ) → Type 0
-RunsPlan bytes before after = (text : List ℕ) × IsTextOfPlan bytes text × Appends before after text
+abbrev pub RunsPlan : State → List ℕ → Option (List ℕ) → Option (List ℕ) → Type 0
+RunsPlan from bytes before after = (text : List ℕ) × IsTextOfPlan from bytes text × Appends before after text
 
 -- What a fault left: nothing was written, at BadPlan where the bytes are no plan; a part of such
 -- a text at Write.
-abbrev pub StopsPlan : RunFault → List ℕ → Option (List ℕ) → Option (List ℕ) → Type 0
-StopsPlan (faults.Jobs BadPlan) bytes before after = IsNoPlan bytes × Keeps before after
-StopsPlan (faults.Jobs Memory) bytes before after = Keeps before after
-StopsPlan (faults.Jobs Mismatch) bytes before after = Keeps before after
-StopsPlan (faults.Jobs Thread) bytes before after = Keeps before after
-StopsPlan faults.Write bytes before after = (text : List ℕ) × IsTextOfPlan bytes text × WritesPart before after text
+abbrev pub StopsPlan : RunFault → State → List ℕ → Option (List ℕ) → Option (List ℕ) → Type 0
+StopsPlan (faults.Jobs BadPlan) from bytes before after = IsNoPlan bytes × Keeps before after
+StopsPlan (faults.Jobs Memory) from bytes before after = Keeps before after
+StopsPlan (faults.Jobs Mismatch) from bytes before after = Keeps before after
+StopsPlan (faults.Jobs Thread) from bytes before after = Keeps before after
+StopsPlan faults.Write from bytes before after = (text : List ℕ) × IsTextOfPlan from bytes text × WritesPart before after text

@@ -1,7 +1,9 @@
 // Runs a plan: reads it, runs its jobs in threads, and writes what they came to.
 ghost use Rattle.std.specs.Prelude.{◌≡◌, ◌≢◌, ◌≤◌, OnOk, IfOk, IfErr, IsErrOf, string_bytes};
 ghost use Rattle.ft_core.specs.Living.{NoneIsLive};
+ghost use Rattle.ft_record.specs.Going.{GoesOn};
 ghost use Rattle.ft_reports.specs.Reports.{AreReports};
+ghost use Rattle.ft_shared.specs.Origins.{without_views};
 ghost use Rattle.ft_outcome.specs.Runs.{IsNoPlan, IsTextOfPlan, RunsPlan, StopsPlan, text_of_outcome};
 
 use crate::text::OutcomeText;
@@ -10,7 +12,7 @@ use ft_jobs::{Job, JobFault, JobsOutcome, Plan};
 use ft_progress::run_shown;
 use ft_record::Recorded;
 use ft_script::write_out;
-use ft_shared::Shared;
+use ft_shared::{Shared, Sharing};
 use std::alloc::Global;
 use std::io::Write;
 use std::marker::Brand;
@@ -42,7 +44,7 @@ impl From<JobFault> for RunFault {
 }
 
 /// Reads a plan, runs its jobs on a core where no transaction is live, each in a thread of its own,
-/// and writes what they came to. A call of theirs asks at most so many times. How far they
+/// and writes what they came to: the text is of this core, as the jobs left it. A call of theirs asks at most so many times. How far they
 /// have come is shown on a screen while they run, if there is one.
 ///
 /// A fault ends the run.
@@ -61,8 +63,8 @@ pub fn run_plan<R: Threads + Wait + Clock + Sync, S: Write + Send + Drop, W: Wri
 ) -> Result<(), RunFault>
     requires turns { 1 ≤ turns }
     requires none_live { NoneIsLive core.state }
-    ensures ok { OnOk result (RunsPlan plan.now (W.contents writer.old) (W.contents writer.new)) }
-    ensures fault { IfErr result (λ fault. StopsPlan fault plan.now (W.contents writer.old) (W.contents writer.new)) }
+    ensures ok { OnOk result (RunsPlan core.state plan.now (W.contents writer.old) (W.contents writer.new)) }
+    ensures fault { IfErr result (λ fault. StopsPlan fault core.state plan.now (W.contents writer.old) (W.contents writer.new)) }
 {
     let text = text_of(rt, alloc, core, plan, turns, screen)?;
     match write_out(writer, text.as_bytes()) {
@@ -82,11 +84,11 @@ fn text_of<R: Threads + Wait + Clock + Sync, S: Write + Send + Drop>(
 ) -> Result<String, JobFault>
     requires turns { 1 ≤ turns }
     requires none_live { NoneIsLive core.state }
-    ensures ok { IfOk result (λ text. IsTextOfPlan plan.now (string_bytes text)) }
+    ensures ok { IfOk result (λ text. IsTextOfPlan core.state plan.now (string_bytes text)) }
     ensures bad_plan { IsErrOf result JobFault.BadPlan → IsNoPlan plan.now }
 {
     let plan = Plan::read(alloc, plan)?;
-    let outcome = run_on(rt, alloc, core, &plan, turns, screen)?;
+    let outcome = run_on::<Brand, R, S>(rt, alloc, core, &plan, turns, screen)?;
     Ok(told(alloc, plan.jobs(), &outcome)?)
 }
 
@@ -104,8 +106,8 @@ fn told(alloc: Global, jobs: &[Job], outcome: &JobsOutcome) -> Result<String, Me
     Ok(format!(in alloc; "{text}")?)
 }
 
-// Runs the jobs of a plan on a core.
-fn run_on<R: Threads + Wait + Clock + Sync, S: Write + Send + Drop>(
+// Runs the jobs of a plan on a core, which the name tells.
+fn run_on<J: Sharing + Send + Sync, R: Threads + Wait + Clock + Sync, S: Write + Send + Drop>(
     rt: &R,
     alloc: Global,
     core: Recorded,
@@ -115,10 +117,12 @@ fn run_on<R: Threads + Wait + Clock + Sync, S: Write + Send + Drop>(
 ) -> Result<JobsOutcome, JobFault>
     requires turns { 1 ≤ turns }
     requires none_live { NoneIsLive core.state }
+    requires named { without_views core.state ≡ J.origin }
     ensures ok { IfOk result (λ outcome. AreReports outcome.core.state plan.now outcome.reports.items) }
+    ensures core { IfOk result (λ outcome. GoesOn core.state outcome.core.state) }
     ensures cause { IfErr result (λ fault. fault ≢ JobFault.BadPlan) }
 {
-    match Shared::<Brand>::new(core) {
+    match Shared::<J>::new(core) {
         Ok(shared) => run_shown(rt, alloc, plan, shared, turns, screen),
         Err(_) => unreachable!(),
     }

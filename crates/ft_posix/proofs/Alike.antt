@@ -12,7 +12,7 @@ use Rattle.ft_cells.specs.declared.cell.Cell.{Cell}
 use Rattle.ft_cells.specs.declared.cell.Cell.TheVariants.{Entry, Names, Parent, Links, Bytes, Fd}
 use Rattle.ft_cells.specs.Cells.{Cells, DirCells, dir_entry, dir_names, dir_of, stored_dirs, entry_of, parent_of}
 use Rattle.ft_tree.specs.Views.{view_of}
-use Rattle.ft_cells.specs.Looks.{View, Agree, looked_at, answer-agree, looked_at-agree}
+use Rattle.ft_cells.specs.Looks.{View, Agree, answer, looked_at, answer-agree, looked_at-agree}
 use Rattle.ft_tree.specs.Held.{held}
 use Rattle.ft_tree.specs.Sound.{IsTree, SaysNothingOf, IsFree, SameValues}
 use Rattle.ft_cells.specs.CellOrder.{same_cell-refl}
@@ -22,7 +22,7 @@ use Rattle.ft_posix.specs.Steps.{steps}
 use Rattle.ft_posix.specs.Stored.{put_all, outcome}
 use Rattle.ft_posix.specs.Accesses.{with_looks, with_writes, listed, accesses_of}
 use Rattle.ft_posix.specs.Posix.{covers, HasSoundValues}
-use Rattle.ft_posix.proofs.Puts.{entry_after, parent_after, links_after, bytes_after, open_after, entry-put_all, parent-put_all, links-put_all, bytes-put_all, open-put_all}
+use Rattle.ft_posix.proofs.Puts.{entry_after, parent_after, links_after, bytes_after, open_after, entry-put_all, parent-put_all, links-put_all, bytes-put_all, open-put_all, limits-put_all}
 use Rattle.ft_posix.proofs.Tidied.{dir_names-find}
 use Rattle.ft_posix.proofs.Below.{IsEnough, StoredEnough, StepsAlike}
 use Rattle.ft_posix.proofs.Accessed.{with_accesses-parts}
@@ -56,7 +56,7 @@ agree-each v w (c ∷ cs) same = (same c (inl refl), agree-each v w cs (λ d i. 
 
 -- the other way round
 pub same_back : (old new : Cells) → SameValues old new → SameValues new old
-same_back old new same = record { values = λ c. sym (same.values c) }
+same_back old new same = record { limits = sym same.limits; values = λ c. sym (same.values c) }
 
 -- they are a tree alike
 pub same_tree : (old new : Cells) → SameValues old new → IsTree (entry_of old) (parent_of old) → IsTree (entry_of new) (parent_of new)
@@ -71,7 +71,7 @@ same_free old new same k free = record { above_root = free.above_root; unused = 
 
 -- and they have the same values after the same writes
 pub same_after : (ws : List Write) (old new : Cells) → SameValues old new → SameValues (put_all old ws) (put_all new ws)
-same_after ws old new same = record { values = values }
+same_after ws old new same = record { limits = limits-put_all ws new ∙ same.limits ∙ sym (limits-put_all ws old); values = values }
   where
     values : (c : Cell) → held (put_all new ws) c ≡ held (put_all old ws) c
     values (Entry entry) = ap (λ f. f entry.dir entry.name) (entry-put_all ws new ∙ (λ i. entry_after (λ e other. same.values (Entry (entry_at e other)) i) ws) ∙ sym (entry-put_all ws old))
@@ -89,7 +89,7 @@ tree-values cells has = same_tree has.with_places cells has.same has.sound.tree
 
 -- what is looked at by the call with stamp k
 abbrev pub looked : Cells → ℕ → Call → List Cell
-looked cells k call = looked_at (steps (stored_dirs cells) k call) (view_of cells)
+looked cells k call = looked_at (steps cells.limits (stored_dirs cells) k call) (view_of cells)
 
 -- the call does the same in both
 pub record DoesAlike (s t : Cells) (k : ℕ) (call : Call) : Type 0 where
@@ -99,8 +99,8 @@ pub record DoesAlike (s t : Cells) (k : ℕ) (call : Call) : Type 0 where
 -- so its accesses are the same
 pub accesses-alike : (s t : Cells) (k : ℕ) (call : Call) → DoesAlike s t k call → accesses_of s k call ≡ accesses_of t k call
 accesses-alike s t k call alike =
-    ap listed (with_accesses-parts (steps (stored_dirs s) k call) empty (view_of s)) ∙ (λ i. listed (with_writes (with_looks empty (alike.looks i)) (alike.outcomes i).writes))
-    ∙ sym (ap listed (with_accesses-parts (steps (stored_dirs t) k call) empty (view_of t)))
+    ap listed (with_accesses-parts (steps s.limits (stored_dirs s) k call) empty (view_of s)) ∙ (λ i. listed (with_writes (with_looks empty (alike.looks i)) (alike.outcomes i).writes))
+    ∙ sym (ap listed (with_accesses-parts (steps t.limits (stored_dirs t) k call) empty (view_of t)))
 
 module _ (steps-alike : StepsAlike) (stored-enough : StoredEnough) where
   -- more than enough is enough
@@ -108,21 +108,21 @@ module _ (steps-alike : StepsAlike) (stored-enough : StoredEnough) where
   enough cells n m h le d hangs = let below = h d hangs in omega arith
 
   -- on trees that show the same where it looks a call does the same
-  pub does-alike : (s t : Cells) → IsTree (entry_of s) (parent_of s) → IsTree (entry_of t) (parent_of t) → (k : ℕ) (call : Call) → Agree (view_of s) (view_of t) (looked s k call) → DoesAlike s t k call
-  does-alike s t tree_s tree_t k call agree =
+  pub does-alike : (s t : Cells) → IsTree (entry_of s) (parent_of s) → IsTree (entry_of t) (parent_of t) → (k : ℕ) (call : Call) → s.limits ≡ t.limits → Agree (view_of s) (view_of t) (looked s k call) → DoesAlike s t k call
+  does-alike s t tree_s tree_t k call limits agree =
       let n = stored_dirs s + stored_dirs t in
       let enough_s = stored-enough s tree_s in
       let enough_t = stored-enough t tree_t in
-      let from = steps-alike s tree_s (stored_dirs s) n enough_s (enough s (stored_dirs s) n enough_s (omega arith)) k call in
-      let to = steps-alike t tree_t n (stored_dirs t) (enough t (stored_dirs t) n enough_t (omega arith)) enough_t k call in
-      let there : Agree (view_of s) (view_of t) (looked_at (steps n k call) (view_of s)) = subst (Agree (view_of s) (view_of t)) from.1 agree in
+      let from = steps-alike s.limits s tree_s (stored_dirs s) n enough_s (enough s (stored_dirs s) n enough_s (omega arith)) k call in
+      let to = steps-alike s.limits t tree_t n (stored_dirs t) (enough t (stored_dirs t) n enough_t (omega arith)) enough_t k call in
+      let there : Agree (view_of s) (view_of t) (looked_at (steps s.limits n k call) (view_of s)) = subst (Agree (view_of s) (view_of t)) from.1 agree in
       record {
-        outcomes = from.0 ∙ answer-agree (steps n k call) (view_of s) (view_of t) there ∙ to.0;
-        looks = from.1 ∙ looked_at-agree (steps n k call) (view_of s) (view_of t) there ∙ to.1;
+        outcomes = from.0 ∙ answer-agree (steps s.limits n k call) (view_of s) (view_of t) there ∙ to.0 ∙ ap (λ l. answer (steps l (stored_dirs t) k call) (view_of t)) limits;
+        looks = from.1 ∙ looked_at-agree (steps s.limits n k call) (view_of s) (view_of t) there ∙ to.1 ∙ ap (λ l. looked_at (steps l (stored_dirs t) k call) (view_of t)) limits;
       }
 
   -- and so it does on trees of the same values
   pub does-same : (old new : Cells) → SameValues old new → IsTree (entry_of old) (parent_of old) → (k : ℕ) (call : Call) → DoesAlike old new k call
   does-same old new same tree k call =
-      does-alike old new tree (same_tree old new same tree) k call
+      does-alike old new tree (same_tree old new same tree) k call (sym same.limits)
       (agree-each (view_of old) (view_of new) (looked old k call) (λ c i. view-covered old new c (λ x h. sym (same.values x))))

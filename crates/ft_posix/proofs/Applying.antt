@@ -20,6 +20,7 @@ use Rattle.ft_posix.specs.Outcomes.{Write, sets, Outcome}
 use Rattle.ft_posix.specs.Stored.{put, put_all, outcome}
 use Rattle.ft_posix.specs.Perform.{is_read}
 use Rattle.ft_posix.specs.declared.intent.Intent.{Intent}
+use Rattle.ft_body.specs.declared.TheConstants.{LARGEST_SIZE}
 use Rattle.ft_body.specs.Bytes.{fitting, written, resized}
 use Rattle.ft_tree.specs.Held.{held}
 use Rattle.ft_posix.specs.Comes.{write_of, writes_of, outcome_of}
@@ -117,7 +118,7 @@ write-same : (s t : Cells) (e : Edit) → held s (edit_cell e) ≡ held t (edit_
 write-same s t (Entry entry to) h = refl
 write-same s t (Parent d to) h = refl
 write-same s t (Links i to) h = refl
-write-same s t (Overwrite i at bytes) h = ap (λ (was : List ℕ). sets (cell.Bytes i) (written was at (fitting bytes.now at))) h
+write-same s t (Overwrite i at bytes) h = ap (λ (was : List ℕ). sets (cell.Bytes i) (written was at (fitting LARGEST_SIZE bytes.now at))) h
 write-same s t (Resize i size) h = ap (λ (was : List ℕ). sets (cell.Bytes i) (resized was size)) h
 write-same s t (Open f to) h = refl
 

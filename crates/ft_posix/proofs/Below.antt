@@ -1,5 +1,6 @@
 -- Which directories are met on the way up from one, and how far it is.
 use Rattle.std.proofs.Common.{◌≡◌, ◌≢◌, ◌≤◌, ℕ, suc, Option, Some}
+use Rattle.ft_cells.specs.declared.limits.TreeLimits.{TreeLimits}
 use Rattle.ft_cells.specs.Cells.{Cells, entry_of, parent_of, stored_dirs}
 use Rattle.ft_tree.specs.Views.{view_of}
 use Rattle.ft_cells.specs.Looks.{Looks, answer, looked_at}
@@ -31,4 +32,4 @@ StoredEnough = (cells : Cells) → IsTree (entry_of cells) (parent_of cells) →
 
 -- where two numbers are enough, a call does the same with either
 abbrev pub StepsAlike : Type 0
-StepsAlike = (cells : Cells) → IsTree (entry_of cells) (parent_of cells) → (m n : ℕ) → IsEnough cells m → IsEnough cells n → (k : ℕ) (call : Call) → Alike cells (steps m k call) (steps n k call)
+StepsAlike = (limits : TreeLimits) (cells : Cells) → IsTree (entry_of cells) (parent_of cells) → (m n : ℕ) → IsEnough cells m → IsEnough cells n → (k : ℕ) (call : Call) → Alike cells (steps limits m k call) (steps limits n k call)

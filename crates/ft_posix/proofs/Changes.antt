@@ -4,11 +4,11 @@ use Rattle.std.proofs.Common.{◌≡◌, ◌≢◌, ◌⊎◌, inl, inr, ℕ, �
 use Rattle.std.specs.Prelude.{◌-◌, ◌==◌, ◌&&◌, not, nat_lt, nat_le}
 use Rattle.std.specs.List.{AllByRecursion}
 use Rattle.std.proofs.lemmas.Bool.{false≢true}
-use Rattle.ft_body.specs.declared.TheConstants.{SIZE_LIMIT}
 use Rattle.ft_path.specs.declared.errno.Errno.{Errno}
 use Rattle.ft_path.specs.declared.errno.Errno.TheVariants.{EINVAL, EEXIST, EISDIR, ENOENT, ENOTDIR, EBADF, EFBIG, EMLINK, EOVERFLOW}
 use Rattle.ft_path.specs.declared.path.Parts.{Parts}
 use Rattle.ft_path.specs.FilePath.{last_of, parts_of}
+use Rattle.ft_cells.specs.declared.limits.TreeLimits.{TreeLimits}
 use Rattle.ft_cells.specs.Entries.{entry_at}
 use Rattle.ft_cells.specs.declared.node.Node.{Node}
 use Rattle.ft_cells.specs.declared.node.Node.TheVariants.{Dir as DirNode, File as FileNode}
@@ -19,7 +19,7 @@ use Rattle.ft_tree.specs.Views.{view_of}
 use Rattle.ft_cells.specs.Looks.{Looks, Answer, answer, answer-then, or_else}
 use Rattle.ft_tree.specs.Walk.{Spot, Named as AtName, Itself, walk}
 use Rattle.ft_tree.specs.Sound.{Hangs, AreSoundCells}
-use Rattle.ft_posix.specs.declared.TheConstants.{LAST_OFFSET, MOST_LINKS}
+use Rattle.ft_posix.specs.declared.TheConstants.{LAST_OFFSET}
 use Rattle.ft_posix.specs.declared.call.Call.{Call}
 use Rattle.ft_posix.specs.declared.call.Call.TheVariants.{Mkdir, Rmdir, List as ListDir, Open, Close, Read, Write as WriteCall, Pread, Pwrite, Lseek, Truncate, Ftruncate, Stat, Fstat, Link, Unlink, Rename}
 use Rattle.ft_posix.specs.declared.call.OpenFlags.{OpenFlags}
@@ -173,21 +173,21 @@ module _ (cells : Cells) where
     moves fd o is offset = sets_open fd (at_offset o offset) (by_open fd o is) (inr (subst IsSome (sym is) refl))
 
     -- write sets the bytes of the file, and moves the offset
-    write_at-changes : (fd : ℕ) (o : OpenFile) → open_of cells fd ≡ Some o → (bytes : List ℕ) (at : ℕ) → ComesTo (write_at fd o bytes at)
-    write_at-changes fd o is bytes at =
-        either-changes (nat_le SIZE_LIMIT at) (Answer (failed EFBIG)) _ (no_change _)
+    write_at-changes : (limits : TreeLimits) (fd : ℕ) (o : OpenFile) → open_of cells fd ≡ Some o → (bytes : List ℕ) (at : ℕ) → ComesTo (write_at limits fd o bytes at)
+    write_at-changes limits fd o is bytes at =
+        either-changes (nat_le limits.file_size at) (Answer (failed EFBIG)) _ (no_change _)
         (on_files _ _ (sets_bytes o.file _ (by_open fd o is), (moves fd o is _, tt)) ((refl, tt), (tt, tt)) (λ x. x) (λ x. absurd x))
 
-    write_open-changes : (fd : ℕ) (bytes : List ℕ) (o : OpenFile) → open_of cells fd ≡ Some o → ComesTo (write_open fd bytes o)
-    write_open-changes fd [] o is = no_change _
-    write_open-changes fd (first ∷ more) o is =
-        subst (Change k reads) (sym (answer-then (write_place o) (write_at fd o (first ∷ more)) (view_of cells))) (write_at-changes fd o is (first ∷ more) _)
+    write_open-changes : (limits : TreeLimits) (fd : ℕ) (bytes : List ℕ) (o : OpenFile) → open_of cells fd ≡ Some o → ComesTo (write_open limits fd bytes o)
+    write_open-changes limits fd [] o is = no_change _
+    write_open-changes limits fd (first ∷ more) o is =
+        subst (Change k reads) (sym (answer-then (write_place o) (write_at limits fd o (first ∷ more)) (view_of cells))) (write_at-changes limits fd o is (first ∷ more) _)
 
     -- pwrite sets the bytes alone
-    pwrite_at-changes : (fd : ℕ) (o : OpenFile) → open_of cells fd ≡ Some o → (bytes : List ℕ) (at : ℕ) → ComesTo (pwrite_at o bytes at)
-    pwrite_at-changes fd o is [] at = no_change _
-    pwrite_at-changes fd o is (first ∷ more) at =
-        either-changes (nat_le SIZE_LIMIT at) (Answer (failed EFBIG)) _ (no_change _) (on_files _ _ (sets_bytes o.file _ (by_open fd o is), tt) (tt, tt) (λ x. x) (λ x. absurd x))
+    pwrite_at-changes : (limits : TreeLimits) (fd : ℕ) (o : OpenFile) → open_of cells fd ≡ Some o → (bytes : List ℕ) (at : ℕ) → ComesTo (pwrite_at limits o bytes at)
+    pwrite_at-changes limits fd o is [] at = no_change _
+    pwrite_at-changes limits fd o is (first ∷ more) at =
+        either-changes (nat_le limits.file_size at) (Answer (failed EFBIG)) _ (no_change _) (on_files _ _ (sets_bytes o.file _ (by_open fd o is), tt) (tt, tt) (λ x. x) (λ x. absurd x))
 
     -- lseek moves the offset
     sought-changes : (fd : ℕ) (o : OpenFile) → open_of cells fd ≡ Some o → (place : Option ℕ) → Change k reads (sought fd o place)
@@ -213,12 +213,12 @@ module _ (cells : Cells) where
     truncate_spot-changes size (Itself d) h = no_change _
 
     -- link gives a file another entry
-    link_new-changes : (i : ℕ) → Named cells i → (trailing : Bool) (spot : Spot) → IsSpot cells spot → ComesTo (link_new i trailing spot)
-    link_new-changes i named trailing (AtName entry None) h =
+    link_new-changes : (limits : TreeLimits) (i : ℕ) → Named cells i → (trailing : Bool) (spot : Spot) → IsSpot cells spot → ComesTo (link_new limits i trailing spot)
+    link_new-changes limits i named trailing (AtName entry None) h =
         either-changes trailing (Answer (failed ENOENT)) _ (no_change _)
-        (elim (nat_lt (links_of cells i) MOST_LINKS) as (λ b. Change k reads (cond b (linked i entry (links_of cells i)) (failed EMLINK))) [ true ↦ links_file i entry.dir entry.name named h.0 (sym h.1) | false ↦ no_change _ ])
-    link_new-changes i named trailing (AtName entry (Some x)) h = no_change _
-    link_new-changes i named trailing (Itself d) h = no_change _
+        (elim (nat_lt (links_of cells i) limits.links) as (λ b. Change k reads (cond b (linked i entry (links_of cells i)) (failed EMLINK))) [ true ↦ links_file i entry.dir entry.name named h.0 (sym h.1) | false ↦ no_change _ ])
+    link_new-changes limits i named trailing (AtName entry (Some x)) h = no_change _
+    link_new-changes limits i named trailing (Itself d) h = no_change _
 
     -- unlink takes an entry of a file away
     unlink_spot-changes : (spot : Spot) → IsSpot cells spot → ComesTo (unlink_spot spot)
@@ -273,22 +273,22 @@ module _ (cells : Cells) where
           (from_parts-changes (λ spot. Answer (open_spot k flags parts.trailing spot)) (open_spot-changes flags parts.trailing) (Ok parts))
 
       -- with the faults of the length
-      truncate_parts-changes : (len : ℤ) (parts : Result Parts Errno) → ComesTo (truncate_parts len parts)
-      truncate_parts-changes len (Err e) = no_change _
-      truncate_parts-changes len (Ok parts) =
-          or_else-changes (λ size. from_parts (Ok parts) (truncate_spot size)) (to_size len) (λ size. from_parts-changes (truncate_spot size) (truncate_spot-changes size) (Ok parts))
+      truncate_parts-changes : (limits : TreeLimits) (len : ℤ) (parts : Result Parts Errno) → ComesTo (truncate_parts limits len parts)
+      truncate_parts-changes limits len (Err e) = no_change _
+      truncate_parts-changes limits len (Ok parts) =
+          or_else-changes (λ size. from_parts (Ok parts) (truncate_spot size)) (to_size limits len) (λ size. from_parts-changes (truncate_spot size) (truncate_spot-changes size) (Ok parts))
 
       -- link, with two paths
-      link_old-changes : (new : Parts) (spot : Spot) → IsSpot cells spot → ComesTo (link_old new spot)
-      link_old-changes new (AtName entry None) h = no_change _
-      link_old-changes new (AtName entry (Some (DirNode i))) h = no_change _
-      link_old-changes new (AtName entry (Some (FileNode i))) h = from_parts-changes (link_new i new.trailing) (link_new-changes i (by_entry entry.dir entry.name i (sym h.1)) new.trailing) (Ok new)
-      link_old-changes new (Itself d) h = no_change _
+      link_old-changes : (limits : TreeLimits) (new : Parts) (spot : Spot) → IsSpot cells spot → ComesTo (link_old limits new spot)
+      link_old-changes limits new (AtName entry None) h = no_change _
+      link_old-changes limits new (AtName entry (Some (DirNode i))) h = no_change _
+      link_old-changes limits new (AtName entry (Some (FileNode i))) h = from_parts-changes (link_new limits i new.trailing) (link_new-changes limits i (by_entry entry.dir entry.name i (sym h.1)) new.trailing) (Ok new)
+      link_old-changes limits new (Itself d) h = no_change _
 
-      link_parts-changes : (old new : Result Parts Errno) → ComesTo (link_parts old new)
-      link_parts-changes (Err e) new = no_change _
-      link_parts-changes (Ok old) (Err e) = no_change _
-      link_parts-changes (Ok old) (Ok new) = from_parts-changes (link_old new) (link_old-changes new) (Ok old)
+      link_parts-changes : (limits : TreeLimits) (old new : Result Parts Errno) → ComesTo (link_parts limits old new)
+      link_parts-changes limits (Err e) new = no_change _
+      link_parts-changes limits (Ok old) (Err e) = no_change _
+      link_parts-changes limits (Ok old) (Ok new) = from_parts-changes (link_old limits new) (link_old-changes limits new) (Ok old)
 
       module _ (n : ℕ) (enough : IsEnough cells n) where
         -- a directory that is not the root goes only where it is not on the way up
@@ -341,18 +341,18 @@ call-changes cells sound k (Open path access create excl trunc append) = open_pa
 call-changes cells sound k (Close fd) =
     with_open-changes cells k false fd any_open (close_open fd) (λ o is. on_files Done _ (closes fd o is, tt) (tt, tt) (λ x. x) (λ x. absurd x))
 call-changes cells sound k (Read fd len) = with_open-changes cells k true fd is_readable (read_open fd len) (read_open-changes cells k fd len)
-call-changes cells sound k (WriteCall fd bytes) = with_open-changes cells k false fd is_writable (write_open fd bytes) (write_open-changes cells k false fd bytes)
+call-changes cells sound k (WriteCall fd bytes) = with_open-changes cells k false fd is_writable (write_open cells.limits fd bytes) (write_open-changes cells k false cells.limits fd bytes)
 call-changes cells sound k (Pread fd off len) =
     with_open-changes cells k false fd is_readable (pread_open off len) (λ o is. or_else-changes cells k false (pread_at len o) (not_negative off) (λ at. no_change _))
 call-changes cells sound k (Pwrite fd off bytes) =
-    with_open-changes cells k false fd is_writable (pwrite_open off bytes) (λ o is. or_else-changes cells k false (pwrite_at o bytes) (not_negative off) (pwrite_at-changes cells k false fd o is bytes))
+    with_open-changes cells k false fd is_writable (pwrite_open cells.limits off bytes) (λ o is. or_else-changes cells k false (pwrite_at cells.limits o bytes) (not_negative off) (pwrite_at-changes cells k false cells.limits fd o is bytes))
 call-changes cells sound k (Lseek fd whence off) = with_open-changes cells k false fd any_open (seek_open fd whence off) (seek_open-changes cells k false fd whence off)
-call-changes cells sound k (Truncate len path) = truncate_parts-changes cells k false sound len (parts_of path)
+call-changes cells sound k (Truncate len path) = truncate_parts-changes cells k false sound cells.limits len (parts_of path)
 call-changes cells sound k (Ftruncate fd len) =
-    with_open-changes cells k false fd is_writable (ftruncate_open len) (λ o is. or_else-changes cells k false (cut_file o.file) (to_size len) (λ size. cut_file-changes cells k false o.file size (by_open fd o is)))
+    with_open-changes cells k false fd is_writable (ftruncate_open cells.limits len) (λ o is. or_else-changes cells k false (cut_file o.file) (to_size cells.limits len) (λ size. cut_file-changes cells k false o.file size (by_open fd o is)))
 call-changes cells sound k (Stat path) = from_parts-changes cells k false sound stat_spot (stat_spot-changes cells k false) (parts_of path)
 call-changes cells sound k (Fstat fd) = with_open-changes cells k false fd any_open fstat_open (λ o is. no_change _)
-call-changes cells sound k (Link old new) = link_parts-changes cells k false sound (parts_of old) (parts_of new)
+call-changes cells sound k (Link old new) = link_parts-changes cells k false sound cells.limits (parts_of old) (parts_of new)
 call-changes cells sound k (Unlink path) = from_parts-changes cells k false sound unlink_spot (unlink_spot-changes cells k false) (parts_of path)
 call-changes cells sound k (Rename old new) = rename_parts-changes cells k false sound (stored_dirs cells) (stored-enough cells sound.tree) (parts_of old) (parts_of new)
 

@@ -200,5 +200,5 @@ module _ (cells : Cells) where
 
 -- where two numbers are enough, a call does the same with either; all but rename do so with any two
 pub steps-alike : StepsAlike
-steps-alike cells tree m n enough more k (Rename old new) = rename_parts-alike cells tree m n enough more (parts_of old) (parts_of new)
-steps-alike cells tree m n enough more k call = (refl, refl)
+steps-alike limits cells tree m n enough more k (Rename old new) = rename_parts-alike cells tree m n enough more (parts_of old) (parts_of new)
+steps-alike limits cells tree m n enough more k call = (refl, refl)

@@ -24,29 +24,29 @@ use Rattle.ft_posix.proofs.LinksUpon.{link_parts-goes, unlink_spot-goes, rename_
 use Rattle.ft_posix.proofs.Free.{no_open}
 
 -- where all that a call looks at is seen, it comes upon its files
-call-goes : (cells : Cells) (k : ℕ) (seen : List Cell) → IsFree cells k → (n : ℕ) (call : Call) → GoesUpon cells k seen (steps n k call)
+call-goes : (cells : Cells) (k : ℕ) (seen : List Cell) → IsFree cells k → (n : ℕ) (call : Call) → GoesUpon cells k seen (steps cells.limits n k call)
 call-goes cells k seen free n (Mkdir path) = from_parts-goes cells k seen (make_dir k) (make_dir-goes cells k seen) (parts_of path)
 call-goes cells k seen free n (Rmdir path) = remove_parts-goes cells k seen (parts_of path)
 call-goes cells k seen free n (ListDir path) = from_parts-goes cells k seen list_dir (list_dir-goes cells k seen) (parts_of path)
 call-goes cells k seen free n (Open path access create excl trunc append) = open_parts-goes cells k seen (no_open free) _ (parts_of path)
 call-goes cells k seen free n (Close fd) = with_open-goes cells k seen fd any_open (close_open fd) (close_open-goes cells k seen fd)
 call-goes cells k seen free n (Read fd len) = with_open-goes cells k seen fd is_readable (read_open fd len) (read_open-goes cells k seen fd len)
-call-goes cells k seen free n (WriteCall fd bytes) = with_open-goes cells k seen fd is_writable (write_open fd bytes) (write_open-goes cells k seen fd bytes)
+call-goes cells k seen free n (WriteCall fd bytes) = with_open-goes cells k seen fd is_writable (write_open cells.limits fd bytes) (write_open-goes cells k seen cells.limits fd bytes)
 call-goes cells k seen free n (Pread fd off len) = with_open-goes cells k seen fd is_readable (pread_open off len) (pread_open-goes cells k seen off fd len)
-call-goes cells k seen free n (Pwrite fd off bytes) = with_open-goes cells k seen fd is_writable (pwrite_open off bytes) (pwrite_open-goes cells k seen off fd bytes)
+call-goes cells k seen free n (Pwrite fd off bytes) = with_open-goes cells k seen fd is_writable (pwrite_open cells.limits off bytes) (pwrite_open-goes cells k seen cells.limits off fd bytes)
 call-goes cells k seen free n (Lseek fd whence off) = with_open-goes cells k seen fd any_open (seek_open fd whence off) (seek_open-goes cells k seen fd whence off)
-call-goes cells k seen free n (Truncate len path) = truncate_parts-goes cells k seen len (parts_of path)
-call-goes cells k seen free n (Ftruncate fd len) = with_open-goes cells k seen fd is_writable (ftruncate_open len) (ftruncate_open-goes cells k seen len fd)
+call-goes cells k seen free n (Truncate len path) = truncate_parts-goes cells k seen cells.limits len (parts_of path)
+call-goes cells k seen free n (Ftruncate fd len) = with_open-goes cells k seen fd is_writable (ftruncate_open cells.limits len) (ftruncate_open-goes cells k seen cells.limits len fd)
 call-goes cells k seen free n (Stat path) = from_parts-goes cells k seen stat_spot (stat_spot-goes cells k seen) (parts_of path)
 call-goes cells k seen free n (Fstat fd) = with_open-goes cells k seen fd any_open fstat_open (fstat_open-goes cells k seen fd)
-call-goes cells k seen free n (Link old new) = link_parts-goes cells k seen (parts_of old) (parts_of new)
+call-goes cells k seen free n (Link old new) = link_parts-goes cells k seen cells.limits (parts_of old) (parts_of new)
 call-goes cells k seen free n (Unlink path) = from_parts-goes cells k seen unlink_spot (unlink_spot-goes cells k seen) (parts_of path)
 call-goes cells k seen free n (Rename old new) = rename_parts-goes cells k seen n (parts_of old) (parts_of new)
 
 -- each call comes upon the files that it looks at and writes, and lets go only names that may go
 pub call-upon : EachCallUpon
 call-upon cells k free n call =
-    let s = steps n k call in
+    let s = steps cells.limits n k call in
     let seen = looked_at s (view_of cells) in
     let ws = (answer s (view_of cells)).writes in
     let goes = call-goes cells k seen free n call (Each-from (λ c. In c seen) seen (λ c i. i)) in

@@ -105,7 +105,7 @@ module _ (cells : Cells) (sound : AreSoundCells cells) (p : PlainTree) (alike : 
 
   tidy-left : without_dead_files p ≡ tidy cells
   tidy-left =
-      same_plain (without_dead_files p) (tidy cells) (λ d name. ap (λ m. get m (entry_at d name)) (sym alike.edges)) (λ d. ap (λ s. contains_key s d) (sym alike.dirs)) files-left (λ f. ap (λ m. get m f) (sym alike.opens))
+      same_plain (without_dead_files p) (tidy cells) (sym alike.limits) (λ d name. ap (λ m. get m (entry_at d name)) (sym alike.edges)) (λ d. ap (λ s. contains_key s d) (sym alike.dirs)) files-left (λ f. ap (λ m. get m f) (sym alike.opens))
 
 -- the plain tree of sound cells has their files
 own-files : (cells : Cells) → AreSoundCells cells → HasFiles cells (tidy cells)

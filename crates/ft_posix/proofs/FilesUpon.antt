@@ -5,10 +5,10 @@ use Rattle.std.proofs.lemmas.Bool.{false≢true}
 use Rattle.std.proofs.lemmas.Option.{none-some, same_Some}
 use Rattle.ft_laws.specs.Lists.{Each, In}
 use Rattle.ft_laws.proofs.Lists.{Each-map}
-use Rattle.ft_body.specs.declared.TheConstants.{SIZE_LIMIT}
 use Rattle.ft_path.specs.declared.errno.Errno.{Errno}
 use Rattle.ft_path.specs.declared.errno.Errno.TheVariants.{ENOENT, EEXIST, EISDIR, EINVAL, EBADF, EFBIG, EOVERFLOW}
 use Rattle.ft_path.specs.declared.path.Parts.{Parts}
+use Rattle.ft_cells.specs.declared.limits.TreeLimits.{TreeLimits}
 use Rattle.ft_cells.specs.Entries.{entry_at}
 use Rattle.ft_cells.specs.declared.cell.Cell.{Cell}
 use Rattle.ft_cells.specs.declared.cell.Cell.TheVariants.{Names, Bytes, Fd}
@@ -162,10 +162,10 @@ module _ (cells : Cells) (k : ℕ) (seen : List Cell) where
   truncate_spot-goes size (Itself d) h = no_change
 
   -- with the faults of the length
-  pub truncate_parts-goes : (len : ℤ) (parts : Result Parts Errno) → GoesUpon (truncate_parts len parts)
-  truncate_parts-goes len (Err e) = no_change
-  truncate_parts-goes len (Ok parts) =
-      or_else-goes (λ size. from_parts (Ok parts) (truncate_spot size)) (to_size len) (λ size. from_parts-goes (truncate_spot size) (truncate_spot-goes size) (Ok parts))
+  pub truncate_parts-goes : (limits : TreeLimits) (len : ℤ) (parts : Result Parts Errno) → GoesUpon (truncate_parts limits len parts)
+  truncate_parts-goes limits len (Err e) = no_change
+  truncate_parts-goes limits len (Ok parts) =
+      or_else-goes (λ size. from_parts (Ok parts) (truncate_spot size)) (to_size limits len) (λ size. from_parts-goes (truncate_spot size) (truncate_spot-goes size) (Ok parts))
 
   -- the descriptor k was not open, and a file that is made has the number k
   module _ (none : open_of cells k ≡ None) where
@@ -250,28 +250,28 @@ module _ (cells : Cells) (k : ℕ) (seen : List Cell) where
   write_place-meets fd o h = elim o.append as (λ b. MeetsUpon (cond b (Look (Bytes o.file) (λ bytes. Answer (length bytes))) (Answer o.offset))) [ true ↦ (of_file o.file (by_open fd o h), tt) | false ↦ tt ]
 
   -- write sets the bytes, and moves the offset
-  pub write_open-goes : (fd : ℕ) (bytes : List ℕ) (o : OpenFile) → IsOpen fd o → GoesUpon (write_open fd bytes o)
-  write_open-goes fd [] o h = no_change
-  write_open-goes fd (first ∷ more) o h =
+  pub write_open-goes : (limits : TreeLimits) (fd : ℕ) (bytes : List ℕ) (o : OpenFile) → IsOpen fd o → GoesUpon (write_open limits fd bytes o)
+  write_open-goes limits fd [] o h = no_change
+  write_open-goes limits fd (first ∷ more) o h =
       let upon = by_open fd o h in
-      then-goes (write_place o) (write_at fd o (first ∷ more)) (write_place-meets fd o h)
-      (λ _. either-goes (nat_le SIZE_LIMIT (answer (write_place o) (view_of cells))) (Answer (failed EFBIG)) _ no_change
+      then-goes (write_place o) (write_at limits fd o (first ∷ more)) (write_place-meets fd o h)
+      (λ _. either-goes (nat_le limits.file_size (answer (write_place o) (view_of cells))) (Answer (failed EFBIG)) _ no_change
       (λ all. ((of_file o.file upon, tt), (upon_bytes o.file _ upon, (moves _ fd o h _, tt)))))
 
   -- pwrite sets the bytes alone
-  pwrite_at-goes : (fd : ℕ) (o : OpenFile) → IsOpen fd o → (bytes : List ℕ) (at : ℕ) → GoesUpon (pwrite_at o bytes at)
-  pwrite_at-goes fd o h [] at = no_change
-  pwrite_at-goes fd o h (first ∷ more) at =
+  pwrite_at-goes : (limits : TreeLimits) (fd : ℕ) (o : OpenFile) → IsOpen fd o → (bytes : List ℕ) (at : ℕ) → GoesUpon (pwrite_at limits o bytes at)
+  pwrite_at-goes limits fd o h [] at = no_change
+  pwrite_at-goes limits fd o h (first ∷ more) at =
       let upon = by_open fd o h in
-      either-goes (nat_le SIZE_LIMIT at) (Answer (failed EFBIG)) _ no_change (λ all. ((of_file o.file upon, tt), (upon_bytes o.file _ upon, tt)))
+      either-goes (nat_le limits.file_size at) (Answer (failed EFBIG)) _ no_change (λ all. ((of_file o.file upon, tt), (upon_bytes o.file _ upon, tt)))
 
   -- with the fault of the offset
-  pub pwrite_open-goes : (off : ℤ) (fd : ℕ) (bytes : List ℕ) (o : OpenFile) → IsOpen fd o → GoesUpon (pwrite_open off bytes o)
-  pwrite_open-goes off fd bytes o h = or_else-goes (pwrite_at o bytes) (not_negative off) (pwrite_at-goes fd o h bytes)
+  pub pwrite_open-goes : (limits : TreeLimits) (off : ℤ) (fd : ℕ) (bytes : List ℕ) (o : OpenFile) → IsOpen fd o → GoesUpon (pwrite_open limits off bytes o)
+  pwrite_open-goes limits off fd bytes o h = or_else-goes (pwrite_at limits o bytes) (not_negative off) (pwrite_at-goes limits fd o h bytes)
 
   -- ftruncate sets the bytes
-  pub ftruncate_open-goes : (len : ℤ) (fd : ℕ) (o : OpenFile) → IsOpen fd o → GoesUpon (ftruncate_open len o)
-  ftruncate_open-goes len fd o h = or_else-goes (cut_file o.file) (to_size len) (λ size. cut_file-goes o.file size (by_open fd o h))
+  pub ftruncate_open-goes : (limits : TreeLimits) (len : ℤ) (fd : ℕ) (o : OpenFile) → IsOpen fd o → GoesUpon (ftruncate_open limits len o)
+  ftruncate_open-goes limits len fd o h = or_else-goes (cut_file o.file) (to_size limits len) (λ size. cut_file-goes o.file size (by_open fd o h))
 
   -- lseek may look at the bytes
   seek_from-meets : (fd : ℕ) (whence : Whence) (o : OpenFile) → IsOpen fd o → MeetsUpon (seek_from whence o)

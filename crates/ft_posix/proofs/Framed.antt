@@ -1,5 +1,5 @@
 -- The frame, kept and exchange laws of the calls.
-use Rattle.std.proofs.Common.{◌≡◌, ◌||◌, ◌&&◌, Bool, true, false, List, [], ◌∷◌, map, inl, inr, refl, sym, ap, subst, ◌∙◌}
+use Rattle.std.proofs.Common.{◌≡◌, ◌||◌, ◌&&◌, Bool, true, false, List, [], ◌∷◌, Option, Some, None, map, inl, inr, refl, sym, ap, subst, ◌∙◌}
 use Rattle.std.proofs.lemmas.Bool.{false≢true, false_from_ne_true, or_right}
 use Rattle.std.specs.List.{list_any}
 use Rattle.ft_laws.specs.Lists.{In, any}
@@ -40,10 +40,10 @@ agree-at s t (b ∷ more) agree a (inr i) = agree-at s t more agree.1 a i
 module _ (steps-alike : StepsAlike) (stored-enough : StoredEnough) where
   -- a call does the same on sound cells that show the same where it accesses them
   pub frame : FrameLaw
-  frame s t k call sound_s sound_t free_s free_t agree =
-      let alike = does-alike steps-alike stored-enough s t sound_s.tree sound_t.tree k call
+  frame s t k call sound_s sound_t free_s free_t limits agree =
+      let alike = does-alike steps-alike stored-enough s t sound_s.tree sound_t.tree k call limits
       (agree-each (view_of s) (view_of t) (looked s k call)
-      (λ c i. let at = looked-accessed (steps (stored_dirs s) k call) (view_of s) c i in agree-at s t (accesses_of s k call) agree (access c at.0) at.1)) in
+      (λ c i. let at = looked-accessed (steps s.limits (stored_dirs s) k call) (view_of s) c i in agree-at s t (accesses_of s k call) agree (access c at.0) at.1)) in
       record {
         accesses = sym (accesses-alike s t k call alike);
         reply = λ i. (sym alike.outcomes i).reply;
@@ -58,7 +58,7 @@ kept cells k call c not_written =
     false_from_ne_true (effects.is_written posix ws x)
     (λ is. false≢true (sym not_written
     ∙ listed-any (λ a. is_write a.mode && overlap a.cell c) (access x WriteMode) (accesses_of cells k call)
-    (written-accessed (steps (stored_dirs cells) k call) (view_of cells) x (written-in ws x is)) (overlaps x c x (covers-refl x) covered))) in
+    (written-accessed (steps cells.limits (stored_dirs cells) k call) (view_of cells) x (written-in ws x is)) (overlaps x c x (covers-refl x) covered))) in
     view-covered (after cells k call) cells c (λ x covered. ap (λ s. held s x) (sym (write-put ws cells)) ∙ write_kept posix sets ws cells x (apart x covered))
 
 -- what is tested of a list under a function
@@ -87,7 +87,7 @@ module _ (steps-alike : StepsAlike) (stored-enough : StoredEnough) (upon : EachC
       let has : HasSoundValues cells = record {
         with_places = cells;
         sound = sound;
-        same = record { values = λ c. refl };
+        same = record { limits = refl; values = λ c. refl };
       } in
       let apart : effects.some_conflict posix (posix_calls.accesses cells x) (posix_calls.accesses s y) ≡ false =
       conflict-places (accesses_of cells j a) (accesses_of s k b) ∙ ap (λ c. some_conflict (accesses_of cells j a) (accesses_of c k b)) (act-after cells x) ∙ clear in
@@ -96,9 +96,9 @@ module _ (steps-alike : StepsAlike) (stored-enough : StoredEnough) (upon : EachC
       (made_faithful posix_calls cells 0 (x ∷ y ∷ [])) apart in
       let old : posix_calls.act s y ≡ after (after cells j a) k b = ap (λ c. posix_calls.act c y) (act-after cells x) ∙ act-after (after cells j a) y in
       let new : posix_calls.act t x ≡ after (after cells k b) j a = ap (λ c. posix_calls.act c x) (act-after cells y) ∙ act-after (after cells k b) x in
-      let same : (c : Cell) → held (after (after cells k b) j a) c ≡ held (after (after cells j a) k b) c = λ c. ap (λ u. held u c) (sym new) ∙ sym (law.1 c) ∙ ap (λ u. held u c) old in
+      let same : (c : Cell) → held (after (after cells k b) j a) c ≡ held (after (after cells j a) k b) c = λ c. ap (λ u. held u c) (sym new) ∙ sym (law.1 (Some c)) ∙ ap (λ u. held u c) old in
       record {
         first = ap (λ c. (outcome c j a).reply) (sym (act-after cells y)) ∙ law.0.1.0.reply;
         second = law.0.0.reply ∙ ap (λ c. (outcome c k b).reply) (act-after cells x);
-        values = record { values = same };
+        values = record { limits = ap (λ (u : Cells). u.limits) (sym new) ∙ sym (law.1 None) ∙ ap (λ (u : Cells). u.limits) old; values = same };
       }

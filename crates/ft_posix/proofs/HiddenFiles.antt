@@ -1,5 +1,5 @@
 -- What is hidden, the plain tree has not.
-use Rattle.std.proofs.Common.{◌≡◌, ℕ, Bool, true, false, cond, ◌||◌, List, Some, None, is_some, eq-eqb, refl, sym, ap, ◌∙◌}
+use Rattle.std.proofs.Common.{◌≡◌, ℕ, Bool, true, false, cond, ◌||◌, List, Option, Some, None, is_some, eq-eqb, refl, sym, ap, ◌∙◌}
 use Rattle.std.specs.Prelude.{◌==◌, nat_lt}
 use Rattle.std.specs.Option.{option_map}
 use Rattle.std.specs.FinMap.{get, empty, contains_key}
@@ -8,6 +8,7 @@ use Rattle.ft_cells.specs.Entries.{entry_at}
 use Rattle.ft_cells.specs.declared.cell.Cell.TheVariants.{Entry, Parent, Links, Bytes, Fd}
 use Rattle.ft_cells.specs.Nodes.{number_of}
 use Rattle.ft_cells.specs.Cells.{Cells, links_of, bytes_of, has_file, is_open}
+use Rattle.ft_cells.specs.Limits.{default_limits}
 use Rattle.ft_cells.specs.Plain.{PlainTree, view_in}
 use Rattle.ft_tree.specs.Sound.{AreSoundCells}
 use Rattle.ft_tree.specs.Tidy.{tidy}
@@ -21,36 +22,36 @@ use Rattle.ft_posix.specs.RunLaws.{HidingLaw}
 module _ (hidden : ℕ → Bool) (r s : Cells) (rs : AreSoundCells r) (ss : AreSoundCells s) (h : Hides posix_calls hidden r s) where
   -- the entries and directories are the same
   edges : (d : ℕ) (name : List ℕ) → get (tidy s).edges (entry_at d name) ≡ get (tidy r).edges (entry_at d name)
-  edges d name = get-tidy s d name ∙ ap (option_map number_of) (sym (h.others (Entry (entry_at d name)) refl)) ∙ sym (get-tidy r d name)
+  edges d name = get-tidy s d name ∙ ap (option_map number_of) (sym (h.others (Some (Entry (entry_at d name))) refl)) ∙ sym (get-tidy r d name)
 
   dirs : (d : ℕ) → contains_key (tidy s).dirs d ≡ contains_key (tidy r).dirs d
-  dirs d = contains-parent s ss.root_is d ∙ ap (λ o. (d == 1) || is_some o) (sym (h.others (Parent d) refl)) ∙ sym (contains-parent r rs.root_is d)
+  dirs d = contains-parent s ss.root_is d ∙ ap (λ o. (d == 1) || is_some o) (sym (h.others (Some (Parent d)) refl)) ∙ sym (contains-parent r rs.root_is d)
 
   -- without the files and descriptions, of which the count of links does not depend
   abbrev frame : Cells → PlainTree
-  frame c = record { edges = (tidy c).edges; dirs = (tidy c).dirs; files = empty; opens = empty }
+  frame c = record { limits = default_limits; edges = (tidy c).edges; dirs = (tidy c).dirs; files = empty; opens = empty }
 
   links : (i : ℕ) → links_of s i ≡ links_of r i
-  links i = ss.links i ∙ ap (λ p. view_in p (Links i)) (same_plain (frame s) (frame r) edges dirs (λ j. refl) (λ f. refl)) ∙ sym (rs.links i)
+  links i = ss.links i ∙ ap (λ p. view_in p (Links i)) (same_plain (frame s) (frame r) refl edges dirs (λ j. refl) (λ f. refl)) ∙ sym (rs.links i)
 
   -- the same files are there
   there : (i : ℕ) → has_file s i ≡ has_file r i
-  there i = λ x. nat_lt 0 (links i x) || is_open-alike s.opens r.opens (λ f. sym (h.others (Fd f) refl)) i x
+  there i = λ x. nat_lt 0 (links i x) || is_open-alike s.opens r.opens (λ f. sym (h.others (Some (Fd f)) refl)) i x
 
   -- a hidden file is not open
   not_open : (i : ℕ) → hidden i ≡ true → is_open s.opens i ≡ false
   not_open i k = by_test (is_open s.opens i)
-      (λ o. let x = named-open s i o in absurd (false≢true (sym (h.unnamed (Fd x.0) i k) ∙ ap (λ p. description_names p i) x.2 ∙ eq-eqb x.1.file i x.3)))
+      (λ o. let x = named-open s i o in absurd (false≢true (sym (h.unnamed (Some (Fd x.0)) i k) ∙ ap (λ p. description_names p i) x.2 ∙ eq-eqb x.1.file i x.3)))
       (λ shut. shut)
 
   -- and the bytes of those that are there are the same
   files : (i : ℕ) → get (tidy s).files i ≡ get (tidy r).files i
   files i = get-bytes s ss i ∙ by_test (hidden i)
-      (λ k. let gone : has_file s i ≡ false = ap (λ n. nat_lt 0 n || is_open s.opens i) (h.gone (Links i) k) ∙ not_open i k in
+      (λ k. let gone : has_file s i ≡ false = ap (λ n. nat_lt 0 n || is_open s.opens i) (h.gone (Some (Links i)) k) ∙ not_open i k in
       ap (λ b. cond b (Some (bytes_of s i)) None) gone ∙ sym (ap (λ b. cond b (Some (bytes_of r i)) None) (sym (there i) ∙ gone)))
-      (λ k. ap (λ b. cond b (Some (bytes_of s i)) None) (there i) ∙ ap (λ bs. cond (has_file r i) (Some bs) None) (sym (h.others (Bytes i) k)))
+      (λ k. ap (λ b. cond b (Some (bytes_of s i)) None) (there i) ∙ ap (λ bs. cond (has_file r i) (Some bs) None) (sym (h.others (Some (Bytes i)) k)))
       ∙ sym (get-bytes r rs i)
 
 pub hiding : HidingLaw
 hiding hidden r s rs ss h =
-    same_plain (tidy s) (tidy r) (edges hidden r s rs ss h) (dirs hidden r s rs ss h) (files hidden r s rs ss h) (λ f. get-opens s f ∙ sym (h.others (Fd f) refl) ∙ sym (get-opens r f))
+    same_plain (tidy s) (tidy r) (sym (h.others None refl)) (edges hidden r s rs ss h) (dirs hidden r s rs ss h) (files hidden r s rs ss h) (λ f. get-opens s f ∙ sym (h.others (Some (Fd f)) refl) ∙ sym (get-opens r f))

@@ -9,7 +9,8 @@ use Rattle.std.proofs.lemmas.Map.Lookups.{exact_unsigned}
 use Rattle.ft_cells.specs.declared.entry.Entry.{Entry as DirEntry}
 use Rattle.ft_laws.specs.Lists.{In}
 use Rattle.ft_laws.specs.Laws.{Lawful, Knows, TouchesFile, LeavesName, Hides, is_hidden}
-use Rattle.ft_laws.specs.Effects.{Access as PlaceAccess, SetsCells, EffectLaws, is_written, write_all, touch, change}
+use Rattle.ft_laws.specs.Effects.{Access as PlaceAccess, Write as PlaceWrite, SetsCells, EffectLaws, is_written, write_all, touch, change, calls_of}
+use Rattle.ft_laws.specs.Settled.{AreSet}
 use Rattle.ft_laws.specs.Runs.{Exchange, Deletion, MayGoFirst, MayBeSorted}
 use Rattle.ft_laws.specs.Hiding.{RunAlike, StaysHidden, HidesMore, NotOwn}
 use Rattle.ft_laws.specs.Tidying.{TidyingLaw}
@@ -17,6 +18,7 @@ use Rattle.ft_laws.proofs.Tests.{by_test}
 use Rattle.ft_laws.proofs.Lists.{Each-at, Each-from}
 use Rattle.ft_laws.proofs.Writing.{written_all}
 use Rattle.ft_laws.proofs.Effects.{effects_lawful}
+use Rattle.ft_laws.proofs.Settled.{settled_lawful}
 use Rattle.ft_laws.proofs.Exchanging as exchanging
 use Rattle.ft_laws.proofs.Deleting as deleting
 use Rattle.ft_laws.proofs.Hiding as hiding
@@ -30,6 +32,8 @@ use Rattle.ft_cells.specs.declared.open_file.OpenFile.{OpenFile}
 use Rattle.ft_cells.specs.CellOrder.{cell_number, same_cell, overlap, same_cell-refl, same_cell-is}
 use Rattle.ft_cells.specs.Nodes.{number_of}
 use Rattle.ft_cells.specs.Cells.{Cells, FileCells, no_file, file_of as file_cells, stored_dirs, entry_of, links_of, bytes_of, open_of}
+use Rattle.ft_cells.specs.Limits.{default_limits}
+use Rattle.ft_cells.specs.declared.limits.TreeLimits.{TreeLimits}
 use Rattle.ft_cells.specs.Plain.{view_in, links_in}
 use Rattle.ft_tree.specs.Tidy.{tidy}
 use Rattle.ft_tree.specs.Views.{view_of}
@@ -42,8 +46,9 @@ use Rattle.ft_posix.specs.Accesses.{written_cell, is_write, accesses_of}
 use Rattle.ft_posix.specs.Laws.{SoundnessLaw, FreshnessLaw}
 use Rattle.ft_posix.specs.RunLaws.{WritesLaw, writes_cell}
 use Rattle.ft_tree.specs.Held.{Holds, held, blank, set_cell}
-use Rattle.ft_posix.specs.Posix.{covers, Stamped, as_place, HasSoundValues, file_of, node_names, description_names, names_file, does, posix, posix_calls}
+use Rattle.ft_posix.specs.Posix.{covers, Stamped, as_place, HasSoundValues, file_of, node_names, description_names, names_file, does, posix, posix_calls, limits_of}
 use Rattle.ft_posix.proofs.Accessed.{in-any, any-in, in-map, map-in, looked-accessed, written-accessed, accessed-cases, accessed-written, access}
+use Rattle.ft_posix.proofs.Puts.{limits-set}
 use Rattle.ft_posix.proofs.Alike.{view-covered, agree-each, same_back, same_free, same_after, tree-values, looked, accesses-alike, does-alike, does-same}
 use Rattle.ft_posix.proofs.Below.{StoredEnough, StepsAlike}
 use Rattle.ft_posix.proofs.Upon.{Sees, sees_entry, sees_open, Upon, CallUpon, EachCallUpon}
@@ -158,7 +163,7 @@ writes-noted s a =
     noted : (x : Cell) → In x (map written_cell (outcome s a.stamp a.call).writes) → writes_cell (map as_place (accesses_of s a.stamp a.call)) x ≡ true
     noted x i =
         in-any (λ (p : PlaceAccess Cell). same_cell p.place x && p.writes) _ (map as_place (accesses_of s a.stamp a.call))
-        (in-map as_place _ (accesses_of s a.stamp a.call) (written-accessed (steps (stored_dirs s) a.stamp a.call) (view_of s) x i)) (ap (λ b. b && true) (same_cell-refl x))
+        (in-map as_place _ (accesses_of s a.stamp a.call) (written-accessed (steps s.limits (stored_dirs s) a.stamp a.call) (view_of s) x i)) (ap (λ b. b && true) (same_cell-refl x))
 
 module _ (s : Cells) (a : Stamped) where
   abbrev writes : List Write
@@ -169,23 +174,23 @@ module _ (s : Cells) (a : Stamped) where
 
   -- what is covered by a cell that is looked at is touched
   looked-touched : (c x : Cell) → In c (looked s a.stamp a.call) → covers c x ≡ true → touch posix (does s a).accesses x ≡ true
-  looked-touched c x i h = let at = looked-accessed (steps (stored_dirs s) a.stamp a.call) (view_of s) c i in in-touched accesses (access c at.0) x at.1 h
+  looked-touched c x i h = let at = looked-accessed (steps s.limits (stored_dirs s) a.stamp a.call) (view_of s) c i in in-touched accesses (access c at.0) x at.1 h
 
   -- what is written is changed
   told-back : (x : Cell) → is_written posix writes x ≡ true → change posix (does s a).accesses x ≡ true
   told-back x h =
       let i = written-in writes x h in
-      in-changed accesses _ x (written-accessed (steps (stored_dirs s) a.stamp a.call) (view_of s) x i) (covers-refl x)
+      in-changed accesses _ x (written-accessed (steps s.limits (stored_dirs s) a.stamp a.call) (view_of s) x i) (covers-refl x)
 
   -- and nothing else is
   told-on : (x : Cell) → change posix (does s a).accesses x ≡ true → is_written posix writes x ≡ true
   told-on x h =
       let found = changed-in accesses x h in
       let parts = and_parts (is_write found.0.mode) (covers found.0.cell x) found.2 in
-      let i : In found.0.cell (map written_cell writes) = accessed-written (steps (stored_dirs s) a.stamp a.call) (view_of s) found.0 found.1 parts.0 in
+      let i : In found.0.cell (map written_cell writes) = accessed-written (steps s.limits (stored_dirs s) a.stamp a.call) (view_of s) found.0 found.1 parts.0 in
       in-written writes x (elim (covers-cases found.0.cell x parts.1) [
         | inl is ↦ subst (λ c. In c (map written_cell writes)) is i
-        | inr of ↦ absurd (names-not_written (stored_dirs s) a.stamp a.call (view_of s) of.0 (subst (λ c. In c (map written_cell writes)) of.2 i))
+        | inr of ↦ absurd (names-not_written s.limits (stored_dirs s) a.stamp a.call (view_of s) of.0 (subst (λ c. In c (map written_cell writes)) of.2 i))
       ])
 
   -- the accesses that write tell what is written
@@ -193,7 +198,7 @@ module _ (s : Cells) (a : Stamped) where
   told x = both_ways _ _ (told-on x) (told-back x)
 
   -- a file that the call comes upon is known to it
-  known : (i : ℕ) → Upon s a.stamp (looked s a.stamp a.call) i → Knows posix_calls s a i
+  known : (i : ℕ) → Upon s a.stamp (looked s a.stamp a.call) i → Knows (calls_of posix) s a i
   known i (inl own) = inl own
   known i (inr sees) = inr (seen i sees)
     where
@@ -203,12 +208,12 @@ module _ (s : Cells) (a : Stamped) where
 
   module _ (upon : CallUpon s a.stamp (looked s a.stamp a.call) writes) where
     -- only files that it comes upon are touched
-    comes_upon : (x : Cell) (i : ℕ) → file_of x ≡ Some i → touch posix (does s a).accesses x ≡ true → Knows posix_calls s a i
+    comes_upon : (x : Cell) (i : ℕ) → file_of x ≡ Some i → touch posix (does s a).accesses x ≡ true → Knows (calls_of posix) s a i
     comes_upon x i is h =
         let found = touched-in accesses x h in
         elim (covers-cases found.0.cell x found.2) [
           | inr of ↦ absurd (none-some i (sym (ap file_of of.3) ∙ is))
-          | inl at ↦ elim (accessed-cases (steps (stored_dirs s) a.stamp a.call) (view_of s) found.0 found.1) [
+          | inl at ↦ elim (accessed-cases (steps s.limits (stored_dirs s) a.stamp a.call) (view_of s) found.0 found.1) [
             | inl w ↦ let from = map-in written_cell writes found.0.cell w in
                 known i (Each-at (λ v. (j : ℕ) → file_of (written_cell v) ≡ Some j → Upon s a.stamp (looked s a.stamp a.call) j) writes from.0 upon.writes from.1 i (ap file_of (sym from.2 ∙ at) ∙ is))
             | inr l ↦ known i (Each-at (λ c. (j : ℕ) → file_of c ≡ Some j → Upon s a.stamp (looked s a.stamp a.call) j) (looked s a.stamp a.call) found.0.cell upon.looks l i (ap file_of at ∙ is))
@@ -216,14 +221,14 @@ module _ (s : Cells) (a : Stamped) where
         ]
 
     -- and the names that are written are of such files
-    names_known : (x : Cell) (i : ℕ) → change posix (does s a).accesses x ≡ true → names_file x (held (write_all posix s writes) x) i ≡ true → Knows posix_calls s a i
+    names_known : (x : Cell) (i : ℕ) → change posix (does s a).accesses x ≡ true → names_file x (held (write_all posix s writes) x) i ≡ true → Knows (calls_of posix) s a i
     names_known x i changed named =
         known i (written_all posix sets (λ y v. (j : ℕ) → names_file y v j ≡ true → Upon s a.stamp (looked s a.stamp a.call) j) writes s x
         upon.names (told-on x changed) i named)
 
     -- a file whose name is taken away is touched, unless the name is left elsewhere
     lets_go : (x : Cell) (i : ℕ) → names_file x (held s x) i ≡ true → names_file x (held (write_all posix s writes) x) i ≡ false
-        → TouchesFile posix_calls (does s a).accesses i ⊎ LeavesName posix_calls s a i
+        → TouchesFile (calls_of posix) (does s a).accesses i ⊎ LeavesName (calls_of posix) s a i
     lets_go x i had lost = elim (upon.lets_go x i had (ap (λ c. names_file x (held c x) i) (sym (write-put writes s)) ∙ lost)) [
       | inl links ↦ inl (Links i, refl, looked-touched (Links i) (Links i) links (covers-refl (Links i)))
       | inr left ↦ inr (left.0, told-back left.0 (in-written writes left.0 left.1), ap (λ c. names_file left.0 (held c left.0) i) (write-put writes s) ∙ left.2)
@@ -252,26 +257,26 @@ own_blank s k free (Fd f) h = absurd (none-some k h)
 -- Hidden files.
 
 module _ (hidden : ℕ → Bool) where
-  -- the cells without the hidden files
-  abbrev pub without : Cells → Cells
-  without p = record p { files = retain_keys p.files (λ i. not (hidden i)) }
+  -- the cells without the hidden files, whatever they allow
+  abbrev pub without : TreeLimits → Cells → Cells
+  without limits p = record p { limits = limits; files = retain_keys p.files (λ i. not (hidden i)) }
 
   -- the places that are left
-  pub get-without : (p : Cells) (i : ℕ) → get (without p).files i ≡ cond (not (hidden i)) (get p.files i) None
-  get-without p i = get-retain_keys p.files (λ j. not (hidden j)) i (λ j tied. ap (λ n. not (hidden n)) (sym (exact_unsigned i j tied)))
+  pub get-without : (limits : TreeLimits) (p : Cells) (i : ℕ) → get (without limits p).files i ≡ cond (not (hidden i)) (get p.files i) None
+  get-without limits p i = get-retain_keys p.files (λ j. not (hidden j)) i (λ j tied. ap (λ n. not (hidden n)) (sym (exact_unsigned i j tied)))
 
   -- what is read of a file then
-  read-without : {A : Type 0} (read : FileCells → A) (p : Cells) (i : ℕ) → read (file_cells (without p) i) ≡ cond (hidden i) (read no_file) (read (file_cells p i))
-  read-without read p i = ap (λ o. read (unwrap_or o no_file)) (get-without p i) ∙ by_hidden (hidden i) (get p.files i)
+  read-without : {A : Type 0} (limits : TreeLimits) (read : FileCells → A) (p : Cells) (i : ℕ) → read (file_cells (without limits p) i) ≡ cond (hidden i) (read no_file) (read (file_cells p i))
+  read-without limits read p i = ap (λ o. read (unwrap_or o no_file)) (get-without limits p i) ∙ by_hidden (hidden i) (get p.files i)
     where
       by_hidden : (b : Bool) (o : Option FileCells) → read (unwrap_or (cond (not b) o None) no_file) ≡ cond b (read no_file) (read (unwrap_or o no_file))
       by_hidden true o = refl
       by_hidden false o = refl
 
-  module _ (r s : Cells) (hides : Hides posix_calls hidden r s) where
+  module _ (r s : Cells) (hides : Hides (calls_of posix) hidden r s) where
     -- a hidden cell is blank, and each other is the same
     still_blank : (x : Cell) → held r x ≡ blank x → held s x ≡ blank x
-    still_blank x h = by_test (is_hidden posix_calls hidden x) (λ k. hides.gone x k) (λ k. sym (hides.others x k) ∙ h)
+    still_blank x h = by_test (is_hidden (calls_of posix) hidden x) (λ k. hides.gone x k) (λ k. sym (hides.others x k) ∙ h)
 
     -- a number that is free is free without them
     hides_ready : (k : ℕ) → IsFree r k → IsFree s k
@@ -281,19 +286,19 @@ module _ (hidden : ℕ → Bool) where
 
     module _ (p : Cells) (sound : AreSoundCells p) (same : SameValues p r) where
       -- the values that are left are those of the cells without the hidden files
-      pub same-without : SameValues (without p) s
-      same-without = record { values = values }
+      pub same-without : SameValues (without s.limits p) s
+      same-without = record { limits = refl; values = values }
         where
-          values : (c : Cell) → held s c ≡ held (without p) c
+          values : (c : Cell) → held s c ≡ held (without s.limits p) c
           values (Entry entry) = sym (hides.others (Entry entry) refl) ∙ same.values (Entry entry)
           values (Names d) = refl
           values (Parent d) = sym (hides.others (Parent d) refl) ∙ same.values (Parent d)
           values (Links i) = by_test (hidden i)
-              (λ k. hides.gone (Links i) k ∙ sym (read-without (λ f. f.links) p i ∙ ap (λ b. cond b 0 (links_of p i)) k))
-              (λ k. sym (hides.others (Links i) k) ∙ same.values (Links i) ∙ sym (read-without (λ f. f.links) p i ∙ ap (λ b. cond b 0 (links_of p i)) k))
+              (λ k. hides.gone (Links i) k ∙ sym (read-without s.limits (λ f. f.links) p i ∙ ap (λ b. cond b 0 (links_of p i)) k))
+              (λ k. sym (hides.others (Links i) k) ∙ same.values (Links i) ∙ sym (read-without s.limits (λ f. f.links) p i ∙ ap (λ b. cond b 0 (links_of p i)) k))
           values (Bytes i) = by_test (hidden i)
-              (λ k. hides.gone (Bytes i) k ∙ sym (read-without (λ f. f.bytes) p i ∙ ap (λ b. cond b [] (bytes_of p i)) k))
-              (λ k. sym (hides.others (Bytes i) k) ∙ same.values (Bytes i) ∙ sym (read-without (λ f. f.bytes) p i ∙ ap (λ b. cond b [] (bytes_of p i)) k))
+              (λ k. hides.gone (Bytes i) k ∙ sym (read-without s.limits (λ f. f.bytes) p i ∙ ap (λ b. cond b [] (bytes_of p i)) k))
+              (λ k. sym (hides.others (Bytes i) k) ∙ same.values (Bytes i) ∙ sym (read-without s.limits (λ f. f.bytes) p i ∙ ap (λ b. cond b [] (bytes_of p i)) k))
           values (Fd f) = sym (hides.others (Fd f) refl) ∙ same.values (Fd f)
 
       -- no entry names a hidden file
@@ -321,29 +326,34 @@ module _ (hidden : ℕ → Bool) where
           by_dir false is = count-none (tidy p).edges i (λ e h. by_entry e is (entry_of p e.dir e.name) refl (sym (get-tidy p e.dir e.name) ∙ h))
 
       -- so what is left is sound
-      pub sound-without : AreSoundCells (without p)
+      pub sound-without : AreSoundCells (without s.limits p)
       sound-without = record {
         root_is = sound.root_is;
         tree = sound.tree;
-        links = λ i. read-without (λ f. f.links) p i ∙ by_test (hidden i)
+        links = λ i. read-without s.limits (λ f. f.links) p i ∙ by_test (hidden i)
             (λ k. ap (λ b. cond b 0 (links_of p i)) k ∙ sym (none_shown i k))
             (λ k. ap (λ b. cond b 0 (links_of p i)) k ∙ sound.links i);
         opens = λ f o h.
             let was = sound.opens f o h in
-            (subst IsSome (sym (get-without p o.file ∙ ap (λ b. cond (not b) (get p.files o.file) None) (not_open f o h))) was.0, was.1);
+            (subst IsSome (sym (get-without s.limits p o.file ∙ ap (λ b. cond (not b) (get p.files o.file) None) (not_open f o h))) was.0, was.1);
       }
 
     -- sound values are sound without the hidden files
     hides_sound : HasSoundValues r → HasSoundValues s
-    hides_sound has = record { with_places = without has.with_places; sound = sound-without has.with_places has.sound has.same; same = same-without has.with_places has.sound has.same }
+    hides_sound has = record { with_places = without s.limits has.with_places; sound = sound-without has.with_places has.sound has.same; same = same-without has.with_places has.sound has.same }
+
+-- what the tree allows stays, whatever is written
+limits-written : (ws : List (PlaceWrite Cell Holds)) (s : Cells) → (write_all posix s ws).limits ≡ s.limits
+limits-written [] s = refl
+limits-written (w ∷ ws) s = limits-written ws (set_cell s w.cell w.value) ∙ limits-set s w.cell w.value
 
 -- The laws.
 
 module _ (steps-alike : StepsAlike) (stored-enough : StoredEnough) where
   -- what a call does depends on the cells that it touches alone
-  local : (s t : Cells) (a : Stamped) → HasSoundValues s → HasSoundValues t → ((x : Cell) → touch posix (does s a).accesses x ≡ true → held s x ≡ held t x) → does t a ≡ does s a
-  local s t a sound_s sound_t same =
-      let alike = does-alike steps-alike stored-enough s t (tree-values s sound_s) (tree-values t sound_t) a.stamp a.call
+  local : (s t : Cells) (a : Stamped) → HasSoundValues s → HasSoundValues t → s.limits ≡ t.limits → ((x : Cell) → touch posix (does s a).accesses x ≡ true → held s x ≡ held t x) → does t a ≡ does s a
+  local s t a sound_s sound_t limits same =
+      let alike = does-alike steps-alike stored-enough s t (tree-values s sound_s) (tree-values t sound_t) a.stamp a.call limits
       (agree-each (view_of s) (view_of t) (looked s a.stamp a.call) (λ c i. view-covered s t c (λ x h. same x (looked-touched s a c x i h)))) in
       let accesses = accesses-alike s t a.stamp a.call alike in
       sym (λ i. record { accesses = map as_place (accesses i); writes = (alike.outcomes i).writes; reply = (alike.outcomes i).reply })
@@ -357,13 +367,13 @@ module _ (steps-alike : StepsAlike) (stored-enough : StoredEnough) where
 
 module _ (steps-alike : StepsAlike) (stored-enough : StoredEnough) (upon : EachCallUpon) (soundness : SoundnessLaw) (freshness : FreshnessLaw) where
   -- the calls meet the laws of effects
-  pub posix-laws : EffectLaws posix
+  pub posix-laws : EffectLaws posix (AreSet (calls_of posix) TreeLimits limits_of default_limits)
   posix-laws = record {
     sets = sets;
     overlaps = overlaps;
     overlap_sym = overlap_sym;
     told = told;
-    local = λ s t a gs gt rs rt same. local steps-alike stored-enough s t a gs gt same;
+    local = λ s t a gs gt rs rt limits same. local steps-alike stored-enough s t a gs gt limits same;
     stays_sound = λ s a has free.
         let p = has.with_places in
         record {
@@ -387,7 +397,9 @@ module _ (steps-alike : StepsAlike) (stored-enough : StoredEnough) (upon : EachC
 
   -- and so the laws of calls
   pub lawful : Lawful posix_calls
-  lawful = effects_lawful posix posix-laws
+  lawful =
+      settled_lawful (calls_of posix) TreeLimits limits_of default_limits (effects_lawful posix (AreSet (calls_of posix) TreeLimits limits_of default_limits) posix-laws)
+      (record { act = λ s a. limits-written (does s a).writes s; revert = λ s u. limits-written u.before s })
 
   -- What follows for any lawful calls.
 

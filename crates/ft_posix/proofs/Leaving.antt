@@ -8,7 +8,7 @@ use Rattle.std.specs.Cmp.Lexicographic.{slice_cmp, pointwise, nat_list_cmp_total
 use Rattle.std.specs.Option.{option_flatten, option_map_or}
 use Rattle.std.specs.FinMap.{get, contains_key, len, get-insert, len-insert}
 use Rattle.ft_laws.specs.Lists.{Each}
-use Rattle.ft_laws.specs.Laws.{Lawful}
+use Rattle.ft_laws.specs.Laws.{Lawful, TouchesFile, LeavesName}
 use Rattle.ft_laws.specs.Effects.{Access as PlaceAccess, is_written, touch}
 use Rattle.ft_laws.proofs.Tests.{by_test}
 use Rattle.ft_cells.specs.Entries.{entry_at}
@@ -265,11 +265,16 @@ module _ (lawful : Lawful posix_calls) (soundness : SoundnessLaw) where
       let new : Cells = put_all s (does s a).writes in
       let none : (z : Cell) → names_file z (held new z) shown.file ≡ false = nameless new (soundness s a.stamp a.call sound free) shown.file (dead-file new c shown.file shown.belongs h) in
       let after : posix_calls.act s a ≡ new = write-put (does s a).writes s in
-      let values : HasSoundValues s = record { with_places = s; sound = sound; same = record { values = λ x. refl } } in
-      elim (lawful.lets_go s a values free (Fd shown.descriptor) shown.file shown.opened (ap (λ t. names_file (Fd shown.descriptor) (held t (Fd shown.descriptor)) shown.file) after ∙ none (Fd shown.descriptor))) [
-        | inl touched ↦ same-place (accesses_cell (does s a).accesses) touched.0 c shown.file touched.1 shown.belongs (touched-accessed (does s a).accesses touched.0 shown.file touched.1 touched.2)
-        | inr left ↦ absurd (false≢true (sym (ap (λ t. names_file left.0 (held t left.0) shown.file) after ∙ none left.0) ∙ left.2))
-      ]
+      let values : HasSoundValues s = record { with_places = s; sound = sound; same = record { limits = refl; values = λ x. refl } } in
+      goes (λ z. ap (λ t. names_file z (held t z) shown.file) after ∙ none z)
+      (lawful.lets_go s a values free (Some (Fd shown.descriptor)) shown.file shown.opened (ap (λ t. names_file (Fd shown.descriptor) (held t (Fd shown.descriptor)) shown.file) after ∙ none (Fd shown.descriptor)))
+    where
+      goes : ((z : Cell) → names_file z (held (posix_calls.act s a) z) shown.file ≡ false) → TouchesFile posix_calls (does s a).accesses shown.file ⊎ LeavesName posix_calls s a shown.file
+          → at_place (accesses_cell (does s a).accesses) c ≡ true
+      goes nameless_now (inl (None, is, touched)) = absurd (none-some shown.file is)
+      goes nameless_now (inl (Some x, is, touched)) = same-place (accesses_cell (does s a).accesses) x c shown.file is shown.belongs (touched-accessed (does s a).accesses x shown.file is touched)
+      goes nameless_now (inr (None, changed, named)) = absurd (false≢true changed)
+      goes nameless_now (inr (Some x, changed, named)) = absurd (false≢true (sym (nameless_now x) ∙ named))
 
   pub useless : UselessLaw
   useless s a sound free c h =

@@ -6,6 +6,7 @@ use Rattle.ft_laws.specs.Lists.{Each}
 use Rattle.ft_path.specs.declared.errno.Errno.{Errno}
 use Rattle.ft_path.specs.declared.errno.Errno.TheVariants.{ENOENT, ENOTDIR, EINVAL, EMLINK}
 use Rattle.ft_path.specs.declared.path.Parts.{Parts}
+use Rattle.ft_cells.specs.declared.limits.TreeLimits.{TreeLimits}
 use Rattle.ft_cells.specs.Entries.{entry_at}
 use Rattle.ft_cells.specs.declared.cell.Cell.{Cell}
 use Rattle.ft_cells.specs.declared.cell.Cell.TheVariants.{Names}
@@ -16,7 +17,6 @@ use Rattle.ft_cells.specs.Cells.{Cells, entry_of, names_of, links_of}
 use Rattle.ft_tree.specs.Views.{view_of}
 use Rattle.ft_cells.specs.Looks.{Looks, Answer, answer}
 use Rattle.ft_tree.specs.Walk.{Spot, Named as AtName, Itself}
-use Rattle.ft_posix.specs.declared.TheConstants.{MOST_LINKS}
 use Rattle.ft_posix.specs.declared.call.Reply.TheVariants.{Done}
 use Rattle.ft_posix.specs.Outcomes.{Write, sets, Outcome, failed, told, from_parts}
 use Rattle.ft_path.specs.FilePath.{last_of}
@@ -35,27 +35,27 @@ file_inside i j h = cc
 
 module _ (cells : Cells) (k : ℕ) (seen : List Cell) where
   -- link sets an entry that led to nothing, and the links
-  link_new-goes : (i : ℕ) (trailing : Bool) → Upon cells k seen i → (spot : Spot) → IsFound cells seen spot → GoesUpon cells k seen (link_new i trailing spot)
-  link_new-goes i trailing upon (AtName entry (Some x)) h = no_change cells k seen
-  link_new-goes i trailing upon (Itself d) h = no_change cells k seen
-  link_new-goes i trailing upon (AtName entry None) h = either-goes cells k seen trailing (Answer (failed ENOENT)) _ (no_change cells k seen) (λ all. ((of_file cells k seen i upon, tt), by_room (nat_lt (links_of cells i) MOST_LINKS)))
+  link_new-goes : (limits : TreeLimits) (i : ℕ) (trailing : Bool) → Upon cells k seen i → (spot : Spot) → IsFound cells seen spot → GoesUpon cells k seen (link_new limits i trailing spot)
+  link_new-goes limits i trailing upon (AtName entry (Some x)) h = no_change cells k seen
+  link_new-goes limits i trailing upon (Itself d) h = no_change cells k seen
+  link_new-goes limits i trailing upon (AtName entry None) h = either-goes cells k seen trailing (Answer (failed ENOENT)) _ (no_change cells k seen) (λ all. ((of_file cells k seen i upon, tt), by_room (nat_lt (links_of cells i) limits.links)))
     where
       by_room : (b : Bool) → AreUpon cells k seen (cond b (linked i entry (links_of cells i)) (failed EMLINK)).writes
       by_room true = (fills cells k seen _ entry.dir entry.name None (Some (FileNode i)) h.1 (λ j. refl) (of_same (Upon cells k seen) i upon), (upon_links i _ upon, tt))
       by_room false = tt
 
   -- of the file to which the old path leads
-  link_old-goes : (new : Parts) (spot : Spot) → IsFound cells seen spot → GoesUpon cells k seen (link_old new spot)
-  link_old-goes new (AtName entry None) h = no_change cells k seen
-  link_old-goes new (AtName entry (Some (DirNode i))) h = no_change cells k seen
-  link_old-goes new (AtName entry (Some (FileNode i))) h = from_parts-goes cells k seen (link_new i new.trailing) (link_new-goes i new.trailing (by_entry cells k seen entry.dir entry.name i h)) (Ok new)
-  link_old-goes new (Itself d) h = no_change cells k seen
+  link_old-goes : (limits : TreeLimits) (new : Parts) (spot : Spot) → IsFound cells seen spot → GoesUpon cells k seen (link_old limits new spot)
+  link_old-goes limits new (AtName entry None) h = no_change cells k seen
+  link_old-goes limits new (AtName entry (Some (DirNode i))) h = no_change cells k seen
+  link_old-goes limits new (AtName entry (Some (FileNode i))) h = from_parts-goes cells k seen (link_new limits i new.trailing) (link_new-goes limits i new.trailing (by_entry cells k seen entry.dir entry.name i h)) (Ok new)
+  link_old-goes limits new (Itself d) h = no_change cells k seen
 
   -- with the faults of both texts
-  pub link_parts-goes : (old new : Result Parts Errno) → GoesUpon cells k seen (link_parts old new)
-  link_parts-goes (Err e) new = no_change cells k seen
-  link_parts-goes (Ok old) (Err e) = no_change cells k seen
-  link_parts-goes (Ok old) (Ok new) = from_parts-goes cells k seen (link_old new) (link_old-goes new) (Ok old)
+  pub link_parts-goes : (limits : TreeLimits) (old new : Result Parts Errno) → GoesUpon cells k seen (link_parts limits old new)
+  link_parts-goes limits (Err e) new = no_change cells k seen
+  link_parts-goes limits (Ok old) (Err e) = no_change cells k seen
+  link_parts-goes limits (Ok old) (Ok new) = from_parts-goes cells k seen (link_old limits new) (link_old-goes limits new) (Ok old)
 
   -- unlink takes away a name, and looks at the links
   pub unlink_spot-goes : (spot : Spot) → IsFound cells seen spot → GoesUpon cells k seen (unlink_spot spot)

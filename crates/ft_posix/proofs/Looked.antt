@@ -2,12 +2,12 @@
 -- as the stored cells do.
 use Rattle.std.proofs.Common.{◌≡◌, ℕ, zero, suc, ℤ, Bool, true, false, cond, length, List, [], ◌∷◌, Option, Some, None, unwrap_or, Result, Ok, Err, refl, sym}
 use Rattle.std.specs.Prelude.{◌==◌, ◌&&◌, not, nat_le}
-use Rattle.ft_body.specs.declared.TheConstants.{SIZE_LIMIT}
 use Rattle.ft_path.specs.Name.{is_dot, is_dot_dot}
 use Rattle.ft_path.specs.declared.errno.Errno.{Errno}
 use Rattle.ft_path.specs.declared.errno.Errno.TheVariants.{ENOENT, EINVAL, EBADF, EFBIG}
 use Rattle.ft_path.specs.declared.path.Parts.{Parts}
 use Rattle.ft_path.specs.FilePath.{last_of, parts_of}
+use Rattle.ft_cells.specs.declared.limits.TreeLimits.{TreeLimits}
 use Rattle.ft_cells.specs.Entries.{entry_at}
 use Rattle.ft_cells.specs.declared.cell.Cell.{Cell}
 use Rattle.ft_cells.specs.declared.cell.Cell.TheVariants.{Entry, Names, Parent, Links, Bytes, Fd}
@@ -138,10 +138,10 @@ module _ (cells : Cells) where
   stat_spot-shown (AtName entry (Some (FileNode i))) h = (tt, (by_entry entry.dir entry.name i (sym h.1), tt))
   stat_spot-shown (Itself d) h = tt
 
-  link_new-shown : (i : ℕ) (trailing : Bool) (spot : Spot) → IsSpot cells spot → LooksWell (link_new i trailing spot)
-  link_new-shown i trailing (AtName entry None) h = either-shown trailing (Answer (failed ENOENT)) _ tt (tt, tt)
-  link_new-shown i trailing (AtName entry (Some x)) h = tt
-  link_new-shown i trailing (Itself d) h = tt
+  link_new-shown : (limits : TreeLimits) (i : ℕ) (trailing : Bool) (spot : Spot) → IsSpot cells spot → LooksWell (link_new limits i trailing spot)
+  link_new-shown limits i trailing (AtName entry None) h = either-shown trailing (Answer (failed ENOENT)) _ tt (tt, tt)
+  link_new-shown limits i trailing (AtName entry (Some x)) h = tt
+  link_new-shown limits i trailing (Itself d) h = tt
 
   unlink_spot-shown : (spot : Spot) → IsSpot cells spot → LooksWell (unlink_spot spot)
   unlink_spot-shown (AtName entry None) h = tt
@@ -171,15 +171,15 @@ module _ (cells : Cells) where
   write_place-shown : (o : OpenFile) → Named cells o.file → LooksWell (write_place o)
   write_place-shown o named = either-shown o.append (Look (Bytes o.file) (λ bytes. Answer (length bytes))) (Answer o.offset) (named, tt) tt
 
-  write_open-shown : (fd : ℕ) (bytes : List ℕ) (o : OpenFile) → Named cells o.file → LooksWell (write_open fd bytes o)
-  write_open-shown fd [] o named = tt
-  write_open-shown fd (first ∷ more) o named =
-      then-shown (write_place o) (write_at fd o (first ∷ more)) (write_place-shown o named)
-      (either-shown (nat_le SIZE_LIMIT (answer (write_place o) (view_of cells))) (Answer (failed EFBIG)) _ tt (named, tt))
+  write_open-shown : (limits : TreeLimits) (fd : ℕ) (bytes : List ℕ) (o : OpenFile) → Named cells o.file → LooksWell (write_open limits fd bytes o)
+  write_open-shown limits fd [] o named = tt
+  write_open-shown limits fd (first ∷ more) o named =
+      then-shown (write_place o) (write_at limits fd o (first ∷ more)) (write_place-shown o named)
+      (either-shown (nat_le limits.file_size (answer (write_place o) (view_of cells))) (Answer (failed EFBIG)) _ tt (named, tt))
 
-  pwrite_at-shown : (o : OpenFile) → Named cells o.file → (bytes : List ℕ) (at : ℕ) → LooksWell (pwrite_at o bytes at)
-  pwrite_at-shown o named [] at = tt
-  pwrite_at-shown o named (first ∷ more) at = either-shown (nat_le SIZE_LIMIT at) (Answer (failed EFBIG)) _ tt (named, tt)
+  pwrite_at-shown : (limits : TreeLimits) (o : OpenFile) → Named cells o.file → (bytes : List ℕ) (at : ℕ) → LooksWell (pwrite_at limits o bytes at)
+  pwrite_at-shown limits o named [] at = tt
+  pwrite_at-shown limits o named (first ∷ more) at = either-shown (nat_le limits.file_size at) (Answer (failed EFBIG)) _ tt (named, tt)
 
   seek_from-shown : (whence : Whence) (o : OpenFile) → Named cells o.file → LooksWell (seek_from whence o)
   seek_from-shown Set o named = tt
@@ -207,23 +207,23 @@ module _ (cells : Cells) where
         either-shown (flags.trunc && not (can_write flags.access)) (Answer (failed EINVAL)) _ tt
         (from_parts-shown (λ spot. Answer (open_spot k flags parts.trailing spot)) (λ spot h. tt) (Ok parts))
 
-    truncate_parts-shown : (len : ℤ) (parts : Result Parts Errno) → LooksWell (truncate_parts len parts)
-    truncate_parts-shown len (Err e) = tt
-    truncate_parts-shown len (Ok parts) =
-        or_else-shown failed (λ size. from_parts (Ok parts) (truncate_spot size)) (to_size len) (λ size. from_parts-shown (truncate_spot size) (truncate_spot-shown size) (Ok parts))
+    truncate_parts-shown : (limits : TreeLimits) (len : ℤ) (parts : Result Parts Errno) → LooksWell (truncate_parts limits len parts)
+    truncate_parts-shown limits len (Err e) = tt
+    truncate_parts-shown limits len (Ok parts) =
+        or_else-shown failed (λ size. from_parts (Ok parts) (truncate_spot size)) (to_size limits len) (λ size. from_parts-shown (truncate_spot size) (truncate_spot-shown size) (Ok parts))
 
     -- A path leads on from where another one led.
 
-    link_old-shown : (new : Parts) (spot : Spot) → IsSpot cells spot → LooksWell (link_old new spot)
-    link_old-shown new (AtName entry None) h = tt
-    link_old-shown new (AtName entry (Some (DirNode i))) h = tt
-    link_old-shown new (AtName entry (Some (FileNode i))) h = from_parts-shown (link_new i new.trailing) (link_new-shown i new.trailing) (Ok new)
-    link_old-shown new (Itself d) h = tt
+    link_old-shown : (limits : TreeLimits) (new : Parts) (spot : Spot) → IsSpot cells spot → LooksWell (link_old limits new spot)
+    link_old-shown limits new (AtName entry None) h = tt
+    link_old-shown limits new (AtName entry (Some (DirNode i))) h = tt
+    link_old-shown limits new (AtName entry (Some (FileNode i))) h = from_parts-shown (link_new limits i new.trailing) (link_new-shown limits i new.trailing) (Ok new)
+    link_old-shown limits new (Itself d) h = tt
 
-    link_parts-shown : (old new : Result Parts Errno) → LooksWell (link_parts old new)
-    link_parts-shown (Err e) new = tt
-    link_parts-shown (Ok old) (Err e) = tt
-    link_parts-shown (Ok old) (Ok new) = from_parts-shown (link_old new) (link_old-shown new) (Ok old)
+    link_parts-shown : (limits : TreeLimits) (old new : Result Parts Errno) → LooksWell (link_parts limits old new)
+    link_parts-shown limits (Err e) new = tt
+    link_parts-shown limits (Ok old) (Err e) = tt
+    link_parts-shown limits (Ok old) (Ok new) = from_parts-shown (link_old limits new) (link_old-shown limits new) (Ok old)
 
     rename_old-shown : (n : ℕ) (new : Parts) (spot : Spot) → IsSpot cells spot → LooksWell (rename_old n new spot)
     rename_old-shown n new (AtName entry None) h = tt
@@ -238,25 +238,25 @@ module _ (cells : Cells) where
         unless-shown (rename_fault (last_of old.names) (last_of new.names)) (from_parts (Ok old) (rename_old n new)) (from_parts-shown (rename_old n new) (rename_old-shown n new) (Ok old))
 
 -- on sound cells each cell that a call looks at is one that the plain tree shows alike
-pub call-looks : (cells : Cells) → AreSoundCells cells → (n k : ℕ) (call : Call) → AllShown cells (looked_at (steps n k call) (view_of cells))
-call-looks cells sound n k (Mkdir path) = from_parts-shown cells sound (make_dir k) (make_dir-shown cells k) (parts_of path)
-call-looks cells sound n k (Rmdir path) = remove_parts-shown cells sound (parts_of path)
-call-looks cells sound n k (ListDir path) = from_parts-shown cells sound list_dir (list_dir-shown cells) (parts_of path)
-call-looks cells sound n k (Open path access create excl trunc append) = open_parts-shown cells sound k _ (parts_of path)
-call-looks cells sound n k (Close fd) = with_open-shown cells fd any_open (close_open fd) (λ o named. (tt, tt))
-call-looks cells sound n k (Read fd len) = with_open-shown cells fd is_readable (read_open fd len) (λ o named. (named, tt))
-call-looks cells sound n k (WriteCall fd bytes) = with_open-shown cells fd is_writable (write_open fd bytes) (write_open-shown cells fd bytes)
-call-looks cells sound n k (Pread fd off len) =
+pub call-looks : (limits : TreeLimits) (cells : Cells) → AreSoundCells cells → (n k : ℕ) (call : Call) → AllShown cells (looked_at (steps limits n k call) (view_of cells))
+call-looks limits cells sound n k (Mkdir path) = from_parts-shown cells sound (make_dir k) (make_dir-shown cells k) (parts_of path)
+call-looks limits cells sound n k (Rmdir path) = remove_parts-shown cells sound (parts_of path)
+call-looks limits cells sound n k (ListDir path) = from_parts-shown cells sound list_dir (list_dir-shown cells) (parts_of path)
+call-looks limits cells sound n k (Open path access create excl trunc append) = open_parts-shown cells sound k _ (parts_of path)
+call-looks limits cells sound n k (Close fd) = with_open-shown cells fd any_open (close_open fd) (λ o named. (tt, tt))
+call-looks limits cells sound n k (Read fd len) = with_open-shown cells fd is_readable (read_open fd len) (λ o named. (named, tt))
+call-looks limits cells sound n k (WriteCall fd bytes) = with_open-shown cells fd is_writable (write_open limits fd bytes) (write_open-shown cells limits fd bytes)
+call-looks limits cells sound n k (Pread fd off len) =
     with_open-shown cells fd is_readable (pread_open off len) (λ o named. or_else-shown cells failed (pread_at len o) (not_negative off) (λ at. (named, tt)))
-call-looks cells sound n k (Pwrite fd off bytes) =
-    with_open-shown cells fd is_writable (pwrite_open off bytes) (λ o named. or_else-shown cells failed (pwrite_at o bytes) (not_negative off) (pwrite_at-shown cells o named bytes))
-call-looks cells sound n k (Lseek fd whence off) =
+call-looks limits cells sound n k (Pwrite fd off bytes) =
+    with_open-shown cells fd is_writable (pwrite_open limits off bytes) (λ o named. or_else-shown cells failed (pwrite_at limits o bytes) (not_negative off) (pwrite_at-shown cells limits o named bytes))
+call-looks limits cells sound n k (Lseek fd whence off) =
     with_open-shown cells fd any_open (seek_open fd whence off) (λ o named. then-shown cells (seek_from whence o) (λ from. Answer (sought fd o (moved from off))) (seek_from-shown cells whence o named) tt)
-call-looks cells sound n k (Truncate len path) = truncate_parts-shown cells sound len (parts_of path)
-call-looks cells sound n k (Ftruncate fd len) =
-    with_open-shown cells fd is_writable (ftruncate_open len) (λ o named. or_else-shown cells failed (cut_file o.file) (to_size len) (λ size. (named, tt)))
-call-looks cells sound n k (Stat path) = from_parts-shown cells sound stat_spot (stat_spot-shown cells) (parts_of path)
-call-looks cells sound n k (Fstat fd) = with_open-shown cells fd any_open fstat_open (λ o named. (tt, (named, tt)))
-call-looks cells sound n k (Link old new) = link_parts-shown cells sound (parts_of old) (parts_of new)
-call-looks cells sound n k (Unlink path) = from_parts-shown cells sound unlink_spot (unlink_spot-shown cells) (parts_of path)
-call-looks cells sound n k (Rename old new) = rename_parts-shown cells sound n (parts_of old) (parts_of new)
+call-looks limits cells sound n k (Truncate len path) = truncate_parts-shown cells sound limits len (parts_of path)
+call-looks limits cells sound n k (Ftruncate fd len) =
+    with_open-shown cells fd is_writable (ftruncate_open limits len) (λ o named. or_else-shown cells failed (cut_file o.file) (to_size limits len) (λ size. (named, tt)))
+call-looks limits cells sound n k (Stat path) = from_parts-shown cells sound stat_spot (stat_spot-shown cells) (parts_of path)
+call-looks limits cells sound n k (Fstat fd) = with_open-shown cells fd any_open fstat_open (λ o named. (tt, (named, tt)))
+call-looks limits cells sound n k (Link old new) = link_parts-shown cells sound limits (parts_of old) (parts_of new)
+call-looks limits cells sound n k (Unlink path) = from_parts-shown cells sound unlink_spot (unlink_spot-shown cells) (parts_of path)
+call-looks limits cells sound n k (Rename old new) = rename_parts-shown cells sound n (parts_of old) (parts_of new)

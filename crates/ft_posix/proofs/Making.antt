@@ -4,7 +4,7 @@ use Rattle.std.proofs.Common.{◌≡◌, inl, inr, ℕ, true, false, cond, not, 
 use Rattle.std.proofs.lemmas.Bool.{false≢true, or_cases}
 use Rattle.std.specs.FinMap.{get}
 use Rattle.ft_laws.specs.Laws.{Hides, holds}
-use Rattle.ft_laws.specs.Effects.{is_written}
+use Rattle.ft_laws.specs.Effects.{is_written, calls_of}
 use Rattle.ft_cells.specs.declared.node.Node.{Node}
 use Rattle.ft_cells.specs.declared.node.Node.TheVariants.{Dir as DirNode, File as FileNode}
 use Rattle.ft_cells.specs.declared.cell.Cell.{Cell}
@@ -50,7 +50,7 @@ own-file k None h = absurd (false≢true h)
 own-file k (Some i) h = ap Some (eqb-true i k h)
 
 -- what is stored of a free number may be hidden
-hides-free : (s : Cells) (k : ℕ) → IsFree s k → Hides posix_calls (λ i. i == k) s s
+hides-free : (s : Cells) (k : ℕ) → IsFree s k → Hides (calls_of posix) (λ i. i == k) s s
 hides-free s k free = record {
   others = λ x h. refl;
   gone = λ x h. own_blank s k free x (own-file k (file_of x) h);
@@ -82,11 +82,11 @@ module _ (steps-alike : StepsAlike) (stored-enough : StoredEnough) (soundness : 
       let p : Cells = has.with_places in
       let hides = hides-free s k free in
       let bare : HasSoundValues s = record {
-        with_places = without (λ i. i == k) p;
+        with_places = without (λ i. i == k) s.limits p;
         sound = sound-without (λ i. i == k) s s hides p has.sound has.same;
         same = same-without (λ i. i == k) s s hides p has.sound has.same;
       } in
-      let none = get-without (λ i. i == k) p k ∙ ap (λ b. cond (not b) (get p.files k) None) (eq-eqb k k refl) in
+      let none = get-without (λ i. i == k) s.limits p k ∙ ap (λ b. cond (not b) (get p.files k) None) (eq-eqb k k refl) in
       let noted = all-noted (does s a).accesses (does s a).writes (writes-noted s a) in
       elim (or_cases (is_written posix (does s a).writes (Links k)) (is_written posix (does s a).writes (Bytes k)) (from-bare s a bare none free x named_after)) [
         | inl links ↦ (Links k, refl, noted (Links k) links)

@@ -32,10 +32,10 @@ with_edits-writes cells (Overwrite i at bytes ∷ es) m = with_edits-writes cell
 with_edits-writes cells (Resize i size ∷ es) m = with_edits-writes cells es _
 with_edits-writes cells (Open f to ∷ es) m = with_edits-writes cells es _
 
-pub accesses-noted : (cells : Cells) (old mid : Looking) (k : ℕ) (call : Call) (x : Intent) → old ≡ record { cells = cells; modes = finite.empty } → outcome_of old.cells x ≡ outcome old.cells k call → mid ≡ noted old (steps (stored_dirs old.cells) k call)
+pub accesses-noted : (cells : Cells) (old mid : Looking) (k : ℕ) (call : Call) (x : Intent) → old ≡ record { cells = cells; modes = finite.empty } → outcome_of old.cells x ≡ outcome old.cells k call → mid ≡ noted old (steps old.cells.limits (stored_dirs old.cells) k call)
     → listed (with_edits mid.modes x.edits) ≡ accesses_of cells k call
 accesses-noted cells old mid k call x start comes looks =
-    let s = steps (stored_dirs old.cells) k call in
+    let s = steps old.cells.limits (stored_dirs old.cells) k call in
     let v = view_of old.cells in
     ap listed (ap (λ (l : Looking). with_edits l.modes x.edits) looks ∙ with_edits-writes old.cells x.edits (with_looks old.modes (looked_at s v))
     ∙ ap (λ (o : Outcome). with_writes (with_looks old.modes (looked_at s v)) o.writes) comes ∙ sym (with_accesses-split s old.modes v) ∙ ap (λ (l : Looking). with_accesses l.modes s v) start)

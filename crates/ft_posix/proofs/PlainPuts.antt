@@ -26,6 +26,7 @@ use Rattle.ft_posix.proofs.Tidied.{same_unit, get-opens, contains-parent}
 
 -- plain trees with the same edges, directories and descriptions; of the files nothing is said
 pub record AreAlike (p q : PlainTree) : Type 0 where
+  pub limits : p.limits ≡ q.limits
   pub edges : p.edges ≡ q.edges
   pub dirs : p.dirs ≡ q.dirs
   pub opens : p.opens ≡ q.opens
@@ -112,18 +113,20 @@ opens-put_open cells f to =
 alike-set : (cells : Cells) (p : PlainTree) (c : Cell) (to : Holds c) → HasDirPlace cells 1 → AreAlike (tidy cells) p → AreAlike (tidy (set_cell cells c to)) (set_plain p c to)
 alike-set cells p (cell.Entry entry) to root h = record {
   edges = edges-put_entry cells entry.dir entry.name to ∙ ap (λ m. set_edge m entry to) h.edges;
+  limits = h.limits;
   dirs = dirs-put_entry cells entry.dir entry.name to root ∙ h.dirs;
   opens = h.opens;
 }
 alike-set cells p (cell.Names d) to root h = h
 alike-set cells p (cell.Parent d) parent root h = record {
+  limits = h.limits;
   edges = edges-put_parent cells d parent ∙ h.edges;
   dirs = dirs-put_parent cells d parent root ∙ ap (λ s. set_dir s d parent) h.dirs;
   opens = h.opens;
 }
-alike-set cells p (cell.Links i) links root h = record { edges = h.edges; dirs = h.dirs; opens = h.opens }
-alike-set cells p (cell.Bytes i) bytes root h = record { edges = h.edges; dirs = h.dirs; opens = h.opens }
-alike-set cells p (cell.Fd f) to root h = record { edges = h.edges; dirs = h.dirs; opens = opens-put_open cells f to ∙ ap (λ m. set_open m f to) h.opens }
+alike-set cells p (cell.Links i) links root h = record { limits = h.limits; edges = h.edges; dirs = h.dirs; opens = h.opens }
+alike-set cells p (cell.Bytes i) bytes root h = record { limits = h.limits; edges = h.edges; dirs = h.dirs; opens = h.opens }
+alike-set cells p (cell.Fd f) to root h = record { limits = h.limits; edges = h.edges; dirs = h.dirs; opens = opens-put_open cells f to ∙ ap (λ m. set_open m f to) h.opens }
 
 -- and one after another
 alike-put_all : (ws : List Write) (cells : Cells) (p : PlainTree) → HasDirPlace cells 1 → AreAlike (tidy cells) p → AreAlike (tidy (put_all cells ws)) (put_all_plain p ws)
@@ -131,4 +134,4 @@ alike-put_all [] cells p root h = h
 alike-put_all (w ∷ ws) cells p root h = alike-put_all ws (put cells w) (put_plain p w) (root-set cells w.cell w.value root) (alike-set cells p w.cell w.value root h)
 
 pub tidy-put_all : (ws : List Write) (cells : Cells) → HasDirPlace cells 1 → AreAlike (tidy (put_all cells ws)) (put_all_plain (tidy cells) ws)
-tidy-put_all ws cells root = alike-put_all ws cells (tidy cells) root (record { edges = refl; dirs = refl; opens = refl })
+tidy-put_all ws cells root = alike-put_all ws cells (tidy cells) root (record { limits = refl; edges = refl; dirs = refl; opens = refl })

@@ -247,3 +247,17 @@ open-set_cell cells (Fd f) to = λ i g. open-put_open cells f to g i
 pub open-put_all : (ws : List Write) (cells : Cells) → open_of (put_all cells ws) ≡ open_after (open_of cells) ws
 open-put_all [] cells = refl
 open-put_all (w ∷ ws) cells = open-put_all ws (set_cell cells w.cell w.value) ∙ ap (λ f. open_after f ws) (open-set_cell cells w.cell w.value)
+
+-- What the tree allows stays.
+
+pub limits-set : (cells : Cells) (c : Cell) (to : Holds c) → (set_cell cells c to).limits ≡ cells.limits
+limits-set cells (Entry entry) to = refl
+limits-set cells (Names d) to = refl
+limits-set cells (Parent d) to = refl
+limits-set cells (Links i) to = refl
+limits-set cells (Bytes i) to = refl
+limits-set cells (Fd f) to = refl
+
+pub limits-put_all : (ws : List Write) (cells : Cells) → (put_all cells ws).limits ≡ cells.limits
+limits-put_all [] cells = refl
+limits-put_all (w ∷ ws) cells = limits-put_all ws (set_cell cells w.cell w.value) ∙ limits-set cells w.cell w.value

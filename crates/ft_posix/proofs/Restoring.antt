@@ -60,13 +60,13 @@ none-mapped f (Some x) h = absurd (none-some (f x) (sym h))
 
 module _ (s : Cells) where
   abbrev with_dirs : FinMap nat_cmp DirCells → Cells
-  with_dirs m = record { directories = m; files = s.files; opens = s.opens }
+  with_dirs m = record { limits = s.limits; directories = m; files = s.files; opens = s.opens }
 
   abbrev with_files : FinMap nat_cmp FileCells → Cells
-  with_files m = record { directories = s.directories; files = m; opens = s.opens }
+  with_files m = record { limits = s.limits; directories = s.directories; files = m; opens = s.opens }
 
   abbrev with_opens : FinMap nat_cmp (Option OpenFile) → Cells
-  with_opens m = record { directories = s.directories; files = s.files; opens = m }
+  with_opens m = record { limits = s.limits; directories = s.directories; files = s.files; opens = m }
 
   own_dir : (d : ℕ) (y : DirCells) → dir_of (put_dir s d y) d ≡ y
   own_dir d y = dir_of-put_dir s d y d ∙ ap (λ b. cond b y (dir_of s d)) (eq-eqb d d refl)

@@ -2,11 +2,11 @@
 use Rattle.std.proofs.Common.{ℕ, Bool, true, false, cond, not, ◌&&◌, ℤ, nat_le, List, [], ◌∷◌, map, inl, inr, Option, Some, None, Result, Ok, Err, sym, subst}
 use Rattle.std.specs.Prelude.{◌==◌, nat_lt}
 use Rattle.ft_laws.specs.Lists.{Each, In}
-use Rattle.ft_body.specs.declared.TheConstants.{SIZE_LIMIT}
 use Rattle.ft_body.specs.Bytes.{fitting}
 use Rattle.ft_path.specs.declared.errno.Errno.{Errno}
 use Rattle.ft_path.specs.declared.path.Parts.{Parts}
 use Rattle.ft_path.specs.FilePath.{parts_of, last_of}
+use Rattle.ft_cells.specs.declared.limits.TreeLimits.{TreeLimits}
 use Rattle.ft_cells.specs.Entries.{entry_at}
 use Rattle.ft_cells.specs.declared.cell.Cell.{Cell}
 use Rattle.ft_cells.specs.declared.cell.Cell.TheVariants.{Entry, Names, Parent, Links, Bytes, Fd}
@@ -16,7 +16,7 @@ use Rattle.ft_cells.specs.declared.open_file.OpenFile.{OpenFile}
 use Rattle.ft_cells.specs.Looks.{Looks, Answer, Look, View, answer, then, or_else}
 use Rattle.ft_cells.specs.Modes.{can_write}
 use Rattle.ft_tree.specs.Walk.{Spot, Named, Itself, walk}
-use Rattle.ft_posix.specs.declared.TheConstants.{MOST_LINKS, LAST_OFFSET}
+use Rattle.ft_posix.specs.declared.TheConstants.{LAST_OFFSET}
 use Rattle.ft_posix.specs.declared.call.Call.{Call}
 use Rattle.ft_posix.specs.declared.call.Call.TheVariants.{Mkdir, Rmdir, List as ListDir, Open, Close, Read, Write as WriteCall, Pread, Pwrite, Lseek, Truncate, Ftruncate, Stat, Fstat, Link, Unlink, Rename}
 use Rattle.ft_posix.specs.declared.call.OpenFlags.{OpenFlags}
@@ -125,9 +125,9 @@ truncate_spot-sets size (Named entry (Some (DirNode file))) v = tt
 truncate_spot-sets size (Named entry (Some (FileNode file))) v = (tt, tt)
 truncate_spot-sets size (Itself dir) v = tt
 
-truncate_parts-sets : (len : ℤ) (r : Result Parts Errno) → Sets (truncate_parts len r)
-truncate_parts-sets len (Err e) v = tt
-truncate_parts-sets len (Ok parts) v = or_else-sets (λ size. from_parts (Ok parts) (truncate_spot size)) (λ size. from_parts-sets (Ok parts) (truncate_spot size) (truncate_spot-sets size)) (to_size len) v
+truncate_parts-sets : (limits : TreeLimits) (len : ℤ) (r : Result Parts Errno) → Sets (truncate_parts limits len r)
+truncate_parts-sets limits len (Err e) v = tt
+truncate_parts-sets limits len (Ok parts) v = or_else-sets (λ size. from_parts (Ok parts) (truncate_spot size)) (λ size. from_parts-sets (Ok parts) (truncate_spot size) (truncate_spot-sets size)) (to_size limits len) v
 
 stat_spot-sets : (spot : Spot) → Sets (stat_spot spot)
 stat_spot-sets (Named entry None) v = tt
@@ -144,16 +144,16 @@ on_open-sets fits go h (Some o) v = one-of (fits o) (go o) _ (h o) (λ v. tt) v
 with_open-sets : (fd : ℕ) (fits : OpenFile → Bool) (go : OpenFile → Looks Outcome) → ((o : OpenFile) → Sets (go o)) → Sets (with_open fd fits go)
 with_open-sets fd fits go h v = on_open-sets fits go h (v (Fd fd)) v
 
-write_at-sets : (fd : ℕ) (o : OpenFile) (bytes : List ℕ) (at : ℕ) → Sets (write_at fd o bytes at)
-write_at-sets fd o bytes at = one-of (nat_le SIZE_LIMIT at) _ (Look (Bytes o.file) (λ old. Answer (has_written fd o at (fitting bytes at) old))) (λ v. tt) (λ v. (tt, (tt, tt)))
+write_at-sets : (limits : TreeLimits) (fd : ℕ) (o : OpenFile) (bytes : List ℕ) (at : ℕ) → Sets (write_at limits fd o bytes at)
+write_at-sets limits fd o bytes at = one-of (nat_le limits.file_size at) _ (Look (Bytes o.file) (λ old. Answer (has_written fd o at (fitting limits.file_size bytes at) old))) (λ v. tt) (λ v. (tt, (tt, tt)))
 
-write_open-sets : (fd : ℕ) (bytes : List ℕ) (o : OpenFile) → Sets (write_open fd bytes o)
-write_open-sets fd [] o v = tt
-write_open-sets fd (first ∷ more) o v = then-sets (write_place o) (write_at fd o (first ∷ more)) (write_at-sets fd o (first ∷ more)) v
+write_open-sets : (limits : TreeLimits) (fd : ℕ) (bytes : List ℕ) (o : OpenFile) → Sets (write_open limits fd bytes o)
+write_open-sets limits fd [] o v = tt
+write_open-sets limits fd (first ∷ more) o v = then-sets (write_place o) (write_at limits fd o (first ∷ more)) (write_at-sets limits fd o (first ∷ more)) v
 
-pwrite_at-sets : (o : OpenFile) (bytes : List ℕ) (at : ℕ) → Sets (pwrite_at o bytes at)
-pwrite_at-sets o [] at v = tt
-pwrite_at-sets o (first ∷ more) at v = one-of (nat_le SIZE_LIMIT at) _ (Look (Bytes o.file) (λ old. Answer (has_pwritten o at (fitting (first ∷ more) at) old))) (λ v. tt) (λ v. (tt, tt)) v
+pwrite_at-sets : (limits : TreeLimits) (o : OpenFile) (bytes : List ℕ) (at : ℕ) → Sets (pwrite_at limits o bytes at)
+pwrite_at-sets limits o [] at v = tt
+pwrite_at-sets limits o (first ∷ more) at v = one-of (nat_le limits.file_size at) _ (Look (Bytes o.file) (λ old. Answer (has_pwritten o at (fitting limits.file_size (first ∷ more) at) old))) (λ v. tt) (λ v. (tt, tt)) v
 
 sought-sets : (fd : ℕ) (o : OpenFile) (to : Option ℕ) → AreSettable (sought fd o to).writes
 sought-sets fd o None = tt
@@ -164,22 +164,22 @@ seek_open-sets fd whence off o = then-sets (seek_from whence o) (λ from. Answer
 
 -- Links.
 
-link_new-sets : (file : ℕ) (trailing : Bool) (spot : Spot) → Sets (link_new file trailing spot)
-link_new-sets file trailing (Named entry None) v =
-    one-of trailing _ (Look (Links file) (λ links. Answer (link_at file entry links))) (λ v. tt) (λ v. one-outcome (nat_lt (v (Links file)) MOST_LINKS) _ _ (tt, (tt, tt)) tt) v
-link_new-sets file trailing (Named entry (Some x)) v = tt
-link_new-sets file trailing (Itself dir) v = tt
+link_new-sets : (limits : TreeLimits) (file : ℕ) (trailing : Bool) (spot : Spot) → Sets (link_new limits file trailing spot)
+link_new-sets limits file trailing (Named entry None) v =
+    one-of trailing _ (Look (Links file) (λ links. Answer (link_at limits file entry links))) (λ v. tt) (λ v. one-outcome (nat_lt (v (Links file)) limits.links) _ _ (tt, (tt, tt)) tt) v
+link_new-sets limits file trailing (Named entry (Some x)) v = tt
+link_new-sets limits file trailing (Itself dir) v = tt
 
-link_old-sets : (new : Parts) (spot : Spot) → Sets (link_old new spot)
-link_old-sets new (Named entry None) v = tt
-link_old-sets new (Named entry (Some (DirNode file))) v = tt
-link_old-sets new (Named entry (Some (FileNode file))) v = from_parts-sets (Ok new) (link_new file new.trailing) (link_new-sets file new.trailing) v
-link_old-sets new (Itself dir) v = tt
+link_old-sets : (limits : TreeLimits) (new : Parts) (spot : Spot) → Sets (link_old limits new spot)
+link_old-sets limits new (Named entry None) v = tt
+link_old-sets limits new (Named entry (Some (DirNode file))) v = tt
+link_old-sets limits new (Named entry (Some (FileNode file))) v = from_parts-sets (Ok new) (link_new limits file new.trailing) (link_new-sets limits file new.trailing) v
+link_old-sets limits new (Itself dir) v = tt
 
-link_parts-sets : (old new : Result Parts Errno) → Sets (link_parts old new)
-link_parts-sets (Err e) new v = tt
-link_parts-sets (Ok old) (Err e) v = tt
-link_parts-sets (Ok old) (Ok new) v = from_parts-sets (Ok old) (link_old new) (link_old-sets new) v
+link_parts-sets : (limits : TreeLimits) (old new : Result Parts Errno) → Sets (link_parts limits old new)
+link_parts-sets limits (Err e) new v = tt
+link_parts-sets limits (Ok old) (Err e) v = tt
+link_parts-sets limits (Ok old) (Ok new) v = from_parts-sets (Ok old) (link_old limits new) (link_old-sets limits new) v
 
 unlink_spot-sets : (spot : Spot) → Sets (unlink_spot spot)
 unlink_spot-sets (Named entry None) v = tt
@@ -225,24 +225,24 @@ rename_parts-sets most (Ok old) (Ok new) v = unless-sets (rename_fault (last_of 
 
 -- All calls.
 
-call-sets : (most stamp : ℕ) (call : Call) → Sets (steps most stamp call)
-call-sets most stamp (Mkdir path) = from_parts-sets (parts_of path) (make_dir stamp) (make_dir-sets stamp)
-call-sets most stamp (Rmdir path) = remove_parts-sets (parts_of path)
-call-sets most stamp (ListDir path) = from_parts-sets (parts_of path) list_dir list_dir-sets
-call-sets most stamp (Open path access create excl trunc append) = open_parts-sets stamp _ (parts_of path)
-call-sets most stamp (Close fd) = with_open-sets fd any_open (close_open fd) (λ o v. (tt, tt))
-call-sets most stamp (Read fd len) = with_open-sets fd is_readable (read_open fd len) (λ o v. (tt, tt))
-call-sets most stamp (WriteCall fd bytes) = with_open-sets fd is_writable (write_open fd bytes) (write_open-sets fd bytes)
-call-sets most stamp (Pread fd off len) = with_open-sets fd is_readable (pread_open off len) (λ o. or_else-sets (pread_at len o) (λ at v. tt) (not_negative off))
-call-sets most stamp (Pwrite fd off bytes) = with_open-sets fd is_writable (pwrite_open off bytes) (λ o. or_else-sets (pwrite_at o bytes) (pwrite_at-sets o bytes) (not_negative off))
-call-sets most stamp (Lseek fd whence off) = with_open-sets fd any_open (seek_open fd whence off) (seek_open-sets fd whence off)
-call-sets most stamp (Truncate len path) = truncate_parts-sets len (parts_of path)
-call-sets most stamp (Ftruncate fd len) = with_open-sets fd is_writable (ftruncate_open len) (λ o. or_else-sets (cut_file o.file) (λ size v. (tt, tt)) (to_size len))
-call-sets most stamp (Stat path) = from_parts-sets (parts_of path) stat_spot stat_spot-sets
-call-sets most stamp (Fstat fd) = with_open-sets fd any_open fstat_open (λ o v. tt)
-call-sets most stamp (Link old new) = link_parts-sets (parts_of old) (parts_of new)
-call-sets most stamp (Unlink path) = from_parts-sets (parts_of path) unlink_spot unlink_spot-sets
-call-sets most stamp (Rename old new) = rename_parts-sets most (parts_of old) (parts_of new)
+call-sets : (limits : TreeLimits) (most stamp : ℕ) (call : Call) → Sets (steps limits most stamp call)
+call-sets limits most stamp (Mkdir path) = from_parts-sets (parts_of path) (make_dir stamp) (make_dir-sets stamp)
+call-sets limits most stamp (Rmdir path) = remove_parts-sets (parts_of path)
+call-sets limits most stamp (ListDir path) = from_parts-sets (parts_of path) list_dir list_dir-sets
+call-sets limits most stamp (Open path access create excl trunc append) = open_parts-sets stamp _ (parts_of path)
+call-sets limits most stamp (Close fd) = with_open-sets fd any_open (close_open fd) (λ o v. (tt, tt))
+call-sets limits most stamp (Read fd len) = with_open-sets fd is_readable (read_open fd len) (λ o v. (tt, tt))
+call-sets limits most stamp (WriteCall fd bytes) = with_open-sets fd is_writable (write_open limits fd bytes) (write_open-sets limits fd bytes)
+call-sets limits most stamp (Pread fd off len) = with_open-sets fd is_readable (pread_open off len) (λ o. or_else-sets (pread_at len o) (λ at v. tt) (not_negative off))
+call-sets limits most stamp (Pwrite fd off bytes) = with_open-sets fd is_writable (pwrite_open limits off bytes) (λ o. or_else-sets (pwrite_at limits o bytes) (pwrite_at-sets limits o bytes) (not_negative off))
+call-sets limits most stamp (Lseek fd whence off) = with_open-sets fd any_open (seek_open fd whence off) (seek_open-sets fd whence off)
+call-sets limits most stamp (Truncate len path) = truncate_parts-sets limits len (parts_of path)
+call-sets limits most stamp (Ftruncate fd len) = with_open-sets fd is_writable (ftruncate_open limits len) (λ o. or_else-sets (cut_file o.file) (λ size v. (tt, tt)) (to_size limits len))
+call-sets limits most stamp (Stat path) = from_parts-sets (parts_of path) stat_spot stat_spot-sets
+call-sets limits most stamp (Fstat fd) = with_open-sets fd any_open fstat_open (λ o v. tt)
+call-sets limits most stamp (Link old new) = link_parts-sets limits (parts_of old) (parts_of new)
+call-sets limits most stamp (Unlink path) = from_parts-sets (parts_of path) unlink_spot unlink_spot-sets
+call-sets limits most stamp (Rename old new) = rename_parts-sets most (parts_of old) (parts_of new)
 
 -- none of them is the names of a directory
 no-names : (ws : List Write) → AreSettable ws → (d : ℕ) → In (Names d) (map written_cell ws) → ⊥
@@ -250,5 +250,5 @@ no-names [] each d i = absurd i
 no-names (w ∷ ws) each d (inl is) = subst IsSettable (sym is) each.0
 no-names (w ∷ ws) each d (inr i) = no-names ws each.1 d i
 
-pub names-not_written : (most stamp : ℕ) (call : Call) (v : View) (d : ℕ) → In (Names d) (map written_cell (answer (steps most stamp call) v).writes) → ⊥
-names-not_written most stamp call v d i = no-names (answer (steps most stamp call) v).writes (call-sets most stamp call v) d i
+pub names-not_written : (limits : TreeLimits) (most stamp : ℕ) (call : Call) (v : View) (d : ℕ) → In (Names d) (map written_cell (answer (steps limits most stamp call) v).writes) → ⊥
+names-not_written limits most stamp call v d i = no-names (answer (steps limits most stamp call) v).writes (call-sets limits most stamp call v) d i

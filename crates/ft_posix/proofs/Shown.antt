@@ -116,8 +116,8 @@ module _ (cells : Cells) (sound : AreSoundCells cells) where
 
   -- so a call comes to the same on the plain tree as on the cells: the directories of either are
   -- enough
-  pub outcome-shown : (k : ℕ) (call : Call) → answer (steps (len (tidy cells).dirs) k call) (view_in (tidy cells)) ≡ outcome cells k call
+  pub outcome-shown : (k : ℕ) (call : Call) → answer (steps cells.limits (len (tidy cells).dirs) k call) (view_in (tidy cells)) ≡ outcome cells k call
   outcome-shown k call =
       let n = len (tidy cells).dirs in
-      sym (answer-agree (steps n k call) (view_of cells) (view_in (tidy cells)) (all-shown (looked_at (steps n k call) (view_of cells)) (call-looks cells sound n k call)))
-      ∙ (steps-alike cells sound.tree n (stored_dirs cells) (dirs-enough cells sound) (stored-enough cells sound.tree) k call).0
+      sym (answer-agree (steps cells.limits n k call) (view_of cells) (view_in (tidy cells)) (all-shown (looked_at (steps cells.limits n k call) (view_of cells)) (call-looks cells.limits cells sound n k call)))
+      ∙ (steps-alike cells.limits cells sound.tree n (stored_dirs cells) (dirs-enough cells sound) (stored-enough cells sound.tree) k call).0

@@ -8,6 +8,7 @@ use Rattle.ft_cells.specs.declared.node.Node.{Node}
 use Rattle.ft_cells.specs.declared.cell.Cell.TheVariants.{Entry, Parent, Links, Fd}
 use Rattle.ft_cells.specs.Nodes.{number_of}
 use Rattle.ft_cells.specs.Cells.{Cells, entry_of, parent_of}
+use Rattle.ft_cells.specs.Limits.{default_limits}
 use Rattle.ft_cells.specs.Plain.{PlainTree, view_in}
 use Rattle.ft_tree.specs.Sound.{IsTree, IsNoDir}
 use Rattle.ft_tree.specs.Tidy.{tidy}
@@ -16,7 +17,7 @@ use Rattle.ft_posix.specs.RunLaws.{PlacedLaw}
 
 -- the tree without its files and descriptions, of which the count of links does not depend
 abbrev frame : Cells → PlainTree
-frame c = record { edges = (tidy c).edges; dirs = (tidy c).dirs; files = empty; opens = empty }
+frame c = record { limits = default_limits; edges = (tidy c).edges; dirs = (tidy c).dirs; files = empty; opens = empty }
 
 pub placed : PlacedLaw
 placed s values places =
@@ -25,7 +26,7 @@ placed s values places =
     let same = values.same in
     let entries : entry_of w ≡ entry_of s = λ i d name. sym (same.values (Entry (entry_at d name))) i in
     let parents : parent_of w ≡ parent_of s = λ i d. sym (same.values (Parent d)) i in
-    let one : frame w ≡ frame s = same_plain (frame w) (frame s)
+    let one : frame w ≡ frame s = same_plain (frame w) (frame s) refl
     (λ d name. get-tidy w d name ∙ ap (option_map number_of) (sym (same.values (Entry (entry_at d name)))) ∙ sym (get-tidy s d name))
     (λ d. contains-parent w ws.root_is d ∙ ap (λ o. (d == 1) || is_some o) (sym (same.values (Parent d))) ∙ sym (contains-parent s places.root d)) (λ i. refl) (λ f. refl) in
     record {

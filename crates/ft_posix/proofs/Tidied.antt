@@ -231,12 +231,12 @@ same_unit None (Some x) h = absurd (false≢true h)
 same_unit (Some x) None h = absurd (false≢true (sym h))
 same_unit (Some x) (Some y) h = refl
 
--- plain trees with the same edges, directories, files and descriptions are one
-pub same_plain : (p q : PlainTree) → ((d : ℕ) (name : List ℕ) → get p.edges (entry_at d name) ≡ get q.edges (entry_at d name)) → ((d : ℕ) → contains_key p.dirs d ≡ contains_key q.dirs d)
+-- plain trees with the same limits, edges, directories, files and descriptions are one
+pub same_plain : (p q : PlainTree) → p.limits ≡ q.limits → ((d : ℕ) (name : List ℕ) → get p.edges (entry_at d name) ≡ get q.edges (entry_at d name)) → ((d : ℕ) → contains_key p.dirs d ≡ contains_key q.dirs d)
     → ((i : ℕ) → get p.files i ≡ get q.files i) → ((f : ℕ) → get p.opens f ≡ get q.opens f) → p ≡ q
-same_plain p q same_edges same_dirs same_files same_opens =
+same_plain p q limits same_edges same_dirs same_files same_opens =
     let edges = same_map entry_cmp_total entry_cmp_exact p.edges q.edges (λ e. same_edges e.dir e.name) in
     let dirs = same_map nat_cmp_total exact_unsigned p.dirs q.dirs (λ d. same_unit _ _ (same_dirs d)) in
     let files = same_map nat_cmp_total exact_unsigned p.files q.files same_files in
     let opens = same_map nat_cmp_total exact_unsigned p.opens q.opens same_opens in
-    λ i. record { edges = edges i; dirs = dirs i; files = files i; opens = opens i }
+    λ i. record { limits = limits i; edges = edges i; dirs = dirs i; files = files i; opens = opens i }

@@ -42,4 +42,4 @@ pub record CallUpon (cells : Cells) (k : ℕ) (seen : List Cell) (ws : List Writ
   pub lets_go : (x : Cell) (i : ℕ) → names_file x (held cells x) i ≡ true → names_file x (held (put_all cells ws) x) i ≡ false → In (Links i) seen ⊎ IsLeft cells ws i
 
 abbrev pub EachCallUpon : Type 0
-EachCallUpon = (cells : Cells) (k : ℕ) → IsFree cells k → (n : ℕ) (call : Call) → CallUpon cells k (looked_at (steps n k call) (view_of cells)) (answer (steps n k call) (view_of cells)).writes
+EachCallUpon = (cells : Cells) (k : ℕ) → IsFree cells k → (n : ℕ) (call : Call) → CallUpon cells k (looked_at (steps cells.limits n k call) (view_of cells)) (answer (steps cells.limits n k call) (view_of cells)).writes

@@ -32,7 +32,7 @@ module _ (old new : Cells) (sound : AreSoundCells old) (keeps : KeepsValues old 
       by_there false is = refl
 
   one_plain : tidy new ≡ tidy old
-  one_plain = same_plain (tidy new) (tidy old)
+  one_plain = same_plain (tidy new) (tidy old) keeps.limits
       (λ d name. get-tidy new d name ∙ ap (option_map number_of) (keeps.values (Entry (entry_at d name))) ∙ sym (get-tidy old d name))
       (λ d. contains-parent new (keeps.places (Parent 1) sound.root_is) d ∙ ap (λ o. (d == 1) || is_some o) (keeps.values (Parent d)) ∙ sym (contains-parent old sound.root_is d))
       (λ i. get-files new i ∙ ap (λ b. cond b (body_in new i) None) (same_file i) ∙ same_bytes i ∙ sym (get-files old i))

@@ -68,7 +68,7 @@ is_noted c (a ∷ more) = by_order (cell_cmp c a.cell) false true (is_noted c mo
 
 -- the accesses of the call with this stamp
 abbrev pub accesses_of : Cells → ℕ → Call → List Access
-accesses_of cells stamp call = listed (with_accesses finite.empty (steps (stored_dirs cells) stamp call) (view_of cells))
+accesses_of cells stamp call = listed (with_accesses finite.empty (steps cells.limits (stored_dirs cells) stamp call) (view_of cells))
 
 -- whether it writes
 abbrev pub is_write : Mode → Bool

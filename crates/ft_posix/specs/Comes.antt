@@ -1,6 +1,7 @@
 -- What the stages of a call come to: an intent, where a walk ends, what an argument says, each
 -- with what was looked at noted. Where memory was wanting, nothing is said.
 use Rattle.std.specs.Prelude.{◌≡◌, List, map, Result, Ok, Err}
+use Rattle.ft_body.specs.declared.TheConstants.{LARGEST_SIZE}
 use Rattle.ft_body.specs.Bytes.{bytes_at, fitting, written, resized}
 use Rattle.ft_path.specs.declared.errno.Errno.{Errno}
 use Rattle.ft_cells.specs.declared.node.Spot.{Spot as Seen}
@@ -36,7 +37,7 @@ abbrev pub write_of : Cells → Edit → Write
 write_of cells (Entry entry to) = sets (cell.Entry entry) to
 write_of cells (Parent d to) = sets (cell.Parent d) to
 write_of cells (Links i to) = sets (cell.Links i) to
-write_of cells (Overwrite i at bytes) = sets (cell.Bytes i) (written (bytes_of cells i) at (fitting bytes.now at))
+write_of cells (Overwrite i at bytes) = sets (cell.Bytes i) (written (bytes_of cells i) at (fitting LARGEST_SIZE bytes.now at))
 write_of cells (Resize i size) = sets (cell.Bytes i) (resized (bytes_of cells i) size)
 write_of cells (Open f to) = sets (cell.Fd f) to
 

@@ -1,12 +1,12 @@
 -- What the calls on descriptors look at, and what they come to. The order of their errors is a
 -- rule of this project.
 use Rattle.std.specs.Prelude.{ℕ, Bool, true, cond, ◌+◌, ◌-◌, suc, nat_le, ℤ, pos, negsuc, length, List, [], ◌∷◌, Option, Some, None, Result, Ok, Err}
-use Rattle.ft_body.specs.declared.TheConstants.{SIZE_LIMIT}
 use Rattle.ft_body.specs.Bytes.{bytes_at, fitting, written}
 use Rattle.ft_path.specs.declared.errno.Errno.{Errno}
 use Rattle.ft_path.specs.declared.errno.Errno.TheVariants.{EINVAL, EBADF, EFBIG, EOVERFLOW}
 use Rattle.ft_cells.specs.declared.cell.Cell.TheVariants.{Links, Bytes, Fd}
 use Rattle.ft_cells.specs.declared.open_file.OpenFile.{OpenFile}
+use Rattle.ft_cells.specs.declared.limits.TreeLimits.{TreeLimits}
 use Rattle.ft_cells.specs.Modes.{can_read, can_write}
 use Rattle.ft_cells.specs.Looks.{Looks, Answer, Look, then, or_else}
 use Rattle.ft_posix.specs.declared.TheConstants.{LAST_OFFSET}
@@ -85,15 +85,16 @@ has_written fd description at taken bytes = record {
   writes = sets (Bytes description.file) (written bytes at taken) ∷ sets (Fd fd) (Some (at_offset description (at + length taken))) ∷ [];
 }
 
--- write at a place: at or past the size limit it is EFBIG, and else as many bytes as have room
--- are written; zeros fill a gap before them
-abbrev pub write_at : ℕ → OpenFile → List ℕ → ℕ → Looks Outcome
-write_at fd description bytes at = cond (nat_le SIZE_LIMIT at) (Answer (failed EFBIG)) (Look (Bytes description.file) (λ old. Answer (has_written fd description at (fitting bytes at) old)))
+-- write at a place: at or past the largest size that the tree allows it is EFBIG, and else as many
+-- bytes as have room are written; zeros fill a gap before them
+abbrev pub write_at : TreeLimits → ℕ → OpenFile → List ℕ → ℕ → Looks Outcome
+write_at limits fd description bytes at =
+    cond (nat_le limits.file_size at) (Answer (failed EFBIG)) (Look (Bytes description.file) (λ old. Answer (has_written fd description at (fitting limits.file_size bytes at) old)))
 
 -- to write no bytes changes nothing, and looks at the description alone, with append too
-abbrev pub write_open : ℕ → List ℕ → OpenFile → Looks Outcome
-write_open fd [] description = Answer (told (Number 0))
-write_open fd (first ∷ more) description = then (write_place description) (write_at fd description (first ∷ more))
+abbrev pub write_open : TreeLimits → ℕ → List ℕ → OpenFile → Looks Outcome
+write_open limits fd [] description = Answer (told (Number 0))
+write_open limits fd (first ∷ more) description = then (write_place description) (write_at limits fd description (first ∷ more))
 
 -- pwrite (POSIX.1-2017, System Interfaces, pwrite): the offset of the description stays, and
 -- append has no effect, as POSIX has it, where Linux appends
@@ -102,15 +103,16 @@ write_open fd (first ∷ more) description = then (write_place description) (wri
 abbrev pub has_pwritten : OpenFile → ℕ → List ℕ → List ℕ → Outcome
 has_pwritten description at taken bytes = record { reply = Number (length taken); writes = sets (Bytes description.file) (written bytes at taken) ∷ [] }
 
--- pwrite at a place: to write no bytes changes nothing, and at or past the size limit it is EFBIG
-abbrev pub pwrite_at : OpenFile → List ℕ → ℕ → Looks Outcome
-pwrite_at description [] at = Answer (told (Number 0))
-pwrite_at description (first ∷ more) at =
-    cond (nat_le SIZE_LIMIT at) (Answer (failed EFBIG)) (Look (Bytes description.file) (λ old. Answer (has_pwritten description at (fitting (first ∷ more) at) old)))
+-- pwrite at a place: to write no bytes changes nothing, and at or past the largest size that the
+-- tree allows it is EFBIG
+abbrev pub pwrite_at : TreeLimits → OpenFile → List ℕ → ℕ → Looks Outcome
+pwrite_at limits description [] at = Answer (told (Number 0))
+pwrite_at limits description (first ∷ more) at =
+    cond (nat_le limits.file_size at) (Answer (failed EFBIG)) (Look (Bytes description.file) (λ old. Answer (has_pwritten description at (fitting limits.file_size (first ∷ more) at) old)))
 
 -- pwrite, once its offset is judged
-abbrev pub pwrite_open : ℤ → List ℕ → OpenFile → Looks Outcome
-pwrite_open off bytes description = or_else failed (pwrite_at description bytes) (not_negative off)
+abbrev pub pwrite_open : TreeLimits → ℤ → List ℕ → OpenFile → Looks Outcome
+pwrite_open limits off bytes description = or_else failed (pwrite_at limits description bytes) (not_negative off)
 
 -- lseek (POSIX.1-2017, System Interfaces, lseek)
 
@@ -143,8 +145,8 @@ seek_open fd whence off description = then (seek_from whence description) (λ fr
 
 -- the file is cut to a length as by truncate. One that is not open for writing was EBADF, where
 -- POSIX allows EINVAL too.
-abbrev pub ftruncate_open : ℤ → OpenFile → Looks Outcome
-ftruncate_open len description = or_else failed (cut_file description.file) (to_size len)
+abbrev pub ftruncate_open : TreeLimits → ℤ → OpenFile → Looks Outcome
+ftruncate_open limits len description = or_else failed (cut_file description.file) (to_size limits len)
 
 -- what stat tells of a file
 abbrev pub fstat_open : OpenFile → Looks Outcome

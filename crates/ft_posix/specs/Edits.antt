@@ -1,7 +1,7 @@
 -- The edits of a call: what they leave, and when they can be made.
 use Rattle.std.specs.Prelude.{◌≡◌, ◌≤◌, ℕ, false, List, [], ◌∷◌}
 use Rattle.std.specs.FinMap as finite
-use Rattle.ft_body.specs.declared.TheConstants.{SIZE_LIMIT}
+use Rattle.ft_body.specs.declared.TheConstants.{LARGEST_SIZE}
 use Rattle.ft_cells.specs.declared.cell.Cell.{Cell}
 use Rattle.ft_cells.specs.declared.cell.Cell.TheVariants as cell
 use Rattle.ft_cells.specs.CellOrder.{same_cell}
@@ -51,8 +51,8 @@ abbrev pub CanEdit : Cells → Edit → Type 0
 CanEdit cells (Entry entry to) = HasDirPlace cells entry.dir
 CanEdit cells (Parent d to) = Unit {0}
 CanEdit cells (Links i to) = Unit {0}
-CanEdit cells (Overwrite i at bytes) = HasFilePlace cells i × (at ≤ SIZE_LIMIT)
-CanEdit cells (Resize i size) = HasFilePlace cells i × (size ≤ SIZE_LIMIT)
+CanEdit cells (Overwrite i at bytes) = HasFilePlace cells i × (at ≤ LARGEST_SIZE)
+CanEdit cells (Resize i size) = HasFilePlace cells i × (size ≤ LARGEST_SIZE)
 CanEdit cells (Open f to) = Unit {0}
 
 -- each of the edits can, once those before it are made

@@ -62,4 +62,4 @@ without_dead_files p = record p { files = finite.retain_keys p.files (is_named_i
 -- the call with this stamp: the tree after it, without files that nothing names any more, and its
 -- reply
 abbrev pub exec : PlainTree → ℕ → Call → PlainTree × Reply
-exec p stamp call = let outcome = answer (steps (finite.len p.dirs) stamp call) (view_in p) in (without_dead_files (put_all_plain p outcome.writes), outcome.reply)
+exec p stamp call = let outcome = answer (steps p.limits (finite.len p.dirs) stamp call) (view_in p) in (without_dead_files (put_all_plain p outcome.writes), outcome.reply)

@@ -1,11 +1,11 @@
 -- What the calls on files look at, and what they come to. The order of their errors is a rule of
 -- this project.
 use Rattle.std.specs.Prelude.{ℕ, Bool, cond, not, ◌&&◌, nat_le, ℤ, pos, negsuc, length, [], ◌∷◌, Some, None, Result, Ok, Err}
-use Rattle.ft_body.specs.declared.TheConstants.{SIZE_LIMIT}
 use Rattle.ft_body.specs.Bytes.{resized}
 use Rattle.ft_path.specs.declared.path.Parts.{Parts}
 use Rattle.ft_path.specs.declared.errno.Errno.{Errno}
 use Rattle.ft_path.specs.declared.errno.Errno.TheVariants.{ENOENT, EEXIST, EINVAL, EISDIR, EFBIG}
+use Rattle.ft_cells.specs.declared.limits.TreeLimits.{TreeLimits}
 use Rattle.ft_cells.specs.declared.entry.Entry.{Entry as DirEntry}
 use Rattle.ft_cells.specs.declared.cell.Cell.TheVariants.{Entry, Links, Bytes, Fd}
 use Rattle.ft_cells.specs.declared.node.Kind.TheVariants.{Dir as DirKind, File as FileKind}
@@ -66,14 +66,14 @@ open_parts stamp flags (Ok parts) =
 
 -- truncate (POSIX.1-2017, System Interfaces, truncate)
 
--- a length up to the size limit; above it EFBIG
-abbrev pub size_within : ℕ → Result ℕ Errno
-size_within n = cond (nat_le n SIZE_LIMIT) (Ok n) (Err EFBIG)
+-- a length up to the largest that the tree allows; above it EFBIG
+abbrev pub size_within : TreeLimits → ℕ → Result ℕ Errno
+size_within limits n = cond (nat_le n limits.file_size) (Ok n) (Err EFBIG)
 
 -- a length that a file may have: below zero it is EINVAL, and above the limit EFBIG
-abbrev pub to_size : ℤ → Result ℕ Errno
-to_size (pos n) = size_within n
-to_size (negsuc n) = Err EINVAL
+abbrev pub to_size : TreeLimits → ℤ → Result ℕ Errno
+to_size limits (pos n) = size_within limits n
+to_size limits (negsuc n) = Err EINVAL
 
 -- the file is cut to a length, or zeros are added up to it
 abbrev pub cut_file : ℕ → ℕ → Looks Outcome
@@ -88,9 +88,9 @@ truncate_spot size (Itself dir) = Answer (failed EISDIR)
 
 -- truncate from the parts of its path on: the fault of the text, that of the length, and where
 -- the walk leads
-abbrev pub truncate_parts : ℤ → Result Parts Errno → Looks Outcome
-truncate_parts len (Err e) = Answer (failed e)
-truncate_parts len (Ok parts) = or_else failed (λ size. from_parts (Ok parts) (truncate_spot size)) (to_size len)
+abbrev pub truncate_parts : TreeLimits → ℤ → Result Parts Errno → Looks Outcome
+truncate_parts limits len (Err e) = Answer (failed e)
+truncate_parts limits len (Ok parts) = or_else failed (λ size. from_parts (Ok parts) (truncate_spot size)) (to_size limits len)
 
 -- stat (POSIX.1-2017, System Interfaces, stat)
 

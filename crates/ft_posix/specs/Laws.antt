@@ -57,10 +57,10 @@ pub record ActsAlike (one other : Cells) (stamp : ℕ) (call : Call) : Type 0 wh
   pub reply : (outcome other stamp call).reply ≡ (outcome one stamp call).reply
   pub writes : (outcome other stamp call).writes ≡ (outcome one stamp call).writes
 
--- the frame law: on sound cells that show the same in each cell that a call accesses in one of
--- them, it has the same accesses, the same reply and the same writes
+-- the frame law: on sound cells that allow the same, and show the same in each cell that a call
+-- accesses in one of them, it has the same accesses, the same reply and the same writes
 abbrev pub FrameLaw : Type 0
-FrameLaw = (one other : Cells) (stamp : ℕ) (call : Call) → AreSoundCells one → AreSoundCells other → IsFree one stamp → IsFree other stamp → AgreeOn one other (accesses_of one stamp call) → ActsAlike one other stamp call
+FrameLaw = (one other : Cells) (stamp : ℕ) (call : Call) → AreSoundCells one → AreSoundCells other → IsFree one stamp → IsFree other stamp → one.limits ≡ other.limits → AgreeOn one other (accesses_of one stamp call) → ActsAlike one other stamp call
 
 -- nothing but the written cells changes: a cell that overlaps none of them shows what it showed
 -- before

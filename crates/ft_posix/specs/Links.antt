@@ -8,12 +8,12 @@ use Rattle.ft_path.specs.declared.path.Parts.{Parts}
 use Rattle.ft_path.specs.declared.errno.Errno.{Errno}
 use Rattle.ft_path.specs.declared.errno.Errno.TheVariants.{ENOENT, ENOTDIR, EEXIST, EISDIR, ENOTEMPTY, EINVAL, EPERM, EBUSY, EMLINK}
 use Rattle.ft_cells.specs.declared.entry.Entry.{Entry as DirEntry}
+use Rattle.ft_cells.specs.declared.limits.TreeLimits.{TreeLimits}
 use Rattle.ft_cells.specs.declared.cell.Cell.TheVariants.{Entry, Names, Parent, Links}
 use Rattle.ft_cells.specs.declared.node.Node.{Node}
 use Rattle.ft_cells.specs.declared.node.Node.TheVariants.{Dir as DirNode, File as FileNode}
 use Rattle.ft_cells.specs.Looks.{Looks, Answer, Look, then}
 use Rattle.ft_tree.specs.Walk.{Spot, Named, Itself}
-use Rattle.ft_posix.specs.declared.TheConstants.{MOST_LINKS}
 use Rattle.ft_posix.specs.declared.call.Reply.TheVariants.{Done}
 use Rattle.ft_posix.specs.Outcomes.{Write, sets, Outcome, failed, told, from_parts, unless}
 
@@ -23,31 +23,31 @@ use Rattle.ft_posix.specs.Outcomes.{Write, sets, Outcome, failed, told, from_par
 abbrev pub linked : ℕ → DirEntry → ℕ → Outcome
 linked file new links = record { reply = Done; writes = sets (Entry new) (Some (FileNode file)) ∷ sets (Links file) (suc links) ∷ [] }
 
--- a file with 1,000 links has no room for another: EMLINK ({LINK_MAX})
-abbrev pub link_at : ℕ → DirEntry → ℕ → Outcome
-link_at file new links = cond (nat_lt links MOST_LINKS) (linked file new links) (failed EMLINK)
+-- a file with as many links as the tree allows has no room for another: EMLINK ({LINK_MAX})
+abbrev pub link_at : TreeLimits → ℕ → DirEntry → ℕ → Outcome
+link_at limits file new links = cond (nat_lt links limits.links) (linked file new links) (failed EMLINK)
 
 -- where the walk of the new path ended: what is there is EEXIST, and a missing name with a slash
 -- behind it ENOENT. A file with a slash behind its name was ENOTDIR in the walk, where Linux
 -- answers EEXIST.
-abbrev pub link_new : ℕ → Bool → Spot → Looks Outcome
-link_new file trailing (Named new None) = cond trailing (Answer (failed ENOENT)) (Look (Links file) (λ links. Answer (link_at file new links)))
-link_new file trailing (Named new (Some x)) = Answer (failed EEXIST)
-link_new file trailing (Itself dir) = Answer (failed EEXIST)
+abbrev pub link_new : TreeLimits → ℕ → Bool → Spot → Looks Outcome
+link_new limits file trailing (Named new None) = cond trailing (Answer (failed ENOENT)) (Look (Links file) (λ links. Answer (link_at limits file new links)))
+link_new limits file trailing (Named new (Some x)) = Answer (failed EEXIST)
+link_new limits file trailing (Itself dir) = Answer (failed EEXIST)
 
 -- where the walk of the old path ended: a missing name is ENOENT, and a directory EPERM
-abbrev pub link_old : Parts → Spot → Looks Outcome
-link_old new (Named old None) = Answer (failed ENOENT)
-link_old new (Named old (Some (DirNode file))) = Answer (failed EPERM)
-link_old new (Named old (Some (FileNode file))) = from_parts (Ok new) (link_new file new.trailing)
-link_old new (Itself dir) = Answer (failed EPERM)
+abbrev pub link_old : TreeLimits → Parts → Spot → Looks Outcome
+link_old limits new (Named old None) = Answer (failed ENOENT)
+link_old limits new (Named old (Some (DirNode file))) = Answer (failed EPERM)
+link_old limits new (Named old (Some (FileNode file))) = from_parts (Ok new) (link_new limits file new.trailing)
+link_old limits new (Itself dir) = Answer (failed EPERM)
 
 -- link from the parts of its paths on: the fault of the text of old, that of new, the walk of
 -- old, and the walk of new
-abbrev pub link_parts : Result Parts Errno → Result Parts Errno → Looks Outcome
-link_parts (Err e) new = Answer (failed e)
-link_parts (Ok old) (Err e) = Answer (failed e)
-link_parts (Ok old) (Ok new) = from_parts (Ok old) (link_old new)
+abbrev pub link_parts : TreeLimits → Result Parts Errno → Result Parts Errno → Looks Outcome
+link_parts limits (Err e) new = Answer (failed e)
+link_parts limits (Ok old) (Err e) = Answer (failed e)
+link_parts limits (Ok old) (Ok new) = from_parts (Ok old) (link_old limits new)
 
 -- unlink (POSIX.1-2017, System Interfaces, unlink)
 

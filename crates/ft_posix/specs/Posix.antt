@@ -5,12 +5,15 @@
 use Rattle.std.specs.Prelude.{ℕ, Bool, false, ◌==◌, map, Option, Some, None}
 use Rattle.ft_laws.specs.Calls.{Calls}
 use Rattle.ft_laws.specs.Effects.{Access as PlaceAccess, Effect, Effects, calls_of}
+use Rattle.ft_laws.specs.Settled.{settled}
 use Rattle.ft_cells.specs.declared.cell.Cell.{Cell}
 use Rattle.ft_cells.specs.declared.cell.Cell.TheVariants.{Entry, Names, Parent, Links, Bytes, Fd}
 use Rattle.ft_cells.specs.declared.node.Node.{Node}
 use Rattle.ft_cells.specs.declared.node.Node.TheVariants.{Dir as DirNode, File as FileNode}
 use Rattle.ft_cells.specs.declared.open_file.OpenFile.{OpenFile}
 use Rattle.ft_cells.specs.CellOrder.{same_cell, overlap}
+use Rattle.ft_cells.specs.declared.limits.TreeLimits.{TreeLimits}
+use Rattle.ft_cells.specs.Limits.{default_limits}
 use Rattle.ft_cells.specs.Cells.{Cells}
 use Rattle.ft_tree.specs.Held.{Holds, held, blank, set_cell}
 use Rattle.ft_tree.specs.Sound.{AreSoundCells, IsFree, SameValues}
@@ -106,6 +109,10 @@ posix = record {
   own = λ a. a.stamp;
 }
 
--- the calls that these effects make
+-- what a tree allows, which no call changes
+abbrev pub limits_of : Cells → TreeLimits
+limits_of cells = cells.limits
+
+-- the calls that these effects make; each depends on what its tree allows, as on a cell
 abbrev pub posix_calls : Calls
-posix_calls = calls_of posix
+posix_calls = settled (calls_of posix) TreeLimits limits_of default_limits

@@ -23,7 +23,7 @@ use Rattle.ft_posix.specs.Steps.{steps}
 
 -- the accesses of the call with this stamp on a plain tree
 abbrev pub accesses_in : PlainTree → ℕ → Call → List Access
-accesses_in p stamp call = listed (with_accesses finite.empty (steps (finite.len p.dirs) stamp call) (view_in p))
+accesses_in p stamp call = listed (with_accesses finite.empty (steps p.limits (finite.len p.dirs) stamp call) (view_in p))
 
 -- they are those on the sound cells that the tree is
 abbrev pub PlainAccessesLaw : Type 0

@@ -19,7 +19,7 @@ put_all cells (w ∷ ws) = put_all (put cells w) ws
 
 -- what the call with this stamp comes to
 abbrev pub outcome : Cells → ℕ → Call → Outcome
-outcome cells stamp call = answer (steps (stored_dirs cells) stamp call) (view_of cells)
+outcome cells stamp call = answer (steps cells.limits (stored_dirs cells) stamp call) (view_of cells)
 
 -- the cells after it
 abbrev pub after : Cells → ℕ → Call → Cells

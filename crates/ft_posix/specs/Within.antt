@@ -1,16 +1,16 @@
--- Edits that keep files within their limit.
+-- Edits that keep files within what a file can have.
 use Rattle.std.specs.Prelude.{◌≤◌, List, [], ◌∷◌}
-use Rattle.ft_body.specs.declared.TheConstants.{SIZE_LIMIT}
+use Rattle.ft_body.specs.declared.TheConstants.{LARGEST_SIZE}
 use Rattle.ft_posix.specs.declared.intent.Edit.{Edit}
 use Rattle.ft_posix.specs.declared.intent.Edit.TheVariants.{Entry, Parent, Links, Overwrite, Resize, Open}
 
--- bytes and sizes that are edited are within the limit
+-- bytes and sizes that are edited are within it
 abbrev pub IsWithin : Edit → Type 0
 IsWithin (Entry entry to) = Unit {0}
 IsWithin (Parent d to) = Unit {0}
 IsWithin (Links i to) = Unit {0}
-IsWithin (Overwrite i at bytes) = at ≤ SIZE_LIMIT
-IsWithin (Resize i size) = size ≤ SIZE_LIMIT
+IsWithin (Overwrite i at bytes) = at ≤ LARGEST_SIZE
+IsWithin (Resize i size) = size ≤ LARGEST_SIZE
 IsWithin (Open f to) = Unit {0}
 
 -- those of all edits are

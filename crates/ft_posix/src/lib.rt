@@ -19,8 +19,5 @@ pub use call::{Access, Call, Mode, OpenFlags, Reply, Whence};
 pub use intent::{Edit, Edits, Intent, Stop, Told};
 pub use stamped::StampedCall;
 
-/// The largest count of a file's links.
-pub const MOST_LINKS: u64 = 1_000;
-
 /// The largest offset of a description: 2^63 - 1.
 pub const LAST_OFFSET: u64 = 9_223_372_036_854_775_807;

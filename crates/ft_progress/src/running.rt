@@ -25,6 +25,7 @@ pub fn run_shown<M: Manager, R: Threads + Wait + Clock + Sync, S: Write + Send +
 ) -> Result<JobsOutcome, JobFault>
     requires { 1 ≤ turns }
     ensures ok { IfOk result (λ outcome. AreReports outcome.core.state plan.now outcome.reports.items) }
+    ensures core { IfOk result (λ outcome. M.hands_back outcome.core.state) }
     ensures cause { IfErr result (λ fault. fault ≢ JobFault.BadPlan) }
 {
     match (screen, Watch::new(alloc, plan.jobs())) {
@@ -45,6 +46,7 @@ fn run_watched<M: Manager, R: Threads + Wait + Clock + Sync, S: Write + Send + D
 ) -> Result<JobsOutcome, JobFault>
     requires { 1 ≤ turns }
     ensures ok { IfOk result (λ outcome. AreReports outcome.core.state plan.now outcome.reports.items) }
+    ensures core { IfOk result (λ outcome. M.hands_back outcome.core.state) }
     ensures cause { IfErr result (λ fault. fault ≢ JobFault.BadPlan) }
 {
     let run = report_watched(rt, alloc, plan, &manager, turns, watch, screen);

@@ -6,8 +6,8 @@ use anyhow::{Result, bail};
 use ft_calls::Reply;
 use ft_jobs::{Gate, JobFault, JobsOutcome, Plan, Report, report_jobs};
 use ft_path::FilePath;
-use ft_shared::{Opened, Shared};
-use ft_view::{Naming, Reader};
+use ft_shared::{Opened, Shared, Sharing, ViewsOf};
+use ft_view::Reader;
 use std::alloc::Global;
 use std::sync::Wait;
 use std::thread::{self, Threads};
@@ -25,11 +25,11 @@ pub struct Seen {
 
 /// A gate that publishes what has committed whenever a job has ended.
 #[derive(Drop)]
-struct Publishing<'a, J: Naming> {
+struct Publishing<'a, J: Sharing> {
     shared: &'a Shared<J>,
 }
 
-impl<'a, J: Naming + Sync> Gate for Publishing<'a, J> {
+impl<'a, J: Sharing + Sync> Gate for Publishing<'a, J> {
     fn pass<R: Wait + Clock>(&self, _rt: &R, _job: u64, _step: u64) {}
 
     fn ended<R: Wait + Clock>(&self, rt: &R, _job: u64) {
@@ -40,13 +40,13 @@ impl<'a, J: Naming + Sync> Gate for Publishing<'a, J> {
 
 /// Runs the jobs of a plan, and beside them a thread that reads what they have published. Answers
 /// how many jobs have ended, and what was read last.
-pub fn read_beside<J: Naming + Send + Sync, R: Threads + Wait + Clock + Sync>(
+pub fn read_beside<J: Sharing + Send + Sync, R: Threads + Wait + Clock + Sync>(
     rt: &R,
     alloc: Global,
     plan: &Plan,
     opened: Opened,
 ) -> Result<(usize, Seen)>
-    requires { named_by opened ≡ J.opened }
+    requires { named_by opened ≡ J.origin }
 {
     let Ok((shared, reader)) = opened.named::<J, R>(rt) else {
         bail!("the views have no name");
@@ -58,12 +58,12 @@ pub fn read_beside<J: Naming + Send + Sync, R: Threads + Wait + Clock + Sync>(
 }
 
 /// Both at once.
-fn side_by_side<J: Naming + Send + Sync, R: Threads + Wait + Clock + Sync>(
+fn side_by_side<J: Sharing + Send + Sync, R: Threads + Wait + Clock + Sync>(
     rt: &R,
     alloc: Global,
     plan: &Plan,
     shared: &Shared<J>,
-    reader: Reader<J>,
+    reader: Reader<ViewsOf<J>>,
 ) -> (Result<Vec<Report>, JobFault>, Result<Seen>) {
     thread::join(
         rt,
@@ -73,10 +73,10 @@ fn side_by_side<J: Naming + Send + Sync, R: Threads + Wait + Clock + Sync>(
 }
 
 /// Lists the root again and again, until so many names are there.
-fn look<J: Naming, R: Wait + Clock>(
+fn look<J: Sharing, R: Wait + Clock>(
     rt: &R,
     alloc: Global,
-    mut reader: Reader<J>,
+    mut reader: Reader<ViewsOf<J>>,
     wanted: u64,
 ) -> Result<Seen> {
     let root = FilePath::new(alloc, b"/".as_slice())?;
@@ -91,7 +91,7 @@ fn look<J: Naming, R: Wait + Clock>(
 }
 
 /// What the reader sees now.
-fn list<J: Naming>(reader: &mut Reader<J>, path: &FilePath) -> Result<Seen> {
+fn list<J: Sharing>(reader: &mut Reader<ViewsOf<J>>, path: &FilePath) -> Result<Seen> {
     let (calls, Reply::Names(names)) = reader.list(path)? else {
         bail!("there is no such directory");
     };

@@ -1,3 +1,4 @@
 pub mod Recording
 pub mod Recent
 pub mod Recorded
+pub mod Going

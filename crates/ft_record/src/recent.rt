@@ -1,5 +1,5 @@
 // A core that keeps what has happened since it last forgot.
-ghost use Rattle.std.specs.Prelude.{◌≡◌, drop, length, OnOk, OnErr, MatchBool};
+ghost use Rattle.std.specs.Prelude.{◌≡◌, Ok, drop, length, OnOk, OnErr, MatchBool};
 ghost use Rattle.ft_tree.specs.Sweep.{places_in};
 ghost use Rattle.std.specs.Prelude.{◌<◌, ◌+◌, ◌-◌, ◌^◌, ℕ};
 ghost use Rattle.ft_core.specs.declared.request.Request.TheVariants.{Begin, Sub, Ask, Retry, Drop as DropAsk, Commit, Abort, Undo, Checkpoint};
@@ -225,7 +225,7 @@ impl Recent {
         ensures forgotten { self.new.forgotten ≡ self.old.forgotten }
 
         // If it ran alone, the tree is that of its begin.
-        ensures alone { (before : StateOf) → RanAlone before self.old.core.state txn → (answer_with Aborted result ≡ Aborted (count_standing self.old.core.state txn)) × (tree_of self.new.core.state ≡ tree_of before) }
+        ensures alone { (before : StateOf) → RanAlone before self.old.core.state txn → (result ≡ Ok (count_standing self.old.core.state txn)) × (tree_of self.new.core.state ≡ tree_of before) }
     {
         let count = self.core.abort(txn)?;
         self.past.tell(Event::Abort { txn });
@@ -239,7 +239,7 @@ impl Recent {
         ensures forgotten { self.new.forgotten ≡ self.old.forgotten }
 
         // The call just made is undone, and the tree is the one before it.
-        ensures just_made { (before : StateOf) (k : ℕ) → IsJustMade before self.old.core.state txn k → (answer_with Undone result ≡ Undone k) × (tree_of self.new.core.state ≡ tree_of before) }
+        ensures just_made { (before : StateOf) (k : ℕ) → IsJustMade before self.old.core.state txn k → (result ≡ Ok k) × (tree_of self.new.core.state ≡ tree_of before) }
     {
         let stamp = self.core.undo_call(txn)?;
         self.past.tell(Event::Undo { stamp });

@@ -1,5 +1,5 @@
 // A core that keeps what has happened.
-ghost use Rattle.std.specs.Prelude.{◌≡◌, ◌<◌, ◌≤◌, ◌+◌, ◌-◌, ◌^◌, ℕ, MatchBool, OnOk, OnErr, IfOk};
+ghost use Rattle.std.specs.Prelude.{◌≡◌, ◌<◌, ◌≤◌, ◌+◌, ◌-◌, ◌^◌, ℕ, Ok, MatchBool, OnOk, OnErr, IfOk};
 ghost use Rattle.ft_tree.specs.Tidy.{tidy};
 ghost use Rattle.ft_tree.specs.Sound.{IsSoundTree, AreSoundCells};
 ghost use Rattle.ft_tree.specs.Sweep.{places_in};
@@ -108,10 +108,10 @@ impl Recorded {
     }
 
     /// What has become of a transaction, where there is one of this number since the base.
-    pub fn state(&self, txn: TxnId) -> Option<State>
+    pub fn fate(&self, txn: TxnId) -> Option<State>
         ensures { fate_in result ≡ fate_of self.now.state txn }
     {
-        self.core().state(txn)
+        self.core().fate(txn)
     }
 
     /// The parent of a subtransaction; none of a top-level one, nor where there is no transaction
@@ -185,7 +185,7 @@ impl Recorded {
         ensures step { IsStep exact_rule self.old.state (Abort txn) (answer_with Aborted result) self.new.state }
 
         // If it ran alone, the tree is that of its begin.
-        ensures alone { (before : StateOf) → RanAlone before self.old.state txn → (answer_with Aborted result ≡ Aborted (count_standing self.old.state txn)) × (tree_of self.new.state ≡ tree_of before) }
+        ensures alone { (before : StateOf) → RanAlone before self.old.state txn → (result ≡ Ok (count_standing self.old.state txn)) × (tree_of self.new.state ≡ tree_of before) }
     {
         self.recent.abort(txn)
     }
@@ -195,7 +195,7 @@ impl Recorded {
         ensures step { IsStep exact_rule self.old.state (Undo txn) (answer_with Undone result) self.new.state }
 
         // The call just made is undone, and the tree is the one before it.
-        ensures just_made { (before : StateOf) (k : ℕ) → IsJustMade before self.old.state txn k → (answer_with Undone result ≡ Undone k) × (tree_of self.new.state ≡ tree_of before) }
+        ensures just_made { (before : StateOf) (k : ℕ) → IsJustMade before self.old.state txn k → (result ≡ Ok k) × (tree_of self.new.state ≡ tree_of before) }
     {
         self.recent.undo_call(txn)
     }

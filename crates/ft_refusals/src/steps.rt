@@ -7,8 +7,8 @@ use ft_calls::{Call, Reply};
 use ft_core::Fault;
 use ft_path::FilePath;
 use ft_record::Recent;
-use ft_shared::{Opened, Shared};
-use ft_view::{Naming, Reader};
+use ft_shared::{Opened, Shared, Sharing, ViewsOf};
+use ft_view::Reader;
 use std::alloc::Global;
 use std::io::Print;
 use std::sync::Wait;
@@ -18,12 +18,12 @@ const DIRECTORIES: u64 = 40;
 
 /// Makes directories and publishes each, and says after each how many calls are published, and how
 /// many names a reader sees then.
-pub fn publish_each<J: Naming, R: Wait + Print>(
+pub fn publish_each<J: Sharing, R: Wait + Print>(
     rt: &R,
     alloc: Global,
     opened: Opened<Recent>,
 ) -> Result<()>
-    requires { named_by opened ≡ J.opened }
+    requires { named_by opened ≡ J.origin }
 {
     let Ok((shared, reader)) = opened.named::<J, R>(rt) else {
         bail!("the views have no name");
@@ -33,11 +33,11 @@ pub fn publish_each<J: Naming, R: Wait + Print>(
     told
 }
 
-fn through<J: Naming, R: Wait + Print>(
+fn through<J: Sharing, R: Wait + Print>(
     rt: &R,
     alloc: Global,
     shared: &Shared<J, Recent>,
-    mut reader: Reader<J>,
+    mut reader: Reader<ViewsOf<J>>,
 ) -> Result<()> {
     let root = FilePath::new(alloc, b"/".as_slice())?;
     for number in 0..DIRECTORIES {
@@ -50,7 +50,7 @@ fn through<J: Naming, R: Wait + Print>(
 }
 
 /// Makes a directory, and where that is refused once more.
-fn make_at_last<J: Naming, R: Wait + Print>(
+fn make_at_last<J: Sharing, R: Wait + Print>(
     rt: &R,
     alloc: Global,
     shared: &Shared<J, Recent>,
@@ -64,7 +64,7 @@ fn make_at_last<J: Naming, R: Wait + Print>(
 }
 
 /// Makes a directory in a transaction of its own, which is aborted where that is refused.
-fn make<J: Naming, R: Wait>(
+fn make<J: Sharing, R: Wait>(
     rt: &R,
     alloc: Global,
     shared: &Shared<J, Recent>,
@@ -88,10 +88,10 @@ fn make<J: Naming, R: Wait>(
 
 /// Publishes what has committed, and where that is refused tells what a reader sees then, and
 /// publishes once more. Answers how many calls are published.
-fn publish_at_last<J: Naming, R: Wait + Print>(
+fn publish_at_last<J: Sharing, R: Wait + Print>(
     rt: &R,
     shared: &Shared<J, Recent>,
-    reader: &mut Reader<J>,
+    reader: &mut Reader<ViewsOf<J>>,
     root: &FilePath,
 ) -> Result<u64> {
     match shared.publish(rt) {
@@ -106,9 +106,9 @@ fn publish_at_last<J: Naming, R: Wait + Print>(
 }
 
 /// How many names a reader sees, where it is not refused twice.
-fn count_at_last<J: Naming, R: Print>(
+fn count_at_last<J: Sharing, R: Print>(
     rt: &R,
-    reader: &mut Reader<J>,
+    reader: &mut Reader<ViewsOf<J>>,
     root: &FilePath,
 ) -> Result<usize> {
     match count(reader, root) {
@@ -121,7 +121,7 @@ fn count_at_last<J: Naming, R: Print>(
 }
 
 /// How many names a reader sees in the root.
-fn count<J: Naming>(reader: &mut Reader<J>, root: &FilePath) -> Result<usize> {
+fn count<J: Sharing>(reader: &mut Reader<ViewsOf<J>>, root: &FilePath) -> Result<usize> {
     let (_, Reply::Names(names)) = reader.list(root)? else {
         bail!("the root is no directory");
     };

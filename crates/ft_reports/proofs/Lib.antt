@@ -1,3 +1,4 @@
+pub mod Accounts
 pub mod Deciding
 pub mod Same
 pub mod Told

@@ -1,10 +1,11 @@
 -- How the events of a history are read, oldest first. No public clause cites it.
 use Rattle.std.specs.Prelude.{◌==◌, ◌||◌, not, ℕ, Bool, true, cond, List, [], ◌∷◌, Option, None, Some}
+use Rattle.std.specs.List.{list_any}
 use Rattle.ft_core.specs.declared.request.Event.{Event}
 use Rattle.ft_core.specs.declared.request.Event.TheVariants.{Begin, Call as CallEvent, Undo, Commit, Abort}
 use Rattle.ft_reports.specs.declared.report.CallReport.{CallReport}
 use Rattle.ft_reports.specs.declared.report.Report.{Report}
-use Rattle.ft_reports.specs.Reports.{is_from_least_on, is_reported}
+use Rattle.ft_reports.specs.Reports.{is_amid, is_reported}
 
 -- what t was granted by the event, if it is a call of t
 abbrev pub granted_by : ℕ → Event → Option CallReport
@@ -27,10 +28,18 @@ abbrev pub parent_behind : ℕ → Option ℕ → List Event → Option ℕ
 parent_behind t before [] = before
 parent_behind t before (e ∷ events) = parent_behind t (parent_after t before e) events
 
--- the event is no call of a transaction from the least reported one on that no report has
+-- the report has a call with this stamp
+abbrev pub has_stamp : ℕ → Report → Bool
+has_stamp k r = list_any (λ (c : CallReport). c.stamp == k) r.calls
+
+-- a report has one
+abbrev pub is_stamp_reported : List Report → ℕ → Bool
+is_stamp_reported reports k = list_any (has_stamp k) reports
+
+-- The event is no call amid the jobs but one of theirs, and takes back no call that is reported.
 abbrev pub is_accounted : List Report → Event → Bool
-is_accounted reports (CallEvent stamp asker call reply accesses) = not (is_from_least_on reports asker) || is_reported reports asker
+is_accounted reports (CallEvent stamp asker call reply accesses) = not (is_amid reports asker stamp) || is_reported reports asker
 is_accounted reports (Begin u p) = true
-is_accounted reports (Undo stamp) = true
+is_accounted reports (Undo stamp) = not (is_stamp_reported reports stamp)
 is_accounted reports (Commit u) = true
 is_accounted reports (Abort u) = true

@@ -1,13 +1,13 @@
 -- The reports of jobs are what happened. (The rules for jobs are this project's own:
 -- docs/SCRIPT.md, Plans. Transactions, their parents and what becomes of them are Moss's, as
 -- ft_history defines them.)
-use Rattle.std.specs.Prelude.{◌≡◌, ◌==◌, ◌&&◌, not, ℕ, Bool, true, false, cond, nat_le, nat_lt, List, [], ◌∷◌, length, Option, None, Some, IsSome, IfSome, MatchOption, option_and_then, map, All}
+use Rattle.std.specs.Prelude.{◌≡◌, ◌==◌, ◌&&◌, ◌||◌, not, ℕ, Bool, true, false, cond, nat_le, nat_lt, List, [], ◌∷◌, length, Option, None, Some, IsSome, IfSome, MatchOption, option_and_then, map, All}
 use Rattle.std.specs.List.{list_any, position, slice_get}
 use Rattle.std.specs.Option.{option_map_or}
 use Rattle.std.specs.Str.{bytes_eq}
 use Rattle.ft_laws.specs.Lists.{In}
 use Rattle.ft_posix.specs.Posix.{posix_calls}
-use Rattle.ft_history.specs.History.{Fate, parent, grants}
+use Rattle.ft_history.specs.History.{Fate, parent, grants, is_undone}
 use Rattle.ft_history.specs.History.Fate.{Committed as WasCommitted, Aborted as WasAborted}
 use Rattle.ft_history.specs.Logs.{passing}
 use Rattle.ft_core.specs.Histories.{History, Granted}
@@ -51,6 +51,19 @@ is_reported reports t = list_any (has_txn t) reports
 -- t is not below the least transaction of a report: some report has one up to t
 abbrev pub is_from_least_on : List Report → ℕ → Bool
 is_from_least_on reports t = list_any (has_txn_up_to t) reports
+
+-- the report has a call, and its first has a stamp up to k
+abbrev pub has_first_up_to : ℕ → Report → Bool
+has_first_up_to k r = option_map_or (λ (c : CallReport). nat_le c.stamp k) (slice_get r.calls 0) false
+
+-- k is not below the least stamp of a report: the first call of some report has one up to k
+abbrev pub is_from_first_on : List Report → ℕ → Bool
+is_from_first_on reports k = list_any (has_first_up_to k) reports
+
+-- A call of t with the stamp k is not before the jobs: t is not before their transactions, or k
+-- not before their calls.
+abbrev pub is_amid : List Report → ℕ → ℕ → Bool
+is_amid reports t k = is_from_least_on reports t || is_from_first_on reports k
 
 -- No transaction is that of two reports.
 abbrev pub have_own_txns : List Report → Bool
@@ -114,6 +127,12 @@ has_left_subjobs r = may_leave_subjobs r.end
 abbrev pub may_be_unstarted : List Job → List Report → Job → Bool
 may_be_unstarted jobs reports job = option_map_or has_left_subjobs (option_and_then (report_of jobs reports) job.parent) false
 
+-- ---- undone calls
+
+-- No call of the report is undone.
+abbrev pub AreKept : History → Report → Type 0
+AreKept h r = All (λ (c : CallReport). is_undone posix_calls h c.stamp ≡ false) r.calls
+
 -- ---- all together
 
 -- The report has the calls that its transaction t was granted, stamp, call and reply, in order; t
@@ -155,5 +174,7 @@ pub record AreReports (s : State) (jobs : List Job) (reports : List Report) : Ty
   pub each : (at : ℕ) → IsReportAt (history s) jobs reports at
   pub fates : All (HasItsFate s) reports
   pub distinct : have_own_txns reports ≡ true
-  -- From the least of their transactions on, each call of the history is of one of them.
-  pub all : (c : Granted) → In c (grants posix_calls (history s)) → is_from_least_on reports c.asker ≡ true → is_reported reports c.asker ≡ true
+  -- From the least of their transactions and the first of their calls on, each call of the
+  -- history is of one of them.
+  pub all : (c : Granted) → In c (grants posix_calls (history s)) → is_amid reports c.asker c.call.stamp ≡ true → is_reported reports c.asker ≡ true
+  pub kept : All (AreKept (history s)) reports

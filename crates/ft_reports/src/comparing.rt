@@ -2,8 +2,8 @@
 ghost use Rattle.std.specs.Prelude.{◌≡◌, ◌↔◌, true, ℕ, All, MatchOption, IfOk, IsTrue, option_copied};
 ghost use Rattle.std.specs.List.{list_all};
 ghost use Rattle.ft_core.specs.Histories.{told};
-ghost use Rattle.ft_reports.specs.Reports.{has_txn, has_txn_up_to, is_reported, is_from_least_on, have_own_txns, report_of, txn_of, IsNested, IsOfTxn, MayLackTxn, ends_committed, may_lack_txn, may_leave_subjobs, may_be_unstarted, IsReportAt, HasItsFate, AreReports};
-ghost use Rattle.ft_reports.specs.Reading.{is_accounted};
+ghost use Rattle.ft_reports.specs.Reports.{has_txn, has_txn_up_to, has_first_up_to, is_reported, is_from_least_on, is_from_first_on, is_amid, have_own_txns, report_of, txn_of, IsNested, IsOfTxn, MayLackTxn, ends_committed, may_lack_txn, may_leave_subjobs, may_be_unstarted, IsReportAt, HasItsFate, AreReports};
+ghost use Rattle.ft_reports.specs.Reading.{has_stamp, is_stamp_reported, is_accounted};
 
 use crate::history::{are_calls_of, do_stamps_rise, has_ended, parent_of};
 use crate::places::place_of;
@@ -232,19 +232,64 @@ fn has_txn_up_to(txn: TxnId, report: &Report) -> bool
     }
 }
 
-// Whether each call of a transaction from the least reported one on is of one that is reported.
+// Whether a stamp is not below the least that is reported.
+fn is_from_first_on(reports: &[Report], stamp: u64) -> bool
+    ensures { result ≡ is_from_first_on reports.now stamp }
+{
+    reports.iter().any(|report| has_first_up_to(stamp, report))
+}
+
+// Whether the report has a call, and its first has a stamp up to this one.
+fn has_first_up_to(stamp: u64, report: &Report) -> bool
+    ensures { result ≡ has_first_up_to stamp report.now }
+{
+    match report.calls.as_slice().first() {
+        None => false,
+        Some(call) => call.stamp <= stamp,
+    }
+}
+
+// Whether a call of this transaction with this stamp is not before the jobs.
+fn is_amid(reports: &[Report], txn: TxnId, stamp: u64) -> bool
+    ensures { result ≡ is_amid reports.now txn stamp }
+{
+    is_from_least_on(reports, txn) || is_from_first_on(reports, stamp)
+}
+
+// Whether a report has a call with this stamp.
+fn is_stamp_reported(reports: &[Report], stamp: u64) -> bool
+    ensures { result ≡ is_stamp_reported reports.now stamp }
+{
+    reports.iter().any(|report| has_stamp(stamp, report))
+}
+
+// Whether this report has one.
+fn has_stamp(stamp: u64, report: &Report) -> bool
+    ensures { result ≡ has_stamp stamp report.now }
+{
+    report
+        .calls
+        .as_slice()
+        .iter()
+        .any(|call| call.stamp == stamp)
+}
+
+// Whether each call amid the jobs is one of theirs, and none of theirs is undone.
 fn are_accounted(events: &[Event], reports: &[Report]) -> bool
     ensures { result ≡ list_all (is_accounted reports.now) events.now }
 {
     events.iter().all(|event| is_accounted(reports, event))
 }
 
-// The same of one event.
+// Whether the event is no call amid the jobs but one of theirs, and takes back none of theirs.
 fn is_accounted(reports: &[Report], event: &Event) -> bool
     ensures { result ≡ is_accounted reports.now event.now }
 {
     match event {
-        Event::Call { txn, .. } => !is_from_least_on(reports, *txn) || is_reported(reports, *txn),
+        Event::Call { stamp, txn, .. } => {
+            !is_amid(reports, *txn, *stamp) || is_reported(reports, *txn)
+        }
+        Event::Undo { stamp } => !is_stamp_reported(reports, *stamp),
         _ => true,
     }
 }

@@ -96,7 +96,7 @@ fn parent_after(event: &Event, txn: TxnId, before: Option<TxnId>) -> Option<TxnI
 pub fn has_ended(core: &Recorded, txn: TxnId, committed: bool) -> bool
     ensures { IsTrue result ↔ (fate_of core.now.state txn ≡ Some (cond committed WasCommitted WasAborted)) }
 {
-    match core.state(txn) {
+    match core.fate(txn) {
         Some(State::Committed) => committed,
         Some(State::Aborted) => !committed,
         Some(State::Live) | None => false,

@@ -2,7 +2,7 @@
 //! standard input to standard output; `ft_run dot` draws the last report on who waits for whom
 //! among the replies that such a run wrote; `ft_run jobs FILE` runs the jobs of a plan in threads,
 //! and prints what they came to; `ft_run load DIR` writes a script that makes what a directory
-//! holds, and `ft_run save DIR` makes a directory of the last tree among replies.
+//! holds, and `ft_run save DIR` makes a directory of the tree with which replies end.
 //!
 //! It ends with status 0, also after a help text, with 1 after a fault, of which a line
 //! `fault: NAME` tells on standard error, and with 2 where the command line asks for nothing that
@@ -126,17 +126,18 @@ fn misused(rt: &HostRuntime, text: String) -> u8 {
 fn load_dir(rt: &HostRuntime, dir: &str, skip: bool, quiet: bool) -> u8 {
     let source = DiskSource { rt, dir, skip };
     let screen = screen(rt, quiet || rt.stdout().is_terminal());
-    load_status(
+    let (_, status) = load_status(
         rt,
         rt.alloc(),
         &source,
         screen,
         rt.stdout(),
         &mut rt.stderr(),
-    )
+    );
+    status
 }
 
-// Makes a directory of the last tree on standard input.
+// Makes a directory of the tree with which standard input ends.
 fn save_dir(rt: &HostRuntime, dir: &str, quiet: bool) -> u8 {
     let alloc = rt.alloc();
     let mut target = ShownTarget::new(rt, alloc, DiskTarget::new(rt, dir), screen(rt, quiet));

@@ -1,17 +1,16 @@
 -- What an index has after a row was added.
-use Rattle.std.proofs.Common.{◌≡◌, ℕ, Bool, true, false, cond, List, [], ◌∷◌, ◌++◌, map, Option, None, Some, is_some, refl, sym, ap, ◌∙◌, subst}
+use Rattle.std.proofs.Common.{◌≡◌, ℕ, Bool, true, false, cond, List, [], ◌∷◌, ◌++◌, map, Option, None, Some, is_some, refl, sym, ap, ◌∙◌}
 use Rattle.std.proofs.lemmas.Bool.{eqb-true}
 use Rattle.std.specs.Prelude.{◌==◌}
 use Rattle.std.specs.Option.{unwrap_or}
 use Rattle.std.specs.Ordering.{nat_cmp, eq_by_cmp}
 use Rattle.std.specs.Cmp.{nat_cmp_total, unsigned_ties, eq_by_cmp_equiv}
 use Rattle.std.specs.FinMap as finite
-use Rattle.ft_copy.specs.declared.found.Listed.{Listed}
 use Rattle.ft_save.specs.declared.index.Edge.{Edge as IndexEdge}
 use Rattle.ft_save.specs.declared.index.Index.{Index}
 use Rattle.ft_save.specs.declared.row.Row.{Row}
-use Rattle.ft_save.specs.declared.row.Row.TheVariants.{Folder, Edge, File, Descriptor}
-use Rattle.ft_save.specs.Trees.{Indexes, PutsName, edges_in, file_in, is_folder, listed, named_in, names_at}
+use Rattle.ft_save.specs.declared.row.Row.TheVariants.{Folder, Edge, File}
+use Rattle.ft_save.specs.Trees.{Indexes, PutsName, listed, named_in, names_at, own_in}
 
 turned : (k q : ℕ) → (k == q) ≡ eq_by_cmp nat_cmp q k
 turned k q = unsigned_ties k q ∙ (eq_by_cmp_equiv nat_cmp_total).symm k q
@@ -27,39 +26,45 @@ module _ {X : Type 0} where
 by_test : {A : Type 0} (b : Bool) (x y z : A) → y ≡ z → cond b x y ≡ cond b x z
 by_test b x y z h = ap (cond b x) h
 
-module _ (index : Index) (rows : List Row) (h : Indexes index rows) where
-  pub adds_folder : (node : ℕ) (new : Index) → new.folders ≡ finite.insert index.folders node true → new.files ≡ index.files → new.edges ≡ index.edges → new.named ≡ index.named → Indexes new (Folder node ∷ rows)
-  adds_folder node new folders files edges named = record {
-    folders = λ q. ap (λ m. finite.get m q) folders ∙ get-put index.folders node true q ∙ by_test (node == q) (Some true) _ _ (h.folders q) ∙ joined (node == q) (is_folder rows q);
-    files = λ q. ap (λ m. finite.get m q) files ∙ h.files q;
-    names = λ q. ap (λ m. map listed (unwrap_or (finite.get m q) [])) edges ∙ h.names q;
-    named = λ q. ap (λ m. finite.get m q) named ∙ h.named q;
-  }
-    where
-      joined : (a b : Bool) → cond a (Some true) (cond b (Some true) None) ≡ cond (cond a true b) (Some true) None
-      joined true b = refl
-      joined false b = refl
+-- a table of what is there, and whether more than once, where one is counted more
+counted : (table : finite.FinMap nat_cmp Bool) (told : ℕ → Option Bool) → ((q : ℕ) → finite.get table q ≡ told q) → (node q : ℕ)
+    → finite.get (finite.insert table node (finite.contains_key table node)) q ≡ cond (node == q) (Some (is_some (told q))) (told q)
+counted table told is node q = get-put table node (finite.contains_key table node) q ∙ once (node == q) refl
+  where
+    once : (b : Bool) → (node == q) ≡ b → cond b (Some (finite.contains_key table node)) (finite.get table q) ≡ cond b (Some (is_some (told q))) (told q)
+    once true same = ap (λ n. Some (finite.contains_key table n)) (eqb-true node q same) ∙ ap (λ o. Some (is_some o)) (is q)
+    once false same = is q
 
-  pub adds_file : (node : ℕ) (bytes : List ℕ) (new : Index) → new.files ≡ finite.insert index.files node bytes → new.folders ≡ index.folders → new.edges ≡ index.edges → new.named ≡ index.named → Indexes new (File node bytes ∷ rows)
-  adds_file node bytes new files folders edges named = record {
-    folders = λ q. ap (λ m. finite.get m q) folders ∙ h.folders q;
-    files = λ q. ap (λ m. finite.get m q) files ∙ get-put index.files node bytes q ∙ by_test (node == q) (Some bytes) _ _ (h.files q);
-    names = λ q. ap (λ m. map listed (unwrap_or (finite.get m q) [])) edges ∙ h.names q;
-    named = λ q. ap (λ m. finite.get m q) named ∙ h.named q;
+-- one row more is noted
+abbrev pub CountsRow : Index → ℕ → Index → Type 0
+CountsRow old node new = new ≡ record old { own = finite.insert old.own node (finite.contains_key old.own node) }
+
+module _ (index : Index) (rows : List Row) (h : Indexes index rows) where
+  pub adds_folder : (node : ℕ) (new : Index) → CountsRow index node new → Indexes new (Folder node ∷ rows)
+  adds_folder node new is = record {
+    own = λ q. ap (λ (i : Index). finite.get i.own q) is ∙ counted index.own (own_in rows) h.own node q;
+    files = λ q. ap (λ (i : Index). finite.get i.files q) is ∙ h.files q;
+    names = λ q. ap (λ (i : Index). names_at i q) is ∙ h.names q;
+    named = λ q. ap (λ (i : Index). finite.get i.named q) is ∙ h.named q;
+  }
+
+  pub adds_file : (node : ℕ) (bytes : List ℕ) (middle new : Index) → middle.files ≡ finite.insert index.files node bytes → middle.own ≡ index.own → middle.edges ≡ index.edges → middle.named ≡ index.named
+      → CountsRow middle node new → Indexes new (File node bytes ∷ rows)
+  adds_file node bytes middle new files own edges named is = record {
+    own = λ q. ap (λ (i : Index). finite.get i.own q) is ∙ counted middle.own (own_in rows) (λ k. ap (λ m. finite.get m k) own ∙ h.own k) node q;
+    files = λ q. ap (λ (i : Index). finite.get i.files q) is ∙ ap (λ m. finite.get m q) files ∙ get-put index.files node bytes q ∙ by_test (node == q) (Some bytes) _ _ (h.files q);
+    names = λ q. ap (λ (i : Index). names_at i q) is ∙ ap (λ m. map listed (unwrap_or (finite.get m q) [])) edges ∙ h.names q;
+    named = λ q. ap (λ (i : Index). finite.get i.named q) is ∙ ap (λ m. finite.get m q) named ∙ h.named q;
   }
 
   pub adds_edge : (folder node : ℕ) (name : List ℕ) (middle new : Index) → middle.named ≡ finite.insert index.named node (finite.contains_key index.named node)
-      → middle.folders ≡ index.folders → middle.files ≡ index.files → middle.edges ≡ index.edges → PutsName middle folder (record { name = name; node = node }) new → Indexes new (Edge folder name node ∷ rows)
-  adds_edge folder node name middle new named folders files edges puts = record {
-    folders = λ q. ap (λ m. finite.get m q) (puts.folders ∙ folders) ∙ h.folders q;
+      → middle.own ≡ index.own → middle.files ≡ index.files → middle.edges ≡ index.edges → PutsName middle folder (record { name = name; node = node }) new → Indexes new (Edge folder name node ∷ rows)
+  adds_edge folder node name middle new named own files edges puts = record {
+    own = λ q. ap (λ m. finite.get m q) (puts.own ∙ own) ∙ h.own q;
     files = λ q. ap (λ m. finite.get m q) (puts.files ∙ files) ∙ h.files q;
     names = λ q. puts.names q ∙ ap (λ l. cond (folder == q) (l ++ record { name = name; node = node } ∷ []) l) (ap (λ m. map listed (unwrap_or (finite.get m q) [])) edges ∙ h.names q);
-    named = λ q. ap (λ m. finite.get m q) (puts.named ∙ named) ∙ get-put index.named node _ q ∙ once q (node == q) refl;
+    named = λ q. ap (λ m. finite.get m q) (puts.named ∙ named) ∙ counted index.named (named_in rows) h.named node q;
   }
-    where
-      once : (q : ℕ) (b : Bool) → (node == q) ≡ b → cond b (Some (finite.contains_key index.named node)) (finite.get index.named q) ≡ cond b (Some (is_some (named_in rows q))) (named_in rows q)
-      once q true is = ap (λ n. Some (finite.contains_key index.named n)) (eqb-true node q is) ∙ ap (λ o. Some (is_some o)) (h.named q)
-      once q false is = h.named q
 
 mapped_more : (items : List IndexEdge) (edge : IndexEdge) → map listed (items ++ edge ∷ []) ≡ map listed items ++ listed edge ∷ []
 mapped_more [] edge = refl
@@ -67,10 +72,10 @@ mapped_more (item ∷ items) edge = ap (λ l. listed item ∷ l) (mapped_more it
 
 -- the names of a directory were taken out, and put back with one more
 pub puts : (old new : Index) (folder : ℕ) (edge : IndexEdge) (items : List IndexEdge) → items ≡ unwrap_or (finite.get old.edges folder) []
-    → new.edges ≡ finite.insert (finite.remove old.edges folder) folder (items ++ edge ∷ []) → new.folders ≡ old.folders → new.files ≡ old.files → new.named ≡ old.named → PutsName old folder edge new
-puts old new folder edge items taken edges folders files named = record {
+    → new.edges ≡ finite.insert (finite.remove old.edges folder) folder (items ++ edge ∷ []) → new.own ≡ old.own → new.files ≡ old.files → new.named ≡ old.named → PutsName old folder edge new
+puts old new folder edge items taken edges own files named = record {
   names = λ q. ap (λ m. map listed (unwrap_or (finite.get m q) [])) edges ∙ ap (λ o. map listed (unwrap_or o [])) (get-put (finite.remove old.edges folder) folder (items ++ edge ∷ []) q) ∙ here q (folder == q) refl;
-  folders = folders;
+  own = own;
   files = files;
   named = named;
 }
@@ -81,9 +86,9 @@ puts old new folder edge items taken edges folders files named = record {
     here q false is = ap (λ o. map listed (unwrap_or o [])) (get-gone old.edges folder q ∙ ap (λ b. cond b None (finite.get old.edges q)) is)
 
 -- where no rows were added
-pub adds_nothing : (index : Index) → index.folders ≡ finite.empty → index.files ≡ finite.empty → index.edges ≡ finite.empty → index.named ≡ finite.empty → Indexes index []
-adds_nothing index folders files edges named = record {
-  folders = λ q. ap (λ m. finite.get m q) folders ∙ finite.get-empty nat_cmp q;
+pub adds_nothing : (index : Index) → index.own ≡ finite.empty → index.files ≡ finite.empty → index.edges ≡ finite.empty → index.named ≡ finite.empty → Indexes index []
+adds_nothing index own files edges named = record {
+  own = λ q. ap (λ m. finite.get m q) own ∙ finite.get-empty nat_cmp q;
   files = λ q. ap (λ m. finite.get m q) files ∙ finite.get-empty nat_cmp q;
   names = λ q. ap (λ m. map listed (unwrap_or (finite.get m q) [])) edges ∙ ap (λ o. map listed (unwrap_or o [])) (finite.get-empty nat_cmp q);
   named = λ q. ap (λ m. finite.get m q) named ∙ finite.get-empty nat_cmp q;

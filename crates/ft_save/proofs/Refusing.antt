@@ -1,5 +1,5 @@
 -- Why the tree of a report cannot be told.
-use Rattle.std.proofs.Common.{◌≡◌, ◌⊎◌, ℕ, Bool, true, false, cond, List, [], ◌∷◌, ◌++◌, map, Option, None, Some, inl, inr, refl, sym, ap, ◌∙◌, subst}
+use Rattle.std.proofs.Common.{◌≡◌, ◌⊎◌, ℕ, List, [], ◌∷◌, ◌++◌, map, Some, inl, inr, sym, ap, ◌∙◌, subst}
 use Rattle.std.specs.Option.{unwrap_or}
 use Rattle.std.specs.FinMap as finite
 use Rattle.ft_path.specs.Name.{IsName}
@@ -10,7 +10,7 @@ use Rattle.ft_copy.specs.Told.{HasNoName}
 use Rattle.ft_save.specs.declared.index.Edge.{Edge as IndexEdge}
 use Rattle.ft_save.specs.declared.index.Index.{Index}
 use Rattle.ft_save.specs.declared.row.Row.{Row}
-use Rattle.ft_save.specs.Trees.{Indexes, IsRefused, edges_in, listed}
+use Rattle.ft_save.specs.Trees.{Indexes, IsRefused, listed}
 
 -- a name among these is none
 pub no_name : (all front : List Listed) (edge : IndexEdge) (more : List IndexEdge) (t other : Trouble) → all ≡ front ++ map listed (edge ∷ more) → t ≡ other

@@ -1,9 +1,11 @@
--- How a report of what the tree holds is read from the lines of replies, and which one is the last.
-use Rattle.std.specs.Prelude.{◌==◌, ℕ, zero, suc, List, [], ◌∷◌, codes, length, if◌then◌else◌, Option, None, Some, option_and_then, option_map}
+-- How the report of what the tree holds is read with which replies end.
+use Rattle.std.specs.Prelude.{◌==◌, ◌-◌, ℕ, Bool, false, zero, suc, List, [], ◌∷◌, codes, length, if◌then◌else◌, Option, None, Some, option_and_then, option_map}
+use Rattle.std.specs.List.{slice_get}
+use Rattle.std.specs.Option.{option_map_or}
 use Rattle.std.specs.Str.{bytes_eq}
 use Rattle.percent_encoding.specs.Percent.{percent_decode}
-use Rattle.ft_words.specs.Spelling.{words_of, number_of}
-use Rattle.ft_words.specs.Calls.{both, last_word, only, only_word, three}
+use Rattle.ft_words.specs.Spelling.{lines_of, words_of, number_of}
+use Rattle.ft_words.specs.Calls.{both, last_word, only, three}
 use Rattle.ft_dot.specs.Reading.{behind}
 use Rattle.ft_save.specs.declared.row.Row.{Row}
 use Rattle.ft_save.specs.declared.row.Row.TheVariants.{Folder, Edge, File, Descriptor}
@@ -49,13 +51,14 @@ row_of (word ∷ words) = row_by word words
 
 -- ---- reports
 
--- lines that begin with so many rows
+-- lines that are just so many rows
 abbrev pub rows_of : ℕ → List (List ℕ) → Option (List Row)
-rows_of zero lines = Some []
+rows_of zero [] = Some []
+rows_of zero (line ∷ lines) = None
 rows_of (suc count) [] = None
 rows_of (suc count) (line ∷ lines) = option_and_then (λ row. option_map (λ rows. row ∷ rows) (rows_of count lines)) (row_of (words_of line))
 
--- a report with which lines begin: `tree N` and N rows
+-- lines that are a report: `tree N` and N rows
 abbrev pub tree_at : List ℕ → List (List ℕ) → Option (List Row)
 tree_at line lines = option_and_then (λ count. rows_of count lines) (count_of (words_of line))
 
@@ -64,7 +67,15 @@ abbrev pub later : {A : Type 0} → Option A → Option A → Option A
 later first None = first
 later first (Some other) = Some other
 
--- The rows of the last report among the lines of replies.
+-- The rows of the report with which lines end.
 abbrev pub last_tree : List (List ℕ) → Option (List Row)
 last_tree [] = None
 last_tree (line ∷ lines) = later (tree_at line lines) (last_tree lines)
+
+-- the last byte is a line feed
+abbrev pub ends_a_line : List ℕ → Bool
+ends_a_line bytes = option_map_or (λ byte. byte == 10) (slice_get bytes (length bytes - 1)) false
+
+-- The rows of the report with which replies end. Its last line is whole, with its line feed.
+abbrev pub tree_told : List ℕ → Option (List Row)
+tree_told bytes = if ends_a_line bytes then last_tree (lines_of bytes) else None

@@ -1,7 +1,6 @@
 -- What a save makes.
 use Rattle.std.specs.Prelude.{◌≡◌, ◌⊎◌, ℕ, List, Option, None, Some}
 use Rattle.std.specs.Io.KnownBytes.{Consumes, IsAtEnd}
-use Rattle.ft_words.specs.Spelling.{lines_of}
 use Rattle.ft_copy.specs.declared.trouble.Trouble.{Trouble}
 use Rattle.ft_copy.specs.Asked.{Asked}
 use Rattle.ft_copy.specs.Runs.{Copies, GivesUp}
@@ -11,12 +10,12 @@ use Rattle.ft_script.specs.declared.playing.PlayFault.TheVariants.{Memory, Read}
 use Rattle.ft_save.specs.declared.row.Row.{Row}
 use Rattle.ft_save.specs.declared.saving.SaveFault.{SaveFault}
 use Rattle.ft_save.specs.declared.saving.SaveFault.TheVariants.{Replies, NoTree, Stopped}
-use Rattle.ft_save.specs.Reading.{last_tree}
+use Rattle.ft_save.specs.Reading.{tree_told}
 use Rattle.ft_save.specs.Trees.{Tells}
 
--- The replies were read to their end, and these are the rows of the last report among them.
+-- The replies were read to their end, and these are the rows of the report with which they end.
 abbrev pub IsLast : Option (List ℕ) → Option (List ℕ) → List Row → Type 0
-IsLast left left_after rows = (bytes : List ℕ) × Consumes left left_after bytes × IsAtEnd left_after × (last_tree (lines_of bytes) ≡ Some rows)
+IsLast left left_after rows = (bytes : List ℕ) × Consumes left left_after bytes × IsAtEnd left_after × (tree_told bytes ≡ Some rows)
 
 -- The same, and the tree that they tell of was copied.
 abbrev pub Saves : {T : Type 0} → Option (List ℕ) → Option (List ℕ) → (T → Asked → T → Type 0) → T → T → Type 0
@@ -28,9 +27,9 @@ Saves left left_after does old new = (rows : List Row) × IsLast left left_after
 abbrev pub IsUnread : PlayFault → Option (List ℕ) → Option (List ℕ) → Type 0
 IsUnread fault left left_after = ((fault ≡ Memory) ⊎ (fault ≡ Read)) × ((bytes : List ℕ) × Consumes left left_after bytes)
 
--- The replies were read to their end, and there is no whole report among them.
+-- The replies were read to their end, and do not end with a whole report.
 abbrev pub HasNoTree : Option (List ℕ) → Option (List ℕ) → Type 0
-HasNoTree left left_after = (bytes : List ℕ) × Consumes left left_after bytes × IsAtEnd left_after × (last_tree (lines_of bytes) ≡ None)
+HasNoTree left left_after = (bytes : List ℕ) × Consumes left left_after bytes × IsAtEnd left_after × (tree_told bytes ≡ None)
 
 -- No report was found.
 abbrev pub FindsNone : SaveFault → Option (List ℕ) → Option (List ℕ) → Type 0

@@ -1,8 +1,8 @@
 -- The tree that the rows of a report tell of.
-use Rattle.std.specs.Prelude.{◌≡◌, ◌⊎◌, ◌==◌, ℕ, Bool, true, false, List, [], ◌∷◌, ◌++◌, is_some, length, map, if◌then◌else◌, Option, None, Some}
-use Rattle.std.specs.Option.{unwrap_or}
+use Rattle.std.specs.Prelude.{◌≡◌, ◌⊎◌, ◌==◌, ℕ, Bool, true, false, not, List, [], ◌∷◌, ◌++◌, is_some, length, map, if◌then◌else◌, Option, None, Some}
+use Rattle.std.specs.Option.{option_map_or, unwrap_or}
 use Rattle.std.specs.FinMap as finite
-use Rattle.ft_posix.specs.declared.TheConstants.{MOST_LINKS}
+use Rattle.ft_cells.specs.declared.TheConstants.{DEFAULT_LINKS}
 use Rattle.ft_copy.specs.declared.found.TheConstants.{ROOT}
 use Rattle.ft_copy.specs.declared.found.FileFacts.{FileFacts}
 use Rattle.ft_copy.specs.declared.found.Found.{Found}
@@ -18,13 +18,17 @@ use Rattle.ft_save.specs.declared.index.Index.{Index}
 
 -- ---- what rows tell of a number
 
--- there is a row of a directory
-abbrev pub is_folder : List Row → ℕ → Bool
-is_folder [] node = false
-is_folder (Folder other ∷ rows) node = if other == node then true else is_folder rows node
-is_folder (Edge folder name other ∷ rows) node = is_folder rows node
-is_folder (File other bytes ∷ rows) node = is_folder rows node
-is_folder (Descriptor ∷ rows) node = is_folder rows node
+-- whether something has a row of its own, of a directory or a file, and whether more than one
+abbrev pub own_in : List Row → ℕ → Option Bool
+own_in [] node = None
+own_in (Folder other ∷ rows) node = if other == node then Some (is_some (own_in rows node)) else own_in rows node
+own_in (Edge folder name other ∷ rows) node = own_in rows node
+own_in (File other bytes ∷ rows) node = if other == node then Some (is_some (own_in rows node)) else own_in rows node
+own_in (Descriptor ∷ rows) node = own_in rows node
+
+-- there is just one row of it, of a directory or a file
+abbrev pub has_one_row : List Row → ℕ → Bool
+has_one_row rows node = option_map_or not (own_in rows node) false
 
 -- the bytes of a file, by the first row of it
 abbrev pub file_in : List Row → ℕ → Option (List ℕ)
@@ -42,6 +46,10 @@ edges_in (Edge folder name other ∷ rows) node = if folder == node then edges_i
 edges_in (File other bytes ∷ rows) node = edges_in rows node
 edges_in (Descriptor ∷ rows) node = edges_in rows node
 
+-- there are names in it
+abbrev pub has_names : List Row → ℕ → Bool
+has_names rows node = not (length (edges_in rows node) == 0)
+
 -- whether something has a name, and whether it has more than one
 abbrev pub named_in : List Row → ℕ → Option Bool
 named_in [] node = None
@@ -58,22 +66,31 @@ has_more rows node = unwrap_or (named_in rows node) false
 
 -- a file, with its number, its size, and how many names it has at most
 abbrev pub file_facts : ℕ → Bool → List ℕ → FileFacts
-file_facts node more bytes = record { id = record { device = 0; number = node }; links = if more then MOST_LINKS else 1; size = length bytes }
+file_facts node more bytes = record { id = record { device = 0; number = node }; links = if more then DEFAULT_LINKS else 1; size = length bytes }
 
--- A directory has a row of its own and one name at most, and is not the root. So no directory is
+-- A directory has one row of its own and one name at most, and is not the root. So no directory is
 -- in itself, or in two places.
 abbrev pub IsPlainFolder : List Row → ℕ → Type 0
-IsPlainFolder rows node = (is_folder rows node ≡ true) × (has_more rows node ≡ false) × ((node == ROOT) ≡ false)
+IsPlainFolder rows node = (has_one_row rows node ≡ true) × (has_more rows node ≡ false) × ((node == ROOT) ≡ false)
 
--- What stands at a number: a file that has a row, or else a plain directory.
+-- A file has one row of its own, and no names in it.
+abbrev pub IsPlainFile : List Row → ℕ → Type 0
+IsPlainFile rows node = (has_one_row rows node ≡ true) × (has_names rows node ≡ false)
+
+-- What stands at a number: a plain file where there is a row of a file, or else a plain directory.
 abbrev pub IsFound : List Row → ℕ → Found → Type 0
 IsFound rows node found.Folder = (file_in rows node ≡ None) × IsPlainFolder rows node
-IsFound rows node (found.File facts) = (bytes : List ℕ) × (file_in rows node ≡ Some bytes) × (facts ≡ file_facts node (has_more rows node) bytes)
+IsFound rows node (found.File facts) = (bytes : List ℕ) × (file_in rows node ≡ Some bytes) × IsPlainFile rows node × (facts ≡ file_facts node (has_more rows node) bytes)
 IsFound rows node found.Special = ⊥
 
--- a number that is neither a file nor a plain directory
+-- a file with names in it, or a directory that has more than one name or is the root
+abbrev pub IsMisplaced : Option (List ℕ) → List Row → ℕ → Type 0
+IsMisplaced None rows node = (has_more rows node ≡ true) ⊎ (node ≡ ROOT)
+IsMisplaced (Some bytes) rows node = has_names rows node ≡ true
+
+-- a number that is neither a plain file nor a plain directory
 abbrev pub IsNothing : List Row → ℕ → Type 0
-IsNothing rows node = (file_in rows node ≡ None) × ((has_more rows node ≡ true) ⊎ (node ≡ ROOT) ⊎ (is_folder rows node ≡ false))
+IsNothing rows node = (has_one_row rows node ≡ false) ⊎ IsMisplaced (file_in rows node) rows node
 
 -- Why it cannot be told what stands there, or which names: which trouble comes when.
 abbrev pub IsRefused : List Row → ℕ → Trouble → Type 0
@@ -104,7 +121,7 @@ names_at index node = map listed (unwrap_or (finite.get index.edges node) [])
 
 -- The index has what the rows tell of each number.
 pub record Indexes (index : Index) (rows : List Row) : Type 0 where
-  pub folders : (node : ℕ) → finite.get index.folders node ≡ (if is_folder rows node then Some true else None)
+  pub own : (node : ℕ) → finite.get index.own node ≡ own_in rows node
   pub files : (node : ℕ) → finite.get index.files node ≡ file_in rows node
   pub names : (node : ℕ) → names_at index node ≡ edges_in rows node
   pub named : (node : ℕ) → finite.get index.named node ≡ named_in rows node
@@ -112,6 +129,6 @@ pub record Indexes (index : Index) (rows : List Row) : Type 0 where
 -- a name was put behind those of its directory, and all else stays
 pub record PutsName (old : Index) (folder : ℕ) (edge : IndexEdge) (new : Index) : Type 0 where
   pub names : (node : ℕ) → names_at new node ≡ (if folder == node then names_at old node ++ listed edge ∷ [] else names_at old node)
-  pub folders : new.folders ≡ old.folders
+  pub own : new.own ≡ old.own
   pub files : new.files ≡ old.files
   pub named : new.named ≡ old.named

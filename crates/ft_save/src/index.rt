@@ -20,8 +20,8 @@ pub(crate) struct Edge {
 #[derive(Drop)]
 pub(crate) struct Index {
     pub(crate) alloc: Global,
-    // which numbers are those of directories
-    pub(crate) folders: Table<bool>,
+    // what has a row of its own, of a directory or a file, and whether it has more than one
+    pub(crate) own: Table<bool>,
     // the names in each directory
     pub(crate) edges: Table<Sequence<Edge>>,
     // the bytes of each file
@@ -30,13 +30,39 @@ pub(crate) struct Index {
     pub(crate) named: Table<bool>,
 }
 
+impl Index {
+    ghost use Rattle.std.specs.Prelude.{List};
+    ghost use Rattle.ft_save.specs.declared.row.Row.{Row};
+    ghost use Rattle.ft_save.specs.Trees.{Indexes, has_names, has_one_row};
+
+    /// Whether there is just one row of this number, of a directory or a file.
+    pub(crate) fn has_one_row(&self, node: u64) -> bool
+        ensures { (rows : List Row) → Indexes self.now rows → result ≡ has_one_row rows node }
+    {
+        match self.own.get(node) {
+            None => false,
+            Some(more) => !*more,
+        }
+    }
+
+    /// Whether there are names in it.
+    pub(crate) fn has_names(&self, node: u64) -> bool
+        ensures { (rows : List Row) → Indexes self.now rows → result ≡ has_names rows node }
+    {
+        match self.edges.get(node) {
+            None => false,
+            Some(edges) => !edges.is_empty(),
+        }
+    }
+}
+
 /// The index of rows.
 pub(crate) fn index_of(alloc: Global, rows: Vec<Row>) -> Result<Index, Memory>
     ensures { IfOk result (λ index. Indexes index rows.items) }
 {
     let mut index = Index {
         alloc,
-        folders: Table::new(alloc),
+        own: Table::new(alloc),
         edges: Table::new(alloc),
         files: Table::new(alloc),
         named: Table::new(alloc),
@@ -53,10 +79,7 @@ fn add(index: &mut Index, row: Row) -> Result<(), Memory>
     ensures { (rows : List Row) → Indexes index.old rows → OnOk result (Indexes index.new (row ∷ rows)) }
 {
     match row {
-        Row::Folder { node } => {
-            index.folders.insert(node, true)?;
-            Ok(())
-        }
+        Row::Folder { node } => add_own(index, node),
         Row::Edge { folder, name, node } => {
             let more = index.named.contains(node);
             index.named.insert(node, more)?;
@@ -64,10 +87,19 @@ fn add(index: &mut Index, row: Row) -> Result<(), Memory>
         }
         Row::File { node, bytes } => {
             index.files.insert(node, bytes)?;
-            Ok(())
+            add_own(index, node)
         }
         Row::Descriptor => Ok(()),
     }
+}
+
+// Notes that there is a row, or one more, of a directory or a file.
+fn add_own(index: &mut Index, node: u64) -> Result<(), Memory>
+    ensures { OnOk result (index.new ≡ record index.old { own = finite.insert index.old.own node (finite.contains_key index.old.own node) }) }
+{
+    let more = index.own.contains(node);
+    index.own.insert(node, more)?;
+    Ok(())
 }
 
 // Puts a name behind those of its directory.

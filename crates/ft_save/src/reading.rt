@@ -1,9 +1,9 @@
-// From the lines of replies to the last report among them of what the tree holds.
+// From replies to the report of what the tree holds with which they end.
 ghost use Rattle.std.specs.Prelude.{◌≡◌, IfOk, Some, option_map};
 ghost use Rattle.percent_encoding.specs.Percent.{percent_decode};
 ghost use Rattle.ft_words.specs.Spelling.{number_of, words_of};
 ghost use Rattle.ft_words.specs.Calls.{last_word, only, three};
-ghost use Rattle.ft_save.specs.Reading.{count_of, edge_of, fd_of, file_of, folder_of, last_tree, row_of, rows_of};
+ghost use Rattle.ft_save.specs.Reading.{count_of, edge_of, ends_a_line, fd_of, file_of, folder_of, last_tree, row_of, rows_of, tree_told};
 
 use crate::row::Row;
 use ft_base::{Memory, Sequence};
@@ -11,11 +11,31 @@ use ft_words::{Lines, Words, number_of};
 use percent_encoding::percent_decode;
 use std::alloc::Global;
 
-/// The rows of the last report among the lines of replies of what the tree holds.
+/// The rows of the report of what the tree holds with which replies end.
 ///
-/// A report is a line `tree N` and N rows. Lines that begin as a report and do not go on as one are
-/// none. Fails only for want of memory.
-pub(crate) fn last_tree(alloc: Global, lines: Lines<'_>) -> Result<Option<Vec<Row>>, Memory>
+/// A report is a line `tree N` and N rows. Nothing may stand behind it, and its last line has its
+/// line feed: replies that were cut off end with no report. Fails only for want of memory.
+pub(crate) fn tree_told(alloc: Global, replies: &[u8]) -> Result<Option<Vec<Row>>, Memory>
+    ensures { IfOk result (λ rows. option_map (λ list. list.items) rows ≡ tree_told replies.now) }
+{
+    if !ends_a_line(replies) {
+        return Ok(None);
+    }
+    last_tree(alloc, Lines::of(replies))
+}
+
+// Whether the last byte is a line feed.
+fn ends_a_line(bytes: &[u8]) -> bool
+    ensures { result ≡ ends_a_line bytes.now }
+{
+    match bytes.last() {
+        None => false,
+        Some(byte) => *byte == b'\n',
+    }
+}
+
+// The rows of the report with which lines end.
+fn last_tree(alloc: Global, lines: Lines<'_>) -> Result<Option<Vec<Row>>, Memory>
     ensures { IfOk result (λ rows. option_map (λ list. list.items) rows ≡ last_tree lines.entry) }
 {
     let mut rest = lines;
@@ -30,7 +50,7 @@ pub(crate) fn last_tree(alloc: Global, lines: Lines<'_>) -> Result<Option<Vec<Ro
     Ok(last)
 }
 
-// So many rows, with which lines begin.
+// The rows of lines that are just so many.
 fn rows_in(alloc: Global, count: u64, lines: Lines<'_>) -> Result<Option<Vec<Row>>, Memory>
     ensures { IfOk result (λ rows. option_map (λ list. list.items) rows ≡ rows_of count lines.entry) }
 {
@@ -46,6 +66,9 @@ fn rows_in(alloc: Global, count: u64, lines: Lines<'_>) -> Result<Option<Vec<Row
             return Ok(None);
         };
         rows.push(row)?;
+    }
+    if rest.next().is_some() {
+        return Ok(None);
     }
     Ok(Some(rows))
 }

@@ -4,8 +4,8 @@ ghost use Rattle.ft_copy.specs.Told.{HasNoName};
 ghost use Rattle.ft_save.specs.Trees.{listed};
 
 use crate::index::{Edge, Index};
+use ft_cells::DEFAULT_LINKS;
 use ft_copy::{FileFacts, FileId, Found, Listed, ROOT, Source, Trouble, name_of};
-use ft_posix::MOST_LINKS;
 use std::alloc::Global;
 
 /// The tree that a report tells of.
@@ -32,18 +32,24 @@ impl<'a> Source for Reported<'a> {
     }
 
     fn look(&self, _path: &[u8], node: u64) -> Result<Found, Trouble> {
+        if !self.index.has_one_row(node) {
+            return Err(Trouble::BadTree);
+        }
         let more = self.index.named.get(node).copied().unwrap_or(false);
         if let Some(bytes) = self.index.files.get(node) {
+            if self.index.has_names(node) {
+                return Err(Trouble::BadTree);
+            }
             return Ok(Found::File(FileFacts {
                 id: FileId {
                     device: 0,
                     number: node,
                 },
-                links: if more { MOST_LINKS } else { 1 },
+                links: if more { DEFAULT_LINKS } else { 1 },
                 size: bytes.len() as u64,
             }));
         }
-        if more || node == ROOT || !self.index.folders.contains(node) {
+        if more || node == ROOT {
             return Err(Trouble::BadTree);
         }
         Ok(Found::Folder)

@@ -5,14 +5,13 @@ ghost use Rattle.ft_save.specs.Saves.{FindsNone, IsLast, IsLeft, Saves, StopsRow
 ghost use Rattle.ft_save.specs.Trees.{Tells};
 
 use crate::index::index_of;
-use crate::reading::last_tree;
+use crate::reading::tree_told;
 use crate::reported::Reported;
 use crate::row::Row;
 use ft_base::Memory;
 use ft_copy::{Stopped, Target, copy};
 use ft_dot::read_all;
 use ft_script::PlayFault;
-use ft_words::Lines;
 use std::alloc::Global;
 use std::io::Read;
 use thiserror::Error;
@@ -23,7 +22,7 @@ pub enum SaveFault {
     /// The replies could not be read, or there was no memory for them.
     #[error("{0}")]
     Replies(PlayFault),
-    /// There is no report among them of what the tree holds.
+    /// They do not end with a whole report of what the tree holds.
     #[error("NoTree")]
     NoTree,
     /// The copy was not made.
@@ -31,9 +30,9 @@ pub enum SaveFault {
     Stopped(Stopped),
 }
 
-/// Reads replies to their end, and makes the tree that the last report among them tells of:
+/// Reads replies to their end, and makes the tree that the report tells of with which they end:
 /// directories, files with their bytes, and further names as links. Descriptors, and files that
-/// have no name, are left out.
+/// have no name, are left out. A report behind which anything stands is not taken.
 pub fn save<R: Read, T: Target>(
     alloc: Global,
     reader: &mut R,
@@ -47,14 +46,14 @@ pub fn save<R: Read, T: Target>(
     copy_rows(alloc, rows, target)
 }
 
-// Reads replies to their end, and finds the rows of the last report.
+// Reads replies to their end, and finds the rows of the report with which they end.
 fn last_rows<R: Read>(alloc: Global, reader: &mut R) -> Result<Vec<Row>, SaveFault>
     ensures ok { IfOk result (λ rows. IsLast (R.remaining reader.old) (R.remaining reader.new) rows.items) }
     ensures fault { IfErr result (λ fault. FindsNone fault (R.remaining reader.old) (R.remaining reader.new)) }
 {
     let mut replies = Vec::new(alloc);
     read_all(reader, &mut replies)?;
-    let rows = last_tree(alloc, Lines::of(replies.as_slice()))?;
+    let rows = tree_told(alloc, replies.as_slice())?;
     rows.ok_or(SaveFault::NoTree)
 }
 

@@ -21,9 +21,8 @@ first-committed core reached events first =
 
 pub committed-stays : CommittedStays
 committed-stays s new r a reached ne step =
-    let m = moved exact_rule s r a new.state (refusal_of s r) ne step in
+    let goes = moved exact_rule s r a new.state (refusal_of s r) ne step in
     record {
-      base = m.0;
-      events = m.1;
-      committed = first-committed new reached s.events m.1;
+      goes_on = goes;
+      committed = first-committed new reached s.events goes.events;
     }

@@ -15,6 +15,7 @@ use Rattle.ft_core.specs.declared.request.Answer.{Answer}
 use Rattle.ft_core.specs.States.{StoredState, State, history, standing_calls, tree_of}
 use Rattle.ft_core.specs.Reached.{IsReached}
 use Rattle.ft_core.specs.Steps.{IsStep, exact_rule}
+use Rattle.ft_record.specs.Going.{GoesOn}
 
 -- a granted call with its stamp alone
 abbrev pub stamped : Granted → StampedCall
@@ -47,10 +48,10 @@ pub record RunsSerially (s : State) : Type 0 where
   -- The committed calls alone give their replies too.
   pub committed : GiveReplies s.base.tree (committed_part posix_calls (history s))
 
--- The base is the same, and the events and the committed calls from before stand first.
+-- The base and the rule are the same, and the events and the committed calls from before stand
+-- first.
 pub record Grows (old new : State) : Type 0 where
-  pub base : new.base ≡ old.base
-  pub events : IsPrefix old.events new.events
+  pub goes_on : GoesOn old new
   pub committed : IsPrefix (committed_calls old) (committed_calls new)
 
 -- So it is after each request but a checkpoint, which makes the tree the base and forgets what

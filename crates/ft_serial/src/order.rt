@@ -83,7 +83,7 @@ fn has_committed(core: &Core, txn: TxnId) -> bool
     requires { IsReached core.now }
     ensures { result ≡ is_committed posix_calls (history core.now.state) (root (parent_of posix_calls (history core.now.state)) txn) }
 {
-    match core.state(way_up(core, txn).top) {
+    match core.fate(way_up(core, txn).top) {
         Some(State::Committed) => true,
         Some(State::Live | State::Aborted) => false,
         None => false,

@@ -38,7 +38,7 @@ pub(crate) fn way_up(core: &Core, txn: TxnId) -> Way
 fn is_aborted(core: &Core, txn: TxnId) -> bool
     ensures { result ≡ is_aborted_fate (fate_of core.now.state txn) }
 {
-    match core.state(txn) {
+    match core.fate(txn) {
         Some(State::Aborted) => true,
         Some(State::Live | State::Committed) => false,
         None => false,

@@ -1,13 +1,17 @@
 // A core and its caller.
 ghost use Rattle.std.specs.Prelude.{◌≡◌, [], OnOk, OnErr, IfErr};
+ghost use Rattle.ft_posix.specs.declared.call.Call.{Call as CallOf};
 ghost use Rattle.ft_core.specs.declared.request.Answer.{Answer as AnswerOf};
+ghost use Rattle.ft_core.specs.declared.request.Answer.TheVariants.{Refused};
+ghost use Rattle.ft_core.specs.declared.request.Request.TheVariants.{Ask};
+ghost use Rattle.ft_core.specs.Steps.{IsStep, exact_rule};
 ghost use Rattle.ft_replies.specs.declared.line.Line.TheVariants.{Bad as BadLine};
 ghost use Rattle.ft_replies.specs.Requests.{meaning_of};
 ghost use Rattle.ft_session.specs.Sessions.{HasAnswered, HasTold, IsCarriedOut, IsSame, MayHaveTold};
 
 use crate::last::Last;
 use ft_base::{Memory, Sequence};
-use ft_core::{Core, Request};
+use ft_core::{Answer, Core, Fault, Request, TxnId};
 use ft_replies::{Line, carry_out, meaning_of, reply_to};
 use std::alloc::Global;
 
@@ -58,6 +62,14 @@ impl Session {
         self.last = Last::Answer(carry_out(&mut self.core, request));
     }
 
+    /// Answers a call in a transaction that is not made, for want of memory. It is refused as the
+    /// core refuses each call there, and else Memory.
+    pub fn refuse_ask(&mut self, txn: TxnId)
+        ensures { (call : CallOf) → (answer : AnswerOf) × HasAnswered self.old (Ask txn call) answer self.new }
+    {
+        self.last = Last::Answer(Answer::Refused(refusal(&self.core, txn)));
+    }
+
     /// Carries out one line of a script, without its line feed.
     ///
     /// Refuses a line that asks for nothing that there is. Else it fails only for want of memory:
@@ -85,5 +97,15 @@ impl Session {
         let text = reply_to(alloc, line, &mut self.core)?;
         self.last = Last::Text(text.into_bytes().into());
         Ok(())
+    }
+}
+
+// What a call in a transaction is refused for which there is no memory.
+fn refusal(core: &Core, txn: TxnId) -> Fault
+    ensures { (call : CallOf) → IsStep exact_rule core.now.state (Ask txn call) (Refused result) core.now.state }
+{
+    match core.may_ask(txn) {
+        Err(fault) => fault,
+        Ok(()) => Fault::Memory,
     }
 }

@@ -11,10 +11,10 @@ use Rattle.ft_book.specs.Names.{Views, Fronted}
 use Rattle.ft_book.proofs.Fronts.{prefix_trans, prefix_self}
 use Rattle.ft_view.specs.declared.view.Published.{Published}
 use Rattle.ft_view.specs.Replay.{replayed}
-use Rattle.ft_view.specs.Shown.{Shown, IsViewOf, advanced}
+use Rattle.ft_view.specs.Shown.{Shown, IsReplayOf, IsViewOf, advanced}
 use Rattle.ft_serial.specs.Commits.{GoneOver}
 use Rattle.ft_serial.specs.Serials.{committed_in}
-use Rattle.ft_shared.specs.Publishing.{Calls, listed, step, ahead, IsPublishing, IsPublished}
+use Rattle.ft_shared.specs.Publishing.{Calls, listed, step, ahead, IsPublishable, IsPublishing, IsPublished}
 
 fold_last : {A B : Type 0} (f : A → B → A) (s : A) (xs : List B) (x : B) → fold f s (xs ++ x ∷ []) ≡ f (fold f s xs) x
 fold_last f s [] x = refl
@@ -24,8 +24,8 @@ replayed_last : (base : PlainTree) (xs : Calls) (c : StampedCall) → replayed b
 replayed_last base [] c = refl
 replayed_last base (x ∷ xs) c = replayed_last (exec base x.stamp x.call).0 xs c
 
--- a view, one call on, is a view
-next_view : (opened : Views) (a : Shown) (c : StampedCall) (front : Fronted) → IsViewOf opened a → front.book ≡ opened.book → front.calls ≡ a.front.calls ++ c ∷ [] → IsViewOf opened (advanced a c front)
+-- a replay, one call on, is a replay
+next_view : (opened : Views) (a : Shown) (c : StampedCall) (front : Fronted) → IsReplayOf opened a → front.book ≡ opened.book → front.calls ≡ a.front.calls ++ c ∷ [] → IsReplayOf opened (advanced a c front)
 next_view opened a c front view book is = record {
   book = book;
   tree = ap (λ (t : PlainTree). (exec t c.stamp c.call).0) view.tree ∙ (sym (replayed_last opened.base a.front.calls c) ∙ ap (replayed opened.base) (sym is));
@@ -48,17 +48,17 @@ pub nothing-first : {A : Type 0} (all xs : List A) → xs ≡ [] → IsPrefix xs
 nothing-first all xs e = (all, ap (λ l. l ++ all) e)
 
 -- what is shown has committed
-pub stands_by : (opened : Views) (book : Book) (shown : Shown) (behind : ℕ) (log : List Published) (fed told : Fronted) (held : Option StampedCall) (commits : GoneOver)
-    → IsPublishing opened book shown behind log fed told held commits → IsPrefix shown.front.calls (committed_in commits.events)
-stands_by opened book shown behind log fed told held commits kept =
+pub stands_by : (opened : Views) (shows : Calls → Type 0) (book : Book) (shown : Shown) (behind : ℕ) (log : List Published) (fed told : Fronted) (held : Option StampedCall) (commits : GoneOver)
+    → IsPublishing opened shows book shown behind log fed told held commits → IsPrefix shown.front.calls (committed_in commits.events)
+stands_by opened shows book shown behind log fed told held commits kept =
     let given : IsPrefix fed.calls commits.given = (listed held, sym kept.given) in
     prefix_trans shown.front.calls fed.calls (committed_in commits.events) kept.shorter (prefix_trans fed.calls commits.given (committed_in commits.events) given kept.stands)
 
 -- the next call was taken from the core, where none was held
-pub taken_on : (opened : Views) (book : Book) (shown : Shown) (behind : ℕ) (log : List Published) (fed told : Fronted) (held next : Option StampedCall) (old new : GoneOver)
-    → IsPublishing opened book shown behind log fed told held old → held ≡ None → new.given ≡ old.given ++ listed next → IsPrefix new.given (committed_in new.events)
-    → IsPublishing opened book shown behind log fed told next new
-taken_on opened book shown behind log fed told held next old new kept none more first =
+pub taken_on : (opened : Views) (shows : Calls → Type 0) (book : Book) (shown : Shown) (behind : ℕ) (log : List Published) (fed told : Fronted) (held next : Option StampedCall) (old new : GoneOver)
+    → IsPublishing opened shows book shown behind log fed told held old → held ≡ None → new.given ≡ old.given ++ listed next → IsPrefix new.given (committed_in new.events)
+    → IsPublishing opened shows book shown behind log fed told next new
+taken_on opened shows book shown behind log fed told held next old new kept none more first =
     let nothing : fed.calls ++ listed held ≡ fed.calls = ap (λ (h : Option StampedCall). fed.calls ++ listed h) none ∙ append-nil fed.calls in record {
       of_book = kept.of_book;
       fed_of = kept.fed_of;
@@ -77,9 +77,9 @@ given_is None old new some none = none ∙ sym (append-nil old)
 given_is (Some call) old new some none = some
 
 -- no call was taken, for want of memory
-pub not_taken : (opened : Views) (book : Book) (shown : Shown) (behind : ℕ) (log : List Published) (fed told : Fronted) (held : Option StampedCall) (old new : GoneOver)
-    → IsPublishing opened book shown behind log fed told held old → new.given ≡ old.given → IsPrefix new.given (committed_in new.events) → IsPublishing opened book shown behind log fed told held new
-not_taken opened book shown behind log fed told held old new kept same first = record {
+pub not_taken : (opened : Views) (shows : Calls → Type 0) (book : Book) (shown : Shown) (behind : ℕ) (log : List Published) (fed told : Fronted) (held : Option StampedCall) (old new : GoneOver)
+    → IsPublishing opened shows book shown behind log fed told held old → new.given ≡ old.given → IsPrefix new.given (committed_in new.events) → IsPublishing opened shows book shown behind log fed told held new
+not_taken opened shows book shown behind log fed told held old new kept same first = record {
   of_book = kept.of_book;
   fed_of = kept.fed_of;
   told_of = kept.told_of;
@@ -93,10 +93,10 @@ not_taken opened book shown behind log fed told held old new kept same first = r
 }
 
 -- the writer is given the call that is held
-pub given_on : (opened : Views) (book : Book) (shown : Shown) (behind behind' : ℕ) (log log' : List Published) (fed told : Fronted) (held : Option StampedCall) (next : Published) (commits : GoneOver)
-    → IsPublishing opened book shown behind log fed told held commits → held ≡ Some next.call → drop behind' log' ≡ drop behind log ++ next ∷ [] → next.front ≡ told → told.calls ≡ fed.calls ++ next.call ∷ []
-    → IsPublishing opened book shown behind' log' told told None commits
-given_on opened book shown behind behind' log log' fed told held next commits kept held_is more front is =
+pub given_on : (opened : Views) (shows : Calls → Type 0) (book : Book) (shown : Shown) (behind behind' : ℕ) (log log' : List Published) (fed told : Fronted) (held : Option StampedCall) (next : Published) (commits : GoneOver)
+    → IsPublishing opened shows book shown behind log fed told held commits → held ≡ Some next.call → drop behind' log' ≡ drop behind log ++ next ∷ [] → next.front ≡ told → told.calls ≡ fed.calls ++ next.call ∷ []
+    → IsPublishing opened shows book shown behind' log' told told None commits
+given_on opened shows book shown behind behind' log log' fed told held next commits kept held_is more front is =
     let now = ahead shown behind log in
     let then : ahead shown behind' log' ≡ step now next = ap (fold step shown) more ∙ fold_last step shown (drop behind log) next in
     let calls : next.front.calls ≡ now.front.calls ++ next.call ∷ [] = ap (λ (f : Fronted). f.calls) front ∙ (is ∙ ap (λ (l : Calls). l ++ next.call ∷ []) (sym kept.pending)) in
@@ -105,7 +105,7 @@ given_on opened book shown behind behind' log log' fed told held next commits ke
       fed_of = kept.told_of;
       told_of = kept.told_of;
       view = kept.view;
-      next = subst (λ (s : Shown). IsViewOf opened s) (sym then) (next_view opened now next.call next.front kept.next (ap (λ (f : Fronted). f.book) front ∙ kept.told_of) calls);
+      next = subst (λ (s : Shown). IsReplayOf opened s) (sym then) (next_view opened now next.call next.front kept.next (ap (λ (f : Fronted). f.book) front ∙ kept.told_of) calls);
       pending = ap (λ (s : Shown). s.front.calls) then ∙ ap (λ (f : Fronted). f.calls) front;
       shorter = prefix_trans shown.front.calls fed.calls told.calls kept.shorter (next.call ∷ [], sym is);
       more = inl refl;
@@ -113,29 +113,34 @@ given_on opened book shown behind behind' log log' fed told held next commits ke
       stands = kept.stands;
     }
 
+-- what the writer was given may be shown where it is whole
+pub may_be_shown : (opened : Views) (shows : Calls → Type 0) (book : Book) (shown : Shown) (behind : ℕ) (log : List Published) (fed told : Fronted) (held : Option StampedCall) (commits : GoneOver)
+    → IsPublishing opened shows book shown behind log fed told held commits → shows fed.calls → IsPublishable opened shows shown behind log
+may_be_shown opened shows book shown behind log fed told held commits kept whole = record { next = record { replay = kept.next; whole = subst shows (sym kept.pending) whole } }
+
 -- the views once what was pending is shown, or where it is not
-pub shown_on : (opened : Views) (book : Book) (shown shown' : Shown) (behind behind' : ℕ) (log log' : List Published) (fed told : Fronted) (held : Option StampedCall) (commits : GoneOver) (result : Result (Unit {0}) Memory)
-    → IsPublishing opened book shown behind log fed told held commits → IsPublished shown behind log shown' behind' log' result → IsPublishing opened book shown' behind' log' fed told held commits
-shown_on opened book shown shown' behind behind' log log' fed told held commits (Ok x) kept p =
+pub shown_on : (opened : Views) (shows : Calls → Type 0) (book : Book) (shown shown' : Shown) (behind behind' : ℕ) (log log' : List Published) (fed told : Fronted) (held : Option StampedCall) (commits : GoneOver) (result : Result (Unit {0}) Memory)
+    → IsPublishing opened shows book shown behind log fed told held commits → IsPublishable opened shows shown behind log → IsPublished shown behind log shown' behind' log' result → IsPublishing opened shows book shown' behind' log' fed told held commits
+shown_on opened shows book shown shown' behind behind' log log' fed told held commits (Ok x) kept whole p =
     let then : ahead shown' behind' log' ≡ ahead shown behind log = ap (fold step shown') p.ok.1 ∙ p.ok.0 in record {
       of_book = kept.of_book;
       fed_of = kept.fed_of;
       told_of = kept.told_of;
-      view = subst (λ (s : Shown). IsViewOf opened s) (sym p.ok.0) kept.next;
-      next = subst (λ (s : Shown). IsViewOf opened s) (sym then) kept.next;
+      view = subst (λ (s : Shown). IsViewOf opened shows s) (sym p.ok.0) whole.next;
+      next = subst (λ (s : Shown). IsReplayOf opened s) (sym then) kept.next;
       pending = ap (λ (s : Shown). s.front.calls) then ∙ kept.pending;
       shorter = subst (λ (l : Calls). IsPrefix l fed.calls) (sym (ap (λ (s : Shown). s.front.calls) p.ok.0 ∙ kept.pending)) (prefix_self fed.calls);
       more = kept.more;
       given = kept.given;
       stands = kept.stands;
     }
-shown_on opened book shown shown' behind behind' log log' fed told held commits (Err x) kept p =
+shown_on opened shows book shown shown' behind behind' log log' fed told held commits (Err x) kept whole p =
     let then : ahead shown' behind' log' ≡ ahead shown behind log = ap (λ (s : Shown). fold step s (drop behind' log')) p.err.0 ∙ ap (fold step shown) p.err.1 in record {
       of_book = kept.of_book;
       fed_of = kept.fed_of;
       told_of = kept.told_of;
-      view = subst (λ (s : Shown). IsViewOf opened s) (sym p.err.0) kept.view;
-      next = subst (λ (s : Shown). IsViewOf opened s) (sym then) kept.next;
+      view = subst (λ (s : Shown). IsViewOf opened shows s) (sym p.err.0) kept.view;
+      next = subst (λ (s : Shown). IsReplayOf opened s) (sym then) kept.next;
       pending = ap (λ (s : Shown). s.front.calls) then ∙ kept.pending;
       shorter = subst (λ (s : Shown). IsPrefix s.front.calls fed.calls) (sym p.err.0) kept.shorter;
       more = kept.more;

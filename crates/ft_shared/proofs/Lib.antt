@@ -1,4 +1,5 @@
 pub mod Staying
+pub mod Ends
 pub mod Feeding
 pub mod Readable
 pub mod Crossing

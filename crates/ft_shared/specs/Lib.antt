@@ -1,4 +1,5 @@
 pub mod Sharing
 pub mod Behind
+pub mod Origins
 pub mod Publishing
 pub mod Opening

@@ -1,14 +1,15 @@
 -- Views that were opened, and are not named yet.
-use Rattle.std.specs.Prelude.{◌≡◌, [], refl}
+use Rattle.std.specs.Prelude.{◌≡◌, true, [], refl}
 use Rattle.std.specs.Coded.{Coded, code_by, coded×}
 use Rattle.logbook.specs.Pages.{Book, book_coded}
 use Rattle.ft_cells.specs.Plain.{PlainTree}
 use Rattle.ft_core.specs.declared.fault.Fault.TheVariants.{Live}
 use Rattle.ft_core.specs.Living.{SomeIsLive, NoneIsLive}
 use Rattle.ft_core.specs.States.{State, StoredState, coded_stored}
-use Rattle.ft_book.specs.Names.{Views, Fronted}
+use Rattle.ft_book.specs.Names.{Fronted}
 use Rattle.ft_view.specs.Shown.{Shown}
 use Rattle.ft_view.specs.declared.reader.ViewFault.TheVariants.{Memory}
+use Rattle.ft_shared.specs.Origins.{Origin}
 use Rattle.ft_shared.specs.declared.opened.Cause.{Cause}
 use Rattle.ft_shared.specs.declared.opened.Cause.TheVariants.{Fault as FaultCause, View as ViewCause}
 
@@ -32,9 +33,9 @@ pub record AreCopies (base : PlainTree) (book : Book) (nothing : Fronted) (first
 abbrev pub IsOpened : State → Book → Fronted → Shown → Shown → Type 0
 IsOpened core book nothing first second = AreCopies core.base.tree book nothing first second
 
--- what a name of them names
-abbrev pub named_by : Opening → Views
-named_by o = record { book = o.book; base = o.core.state.base.tree }
+-- what a name of them names: the core as it is now, with these views
+abbrev pub named_by : Opening → Origin
+named_by o = record { from = o.core.state; shown = true; book = o.book }
 
 -- Why a core in this state has no views: a transaction is live; or none is, and there was no
 -- memory.

@@ -1,10 +1,9 @@
 -- What is published, and what the writer of the views was given.
-use Rattle.std.specs.Prelude.{◌≡◌, ◌⊎◌, ℕ, List, [], ◌∷◌, ◌++◌, drop, fold, refl, Option, Some, None, Result, OnOk, OnErr}
+use Rattle.std.specs.Prelude.{◌≡◌, ◌⊎◌, ℕ, Bool, true, false, List, [], ◌∷◌, ◌++◌, drop, fold, refl, Option, Some, None, Result, OnOk, OnErr}
 use mathlib.Core.List.{IsPrefix}
 use Rattle.std.specs.Coded.{Coded, code_by, coded×, coded_ℕ, coded_list, coded_option}
 use Rattle.logbook.specs.Pages.{Book}
 use Rattle.ft_base.specs.declared.memory.Memory.{Memory}
-use Rattle.ft_cells.specs.Plain.{PlainTree}
 use Rattle.ft_posix.specs.declared.stamped.StampedCall.{StampedCall}
 use Rattle.ft_posix.specs.contracts.stamped.StampedCall as stamped
 use Rattle.ft_core.specs.declared.fault.Fault.{Fault}
@@ -12,11 +11,13 @@ use Rattle.ft_core.specs.declared.fault.Fault.TheVariants.{Memory as MemoryFault
 use Rattle.ft_core.specs.States.{State, StoredState, coded_stored}
 use Rattle.ft_book.specs.Names.{Views, Fronted, coded_calls}
 use Rattle.ft_view.specs.declared.view.Published.{Published}
-use Rattle.ft_view.specs.Shown.{Shown, IsViewOf, advanced}
+use Rattle.ft_view.specs.Shown.{Shown, IsReplayOf, IsViewOf, advanced}
 use Rattle.ft_core.specs.declared.request.Event.{Event}
 use Rattle.ft_core.specs.contracts.request.Event as event
 use Rattle.ft_serial.specs.Commits.{GoneOver}
 use Rattle.ft_serial.specs.Serials.{committed_in}
+use Rattle.ft_record.specs.Going.{GoesOn}
+use Rattle.ft_shared.specs.Origins.{Origin}
 
 -- a list of calls
 abbrev pub Calls : Type 0
@@ -45,24 +46,24 @@ step v p = advanced v p.call p.front
 abbrev pub ahead : Shown → ℕ → List Published → Shown
 ahead shown behind log = fold step shown (drop behind log)
 
--- What is pending makes a view of these, so that it may be shown.
-pub record IsPublishable (opened : Views) (shown : Shown) (behind : ℕ) (log : List Published) : Type 0 where
-  pub next : IsViewOf opened (ahead shown behind log)
+-- What is pending makes a view of these whose list is whole, so that it may be shown.
+pub record IsPublishable (opened : Views) (shows : Calls → Type 0) (shown : Shown) (behind : ℕ) (log : List Published) : Type 0 where
+  pub next : IsViewOf opened shows (ahead shown behind log)
 
 -- The view with what was pending is shown, and nothing is pending; or nothing has changed.
 pub record IsPublished (shown : Shown) (behind : ℕ) (log : List Published) (shown' : Shown) (behind' : ℕ) (log' : List Published) (result : Result (Unit {0}) Memory) : Type 0 where
   pub ok : OnOk result ((shown' ≡ ahead shown behind log) × (drop behind' log' ≡ []))
   pub err : OnErr result ((shown' ≡ shown) × (drop behind' log' ≡ drop behind log))
 
--- What is shown is a view of these, and so it is with what is pending, which makes it the list
--- that the writer was given; the book has the same list, or the held call too; and all that was
--- taken from the core was given or is held, and has committed there.
-pub record IsPublishing (opened : Views) (book : Book) (shown : Shown) (behind : ℕ) (log : List Published) (fed told : Fronted) (held : Option StampedCall) (commits : GoneOver) : Type 0 where
+-- What is shown is a view of these. With what is pending it is a replay, of the list that the writer
+-- was given; the book has the same list, or the held call too; and all that was taken from the core
+-- was given or is held, and has committed there.
+pub record IsPublishing (opened : Views) (shows : Calls → Type 0) (book : Book) (shown : Shown) (behind : ℕ) (log : List Published) (fed told : Fronted) (held : Option StampedCall) (commits : GoneOver) : Type 0 where
   pub of_book : book ≡ opened.book
   pub fed_of : fed.book ≡ opened.book
   pub told_of : told.book ≡ opened.book
-  pub view : IsViewOf opened shown
-  pub next : IsViewOf opened (ahead shown behind log)
+  pub view : IsViewOf opened shows shown
+  pub next : IsReplayOf opened (ahead shown behind log)
   pub pending : (ahead shown behind log).front.calls ≡ fed.calls
   pub shorter : IsPrefix shown.front.calls fed.calls
   pub more : (told.calls ≡ fed.calls) ⊎ (told.calls ≡ fed.calls ++ listed held)
@@ -81,22 +82,26 @@ abbrev pub published_in : Option Publishing → Option Calls
 published_in None = None
 published_in (Some p) = Some p.published
 
--- The views start from the core's base, the events that the publisher has gone over are a beginning
--- of the core's, and it knows which ones are forgotten.
-pub record IsPublisherOf (start : PlainTree) (core : State) (forgotten : Option ℕ) (p : Publishing) : Type 0 where
-  pub base : core.base.tree ≡ start
+-- The events that the publisher has gone over are a beginning of the core's, and it knows which ones
+-- are forgotten.
+pub record IsPublisherOf (core : State) (forgotten : Option ℕ) (p : Publishing) : Type 0 where
   pub passed : IsPrefix p.commits.events core.events
   pub forgotten_is : forgotten ≡ Some p.commits.forgotten
 
--- so it is of a core that has views; of one that has none, nothing
-abbrev pub ArePublished : PlainTree → State → Option ℕ → Option Publishing → Type 0
-ArePublished start core forgotten None = Unit {0}
-ArePublished start core forgotten (Some p) = IsPublisherOf start core forgotten p
+-- A core that was shared with views has such a publisher, and one that was shared without has none.
+abbrev pub HasPublisher : Bool → State → Option ℕ → Option Publishing → Type 0
+HasPublisher shown core forgotten None = shown ≡ false
+HasPublisher shown core forgotten (Some p) = (shown ≡ true) × IsPublisherOf core forgotten p
+
+-- What stands behind the lock goes on from what was shared.
+pub record IsBehind (origin : Origin) (core : State) (forgotten : Option ℕ) (publisher : Option Publishing) : Type 0 where
+  pub goes_on : GoesOn origin.from core
+  pub views : HasPublisher origin.shown core forgotten publisher
 
 -- why nothing was published: NoViews where there are no views, else Memory
-abbrev pub fault_of_publish : Option Calls → Fault
-fault_of_publish None = NoViews
-fault_of_publish (Some calls) = MemoryFault
+abbrev pub fault_of_publish : Bool → Fault
+fault_of_publish false = NoViews
+fault_of_publish true = MemoryFault
 
 -- how what was gone over is coded
 abbrev pub coded_gone_over : Coded GoneOver

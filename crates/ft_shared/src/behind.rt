@@ -1,35 +1,38 @@
 // What stands behind the lock.
-ghost use Rattle.std.specs.Prelude.{◌≡◌, length, cond, Some, None, IfSome, IfOk, IfErr, OnOk, OnErr};
+ghost use Rattle.std.specs.Prelude.{◌≡◌, true, length, cond, is_some, Some, None, IfSome, IfOk, IfErr, IsTrue, OnOk, OnErr};
 ghost use mathlib.Core.List.{IsPrefix};
 ghost use Rattle.ft_core.specs.declared.request.Request.TheVariants.{Begin, Sub, Ask, Retry, Drop as DropAsk, Commit};
 ghost use Rattle.ft_core.specs.declared.request.Answer.TheVariants.{Txn, Dropped, Committed, Aborted, Undone};
 ghost use Rattle.ft_core.specs.Reached.{IsReached};
 ghost use Rattle.ft_core.specs.Steps.{IsStep, exact_rule, answer_with, outcome_answer};
+ghost use Rattle.ft_record.specs.Going.{GoesOn};
 ghost use Rattle.ft_serial.specs.Serials.{committed_calls};
 ghost use Rattle.ft_shared.specs.Behind.{IsAborted, IsUndone};
+ghost use Rattle.ft_shared.specs.Origins.{without_views};
 ghost use Rattle.ft_shared.specs.Publishing.{IsPublisherOf, fault_of_publish};
 
 use crate::publisher::Publisher;
 use crate::shareable::Shareable;
+use crate::sharing::{Sharing, ViewsOf};
 use ft_calls::Call;
 use ft_core::laws::reached;
 use ft_core::{Core, Fault, Outcome, TxnId};
-use ft_view::{Naming, Receipt};
+use ft_view::Receipt;
 use std::marker::Model;
 use std::sync::Wait;
 
 /// A core, and what publishes its committed calls where it has views. Clauses see the core's state,
 /// and the list that is published.
 ///
-/// What is published is a beginning of the committed part of the core's serial list, whatever is
-/// requested. It is not `Drop`: end it by `end`.
-pub struct Behind<J: Naming, C: Shareable> {
+/// Whatever is requested, the core goes on from the state that was shared, and what is published is
+/// a beginning of the committed part of its serial list. It is not `Drop`: end it by `end`.
+pub struct Behind<J: Sharing, C: Shareable> {
     core: C,
-    publisher: Option<Publisher<J>>,
+    publisher: Option<Publisher<ViewsOf<J>>>,
 }
 
-impl<J: Naming, C: Shareable> Model for Behind<J, C> {
-    ghost use Rattle.ft_shared.specs.Publishing.{Backed, coded_backed, published_in, ArePublished};
+impl<J: Sharing, C: Shareable> Model for Behind<J, C> {
+    ghost use Rattle.ft_shared.specs.Publishing.{Backed, coded_backed, published_in, IsBehind};
 
     ghost Value = { Backed };
 
@@ -37,12 +40,13 @@ impl<J: Naming, C: Shareable> Model for Behind<J, C> {
 
     ghost view = { λ a. record { core = C.stored a.core; forgotten = C.forgotten a.core; published = published_in a.publisher } };
 
-    ghost invariant = { λ a. ArePublished J.opened.base (C.stored a.core).state (C.forgotten a.core) a.publisher };
+    ghost invariant = { λ a. IsBehind J.origin (C.stored a.core).state (C.forgotten a.core) a.publisher };
 }
 
-impl<J: Naming, C: Shareable> Behind<J, C> {
+impl<J: Sharing, C: Shareable> Behind<J, C> {
     /// A core that has no views.
     pub(crate) fn alone(core: C) -> Behind<J, C>
+        requires { without_views (C.stored core).state ≡ J.origin }
         ensures core { result.core ≡ C.stored core }
         ensures published { result.published ≡ None }
     {
@@ -53,8 +57,10 @@ impl<J: Naming, C: Shareable> Behind<J, C> {
     }
 
     /// A core with its views.
-    pub(crate) fn with_views(core: C, publisher: Publisher<J>) -> Behind<J, C>
-        requires { IsPublisherOf J.opened.base (C.stored core).state (C.forgotten core) publisher }
+    pub(crate) fn with_views(core: C, publisher: Publisher<ViewsOf<J>>) -> Behind<J, C>
+        requires from { J.origin.from ≡ (C.stored core).state }
+        requires shown { J.origin.shown ≡ true }
+        requires publisher { IsPublisherOf (C.stored core).state (C.forgotten core) publisher }
         ensures core { result.core ≡ C.stored core }
         ensures published { result.published ≡ Some publisher.published }
     {
@@ -72,10 +78,13 @@ impl<J: Naming, C: Shareable> Behind<J, C> {
     }
 
     /// What is true whenever the lock is got: the history of the core is legal, from a sound base,
-    /// and what is published is a beginning of the committed part of its serial list. It does
-    /// nothing.
+    /// and goes on from what had happened when it was shared; it has views just where it was shared
+    /// with views; and what is published is a beginning of the committed part of its serial list.
+    /// It does nothing.
     pub fn stands(&self)
         ensures reached { IsReached self.now.core }
+        ensures goes_on { GoesOn J.origin.from self.now.core.state }
+        ensures shown { is_some self.now.published ≡ J.origin.shown }
         ensures published { IfSome self.now.published (λ calls. IsPrefix calls (committed_calls self.now.core.state)) }
     {
         reached(self.core.core());
@@ -165,14 +174,14 @@ impl<J: Naming, C: Shareable> Behind<J, C> {
     ///
     /// Refuses NoViews where the core has none, and then want of memory; then readers see what they
     /// saw.
-    pub fn publish<R: Wait>(&mut self, rt: &R) -> Result<(u64, Receipt<J>), Fault>
+    pub fn publish<R: Wait>(&mut self, rt: &R) -> Result<(u64, Receipt<ViewsOf<J>>), Fault>
         ensures core { self.new.core ≡ self.old.core }
-        ensures base { OnOk result (self.old.core.state.base.tree ≡ J.opened.base) }
+        ensures shown { OnOk result (IsTrue J.origin.shown) }
         ensures whole { OnOk result (self.new.published ≡ Some (committed_calls self.old.core.state)) }
         ensures count { IfOk result (λ told. told.0 ≡ length (committed_calls self.old.core.state)) }
         ensures receipt { IfOk result (λ told. told.1 ≡ committed_calls self.old.core.state) }
         ensures same { OnErr result (self.new.published ≡ self.old.published) }
-        ensures fault { IfErr result (λ fault. fault ≡ fault_of_publish self.old.published) }
+        ensures fault { IfErr result (λ fault. fault ≡ fault_of_publish J.origin.shown) }
 
         // What has happened is forgotten then, if the core ever forgets.
         ensures forgotten { OnOk result (self.new.forgotten ≡ cond C.forgets (Some (length self.old.core.state.events)) self.old.forgotten) }
@@ -180,6 +189,7 @@ impl<J: Naming, C: Shareable> Behind<J, C> {
         let Some(publisher) = &mut self.publisher else {
             return Err(Fault::NoViews);
         };
+        reached(self.core.core());
         let told = publisher.publish(rt, self.core.core(), self.core.events())?;
         if self.core.forget() {
             publisher.forget(self.core.core());
@@ -189,7 +199,8 @@ impl<J: Naming, C: Shareable> Behind<J, C> {
 
     /// Ends the views, and gives the core back.
     pub(crate) fn end<R: Wait>(self, rt: &R) -> C
-        ensures { C.stored result ≡ self.core }
+        ensures core { C.stored result ≡ self.core }
+        ensures goes_on { GoesOn J.origin.from (C.stored result).state }
     {
         let Behind { core, publisher } = self;
         match publisher {

@@ -9,9 +9,11 @@ mod opened;
 mod publisher;
 mod shareable;
 mod shared;
+mod sharing;
 
 pub use manager::Manager;
 pub use opened::{Cause, Opened, ViewsRefused, with_views};
 pub use publisher::MOST_READERS;
 pub use shareable::Shareable;
 pub use shared::{MOST_PAUSE, Refused, Shared};
+pub use sharing::{Sharing, ViewsOf};

@@ -1,19 +1,23 @@
 // What job threads ask of the transactions that they share.
 ghost use Rattle.std.specs.Prelude.{◌≤◌};
+ghost use Rattle.ft_core.specs.States.{State};
 
 use crate::shared::Shared;
+use crate::sharing::Sharing;
 use ft_calls::Call;
 use ft_core::{Fault, Outcome, TxnId};
 use ft_record::Recorded;
-use ft_view::Naming;
 use std::sync::Wait;
 use std::time::Clock;
 
 /// What job threads ask of the transactions that they share.
 ///
 /// No answer is promised to be true: who takes a manager has to find out for itself, when it has
-/// the core back.
+/// the core back. Of that core a manager may promise something (`hands_back`).
 pub trait Manager: Sync {
+    // What holds of the state of the core that is handed back. By default nothing is said.
+    ghost hands_back: { State → Type 0 } = { λ _. Unit {0} };
+
     /// Begins a top-level transaction.
     fn begin<R: Wait>(&self, rt: &R) -> Result<TxnId, Fault>;
 
@@ -38,10 +42,16 @@ pub trait Manager: Sync {
     fn abort<R: Wait>(&self, rt: &R, txn: TxnId) -> Result<u64, Fault>;
 
     /// Ends the manager, and gives the core back.
-    fn into_core<R: Wait>(self, rt: &R) -> Recorded;
+    fn into_core<R: Wait>(self, rt: &R) -> Recorded
+        ensures { hands_back result.state };
 }
 
-impl<J: Naming> Manager for Shared<J, Recorded> {
+impl<J: Sharing> Manager for Shared<J, Recorded> {
+    ghost use Rattle.ft_record.specs.Going.{GoesOn};
+
+    // It goes on from what was shared.
+    ghost hands_back = { GoesOn J.origin.from };
+
     fn begin<R: Wait>(&self, rt: &R) -> Result<TxnId, Fault> {
         self.begin(rt)
     }

@@ -9,12 +9,13 @@ use crate::behind::Behind;
 use crate::publisher::{Blank, Publisher};
 use crate::shareable::Shareable;
 use crate::shared::Shared;
+use crate::sharing::{Sharing, ViewsOf};
 use ft_base::Memory;
 use ft_book::Book;
 use ft_core::Fault;
 use ft_record::Recorded;
 use ft_tree::Tree;
-use ft_view::{Naming, Reader, View, ViewFault};
+use ft_view::{Reader, View, ViewFault};
 use std::alloc::Global;
 use std::marker::Model;
 use std::sync::Wait;
@@ -97,18 +98,18 @@ impl<C: Shareable> Opened<C> {
     ///
     /// The name, `J`, is in the proofs alone: it ties readers and receipts to these views. Refuses
     /// want of memory and then of a place for the reader, and hands the core back.
-    pub fn named<J: Naming, R: Wait>(
+    pub fn named<J: Sharing, R: Wait>(
         self,
         rt: &R,
-    ) -> Result<(Shared<J, C>, Reader<J>), ViewsRefused<C>>
-        requires { named_by self ≡ J.opened }
+    ) -> Result<(Shared<J, C>, Reader<ViewsOf<J>>), ViewsRefused<C>>
+        requires { named_by self ≡ J.origin }
         ensures reader { IfOk result (λ named. named.1 ≡ []) }
         ensures refused { IfErr result (λ refused. (C.stored refused.core ≡ self.core) × IsNameless refused.cause) }
     {
         let Opened { core, blank } = self;
         let alloc = core.core().alloc();
         let nothing = blank.nothing.again();
-        let publisher = match Publisher::<J>::new(alloc, blank) {
+        let publisher = match Publisher::<ViewsOf<J>>::new(alloc, blank) {
             Ok(publisher) => publisher,
             Err(Memory) => {
                 return Err(ViewsRefused {

@@ -41,7 +41,7 @@ impl<J: Naming> Model for Publisher<J> {
 
     ghost view = { λ a. record { published = a.writer.desk.shown.value.front.calls; fed = a.fed.calls; told = a.told.calls; held = a.held; commits = a.commits } };
 
-    ghost invariant = { λ a. IsPublishing J.opened a.book a.writer.desk.shown.value a.writer.behind a.writer.log.items a.fed a.told a.held a.commits };
+    ghost invariant = { λ a. IsPublishing J.opened J.shows a.book a.writer.desk.shown.value a.writer.behind a.writer.log.items a.fed a.told a.held a.commits };
 }
 
 /// What a publisher is made of: a book, the front that has seen nothing of it, and two equal views
@@ -61,6 +61,7 @@ impl<J: Naming> Publisher<J> {
         requires nothing { blank.nothing.calls ≡ [] }
         requires first { blank.first ≡ record { tree = J.opened.base; front = blank.nothing } }
         requires second { blank.second ≡ record { tree = J.opened.base; front = blank.nothing } }
+        requires whole { J.shows [] }
         ensures published { IfOk result (λ publisher. publisher.published ≡ []) }
         ensures passed { IfOk result (λ publisher. publisher.commits.events ≡ []) }
         ensures forgotten { IfOk result (λ publisher. publisher.commits.forgotten ≡ 0) }
@@ -109,6 +110,7 @@ impl<J: Naming> Publisher<J> {
     ) -> Result<(u64, Receipt<J>), Memory>
         requires passed { IsPrefix self.old.commits.events core.now.state.events }
         requires events { events.now ≡ drop self.old.commits.forgotten core.now.state.events }
+        requires whole { J.shows (committed_calls core.now.state) }
         ensures forgotten { self.new.commits.forgotten ≡ self.old.commits.forgotten }
         ensures passed { IsPrefix self.new.commits.events core.now.state.events }
         ensures gone { OnOk result (self.new.commits.events ≡ core.now.state.events) }
@@ -219,8 +221,10 @@ impl<J: Naming> Publisher<J> {
         }
     }
 
-    /// Shows readers what the writer was given. It waits for those that read the other copy.
+    /// Shows readers what the writer was given, which is whole. It waits for those that read the
+    /// other copy.
     fn show<R: Wait>(&mut self, rt: &R) -> Result<(), Memory>
+        requires { J.shows self.old.fed }
         ensures others { (self.new.fed ≡ self.old.fed) × (self.new.commits ≡ self.old.commits) }
         ensures shown { OnOk result (self.new.published ≡ self.old.fed) }
         ensures same { OnErr result (self.new.published ≡ self.old.published) }
@@ -229,7 +233,7 @@ impl<J: Naming> Publisher<J> {
             &mut self.writer,
             rt,
             |writer: Writing<J>, rt: &R| -> (Writing<J>, Result<(), Memory>)
-                requires { IsPublishable J.opened writer.desk.shown.value writer.behind writer.log.items }
+                requires { IsPublishable J.opened J.shows writer.desk.shown.value writer.behind writer.log.items }
                 ensures { IsPublished writer.desk.shown.value writer.behind writer.log.items result.0.desk.shown.value result.0.behind result.0.log.items result.1 }
             { shown(writer, rt) },
         )
@@ -251,7 +255,7 @@ impl<J: Naming> Publisher<J> {
 
 /// Shows what is pending.
 fn shown<J: Naming, R: Wait>(writer: Writing<J>, rt: &R) -> (Writing<J>, Result<(), Memory>)
-    requires { IsPublishable J.opened writer.desk.shown.value writer.behind writer.log.items }
+    requires { IsPublishable J.opened J.shows writer.desk.shown.value writer.behind writer.log.items }
     ensures { IsPublished writer.desk.shown.value writer.behind writer.log.items result.0.desk.shown.value result.0.behind result.0.log.items result.1 }
 {
     let (writer, shown) = writer.publish_as::<Shows<J>, R>(rt);

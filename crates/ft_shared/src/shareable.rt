@@ -155,6 +155,7 @@ impl Shareable for Core {
         self.commit(txn)
     }
 
+    #[tactic(auto, using(crate::proofs::Ends::aborted_is))]
     fn abort(&mut self, txn: TxnId) -> Result<u64, Fault> {
         self.abort(txn)
     }
@@ -223,6 +224,7 @@ impl Shareable for Recent {
         self.commit(txn)
     }
 
+    #[tactic(auto, using(crate::proofs::Ends::aborted_is))]
     fn abort(&mut self, txn: TxnId) -> Result<u64, Fault> {
         self.abort(txn)
     }
@@ -289,6 +291,7 @@ impl Shareable for Recorded {
         self.commit(txn)
     }
 
+    #[tactic(auto, using(crate::proofs::Ends::aborted_is))]
     fn abort(&mut self, txn: TxnId) -> Result<u64, Fault> {
         self.abort(txn)
     }

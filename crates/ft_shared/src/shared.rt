@@ -1,7 +1,7 @@
 // A core behind a lock.
-ghost use Rattle.std.specs.Prelude.{◌≡◌, ◌≤◌, ◌⊎◌, length, MatchResult, IfOk, IfErr};
+ghost use Rattle.std.specs.Prelude.{◌≡◌, ◌≤◌, length, MatchResult, IfOk, IfErr, IsTrue, OnOk};
 ghost use Rattle.std.specs.Sync.Mutex.{mutex_guard_value};
-ghost use Rattle.ft_core.specs.declared.fault.Fault.TheVariants.{Memory as MemoryFault, Live as LiveFault, NoViews};
+ghost use Rattle.ft_core.specs.declared.fault.Fault.TheVariants.{Memory as MemoryFault, Live as LiveFault};
 ghost use Rattle.ft_core.specs.declared.request.Request.TheVariants.{Begin, Sub, Ask, Retry, Drop as DropAsk, Commit, Abort, Undo};
 ghost use Rattle.ft_core.specs.declared.request.Answer.TheVariants.{Txn, Dropped, Committed, Aborted, Undone};
 ghost use Rattle.ft_core.specs.Living.{SomeIsLive, NoneIsLive};
@@ -9,16 +9,20 @@ ghost use Rattle.ft_core.specs.Steps.{IsStep, exact_rule, answer_with, outcome_a
 ghost use Rattle.ft_waits.specs.Edges.{AreEdgesOf};
 ghost use Rattle.ft_waits.specs.Waits.{IsVerdict};
 ghost use Rattle.ft_core.specs.Reached.{IsReached};
+ghost use Rattle.ft_record.specs.Going.{GoesOn};
 ghost use Rattle.ft_serial.specs.Serials.{committed_calls};
-ghost use Rattle.ft_shared.specs.Behind.{OfSomeCore, InSomeCore, IsAborted, IsUndone};
+ghost use Rattle.ft_shared.specs.Behind.{OfCoreFrom, InCoreFrom, IsAborted, IsUndone};
+ghost use Rattle.ft_shared.specs.Origins.{without_views};
+ghost use Rattle.ft_shared.specs.Publishing.{fault_of_publish};
 
 use crate::behind::Behind;
 use crate::shareable::Shareable;
+use crate::sharing::{Sharing, ViewsOf};
 use ft_base::Memory;
 use ft_calls::Call;
 use ft_core::{Core, Fault, Outcome, State, TxnId};
 use ft_record::Recorded;
-use ft_view::{Naming, Receipt};
+use ft_view::Receipt;
 use ft_waits::{Edge, Verdict, edges, with_verdict};
 use std::alloc::Global;
 use std::marker::Brand;
@@ -33,10 +37,14 @@ pub const MOST_PAUSE: u64 = 5;
 /// Each call makes one call of the core, or reads it, in one holding of the lock; a commit or an
 /// abort that is not refused also sweeps, in the same holding, what it has let go. What stands
 /// behind the lock is a `Core`: whenever the lock is got, its history is a legal one from a sound
-/// base, and its tree is what a plain tree holds after the standing calls alone. Which core it was,
-/// no clause can say: each says that the answer is a legal one of some core, of which holds what
-/// is true of every core. No clause says that a call returns.
-pub struct Shared<J: Naming = Brand, C: Shareable = Recorded> {
+/// base, which goes on from the state that was shared (`J` tells which one that was), and its tree
+/// is what a plain tree holds after the standing calls alone. How far it had come, no clause can
+/// say: each says that the answer is a legal one of some core that goes on from there
+/// (`InCoreFrom`). No clause says that a call returns.
+///
+/// There is no checkpoint here: once 100,000 transactions were begun, or 1,000,000 calls granted,
+/// since the base, it is `Full` for good, until `into_core` gives the core back.
+pub struct Shared<J: Sharing = Brand, C: Shareable = Recorded> {
     behind: Mutex<Behind<J, C>>,
     // For copies of calls, which are made before the lock is got.
     alloc: Global,
@@ -51,11 +59,12 @@ pub struct Refused<C = Recorded> {
     pub fault: Fault,
 }
 
-impl<J: Naming, C: Shareable> Shared<J, C> {
+impl<J: Sharing, C: Shareable> Shared<J, C> {
     /// Puts a core behind a lock. Takes no memory.
     ///
     /// Refuses Live where a transaction is live, and hands the core back.
     pub fn new(core: C) -> Result<Shared<J, C>, Refused<C>>
+        requires { without_views (C.stored core).state ≡ J.origin }
         ensures { MatchResult result (λ shared. NoneIsLive (C.stored core).state) (λ refused. (refused.core ≡ core) × (refused.fault ≡ LiveFault) × SomeIsLive (C.stored core).state) }
     {
         if core.core().has_live() {
@@ -80,7 +89,7 @@ impl<J: Naming, C: Shareable> Shared<J, C> {
     ///
     /// Refuses Full where there are as many transactions as there may be.
     pub fn begin<R: Wait>(&self, rt: &R) -> Result<TxnId, Fault>
-        ensures { InSomeCore (λ old new. IsStep exact_rule old Begin (answer_with Txn result) new) }
+        ensures { InCoreFrom J.origin.from (λ old new. IsStep exact_rule old Begin (answer_with Txn result) new) }
     {
         let mut behind = self.held(rt);
         let answer = behind.begin();
@@ -93,7 +102,7 @@ impl<J: Naming, C: Shareable> Shared<J, C> {
     /// Refuses NoTxn, Ended, Deep where the parent stands as deep as one may, and Full, in this
     /// order.
     pub fn sub<R: Wait>(&self, rt: &R, parent: TxnId) -> Result<TxnId, Fault>
-        ensures { InSomeCore (λ old new. IsStep exact_rule old (Sub parent) (answer_with Txn result) new) }
+        ensures { InCoreFrom J.origin.from (λ old new. IsStep exact_rule old (Sub parent) (answer_with Txn result) new) }
     {
         let mut behind = self.held(rt);
         let answer = behind.sub(parent);
@@ -105,7 +114,7 @@ impl<J: Naming, C: Shareable> Shared<J, C> {
     ///
     /// Refuses NoTxn, Ended, and Full where as many calls are granted as may be, in this order.
     pub fn ask<R: Wait>(&self, rt: &R, txn: TxnId, call: Call) -> Result<Outcome, Fault>
-        ensures { InSomeCore (λ old new. IsStep exact_rule old (Ask txn call) (answer_with outcome_answer result) new) }
+        ensures { InCoreFrom J.origin.from (λ old new. IsStep exact_rule old (Ask txn call) (answer_with outcome_answer result) new) }
     {
         let mut behind = self.held(rt);
         let answer = behind.ask(txn, call);
@@ -129,7 +138,7 @@ impl<J: Naming, C: Shareable> Shared<J, C> {
         turns: u64,
     ) -> Result<Outcome, Fault>
         requires { 1 ≤ turns }
-        ensures { InSomeCore (λ old new. IsStep exact_rule old (Ask txn call.now) (answer_with outcome_answer result) new) }
+        ensures { InCoreFrom J.origin.from (λ old new. IsStep exact_rule old (Ask txn call.now) (answer_with outcome_answer result) new) }
     {
         for _ in 1..turns {
             match self.turn(rt, txn, call) {
@@ -142,7 +151,7 @@ impl<J: Naming, C: Shareable> Shared<J, C> {
 
     /// Asks once, for a copy of the call.
     fn turn<R: Wait>(&self, rt: &R, txn: TxnId, call: &Call) -> Result<Outcome, Fault>
-        ensures { InSomeCore (λ old new. IsStep exact_rule old (Ask txn call.now) (answer_with outcome_answer result) new) }
+        ensures { InCoreFrom J.origin.from (λ old new. IsStep exact_rule old (Ask txn call.now) (answer_with outcome_answer result) new) }
     {
         match call.copy(self.alloc) {
             Ok(copy) => self.ask(rt, txn, copy),
@@ -153,7 +162,7 @@ impl<J: Naming, C: Shareable> Shared<J, C> {
 
     /// Makes a copy of a call, as `ask` makes a call. The copy is made while the lock is held.
     fn ask_copy<R: Wait>(&self, rt: &R, txn: TxnId, call: &Call) -> Result<Outcome, Fault>
-        ensures { InSomeCore (λ old new. IsStep exact_rule old (Ask txn call.now) (answer_with outcome_answer result) new) }
+        ensures { InCoreFrom J.origin.from (λ old new. IsStep exact_rule old (Ask txn call.now) (answer_with outcome_answer result) new) }
     {
         let mut behind = self.held(rt);
         let answer = behind.ask_copy(txn, call);
@@ -181,7 +190,7 @@ impl<J: Naming, C: Shareable> Shared<J, C> {
     /// Refuses NoTxn, Ended, NoAsk, and Full where as many calls are granted as may be, in this
     /// order.
     pub fn retry<R: Wait>(&self, rt: &R, txn: TxnId) -> Result<Outcome, Fault>
-        ensures { InSomeCore (λ old new. IsStep exact_rule old (Retry txn) (answer_with outcome_answer result) new) }
+        ensures { InCoreFrom J.origin.from (λ old new. IsStep exact_rule old (Retry txn) (answer_with outcome_answer result) new) }
     {
         let mut behind = self.held(rt);
         let answer = behind.retry(txn);
@@ -193,7 +202,7 @@ impl<J: Naming, C: Shareable> Shared<J, C> {
     ///
     /// Refuses NoTxn, Ended and NoAsk, in this order.
     pub fn drop_ask<R: Wait>(&self, rt: &R, txn: TxnId) -> Result<(), Fault>
-        ensures { InSomeCore (λ old new. IsStep exact_rule old (DropAsk txn) (answer_with (λ done. Dropped) result) new) }
+        ensures { InCoreFrom J.origin.from (λ old new. IsStep exact_rule old (DropAsk txn) (answer_with (λ done. Dropped) result) new) }
     {
         let mut behind = self.held(rt);
         let answer = behind.drop_ask(txn);
@@ -207,7 +216,7 @@ impl<J: Naming, C: Shareable> Shared<J, C> {
     ///
     /// Refuses NoTxn, Ended, and ChildLive where it has a live child, in this order.
     pub fn commit<R: Wait>(&self, rt: &R, txn: TxnId) -> Result<(), Fault>
-        ensures { InSomeCore (λ old new. IsStep exact_rule old (Commit txn) (answer_with (λ done. Committed) result) new) }
+        ensures { InCoreFrom J.origin.from (λ old new. IsStep exact_rule old (Commit txn) (answer_with (λ done. Committed) result) new) }
     {
         let mut behind = self.held(rt);
         let answer = behind.commit(txn);
@@ -223,7 +232,7 @@ impl<J: Naming, C: Shareable> Shared<J, C> {
     ///
     /// Refuses NoTxn and Ended, in this order.
     pub fn abort<R: Wait>(&self, rt: &R, txn: TxnId) -> Result<u64, Fault>
-        ensures { InSomeCore (λ old new. IsAborted old txn (answer_with Aborted result) new) }
+        ensures { InCoreFrom J.origin.from (λ old new. IsAborted old txn (answer_with Aborted result) new) }
     {
         let mut behind = self.held(rt);
         let answer = behind.abort(txn);
@@ -240,7 +249,7 @@ impl<J: Naming, C: Shareable> Shared<J, C> {
     /// Refuses NoTxn, Ended, ChildLive, and NothingToUndo where there is none or SubSince where a
     /// child has committed since, in this order.
     pub fn undo_call<R: Wait>(&self, rt: &R, txn: TxnId) -> Result<u64, Fault>
-        ensures { InSomeCore (λ old new. IsUndone old txn (answer_with Undone result) new) }
+        ensures { InCoreFrom J.origin.from (λ old new. IsUndone old txn (answer_with Undone result) new) }
     {
         let mut behind = self.held(rt);
         let answer = behind.undo_call(txn);
@@ -253,7 +262,7 @@ impl<J: Naming, C: Shareable> Shared<J, C> {
     ///
     /// Want of memory is the only refusal.
     pub fn waits<R: Wait>(&self, rt: &R) -> Result<(Vec<Edge>, Verdict), Fault>
-        ensures edges { IfOk result (λ told. OfSomeCore (λ state. AreEdgesOf state told.0.items)) }
+        ensures edges { IfOk result (λ told. OfCoreFrom J.origin.from (λ state. AreEdgesOf state told.0.items)) }
         ensures verdict { IfOk result (λ told. IsVerdict told.0.items told.1) }
         ensures fault { IfErr result (λ fault. fault ≡ MemoryFault) }
     {
@@ -264,7 +273,7 @@ impl<J: Naming, C: Shareable> Shared<J, C> {
     /// The waits-for edges of the core, each once, in their order. The lock is free when they are
     /// told.
     fn list_edges<R: Wait>(&self, rt: &R) -> Result<Vec<Edge>, Memory>
-        ensures { IfOk result (λ edges. OfSomeCore (λ state. AreEdgesOf state edges.items)) }
+        ensures { IfOk result (λ edges. OfCoreFrom J.origin.from (λ state. AreEdgesOf state edges.items)) }
     {
         let behind = self.held(rt);
         let edges = edges(behind.core());
@@ -280,10 +289,11 @@ impl<J: Naming, C: Shareable> Shared<J, C> {
     /// looks at the list before: a reader holds it up for one `stat`, `list` or `read_file`, and
     /// takes no lock meanwhile. Refuses NoViews where the core has none, and then want of memory,
     /// and then nothing more is published.
-    pub fn publish<R: Wait>(&self, rt: &R) -> Result<(u64, Receipt<J>), Fault>
+    pub fn publish<R: Wait>(&self, rt: &R) -> Result<(u64, Receipt<ViewsOf<J>>), Fault>
         ensures count { IfOk result (λ told. told.0 ≡ length told.1) }
-        ensures committed { IfOk result (λ told. OfSomeCore (λ state. (state.base.tree ≡ J.opened.base) × (told.1 ≡ committed_calls state))) }
-        ensures fault { IfErr result (λ fault. (fault ≡ NoViews) ⊎ (fault ≡ MemoryFault)) }
+        ensures committed { IfOk result (λ told. OfCoreFrom J.origin.from (λ state. told.1 ≡ committed_calls state)) }
+        ensures shown { OnOk result (IsTrue J.origin.shown) }
+        ensures fault { IfErr result (λ fault. fault ≡ fault_of_publish J.origin.shown) }
     {
         let mut behind = self.held(rt);
         let answer = behind.publish(rt);
@@ -293,7 +303,9 @@ impl<J: Naming, C: Shareable> Shared<J, C> {
 
     /// Ends the sharing, and gives the core back. It waits for the readers that read; readers
     /// answer NoReader from then on. Takes no memory.
-    pub fn into_core<R: Wait>(self, rt: &R) -> C {
+    pub fn into_core<R: Wait>(self, rt: &R) -> C
+        ensures { GoesOn J.origin.from (C.stored result).state }
+    {
         let Shared {
             behind,
             alloc: _,
@@ -302,9 +314,11 @@ impl<J: Naming, C: Shareable> Shared<J, C> {
         behind.into_inner().end(rt)
     }
 
-    /// Gets the lock. The history of the core that stands there is legal, from a sound base.
+    /// Gets the lock. The history of the core that stands there is legal, from a sound base, and
+    /// goes on from what was shared.
     fn held<R: Wait>(&self, rt: &R) -> MutexGuard<'_, Behind<J, C>>
-        ensures { IsReached (mutex_guard_value result).core }
+        ensures reached { IsReached (mutex_guard_value result).core }
+        ensures goes_on { GoesOn J.origin.from (mutex_guard_value result).core.state }
     {
         let behind = self.behind.lock(rt);
         behind.stands();
@@ -315,5 +329,5 @@ impl<J: Naming, C: Shareable> Shared<J, C> {
 /// Whether these transactions are all live.
 fn are_live(core: &Core, txns: &[TxnId]) -> bool {
     txns.iter()
-        .all(|txn| matches!(core.state(*txn), Some(State::Live)))
+        .all(|txn| matches!(core.fate(*txn), Some(State::Live)))
 }

@@ -1,10 +1,20 @@
 -- The line that tells of a fault, with its line feed.
-use Rattle.std.specs.Prelude.{ℕ, List, [], ◌∷◌, ◌++◌, codes}
+use Rattle.std.specs.Prelude.{◌⊎◌, ℕ, List, [], ◌∷◌, ◌++◌, Option, codes}
+use Rattle.std.specs.Fmt.{decimal}
+use Rattle.ft_after.specs.declared.fault.AfterFault.{AfterFault}
+use Rattle.ft_after.specs.declared.fault.AfterFault.TheVariants as after
+use Rattle.ft_copy.specs.declared.trouble.Stopped.{Stopped}
+use Rattle.ft_copy.specs.declared.trouble.Trouble.{Trouble}
+use Rattle.ft_copy.specs.declared.trouble.Trouble.TheVariants as troubles
 use Rattle.ft_plan.specs.declared.fault.JobFault.TheVariants as jobs
 use Rattle.ft_script.specs.declared.playing.PlayFault.{PlayFault}
 use Rattle.ft_script.specs.declared.playing.PlayFault.TheVariants.{Memory, Read, Write, TooLong, Turns}
+use Rattle.ft_script.specs.Runs.{WritesFront}
 use Rattle.ft_outcome.specs.declared.running.RunFault.{RunFault}
 use Rattle.ft_outcome.specs.declared.running.RunFault.TheVariants as run
+use Rattle.ft_save.specs.declared.saving.SaveFault.{SaveFault}
+use Rattle.ft_save.specs.declared.saving.SaveFault.TheVariants as save
+use Rattle.ft_words.specs.Texts.{data_text}
 
 -- `fault: NAME` and a line feed, for a fault of a script
 abbrev pub fault_line : PlayFault → List ℕ
@@ -21,3 +31,37 @@ run_fault_line (run.Jobs jobs.BadPlan) = codes "fault: BadPlan" ++ 10 ∷ []
 run_fault_line (run.Jobs jobs.Mismatch) = codes "fault: Mismatch" ++ 10 ∷ []
 run_fault_line (run.Jobs jobs.Thread) = codes "fault: Thread" ++ 10 ∷ []
 run_fault_line run.Write = fault_line Write
+
+-- the same of a script that was not played first
+abbrev pub after_line : AfterFault → List ℕ
+after_line after.Memory = fault_line Memory
+after_line (after.Script number) = codes "fault: Script " ++ decimal number ++ 10 ∷ []
+
+-- the name of what stopped a copy
+abbrev pub trouble_name : Trouble → List ℕ
+trouble_name troubles.Memory = codes "Memory"
+trouble_name troubles.Read = codes "Read"
+trouble_name troubles.Write = codes "Write"
+trouble_name troubles.Special = codes "Special"
+trouble_name troubles.TooLarge = codes "TooLarge"
+trouble_name troubles.TooManyLinks = codes "TooManyLinks"
+trouble_name troubles.PathTooLong = codes "PathTooLong"
+trouble_name troubles.BadName = codes "BadName"
+trouble_name troubles.BadTree = codes "BadTree"
+trouble_name troubles.Exists = codes "Exists"
+trouble_name troubles.Full = codes "Full"
+
+-- the same of a copy: the path behind the name, coded, where it is not empty
+abbrev pub stopped_line : Stopped → List ℕ
+stopped_line stopped = codes "fault: " ++ trouble_name stopped.trouble ++ data_text stopped.path ++ 10 ∷ []
+
+-- the same of a save
+abbrev pub save_line : SaveFault → List ℕ
+save_line (save.Replies fault) = fault_line fault
+save_line save.NoTree = codes "fault: NoTree" ++ 10 ∷ []
+save_line (save.Stopped stopped) = stopped_line stopped
+
+-- The line was written, or a beginning of it; or so was that of Memory, where there was none for
+-- the line.
+abbrev pub TellsLine : Option (List ℕ) → Option (List ℕ) → List ℕ → Type 0
+TellsLine before after line = WritesFront before after line ⊎ WritesFront before after (fault_line Memory)

@@ -1,7 +1,8 @@
 // The line that tells of a fault.
 ghost use Rattle.std.specs.Prelude.{◌≡◌};
-ghost use Rattle.ft_status.specs.FaultLines.{fault_line, run_fault_line};
+ghost use Rattle.ft_status.specs.FaultLines.{fault_line, run_fault_line, trouble_name};
 
+use ft_copy::Trouble;
 use ft_jobs::JobFault;
 use ft_outcome::RunFault;
 use ft_script::PlayFault;
@@ -29,5 +30,24 @@ pub fn run_fault_line(fault: RunFault) -> &'static str
         RunFault::Jobs(JobFault::Mismatch) => "fault: Mismatch\n",
         RunFault::Jobs(JobFault::Thread) => "fault: Thread\n",
         RunFault::Write => fault_line(PlayFault::Write),
+    }
+}
+
+/// The name of what stopped a copy.
+pub(crate) fn trouble_name(trouble: Trouble) -> &'static str
+    ensures { result.now ≡ trouble_name trouble }
+{
+    match trouble {
+        Trouble::Memory => "Memory",
+        Trouble::Read => "Read",
+        Trouble::Write => "Write",
+        Trouble::Special => "Special",
+        Trouble::TooLarge => "TooLarge",
+        Trouble::TooManyLinks => "TooManyLinks",
+        Trouble::PathTooLong => "PathTooLong",
+        Trouble::BadName => "BadName",
+        Trouble::BadTree => "BadTree",
+        Trouble::Exists => "Exists",
+        Trouble::Full => "Full",
     }
 }

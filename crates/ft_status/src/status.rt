@@ -3,14 +3,14 @@ ghost use Rattle.std.specs.Prelude.{◌≡◌, ◌≤◌, ◌⊎◌};
 ghost use Rattle.std.specs.Io.KnownBytes.{Keeps};
 ghost use Rattle.ft_dot.specs.Drawn.{Draws, StopsDrawing};
 ghost use Rattle.ft_outcome.specs.Runs.{RunsPlan, StopsPlan};
-ghost use Rattle.ft_status.specs.FaultLines.{fault_line, run_fault_line};
+ghost use Rattle.ft_status.specs.FaultLines.{TellsLine, after_line, fault_line, run_fault_line, save_line, stopped_line};
 ghost use Rattle.ft_script.specs.Runs.{PlaysAll, StopsAt, WritesFront};
 ghost use Rattle.ft_core.specs.Living.{NoneIsLive};
 ghost use Rattle.ft_core.specs.States.{State};
-ghost use Rattle.ft_load.specs.Loads.{Loads};
-ghost use Rattle.ft_save.specs.Saves.{Saves};
+ghost use Rattle.ft_load.specs.Loads.{Loads, StopsLoad};
+ghost use Rattle.ft_save.specs.Saves.{IsLeft, Saves, StopsSave};
 
-use crate::faults::{fault_line, run_fault_line};
+use crate::faults::{fault_line, run_fault_line, trouble_name};
 use ft_after::AfterFault;
 use ft_copy::{Source, Stopped, Target};
 use ft_core::Core;
@@ -93,8 +93,8 @@ pub fn jobs_status<R: Threads + Wait + Clock + Sync, S: Write + Send + Drop, W: 
     requires none_live { NoneIsLive core.state }
     ensures status { (result ≡ 0) ⊎ (result ≡ 1) }
     ensures quiet { result ≡ 0 → Keeps (E.contents errors.old) (E.contents errors.new) }
-    ensures ok { result ≡ 0 → RunsPlan plan.now (W.contents writer.old) (W.contents writer.new) }
-    ensures fault { result ≡ 1 → (fault : RunFault) × StopsPlan fault plan.now (W.contents writer.old) (W.contents writer.new)
+    ensures ok { result ≡ 0 → RunsPlan core.state plan.now (W.contents writer.old) (W.contents writer.new) }
+    ensures fault { result ≡ 1 → (fault : RunFault) × StopsPlan fault core.state plan.now (W.contents writer.old) (W.contents writer.new)
         × WritesFront (E.contents errors.old) (E.contents errors.new) (run_fault_line fault) }
 {
     match run_plan(rt, alloc, core, plan, turns, screen, writer) {
@@ -112,42 +112,50 @@ pub fn failed<E: Write>(errors: &mut E, line: &str) -> u8
     1
 }
 
-/// Tells why a script was not played first, and answers the status that it ends with.
+/// Tells why a script was not played first, and answers the status that it ends with. Where there
+/// is no memory for the line, that is told.
 pub fn after_failed<E: Write>(alloc: Global, errors: &mut E, fault: AfterFault) -> u8
-    ensures { result ≡ 1 }
+    ensures status { result ≡ 1 }
+    ensures line { TellsLine (E.contents errors.old) (E.contents errors.new) (after_line fault) }
 {
-    match format!(in alloc; "fault: {fault}\n") {
+    let AfterFault::Script(number) = fault else {
+        return failed(errors, fault_line(PlayFault::Memory));
+    };
+    match format!(in alloc; "fault: Script {number}\n") {
         Ok(line) => failed(errors, line.as_str()),
         Err(_) => failed(errors, fault_line(PlayFault::Memory)),
     }
 }
 
-/// Writes a script of what a source tells, and answers the status to end with: 0, or 1 after a
-/// fault, of which a line tells on `errors`, with the path where it came. How far it has come is
-/// shown on a screen meanwhile, if there is one.
-pub fn load_status<R: Clock, S: Source, V: Write + Drop, W: Write + Drop, E: Write>(
+/// Writes a script of what a source tells, and answers the writer and the status to end with: 0, or
+/// 1 after a fault, of which a line tells on `errors`, with the path where it came. How far it has
+/// come is shown on a screen meanwhile, if there is one.
+pub fn load_status<R: Clock, S: Source, V: Write + Drop, W: Write, E: Write>(
     rt: &R,
     alloc: Global,
     source: &S,
     screen: Option<V>,
     writer: W,
     errors: &mut E,
-) -> u8
-    ensures status { (result ≡ 0) ⊎ (result ≡ 1) }
-    ensures quiet { result ≡ 0 → Keeps (E.contents errors.old) (E.contents errors.new) }
-    ensures ok { result ≡ 0 → (after : W) × Loads (S.tells source.now) (W.contents writer) (W.contents after) }
+) -> (W, u8)
+    ensures status { (result.1 ≡ 0) ⊎ (result.1 ≡ 1) }
+    ensures quiet { result.1 ≡ 0 → Keeps (E.contents errors.old) (E.contents errors.new) }
+    ensures ok { result.1 ≡ 0 → Loads (S.tells source.now) (W.contents writer) (W.contents result.0) }
+    ensures fault { result.1 ≡ 1 → (stopped : Stopped) × StopsLoad (S.tells source.now) stopped (W.contents writer) (W.contents result.0)
+        × TellsLine (E.contents errors.old) (E.contents errors.new) (stopped_line stopped) }
 {
     let shown = ShownSource::new(rt, alloc, source, screen);
-    let (_, loaded) = load(alloc, &shown, writer);
+    let (writer, loaded) = load(alloc, &shown, writer);
     shown.done();
-    match loaded {
+    let status = match loaded {
         Ok(()) => 0,
         Err(stopped) => stopped_failed(alloc, errors, &stopped),
-    }
+    };
+    (writer, status)
 }
 
-/// Makes the last tree among replies, and answers the status to end with: 0, or 1 after a fault, of
-/// which a line tells on `errors`, with the path where it came.
+/// Makes the tree with which replies end, and answers the status to end with: 0, or 1 after a
+/// fault, of which a line tells on `errors`, with the path where it came.
 pub fn save_status<R: Read, T: Target, E: Write>(
     alloc: Global,
     reader: &mut R,
@@ -157,21 +165,36 @@ pub fn save_status<R: Read, T: Target, E: Write>(
     ensures status { (result ≡ 0) ⊎ (result ≡ 1) }
     ensures quiet { result ≡ 0 → Keeps (E.contents errors.old) (E.contents errors.new) }
     ensures ok { result ≡ 0 → Saves (R.remaining reader.old) (R.remaining reader.new) T.does target.old target.new }
+    ensures left { result ≡ 1 → IsLeft T.does T.fails target.old target.new }
+    ensures fault { result ≡ 1 → (fault : SaveFault) × StopsSave T.does T.fails fault (R.remaining reader.old) (R.remaining reader.new) target.old target.new
+        × TellsLine (E.contents errors.old) (E.contents errors.new) (save_line fault) }
 {
     match save(alloc, reader, target) {
         Ok(()) => 0,
-        Err(SaveFault::Replies(fault)) => failed(errors, fault_line(fault)),
-        Err(SaveFault::NoTree) => failed(errors, "fault: NoTree\n"),
-        Err(SaveFault::Stopped(stopped)) => stopped_failed(alloc, errors, &stopped),
+        Err(fault) => save_failed(alloc, errors, &fault),
     }
 }
 
-// Tells why a copy was not made, and where.
-fn stopped_failed<E: Write>(alloc: Global, errors: &mut E, stopped: &Stopped) -> u8
-    ensures { result ≡ 1 }
+// Tells why nothing was saved.
+fn save_failed<E: Write>(alloc: Global, errors: &mut E, fault: &SaveFault) -> u8
+    ensures status { result ≡ 1 }
+    ensures line { TellsLine (E.contents errors.old) (E.contents errors.new) (save_line fault.now) }
 {
+    match fault {
+        SaveFault::Replies(fault) => failed(errors, fault_line(*fault)),
+        SaveFault::NoTree => failed(errors, "fault: NoTree\n"),
+        SaveFault::Stopped(stopped) => stopped_failed(alloc, errors, stopped),
+    }
+}
+
+// Tells why a copy was not made, and where. Where there is no memory for the line, that is told.
+fn stopped_failed<E: Write>(alloc: Global, errors: &mut E, stopped: &Stopped) -> u8
+    ensures status { result ≡ 1 }
+    ensures line { TellsLine (E.contents errors.old) (E.contents errors.new) (stopped_line stopped.now) }
+{
+    let name = trouble_name(stopped.trouble);
     let path = Data(stopped.path.as_slice());
-    match format!(in alloc; "fault: {}{path}\n", stopped.trouble) {
+    match format!(in alloc; "fault: {name}{path}\n") {
         Ok(line) => failed(errors, line.as_str()),
         Err(_) => failed(errors, fault_line(PlayFault::Memory)),
     }

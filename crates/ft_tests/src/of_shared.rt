@@ -1,10 +1,13 @@
 // Who waits for whom; threads that wait, and let others go on; what a sweep finds; what is handed
 // back. Scripts are case files, which ft_through plays.
+ghost use Rattle.std.specs.Prelude.{◌≡◌};
+ghost use Rattle.ft_shared.specs.Origins.{without_views};
+
 use ft_calls::Call;
 use ft_core::{Fault, Outcome, TxnId};
 use ft_path::FilePath;
 use ft_record::Recorded;
-use ft_shared::{MOST_PAUSE, Manager, Refused, Shared};
+use ft_shared::{MOST_PAUSE, Manager, Refused, Shared, Sharing};
 use ft_test_scripts::{is_deadlock, new_shared};
 use std::alloc::Global;
 use std::marker::Brand;
@@ -256,8 +259,10 @@ fn is_handed_back(refused: &Refused) -> bool {
     refused.fault == Fault::Live && refused.core.history().len() == 1
 }
 
-fn is_refused<R: Wait>(rt: &R, core: Recorded) -> bool {
-    match Shared::<Brand>::new(core) {
+fn is_refused<J: Sharing, R: Wait>(rt: &R, core: Recorded) -> bool
+    requires { without_views core.state ≡ J.origin }
+{
+    match Shared::<J>::new(core) {
         Ok(shared) => {
             shared.into_core(rt);
             false
@@ -270,6 +275,6 @@ fn is_refused<R: Wait>(rt: &R, core: Recorded) -> bool {
 fn single_calls(rt: HostRuntime) -> Result<(), Fail> {
     let mut core = Recorded::new(rt.alloc())?;
     assert_eq!(rt; core.begin(), Ok(TxnId(1)));
-    assert!(rt; is_refused(&rt, core));
+    assert!(rt; is_refused::<Brand, HostRuntime>(&rt, core));
     Ok(())
 }

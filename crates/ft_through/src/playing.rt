@@ -9,11 +9,22 @@ use std::alloc::Global;
 use std::io::Write;
 use std::marker::Brand;
 use std::sync::Wait;
+use std::thread::{self, Threads};
 
-/// Plays a script, line by line, and writes the replies.
-pub fn play<R: Wait, W: Write>(rt: &R, alloc: Global, script: &[u8], writer: &mut W) -> Result<()> {
+/// Plays a script, line by line, and writes the replies. Beside it another thread asks once who
+/// waits for whom, which changes nothing.
+pub fn play<R: Threads + Wait + Sync, W: Write>(
+    rt: &R,
+    alloc: Global,
+    script: &[u8],
+    writer: &mut W,
+) -> Result<()> {
     let shared = new_shared(alloc)?;
-    let played = play_through(rt, alloc, &shared, script, writer);
+    let (_, played) = thread::join(
+        rt,
+        || shared.waits(rt).is_ok(),
+        || play_through(rt, alloc, &shared, script, writer),
+    );
     shared.into_core(rt);
     played
 }

@@ -25,6 +25,7 @@ zero-of (suc n) h = unlike (lt-ltb 0 (suc n) (omega arith)) h
 module _ (kept : Cell → Bool) where
   pub swept-none : (cells : Cells) → IsSwept kept cells cells
   swept-none cells = record {
+    limits = refl;
     entries = λ d name. refl;
     parents = λ d. refl;
     links = λ i. refl;
@@ -40,6 +41,7 @@ module _ (kept : Cell → Bool) where
   -- one after the other
   pub swept-then : (a b c : Cells) → IsSwept kept a b → IsSwept kept b c → IsSwept kept a c
   swept-then a b c h g = record {
+    limits = g.limits ∙ h.limits;
     entries = λ d name. g.entries d name ∙ h.entries d name;
     parents = λ d. g.parents d ∙ h.parents d;
     links = λ i. g.links i ∙ h.links i;
@@ -161,6 +163,7 @@ module _ (kept : Cell → Bool) where
       dirs = λ d. refl;
       named = λ j. ap (λ n. nat_lt 0 n || is_open cells.opens j) (file-links j);
       places = file-kept;
+      limits = refl;
       none_new = file-none_new;
     }
 
@@ -222,6 +225,7 @@ module _ (kept : Cell → Bool) where
       dirs = λ d. refl;
       named = λ i. ap (λ b. nat_lt 0 (links_of cells i) || b) (is_open-remove cells.opens f shut i);
       places = fd-kept;
+      limits = refl;
       none_new = fd-none_new;
     }
 
@@ -297,6 +301,7 @@ module _ (kept : Cell → Bool) where
           (λ f. ap (λ o. option_map_or (is_there e) o false) (dir-there e f));
       named = λ i. refl;
       places = dir-kept;
+      limits = refl;
       none_new = dir-none_new;
     }
 
@@ -403,6 +408,7 @@ module _ (kept : Cell → Bool) where
           (λ f. ap (λ o. option_map_or (is_there e) o false) (at-there e f));
       named = λ i. refl;
       places = entry-kept;
+      limits = refl;
       none_new = entry-none_new;
     }
 

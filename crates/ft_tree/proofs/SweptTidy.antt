@@ -105,7 +105,7 @@ module _ (kept : Cell → Bool) (cells : Cells) where
       files-gather cells.opens (entries (remove cells.files i))
       ∙ gather-remove nat_cmp_total exact_unsigned (file_of_entry cells.opens) [] cells.files i x (tied-itself nat_cmp_total i) is (λ r. ap (λ b. cond b (stored (i, x) ∷ r) r) unnamed)
       ∙ sym (files-gather cells.opens (entries cells.files)) in
-      λ k. record { edges = (tidy cells).edges; dirs = (tidy cells).dirs; files = from_entries (same k); opens = (tidy cells).opens })
+      λ k. record { limits = cells.limits; edges = (tidy cells).edges; dirs = (tidy cells).dirs; files = from_entries (same k); opens = (tidy cells).opens })
 
   pub tidy-fd : (f : ℕ) → is_spare kept cells (Fd f) ≡ true → tidy (without_place cells (Fd f)) ≡ tidy cells
   tidy-fd f spare =
@@ -113,6 +113,7 @@ module _ (kept : Cell → Bool) (cells : Cells) where
       let same : (i : ℕ) → is_open (remove cells.opens f) i ≡ is_open cells.opens i = is_open-remove cells.opens f (ap option_flatten is) in
       let opens = opens-without cells.opens f is in
       λ k. record {
+        limits = cells.limits;
         edges = (tidy cells).edges;
         dirs = (tidy cells).dirs;
         files = from_entries (map stored (filter (λ (e : ℕ × FileCells). nat_lt 0 e.1.links || same e.0 k) (entries cells.files)));
@@ -134,7 +135,7 @@ module _ (kept : Cell → Bool) (cells : Cells) where
       dirs-gather (entries (remove cells.directories d))
       ∙ gather-remove nat_cmp_total exact_unsigned dir_of_entry [] cells.directories d x (tied-itself nat_cmp_total d) is (λ r. ap (λ b. cond b (member (d, x) ∷ r) r) away)
       ∙ sym (dirs-gather (entries cells.directories)) in
-      λ k. record { edges = from_entries (edges k); dirs = from_entries (dirs k); files = (tidy cells).files; opens = (tidy cells).opens })
+      λ k. record { limits = cells.limits; edges = from_entries (edges k); dirs = from_entries (dirs k); files = (tidy cells).files; opens = (tidy cells).opens })
 
   pub tidy-entry : (d : ℕ) (name : List ℕ) (x : DirCells) → get cells.directories d ≡ Some x → is_spare kept cells (Entry (entry_at d name)) ≡ true → tidy (put_dir cells d (without_dir_place x name)) ≡ tidy cells
   tidy-entry d name x is spare =
@@ -150,4 +151,4 @@ module _ (kept : Cell → Bool) (cells : Cells) where
       dirs-gather (entries (insert cells.directories d less))
       ∙ gather-insert nat_cmp_total exact_unsigned dir_of_entry [] cells.directories d less (λ r. ap (λ o. part nat_cmp_total exact_unsigned dir_of_entry [] d o r) is)
       ∙ sym (dirs-gather (entries cells.directories)) in
-      λ k. record { edges = from_entries (edges k); dirs = from_entries (dirs k); files = (tidy cells).files; opens = (tidy cells).opens }
+      λ k. record { limits = cells.limits; edges = from_entries (edges k); dirs = from_entries (dirs k); files = (tidy cells).files; opens = (tidy cells).opens }

@@ -83,11 +83,13 @@ pub record IsFree (cells : Cells) (k : ℕ) : Type 0 where
   pub above_root : 2 ≤ k
   pub unused : (c : Cell) → SaysNothingOf k c (held cells c)
 
--- Each cell holds what it held, whatever places there are.
+-- Each cell holds what it held, whatever places there are, and the limits are the same.
 pub record SameValues (old new : Cells) : Type 0 where
+  pub limits : new.limits ≡ old.limits
   pub values : (c : Cell) → held new c ≡ held old c
 
 -- And each place that was there is; new empty ones may have come.
 pub record KeepsValues (old new : Cells) : Type 0 where
+  pub limits : new.limits ≡ old.limits
   pub values : (c : Cell) → held new c ≡ held old c
   pub places : (c : Cell) → IsStored old c → IsStored new c

@@ -82,6 +82,7 @@ pub record IsDeadFile (kept : Cell → Bool) (cells : Cells) (i : ℕ) : Type 0 
 -- What a sweep changes: places went, and nothing else happened. Each cell holds what it held, but
 -- for the bytes of dead files, and what is kept has its place.
 pub record IsSwept (kept : Cell → Bool) (old new : Cells) : Type 0 where
+  pub limits : new.limits ≡ old.limits
   pub entries : (d : ℕ) (name : List ℕ) → entry_of new d name ≡ entry_of old d name
   pub parents : (d : ℕ) → parent_of new d ≡ parent_of old d
   pub links : (i : ℕ) → links_of new i ≡ links_of old i

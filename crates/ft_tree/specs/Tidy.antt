@@ -45,9 +45,10 @@ abbrev pub opens_from : List (ℕ × Option OpenFile) → List (ℕ × OpenFile)
 opens_from es = filter_map opened es
 
 -- the plain tree of cells: their entries, and the directories, files and descriptions that are
--- there, without the empty places and without files that nothing names
+-- there, without the empty places and without files that nothing names; it allows what they do
 abbrev pub tidy : Cells → PlainTree
 tidy cells = record {
+  limits = cells.limits;
   edges = finite.from_entries (edges_from (finite.entries cells.directories));
   dirs = finite.from_entries (dirs_from (finite.entries cells.directories));
   files = finite.from_entries (files_from cells.opens (finite.entries cells.files));

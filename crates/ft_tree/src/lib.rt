@@ -14,7 +14,9 @@ mod rows;
 mod tree;
 
 pub use cursor::{Cursor, HintedFile};
-pub use ft_cells::{AccessMode, Cell, Entry, EntryRef, Found, Kind, Node, OpenFile, Spot, TreeRow};
+pub use ft_cells::{
+    AccessMode, Cell, Entry, EntryRef, Found, Kind, Node, OpenFile, Spot, TreeLimits, TreeRow,
+};
 pub use keeps::Keeps;
 pub use reader::{Reader, walk};
 pub use tree::{ROOT, Tree};

@@ -6,11 +6,12 @@ ghost use Rattle.ft_cells.specs.Nodes.{with_kinds};
 ghost use Rattle.ft_cells.specs.Looks.{answer};
 ghost use Rattle.ft_tree.specs.Views.{view_of};
 ghost use Rattle.ft_tree.specs.Walk.{walk, found};
-ghost use Rattle.ft_body.specs.declared.TheConstants.{SIZE_LIMIT};
+ghost use Rattle.ft_body.specs.declared.TheConstants.{LARGEST_SIZE};
 ghost use Rattle.ft_body.specs.Bytes.{fitting, written, resized};
 ghost use Rattle.ft_cells.specs.Cells.{entry_of, names_of, parent_of, links_of, bytes_of, body_in, open_of, kind_of, has_dir, has_file, put_entry, put_parent, put_links, put_bytes, put_open, stored_dirs, HasEntryPlace, HasDirPlace, HasFilePlace, HasOpenPlace, fresh_cells};
 ghost use Rattle.ft_cells.specs.declared.cell.Cell.TheVariants.{Entry as EntryCell, Parent, Links, Fd};
 ghost use Rattle.ft_tree.specs.Held.{place_at, without_place};
+ghost use Rattle.ft_cells.specs.Limits.{default_limits};
 ghost use Rattle.ft_cells.specs.Rows.{rows_of};
 ghost use Rattle.ft_tree.specs.Tidy.{tidy};
 ghost use Rattle.ft_tree.specs.Sound.{AreSoundCells, IsFree};
@@ -23,7 +24,7 @@ use crate::reader::walk;
 use crate::rows::{push_dirs, push_edges, push_files, push_opens};
 use ft_base::Memory;
 use ft_body::{Body, BodyUndo};
-use ft_cells::{Cell, Entry, Found, Hint, Kind, Node, OpenFile, Spot, TreeRow};
+use ft_cells::{Cell, Entry, Found, Hint, Kind, Node, OpenFile, Spot, TreeLimits, TreeRow};
 use ft_descriptions::Descriptions;
 use ft_inodes::{Directory, File, Inodes};
 use ft_path::{Errno, Name, Parts};
@@ -37,12 +38,13 @@ pub const ROOT: u64 = 1;
 ///
 /// Clauses see its stored cells: for each directory its parent, and a place for each of its
 /// entries, which may be empty; for each file the count of its links, and its bytes; and a place
-/// for the open file description of each descriptor, which may be empty. Its plain tree is what
-/// they are when tidied, without the empty places and without files that neither an entry nor a
+/// for the open file description of each descriptor, which may be empty; and what the tree allows,
+/// which never changes. Its plain tree is what they are when tidied, without the empty places and without files that neither an entry nor a
 /// description names. It may have any number of each, and keeps the allocator that it was made
 /// with.
 pub struct Tree {
     alloc: Global,
+    limits: TreeLimits,
     inodes: Inodes,
     opens: Descriptions,
     /// Where the directory or the file stands that was changed last, but for its entries.
@@ -55,6 +57,7 @@ impl Drop for Tree {
     fn drop(self) {
         let Tree {
             alloc: _,
+            limits: _,
             inodes: _,
             opens: _,
             near: _,
@@ -64,20 +67,35 @@ impl Drop for Tree {
 }
 
 impl Model for Tree {
+    ghost use Rattle.std.specs.Prelude.{◌≤◌};
+    ghost use Rattle.ft_body.specs.declared.TheConstants.{LARGEST_SIZE};
     ghost use Rattle.ft_cells.specs.Cells.{Cells, coded_cells};
 
     ghost Value = { Cells };
 
     ghost coded = { coded_cells };
 
-    ghost view = { λ a. record { directories = a.inodes.directories; files = a.inodes.files; opens = a.opens } };
+    ghost view = { λ a. record { limits = a.limits; directories = a.inodes.directories; files = a.inodes.files; opens = a.opens } };
+
+    ghost invariant = { λ a. a.limits.file_size ≤ LARGEST_SIZE };
 }
 
 impl Tree {
-    /// The empty tree: the root alone, without an entry. Every number but the root's is free in it.
-    /// Refuses want of memory.
+    /// The empty tree: the root alone, without an entry, and with the limits that a tree has by
+    /// default. Every number but the root's is free in it. Refuses want of memory.
     pub fn new(alloc: Global) -> Result<Tree, Memory>
-        ensures cells { IfOk result (λ tree. tree ≡ fresh_cells) }
+        ensures cells { IfOk result (λ tree. tree ≡ fresh_cells default_limits) }
+        ensures sound { IfOk result (λ tree. AreSoundCells tree) }
+        ensures free { IfOk result (λ tree. (k : ℕ) → 2 ≤ k → IsFree tree k) }
+    {
+        Tree::with_limits(alloc, TreeLimits::default())
+    }
+
+    /// The empty tree with limits of its own: the root alone, without an entry. Every number but
+    /// the root's is free in it. Refuses want of memory.
+    pub fn with_limits(alloc: Global, limits: TreeLimits) -> Result<Tree, Memory>
+        requires { limits.file_size ≤ LARGEST_SIZE }
+        ensures cells { IfOk result (λ tree. tree ≡ fresh_cells limits) }
         ensures sound { IfOk result (λ tree. AreSoundCells tree) }
         ensures free { IfOk result (λ tree. (k : ℕ) → 2 ≤ k → IsFree tree k) }
     {
@@ -85,11 +103,20 @@ impl Tree {
         let near = inodes.add_directory(ROOT, Directory::new(alloc, None))?;
         Ok(Tree {
             alloc,
+            limits,
             inodes,
             opens: Descriptions::new(alloc),
             near,
             home: near,
         })
+    }
+
+    /// What the tree allows.
+    pub fn limits(&self) -> TreeLimits
+        ensures are { result ≡ self.now.limits }
+        ensures size { result.file_size ≤ LARGEST_SIZE }
+    {
+        self.limits
     }
 
     /// What a name leads to in a directory: nothing, where it is no entry of it or where `dir` is
@@ -282,12 +309,12 @@ impl Tree {
         bytes: &[u8],
     ) -> Result<(u64, BodyUndo), Memory>
         requires place { HasFilePlace self.old file }
-        requires limit { offset ≤ SIZE_LIMIT }
-        ensures taken { IfOk result (λ done. done.0 ≡ length (fitting bytes.now offset)) }
-        ensures ok { OnOk result (self.new ≡ put_bytes self.old file (written (bytes_of self.old file) offset (fitting bytes.now offset))) }
+        requires limit { offset ≤ LARGEST_SIZE }
+        ensures taken { IfOk result (λ done. done.0 ≡ length (fitting LARGEST_SIZE bytes.now offset)) }
+        ensures ok { OnOk result (self.new ≡ put_bytes self.old file (written (bytes_of self.old file) offset (fitting LARGEST_SIZE bytes.now offset))) }
         ensures undo { IfOk result (λ done. done.1 ≡ record { before = bytes_of self.old file; after = bytes_of self.new file }) }
         ensures err { OnErr result (self.new ≡ self.old) }
-        ensures nothing { fitting bytes.now offset ≡ [] → IsOk result }
+        ensures nothing { fitting LARGEST_SIZE bytes.now offset ≡ [] → IsOk result }
     {
         let number = file.number;
         self.near = self.inodes.hint_of(Node::File(number), self.hint_at(&file));
@@ -304,7 +331,7 @@ impl Tree {
     /// none.
     pub fn set_size(&mut self, file: HintedFile, size: u64) -> Result<BodyUndo, Memory>
         requires place { HasFilePlace self.old file }
-        requires limit { size ≤ SIZE_LIMIT }
+        requires limit { size ≤ LARGEST_SIZE }
         ensures ok { OnOk result (self.new ≡ put_bytes self.old file (resized (bytes_of self.old file) size)) }
         ensures undo { IfOk result (λ undo. undo ≡ record { before = bytes_of self.old file; after = bytes_of self.new file }) }
         ensures err { OnErr result (self.new ≡ self.old) }
@@ -533,6 +560,7 @@ impl Tree {
         let opens = self.opens.clone()?;
         Ok(Tree {
             alloc: self.alloc,
+            limits: self.limits,
             inodes,
             opens,
             near: self.near,

@@ -3,6 +3,7 @@
 use Rattle.std.specs.Prelude.{◌≡◌, List, [], ◌∷◌, None, Some, unwrap_or, Result, Ok, Err}
 use Rattle.std.specs.Option.{option_flatten}
 use Rattle.ft_base.specs.declared.memory.Memory.{Memory}
+use Rattle.ft_body.specs.declared.TheConstants.{LARGEST_SIZE}
 use Rattle.ft_body.specs.Bytes.{fitting, written, resized}
 use Rattle.ft_cells.specs.declared.cell.Cell.{Cell}
 use Rattle.ft_cells.specs.declared.cell.Cell.TheVariants as cell
@@ -23,7 +24,7 @@ abbrev pub back_of : Cells → Edit → Back
 back_of cells (Entry entry to) = back.Entry entry (place_at cells (cell.Entry entry))
 back_of cells (Parent d to) = back.Parent d (place_at cells (cell.Parent d))
 back_of cells (Links i to) = back.Links i (place_at cells (cell.Links i))
-back_of cells (Overwrite i at bytes) = back.Bytes i (record { before = bytes_of cells i; after = written (bytes_of cells i) at (fitting bytes.now at) })
+back_of cells (Overwrite i at bytes) = back.Bytes i (record { before = bytes_of cells i; after = written (bytes_of cells i) at (fitting LARGEST_SIZE bytes.now at) })
 back_of cells (Resize i size) = back.Bytes i (record { before = bytes_of cells i; after = resized (bytes_of cells i) size })
 back_of cells (Open f to) = back.Open f (place_at cells (cell.Fd f))
 

@@ -1,6 +1,6 @@
 -- What is read of a file through an Open that is not made.
 use Rattle.std.proofs.Common.{◌≡◌, ◌≢◌, ℕ, ◌+◌, Bool, false, List, [], ◌∷◌, Option, Some, None, Result, Ok, Err, ◌⊎◌, inl, inr, refl, sym, ap, ◌∙◌, subst, arith}
-use Rattle.ft_body.specs.declared.TheConstants.{SIZE_LIMIT}
+use Rattle.ft_body.specs.declared.TheConstants.{LARGEST_SIZE}
 use Rattle.ft_body.specs.Bytes.{bytes_at}
 use Rattle.ft_path.specs.declared.errno.Errno.{Errno}
 use Rattle.ft_path.specs.declared.errno.Errno.TheVariants.{ENOENT, EISDIR}
@@ -76,7 +76,7 @@ first_opened (w ∷ ws) = opened_by w.cell w.value
 -- all bytes of a file that is opened, or what is replied else
 abbrev through : Cells → Option ℕ → Reply → Reply
 through cells None reply = reply
-through cells (Some file) reply = BytesReply (bytes_at (bytes_of cells file) 0 SIZE_LIMIT)
+through cells (Some file) reply = BytesReply (bytes_at (bytes_of cells file) 0 LARGEST_SIZE)
 
 opened_alike : (cells : Cells) (edits : List Edit) → opened_in edits ≡ first_opened (writes_of cells edits)
 opened_alike cells [] = refl
@@ -97,8 +97,8 @@ read_opened : (cells : Cells) (file : ℕ) → AreSoundCells (put_open cells REA
     → read_whole (tidy (put_open cells READING (Some (description flags file)))) (Number READING) ≡ through cells (Some file) (Number READING)
 read_opened cells file sound free =
     let opened = put_open cells READING (Some (description flags file)) in
-    ap (λ p. p.1) (tidying opened (READING + 1) (ReadCall READING SIZE_LIMIT) sound free)
-    ∙ ap (λ (place : Option OpenFile). (answer (on_open is_readable (read_open READING SIZE_LIMIT) place) (view_of opened)).reply) (setting.written cells (cell.Fd READING) (Some (description flags file)))
+    ap (λ p. p.1) (tidying opened (READING + 1) (ReadCall READING LARGEST_SIZE) sound free)
+    ∙ ap (λ (place : Option OpenFile). (answer (on_open is_readable (read_open READING LARGEST_SIZE) place) (view_of opened)).reply) (setting.written cells (cell.Fd READING) (Some (description flags file)))
 
 -- what the cells hold after the Open, and what it has replied
 abbrev ReadsThrough : Cells → Outcome → Type 0

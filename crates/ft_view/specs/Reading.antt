@@ -1,7 +1,7 @@
 -- What a reader asks, and what a tree answers to it (POSIX.1-2017, System Interfaces, open and
 -- read).
 use Rattle.std.specs.Prelude.{ℕ, ◌+◌, false, List, ◌∷◌, Option, Some, None}
-use Rattle.ft_body.specs.declared.TheConstants.{SIZE_LIMIT}
+use Rattle.ft_body.specs.declared.TheConstants.{LARGEST_SIZE}
 use Rattle.ft_cells.specs.declared.open_file.AccessMode.TheVariants.{ReadOnly}
 use Rattle.ft_cells.specs.Plain.{PlainTree}
 use Rattle.ft_posix.specs.declared.call.Call.{Call}
@@ -26,7 +26,7 @@ open_to_read path = OpenCall path ReadOnly false false false false
 -- what a `read` of as many bytes as a file may have replies after an `open` that has replied
 -- this, or the error of the `open`
 abbrev pub read_whole : PlainTree → Reply → Reply
-read_whole p (Number fd) = (exec p (READING + 1) (ReadCall fd SIZE_LIMIT)).1
+read_whole p (Number fd) = (exec p (READING + 1) (ReadCall fd LARGEST_SIZE)).1
 read_whole p reply = reply
 
 -- what is replied to one who opens the file of a path for reading, and then reads all of it
@@ -47,7 +47,7 @@ opened_in edits = None
 -- what is told of a file that is opened: all its bytes
 abbrev pub whole_told : Option ℕ → Told → Told
 whole_told None told = told
-whole_told (Some file) told = BytesOf file 0 SIZE_LIMIT
+whole_told (Some file) told = BytesOf file 0 LARGEST_SIZE
 
 -- how the code tells it: by the look of the `open` alone
 abbrev pub whole_of : Intent → Told

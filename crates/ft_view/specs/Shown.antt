@@ -1,5 +1,5 @@
 -- What is shown to readers.
-use Rattle.std.specs.Prelude.{◌≡◌, refl}
+use Rattle.std.specs.Prelude.{◌≡◌, List, refl}
 use Rattle.std.specs.Coded.{Coded, code_by, coded×}
 use Rattle.ft_cells.specs.Plain.{PlainTree}
 use Rattle.ft_cells.specs.PlainCode.{coded_tree}
@@ -18,9 +18,14 @@ abbrev pub coded_shown : Coded Shown
 coded_shown = code_by (PlainTree × Fronted) (coded× coded_tree coded_fronted) (λ s. (s.tree, s.front)) (λ p. record { tree = p.0; front = p.1 }) (λ _. refl)
 
 -- The list is one of the book of these views, and the tree is its replay from their base.
-pub record IsViewOf (opened : Views) (s : Shown) : Type 0 where
+pub record IsReplayOf (opened : Views) (s : Shown) : Type 0 where
   pub book : s.front.book ≡ opened.book
   pub tree : s.tree ≡ replayed opened.base s.front.calls
+
+-- So it is, and the list is whole: one of those that may be shown.
+pub record IsViewOf (opened : Views) (shows : List StampedCall → Type 0) (s : Shown) : Type 0 where
+  pub replay : IsReplayOf opened s
+  pub whole : shows s.front.calls
 
 -- the tree with one call more made, and the list that the call ends
 abbrev pub advanced : Shown → StampedCall → Fronted → Shown

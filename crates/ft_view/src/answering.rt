@@ -7,7 +7,7 @@ ghost use Rattle.ft_view.specs.Reading.{contents_on, answer_on, opened_in, whole
 
 use crate::READING;
 use ft_base::Memory;
-use ft_body::SIZE_LIMIT;
+use ft_body::LARGEST_SIZE;
 use ft_calls::{Call, Edit, Edits, Intent, Prepared, Reply, Told, prepare};
 use ft_path::FilePath;
 use ft_tree::{AccessMode, HintedFile, ROOT, Tree};
@@ -91,7 +91,7 @@ fn whole(told: Told, edits: &Edits<'_>) -> Told
         ) => Told::BytesOf {
             file: HintedFile::new(description.file),
             at: 0,
-            len: SIZE_LIMIT,
+            len: LARGEST_SIZE,
         },
         _ => told,
     }

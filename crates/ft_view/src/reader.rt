@@ -1,5 +1,5 @@
 // Readers of views.
-ghost use Rattle.std.specs.Prelude.{◌≡◌, ◌⊎◌, [], length, IfOk, OnErr};
+ghost use Rattle.std.specs.Prelude.{◌≡◌, ◌⊎◌, [], length, IfOk, OnOk, OnErr};
 ghost use mathlib.Core.List.{IsPrefix};
 ghost use Rattle.ft_posix.specs.declared.call.Call.TheVariants.{Stat, List};
 ghost use Rattle.ft_view.specs.Replay.{replayed, reply_on};
@@ -23,7 +23,8 @@ pub enum ViewFault {
     /// There was no memory.
     #[error("Memory")]
     Memory = 1,
-    /// There was no place for one more reader, or the views are published no more.
+    /// There was no place for one more reader, or no memory for it, which may be tried again; or
+    /// the views are published no more, which is so for good.
     ///
     /// It is also the answer of a view that is older than what the reader knows. There is none: a
     /// list is published before a receipt of it is given out, and never taken back.
@@ -156,11 +157,14 @@ impl<J: Naming> Reader<J> {
     }
 
     /// How many calls the list of the view has, and what Stat answers on the view's tree. The list
-    /// begins with what was seen before and with that of each receipt learnt.
+    /// begins with what was seen before and with that of each receipt learnt, and is whole
+    /// (`shows`): of a core that is shared these are the committed calls, with each top-level
+    /// transaction's or without, and never half of them.
     ///
     /// Refuses want of memory, and NoReader; the reader knows what it knew then.
     pub fn stat(&mut self, path: &FilePath) -> Result<(u64, Reply), ViewFault>
         ensures before { IsPrefix self.old self.new }
+        ensures whole { OnOk result (J.shows self.new) }
         ensures count { IfOk result (λ told. told.0 ≡ length self.new) }
         ensures reply { IfOk result (λ told. told.1 ≡ reply_on (replayed J.opened.base self.new) (Stat path.now)) }
         ensures refused { OnErr result (self.new ≡ self.old) }
@@ -171,6 +175,7 @@ impl<J: Naming> Reader<J> {
     /// The same of List.
     pub fn list(&mut self, path: &FilePath) -> Result<(u64, Reply), ViewFault>
         ensures before { IsPrefix self.old self.new }
+        ensures whole { OnOk result (J.shows self.new) }
         ensures count { IfOk result (λ told. told.0 ≡ length self.new) }
         ensures reply { IfOk result (λ told. told.1 ≡ reply_on (replayed J.opened.base self.new) (List path.now)) }
         ensures refused { OnErr result (self.new ≡ self.old) }
@@ -182,6 +187,7 @@ impl<J: Naming> Reader<J> {
     /// an Open for reading, without flags, or the error of that Open. No descriptor is left open.
     pub fn read_file(&mut self, path: &FilePath) -> Result<(u64, Reply), ViewFault>
         ensures before { IsPrefix self.old self.new }
+        ensures whole { OnOk result (J.shows self.new) }
         ensures count { IfOk result (λ told. told.0 ≡ length self.new) }
         ensures reply { IfOk result (λ told. told.1 ≡ contents_on (replayed J.opened.base self.new) path.now) }
         ensures refused { OnErr result (self.new ≡ self.old) }
@@ -192,6 +198,7 @@ impl<J: Naming> Reader<J> {
     /// What is answered to a question.
     fn ask(&mut self, question: &Question<'_>) -> Result<(u64, Reply), ViewFault>
         ensures before { IsPrefix self.old self.new }
+        ensures whole { OnOk result (J.shows self.new) }
         ensures count { IfOk result (λ told. told.0 ≡ length self.new) }
         ensures reply { IfOk result (λ told. told.1 ≡ answer_on (replayed J.opened.base self.new) question.now) }
         ensures refused { OnErr result (self.new ≡ self.old) }
@@ -215,6 +222,7 @@ fn look<J: Naming>(
     requires { known.old.book ≡ J.opened.book }
     ensures book { known.new.book ≡ J.opened.book }
     ensures before { IsPrefix known.old.calls known.new.calls }
+    ensures whole { OnOk result.1 (J.shows known.new.calls) }
     ensures count { IfOk result.1 (λ told. told.0 ≡ length known.new.calls) }
     ensures reply { IfOk result.1 (λ told. told.1 ≡ answer_on (replayed J.opened.base known.new.calls) question.now) }
     ensures refused { OnErr result.1 (known.new ≡ known.old) }
@@ -235,10 +243,11 @@ fn tell<J: Naming>(
     known: &mut Front,
     question: &Question<'_>,
 ) -> Result<(u64, Reply), ViewFault>
-    requires view { IsViewOf J.opened view.now }
+    requires view { IsViewOf J.opened J.shows view.now }
     requires known { known.old.book ≡ J.opened.book }
     ensures book { known.new.book ≡ J.opened.book }
     ensures before { IsPrefix known.old.calls known.new.calls }
+    ensures whole { OnOk result (J.shows known.new.calls) }
     ensures count { IfOk result (λ told. told.0 ≡ length known.new.calls) }
     ensures reply { IfOk result (λ told. told.1 ≡ answer_on (replayed J.opened.base known.new.calls) question.now) }
     ensures refused { OnErr result (known.new ≡ known.old) }

@@ -46,7 +46,7 @@ pub struct Published {
 }
 
 /// The rule of the views that are meant by a name: what readers take is the replay of a list of
-/// their book.
+/// their book, and the list is whole.
 pub struct Law<J: Naming> {
     of: PhantomData<J>,
 }
@@ -54,7 +54,7 @@ pub struct Law<J: Naming> {
 impl<J: Naming> Protocol<View, ()> for Law<J> {
     ghost use Rattle.ft_view.specs.Shown.{IsViewOf};
 
-    ghost holds = { λ x views. IsViewOf J.opened x };
+    ghost holds = { λ x views. IsViewOf J.opened J.shows x };
 
     ghost first = { tt };
 }
@@ -67,7 +67,7 @@ pub struct Shows<J: Naming> {
 impl<J: Naming> Outcome<View, ()> for Shows<J> {
     ghost use Rattle.ft_view.specs.Shown.{IsViewOf};
 
-    ghost then = { λ v x y w. IsViewOf J.opened y };
+    ghost then = { λ v x y w. IsViewOf J.opened J.shows y };
 }
 
 /// What publishes views, one call after another.

@@ -7,19 +7,19 @@ use anyhow::{Result, bail};
 use ft_calls::Call;
 use ft_path::FilePath;
 use ft_record::Recent;
-use ft_shared::{Opened, Shared};
-use ft_view::{Naming, Reader};
+use ft_shared::{Opened, Shared, Sharing, ViewsOf};
+use ft_view::Reader;
 use std::alloc::Global;
 use std::sync::Wait;
 
 /// Does all of it, and answers how many calls are published then.
-pub fn work<J: Naming, R: Wait>(
+pub fn work<J: Sharing, R: Wait>(
     rt: &R,
     alloc: Global,
     counts: Counts,
     opened: Opened<Recent>,
 ) -> Result<u64>
-    requires { named_by opened ≡ J.opened }
+    requires { named_by opened ≡ J.origin }
 {
     let Ok((shared, mut reader)) = opened.named::<J, R>(rt) else {
         bail!("the views have no name");
@@ -29,12 +29,12 @@ pub fn work<J: Naming, R: Wait>(
     told
 }
 
-fn work_through<J: Naming, R: Wait>(
+fn work_through<J: Sharing, R: Wait>(
     rt: &R,
     alloc: Global,
     counts: Counts,
     shared: &Shared<J, Recent>,
-    reader: &mut Reader<J>,
+    reader: &mut Reader<ViewsOf<J>>,
 ) -> Result<u64> {
     make(rt, alloc, counts, shared)?;
     let path = FilePath::new(alloc, b"/0".as_slice())?;
@@ -44,7 +44,7 @@ fn work_through<J: Naming, R: Wait>(
 }
 
 /// Makes the directories, and publishes them.
-fn make<J: Naming, R: Wait>(
+fn make<J: Sharing, R: Wait>(
     rt: &R,
     alloc: Global,
     counts: Counts,
@@ -64,7 +64,7 @@ fn make<J: Naming, R: Wait>(
 }
 
 /// Stats so many times, and answers how many calls the list has then.
-fn read<J: Naming>(reader: &mut Reader<J>, reads: u64, path: &FilePath) -> Result<u64> {
+fn read<J: Sharing>(reader: &mut Reader<ViewsOf<J>>, reads: u64, path: &FilePath) -> Result<u64> {
     let mut published = 0;
     for _ in 0..reads {
         let (calls, _) = reader.stat(path)?;
@@ -74,7 +74,7 @@ fn read<J: Naming>(reader: &mut Reader<J>, reads: u64, path: &FilePath) -> Resul
 }
 
 /// Asks for a stat so many times, in one transaction.
-fn ask<J: Naming, R: Wait>(
+fn ask<J: Sharing, R: Wait>(
     rt: &R,
     asks: u64,
     path: &FilePath,

@@ -8,10 +8,10 @@ use ft_calls::{Call, Reply};
 use ft_core::{Fault, TxnId};
 use ft_path::{Errno, FilePath};
 use ft_record::Recorded;
-use ft_shared::{Opened, Shared, with_views};
-use ft_test_scripts::{Line, Through, Wanted, is_reply, plays};
+use ft_shared::{Opened, Shared, Sharing, ViewsOf, with_views};
+use ft_test_scripts::{Line, Through, Wanted, is_reply, new_shared, plays};
 use ft_tree::Kind;
-use ft_view::{Naming, Reader, ViewFault};
+use ft_view::{Reader, ViewFault};
 use std::alloc::Global;
 use std::marker::Brand;
 use std::sync::Wait;
@@ -21,12 +21,12 @@ use std::thread::Threads;
 
 /// What is done with the views of a core, and whether all is answered as it should be.
 trait Steps {
-    fn take<J: Naming, R: Wait>(
+    fn take<J: Sharing, R: Wait>(
         &self,
         rt: &R,
         alloc: Global,
         shared: &Shared<J>,
-        reader: Reader<J>,
+        reader: Reader<ViewsOf<J>>,
     ) -> Result<bool, Fail>;
 }
 
@@ -43,13 +43,13 @@ fn through_views<S: Steps, R: Wait>(
     }
 }
 
-fn through_named<J: Naming, S: Steps, R: Wait>(
+fn through_named<J: Sharing, S: Steps, R: Wait>(
     rt: &R,
     alloc: Global,
     opened: Opened,
     steps: &S,
 ) -> Result<(bool, Recorded), Fail>
-    requires { named_by opened ≡ J.opened }
+    requires { named_by opened ≡ J.origin }
 {
     match opened.named::<J, R>(rt) {
         Ok((shared, reader)) => {
@@ -71,7 +71,7 @@ fn through_new_views<S: Steps, R: Wait>(
 }
 
 /// How many calls are published then.
-fn published<J: Naming, R: Wait>(rt: &R, shared: &Shared<J>) -> Result<u64, Fault> {
+fn published<J: Sharing, R: Wait>(rt: &R, shared: &Shared<J>) -> Result<u64, Fault> {
     let (calls, _) = shared.publish(rt)?;
     Ok(calls)
 }
@@ -85,13 +85,18 @@ fn is_told(told: &Result<(u64, Reply), ViewFault>, wanted: Wanted) -> bool {
 }
 
 /// Whether a reader lists these names, all of directories, and so many calls.
-fn lists<J: Naming>(reader: &mut Reader<J>, path: &FilePath, calls: u64, wanted: &[u8]) -> bool {
+fn lists<J: Sharing>(
+    reader: &mut Reader<ViewsOf<J>>,
+    path: &FilePath,
+    calls: u64,
+    wanted: &[u8],
+) -> bool {
     is_told(&reader.list(path), Wanted::Directories(calls, wanted))
 }
 
 /// A directory is committed; of two transactions that make one in it one is aborted, and the other
 /// is live.
-fn makes_in_directory<J: Naming, R: Wait>(
+fn makes_in_directory<J: Sharing, R: Wait>(
     rt: &R,
     alloc: Global,
     shared: &Shared<J>,
@@ -118,12 +123,12 @@ fn makes_in_directory<J: Naming, R: Wait>(
 struct SeenFromPublishOn;
 
 impl Steps for SeenFromPublishOn {
-    fn take<J: Naming, R: Wait>(
+    fn take<J: Sharing, R: Wait>(
         &self,
         rt: &R,
         alloc: Global,
         shared: &Shared<J>,
-        mut reader: Reader<J>,
+        mut reader: Reader<ViewsOf<J>>,
     ) -> Result<bool, Fail> {
         let path = FilePath::new(alloc, b"/d".as_slice())?;
         let nothing = Wanted::Failed(0, Errno::ENOENT);
@@ -150,12 +155,12 @@ fn views_after_publish(rt: HostRuntime) -> Result<(), Fail> {
 struct LearntByAnother;
 
 impl Steps for LearntByAnother {
-    fn take<J: Naming, R: Wait>(
+    fn take<J: Sharing, R: Wait>(
         &self,
         rt: &R,
         alloc: Global,
         shared: &Shared<J>,
-        reader: Reader<J>,
+        reader: Reader<ViewsOf<J>>,
     ) -> Result<bool, Fail> {
         let path = FilePath::new(alloc, b"/d".as_slice())?;
         let played = makes_in_directory(rt, alloc, shared)?;
@@ -188,12 +193,12 @@ fn reader_that_learnt(rt: HostRuntime) -> Result<(), Fail> {
 struct InCommitOrder;
 
 impl Steps for InCommitOrder {
-    fn take<J: Naming, R: Wait>(
+    fn take<J: Sharing, R: Wait>(
         &self,
         rt: &R,
         alloc: Global,
         shared: &Shared<J>,
-        reader: Reader<J>,
+        reader: Reader<ViewsOf<J>>,
     ) -> Result<bool, Fail> {
         let script = [
             (Line::Begin, Wanted::Txn(1)),
@@ -215,15 +220,11 @@ impl Steps for InCommitOrder {
 }
 
 /// Whether a core that has no views publishes nothing.
-fn publishes_nothing<R: Wait>(rt: &R, core: Recorded) -> bool {
-    match Shared::<Brand>::new(core) {
-        Ok(shared) => {
-            let answer = published(rt, &shared);
-            shared.into_core(rt);
-            answer == Err(Fault::NoViews)
-        }
-        Err(_) => false,
-    }
+fn publishes_nothing<R: Wait>(rt: &R, alloc: Global) -> Result<bool, Fail> {
+    let shared = new_shared(alloc)?;
+    let answer = published(rt, &shared);
+    shared.into_core(rt);
+    Ok(answer == Err(Fault::NoViews))
 }
 
 #[test]
@@ -234,7 +235,7 @@ fn publish_in_commit_order(rt: HostRuntime) -> Result<(), Fail> {
     assert!(rt; is_serial(&core, &[3, 2, 4])?);
     let wanted = [Wanted::Done(3), Wanted::Done(2), Wanted::Done(4)];
     assert!(rt; replays_from_new(&core, &wanted)?);
-    assert!(rt; publishes_nothing(&rt, Recorded::new(alloc)?));
+    assert!(rt; publishes_nothing(&rt, alloc)?);
     Ok(())
 }
 
@@ -248,12 +249,12 @@ fn view_faults_have_numbers(rt: HostRuntime) {
 struct FromBase;
 
 impl Steps for FromBase {
-    fn take<J: Naming, R: Wait>(
+    fn take<J: Sharing, R: Wait>(
         &self,
         rt: &R,
         alloc: Global,
         shared: &Shared<J>,
-        mut reader: Reader<J>,
+        mut reader: Reader<ViewsOf<J>>,
     ) -> Result<bool, Fail> {
         let root = FilePath::new(alloc, b"/".as_slice())?;
         let before = lists(&mut reader, &root, 0, b"a".as_slice());
@@ -286,12 +287,12 @@ fn views_of_another_base(rt: HostRuntime) -> Result<(), Fail> {
 struct BareBase;
 
 impl Steps for BareBase {
-    fn take<J: Naming, R: Wait>(
+    fn take<J: Sharing, R: Wait>(
         &self,
         _rt: &R,
         alloc: Global,
         _shared: &Shared<J>,
-        mut reader: Reader<J>,
+        mut reader: Reader<ViewsOf<J>>,
     ) -> Result<bool, Fail> {
         let root = FilePath::new(alloc, b"/".as_slice())?;
         Ok(lists(&mut reader, &root, 0, b"".as_slice()))
@@ -330,12 +331,12 @@ fn views_right_after_a_checkpoint(rt: HostRuntime) -> Result<(), Fail> {
 struct FileRead;
 
 impl Steps for FileRead {
-    fn take<J: Naming, R: Wait>(
+    fn take<J: Sharing, R: Wait>(
         &self,
         rt: &R,
         alloc: Global,
         shared: &Shared<J>,
-        mut reader: Reader<J>,
+        mut reader: Reader<ViewsOf<J>>,
     ) -> Result<bool, Fail> {
         let script = [
             (Line::Begin, Wanted::Txn(1)),
@@ -366,7 +367,7 @@ const READERS: u64 = 4;
 const LOOKS: u64 = 300;
 
 /// Makes a directory in a transaction of its own, and answers how many calls are published then.
-fn publish_one<J: Naming, R: Wait>(
+fn publish_one<J: Sharing, R: Wait>(
     rt: &R,
     alloc: Global,
     shared: &Shared<J>,
@@ -381,7 +382,7 @@ fn publish_one<J: Naming, R: Wait>(
 }
 
 /// Publishes directories one by one, and says whether each makes it one call more.
-fn publish_each<J: Naming, R: Wait>(rt: &R, alloc: Global, shared: &Shared<J>) -> bool {
+fn publish_each<J: Sharing, R: Wait>(rt: &R, alloc: Global, shared: &Shared<J>) -> bool {
     for number in 0..DIRECTORIES {
         if publish_one(rt, alloc, shared, number) != Some(number + 1) {
             return false;
@@ -391,7 +392,7 @@ fn publish_each<J: Naming, R: Wait>(rt: &R, alloc: Global, shared: &Shared<J>) -
 }
 
 /// How many calls a reader is told of, where the list has as many names.
-fn count<J: Naming>(reader: &mut Reader<J>, path: &FilePath) -> Option<u64> {
+fn count<J: Sharing>(reader: &mut Reader<ViewsOf<J>>, path: &FilePath) -> Option<u64> {
     match &reader.list(path) {
         Ok((calls, Reply::Names(names))) if names.len() as u64 == *calls => Some(*calls),
         _ => None,
@@ -399,7 +400,7 @@ fn count<J: Naming>(reader: &mut Reader<J>, path: &FilePath) -> Option<u64> {
 }
 
 /// Whether a reader always lists as many names as calls, and never fewer than before.
-fn looks_on<J: Naming>(mut reader: Reader<J>, path: &FilePath) -> bool {
+fn looks_on<J: Sharing>(mut reader: Reader<ViewsOf<J>>, path: &FilePath) -> bool {
     let mut last = 0;
     for _ in 0..LOOKS {
         match count(&mut reader, path) {
@@ -411,11 +412,11 @@ fn looks_on<J: Naming>(mut reader: Reader<J>, path: &FilePath) -> bool {
 }
 
 /// Whether readers, each in a thread, look on while directories are published.
-fn publishes_beside<J: Naming + Send + Sync, R: Threads + Wait + Sync>(
+fn publishes_beside<J: Sharing + Send + Sync, R: Threads + Wait + Sync>(
     rt: &R,
     alloc: Global,
     shared: &Shared<J>,
-    reader: &Reader<J>,
+    reader: &Reader<ViewsOf<J>>,
 ) -> Result<bool, Fail> {
     let root = FilePath::new(alloc, b"/".as_slice())?;
     let mut jobs = Vec::new(alloc);
@@ -431,12 +432,12 @@ fn publishes_beside<J: Naming + Send + Sync, R: Threads + Wait + Sync>(
     Ok(answers.iter().all(|is_so| *is_so))
 }
 
-fn publishes_beside_named<J: Naming + Send + Sync, R: Threads + Wait + Sync>(
+fn publishes_beside_named<J: Sharing + Send + Sync, R: Threads + Wait + Sync>(
     rt: &R,
     alloc: Global,
     opened: Opened,
 ) -> Result<bool, Fail>
-    requires { named_by opened ≡ J.opened }
+    requires { named_by opened ≡ J.origin }
 {
     match opened.named::<J, R>(rt) {
         Ok((shared, reader)) => {

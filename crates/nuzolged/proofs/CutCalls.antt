@@ -2,11 +2,11 @@
 use Rattle.std.proofs.Common.{◌≡◌, ◌<◌, ◌≤◌, ◌↔◌, ◌∙◌, ⊎_elim, ℕ, ℤ, pos, negsuc, cond, nat_le, List, [], ◌∷◌, length, take, Err, ap, sym, refl, arith, length-take, take_all, take-take}
 use Rattle.std.proofs.lemmas.Bool.{cases_lt}
 use Rattle.std.proofs.lemmas.Bool.Decides.{nat_tests}
-use Rattle.ft_body.specs.declared.TheConstants.{SIZE_LIMIT}
 use Rattle.ft_path.specs.declared.errno.Errno.TheVariants.{ENAMETOOLONG, EFBIG}
 use Rattle.ft_path.specs.FilePath.{parts_of}
 use Rattle.ft_body.specs.Bytes.{fitting, room_at}
 use Rattle.ft_cells.specs.declared.cell.Cell.TheVariants.{Bytes}
+use Rattle.ft_cells.specs.declared.limits.TreeLimits.{TreeLimits}
 use Rattle.ft_cells.specs.declared.open_file.OpenFile.{OpenFile}
 use Rattle.ft_cells.specs.Looks.{Answer, Look, then}
 use Rattle.ft_posix.specs.declared.call.Call.{Call}
@@ -35,47 +35,47 @@ parts_of_cut path = ⊎_elim
     (λ (h : length path ≤ 4096). ap parts_of (take_all 4096 path h)) (cases_lt 4096 (length path))
 
 -- what is kept of some bytes is as much as has room at a place, and not nothing
-record IsCut (bytes kept : List ℕ) (at : ℕ) : Type 0 where
+record IsCut (limits : TreeLimits) (bytes kept : List ℕ) (at : ℕ) : Type 0 where
   pub some : (0 < length kept) ↔ (0 < length bytes)
-  pub fits : fitting kept at ≡ fitting bytes at
+  pub fits : fitting limits.file_size kept at ≡ fitting limits.file_size bytes at
 
-of_room : (bytes : List ℕ) (most at : ℕ) → 0 < most → room_at at ≤ most → IsCut bytes (take most bytes) at
-of_room bytes most at some h = record { some = (λ g. omega (arith, length-take most bytes), λ g. omega (arith, length-take most bytes)); fits = take-take (room_at at) most bytes h }
+of_room : (limits : TreeLimits) (bytes : List ℕ) (most at : ℕ) → 0 < most → room_at limits.file_size at ≤ most → IsCut limits bytes (take most bytes) at
+of_room limits bytes most at some h = record { some = (λ g. omega (arith, length-take most bytes), λ g. omega (arith, length-take most bytes)); fits = take-take (room_at limits.file_size at) most bytes h }
 
-write_open-cut : (fd : ℕ) (bytes kept : List ℕ) → ((at : ℕ) → IsCut bytes kept at) → (d : OpenFile) → write_open fd kept d ≡ write_open fd bytes d
-write_open-cut fd [] [] cut d = refl
-write_open-cut fd [] (y ∷ ys) cut d = absurd (no_less ((cut 0).some.0 (some_of y ys)))
-write_open-cut fd (x ∷ xs) [] cut d = absurd (no_less ((cut 0).some.1 (some_of x xs)))
-write_open-cut fd (x ∷ xs) (y ∷ ys) cut d = λ i. then (write_place d) (λ at. cond (nat_le SIZE_LIMIT at) (Answer (failed EFBIG)) (Look (Bytes d.file) (λ old. Answer (has_written fd d at ((cut at).fits i) old))))
+write_open-cut : (limits : TreeLimits) (fd : ℕ) (bytes kept : List ℕ) → ((at : ℕ) → IsCut limits bytes kept at) → (d : OpenFile) → write_open limits fd kept d ≡ write_open limits fd bytes d
+write_open-cut limits fd [] [] cut d = refl
+write_open-cut limits fd [] (y ∷ ys) cut d = absurd (no_less ((cut 0).some.0 (some_of y ys)))
+write_open-cut limits fd (x ∷ xs) [] cut d = absurd (no_less ((cut 0).some.1 (some_of x xs)))
+write_open-cut limits fd (x ∷ xs) (y ∷ ys) cut d = λ i. then (write_place d) (λ at. cond (nat_le limits.file_size at) (Answer (failed EFBIG)) (Look (Bytes d.file) (λ old. Answer (has_written fd d at ((cut at).fits i) old))))
 
-pwrite_at-cut : (d : OpenFile) (bytes kept : List ℕ) (at : ℕ) → IsCut bytes kept at → pwrite_at d kept at ≡ pwrite_at d bytes at
-pwrite_at-cut d [] [] at cut = refl
-pwrite_at-cut d [] (y ∷ ys) at cut = absurd (no_less (cut.some.0 (some_of y ys)))
-pwrite_at-cut d (x ∷ xs) [] at cut = absurd (no_less (cut.some.1 (some_of x xs)))
-pwrite_at-cut d (x ∷ xs) (y ∷ ys) at cut = λ i. cond (nat_le SIZE_LIMIT at) (Answer (failed EFBIG)) (Look (Bytes d.file) (λ old. Answer (has_pwritten d at (cut.fits i) old)))
+pwrite_at-cut : (limits : TreeLimits) (d : OpenFile) (bytes kept : List ℕ) (at : ℕ) → IsCut limits bytes kept at → pwrite_at limits d kept at ≡ pwrite_at limits d bytes at
+pwrite_at-cut limits d [] [] at cut = refl
+pwrite_at-cut limits d [] (y ∷ ys) at cut = absurd (no_less (cut.some.0 (some_of y ys)))
+pwrite_at-cut limits d (x ∷ xs) [] at cut = absurd (no_less (cut.some.1 (some_of x xs)))
+pwrite_at-cut limits d (x ∷ xs) (y ∷ ys) at cut = λ i. cond (nat_le limits.file_size at) (Answer (failed EFBIG)) (Look (Bytes d.file) (λ old. Answer (has_pwritten d at (cut.fits i) old)))
 
-pwrite_open-cut : (off : ℤ) (bytes : List ℕ) (d : OpenFile) → pwrite_open off (take (most_at off) bytes) d ≡ pwrite_open off bytes d
-pwrite_open-cut (pos n) bytes d = pwrite_at-cut d bytes (take (max 1 (room_at n)) bytes) n (of_room bytes (max 1 (room_at n)) n (omega arith) (omega arith))
-pwrite_open-cut (negsuc n) bytes d = refl
+pwrite_open-cut : (limits : TreeLimits) (off : ℤ) (bytes : List ℕ) (d : OpenFile) → pwrite_open limits off (take (most_at limits off) bytes) d ≡ pwrite_open limits off bytes d
+pwrite_open-cut limits (pos n) bytes d = pwrite_at-cut limits d bytes (take (max 1 (room_at limits.file_size n)) bytes) n (of_room limits bytes (max 1 (room_at limits.file_size n)) n (omega arith) (omega arith))
+pwrite_open-cut limits (negsuc n) bytes d = refl
 
 -- a call looks at the same as its cut, and comes to the same
-pub steps_of_cut : (most stamp : ℕ) (call : Call) → steps most stamp (cut_of call) ≡ steps most stamp call
-steps_of_cut most stamp (Mkdir path) = λ i. from_parts (parts_of_cut path i) (make_dir stamp)
-steps_of_cut most stamp (Rmdir path) = λ i. remove_parts (parts_of_cut path i)
-steps_of_cut most stamp (ListDir path) = λ i. from_parts (parts_of_cut path i) list_dir
-steps_of_cut most stamp (Open path access create excl trunc append) =
+pub steps_of_cut : (limits : TreeLimits) (most stamp : ℕ) (call : Call) → steps limits most stamp (cut_of limits call) ≡ steps limits most stamp call
+steps_of_cut limits most stamp (Mkdir path) = λ i. from_parts (parts_of_cut path i) (make_dir stamp)
+steps_of_cut limits most stamp (Rmdir path) = λ i. remove_parts (parts_of_cut path i)
+steps_of_cut limits most stamp (ListDir path) = λ i. from_parts (parts_of_cut path i) list_dir
+steps_of_cut limits most stamp (Open path access create excl trunc append) =
     λ i. open_parts stamp (record { access = access; create = create; excl = excl; trunc = trunc; append = append }) (parts_of_cut path i)
-steps_of_cut most stamp (Close fd) = refl
-steps_of_cut most stamp (Read fd len) = refl
-steps_of_cut most stamp (Write fd bytes) =
-    λ i. with_open fd is_writable (λ d. write_open-cut fd bytes (cut_bytes bytes) (λ at. of_room bytes 1048576 at (omega arith) (omega arith)) d i)
-steps_of_cut most stamp (Pread fd off len) = refl
-steps_of_cut most stamp (Pwrite fd off bytes) = λ i. with_open fd is_writable (λ d. pwrite_open-cut off bytes d i)
-steps_of_cut most stamp (Lseek fd whence off) = refl
-steps_of_cut most stamp (Truncate len path) = λ i. truncate_parts len (parts_of_cut path i)
-steps_of_cut most stamp (Ftruncate fd len) = refl
-steps_of_cut most stamp (Stat path) = λ i. from_parts (parts_of_cut path i) stat_spot
-steps_of_cut most stamp (Fstat fd) = refl
-steps_of_cut most stamp (Link old new) = λ i. link_parts (parts_of_cut old i) (parts_of_cut new i)
-steps_of_cut most stamp (Unlink path) = λ i. from_parts (parts_of_cut path i) unlink_spot
-steps_of_cut most stamp (Rename old new) = λ i. rename_parts most (parts_of_cut old i) (parts_of_cut new i)
+steps_of_cut limits most stamp (Close fd) = refl
+steps_of_cut limits most stamp (Read fd len) = refl
+steps_of_cut limits most stamp (Write fd bytes) =
+    λ i. with_open fd is_writable (λ d. write_open-cut limits fd bytes (cut_bytes limits bytes) (λ at. of_room limits bytes (max 1 limits.file_size) at (omega arith) (omega arith)) d i)
+steps_of_cut limits most stamp (Pread fd off len) = refl
+steps_of_cut limits most stamp (Pwrite fd off bytes) = λ i. with_open fd is_writable (λ d. pwrite_open-cut limits off bytes d i)
+steps_of_cut limits most stamp (Lseek fd whence off) = refl
+steps_of_cut limits most stamp (Truncate len path) = λ i. truncate_parts limits len (parts_of_cut path i)
+steps_of_cut limits most stamp (Ftruncate fd len) = refl
+steps_of_cut limits most stamp (Stat path) = λ i. from_parts (parts_of_cut path i) stat_spot
+steps_of_cut limits most stamp (Fstat fd) = refl
+steps_of_cut limits most stamp (Link old new) = λ i. link_parts limits (parts_of_cut old i) (parts_of_cut new i)
+steps_of_cut limits most stamp (Unlink path) = λ i. from_parts (parts_of_cut path i) unlink_spot
+steps_of_cut limits most stamp (Rename old new) = λ i. rename_parts most (parts_of_cut old i) (parts_of_cut new i)

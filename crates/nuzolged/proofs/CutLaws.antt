@@ -1,8 +1,9 @@
 -- What is cut from a call is unseen.
-use Rattle.std.proofs.Common.{◌≡◌, ◌∙◌, ℕ, List, Option, Some, None, ap, sym, refl, subst, take-take, arith}
+use Rattle.std.proofs.Common.{◌≡◌, ◌∙◌, ℕ, List, map, option_map, Option, Some, None, ap, sym, refl, subst, take-take, arith}
 use Rattle.std.specs.FinMap as finite
 use Rattle.ft_laws.specs.Lists as lists
 use Rattle.ft_cells.specs.Rows.{rows_of}
+use Rattle.ft_cells.specs.declared.limits.TreeLimits.{TreeLimits}
 use Rattle.ft_posix.specs.declared.call.Call.{Call}
 use Rattle.ft_posix.specs.declared.call.Call.TheVariants.{Mkdir, Rmdir, List as ListDir, Open, Close, Read, Write, Pread, Pwrite, Lseek, Truncate, Ftruncate, Stat, Fstat, Link, Unlink, Rename}
 use Rattle.ft_moss.specs.declared.line.LockLine.{LockLine}
@@ -11,7 +12,7 @@ use Rattle.ft_waits.specs.declared.edge.EdgeKind.{EdgeKind}
 use Rattle.ft_waits.specs.declared.edge.EdgeKind.TheVariants.{Lock, Child}
 use Rattle.ft_waits.specs.Edges.{AreEdgesOf, WaitsFor}
 use Rattle.ft_words.specs.Texts.{tree_text}
-use Rattle.ft_core.specs.States.{State}
+use Rattle.ft_core.specs.States.{State, Base}
 use Rattle.ft_core.specs.Reports.{AreLockLines}
 use Rattle.ft_replies.specs.declared.line.Report.{Report}
 use Rattle.ft_replies.specs.declared.line.Report.TheVariants.{Tree, Locks, Waits}
@@ -19,8 +20,8 @@ use Rattle.ft_replies.specs.Lines.{IsReportText}
 use Rattle.ft_core.specs.declared.request.Request.TheVariants.{Ask}
 use Rattle.ft_session.specs.declared.session.Session.{Session}
 use Rattle.nuzolged.specs.declared.told.Told.{Told}
-use Rattle.nuzolged.specs.Asked.{IsAsked, IsCallAsked}
-use Rattle.nuzolged.specs.Cuts.{cut_path, most_at, cut_of, AreAlike, CutLaw}
+use Rattle.nuzolged.specs.Asked.{IsAsked, IsCallAsked, limits_of}
+use Rattle.nuzolged.specs.Cuts.{cut_path, most_at, most_of, cut_of, cut_event, limits_in, AreAlike, CutLaw}
 use Rattle.nuzolged.proofs.CutStates.{left, alike_ask, tree-same, lock-same, fate-same, children-same, blockers-same, accesses-same, calls, requests}
 
 -- ---- what is left of what is left
@@ -28,34 +29,42 @@ use Rattle.nuzolged.proofs.CutStates.{left, alike_ask, tree-same, lock-same, fat
 path-left : (path : List ℕ) → cut_path (cut_path path) ≡ cut_path path
 path-left path = take-take 4096 4096 path (omega arith)
 
-left-left : (call : Call) → cut_of (cut_of call) ≡ cut_of call
-left-left (Mkdir path) = ap Mkdir (path-left path)
-left-left (Rmdir path) = ap Rmdir (path-left path)
-left-left (ListDir path) = ap ListDir (path-left path)
-left-left (Open path access create excl trunc append) = ap (λ p. Open p access create excl trunc append) (path-left path)
-left-left (Close fd) = refl
-left-left (Read fd len) = refl
-left-left (Write fd bytes) = ap (Write fd) (take-take 1048576 1048576 bytes (omega arith))
-left-left (Pread fd off len) = refl
-left-left (Pwrite fd off bytes) = ap (Pwrite fd off) (take-take (most_at off) (most_at off) bytes (omega arith))
-left-left (Lseek fd whence off) = refl
-left-left (Truncate len path) = ap (Truncate len) (path-left path)
-left-left (Ftruncate fd len) = refl
-left-left (Stat path) = ap Stat (path-left path)
-left-left (Fstat fd) = refl
-left-left (Link old new) = λ i. Link (path-left old i) (path-left new i)
-left-left (Unlink path) = ap Unlink (path-left path)
-left-left (Rename old new) = λ i. Rename (path-left old i) (path-left new i)
+left-left : (limits : TreeLimits) (call : Call) → cut_of limits (cut_of limits call) ≡ cut_of limits call
+left-left limits (Mkdir path) = ap Mkdir (path-left path)
+left-left limits (Rmdir path) = ap Rmdir (path-left path)
+left-left limits (ListDir path) = ap ListDir (path-left path)
+left-left limits (Open path access create excl trunc append) = ap (λ p. Open p access create excl trunc append) (path-left path)
+left-left limits (Close fd) = refl
+left-left limits (Read fd len) = refl
+left-left limits (Write fd bytes) = ap (Write fd) (take-take (most_of limits) (most_of limits) bytes (omega arith))
+left-left limits (Pread fd off len) = refl
+left-left limits (Pwrite fd off bytes) = ap (Pwrite fd off) (take-take (most_at limits off) (most_at limits off) bytes (omega arith))
+left-left limits (Lseek fd whence off) = refl
+left-left limits (Truncate len path) = ap (Truncate len) (path-left path)
+left-left limits (Ftruncate fd len) = refl
+left-left limits (Stat path) = ap Stat (path-left path)
+left-left limits (Fstat fd) = refl
+left-left limits (Link old new) = λ i. Link (path-left old i) (path-left new i)
+left-left limits (Unlink path) = ap Unlink (path-left path)
+left-left limits (Rename old new) = λ i. Rename (path-left old i) (path-left new i)
 
 -- ---- reports
 
 module _ (s s' : State) (alike : AreAlike s s') where
   back : AreAlike s' s
-  back = record { rule = sym alike.rule; base = sym alike.base; events = sym alike.events; asks = λ t. sym (alike.asks t); last_txn = sym alike.last_txn; last_stamp = sym alike.last_stamp }
+  back =
+      let same : limits_in s ≡ limits_in s' = ap (λ (b : Base). b.tree.limits) (sym alike.base) in record {
+        rule = sym alike.rule;
+        base = sym alike.base;
+        events = subst (λ l. map (cut_event l) s.events ≡ map (cut_event l) s'.events) same (sym alike.events);
+        asks = λ t. subst (λ l. option_map (cut_of l) (finite.get s.asks t) ≡ option_map (cut_of l) (finite.get s'.asks t)) same (sym (alike.asks t));
+        last_txn = sym alike.last_txn;
+        last_stamp = sym alike.last_stamp;
+      }
 
   waits-alike : (kind : EdgeKind) (from to : ℕ) → WaitsFor s kind from to → WaitsFor s' kind from to
   waits-alike Lock from to waits =
-      let other = alike_ask (finite.get s'.asks from) waits.call (alike.asks from ∙ ap left waits.pending) in record {
+      let other = alike_ask (limits_in s) (finite.get s'.asks from) waits.call (alike.asks from ∙ ap (left (limits_in s)) waits.pending) in record {
         call = other.other;
         pending = other.is;
         blocked = subst (lists.In to) (sym (blockers-same s s' alike from _ _ (accesses-same s s' alike waits.call other.other other.alike))) waits.blocked;
@@ -86,7 +95,7 @@ same_state : (s : State) → AreAlike s s
 same_state s = record { rule = refl; base = refl; events = refl; asks = λ t. refl; last_txn = refl; last_stamp = refl }
 
 -- what is asked by the cut of a call is asked by the call itself
-pub whole_asked : (old new : Option Session) (txn : ℕ) (told : Told) (call : Call) → IsAsked old (Ask txn (cut_of call)) told new → IsCallAsked old txn call told new
+pub whole_asked : (old new : Option Session) (txn : ℕ) (told : Told) (call : Call) → IsAsked old (Ask txn (cut_of (limits_of old) call)) told new → IsCallAsked old txn call told new
 whole_asked None new txn told call has = has
 whole_asked (Some old) new txn told call has =
-    let s = old.core.state in (has.0, has.1, has.2, has.3, has.4, calls s s (same_state s) txn (cut_of call) call (sym (left-left call)) has.1 has.0.core.state has.3.0)
+    let s = old.core.state in (has.0, has.1, has.2, has.3, has.4, calls s s (same_state s) txn (cut_of (limits_in s) call) call (sym (left-left (limits_in s) call)) has.1 has.0.core.state has.3.0)

@@ -5,6 +5,7 @@ use Rattle.std.specs.Cmp.{nat_cmp_total}
 use Rattle.std.specs.Ordering.{nat_cmp, eq_by_cmp}
 use Rattle.std.proofs.lemmas.Bool.{false≢true}
 use Rattle.std.proofs.lemmas.List.{map-append, length-map}
+use Rattle.ft_cells.specs.declared.limits.TreeLimits.{TreeLimits}
 use Rattle.ft_posix.specs.declared.call.Call.{Call}
 use Rattle.ft_posix.specs.declared.call.Access.{Access}
 use Rattle.ft_posix.specs.Posix.{as_place, posix_calls}
@@ -30,79 +31,80 @@ use Rattle.ft_core.specs.declared.request.Request.TheVariants.{Begin, Sub, Ask, 
 use Rattle.ft_core.specs.declared.request.Answer.{Answer}
 use Rattle.ft_core.specs.declared.request.Answer.TheVariants.{Txn, Granted, Waits, Dropped, Committed, Aborted, Undone, Cleared, Refused}
 use Rattle.ft_core.specs.Histories.{History, told_after, as_happening}
-use Rattle.ft_core.specs.States.{State, Asks, history, fate_of, has_live_child, has_live, live_children, is_deepest, has_most_transactions, has_most_calls, next_txn, next_stamp, after_begin, reply_of, accesses_now, after_grant, after_wait, after_drop, after_undo, after_commit, after_abort, after_checkpoint, count_standing, tree_of}
+use Rattle.ft_core.specs.States.{State, Base, Asks, history, fate_of, has_live_child, has_live, live_children, is_deepest, has_most_transactions, has_most_calls, next_txn, next_stamp, after_begin, reply_of, accesses_now, after_grant, after_wait, after_drop, after_undo, after_commit, after_abort, after_checkpoint, count_standing, tree_of}
 use Rattle.ft_core.specs.Steps.{IsAnswered, IsAsked, IsUndone, MayWantMemory, exact_rule, refusal_of, fault_if, fault_of_fate, fault_of_target, fault_of_ask}
-use Rattle.nuzolged.specs.Cuts.{cut_of, cut_event, AreAlike, AnswerAlike}
+use Rattle.ft_core.proofs.Limits.{limits-after}
+use Rattle.nuzolged.specs.Cuts.{cut_of, cut_event, limits_in, AreAlike, AnswerAlike}
 use Rattle.nuzolged.proofs.CutHistories.{begun-cut, parent-cut, grants-cut, fate-cut, over-cut, live_children-cut, standing-cut, calls_below-cut, blockers-cut, holds-cut, retains-cut, find_back-cut, exec-cut, accesses-cut, tree-cut, cut_done, cut_history, cut_target}
 
-abbrev pub left : Option Call → Option Call
-left = option_map cut_of
+abbrev pub left : (limits : TreeLimits) → Option Call → Option Call
+left limits = option_map (cut_of limits)
 
-told_after-cut : (h : History) (events : List Event) → cut_history (told_after h events) ≡ told_after (cut_history h) (map cut_event events)
-told_after-cut h [] = refl
-told_after-cut h (event.Begin t parent ∷ events) = told_after-cut (as_happening (event.Begin t parent) ∷ h) events
-told_after-cut h (event.Call k t call reply accesses ∷ events) = told_after-cut (as_happening (event.Call k t call reply accesses) ∷ h) events
-told_after-cut h (event.Undo k ∷ events) = told_after-cut (as_happening (event.Undo k) ∷ h) events
-told_after-cut h (event.Commit t ∷ events) = told_after-cut (as_happening (event.Commit t) ∷ h) events
-told_after-cut h (event.Abort t ∷ events) = told_after-cut (as_happening (event.Abort t) ∷ h) events
+told_after-cut : (limits : TreeLimits) (h : History) (events : List Event) → cut_history limits (told_after h events) ≡ told_after (cut_history limits h) (map (cut_event limits) events)
+told_after-cut limits h [] = refl
+told_after-cut limits h (event.Begin t parent ∷ events) = told_after-cut limits (as_happening (event.Begin t parent) ∷ h) events
+told_after-cut limits h (event.Call k t call reply accesses ∷ events) = told_after-cut limits (as_happening (event.Call k t call reply accesses) ∷ h) events
+told_after-cut limits h (event.Undo k ∷ events) = told_after-cut limits (as_happening (event.Undo k) ∷ h) events
+told_after-cut limits h (event.Commit t ∷ events) = told_after-cut limits (as_happening (event.Commit t) ∷ h) events
+told_after-cut limits h (event.Abort t ∷ events) = told_after-cut limits (as_happening (event.Abort t) ∷ h) events
 
 -- ---- what is asked for
 
 -- one of two, by the same test
-pick : (b : Bool) (x x' y y' : Option Call) → left x' ≡ left x → left y' ≡ left y → left (cond b x' y') ≡ left (cond b x y)
-pick true x x' y y' e f = e
-pick false x x' y y' e f = f
+pick : (limits : TreeLimits) (b : Bool) (x x' y y' : Option Call) → left limits x' ≡ left limits x → left limits y' ≡ left limits y → left limits (cond b x' y') ≡ left limits (cond b x y)
+pick limits true x x' y y' e f = e
+pick limits false x x' y y' e f = f
 
-abbrev AlikeAsks : Asks → Asks → Type 0
-AlikeAsks m m' = (t : ℕ) → left (finite.get m' t) ≡ left (finite.get m t)
+abbrev AlikeAsks : (limits : TreeLimits) → Asks → Asks → Type 0
+AlikeAsks limits m m' = (t : ℕ) → left limits (finite.get m' t) ≡ left limits (finite.get m t)
 
-removed-alike : (m m' : Asks) (t : ℕ) → AlikeAsks m m' → AlikeAsks (finite.remove m t) (finite.remove m' t)
-removed-alike m m' t alike u =
-    ap left (finite.get-remove nat_cmp_total m' t u) ∙ pick (eq_by_cmp nat_cmp u t) None None (finite.get m u) (finite.get m' u) refl (alike u) ∙ sym (ap left (finite.get-remove nat_cmp_total m t u))
+removed-alike : (limits : TreeLimits) (m m' : Asks) (t : ℕ) → AlikeAsks limits m m' → AlikeAsks limits (finite.remove m t) (finite.remove m' t)
+removed-alike limits m m' t alike u =
+    ap (left limits) (finite.get-remove nat_cmp_total m' t u) ∙ pick limits (eq_by_cmp nat_cmp u t) None None (finite.get m u) (finite.get m' u) refl (alike u) ∙ sym (ap (left limits) (finite.get-remove nat_cmp_total m t u))
 
-inserted-alike : (m m' : Asks) (t : ℕ) (call call' : Call) → cut_of call' ≡ cut_of call → AlikeAsks m m' → AlikeAsks (finite.insert m t call) (finite.insert m' t call')
-inserted-alike m m' t call call' e alike u =
-    ap left (finite.get-insert nat_cmp_total m' t call' u) ∙ pick (eq_by_cmp nat_cmp u t) (Some call) (Some call') (finite.get m u) (finite.get m' u) (ap Some e) (alike u)
-    ∙ sym (ap left (finite.get-insert nat_cmp_total m t call u))
+inserted-alike : (limits : TreeLimits) (m m' : Asks) (t : ℕ) (call call' : Call) → cut_of limits call' ≡ cut_of limits call → AlikeAsks limits m m' → AlikeAsks limits (finite.insert m t call) (finite.insert m' t call')
+inserted-alike limits m m' t call call' e alike u =
+    ap (left limits) (finite.get-insert nat_cmp_total m' t call' u) ∙ pick limits (eq_by_cmp nat_cmp u t) (Some call) (Some call') (finite.get m u) (finite.get m' u) (ap Some e) (alike u)
+    ∙ sym (ap (left limits) (finite.get-insert nat_cmp_total m t call u))
 
 retained-get : (m : Asks) (p : ℕ → Bool) (u : ℕ) → finite.get (finite.retain_keys m p) u ≡ cond (p u) (finite.get m u) None
 retained-get m p u = finite.get-retain_keys m p u (λ x e. ap p (sym (finite.nat_cmp-IsAntisymmetric u x e)))
 
-retained-alike : (m m' : Asks) (p p' : ℕ → Bool) → ((u : ℕ) → p' u ≡ p u) → AlikeAsks m m' → AlikeAsks (finite.retain_keys m p) (finite.retain_keys m' p')
-retained-alike m m' p p' same alike u =
-    ap left (retained-get m' p' u) ∙ ap (λ b. left (cond b (finite.get m' u) None)) (same u) ∙ pick (p u) (finite.get m u) (finite.get m' u) None None (alike u) refl ∙ sym (ap left (retained-get m p u))
+retained-alike : (limits : TreeLimits) (m m' : Asks) (p p' : ℕ → Bool) → ((u : ℕ) → p' u ≡ p u) → AlikeAsks limits m m' → AlikeAsks limits (finite.retain_keys m p) (finite.retain_keys m' p')
+retained-alike limits m m' p p' same alike u =
+    ap (left limits) (retained-get m' p' u) ∙ ap (λ b. left limits (cond b (finite.get m' u) None)) (same u) ∙ pick limits (p u) (finite.get m u) (finite.get m' u) None None (alike u) refl ∙ sym (ap (left limits) (retained-get m p u))
 
 -- the fault does not depend on what is cut
-fault_of_ask-left : (o : Option Call) (later : Option Fault) → fault_of_ask (left o) later ≡ fault_of_ask o later
-fault_of_ask-left None later = refl
-fault_of_ask-left (Some call) later = refl
+fault_of_ask-left : (limits : TreeLimits) (o : Option Call) (later : Option Fault) → fault_of_ask (left limits o) later ≡ fault_of_ask o later
+fault_of_ask-left limits None later = refl
+fault_of_ask-left limits (Some call) later = refl
 
-fault_of_target-left : (target : Target posix_calls) → fault_of_target (cut_target target) ≡ fault_of_target target
-fault_of_target-left (Found c) = refl
-fault_of_target-left SubSinceTarget = refl
-fault_of_target-left Nothing = refl
+fault_of_target-left : (limits : TreeLimits) (target : Target posix_calls) → fault_of_target (cut_target limits target) ≡ fault_of_target target
+fault_of_target-left limits (Found c) = refl
+fault_of_target-left limits SubSinceTarget = refl
+fault_of_target-left limits Nothing = refl
 
 -- a call that is asked for, of which the same is left
-pub record IsAlikeAsk (o : Option Call) (call : Call) : Type 0 where
+pub record IsAlikeAsk (limits : TreeLimits) (o : Option Call) (call : Call) : Type 0 where
   pub other : Call
   pub is : o ≡ Some other
-  pub alike : cut_of other ≡ cut_of call
+  pub alike : cut_of limits other ≡ cut_of limits call
 
-pub alike_ask : (o : Option Call) (call : Call) → left o ≡ Some (cut_of call) → IsAlikeAsk o call
-alike_ask None call e = absurd (false≢true (ap is_some e))
-alike_ask (Some other) call e = record { other = other; is = refl; alike = ap (λ o. unwrap_or o (cut_of call)) e }
+pub alike_ask : (limits : TreeLimits) (o : Option Call) (call : Call) → left limits o ≡ Some (cut_of limits call) → IsAlikeAsk limits o call
+alike_ask limits None call e = absurd (false≢true (ap is_some e))
+alike_ask limits (Some other) call e = record { other = other; is = refl; alike = ap (λ o. unwrap_or o (cut_of limits call)) e }
 
 -- ---- what an undo comes upon
 
-to_left : (s : State) (target : Target posix_calls) (k : ℕ) (after : State) → IsUndone s target k after → IsUndone s (cut_target target) k after
-to_left s (Found c) k after is = is
-to_left s SubSinceTarget k after is = is
-to_left s Nothing k after is = is
+to_left : (limits : TreeLimits) (s : State) (target : Target posix_calls) (k : ℕ) (after : State) → IsUndone s target k after → IsUndone s (cut_target limits target) k after
+to_left limits s (Found c) k after is = is
+to_left limits s SubSinceTarget k after is = is
+to_left limits s Nothing k after is = is
 
-from_left : (s : State) (target : Target posix_calls) (k : ℕ) (after : State) → IsUndone s (cut_target target) k after → IsUndone s target k after
-from_left s (Found c) k after is = is
-from_left s SubSinceTarget k after is = is
-from_left s Nothing k after is = is
+from_left : (limits : TreeLimits) (s : State) (target : Target posix_calls) (k : ℕ) (after : State) → IsUndone s (cut_target limits target) k after → IsUndone s target k after
+from_left limits s (Found c) k after is = is
+from_left limits s SubSinceTarget k after is = is
+from_left limits s Nothing k after is = is
 
 retried : (s : State) (t : ℕ) (call : Call) (a : Answer) (after : State) → finite.get s.asks t ≡ Some call → IsAsked exact_rule s t call a after → IsAnswered exact_rule s (Retry t) a after
 retried s t call (Granted k reply) after is has = (call, is, has)
@@ -112,25 +114,28 @@ retried s t call other after is has = absurd has
 -- ---- states that are alike
 
 module _ (s s' : State) (alike : AreAlike s s') where
-  cut_alike : cut_history (history s') ≡ cut_history (history s)
-  cut_alike = told_after-cut [] s'.events ∙ ap (told_after []) alike.events ∙ sym (told_after-cut [] s.events)
+  abbrev limits : TreeLimits
+  limits = limits_in s
+
+  cut_alike : cut_history limits (history s') ≡ cut_history limits (history s)
+  cut_alike = told_after-cut limits [] s'.events ∙ ap (told_after []) alike.events ∙ sym (told_after-cut limits [] s.events)
 
   -- what does not depend on what is cut is the same
-  same_of : {A : Type 0} (f : History → A) → ((h : History) → f (cut_history h) ≡ f h) → f (history s') ≡ f (history s)
+  same_of : {A : Type 0} (f : History → A) → ((h : History) → f (cut_history limits h) ≡ f h) → f (history s') ≡ f (history s)
   same_of f kept = sym (kept (history s')) ∙ ap f cut_alike ∙ kept (history s)
 
   begun-same : begun posix_calls (history s') ≡ begun posix_calls (history s)
-  begun-same = same_of (begun posix_calls) begun-cut
+  begun-same = same_of (begun posix_calls) (begun-cut limits)
 
   over-same : (t u : ℕ) → over posix_calls (history s') t u ≡ over posix_calls (history s) t u
-  over-same t u = same_of (λ h. over posix_calls h t u) (λ h. over-cut h t u)
+  over-same t u = same_of (λ h. over posix_calls h t u) (λ h. over-cut limits h t u)
 
   pub fate-same : (t : ℕ) → fate_of s' t ≡ fate_of s t
-  fate-same t = same_of (λ h. fate posix_calls s'.base.last_txn h t) (λ h. fate-cut s'.base.last_txn h t) ∙ ap (λ b. fate posix_calls b.last_txn (history s) t) alike.base
+  fate-same t = same_of (λ h. fate posix_calls s'.base.last_txn h t) (λ h. fate-cut limits s'.base.last_txn h t) ∙ ap (λ b. fate posix_calls b.last_txn (history s) t) alike.base
 
   pub children-same : (t : ℕ) → live_children s' t ≡ live_children s t
   children-same t =
-      same_of (λ h. live_children_of posix_calls s'.base.last_txn h t) (λ h. live_children-cut s'.base.last_txn h t) ∙ ap (λ b. live_children_of posix_calls b.last_txn (history s) t) alike.base
+      same_of (λ h. live_children_of posix_calls s'.base.last_txn h t) (λ h. live_children-cut limits s'.base.last_txn h t) ∙ ap (λ b. live_children_of posix_calls b.last_txn (history s) t) alike.base
 
   has_live_child-same : (t : ℕ) → has_live_child s' t ≡ has_live_child s t
   has_live_child-same t = ap (λ xs. nat_lt 0 (length xs)) (children-same t)
@@ -142,44 +147,50 @@ module _ (s s' : State) (alike : AreAlike s s') where
   most_transactions-same = λ i. nat_le MOST_TRANSACTIONS (length (begun-same i)) || nat_le LAST_NUMBER (alike.last_txn i)
 
   grants-same : length (grants posix_calls (history s')) ≡ length (grants posix_calls (history s))
-  grants-same = same_of (λ h. length (grants posix_calls h)) (λ h. ap length (grants-cut h) ∙ length-map (grants posix_calls h) cut_done)
+  grants-same = same_of (λ h. length (grants posix_calls h)) (λ h. ap length (grants-cut limits h) ∙ length-map (grants posix_calls h) (cut_done limits))
 
   most_calls-same : has_most_calls s' ≡ has_most_calls s
   most_calls-same = λ i. nat_le MOST_CALLS (grants-same i) || nat_le LAST_NUMBER (alike.last_stamp i)
 
   deepest-same : (t : ℕ) → is_deepest s' t ≡ is_deepest s t
-  deepest-same t = ap (λ f. nat_le MOST_DEPTH (depth_within f t t)) (same_of (parent posix_calls) parent-cut)
+  deepest-same t = ap (λ f. nat_le MOST_DEPTH (depth_within f t t)) (same_of (parent posix_calls) (parent-cut limits))
 
   next_stamp-same : next_stamp s' ≡ next_stamp s
   next_stamp-same = ap (λ k. k + 1) alike.last_stamp
 
   pub tree-same : tree_of s' ≡ tree_of s
   tree-same =
-      same_of (λ h. tree_after s'.base.tree (standing posix_calls h)) (λ h. ap (tree_after s'.base.tree) (standing-cut h) ∙ tree-cut s'.base.tree (standing posix_calls h))
+      same_of (λ h. tree_after s'.base.tree (standing posix_calls h)) (λ h. ap (tree_after s'.base.tree) (standing-cut limits h) ∙ tree-cut limits s'.base.tree (ap (λ (b : Base). b.tree.limits) alike.base) (standing posix_calls h))
       ∙ ap (λ b. tree_after b.tree (standing posix_calls (history s))) alike.base
 
   count-same : (t : ℕ) → count_standing s' t ≡ count_standing s t
-  count-same t = same_of (λ h. calls_below posix_calls h t) (λ h. calls_below-cut h t)
+  count-same t = same_of (λ h. calls_below posix_calls h t) (λ h. calls_below-cut limits h t)
 
-  target-alike : (t : ℕ) → cut_target (undo_target posix_calls (history s') t) ≡ cut_target (undo_target posix_calls (history s) t)
-  target-alike t = sym (find_back-cut (history s') t (history s')) ∙ ap (λ h. undo_target posix_calls h t) cut_alike ∙ find_back-cut (history s) t (history s)
+  target-alike : (t : ℕ) → cut_target limits (undo_target posix_calls (history s') t) ≡ cut_target limits (undo_target posix_calls (history s) t)
+  target-alike t = sym (find_back-cut limits (history s') t (history s')) ∙ ap (λ h. undo_target posix_calls h t) cut_alike ∙ find_back-cut limits (history s) t (history s)
 
   -- ---- a call
 
-  pub accesses-same : (call call' : Call) → cut_of call' ≡ cut_of call → accesses_now s' call' ≡ accesses_now s call
-  accesses-same call call' e =
-      sym (accesses-cut (tree_of s') (next_stamp s') call') ∙ (λ i. accesses_in (tree-same i) (next_stamp-same i) (e i)) ∙ accesses-cut (tree_of s) (next_stamp s) call
+  -- what is left of a call on the one tree is left of it on the other
+  cuts-same : (call call' : Call) → cut_of limits call' ≡ cut_of limits call → cut_of (tree_of s').limits call' ≡ cut_of (tree_of s).limits call
+  cuts-same call call' e =
+      ap (λ l. cut_of l call') (limits-after s'.base.tree (standing posix_calls (history s')) ∙ ap (λ (b : Base). b.tree.limits) alike.base) ∙ e
+      ∙ ap (λ l. cut_of l call) (sym (limits-after s.base.tree (standing posix_calls (history s))))
 
-  reply-same : (call call' : Call) → cut_of call' ≡ cut_of call → reply_of s' call' ≡ reply_of s call
+  pub accesses-same : (call call' : Call) → cut_of limits call' ≡ cut_of limits call → accesses_now s' call' ≡ accesses_now s call
+  accesses-same call call' e =
+      sym (accesses-cut (tree_of s') (next_stamp s') call') ∙ (λ i. accesses_in (tree-same i) (next_stamp-same i) (cuts-same call call' e i)) ∙ accesses-cut (tree_of s) (next_stamp s) call
+
+  reply-same : (call call' : Call) → cut_of limits call' ≡ cut_of limits call → reply_of s' call' ≡ reply_of s call
   reply-same call call' e =
-      ap (λ r. r.1) (sym (exec-cut (tree_of s') (next_stamp s') call') ∙ (λ i. exec (tree-same i) (next_stamp-same i) (e i)) ∙ exec-cut (tree_of s) (next_stamp s) call)
+      ap (λ r. r.1) (sym (exec-cut (tree_of s') (next_stamp s') call') ∙ (λ i. exec (tree-same i) (next_stamp-same i) (cuts-same call call' e i)) ∙ exec-cut (tree_of s) (next_stamp s) call)
 
   pub blockers-same : (t : ℕ) (accesses accesses' : List Access) → accesses' ≡ accesses → exact_rule s' t accesses' ≡ exact_rule s t accesses
   blockers-same t accesses accesses' e =
-      (λ i. blockers_by (alike.rule i) (history s') t (map as_place (e i))) ∙ same_of (λ h. blockers_by s.rule h t (map as_place accesses)) (λ h. blockers-cut s.rule h t (map as_place accesses))
+      (λ i. blockers_by (alike.rule i) (history s') t (map as_place (e i))) ∙ same_of (λ h. blockers_by s.rule h t (map as_place accesses)) (λ h. blockers-cut limits s.rule h t (map as_place accesses))
 
   pub lock-same : (l : LockLine) → is_lock (history s') l ≡ is_lock (history s) l
-  lock-same l = same_of (λ h. is_lock h l) (λ h. λ i. cond (is_held l.kind) (holds-cut h l.owner (is_of l) i) (retains-cut h l.owner (is_of l) i))
+  lock-same l = same_of (λ h. is_lock h l) (λ h. λ i. cond (is_held l.kind) (holds-cut limits h l.owner (is_of l) i) (retains-cut limits h l.owner (is_of l) i))
 
   -- ---- refusals
 
@@ -187,11 +198,11 @@ module _ (s s' : State) (alike : AreAlike s s') where
   refusal-asked t call call' = λ i. fault_of_fate (fate-same t i) (fault_if (most_calls-same i) Full None)
 
   ask-same : (t : ℕ) (later : Option Fault) → fault_of_ask (finite.get s'.asks t) later ≡ fault_of_ask (finite.get s.asks t) later
-  ask-same t later = sym (fault_of_ask-left (finite.get s'.asks t) later) ∙ ap (λ o. fault_of_ask o later) (alike.asks t) ∙ fault_of_ask-left (finite.get s.asks t) later
+  ask-same t later = sym (fault_of_ask-left limits (finite.get s'.asks t) later) ∙ ap (λ o. fault_of_ask o later) (alike.asks t) ∙ fault_of_ask-left limits (finite.get s.asks t) later
 
   fault-same : (t : ℕ) → fault_of_target (undo_target posix_calls (history s') t) ≡ fault_of_target (undo_target posix_calls (history s) t)
   fault-same t =
-      sym (fault_of_target-left (undo_target posix_calls (history s') t)) ∙ ap fault_of_target (target-alike t) ∙ fault_of_target-left (undo_target posix_calls (history s) t)
+      sym (fault_of_target-left limits (undo_target posix_calls (history s') t)) ∙ ap fault_of_target (target-alike t) ∙ fault_of_target-left limits (undo_target posix_calls (history s) t)
 
   refusal-same : (r : Request) → refusal_of s' r ≡ refusal_of s r
   refusal-same Begin = λ i. fault_if (most_transactions-same i) Full None
@@ -207,8 +218,8 @@ module _ (s s' : State) (alike : AreAlike s s') where
 
   -- ---- what is left
 
-  more : (e e' : Event) → cut_event e' ≡ cut_event e → map cut_event (s'.events ++ e' ∷ []) ≡ map cut_event (s.events ++ e ∷ [])
-  more e e' same = map-append cut_event s'.events (e' ∷ []) ∙ (λ i. alike.events i ++ same i ∷ []) ∙ sym (map-append cut_event s.events (e ∷ []))
+  more : (e e' : Event) → cut_event limits e' ≡ cut_event limits e → map (cut_event limits) (s'.events ++ e' ∷ []) ≡ map (cut_event limits) (s.events ++ e ∷ [])
+  more e e' same = map-append (cut_event limits) s'.events (e' ∷ []) ∙ (λ i. alike.events i ++ same i ∷ []) ∙ sym (map-append (cut_event limits) s.events (e ∷ []))
 
   begin-alike : (up : Option ℕ) → AreAlike (after_begin s up) (after_begin s' up)
   begin-alike up = record {
@@ -220,22 +231,22 @@ module _ (s s' : State) (alike : AreAlike s s') where
     last_stamp = alike.last_stamp;
   }
 
-  grant-alike : (t : ℕ) (call call' : Call) → cut_of call' ≡ cut_of call → AreAlike (after_grant s t call) (after_grant s' t call')
+  grant-alike : (t : ℕ) (call call' : Call) → cut_of limits call' ≡ cut_of limits call → AreAlike (after_grant s t call) (after_grant s' t call')
   grant-alike t call call' e = record {
     rule = alike.rule;
     base = alike.base;
     events = more (event.Call (next_stamp s) t call (reply_of s call) (accesses_now s call)) (event.Call (next_stamp s') t call' (reply_of s' call') (accesses_now s' call'))
         (λ i. event.Call (next_stamp-same i) t (e i) (reply-same call call' e i) (accesses-same call call' e i));
-    asks = removed-alike s.asks s'.asks t alike.asks;
+    asks = removed-alike limits s.asks s'.asks t alike.asks;
     last_txn = alike.last_txn;
     last_stamp = next_stamp-same;
   }
 
-  wait-alike : (t : ℕ) (call call' : Call) → cut_of call' ≡ cut_of call → AreAlike (after_wait s t call) (after_wait s' t call')
-  wait-alike t call call' e = record { rule = alike.rule; base = alike.base; events = alike.events; asks = inserted-alike s.asks s'.asks t call call' e alike.asks; last_txn = alike.last_txn; last_stamp = alike.last_stamp }
+  wait-alike : (t : ℕ) (call call' : Call) → cut_of limits call' ≡ cut_of limits call → AreAlike (after_wait s t call) (after_wait s' t call')
+  wait-alike t call call' e = record { rule = alike.rule; base = alike.base; events = alike.events; asks = inserted-alike limits s.asks s'.asks t call call' e alike.asks; last_txn = alike.last_txn; last_stamp = alike.last_stamp }
 
   drop-alike : (t : ℕ) → AreAlike (after_drop s t) (after_drop s' t)
-  drop-alike t = record { rule = alike.rule; base = alike.base; events = alike.events; asks = removed-alike s.asks s'.asks t alike.asks; last_txn = alike.last_txn; last_stamp = alike.last_stamp }
+  drop-alike t = record { rule = alike.rule; base = alike.base; events = alike.events; asks = removed-alike limits s.asks s'.asks t alike.asks; last_txn = alike.last_txn; last_stamp = alike.last_stamp }
 
   undo-alike : (k : ℕ) → AreAlike (after_undo s k) (after_undo s' k)
   undo-alike k = record { rule = alike.rule; base = alike.base; events = more (event.Undo k) (event.Undo k) refl; asks = alike.asks; last_txn = alike.last_txn; last_stamp = alike.last_stamp }
@@ -245,7 +256,7 @@ module _ (s s' : State) (alike : AreAlike s s') where
     rule = alike.rule;
     base = alike.base;
     events = more (event.Commit t) (event.Commit t) refl;
-    asks = removed-alike s.asks s'.asks t alike.asks;
+    asks = removed-alike limits s.asks s'.asks t alike.asks;
     last_txn = alike.last_txn;
     last_stamp = alike.last_stamp;
   }
@@ -255,7 +266,7 @@ module _ (s s' : State) (alike : AreAlike s s') where
     rule = alike.rule;
     base = alike.base;
     events = more (event.Abort t) (event.Abort t) refl;
-    asks = retained-alike s.asks s'.asks (λ u. not (over posix_calls (history s) t u)) (λ u. not (over posix_calls (history s') t u)) (λ u. ap not (over-same t u)) alike.asks;
+    asks = retained-alike limits s.asks s'.asks (λ u. not (over posix_calls (history s) t u)) (λ u. not (over posix_calls (history s') t u)) (λ u. ap not (over-same t u)) alike.asks;
     last_txn = alike.last_txn;
     last_stamp = alike.last_stamp;
   }
@@ -287,7 +298,7 @@ module _ (s s' : State) (alike : AreAlike s s') where
   alike_from : (mine after after' : State) → after ≡ mine → AreAlike mine after' → AreAlike after after'
   alike_from mine after after' is has = subst (λ (x : State). AreAlike x after') (sym is) has
 
-  asked-alike : (t : ℕ) (call call' : Call) → cut_of call' ≡ cut_of call → (a : Answer) (after : State) → IsAsked exact_rule s t call a after → HasAskedAlike t call' a after
+  asked-alike : (t : ℕ) (call call' : Call) → cut_of limits call' ≡ cut_of limits call → (a : Answer) (after : State) → IsAsked exact_rule s t call a after → HasAskedAlike t call' a after
   asked-alike t call call' e (Granted k reply) after has = record {
     after' = after_grant s' t call';
     asked = (blockers-same t (accesses_now s call) (accesses_now s' call') (accesses-same call call' e) ∙ has.0, has.1 ∙ sym next_stamp-same, has.2 ∙ sym (reply-same call call' e), refl);
@@ -302,7 +313,7 @@ module _ (s s' : State) (alike : AreAlike s s') where
 
   retried-alike : (t : ℕ) (call : Call) (a : Answer) (after : State) → finite.get s.asks t ≡ Some call → IsAsked exact_rule s t call a after → HasAlike (Retry t) a after
   retried-alike t call a after is has =
-      let other = alike_ask (finite.get s'.asks t) call (alike.asks t ∙ ap left is) in
+      let other = alike_ask limits (finite.get s'.asks t) call (alike.asks t ∙ ap (left limits) is) in
       let asked = asked-alike t call other.other other.alike a after has in
       record { after' = asked.after'; answered = retried s' t other.other a asked.after' other.is asked.asked; is_alike = asked.is_alike }
 
@@ -313,9 +324,9 @@ module _ (s s' : State) (alike : AreAlike s s') where
 
   undo-answered : (t k : ℕ) (after : State) → IsUndone s (undo_target posix_calls (history s) t) k after → HasAlike (Undo t) (Undone k) after
   undo-answered t k after has =
-      let mine : IsUndone s (cut_target (undo_target posix_calls (history s') t)) k after =
-      subst (λ (x : Target posix_calls). IsUndone s x k after) (sym (target-alike t)) (to_left s (undo_target posix_calls (history s) t) k after has) in
-      let both = undone-alike (undo_target posix_calls (history s') t) k after (from_left s (undo_target posix_calls (history s') t) k after mine) in
+      let mine : IsUndone s (cut_target limits (undo_target posix_calls (history s') t)) k after =
+      subst (λ (x : Target posix_calls). IsUndone s x k after) (sym (target-alike t)) (to_left limits s (undo_target posix_calls (history s) t) k after has) in
+      let both = undone-alike (undo_target posix_calls (history s') t) k after (from_left limits s (undo_target posix_calls (history s') t) k after mine) in
       record { after' = after_undo s' k; answered = both.0; is_alike = alike_from (after_undo s k) after (after_undo s' k) both.1 (undo-alike k) }
 
   -- nothing has changed
@@ -372,11 +383,11 @@ module _ (s s' : State) (alike : AreAlike s s') where
   pub requests : (r : Request) → AnswerAlike s r s' r
   requests r = stepped r r (refusal-same r) (answer-alike r)
 
-  call-answered : (t : ℕ) (call call' : Call) → cut_of call' ≡ cut_of call → (a : Answer) (after : State) → IsAnswered exact_rule s (Ask t call) a after → HasAlike (Ask t call') a after
+  call-answered : (t : ℕ) (call call' : Call) → cut_of limits call' ≡ cut_of limits call → (a : Answer) (after : State) → IsAnswered exact_rule s (Ask t call) a after → HasAlike (Ask t call') a after
   call-answered t call call' e (Refused fault) after has = refused-alike (Ask t call') fault after has (λ x. x)
   call-answered t call call' e (Granted k reply) after has = let a = asked-alike t call call' e (Granted k reply) after has in record { after' = a.after'; answered = a.asked; is_alike = a.is_alike }
   call-answered t call call' e (Waits blockers) after has = let a = asked-alike t call call' e (Waits blockers) after has in record { after' = a.after'; answered = a.asked; is_alike = a.is_alike }
   call-answered t call call' e other after has = absurd has
 
-  pub calls : (t : ℕ) (call call' : Call) → cut_of call' ≡ cut_of call → AnswerAlike s (Ask t call) s' (Ask t call')
+  pub calls : (t : ℕ) (call call' : Call) → cut_of limits call' ≡ cut_of limits call → AnswerAlike s (Ask t call) s' (Ask t call')
   calls t call call' e = stepped (Ask t call) (Ask t call') (refusal-asked t call call') (call-answered t call call' e)

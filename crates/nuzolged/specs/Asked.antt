@@ -1,8 +1,10 @@
 -- What a request through a handle came to.
-use Rattle.std.specs.Prelude.{◌≡◌, ◌⊎◌, ◌||◌, ℕ, Bool, true, false, cond, List, Option, Some, None, Result, Ok, Err, suc, zero}
+use Rattle.std.specs.Prelude.{◌≡◌, ◌⊎◌, ◌||◌, ℕ, Bool, true, false, List, Option, Some, None, Result, Ok, Err, suc, zero}
 use Rattle.ft_path.specs.Name.{has_nul}
 use Rattle.ft_cells.specs.declared.open_file.AccessMode.{AccessMode}
 use Rattle.ft_cells.specs.declared.open_file.AccessMode.TheVariants.{ReadOnly, WriteOnly, ReadWrite}
+use Rattle.ft_cells.specs.declared.limits.TreeLimits.{TreeLimits}
+use Rattle.ft_cells.specs.Limits.{default_limits}
 use Rattle.ft_posix.specs.declared.call.Call.{Call}
 use Rattle.ft_posix.specs.declared.call.Whence.{Whence}
 use Rattle.ft_posix.specs.declared.call.Whence.TheVariants.{Set, Cur, End}
@@ -16,8 +18,8 @@ use Rattle.ft_session.specs.Sessions.{HasAnswered}
 use Rattle.nuzolged.specs.declared.told.Told.{Told}
 use Rattle.nuzolged.specs.declared.asking.Unasked.{Unasked}
 use Rattle.nuzolged.specs.declared.asking.Unasked.TheVariants as unasked
-use Rattle.nuzolged.specs.Cuts.{cut_path, cut_of, AreAlike}
-use Rattle.nuzolged.specs.Numbers.{told_of_answer, no_memory, closed, bad}
+use Rattle.nuzolged.specs.Cuts.{cut_path, cut_of, limits_in, AreAlike}
+use Rattle.nuzolged.specs.Numbers.{told_of_answer, closed, bad}
 
 -- The handle is closed, and stays so. Or the core of its session has made one legal step for just
 -- this request, and what is told is its answer.
@@ -25,28 +27,31 @@ abbrev pub IsAsked : Option Session → Request → Told → Option Session → 
 IsAsked None request told new = (told ≡ closed) × (new ≡ None)
 IsAsked (Some old) request told new = (session : Session) × (answer : Answer) × (new ≡ Some session) × HasAnswered old request answer session × (told ≡ told_of_answer answer)
 
+-- what the tree behind a handle allows
+abbrev pub limits_of : Option Session → TreeLimits
+limits_of None = default_limits
+limits_of (Some session) = limits_in session.core.state
+
 -- The same of a call that is cut (`Cuts`). The core has made one legal step for what is left of it;
 -- and one for the call itself has the same answer, and leaves a state that is alike.
 abbrev pub IsCallAsked : Option Session → ℕ → Call → Told → Option Session → Type 0
 IsCallAsked None txn call told new = (told ≡ closed) × (new ≡ None)
 IsCallAsked (Some old) txn call told new =
-    (session : Session) × (answer : Answer) × (new ≡ Some session) × HasAnswered old (Ask txn (cut_of call)) answer session × (told ≡ told_of_answer answer)
+    (session : Session) × (answer : Answer) × (new ≡ Some session) × HasAnswered old (Ask txn (cut_of (limits_in old.core.state) call)) answer session × (told ≡ told_of_answer answer)
     × ((whole : State) × IsStep exact_rule old.core.state (Ask txn call) answer whole × AreAlike session.core.state whole)
 
--- Nothing has changed: the handle is closed, an argument is bad, or there was no memory for a
--- copy of one.
-abbrev pub IsTurnedAway : Bool → Option Session → Told → Option Session → Type 0
-IsTurnedAway is_bad None told new = (told ≡ closed) × (new ≡ None)
-IsTurnedAway is_bad (Some old) told new = (told ≡ cond is_bad bad no_memory) × (new ≡ Some old)
+-- An argument is bad: nothing has changed.
+abbrev pub IsBad : Option Session → Told → Option Session → Type 0
+IsBad None told new = (told ≡ closed) × (new ≡ None)
+IsBad (Some old) told new = (told ≡ bad) × (new ≡ Some old)
 
--- A call in a transaction: it is turned away where an argument is bad, and else only for want of
--- memory.
+-- a call in a transaction is asked for just where no argument is bad
 abbrev pub IsCalled : Bool → Option Session → ℕ → Call → Told → Option Session → Type 0
-IsCalled is_bad old txn call told new = ((is_bad ≡ false) × IsCallAsked old txn call told new) ⊎ IsTurnedAway is_bad old told new
+IsCalled is_bad old txn call told new = ((is_bad ≡ false) × IsCallAsked old txn call told new) ⊎ ((is_bad ≡ true) × IsBad old told new)
 
 -- ---- arguments
 
--- an argument is bad; else there was no memory
+-- it is bad; else there was no memory for a copy of it
 abbrev pub is_bad : Unasked → Bool
 is_bad unasked.Memory = false
 is_bad unasked.Bad = true
@@ -60,11 +65,6 @@ IsPath bytes (Err why) = has_nul bytes ≡ is_bad why
 abbrev pub ArePaths : List ℕ → List ℕ → Result (List ℕ × List ℕ) Unasked → Type 0
 ArePaths from to (Ok paths) = (paths.0 ≡ cut_path from) × (paths.1 ≡ cut_path to) × ((has_nul from || has_nul to) ≡ false)
 ArePaths from to (Err why) = (has_nul from || has_nul to) ≡ is_bad why
-
--- a copy of these bytes, or there was no memory for it
-abbrev pub AreKept : List ℕ → Result (List ℕ) Unasked → Type 0
-AreKept bytes (Ok kept) = kept ≡ bytes
-AreKept bytes (Err why) = is_bad why ≡ false
 
 -- the access of a number, as O_RDONLY, O_WRONLY and O_RDWR
 abbrev pub access_of : ℕ → Option AccessMode

@@ -3,8 +3,8 @@
 use Rattle.std.specs.Prelude.{◌≡◌, ℕ, ◌+◌, max, ℤ, pos, negsuc, List, take, map, option_map}
 use Rattle.std.specs.FinMap as finite
 use Rattle.ft_path.specs.declared.TheConstants.{LONGEST_PATH}
-use Rattle.ft_body.specs.declared.TheConstants.{SIZE_LIMIT}
 use Rattle.ft_body.specs.Bytes.{room_at}
+use Rattle.ft_cells.specs.declared.limits.TreeLimits.{TreeLimits}
 use Rattle.ft_posix.specs.declared.call.Call.{Call}
 use Rattle.ft_posix.specs.declared.call.Call.TheVariants.{Mkdir, Rmdir, List as ListDir, Open, Close, Read, Write, Pread, Pwrite, Lseek, Truncate, Ftruncate, Stat, Fstat, Link, Unlink, Rename}
 use Rattle.ft_core.specs.declared.request.Event.{Event}
@@ -22,53 +22,62 @@ use Rattle.ft_replies.specs.Lines.{IsReportText}
 abbrev pub cut_path : List ℕ → List ℕ
 cut_path path = take (LONGEST_PATH + 1) path
 
--- as many bytes of a write as a file may have: where they go is known when it is granted
-abbrev pub cut_bytes : List ℕ → List ℕ
-cut_bytes bytes = take SIZE_LIMIT bytes
+-- how many bytes a file of the tree may have, or one where it may have none
+abbrev pub most_of : TreeLimits → ℕ
+most_of limits = max 1 limits.file_size
+
+-- as many bytes of a write as a file of the tree may have: where they go is known when it is
+-- granted; and one where it may have none, since to write none is no error
+abbrev pub cut_bytes : TreeLimits → List ℕ → List ℕ
+cut_bytes limits bytes = take (most_of limits) bytes
 
 -- as many bytes of a pwrite as have room at its place (POSIX.1-2017, System Interfaces, pwrite);
 -- and one where none has, since to write none is no error
-abbrev pub most_at : ℤ → ℕ
-most_at (pos at) = max 1 (room_at at)
-most_at (negsuc n) = 1
+abbrev pub most_at : TreeLimits → ℤ → ℕ
+most_at limits (pos at) = max 1 (room_at limits.file_size at)
+most_at limits (negsuc n) = 1
 
--- what is left of a call
-abbrev pub cut_of : Call → Call
-cut_of (Mkdir path) = Mkdir (cut_path path)
-cut_of (Rmdir path) = Rmdir (cut_path path)
-cut_of (ListDir path) = ListDir (cut_path path)
-cut_of (Open path access create excl trunc append) = Open (cut_path path) access create excl trunc append
-cut_of (Close fd) = Close fd
-cut_of (Read fd len) = Read fd len
-cut_of (Write fd bytes) = Write fd (cut_bytes bytes)
-cut_of (Pread fd off len) = Pread fd off len
-cut_of (Pwrite fd off bytes) = Pwrite fd off (take (most_at off) bytes)
-cut_of (Lseek fd whence off) = Lseek fd whence off
-cut_of (Truncate len path) = Truncate len (cut_path path)
-cut_of (Ftruncate fd len) = Ftruncate fd len
-cut_of (Stat path) = Stat (cut_path path)
-cut_of (Fstat fd) = Fstat fd
-cut_of (Link old new) = Link (cut_path old) (cut_path new)
-cut_of (Unlink path) = Unlink (cut_path path)
-cut_of (Rename old new) = Rename (cut_path old) (cut_path new)
+-- what is left of a call on a tree with these limits
+abbrev pub cut_of : TreeLimits → Call → Call
+cut_of limits (Mkdir path) = Mkdir (cut_path path)
+cut_of limits (Rmdir path) = Rmdir (cut_path path)
+cut_of limits (ListDir path) = ListDir (cut_path path)
+cut_of limits (Open path access create excl trunc append) = Open (cut_path path) access create excl trunc append
+cut_of limits (Close fd) = Close fd
+cut_of limits (Read fd len) = Read fd len
+cut_of limits (Write fd bytes) = Write fd (cut_bytes limits bytes)
+cut_of limits (Pread fd off len) = Pread fd off len
+cut_of limits (Pwrite fd off bytes) = Pwrite fd off (take (most_at limits off) bytes)
+cut_of limits (Lseek fd whence off) = Lseek fd whence off
+cut_of limits (Truncate len path) = Truncate len (cut_path path)
+cut_of limits (Ftruncate fd len) = Ftruncate fd len
+cut_of limits (Stat path) = Stat (cut_path path)
+cut_of limits (Fstat fd) = Fstat fd
+cut_of limits (Link old new) = Link (cut_path old) (cut_path new)
+cut_of limits (Unlink path) = Unlink (cut_path path)
+cut_of limits (Rename old new) = Rename (cut_path old) (cut_path new)
 
 -- ---- what a core keeps
 
 -- what is left of an event
-abbrev pub cut_event : Event → Event
-cut_event (Begin t parent) = Begin t parent
-cut_event (CallEvent k t call reply accesses) = CallEvent k t (cut_of call) reply accesses
-cut_event (Undo k) = Undo k
-cut_event (Commit t) = Commit t
-cut_event (Abort t) = Abort t
+abbrev pub cut_event : TreeLimits → Event → Event
+cut_event limits (Begin t parent) = Begin t parent
+cut_event limits (CallEvent k t call reply accesses) = CallEvent k t (cut_of limits call) reply accesses
+cut_event limits (Undo k) = Undo k
+cut_event limits (Commit t) = Commit t
+cut_event limits (Abort t) = Abort t
+
+-- what the tree of a state allows
+abbrev pub limits_in : State → TreeLimits
+limits_in s = s.base.tree.limits
 
 -- Two states are the same, but for what could be cut from the calls that were made and from those
 -- that wait.
 pub record AreAlike (s s' : State) : Type 0 where
   pub rule : s'.rule ≡ s.rule
   pub base : s'.base ≡ s.base
-  pub events : map cut_event s'.events ≡ map cut_event s.events
-  pub asks : (t : ℕ) → option_map cut_of (finite.get s'.asks t) ≡ option_map cut_of (finite.get s.asks t)
+  pub events : map (cut_event (limits_in s)) s'.events ≡ map (cut_event (limits_in s)) s.events
+  pub asks : (t : ℕ) → option_map (cut_of (limits_in s)) (finite.get s'.asks t) ≡ option_map (cut_of (limits_in s)) (finite.get s.asks t)
   pub last_txn : s'.last_txn ≡ s.last_txn
   pub last_stamp : s'.last_stamp ≡ s.last_stamp
 
@@ -81,10 +90,10 @@ AnswerAlike s request s' request' =
 -- Nobody sees what is cut: from states that are alike on,
 pub record CutLaw : Type 0 where
   -- calls of which the same is left have the same answers;
-  pub calls : (s s' : State) → AreAlike s s' → (t : ℕ) (call call' : Call) → cut_of call' ≡ cut_of call → AnswerAlike s (Ask t call) s' (Ask t call')
+  pub calls : (s s' : State) → AreAlike s s' → (t : ℕ) (call call' : Call) → cut_of (limits_in s) call' ≡ cut_of (limits_in s) call → AnswerAlike s (Ask t call) s' (Ask t call')
   -- so has whatever else is asked, and asked later, since what is left is alike;
   pub requests : (s s' : State) → AreAlike s s' → (request : Request) → AnswerAlike s request s' request
   -- and reports are the same.
   pub reports : (s s' : State) → AreAlike s s' → (report : Report) (text : List ℕ) → IsReportText s report text → IsReportText s' report text
   -- A call and what is left of it are such calls.
-  pub left : (call : Call) → cut_of (cut_of call) ≡ cut_of call
+  pub left : (limits : TreeLimits) (call : Call) → cut_of limits (cut_of limits call) ≡ cut_of limits call

@@ -1,20 +1,20 @@
 // Requests through a handle.
-ghost use Rattle.std.specs.Prelude.{◌≡◌, ℤ, Bool, take};
+ghost use Rattle.std.specs.Prelude.{◌≡◌, ℤ, Bool, IfOk, take};
 ghost use Rattle.ft_posix.specs.declared.call.Call.{Call as CallOf};
 ghost use Rattle.ft_core.specs.declared.request.Request.TheVariants.{Ask};
-ghost use Rattle.nuzolged.specs.Asked.{IsAsked, IsCallAsked, IsTurnedAway, IsPath, ArePaths, AreKept, is_bad};
-ghost use Rattle.nuzolged.specs.Cuts.{cut_of, most_at};
+ghost use Rattle.nuzolged.specs.Asked.{limits_of, IsAsked, IsCallAsked, IsCalled, IsBad, IsPath, ArePaths, is_bad};
+ghost use Rattle.nuzolged.specs.Cuts.{cut_of, most_at, most_of};
 
 use crate::handle::Handle;
-use crate::told::{BAD, CLOSED, MEMORY, Told, told_of};
-use ft_base::Sequence;
-use ft_body::SIZE_LIMIT;
+use crate::told::{BAD, CLOSED, Told, told_of};
+use ft_base::{Memory, Sequence};
 use ft_calls::Call;
 use ft_core::{Request, TxnId};
 use ft_path::{FilePath, LONGEST_PATH, PathFault};
+use ft_tree::TreeLimits;
 use std::alloc::Global;
 
-/// Why a call was not asked for.
+/// Why a call could not be asked for.
 #[derive(Clone, Copy, Debug, PartialEq, Eq)]
 pub(crate) enum Unasked {
     /// There was no memory for a copy of its path or of its bytes.
@@ -42,22 +42,44 @@ pub(crate) fn ask(alloc: Global, tree: &mut Handle, request: Request) -> Told
 /// Asks for a call in a transaction. It may be the cut of another one.
 pub(crate) fn call(alloc: Global, tree: &mut Handle, txn: u64, call: Call) -> Told
     ensures asked { IsAsked tree.old.session (Ask txn call) result tree.new.session }
-    ensures whole { (whole : CallOf) → call ≡ cut_of whole → IsCallAsked tree.old.session txn whole result tree.new.session }
+    ensures whole { (whole : CallOf) → call ≡ cut_of (limits_of tree.old.session) whole → IsCallAsked tree.old.session txn whole result tree.new.session }
 {
     ask(alloc, tree, Request::Ask(TxnId(txn), call))
 }
 
-/// Answers a call that was not asked for: nothing changes.
-pub(crate) fn turn_away(alloc: Global, tree: &mut Handle, why: Unasked) -> Told
-    ensures { (bad : Bool) → bad ≡ is_bad why → IsTurnedAway bad tree.old.session result tree.new.session }
+/// Answers a call for whose path or bytes there was no memory: it is refused, as the core refuses
+/// it, or else for that.
+pub(crate) fn refuse(alloc: Global, tree: &mut Handle, txn: u64) -> Told
+    ensures { (whole : CallOf) → IsCallAsked tree.old.session txn whole result tree.new.session }
+{
+    let Some(session) = tree.take(alloc) else {
+        return Told::of(CLOSED, 0, 0);
+    };
+    let mut session = session;
+    session.refuse_ask(TxnId(txn));
+    let told = told_of(&session.last);
+    tree.put(session);
+    told
+}
+
+/// Answers that an argument is none that there is: nothing changes.
+pub(crate) fn bad_argument(alloc: Global, tree: &mut Handle) -> Told
+    ensures { IsBad tree.old.session result tree.new.session }
 {
     let Some(session) = tree.take(alloc) else {
         return Told::of(CLOSED, 0, 0);
     };
     tree.put(session);
+    Told::of(BAD, 0, 0)
+}
+
+/// Answers a call that could not be asked for.
+pub(crate) fn turn_away(alloc: Global, tree: &mut Handle, txn: u64, why: Unasked) -> Told
+    ensures { (bad : Bool) (call : CallOf) → bad ≡ is_bad why → IsCalled bad tree.old.session txn call result tree.new.session }
+{
     match why {
-        Unasked::Memory => Told::of(MEMORY, 0, 0),
-        Unasked::Bad => Told::of(BAD, 0, 0),
+        Unasked::Memory => refuse(alloc, tree, txn),
+        Unasked::Bad => bad_argument(alloc, tree),
     }
 }
 
@@ -93,23 +115,41 @@ pub(crate) fn paths_of(
 }
 
 /// A copy of at most so many of these bytes.
-pub(crate) fn bytes_of(alloc: Global, bytes: &[u8], most: u64) -> Result<Sequence<u8>, Unasked>
-    ensures { AreKept (take most bytes.now) result }
+pub(crate) fn bytes_of(alloc: Global, bytes: &[u8], most: u64) -> Result<Sequence<u8>, Memory>
+    ensures { IfOk result (λ kept. kept ≡ take most bytes.now) }
 {
     let count = (bytes.len() as u64).min(most) as usize;
-    match bytes[..count].to_vec(alloc) {
-        Ok(kept) => Ok(Sequence::from(kept)),
-        Err(_) => Err(Unasked::Memory),
-    }
+    let kept = bytes[..count].to_vec(alloc)?;
+    Ok(Sequence::from(kept))
 }
 
-/// How many bytes could have room at a place. Where none has, one is kept: to write none is no
-/// error there.
-pub(crate) fn most_at(off: i64) -> u64
-    ensures { result ≡ most_at off }
+/// What the tree behind a handle allows; behind a closed one, what a tree does by default.
+pub(crate) fn limits_of(alloc: Global, tree: &mut Handle) -> TreeLimits
+    ensures limits { result ≡ limits_of tree.old.session }
+    ensures same { tree.new.session ≡ tree.old.session }
+{
+    let Some(session) = tree.take(alloc) else {
+        return TreeLimits::default();
+    };
+    let limits = session.core.tree_limits();
+    tree.put(session);
+    limits
+}
+
+/// How many bytes of a write a file could have. Where it may have none, one is kept: to write none
+/// is no error.
+pub(crate) fn most_of(limits: TreeLimits) -> u64
+    ensures { result ≡ most_of limits }
+{
+    limits.file_size.max(1)
+}
+
+/// How many bytes could have room at a place. Where none has, one is kept, for the same reason.
+pub(crate) fn most_at(limits: TreeLimits, off: i64) -> u64
+    ensures { result ≡ most_at limits off }
 {
     if off < 0 {
         return 1;
     }
-    SIZE_LIMIT.saturating_sub(off.unsigned_abs()).max(1)
+    limits.file_size.saturating_sub(off.unsigned_abs()).max(1)
 }

@@ -1,16 +1,16 @@
 // The calls on descriptors.
-ghost use Rattle.std.specs.Prelude.{◌≡◌, MatchOption, true, false, length};
+ghost use Rattle.std.specs.Prelude.{◌≡◌, MatchOption, length};
 ghost use Rattle.ft_core.specs.declared.request.Request.TheVariants.{Ask};
 ghost use Rattle.ft_posix.specs.declared.call.Call.TheVariants as calls;
 ghost use Rattle.ft_session.specs.Buffers.{filled_by};
-ghost use Rattle.nuzolged.specs.Asked.{IsAsked, IsCalled, IsTurnedAway, whence_of};
+ghost use Rattle.nuzolged.specs.Asked.{IsAsked, IsBad, IsCallAsked, whence_of};
 ghost use Rattle.nuzolged.specs.Parts.{bytes_held};
 
-use crate::asking::{Unasked, bytes_of, call, most_at, turn_away};
+use crate::asking::{bad_argument, bytes_of, call, limits_of, most_at, most_of, refuse};
 use crate::handle::Handle;
 use crate::parts::nuz_bytes;
 use crate::told::Told;
-use ft_body::SIZE_LIMIT;
+use ft_base::Memory;
 use ft_calls::{Call, Whence};
 use std::alloc::Global;
 
@@ -54,15 +54,16 @@ pub extern "C" fn nuz_lseek(
     off: i64,
     whence: u32,
 ) -> Told
-    ensures { MatchOption (whence_of whence) (IsTurnedAway true tree.old.session result tree.new.session) (λ from. IsAsked tree.old.session (Ask txn (calls.Lseek fd from off)) result tree.new.session) }
+    ensures { MatchOption (whence_of whence) (IsBad tree.old.session result tree.new.session) (λ from. IsAsked tree.old.session (Ask txn (calls.Lseek fd from off)) result tree.new.session) }
 {
     match whence_of(whence) {
         Some(whence) => call(alloc, tree, txn, Call::Lseek { fd, whence, off }),
-        None => turn_away(alloc, tree, Unasked::Bad),
+        None => bad_argument(alloc, tree),
     }
 }
 
-/// Writes at the offset. How many bytes were written is told. No more are copied than a file has.
+/// Writes at the offset. How many bytes were written is told. No more are copied than a file may
+/// have.
 #[unsafe(no_mangle)]
 pub extern "C" fn nuz_write(
     alloc: Global,
@@ -71,11 +72,12 @@ pub extern "C" fn nuz_write(
     fd: u64,
     bytes: &[u8],
 ) -> Told
-    ensures { IsCalled false tree.old.session txn (calls.Write fd bytes.now) result tree.new.session }
+    ensures { IsCallAsked tree.old.session txn (calls.Write fd bytes.now) result tree.new.session }
 {
-    match bytes_of(alloc, bytes, SIZE_LIMIT) {
+    let most = most_of(limits_of(alloc, tree));
+    match bytes_of(alloc, bytes, most) {
         Ok(bytes) => call(alloc, tree, txn, Call::Write { fd, bytes }),
-        Err(why) => turn_away(alloc, tree, why),
+        Err(Memory) => refuse(alloc, tree, txn),
     }
 }
 
@@ -89,11 +91,12 @@ pub extern "C" fn nuz_pwrite(
     bytes: &[u8],
     off: i64,
 ) -> Told
-    ensures { IsCalled false tree.old.session txn (calls.Pwrite fd off bytes.now) result tree.new.session }
+    ensures { IsCallAsked tree.old.session txn (calls.Pwrite fd off bytes.now) result tree.new.session }
 {
-    match bytes_of(alloc, bytes, most_at(off)) {
+    let most = most_at(limits_of(alloc, tree), off);
+    match bytes_of(alloc, bytes, most) {
         Ok(bytes) => call(alloc, tree, txn, Call::Pwrite { fd, off, bytes }),
-        Err(why) => turn_away(alloc, tree, why),
+        Err(Memory) => refuse(alloc, tree, txn),
     }
 }
 

@@ -1,10 +1,10 @@
 // The calls on paths.
-ghost use Rattle.std.specs.Prelude.{◌≡◌, ◌||◌, true, MatchOption};
+ghost use Rattle.std.specs.Prelude.{◌≡◌, ◌||◌, MatchOption};
 ghost use Rattle.ft_path.specs.Name.{has_nul};
 ghost use Rattle.ft_posix.specs.declared.call.Call.TheVariants as calls;
-ghost use Rattle.nuzolged.specs.Asked.{IsCalled, IsTurnedAway, access_of};
+ghost use Rattle.nuzolged.specs.Asked.{IsBad, IsCalled, access_of};
 
-use crate::asking::{Unasked, call, path_of, paths_of, turn_away};
+use crate::asking::{bad_argument, call, path_of, paths_of, turn_away};
 use crate::handle::Handle;
 use crate::told::Told;
 use ft_calls::Call;
@@ -18,7 +18,7 @@ pub extern "C" fn nuz_mkdir(alloc: Global, tree: &mut Handle, txn: u64, path: &[
 {
     match path_of(alloc, path) {
         Ok(path) => call(alloc, tree, txn, Call::Mkdir { path }),
-        Err(why) => turn_away(alloc, tree, why),
+        Err(why) => turn_away(alloc, tree, txn, why),
     }
 }
 
@@ -29,7 +29,7 @@ pub extern "C" fn nuz_rmdir(alloc: Global, tree: &mut Handle, txn: u64, path: &[
 {
     match path_of(alloc, path) {
         Ok(path) => call(alloc, tree, txn, Call::Rmdir { path }),
-        Err(why) => turn_away(alloc, tree, why),
+        Err(why) => turn_away(alloc, tree, txn, why),
     }
 }
 
@@ -40,7 +40,7 @@ pub extern "C" fn nuz_list(alloc: Global, tree: &mut Handle, txn: u64, path: &[u
 {
     match path_of(alloc, path) {
         Ok(path) => call(alloc, tree, txn, Call::List { path }),
-        Err(why) => turn_away(alloc, tree, why),
+        Err(why) => turn_away(alloc, tree, txn, why),
     }
 }
 
@@ -51,7 +51,7 @@ pub extern "C" fn nuz_stat(alloc: Global, tree: &mut Handle, txn: u64, path: &[u
 {
     match path_of(alloc, path) {
         Ok(path) => call(alloc, tree, txn, Call::Stat { path }),
-        Err(why) => turn_away(alloc, tree, why),
+        Err(why) => turn_away(alloc, tree, txn, why),
     }
 }
 
@@ -62,7 +62,7 @@ pub extern "C" fn nuz_unlink(alloc: Global, tree: &mut Handle, txn: u64, path: &
 {
     match path_of(alloc, path) {
         Ok(path) => call(alloc, tree, txn, Call::Unlink { path }),
-        Err(why) => turn_away(alloc, tree, why),
+        Err(why) => turn_away(alloc, tree, txn, why),
     }
 }
 
@@ -79,7 +79,7 @@ pub extern "C" fn nuz_truncate(
 {
     match path_of(alloc, path) {
         Ok(path) => call(alloc, tree, txn, Call::Truncate { len, path }),
-        Err(why) => turn_away(alloc, tree, why),
+        Err(why) => turn_away(alloc, tree, txn, why),
     }
 }
 
@@ -96,7 +96,7 @@ pub extern "C" fn nuz_link(
 {
     match paths_of(alloc, from, to) {
         Ok((old, new)) => call(alloc, tree, txn, Call::Link { old, new }),
-        Err(why) => turn_away(alloc, tree, why),
+        Err(why) => turn_away(alloc, tree, txn, why),
     }
 }
 
@@ -113,7 +113,7 @@ pub extern "C" fn nuz_rename(
 {
     match paths_of(alloc, from, to) {
         Ok((old, new)) => call(alloc, tree, txn, Call::Rename { old, new }),
-        Err(why) => turn_away(alloc, tree, why),
+        Err(why) => turn_away(alloc, tree, txn, why),
     }
 }
 
@@ -130,10 +130,10 @@ pub extern "C" fn nuz_open(
     trunc: bool,
     append: bool,
 ) -> Told
-    ensures { MatchOption (access_of access) (IsTurnedAway true tree.old.session result tree.new.session) (λ mode. IsCalled (has_nul path.now) tree.old.session txn (calls.Open path.now mode create excl trunc append) result tree.new.session) }
+    ensures { MatchOption (access_of access) (IsBad tree.old.session result tree.new.session) (λ mode. IsCalled (has_nul path.now) tree.old.session txn (calls.Open path.now mode create excl trunc append) result tree.new.session) }
 {
     let Some(access) = access_of(access) else {
-        return turn_away(alloc, tree, Unasked::Bad);
+        return bad_argument(alloc, tree);
     };
     match path_of(alloc, path) {
         Ok(path) => {
@@ -147,7 +147,7 @@ pub extern "C" fn nuz_open(
             };
             call(alloc, tree, txn, opens)
         }
-        Err(why) => turn_away(alloc, tree, why),
+        Err(why) => turn_away(alloc, tree, txn, why),
     }
 }
 

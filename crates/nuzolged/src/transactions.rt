@@ -40,7 +40,8 @@ pub extern "C" fn nuz_abort(alloc: Global, tree: &mut Handle, txn: u64) -> Told
     ask(alloc, tree, Request::Abort(TxnId(txn)))
 }
 
-/// Takes back the last of a transaction's own calls that stand, whose stamp is told.
+/// Takes back the last of a transaction's own calls that stand, whose stamp is told. It may be one
+/// that only looked, or that failed.
 #[unsafe(no_mangle)]
 pub extern "C" fn nuz_undo(alloc: Global, tree: &mut Handle, txn: u64) -> Told
     ensures { IsAsked tree.old.session (Undo txn) result tree.new.session }

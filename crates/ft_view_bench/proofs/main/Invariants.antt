@@ -3,4 +3,4 @@ use Rattle.ft_view_bench.proofs.main.Given as goal
 
 -- the views that were just opened
 abbrev pub ghosts-work : goal.ghosts-work
-ghosts-work g a = record { opened = named_by a.opened }
+ghosts-work g a = record { origin = named_by a.opened }

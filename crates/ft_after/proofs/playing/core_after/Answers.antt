@@ -1,4 +1,4 @@
-use Rattle.std.proofs.Common.{List, ℕ, Option, Bor, inr, sym, subst, rules}
+use Rattle.std.proofs.Common.{List, ℕ, Option, Bor, inr, sym, subst}
 use Rattle.std.proofs.lemmas.Result.{err_from_is_err_and}
 use Rattle.std.specs.Option.{option_copied}
 use Rattle.ft_core.specs.States.{State, first_base, base_now}

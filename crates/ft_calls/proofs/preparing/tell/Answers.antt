@@ -18,8 +18,8 @@ use Rattle.ft_posix.specs.Intended.{intended}
 use Rattle.ft_calls.proofs.preparing.tell.Goals as goal
 
 -- what the call comes to that the pattern names
-named : (old : Looking) (k : ℕ) (call arm : Call) → call ≡ arm → (new : Looking) (r : Result Intent Stop) → Comes old (steps (stored_dirs old.cells) k arm) new r → Comes old (steps (stored_dirs old.cells) k call) new r
-named old k call arm is new r h = subst (λ (one : Call). Comes old (steps (stored_dirs old.cells) k one) new r) (sym is) h
+named : (old : Looking) (k : ℕ) (call arm : Call) → call ≡ arm → (new : Looking) (r : Result Intent Stop) → Comes old (steps old.cells.limits (stored_dirs old.cells) k arm) new r → Comes old (steps old.cells.limits (stored_dirs old.cells) k call) new r
+named old k call arm is new r h = subst (λ (one : Call). Comes old (steps old.cells.limits (stored_dirs old.cells) k one) new r) (sym is) h
 
 -- a call that only tells makes out no edit
 told_alone : (old new : Looking) (s : Looks Outcome) (edits : List Edit) (r : Result Told Stop) → edits ≡ [] → Comes old s new (intended [] r) → Comes old s new (intended edits r)
@@ -31,22 +31,22 @@ passed z fits = sym (to_z-of_z w64 z fits)
 
 pub returns-in-Pread : goal.returns-in-Pread
 returns-in-Pread c =
-    told_alone c.args.look.now c.pread.new.look (steps (stored_dirs c.args.look.now.cells) c.args.stamp c.args.call.now) c.args.edits.now c.pread.result c.requires
+    told_alone c.args.look.now c.pread.new.look (steps c.args.look.now.cells.limits (stored_dirs c.args.look.now.cells) c.args.stamp c.args.call.now) c.args.edits.now c.pread.result c.requires
     (named c.args.look.now c.args.stamp _ _ (c.in-Pread.is ∙ ap (λ z. Pread c.in-Pread.fd z c.in-Pread.len) (passed c.in-Pread.off (search rules))) c.pread.new.look (intended [] c.pread.result) c.pread.ensures)
 
 pub returns-in-Stat : goal.returns-in-Stat
 returns-in-Stat c =
-    told_alone c.args.look.now c.stat.new.look (steps (stored_dirs c.args.look.now.cells) c.args.stamp c.args.call.now) c.args.edits.now c.stat.result c.requires
+    told_alone c.args.look.now c.stat.new.look (steps c.args.look.now.cells.limits (stored_dirs c.args.look.now.cells) c.args.stamp c.args.call.now) c.args.edits.now c.stat.result c.requires
     (named c.args.look.now c.args.stamp _ _ c.in-Stat.is c.stat.new.look (intended [] c.stat.result) c.stat.ensures)
 
 pub returns-in-Fstat : goal.returns-in-Fstat
 returns-in-Fstat c =
-    told_alone c.args.look.now c.fstat.new.look (steps (stored_dirs c.args.look.now.cells) c.args.stamp c.args.call.now) c.args.edits.now c.fstat.result c.requires
+    told_alone c.args.look.now c.fstat.new.look (steps c.args.look.now.cells.limits (stored_dirs c.args.look.now.cells) c.args.stamp c.args.call.now) c.args.edits.now c.fstat.result c.requires
     (named c.args.look.now c.args.stamp _ _ c.in-Fstat.is c.fstat.new.look (intended [] c.fstat.result) c.fstat.ensures)
 
 pub returns-in-List : goal.returns-in-List
 returns-in-List c =
-    told_alone c.args.look.now c.list.new.look (steps (stored_dirs c.args.look.now.cells) c.args.stamp c.args.call.now) c.args.edits.now c.list.result c.requires
+    told_alone c.args.look.now c.list.new.look (steps c.args.look.now.cells.limits (stored_dirs c.args.look.now.cells) c.args.stamp c.args.call.now) c.args.edits.now c.list.result c.requires
     (named c.args.look.now c.args.stamp _ _ c.in-List.is c.list.new.look (intended [] c.list.result) c.list.ensures)
 
 pub returns-in-Pwrite : goal.returns-in-Pwrite

@@ -9,13 +9,13 @@ pub returns-then-facts-le1-clause-ok : goal.returns-then-facts-le1-clause-ok
 returns-then-facts-le1-clause-ok g c =
     let walk = standing c.args.walk.now in
     on_ok_weaker c.copy_file.result (first_name (g.S.Source.tells c.args.source.now) g.T.Target.does c.args.target.now c.copy_file.new.target
-    c.args.place.now c.args.facts.now walk walk c.as_slice-path.result.now c.as_slice-path.ensures c.if-facts-gt-MOST_LINKS.false c.if-facts-gt-SIZE_LIMIT.false (inl (c.if-facts-le1.true, refl)))
+    c.args.place.now c.args.facts.now walk walk c.as_slice-path.result.now c.as_slice-path.ensures c.if-facts-gt-DEFAULT_LINKS.false c.if-facts-gt-DEFAULT_FILE_SIZE.false (inl (c.if-facts-le1.true, refl)))
     c.copy_file.ensures.ok
 
 pub returns-in-Some-clause-ok : goal.returns-in-Some-clause-ok
 returns-in-Some-clause-ok g c =
     on_ok_weaker c.link.result (further_name (g.S.Source.tells c.args.source.now) g.T.Target.does c.args.target.now c.link.new.self
-    c.args.place.now c.args.facts.now (standing c.args.walk.now) c.as_slice.result.now c.as_slice-path.result.now c.as_slice-path.ensures c.if-facts-gt-MOST_LINKS.false c.if-facts-gt-SIZE_LIMIT.false (omega (arith, c.if-facts-le1.false))
+    c.args.place.now c.args.facts.now (standing c.args.walk.now) c.as_slice.result.now c.as_slice-path.result.now c.as_slice-path.ensures c.if-facts-gt-DEFAULT_LINKS.false c.if-facts-gt-DEFAULT_FILE_SIZE.false (omega (arith, c.if-facts-le1.false))
     (sym c.in-Some.ensures ∙ ap Some (sym c.as_slice.ensures)))
     c.link.ensures.ok
 
@@ -27,7 +27,7 @@ returns-in_ok-insert-in-None-clause-ok g c =
     let noted = ap (λ (f : FirstPaths). record { left = c.args.walk.now.left.items; firsts = f }) (c.in_ok-insert-in-None.ensures ∙ ap (λ (p : List ℕ). with_first id p firsts) path_is) in
     on_ok_weaker c.copy_file-in-None.result (first_name (g.S.Source.tells c.args.source.now) g.T.Target.does c.args.target.now c.copy_file-in-None.new.target
     c.args.place.now c.args.facts.now (standing c.args.walk.now) (standing (record { alloc = c.args.walk.now.alloc; left = c.args.walk.now.left; firsts = c.insert.new.self }))
-    c.as_slice-path.result.now c.as_slice-path.ensures c.if-facts-gt-MOST_LINKS.false c.if-facts-gt-SIZE_LIMIT.false (inr (omega (arith, c.if-facts-le1.false), sym c.in-None.ensures, noted)))
+    c.as_slice-path.result.now c.as_slice-path.ensures c.if-facts-gt-DEFAULT_LINKS.false c.if-facts-gt-DEFAULT_FILE_SIZE.false (inr (omega (arith, c.if-facts-le1.false), sym c.in-None.ensures, noted)))
     c.copy_file-in-None.ensures.ok
 
 pub returns-then-facts-le1-clause-err : goal.returns-then-facts-le1-clause-err

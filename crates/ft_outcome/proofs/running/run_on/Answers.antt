@@ -1,5 +1,9 @@
 use denote.Param.Send.{sendable}
+use Rattle.std.proofs.Common.{IfOk, ap, subst, sym}
 use Rattle.std.proofs.Crossing.{crosses}
+use Rattle.ft_core.specs.States.{State}
+use Rattle.ft_record.specs.Going.{GoesOn}
+use Rattle.ft_shared.specs.Origins.{Origin}
 use Rattle.ft_shared.proofs.Crossing.{Shared-sync}
 use Rattle.ft_outcome.proofs.running.run_on.Goals as goal
 
@@ -8,3 +12,8 @@ run_shown-requires-sync-M g c κs within = search (Shared-sync, crosses, sendabl
 
 pub unreachable-requires : goal.unreachable-requires
 unreachable-requires g c = c.requires.none_live c.in-Err.ensures.2
+
+pub returns-clause-core : goal.returns-clause-core
+returns-clause-core g c =
+    let same = ap (λ (o : Origin). o.from) c.requires.named in
+    subst (λ (s : State). IfOk c.run_shown.result (λ outcome. GoesOn s outcome.core.state)) (sym same) c.run_shown.ensures.core

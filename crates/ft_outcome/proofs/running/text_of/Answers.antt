@@ -1,6 +1,7 @@
 use Rattle.std.proofs.Common.{List, ◌∙◌, ap}
 use Rattle.ft_plan.specs.declared.job.Job.{Job}
 use Rattle.ft_outcome.specs.Runs.{text_of_outcome}
+use Rattle.ft_outcome.proofs.Unrun.{no_bad_plan}
 use Rattle.ft_outcome.proofs.running.text_of.Goals as goal
 
 pub returns-clause-ok : goal.returns-clause-ok
@@ -10,6 +11,10 @@ returns-clause-ok g c =
       jobs = c.in_ok-plan.plan;
       outcome = outcome;
       plan = c.in_ok-plan.ensures.plan;
+      goes_on = c.in_ok-outcome.ensures.core;
       reports = c.in_ok-outcome.ensures.ok;
       told = c.in_ok-told.ensures ∙ ap (λ (jobs : List Job). text_of_outcome jobs outcome) c.jobs.ensures.jobs;
     }
+
+pub returns-in_err-told-clause-bad_plan : goal.returns-in_err-told-clause-bad_plan
+returns-in_err-told-clause-bad_plan g c = λ is jobs plan. no_bad_plan c.from_residual-in_err-told.result c.from_residual-in_err-told.ensures is

@@ -1,4 +1,4 @@
-use Rattle.std.proofs.Common.{◌∷◌, [], ◌++◌, List, refl, sym, ap, ◌∙◌, append_assoc, append-nil}
+use Rattle.std.proofs.Common.{◌∷◌, [], ◌++◌, List, sym, ap, ◌∙◌, append_assoc, append-nil}
 use Rattle.ft_save.specs.declared.row.Row.{Row}
 use Rattle.ft_save.proofs.Indexing.{adds_nothing}
 use Rattle.ft_save.proofs.index.index_of.Goals as goal

@@ -1,7 +1,6 @@
-use Rattle.std.proofs.Common.{List, inr, sym, subst}
+use Rattle.std.proofs.Common.{List, sym, subst}
 use Rattle.ft_copy.proofs.Stopping.{at_fault}
 use Rattle.ft_copy.proofs.Telling.{copies, stops_copy}
-use Rattle.ft_copy.specs.Told.{Told}
 use Rattle.ft_save.specs.declared.row.Row.{Row}
 use Rattle.ft_save.specs.Saves.{StopsRows}
 use Rattle.ft_save.specs.Trees.{Indexes, Tells}

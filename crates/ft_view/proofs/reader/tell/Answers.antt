@@ -7,4 +7,4 @@ use Rattle.ft_view.proofs.reader.tell.Goals as goal
 
 pub returns-clause-reply : goal.returns-clause-reply
 returns-clause-reply g c =
-    c.in_ok-reply.ensures ∙ ap (λ (p : PlainTree). answer_on p c.args.question.now) (c.tree.ensures.tree ∙ (c.requires.view.tree ∙ ap (λ (f : Fronted). replayed g.J.Naming.opened.base f.calls) (sym (c.again.ensures ∙ c.front-shown.ensures))))
+    c.in_ok-reply.ensures ∙ ap (λ (p : PlainTree). answer_on p c.args.question.now) (c.tree.ensures.tree ∙ (c.requires.view.replay.tree ∙ ap (λ (f : Fronted). replayed g.J.Naming.opened.base f.calls) (sym (c.again.ensures ∙ c.front-shown.ensures))))

@@ -1,6 +1,7 @@
 use Rattle.std.proofs.Common.{◌≡◌, ◌<◌, ◌-◌, ◌∙◌, ap, length, take, ◌+◌, length-take, arith}
 use Prim.Native.Nat.{max}
 use Rattle.std.proofs.lemmas.Grind.{common_steps}
+use Rattle.ft_body.specs.declared.TheConstants.{LARGEST_SIZE}
 use Rattle.ft_body.specs.Bytes.{fitting, written}
 use Rattle.ft_body.specs.Paging.{bytes_in}
 use Rattle.ft_body.proofs.Made.{written_keeps_pages}
@@ -10,7 +11,7 @@ use Rattle.ft_body.proofs.body.Body.write_at.Goals as goal
 
 pub returns-clause-after : goal.returns-clause-after
 returns-clause-after c =
-    let fits : take c.min-taken.result c.args.bytes.now ≡ fitting c.args.bytes.now c.args.offset = take_enough c.args.bytes.now c.min-taken.result (1048576 - c.args.offset) (omega arith) in
+    let fits : take c.min-taken.result c.args.bytes.now ≡ fitting LARGEST_SIZE c.args.bytes.now c.args.offset = take_enough c.args.bytes.now c.min-taken.result (140737488355328 - c.args.offset) (omega arith) in
     let some : 0 < length (take c.min-taken.result c.args.bytes.now) = omega (arith, length-take c.min-taken.result c.args.bytes.now) in
     let is : c.max-self-inside.result ≡ max c.self.inside.size (c.args.offset + length (take c.min-taken.result c.args.bytes.now)) = omega (arith, length-take c.min-taken.result c.args.bytes.now) in
     written_bytes c.self.inside.size c.max-self-inside.result c.args.offset c.self.inside.pages.items c.write.new.pages.items (take c.min-taken.result c.args.bytes.now) c.self.invariant
@@ -20,5 +21,5 @@ returns-clause-after c =
 
 pub returns-clause-pages : goal.returns-clause-pages
 returns-clause-pages c =
-    let is : bytes_in c.max-self-inside.result c.write.new.pages.items ≡ written c.args.self.now c.args.offset (fitting c.args.bytes.now c.args.offset) = returns-clause-after c in
-    rw is (written_keeps_pages c.args.self.now (fitting c.args.bytes.now c.args.offset) c.args.offset)
+    let is : bytes_in c.max-self-inside.result c.write.new.pages.items ≡ written c.args.self.now c.args.offset (fitting LARGEST_SIZE c.args.bytes.now c.args.offset) = returns-clause-after c in
+    rw is (written_keeps_pages c.args.self.now (fitting LARGEST_SIZE c.args.bytes.now c.args.offset) c.args.offset)

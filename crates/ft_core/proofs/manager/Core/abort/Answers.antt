@@ -1,5 +1,4 @@
-use Rattle.std.proofs.Common.{None, ap, ◌∙◌}
-use Rattle.ft_core.specs.declared.request.Answer.TheVariants.{Aborted}
+use Rattle.std.proofs.Common.{None, Ok, ap, ◌∙◌}
 use Rattle.ft_core.specs.States.{State, tree_of}
 use Rattle.ft_core.specs.Steps.{exact_rule}
 use Rattle.ft_core.proofs.Ended.{step-abort, live-refused}
@@ -11,7 +10,7 @@ returns-clause-step c =
 
 pub returns-clause-alone : goal.returns-clause-alone
 returns-clause-alone c = λ before alone. (
-  ap Aborted c.abort_live.ensures.count,
+  ap Ok c.abort_live.ensures.count,
   ap (λ (s : State). tree_of s) c.abort_live.ensures.ended ∙ c.abort_live.ensures.alone before alone,
 )
 

@@ -1,4 +1,4 @@
-use Rattle.std.proofs.Common.{◌≡◌, ◌∙◌, ℕ, Some, None, true, false, Ok, Err, List, ◌∷◌, refl, ap, sym, subst, arith}
+use Rattle.std.proofs.Common.{◌≡◌, ◌∙◌, ℕ, Some, None, true, false, Result, Ok, Err, List, ◌∷◌, refl, ap, sym, subst, arith}
 use Rattle.ft_base.specs.Chains.{list_in}
 use Rattle.ft_posix.specs.Posix.{posix_calls}
 use Rattle.ft_undo.specs.declared.logs.Logged.{Logged}
@@ -9,6 +9,7 @@ use Rattle.ft_history.specs.History.Fate.{Live}
 use Rattle.ft_history.specs.Logs.{put, rest}
 use Rattle.ft_history.specs.Undoing.{undo_target}
 use Rattle.ft_history.specs.Undoing.Target.{Found}
+use Rattle.ft_core.specs.declared.fault.Fault.{Fault}
 use Rattle.ft_core.specs.declared.fault.Fault.TheVariants.{ChildLive}
 use Rattle.ft_core.specs.declared.request.Answer.TheVariants.{Undone}
 use Rattle.ft_core.specs.declared.request.Event.TheVariants.{Undo as UndoEvent}
@@ -92,20 +93,27 @@ returns-clause-step c =
 
 -- An undo of the call just made gives back the tree before it.
 
+undone : (result : Result ℕ Fault) (k : ℕ) → answer_with Undone result ≡ Undone k → result ≡ Ok k
+undone (Ok stamp) k e = cc
+undone (Err fault) k e = cc
+
 pub returns-then-live_children-gt0-clause-just_made : goal.returns-then-live_children-gt0-clause-just_made
 returns-then-live_children-gt0-clause-just_made c = λ before k just.
-    step-last call_laws exact_rule before c.args.self.now.state c.args.self.now.state c.args.txn k (answer_with Undone (Err ChildLive)) c.self.inside.parts.tree c.self.invariant.log
-    (subst (λ (s : State). IsKept s.base (history s) s.last_txn s.last_stamp c.self.inside.parts.tree c.self.invariant.log) (state-is c.self.view_is) c.self.invariant.kept) just (returns-then-live_children-gt0-clause-step c)
+    let last = step-last call_laws exact_rule before c.args.self.now.state c.args.self.now.state c.args.txn k (answer_with Undone (Err ChildLive)) c.self.inside.parts.tree c.self.invariant.log
+    (subst (λ (s : State). IsKept s.base (history s) s.last_txn s.last_stamp c.self.inside.parts.tree c.self.invariant.log) (state-is c.self.view_is) c.self.invariant.kept) just (returns-then-live_children-gt0-clause-step c) in
+    (undone (Err ChildLive) k last.0, last.1)
 
 pub returns-in_err-stamp-clause-just_made : goal.returns-in_err-stamp-clause-just_made
 returns-in_err-stamp-clause-just_made c = λ before k just.
-    step-last call_laws exact_rule before c.args.self.now.state c.args.self.now.state c.args.txn k (answer_with Undone c.from_residual-in_err-stamp.result) c.self.inside.parts.tree c.self.invariant.log
-    (subst (λ (s : State). IsKept s.base (history s) s.last_txn s.last_stamp c.self.inside.parts.tree c.self.invariant.log) (state-is c.self.view_is) c.self.invariant.kept) just (returns-in_err-stamp-clause-step c)
+    let last = step-last call_laws exact_rule before c.args.self.now.state c.args.self.now.state c.args.txn k (answer_with Undone c.from_residual-in_err-stamp.result) c.self.inside.parts.tree c.self.invariant.log
+    (subst (λ (s : State). IsKept s.base (history s) s.last_txn s.last_stamp c.self.inside.parts.tree c.self.invariant.log) (state-is c.self.view_is) c.self.invariant.kept) just (returns-in_err-stamp-clause-step c) in
+    (undone c.from_residual-in_err-stamp.result k last.0, last.1)
 
 pub returns-clause-just_made : goal.returns-clause-just_made
 returns-clause-just_made c = λ before k just.
-    step-last call_laws exact_rule before c.args.self.now.state (state_of c.take_newest.new.self.forest c.tell.new.self) c.args.txn k (answer_with Undone (Ok c.in_ok-stamp.stamp)) c.self.inside.parts.tree c.self.invariant.log
-    (subst (λ (s : State). IsKept s.base (history s) s.last_txn s.last_stamp c.self.inside.parts.tree c.self.invariant.log) (state-is c.self.view_is) c.self.invariant.kept) just (returns-clause-step c)
+    let last = step-last call_laws exact_rule before c.args.self.now.state (state_of c.take_newest.new.self.forest c.tell.new.self) c.args.txn k (answer_with Undone (Ok c.in_ok-stamp.stamp)) c.self.inside.parts.tree c.self.invariant.log
+    (subst (λ (s : State). IsKept s.base (history s) s.last_txn s.last_stamp c.self.inside.parts.tree c.self.invariant.log) (state-is c.self.view_is) c.self.invariant.kept) just (returns-clause-step c) in
+    (undone (Ok c.in_ok-stamp.stamp) k last.0, last.1)
 
 pub returns-in_err-check_live-clause-just_made : goal.returns-in_err-check_live-clause-just_made
 returns-in_err-check_live-clause-just_made c = λ before k just.

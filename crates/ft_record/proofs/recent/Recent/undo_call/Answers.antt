@@ -1,10 +1,9 @@
-use Rattle.std.proofs.Common.{◌≡◌, ℕ, refl, sym, ap, subst}
+use Rattle.std.proofs.Common.{◌≡◌, ℕ, Ok, Err, refl, sym, ap, subst}
 use Rattle.ft_core.specs.declared.request.Request.TheVariants as request
 use Rattle.ft_core.proofs.Known.{call_laws, lock_laws}
 use Rattle.ft_record.specs.Recent.{Remembered, forgotten_by}
 use Rattle.ft_record.specs.Recording.{Recording}
 use Rattle.ft_core.specs.declared.fault.Fault.{Fault}
-use Rattle.ft_core.specs.declared.request.Answer.TheVariants.{Undone, Refused}
 use Rattle.ft_core.specs.Promises.{IsJustMade}
 use Rattle.ft_record.proofs.Records.{recent-refused, recent-undone}
 use Rattle.ft_record.proofs.recent.Recent.undo_call.Goals as goal
@@ -23,7 +22,7 @@ invariant_of-self-2 c =
     (recent-undone call_laws lock_laws i.core.state c.args.txn c.in_ok-stamp.stamp c.undo_call.new.self.state i.past (forgotten_by i.since) c.self.invariant c.in_ok-stamp.ensures.step).1 c.tell.new.self
     (ap (λ (q : Recording). q.events) c.tell.ensures) (ap (λ (q : Recording). q.spare) c.tell.ensures)
 
-never : {f : Fault} {k : ℕ} → Refused f ≡ Undone k → ⊥
+never : {f : Fault} {k : ℕ} → Err f ≡ Ok k → ⊥
 never e = cc
 
 pub returns-in_err-stamp-clause-just_made : goal.returns-in_err-stamp-clause-just_made

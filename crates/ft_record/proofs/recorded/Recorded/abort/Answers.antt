@@ -10,4 +10,4 @@ pub invariant_of-self : goal.invariant_of-self
 invariant_of-self c =
     let i = c.self.inside in
     let new = c.abort.new.self in
-    still-recorded i.recent new i.base c.self.invariant (goes-on i.recent.core.state new.core.state (request.Abort c.args.txn) (answer_with Aborted c.abort.result) refl c.abort.ensures.step).0 c.abort.ensures.forgotten
+    still-recorded i.recent new i.base c.self.invariant (goes-on i.recent.core.state new.core.state (request.Abort c.args.txn) (answer_with Aborted c.abort.result) refl c.abort.ensures.step).base c.abort.ensures.forgotten

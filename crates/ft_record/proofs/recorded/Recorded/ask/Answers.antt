@@ -9,4 +9,4 @@ pub invariant_of-self : goal.invariant_of-self
 invariant_of-self c =
     let i = c.self.inside in
     let new = c.ask.new.self in
-    still-recorded i.recent new i.base c.self.invariant (goes-on i.recent.core.state new.core.state (request.Ask c.args.txn c.args.call) (answer_with outcome_answer c.ask.result) refl c.ask.ensures.step).0 c.ask.ensures.forgotten
+    still-recorded i.recent new i.base c.self.invariant (goes-on i.recent.core.state new.core.state (request.Ask c.args.txn c.args.call) (answer_with outcome_answer c.ask.result) refl c.ask.ensures.step).base c.ask.ensures.forgotten

@@ -10,4 +10,4 @@ pub invariant_of-self : goal.invariant_of-self
 invariant_of-self c =
     let i = c.self.inside in
     let new = c.begin.new.self in
-    still-recorded i.recent new i.base c.self.invariant (goes-on i.recent.core.state new.core.state request.Begin (answer_with Txn c.begin.result) refl c.begin.ensures.step).0 c.begin.ensures.forgotten
+    still-recorded i.recent new i.base c.self.invariant (goes-on i.recent.core.state new.core.state request.Begin (answer_with Txn c.begin.result) refl c.begin.ensures.step).base c.begin.ensures.forgotten

@@ -10,4 +10,4 @@ pub invariant_of-self : goal.invariant_of-self
 invariant_of-self c =
     let i = c.self.inside in
     let new = c.commit.new.self in
-    still-recorded i.recent new i.base c.self.invariant (goes-on i.recent.core.state new.core.state (request.Commit c.args.txn) (answer_with (λ done. Committed) c.commit.result) refl c.commit.ensures.step).0 c.commit.ensures.forgotten
+    still-recorded i.recent new i.base c.self.invariant (goes-on i.recent.core.state new.core.state (request.Commit c.args.txn) (answer_with (λ done. Committed) c.commit.result) refl c.commit.ensures.step).base c.commit.ensures.forgotten

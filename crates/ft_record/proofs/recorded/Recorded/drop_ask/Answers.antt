@@ -10,4 +10,4 @@ pub invariant_of-self : goal.invariant_of-self
 invariant_of-self c =
     let i = c.self.inside in
     let new = c.drop_ask.new.self in
-    still-recorded i.recent new i.base c.self.invariant (goes-on i.recent.core.state new.core.state (request.Drop c.args.txn) (answer_with (λ done. Dropped) c.drop_ask.result) refl c.drop_ask.ensures.step).0 c.drop_ask.ensures.forgotten
+    still-recorded i.recent new i.base c.self.invariant (goes-on i.recent.core.state new.core.state (request.Drop c.args.txn) (answer_with (λ done. Dropped) c.drop_ask.result) refl c.drop_ask.ensures.step).base c.drop_ask.ensures.forgotten

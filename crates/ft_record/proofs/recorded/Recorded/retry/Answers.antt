@@ -9,4 +9,4 @@ pub invariant_of-self : goal.invariant_of-self
 invariant_of-self c =
     let i = c.self.inside in
     let new = c.retry.new.self in
-    still-recorded i.recent new i.base c.self.invariant (goes-on i.recent.core.state new.core.state (request.Retry c.args.txn) (answer_with outcome_answer c.retry.result) refl c.retry.ensures.step).0 c.retry.ensures.forgotten
+    still-recorded i.recent new i.base c.self.invariant (goes-on i.recent.core.state new.core.state (request.Retry c.args.txn) (answer_with outcome_answer c.retry.result) refl c.retry.ensures.step).base c.retry.ensures.forgotten

@@ -10,4 +10,4 @@ pub invariant_of-self : goal.invariant_of-self
 invariant_of-self c =
     let i = c.self.inside in
     let new = c.sub.new.self in
-    still-recorded i.recent new i.base c.self.invariant (goes-on i.recent.core.state new.core.state (request.Sub c.args.txn) (answer_with Txn c.sub.result) refl c.sub.ensures.step).0 c.sub.ensures.forgotten
+    still-recorded i.recent new i.base c.self.invariant (goes-on i.recent.core.state new.core.state (request.Sub c.args.txn) (answer_with Txn c.sub.result) refl c.sub.ensures.step).base c.sub.ensures.forgotten

@@ -12,7 +12,7 @@ pub invariant_of-self : goal.invariant_of-self
 invariant_of-self c =
     let i = c.self.inside in
     let new = c.undo_call.new.self in
-    still-recorded i.recent new i.base c.self.invariant (goes-on i.recent.core.state new.core.state (request.Undo c.args.txn) (answer_with Undone c.undo_call.result) refl c.undo_call.ensures.step).0 c.undo_call.ensures.forgotten
+    still-recorded i.recent new i.base c.self.invariant (goes-on i.recent.core.state new.core.state (request.Undo c.args.txn) (answer_with Undone c.undo_call.result) refl c.undo_call.ensures.step).base c.undo_call.ensures.forgotten
 
 pub returns-clause-just_made : goal.returns-clause-just_made
 returns-clause-just_made c = λ before k just. c.undo_call.ensures.just_made before k (subst (λ (v : StoredState). IsJustMade before v.state c.args.txn k) (sym c.self.view_is) just)

@@ -10,5 +10,5 @@ pub invariant_of-self : goal.invariant_of-self
 invariant_of-self g c =
     let old = (g.C.Shareable.stored c.self.inside.core).state in
     let new = (g.C.Shareable.stored c.begin.new.self).state in
-    still g.J.Naming.opened.base old new (g.C.Shareable.forgotten c.self.inside.core) (g.C.Shareable.forgotten c.begin.new.self) c.self.inside.publisher
+    still g.J.Sharing.origin old new (g.C.Shareable.forgotten c.self.inside.core) (g.C.Shareable.forgotten c.begin.new.self) c.self.inside.publisher
     (goes-on old new Begin (answer_with Txn c.begin.result) refl c.begin.ensures.step) c.begin.ensures.forgotten c.self.invariant

@@ -10,5 +10,5 @@ pub invariant_of-self : goal.invariant_of-self
 invariant_of-self g c =
     let old = (g.C.Shareable.stored c.self.inside.core).state in
     let new = (g.C.Shareable.stored c.sub.new.self).state in
-    still g.J.Naming.opened.base old new (g.C.Shareable.forgotten c.self.inside.core) (g.C.Shareable.forgotten c.sub.new.self) c.self.inside.publisher
+    still g.J.Sharing.origin old new (g.C.Shareable.forgotten c.self.inside.core) (g.C.Shareable.forgotten c.sub.new.self) c.self.inside.publisher
     (goes-on old new (Sub c.args.parent) (answer_with Txn c.sub.result) refl c.sub.ensures.step) c.sub.ensures.forgotten c.self.invariant

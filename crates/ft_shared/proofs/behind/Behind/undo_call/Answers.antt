@@ -13,7 +13,7 @@ pub invariant_of-self : goal.invariant_of-self
 invariant_of-self g c =
     let old = (g.C.Shareable.stored c.self.inside.core).state in
     let new = (g.C.Shareable.stored c.undo_call.new.self).state in
-    still g.J.Naming.opened.base old new (g.C.Shareable.forgotten c.self.inside.core) (g.C.Shareable.forgotten c.undo_call.new.self) c.self.inside.publisher
+    still g.J.Sharing.origin old new (g.C.Shareable.forgotten c.self.inside.core) (g.C.Shareable.forgotten c.undo_call.new.self) c.self.inside.publisher
     (goes-on old new (Undo c.args.txn) (answer_with Undone c.undo_call.result) refl c.undo_call.ensures.step.0) c.undo_call.ensures.forgotten c.self.invariant
 
 pub returns-clause-step : goal.returns-clause-step

@@ -6,4 +6,4 @@ use Rattle.ft_tree.proofs.tree.Tree.is_empty_near.Goals as goal
 -- there is no such directory
 pub returns-in-None : goal.returns-in-None
 returns-in-None c =
-    (λ _. sym (names-not_stored (record { directories = c.self.inside.inodes.directories; files = c.self.inside.inodes.files; opens = c.self.inside.opens }) c.args.dir c.in-None.ensures ∙ ap (λ (cells : Cells). names_of cells c.args.dir) c.self.view_is), λ _. refl)
+    (λ _. sym (names-not_stored (record { limits = c.self.inside.limits; directories = c.self.inside.inodes.directories; files = c.self.inside.inodes.files; opens = c.self.inside.opens }) c.args.dir c.in-None.ensures ∙ ap (λ (cells : Cells). names_of cells c.args.dir) c.self.view_is), λ _. refl)

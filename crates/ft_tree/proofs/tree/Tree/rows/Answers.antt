@@ -17,4 +17,4 @@ returns c =
     ∙ ap (λ rows. rows ++ opens) (c.in_ok-push_files.ensures
     ∙ ap (λ rows. rows ++ files) (c.in_ok-push_edges.ensures
     ∙ ap (λ rows. rows ++ edges) (c.in_ok-push_dirs.ensures ∙ ap (λ rows. rows ++ dirs) c.new-rows.ensures.items)))
-    ∙ rows-tidy (record { directories = c.self.inside.inodes.directories; files = c.self.inside.inodes.files; opens = c.self.inside.opens }) ∙ ap (λ (cells : Cells). rows_of (tidy cells)) c.self.view_is
+    ∙ rows-tidy (record { limits = c.self.inside.limits; directories = c.self.inside.inodes.directories; files = c.self.inside.inodes.files; opens = c.self.inside.opens }) ∙ ap (λ (cells : Cells). rows_of (tidy cells)) c.self.view_is

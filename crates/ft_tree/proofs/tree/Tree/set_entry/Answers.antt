@@ -7,5 +7,5 @@ use Rattle.ft_tree.proofs.tree.Tree.set_entry.Goals as goal
 pub returns-clause-err : goal.returns-clause-err
 returns-clause-err c =
     on_err_weaker c.set_entry.result
-    (λ same. ap (λ m. record { directories = m; files = c.self.inside.inodes.files; opens = c.self.inside.opens }) (put-same c.self.inside.inodes.directories c.args.entry.dir c.in-Some.directory.now c.set_entry.new.self c.in-Some.ensures.value same) ∙ c.self.view_is)
+    (λ same. ap (λ m. record { limits = c.self.inside.limits; directories = m; files = c.self.inside.inodes.files; opens = c.self.inside.opens }) (put-same c.self.inside.inodes.directories c.args.entry.dir c.in-Some.directory.now c.set_entry.new.self c.in-Some.ensures.value same) ∙ c.self.view_is)
     c.set_entry.ensures.err

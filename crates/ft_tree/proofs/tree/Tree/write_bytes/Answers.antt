@@ -9,12 +9,12 @@ pub returns-clause-undo : goal.returns-clause-undo
 returns-clause-undo c =
     rw (← c.file.view_is)
     (IfOk-weaker c.write_at.result _ _
-    (λ done is. is ∙ change-put (record { directories = c.self.inside.inodes.directories; files = c.self.inside.inodes.files; opens = c.self.inside.opens }) c.args.self.now c.file.inside.number c.in-Some.stored.now c.write_at.new.self c.self.view_is c.in-Some.ensures.value)
+    (λ done is. is ∙ change-put (record { limits = c.self.inside.limits; directories = c.self.inside.inodes.directories; files = c.self.inside.inodes.files; opens = c.self.inside.opens }) c.args.self.now c.file.inside.number c.in-Some.stored.now c.write_at.new.self c.self.view_is c.in-Some.ensures.value)
     c.write_at.ensures.undo)
 
 -- the file is written as it was
 pub returns-clause-err : goal.returns-clause-err
 returns-clause-err c =
     on_err_weaker c.write_at.result
-    (λ same. ap (λ m. record { directories = c.self.inside.inodes.directories; files = m; opens = c.self.inside.opens }) (put-same c.self.inside.inodes.files c.file.inside.number c.in-Some.stored.now c.write_at.new.self c.in-Some.ensures.value same) ∙ c.self.view_is)
+    (λ same. ap (λ m. record { limits = c.self.inside.limits; directories = c.self.inside.inodes.directories; files = m; opens = c.self.inside.opens }) (put-same c.self.inside.inodes.files c.file.inside.number c.in-Some.stored.now c.write_at.new.self c.in-Some.ensures.value same) ∙ c.self.view_is)
     c.write_at.ensures.err

@@ -6,7 +6,7 @@ use Rattle.ft_inodes.specs.Stored.{InodeCells, with_directory}
 use Rattle.ft_tree.specs.Sound.{AreSoundCells, IsFree}
 use Rattle.ft_tree.proofs.Fresh.{fresh-sound, fresh-free}
 use Rattle.std.specs.FinMap as finite
-use Rattle.ft_tree.proofs.tree.Tree.new.Goals as goal
+use Rattle.ft_tree.proofs.tree.Tree.with_limits.Goals as goal
 
 -- no number has a directory yet
 pub add_directory-requires : goal.add_directory-requires
@@ -15,9 +15,9 @@ add_directory-requires c = ap (λ (m : InodeCells). finite.get m.directories 1) 
 pub returns-clause-sound : goal.returns-clause-sound
 returns-clause-sound c =
     let is = c.in_ok-near.ensures.ok ∙ (λ i. with_directory (c.new-inodes.ensures i) 1 (c.new.ensures i)) in
-    subst AreSoundCells (sym (λ i. record { directories = (is i).directories; files = (is i).files; opens = c.new-2.ensures i })) fresh-sound
+    subst AreSoundCells (sym (λ i. record { limits = c.args.limits; directories = (is i).directories; files = (is i).files; opens = c.new-2.ensures i })) (fresh-sound c.args.limits)
 
 pub returns-clause-free : goal.returns-clause-free
 returns-clause-free c =
     let is = c.in_ok-near.ensures.ok ∙ (λ i. with_directory (c.new-inodes.ensures i) 1 (c.new.ensures i)) in
-    subst (λ (cells : Cells). (k : ℕ) → 2 ≤ k → IsFree cells k) (sym (λ i. record { directories = (is i).directories; files = (is i).files; opens = c.new-2.ensures i })) fresh-free
+    subst (λ (cells : Cells). (k : ℕ) → 2 ≤ k → IsFree cells k) (sym (λ i. record { limits = c.args.limits; directories = (is i).directories; files = (is i).files; opens = c.new-2.ensures i })) (fresh-free c.args.limits)

@@ -1,0 +1,5 @@
+use Rattle.ft_shared.proofs.Ends.{undone_is}
+use Rattle.ft_shared.proofs.shareable.RecentShareable.undo_call.Goals as goal
+
+pub returns-clause-step : goal.returns-clause-step
+returns-clause-step c = undone_is c.args.self.now.core.state c.undo_call.new.self.core.state c.args.txn c.undo_call.result c.undo_call.ensures.step c.undo_call.ensures.just_made

@@ -1,0 +1,34 @@
+// What is shared, and the views of it, as proofs name them.
+use ft_view::Naming;
+use std::marker::{Brand, PhantomData};
+
+/// What is shared: the state of the core at that time, whether it has views, and their book. It is
+/// known in the proofs alone: by it clauses say that whatever is done goes on from that state.
+///
+/// `Brand` is a type to pick it for, at a call (CALLING.md), and where nothing is picked it stands
+/// for a new core without views.
+pub trait Sharing {
+    ghost use Rattle.ft_shared.specs.Origins.{Origin};
+
+    ghost origin: { Origin };
+}
+
+impl Sharing for Brand {
+    ghost use Rattle.ft_shared.specs.Origins.{new_core};
+
+    ghost origin = { new_core };
+}
+
+/// The views of what is shared under a name, for readers and receipts of them. No value of it is
+/// made.
+pub struct ViewsOf<J: Sharing> {
+    of: PhantomData<J>,
+}
+
+impl<J: Sharing> Naming for ViewsOf<J> {
+    ghost use Rattle.ft_shared.specs.Origins.{views_of, IsWhole};
+
+    ghost opened = { views_of J.origin };
+
+    ghost shows = { IsWhole J.origin.from };
+}
