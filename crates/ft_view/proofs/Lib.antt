@@ -1,3 +1,5 @@
+pub mod Cleared
 pub mod Free
 pub mod Reading
 pub mod Stepping
+pub mod Useless

@@ -1,3 +1,4 @@
 pub mod Replay
 pub mod Reading
+pub mod Cleared
 pub mod Shown

@@ -3,6 +3,7 @@
 #![tactic(auto)]
 
 mod answering;
+mod clearing;
 mod reader;
 mod replaying;
 mod view;

@@ -5,11 +5,11 @@ ghost use Rattle.ft_view.specs.Replay.{IsReadable};
 
 use crate::READING;
 use crate::answering::is_free;
+use crate::clearing::make;
 use crossbeam_utils::rule::{Outcome, Protocol};
 use ft_book::{Front, Naming};
 use ft_posix::StampedCall;
 use ft_tree::Tree;
-use ft_undo::perform;
 use left_right::Absorb;
 use left_right::writer::Writer;
 use std::alloc::{AllocError, Global};
@@ -109,14 +109,15 @@ impl Absorb<Published> for View {
 
     ghost applied = { λ v published. advanced v published.call published.front };
 
-    /// Makes the call on the tree. Where it is not taken in nothing changes: there is no memory, or
-    /// its stamp numbers something already, as that of no committed call does.
+    /// Makes the call on the tree, and drops what it leaves of no use. Where it is not taken in
+    /// nothing changes: there is no memory, or its stamp numbers something already, as that of no
+    /// committed call does.
     fn absorb_first(&mut self, operation: &Published, _other: &View) -> Result<(), AllocError> {
         let StampedCall { stamp, call } = &operation.call;
         if *stamp >= READING || !is_free(&self.tree, *stamp) {
             return Err(AllocError);
         }
-        let Ok(_) = perform(self.alloc, &mut self.tree, *stamp, call) else {
+        let Ok(()) = make(self.alloc, &mut self.tree, *stamp, call) else {
             return Err(AllocError);
         };
         self.front = operation.front.again();
