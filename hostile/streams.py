@@ -15,12 +15,23 @@ def tests():
         for trial in (read_fails, write_fails, one_byte_at_a_time, reads_are_interrupted):
             name = f"{trial.__name__.replace('_', ' ')}: {case.name}"
             named.append((name, lambda bench, trial=trial, case=case: trial(bench, case)))
+    named.append(("help can't be written", help_is_not_written))
     return named
 
 
 def lasting_tests():
     """What takes long."""
     return [("reads are interrupted for ever", interrupted_for_ever)]
+
+
+def help_is_not_written(bench):
+    """A help text that can't be written ends as a reply does."""
+    for words in (["--help"], ["play", "--help"]):
+        ran, _ = bench.unkind.run(words, write=1, write_how="fail")
+        fault = playing.fault_of_end(ran, b"", "Write")
+        if fault is not None:
+            return f"{words}: {fault}"
+    return None
 
 
 def fault_of_cuts(bench, case):

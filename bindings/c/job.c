@@ -249,7 +249,9 @@ static void print_below(job *job, const char *path) {
 
 int main(void) {
     static job job = { .tree = NUZ_TREE_INIT };
-    uint32_t code = nuz_tree_open(&job.tree, NUZ_PROFILE);
+    nuz_limits limits = NUZ_LIMITS_GREATEST;
+    limits.file_size = LONGEST_FILE; /* so that each file has room in one buffer */
+    uint32_t code = nuz_tree_open_with(&job.tree, NUZ_PROFILE, limits);
     if (code != 0) {
         give_up("open", code);
     }

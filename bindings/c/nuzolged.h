@@ -20,7 +20,7 @@
  *
  * The caller keeps all that it passes: paths, bytes and lines are copied, and no pointer is kept.
  * No more is copied of the bytes of a write than could have room in the file, and no more of a path
- * than tells that it is too long.
+ * than tells that it is too long. So a long write is best made in pieces.
  * The tree keeps all that it holds: no pointer into it is given out.
  *
  * The names of directories and files are bytes, of no encoding. A path is absolute or not, which is
@@ -61,7 +61,7 @@ typedef struct nuz_answer {
  * 1 to 75    An errno, as Linux numbers them (errno.h). The call was granted, has its stamp,
  *            failed, and changed nothing of the tree. As any other it has locks, counts towards
  *            NUZ_FULL, and is what an undo may take back. Only calls answer one.
- * 1001-1010  The request is refused. Nothing of the tree has changed.
+ * 1001-1012  The request is refused. Nothing of the tree has changed.
  * 1100       NUZ_WAITS. The call waits for transactions, which nuz_blocker tells. It is kept:
  *            nuz_retry makes it, and nuz_drop forgets it; a further call replaces it.
  * 1200       NUZ_CLOSED. The handle holds no tree. Nothing has changed.
@@ -79,6 +79,7 @@ enum {
     NUZ_DEEP = 1008,            /* the transaction stands as deep as one may */
     NUZ_LIVE = 1009,            /* a transaction is live */
     NUZ_NO_ASK = 1010,          /* the transaction waits for no call */
+    NUZ_BAD_LIMITS = 1012,      /* a limit is above the greatest that there is */
     NUZ_WAITS = 1100,
     NUZ_CLOSED = 1200,
     NUZ_BAD = 1201
@@ -86,6 +87,25 @@ enum {
 
 /* Kinds. */
 enum { NUZ_DIR = 1, NUZ_FILE = 2 };
+
+/* What a tree allows, from its opening to its end. Each limit may be anything up to the greatest. A
+ * tree that is told nothing has the greatest, so that memory alone ends a job. */
+typedef struct nuz_limits {
+    uint64_t file_size;    /* how many bytes a file may have: more is EFBIG */
+    uint64_t links;        /* how many names a file may have: one more is EMLINK */
+    uint64_t depth;        /* how deep a transaction may stand, one of nuz_begin at 1: NUZ_DEEP */
+    uint64_t transactions; /* how many may begin before a checkpoint: one more is NUZ_FULL */
+    uint64_t calls;        /* how many may be granted before a checkpoint: one more is NUZ_FULL */
+} nuz_limits;
+
+/* The greatest: files of 2^47 bytes, 2^32 names of one, 4,096 transactions inside each other, and
+ * 2^62 transactions and calls. */
+#define NUZ_LIMITS_GREATEST \
+    { UINT64_C(1) << 47, UINT64_C(1) << 32, 4096, UINT64_C(1) << 62, UINT64_C(1) << 62 }
+
+/* Those of a script, where the program that plays it is told nothing (docs/SCRIPT.md): files of a
+ * mebibyte. */
+#define NUZ_LIMITS_SCRIPT { 1048576, 1000, 64, 100000, 1000000 }
 
 /* The rules of nuz_tree_open. Under both a call waits where a transaction has a conflicting lock
  * that is neither the caller nor above it. Under NUZ_MOSS it waits too for a transaction above it
@@ -104,9 +124,13 @@ enum { NUZ_SET = 0, NUZ_CUR = 1, NUZ_END = 2 };
 /* ---- trees */
 
 /* Opens a tree: the root alone, and no transaction. The handle owns it until nuz_tree_close. What
- * the handle held is freed. Answers 0; NUZ_MEMORY; or NUZ_BAD where there is no such rule: then the
- * handle holds what it held. */
+ * the handle held is freed. Its limits are NUZ_LIMITS_GREATEST. Answers 0; NUZ_MEMORY; or NUZ_BAD
+ * where there is no such rule: then the handle holds what it held. */
 uint32_t nuz_tree_open(nuz_tree *tree, uint32_t rule);
+
+/* The same with these limits, which stay, through checkpoints too. Answers NUZ_BAD_LIMITS where one
+ * of them is above the greatest, and the rule is one that there is. */
+uint32_t nuz_tree_open_with(nuz_tree *tree, uint32_t rule, nuz_limits limits);
 
 /* Frees the tree, with all transactions, live ones too. The handle is closed; a closed one stays
  * so, so that closing twice does no harm. */
@@ -149,7 +173,8 @@ nuz_answer nuz_drop(nuz_tree *tree, uint64_t txn);
 nuz_answer nuz_retry(nuz_tree *tree, uint64_t txn);
 
 /* Makes the tree as it stands the beginning, and forgets the transactions and what has happened:
- * limits count from here, and numbers go on. Refused: NUZ_LIVE, NUZ_MEMORY. */
+ * transactions and calls are counted from here, and numbers go on. Takes no memory. Refused:
+ * NUZ_LIVE. */
 nuz_answer nuz_checkpoint(nuz_tree *tree);
 
 /* ---- calls

@@ -1,6 +1,7 @@
 /* play: plays a script through nuz_request, as ft_run plays it (docs/SCRIPT.md).
  *
- *     play play [--moss] < SCRIPT
+ *     play play [--moss] [--largest-file N] [--most-calls N] [--most-transactions N]
+ *               [--deepest N] < SCRIPT
  *
  * It is for the case files, which are so tried on the library too. The status is 0 where each line
  * was carried out, and else 1.
@@ -40,10 +41,63 @@ static bool play_line(nuz_tree *tree, const char *line, size_t len) {
     }
 }
 
+/* The number of a flag: so many, or by K, M and G so many times 2^10, 2^20 and 2^30; or none, which
+ * stands for the greatest. */
+static uint64_t limit_of(const char *word, uint64_t greatest) {
+    char *end;
+    if (strcmp(word, "none") == 0) {
+        return greatest;
+    }
+    uint64_t number = strtoull(word, &end, 10);
+    switch (*end) {
+    case 'K':
+        return number << 10;
+    case 'M':
+        return number << 20;
+    case 'G':
+        return number << 30;
+    default:
+        return number;
+    }
+}
+
+/* Sets the limit of a flag, if there is one of this name. */
+static bool set_limit(nuz_limits *limits, const char *flag, const char *word) {
+    const nuz_limits greatest = NUZ_LIMITS_GREATEST;
+    if (strcmp(flag, "--largest-file") == 0) {
+        limits->file_size = limit_of(word, greatest.file_size);
+    } else if (strcmp(flag, "--most-calls") == 0) {
+        limits->calls = limit_of(word, greatest.calls);
+    } else if (strcmp(flag, "--most-transactions") == 0) {
+        limits->transactions = limit_of(word, greatest.transactions);
+    } else if (strcmp(flag, "--deepest") == 0) {
+        limits->depth = limit_of(word, greatest.depth);
+    } else {
+        return false;
+    }
+    return true;
+}
+
+/* Opens the tree that the words of the command ask for. */
+static bool open_tree(nuz_tree *tree, char **words) {
+    nuz_limits limits = NUZ_LIMITS_SCRIPT;
+    uint32_t rule = NUZ_PROFILE;
+    while (*words != NULL) {
+        if (strcmp(*words, "--moss") == 0) {
+            rule = NUZ_MOSS;
+            words++;
+        } else if (words[1] != NULL && set_limit(&limits, words[0], words[1])) {
+            words += 2;
+        } else {
+            return false;
+        }
+    }
+    return nuz_tree_open_with(tree, rule, limits) == 0;
+}
+
 int main(int argc, char **argv) {
     nuz_tree tree = NUZ_TREE_INIT;
-    bool is_moss = argc > 2 && strcmp(argv[2], "--moss") == 0;
-    if (nuz_tree_open(&tree, is_moss ? NUZ_MOSS : NUZ_PROFILE) != 0) {
+    if (argc < 2 || !open_tree(&tree, argv + 2)) {
         return EXIT_FAILURE;
     }
     char *line = NULL;

@@ -68,6 +68,13 @@ static bool opened(nuz_tree *tree) {
     return nuz_tree_open(tree, NUZ_PROFILE) == 0;
 }
 
+/* The same with limits. */
+static bool opened_with(nuz_tree *tree, nuz_limits limits) {
+    return nuz_tree_open_with(tree, NUZ_PROFILE, limits) == 0;
+}
+
+static const nuz_limits GREATEST = NUZ_LIMITS_GREATEST, SCRIPT = NUZ_LIMITS_SCRIPT;
+
 /* Opens a file that may be there: its descriptor, or 0. */
 static uint64_t open_file(nuz_tree *tree, uint64_t txn, const char *path) {
     nuz_answer answer =
@@ -153,6 +160,7 @@ static bool handle_is_closed_twice(void) {
 static bool open_handle_is_opened_anew(void) {
     nuz_tree t = NUZ_TREE_INIT;
     CHECK(nuz_tree_open(&t, 2) == NUZ_BAD && t.at == NULL);
+    CHECK(nuz_tree_open_with(&t, 2, SCRIPT) == NUZ_BAD && t.at == NULL);
     CHECK(opened(&t));
     CHECK(nuz_begin(&t).number == 1 && nuz_mkdir(&t, 1, NUZ_S("/a")).code == 0);
     CHECK(nuz_tree_open(&t, 2) == NUZ_BAD);
@@ -260,19 +268,6 @@ static bool refusals_are_told(void) {
     return true;
 }
 
-static bool depth_is_limited(void) {
-    nuz_tree t = NUZ_TREE_INIT;
-    CHECK(opened(&t) && nuz_begin(&t).number == 1);
-    uint64_t deepest = 1;
-    for (nuz_answer below = nuz_sub(&t, 1); below.code == 0; below = nuz_sub(&t, deepest)) {
-        deepest = below.number;
-    }
-    CHECK(deepest == 64 && nuz_sub(&t, deepest).code == NUZ_DEEP);
-    CHECK(nuz_abort(&t, 1).code == 0 && nuz_commit(&t, deepest).code == NUZ_ENDED);
-    nuz_tree_close(&t);
-    return true;
-}
-
 static bool checkpoint_forgets(void) {
     nuz_tree t = NUZ_TREE_INIT;
     CHECK(opened(&t) && nuz_begin(&t).number == 1);
@@ -283,14 +278,145 @@ static bool checkpoint_forgets(void) {
     return true;
 }
 
-static bool transactions_are_used_up(void) {
-    nuz_tree t = NUZ_TREE_INIT;
-    CHECK(opened(&t));
-    for (uint64_t txn = 1; !is_short && txn <= 100000; txn++) {
-        CHECK(nuz_begin(&t).number == txn && nuz_abort(&t, txn).code == 0);
+/* ---- limits */
+
+/* Begins transactions inside each other, as deep as they may stand: the number of the deepest. */
+static uint64_t begin_deepest(nuz_tree *t) {
+    uint64_t deepest = 0;
+    for (nuz_answer below = nuz_begin(t); below.code == 0; below = nuz_sub(t, deepest)) {
+        deepest = below.number;
     }
-    CHECK(is_short || nuz_begin(&t).code == NUZ_FULL);
-    CHECK(nuz_checkpoint(&t).code == 0 && nuz_begin(&t).code == 0);
+    return deepest;
+}
+
+static bool depth_is_limited(void) {
+    nuz_tree t = NUZ_TREE_INIT;
+    nuz_limits limits = GREATEST;
+    limits.depth = 64;
+    CHECK(opened_with(&t, limits) && begin_deepest(&t) == 64 && nuz_sub(&t, 64).code == NUZ_DEEP);
+    CHECK(nuz_sub(&t, 63).number == 65);
+    CHECK(nuz_abort(&t, 1).code == 0 && nuz_commit(&t, 64).code == NUZ_ENDED);
+    nuz_tree_close(&t);
+    limits.depth = 1;
+    CHECK(opened_with(&t, limits) && begin_deepest(&t) == 1 && nuz_sub(&t, 1).code == NUZ_DEEP);
+    CHECK(nuz_begin(&t).number == 2);
+    nuz_tree_close(&t);
+    return true;
+}
+
+static bool transactions_are_limited(void) {
+    nuz_tree t = NUZ_TREE_INIT;
+    nuz_limits limits = GREATEST;
+    limits.transactions = 3;
+    CHECK(opened_with(&t, limits));
+    for (uint64_t first = 1; first <= 4; first += 3) {
+        CHECK(nuz_begin(&t).number == first && nuz_sub(&t, first).number == first + 1);
+        CHECK(nuz_commit(&t, first + 1).code == 0 && nuz_abort(&t, first).code == 0);
+        CHECK(nuz_begin(&t).number == first + 2 && nuz_begin(&t).code == NUZ_FULL);
+        CHECK(nuz_sub(&t, first + 2).code == NUZ_FULL && nuz_commit(&t, first + 2).code == 0);
+        CHECK(nuz_checkpoint(&t).code == 0);
+    }
+    nuz_tree_close(&t);
+    return true;
+}
+
+static bool calls_are_limited(void) {
+    nuz_tree t = NUZ_TREE_INIT;
+    nuz_limits limits = GREATEST;
+    limits.calls = 2;
+    CHECK(opened_with(&t, limits));
+    for (uint64_t txn = 1; txn <= 2; txn++) {
+        CHECK(nuz_begin(&t).number == txn && nuz_mkdir(&t, txn, NUZ_S("/a")).code == 0);
+        CHECK(nuz_undo(&t, txn).code == 0 && nuz_stat(&t, txn, NUZ_S("/a")).code == ENOENT);
+        CHECK(nuz_stat(&t, txn, NUZ_S("/")).code == NUZ_FULL);
+        CHECK(nuz_commit(&t, txn).code == 0 && nuz_checkpoint(&t).code == 0);
+    }
+    nuz_tree_close(&t);
+    return true;
+}
+
+/* Whether a file takes ten bytes, and no more. */
+static bool takes_ten_bytes(nuz_tree *t, uint64_t txn, const char *path) {
+    uint64_t fd = open_file(t, txn, path);
+    CHECK(nuz_write(t, txn, fd, NUZ_S("twelve bytes")).number == 10);
+    CHECK(nuz_write(t, txn, fd, NUZ_S("x")).code == EFBIG);
+    CHECK(nuz_pwrite(t, txn, fd, NUZ_S("four"), 8).number == 2);
+    CHECK(nuz_pwrite(t, txn, fd, NUZ_S("x"), 10).code == EFBIG);
+    CHECK(nuz_ftruncate(t, txn, fd, 11).code == EFBIG && nuz_ftruncate(t, txn, fd, 10).code == 0);
+    CHECK(nuz_truncate(t, txn, NUZ_S(path), 11).code == EFBIG);
+    return nuz_close(t, txn, fd).code == 0;
+}
+
+static bool files_are_limited(void) {
+    nuz_tree t = NUZ_TREE_INIT;
+    nuz_limits limits = GREATEST;
+    limits.file_size = 10;
+    CHECK(opened_with(&t, limits) && nuz_begin(&t).number == 1);
+    CHECK(takes_ten_bytes(&t, 1, "/f") && nuz_commit(&t, 1).code == 0);
+    CHECK(nuz_checkpoint(&t).code == 0 && nuz_begin(&t).number == 2);
+    CHECK(takes_ten_bytes(&t, 2, "/g"));
+    limits.file_size = 0;
+    CHECK(opened_with(&t, limits) && nuz_begin(&t).number == 1);
+    uint64_t fd = open_file(&t, 1, "/f");
+    CHECK(nuz_write(&t, 1, fd, NUZ_S("x")).code == EFBIG);
+    CHECK(nuz_write(&t, 1, fd, NUZ_S("")).code == 0 && nuz_fstat(&t, 1, fd).size == 0);
+    nuz_tree_close(&t);
+    return true;
+}
+
+static bool links_are_limited(void) {
+    nuz_tree t = NUZ_TREE_INIT;
+    nuz_limits limits = GREATEST;
+    limits.links = 2;
+    CHECK(opened_with(&t, limits) && nuz_begin(&t).number == 1 && make_file(&t, 1, "/f", ""));
+    CHECK(nuz_link(&t, 1, NUZ_S("/f"), NUZ_S("/g")).code == 0);
+    CHECK(nuz_link(&t, 1, NUZ_S("/f"), NUZ_S("/h")).code == EMLINK);
+    CHECK(nuz_commit(&t, 1).code == 0 && nuz_checkpoint(&t).code == 0 && nuz_begin(&t).number == 2);
+    CHECK(nuz_link(&t, 2, NUZ_S("/g"), NUZ_S("/h")).code == EMLINK);
+    CHECK(nuz_unlink(&t, 2, NUZ_S("/f")).code == 0);
+    CHECK(nuz_link(&t, 2, NUZ_S("/g"), NUZ_S("/h")).code == 0);
+    nuz_tree_close(&t);
+    return true;
+}
+
+/* Whether no tree is opened with these limits, and the handle keeps what it has. */
+static bool are_bad(nuz_tree *t, nuz_limits limits) {
+    return nuz_tree_open_with(t, NUZ_PROFILE, limits) == NUZ_BAD_LIMITS
+        && nuz_tree_open_with(t, NUZ_MOSS, limits) == NUZ_BAD_LIMITS
+        && nuz_tree_open_with(t, 2, limits) == NUZ_BAD
+        && nuz_stat(t, 1, NUZ_S("/kept")).code == 0;
+}
+
+static bool limits_above_the_greatest_are_told(void) {
+    nuz_tree t = NUZ_TREE_INIT;
+    nuz_limits size = GREATEST, links = GREATEST, depth = GREATEST, begun = GREATEST;
+    nuz_limits calls = GREATEST;
+    CHECK(opened_with(&t, GREATEST) && nuz_begin(&t).number == 1);
+    CHECK(nuz_mkdir(&t, 1, NUZ_S("/kept")).code == 0);
+    size.file_size++;
+    links.links++;
+    depth.depth = UINT64_MAX;
+    begun.transactions++;
+    calls.calls++;
+    CHECK(are_bad(&t, size) && are_bad(&t, links) && are_bad(&t, depth));
+    CHECK(are_bad(&t, begun) && are_bad(&t, calls));
+    CHECK(opened_with(&t, SCRIPT) && nuz_stat(&t, 1, NUZ_S("/kept")).code == NUZ_NO_TXN);
+    nuz_tree_close(&t);
+    return true;
+}
+
+/* A tree that is told nothing has the greatest limits. */
+static bool limits_are_the_greatest(void) {
+    nuz_tree t = NUZ_TREE_INIT;
+    const int64_t largest = INT64_C(1) << 47;
+    CHECK(opened(&t) && nuz_begin(&t).number == 1);
+    uint64_t fd = open_file(&t, 1, "/f");
+    CHECK(nuz_ftruncate(&t, 1, fd, largest + 1).code == EFBIG);
+    CHECK(nuz_pwrite(&t, 1, fd, NUZ_S("x"), largest).code == EFBIG);
+    CHECK(nuz_ftruncate(&t, 1, fd, INT64_C(1) << 32).code == 0);
+    CHECK(nuz_fstat(&t, 1, fd).size == UINT64_C(1) << 32);
+    CHECK(nuz_abort(&t, 1).number == 5 && begin_deepest(&t) == 4097);
+    CHECK(nuz_sub(&t, 4097).code == NUZ_DEEP && nuz_abort(&t, 2).number == 0);
     nuz_tree_close(&t);
     return true;
 }
@@ -460,7 +586,7 @@ static bool bytes_without_room_are_not_copied(void) {
     CHECK(bytes != MAP_FAILED && getrlimit(RLIMIT_AS, &was) == 0);
     less = was;
     less.rlim_cur = len + len / 2;
-    CHECK(opened(&t) && setrlimit(RLIMIT_AS, &less) == 0);
+    CHECK(opened_with(&t, SCRIPT) && setrlimit(RLIMIT_AS, &less) == 0);
     void *copy = __real_malloc(len);
     bool wrote = fills_up(&t, bytes, len);
     CHECK(setrlimit(RLIMIT_AS, &was) == 0 && copy == NULL && wrote);
@@ -495,7 +621,7 @@ static bool error_numbers_are_those_of_the_system(void) {
     char longest[300];
     memset(longest, 'n', sizeof longest - 1);
     longest[sizeof longest - 1] = '\0';
-    CHECK(opened(&t) && nuz_begin(&t).number == 1);
+    CHECK(opened_with(&t, SCRIPT) && nuz_begin(&t).number == 1);
     CHECK(nuz_mkdir(&t, 1, NUZ_S("/d")).code == 0 && make_file(&t, 1, "/d/f", ""));
     uint64_t fd = open_file(&t, 1, "/d/f");
     CHECK(nuz_unlink(&t, 1, NUZ_S("/d")).code == EPERM);
@@ -645,12 +771,13 @@ static bool want_of_memory_changes_nothing(void) {
     CHECK(nuz_list(&t, 1, NUZ_S("/")).code == NUZ_WAITS && nuz_blocker(&t, 0).number == 2);
     allocations_left = 0;
     uint32_t no_tree = nuz_tree_open(&other, NUZ_PROFILE);
+    uint32_t none_with = nuz_tree_open_with(&other, NUZ_PROFILE, SCRIPT);
     bool refused = are_refused(&t, fd);
     nuz_answer committed = nuz_commit(&t, 2), ended = nuz_write(&t, 2, fd, NUZ_S("new"));
     nuz_answer aborted = nuz_abort(&t, 3), undone = nuz_undo(&t, 1);
     nuz_tree_close(&other);
     allocations_left = -1;
-    CHECK(no_tree == NUZ_MEMORY && other.at == NULL && refused);
+    CHECK(no_tree == NUZ_MEMORY && none_with == NUZ_MEMORY && other.at == NULL && refused);
     CHECK(committed.code == 0 && ended.code == NUZ_ENDED);
     CHECK(aborted.code == 0 && undone.code == NUZ_SUB_SINCE);
     CHECK(says(&t, "tree", "tree 6\ndir 1\ndir 6\nedge 1 f 2\nedge 1 two 6\nfile 2 3 old\n"
@@ -683,6 +810,20 @@ static bool has_run_out(nuz_tree *tree, uint64_t *sum) {
         *sum = *sum * 31 + answer.code + answer.stamp + answer.number + answer.size;
     }
     return has;
+}
+
+static bool checkpoint_takes_no_memory(void) {
+    nuz_tree t = NUZ_TREE_INIT;
+    CHECK(opened(&t) && nuz_begin(&t).number == 1 && make_file(&t, 1, "/f", "bytes"));
+    allocations_left = 0;
+    nuz_answer live = nuz_checkpoint(&t), committed = nuz_commit(&t, 1);
+    nuz_answer cleared = nuz_checkpoint(&t);
+    allocations_left = -1;
+    CHECK(live.code == NUZ_LIVE && committed.code == 0 && cleared.code == 0);
+    CHECK(nuz_commit(&t, 1).code == NUZ_NO_TXN && nuz_begin(&t).number == 2);
+    CHECK(nuz_stat(&t, 2, NUZ_S("/f")).size == 5);
+    nuz_tree_close(&t);
+    return true;
 }
 
 static bool request_is_made_again_after_want_of_memory(void) {
@@ -719,9 +860,14 @@ static const struct {
     TEST(transactions_nest),
     TEST(calls_are_undone),
     TEST(refusals_are_told),
-    TEST(depth_is_limited),
     TEST(checkpoint_forgets),
-    TEST(transactions_are_used_up),
+    TEST(depth_is_limited),
+    TEST(transactions_are_limited),
+    TEST(calls_are_limited),
+    TEST(files_are_limited),
+    TEST(links_are_limited),
+    TEST(limits_above_the_greatest_are_told),
+    TEST(limits_are_the_greatest),
     TEST(directories_are_made_and_removed),
     TEST(names_of_files_change),
     TEST(names_are_cut_to_the_room),
@@ -739,6 +885,7 @@ static const struct {
     TEST(lines_are_carried_out),
     TEST(reports_are_told),
     TEST(want_of_memory_changes_nothing),
+    TEST(checkpoint_takes_no_memory),
     TEST(request_is_made_again_after_want_of_memory),
 };
 

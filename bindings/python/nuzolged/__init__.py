@@ -17,11 +17,13 @@ A path is absolute or not, which is the same here: there is no working directory
 from ._disk import copy_in, copy_out
 from ._errors import Refused, Waits
 from ._file import Info, RawFile
+from ._limits import Limits
 from ._tree import Entry, Transaction, Tree
 
 __all__ = [
     "Entry",
     "Info",
+    "Limits",
     "RawFile",
     "Refused",
     "Transaction",

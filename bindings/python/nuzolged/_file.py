@@ -1,14 +1,14 @@
 """Open files, by the classes of `io`."""
 from __future__ import annotations
 
-import contextlib
 import ctypes
 import io
 import os
+import weakref
 from typing import IO, TYPE_CHECKING, Any, NamedTuple, Optional
 
 from . import _library
-from ._errors import AnyPath, Refused
+from ._errors import AnyPath
 from ._library import Answer
 
 if TYPE_CHECKING:
@@ -77,7 +77,7 @@ class RawFile(io.RawIOBase):
         self._fd: int | None = None
         flags = (mode.creates, mode.is_new, mode.cuts, mode.appends)
         self._fd = transaction._on("nuz_open", path, mode.access, *flags).number
-        transaction._files.add(self)
+        transaction._files[self._fd] = weakref.ref(self)
 
     def _ask(self, function: str, *args: object) -> Answer:
         if self.closed:
@@ -101,7 +101,7 @@ class RawFile(io.RawIOBase):
         return self._ask("nuz_read", room, len(view)).number
 
     def write(self, data: Any) -> int:
-        raw = memoryview(data).cast("B")[: _library.LARGEST_FILE].tobytes()
+        raw = memoryview(data).cast("B")[: _library.MOST_WRITTEN].tobytes()
         return self._ask("nuz_write", raw, len(raw)).number
 
     def seek(self, offset: int, whence: int = os.SEEK_SET) -> int:
@@ -119,13 +119,12 @@ class RawFile(io.RawIOBase):
         return info_of(self._ask("nuz_fstat"))
 
     def close(self) -> None:
-        """Closes it. Where that has to wait it is open still, and may be closed again."""
+        """Closes it. Where that has to wait, or has no memory, it is open still, and may be closed
+        again; where nobody has it any more, its transaction closes it before it commits."""
         if self.closed:
             return
-        if self._fd is not None and not self._transaction._has_ended:
-            # (where a transaction around it has ended, or the tree is closed, so is the file)
-            with contextlib.suppress(Refused, ValueError):
-                self._ask("nuz_close")
+        if self._fd is not None:
+            self._transaction._close_file(self._fd, self.name)
         super().close()
 
 

@@ -11,8 +11,8 @@ DIR = 1
 READ_ONLY, WRITE_ONLY, READ_WRITE = 0, 1, 2
 PROFILE, MOSS = 0, 1
 
-#: How many bytes a file may have: a write takes no more.
-LARGEST_FILE = 1 << 20
+#: How many bytes a request writes at most: a copy is made of them.
+MOST_WRITTEN = 1 << 26
 
 MEMORY = 1001
 WAITS = 1100
@@ -28,6 +28,18 @@ class Handle(ctypes.Structure):
     """`nuz_tree`: a handle, closed at first."""
 
     _fields_ = [("at", c_void_p)]
+
+
+class Limits(ctypes.Structure):
+    """`nuz_limits`: what a tree allows."""
+
+    _fields_ = [
+        ("file_size", c_uint64),
+        ("links", c_uint64),
+        ("depth", c_uint64),
+        ("transactions", c_uint64),
+        ("calls", c_uint64),
+    ]
 
 
 class Answer(ctypes.Structure):
@@ -112,8 +124,8 @@ def _load() -> ctypes.CDLL:
         function = getattr(library, name)
         function.argtypes = [POINTER(Handle), *takes]
         function.restype = Answer
-    library.nuz_tree_open.argtypes = [POINTER(Handle), c_uint32]
-    library.nuz_tree_open.restype = c_uint32
+    library.nuz_tree_open_with.argtypes = [POINTER(Handle), c_uint32, Limits]
+    library.nuz_tree_open_with.restype = c_uint32
     library.nuz_tree_close.argtypes = [POINTER(Handle)]
     library.nuz_tree_close.restype = None
     return library

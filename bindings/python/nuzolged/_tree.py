@@ -9,10 +9,11 @@ import weakref
 from types import TracebackType
 from typing import IO, Any, NamedTuple
 
-from . import _file, _library
+from . import _file, _library, _limits
 from ._errors import AnyPath, Refused, Waits, error_of
 from ._file import Info, info_of
 from ._library import Answer, Handle, library
+from ._limits import Limits
 
 #: A name has at most so many bytes.
 _LONGEST_NAME = 255
@@ -29,14 +30,15 @@ class Tree:
     """A tree: at first the root alone. As a context it is closed at the end.
 
     Threads may share it: one request is made at a time. With `moss` a call waits for a transaction
-    around it too, where that holds a conflicting lock for a call of its own.
+    around it too, where that holds a conflicting lock for a call of its own. `limits` stay, through
+    checkpoints too; without them each limit is the greatest, and memory alone ends a job.
     """
 
-    def __init__(self, *, moss: bool = False) -> None:
+    def __init__(self, *, moss: bool = False, limits: Limits = Limits()) -> None:
         self._handle = Handle()
         self._lock = threading.RLock()
         rule = _library.MOSS if moss else _library.PROFILE
-        code = library.nuz_tree_open(self._handle, rule)
+        code = library.nuz_tree_open_with(self._handle, rule, _limits.for_library(limits))
         if code:
             raise error_of(code)
 
@@ -59,8 +61,8 @@ class Tree:
         return Transaction(self, self._ask("nuz_begin").number)
 
     def checkpoint(self) -> None:
-        """Makes the tree as it stands the beginning, and forgets the transactions: limits count
-        from here. Refused while a transaction is live."""
+        """Makes the tree as it stands the beginning, and forgets the transactions: those and calls
+        are counted from here. Takes no memory. Refused while a transaction is live."""
         self._ask("nuz_checkpoint")
 
     def request(self, line: str) -> str:
@@ -109,7 +111,8 @@ class Transaction:
         self.tree = tree
         self.number = number
         self._has_ended = False
-        self._files: weakref.WeakSet[_file.RawFile] = weakref.WeakSet()
+        #: Its open descriptors, and whose each is.
+        self._files: dict[int, weakref.ref[_file.RawFile]] = {}
 
     def __enter__(self) -> Transaction:
         return self
@@ -135,9 +138,11 @@ class Transaction:
     def commit(self) -> None:
         """Commits it: hands what it did to the transaction around it, or to the tree. It is a
         ValueError while one of its files is open, since what is buffered would be lost."""
-        for file in self._files:
-            if not file.closed:
+        for fd, held in list(self._files.items()):
+            file = held()
+            if file is not None:
                 raise ValueError(f"commit with an open file: {file.name!r}")
+            self._close_file(fd)
         self._ask("nuz_commit")
         self._has_ended = True
 
@@ -147,6 +152,19 @@ class Transaction:
         count = self._ask("nuz_abort").number
         self._has_ended = True
         return count
+
+    def _close_file(self, fd: int, *paths: AnyPath) -> None:
+        """Closes one of its descriptors. Where it, or a transaction around it, has ended, or the
+        tree is closed, that is closed already."""
+        try:
+            if not self._has_ended:
+                self._ask("nuz_close", fd, paths=paths)
+        except Refused as refused:
+            if refused.name not in ("NoTxn", "Ended"):
+                raise
+        except ValueError:
+            pass
+        self._files.pop(fd, None)
 
     def undo(self) -> int:
         """Takes back the last of its own calls that stand, and answers the stamp of that call.
@@ -235,8 +253,10 @@ class Transaction:
 
     def write_bytes(self, path: AnyPath, data: bytes) -> None:
         """Makes a file of these bytes, in place of those that it had."""
-        with self.open(path, "wb") as file:
-            file.write(data)
+        left = memoryview(data).cast("B")
+        with self.open(path, "wb", 0) as file:
+            while left:
+                left = left[file.write(left) :]
 
     def _ask(self, function: str, *args: object, paths: tuple[AnyPath, ...] = ()) -> Answer:
         return self.tree._ask(function, self.number, *args, paths=paths)

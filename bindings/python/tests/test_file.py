@@ -1,9 +1,13 @@
 """Open files: the classes of `io`."""
 import errno
+import gc
 import io
+import os
 import unittest
+from unittest import mock
 
-from nuzolged import RawFile, Tree, Waits
+from nuzolged import Limits, RawFile, Tree, Waits
+from nuzolged._library import MEMORY, Answer, library
 
 
 class FileTest(unittest.TestCase):
@@ -107,14 +111,58 @@ class Contents(FileTest):
 
     def test_large_file(self):
         most = bytes(range(256)) * 4096
-        self.job.write_bytes("/f", most)
-        self.assertEqual(self.job.read_bytes("/f"), most)
-        with self.assertRaises(OSError) as full:
-            self.job.write_bytes("/g", most + b"x")
-        self.assertEqual((full.exception.errno, full.exception.filename), (errno.EFBIG, "/g"))
-        with self.job.open("/h", "wb", 0) as file:
-            self.assertEqual(file.write(most + most), len(most))
-        self.assertEqual(self.job.read_bytes("/h"), most)
+        with Tree(limits=Limits(file_size=len(most))) as tree, tree.begin() as job:
+            job.write_bytes("/f", most)
+            self.assertEqual(job.read_bytes("/f"), most)
+            with self.assertRaises(OSError) as full:
+                job.write_bytes("/g", most + b"x")
+            self.assertEqual((full.exception.errno, full.exception.filename), (errno.EFBIG, "/g"))
+            with job.open("/h", "wb", 0) as file:
+                self.assertEqual(file.write(most + most), len(most))
+            self.assertEqual(job.read_bytes("/h"), most)
+
+    def test_file_of_more_than_a_request_writes(self):
+        data = os.urandom(1 << 20) * 65
+        self.job.write_bytes("/f", data)
+        with self.job.open("/f", "r+b") as file:
+            self.assertEqual(file.seek(0, io.SEEK_END), len(data))
+            file.write(data)
+        self.assertEqual(self.job.stat("/f").size, 2 * len(data))
+        with self.job.open("/f", "rb") as file:
+            file.seek(len(data) - 4)
+            self.assertEqual(file.read(8), data[-4:] + data[:4])
+
+
+class WantOfMemory(FileTest):
+    """There is none for a function of the library while it is in `refused`."""
+
+    @staticmethod
+    def refused(*functions):
+        def none(*_):
+            return Answer(code=MEMORY)
+
+        return mock.patch.multiple(library, **{name: none for name in functions})
+
+    def test_file_that_could_not_be_closed_is_closed_by_commit(self):
+        with self.refused("nuz_write", "nuz_close"):
+            with self.assertRaises(MemoryError):
+                self.job.write_bytes("/f", b"bytes")
+            gc.collect()
+            with self.assertRaises(MemoryError):
+                self.job.commit()
+        self.assertIn("fd", self.tree.request("tree"))
+        self.job.commit()
+        self.assertEqual(self.tree.request("tree"), "tree 3\ndir 1\nedge 1 f 2\nfile 2 0\n")
+
+    def test_open_file_is_closed_again(self):
+        file = self.job.open("/f", "wb", 0)
+        with self.refused("nuz_close"), self.assertRaises(MemoryError):
+            file.close()
+        self.assertFalse(file.closed)
+        with self.assertRaisesRegex(ValueError, "open file: '/f'"):
+            self.job.commit()
+        file.close()
+        self.job.commit()
 
 
 class Lives(FileTest):
@@ -165,6 +213,20 @@ class Lives(FileTest):
                 self.assertEqual(waits.exception.filename, "/f")
                 writer.commit()
                 self.assertEqual(old.read(), b"new")
+
+    def test_forgotten_file_is_closed_by_commit(self):
+        self.job.write_bytes("/f", b"bytes")
+        self.job.commit()
+        with self.tree.begin() as reader, self.tree.begin() as other:
+            file = reader.open("/f", "rb", 0)
+            other.link("/f", "/g")
+            with self.assertRaises(Waits):
+                file.close()
+            del file
+            with self.assertRaises(Waits):
+                reader.commit()
+            other.commit()
+        self.assertNotIn("fd", self.tree.request("tree"))
 
     def test_close_that_waits(self):
         self.job.write_bytes("/f", b"bytes")

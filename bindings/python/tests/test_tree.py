@@ -4,7 +4,7 @@ import threading
 import unittest
 from pathlib import Path
 
-from nuzolged import Entry, Info, Refused, Tree, Waits
+from nuzolged import Entry, Info, Limits, Refused, Tree, Waits
 
 
 class TreeTest(unittest.TestCase):
@@ -68,13 +68,6 @@ class Transactions(TreeTest):
                 request()
             self.assertEqual(refused.exception.name, name)
 
-    def test_depth(self):
-        steps = [self.job]
-        with self.assertRaises(Refused) as refused:
-            while True:
-                steps.append(steps[-1].begin())
-        self.assertEqual((len(steps), refused.exception.name), (64, "Deep"))
-
     def test_checkpoint(self):
         with self.assertRaises(Refused) as refused:
             self.tree.checkpoint()
@@ -84,6 +77,111 @@ class Transactions(TreeTest):
         with self.assertRaises(Refused) as refused:
             self.job.commit()
         self.assertEqual(refused.exception.name, "NoTxn")
+
+
+class TreeLimits(unittest.TestCase):
+    def begun(self, **limits):
+        """A tree with limits, and a job."""
+        tree = Tree(limits=Limits(**limits))
+        self.addCleanup(tree.close)
+        return tree, tree.begin()
+
+    def assert_refused(self, name, request, *args):
+        with self.assertRaises(Refused) as refused:
+            request(*args)
+        self.assertEqual(refused.exception.name, name)
+
+    def assert_error(self, number, request, *args):
+        with self.assertRaises(OSError) as error:
+            request(*args)
+        self.assertEqual(error.exception.errno, number)
+
+    def depth_of(self, job):
+        """How deep the steps of a job may stand, and the refusal of one more."""
+        steps = [job]
+        with self.assertRaises(Refused) as refused:
+            while True:
+                steps.append(steps[-1].begin())
+        return len(steps), refused.exception.name
+
+    def test_depth(self):
+        self.assertEqual(self.depth_of(self.begun(depth=64)[1]), (64, "Deep"))
+        self.assertEqual(self.depth_of(self.begun(depth=1)[1]), (1, "Deep"))
+        self.assertEqual(self.depth_of(self.begun()[1]), (4096, "Deep"))
+
+    def test_transactions(self):
+        tree, job = self.begun(transactions=2)
+        job.begin().commit()
+        self.assert_refused("Full", job.begin)
+        self.assert_refused("Full", tree.begin)
+        job.commit()
+        tree.checkpoint()
+        with tree.begin(), tree.begin():
+            self.assert_refused("Full", tree.begin)
+
+    def test_calls(self):
+        tree, job = self.begun(calls=2)
+        for _ in range(2):
+            with job:
+                job.mkdir("/a")
+                job.rmdir("/a")
+                self.assert_refused("Full", job.listdir)
+            tree.checkpoint()
+            job = tree.begin()
+
+    def test_file_that_no_call_is_left_to_close(self):
+        tree, job = self.begun(calls=1)
+        file = job.open("/f", "wb", 0)
+        self.assert_refused("Full", file.close)
+        with self.assertRaisesRegex(ValueError, "open file"):
+            job.commit()
+        job.abort()
+        file.close()
+        self.assertEqual(tree.request("tree"), "tree 1\ndir 1\n")
+
+    def test_file_size(self):
+        tree, job = self.begun(file_size=10)
+        job.write_bytes("/f", b"ten bytes.")
+        self.assert_error(errno.EFBIG, job.write_bytes, "/g", b"eleven byte")
+        self.assert_error(errno.EFBIG, job.truncate, "/f", 11)
+        with job.open("/g", "ab", 0) as file:
+            self.assertEqual(file.truncate(9), 9)
+            self.assertEqual(file.write(b"xyz"), 1)
+        job.commit()
+        tree.checkpoint()
+        self.assert_error(errno.EFBIG, tree.begin().write_bytes, "/f", b"eleven byte")
+
+    def test_links(self):
+        _, job = self.begun(links=2)
+        job.write_bytes("/f", b"")
+        job.link("/f", "/g")
+        self.assert_error(errno.EMLINK, job.link, "/f", "/h")
+
+    def test_greatest(self):
+        _, job = self.begun()
+        job.write_bytes("/f", b"")
+        job.truncate("/f", 1 << 32)
+        self.assertEqual(job.stat("/f").size, 1 << 32)
+        self.assert_error(errno.EFBIG, job.truncate, "/f", (1 << 47) + 1)
+        for number in range(1500):
+            job.link("/f", f"/{number}")
+        self.assertEqual(job.stat("/f").links, 1501)
+
+    def test_limits_that_are_none(self):
+        for limits in (
+            {"file_size": (1 << 47) + 1},
+            {"links": (1 << 32) + 1},
+            {"depth": 4097},
+            {"transactions": (1 << 62) + 1},
+            {"calls": 1 << 64},
+            {"calls": -1},
+        ):
+            with self.assertRaisesRegex(ValueError, f"{next(iter(limits))} is not one of 0 to"):
+                Limits(**limits)
+
+    def test_limits_of_moss(self):
+        with Tree(moss=True, limits=Limits(depth=2)) as tree:
+            self.assertEqual(self.depth_of(tree.begin()), (2, "Deep"))
 
 
 class Waiting(TreeTest):

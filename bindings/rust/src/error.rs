@@ -27,6 +27,10 @@ pub enum Refusal {
     Live,
     /// The transaction waits for no call.
     NoAsk,
+    /// A limit is above the greatest. No transaction answers it, but [`Builder::build`].
+    ///
+    /// [`Builder::build`]: crate::Builder::build
+    BadLimits,
 }
 
 impl Refusal {
@@ -42,6 +46,7 @@ impl Refusal {
             1008 => Refusal::Deep,
             1009 => Refusal::Live,
             1010 => Refusal::NoAsk,
+            1012 => Refusal::BadLimits,
             _ => unreachable!("the library answered {code}, which its header does not name"),
         }
     }
@@ -60,6 +65,7 @@ impl fmt::Display for Refusal {
             Refusal::Deep => "the transaction stands too deep",
             Refusal::Live => "a transaction is live",
             Refusal::NoAsk => "the transaction waits for no call",
+            Refusal::BadLimits => "a limit is above the greatest",
         })
     }
 }
@@ -115,6 +121,7 @@ impl From<Error> for io::Error {
             Error::Errno(number) => return io::Error::from_raw_os_error(*number),
             Error::Waits(_) => io::ErrorKind::WouldBlock,
             Error::Refused(Refusal::Memory) => io::ErrorKind::OutOfMemory,
+            Error::Refused(Refusal::BadLimits) => io::ErrorKind::InvalidInput,
             Error::Refused(_) => io::ErrorKind::Other,
             Error::Invalid => io::ErrorKind::InvalidInput,
         };

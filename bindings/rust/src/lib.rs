@@ -79,12 +79,14 @@
 //! ```
 #![warn(missing_docs)]
 
+mod builder;
 mod error;
 mod file;
 mod sys;
 mod transaction;
 mod tree;
 
+pub use builder::Builder;
 pub use error::{Error, Refusal, Result};
 pub use file::{File, OpenOptions};
 pub use transaction::{Entry, Kind, Metadata, Transaction};

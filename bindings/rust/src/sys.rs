@@ -29,6 +29,26 @@ pub struct Answer {
     pub size: u64,
 }
 
+/// `nuz_limits`: what a tree allows.
+#[repr(C)]
+#[derive(Clone, Copy, Debug, PartialEq, Eq)]
+pub struct Limits {
+    pub file_size: u64,
+    pub links: u64,
+    pub depth: u64,
+    pub transactions: u64,
+    pub calls: u64,
+}
+
+/// `NUZ_LIMITS_GREATEST`.
+pub const GREATEST: Limits = Limits {
+    file_size: 1 << 47,
+    links: 1 << 32,
+    depth: 4096,
+    transactions: 1 << 62,
+    calls: 1 << 62,
+};
+
 pub const MEMORY: u32 = 1001;
 pub const WAITS: u32 = 1100;
 pub const CLOSED: u32 = 1200;
@@ -36,7 +56,7 @@ pub const BAD: u32 = 1201;
 pub const DIR: u32 = 1;
 
 extern "C" {
-    fn nuz_tree_open(tree: &mut Handle, rule: u32) -> u32;
+    fn nuz_tree_open_with(tree: &mut Handle, rule: u32, limits: Limits) -> u32;
     fn nuz_tree_close(tree: &mut Handle);
 }
 
@@ -49,9 +69,9 @@ impl Handle {
     }
 
     /// Opens a tree: 0, or the code of what stood in the way.
-    pub fn open(&mut self, rule: u32) -> u32 {
+    pub fn open(&mut self, rule: u32, limits: Limits) -> u32 {
         // SAFETY: see the head of this module.
-        unsafe { nuz_tree_open(self, rule) }
+        unsafe { nuz_tree_open_with(self, rule, limits) }
     }
 }
 

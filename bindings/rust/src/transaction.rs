@@ -8,6 +8,9 @@ use std::ffi::OsString;
 use std::os::unix::ffi::{OsStrExt, OsStringExt};
 use std::path::Path;
 
+/// How many bytes of a whole file are read or written at once: the library makes a copy of them.
+const PIECE: usize = 1 << 26;
+
 /// A live transaction: of a tree, or, as a step, of the transaction around it.
 ///
 /// It is aborted where it is dropped, with all that it and its steps have done, those that have
@@ -229,7 +232,10 @@ impl<R: Reach> Transaction<R> {
     pub fn read(&self, path: impl AsRef<Path>) -> Result<Vec<u8>> {
         let file = self.open(path, OpenOptions::new().read(true))?;
         let mut bytes = vec![0; file.metadata()?.len as usize];
-        let count = file.read_at(&mut bytes, 0)?;
+        let mut count = 0;
+        for piece in bytes.chunks_mut(PIECE) {
+            count += file.read_at(piece, count as u64)?;
+        }
         bytes.truncate(count);
         file.close()?;
         Ok(bytes)
@@ -241,7 +247,8 @@ impl<R: Reach> Transaction<R> {
         let file = self.open(path, &options)?;
         let mut written = 0;
         while written < bytes.len() {
-            written += file.write_at(&bytes[written..], written as u64)?;
+            let end = bytes.len().min(written + PIECE);
+            written += file.write_at(&bytes[written..end], written as u64)?;
         }
         file.close()
     }

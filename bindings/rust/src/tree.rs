@@ -1,7 +1,8 @@
 //! Trees, for one thread and for many.
 
+use crate::builder::Builder;
 use crate::error::{Error, Result};
-use crate::sys::{self, Answer, Handle};
+use crate::sys::{self, Answer, Handle, Limits};
 use crate::transaction::Transaction;
 use std::cell::RefCell;
 use std::sync::{Arc, Condvar, Mutex, MutexGuard, PoisonError};
@@ -25,15 +26,32 @@ pub struct Tree {
 }
 
 impl Tree {
-    /// A tree of the root alone, by [`Rule::Profile`].
+    /// A tree of the root alone, by [`Rule::Profile`], with the greatest limits.
     pub fn new() -> Result<Tree> {
         Tree::with_rule(Rule::default())
     }
 
-    /// A tree of the root alone.
+    /// A tree of the root alone, by a rule.
     pub fn with_rule(rule: Rule) -> Result<Tree> {
+        Tree::builder().rule(rule).build()
+    }
+
+    /// A tree with a rule and limits of its own: each limit that is not set is the greatest.
+    ///
+    /// ```
+    /// # use nuzolged::{Error, Refusal, Tree};
+    /// let tree = Tree::builder().file_size(1 << 20).depth(1).build()?;
+    /// let job = tree.begin()?;
+    /// assert_eq!(job.begin().unwrap_err(), Error::Refused(Refusal::Deep));
+    /// # Ok::<(), Error>(())
+    /// ```
+    pub fn builder() -> Builder {
+        Builder::new()
+    }
+
+    pub(crate) fn open(rule: Rule, limits: Limits) -> Result<Tree> {
         let mut handle = Handle::closed();
-        match handle.open(rule as u32) {
+        match handle.open(rule as u32, limits) {
             0 => Ok(Tree {
                 handle: RefCell::new(handle),
             }),
@@ -47,8 +65,8 @@ impl Tree {
         Ok(Transaction::of(self, number))
     }
 
-    /// Makes the tree as it stands the beginning, and forgets the transactions: limits count from
-    /// here.
+    /// Makes the tree as it stands the beginning, and forgets the transactions: those and calls are
+    /// counted from here. Takes no memory.
     pub fn checkpoint(&mut self) -> Result<()> {
         answered(self.handle.get_mut(), Handle::checkpoint)?;
         Ok(())
@@ -98,8 +116,8 @@ impl Shared {
         Ok(Transaction::of(self.clone(), number))
     }
 
-    /// Makes the tree as it stands the beginning, and forgets the transactions: limits count from
-    /// here. Refused while a transaction is live.
+    /// Makes the tree as it stands the beginning, and forgets the transactions: those and calls are
+    /// counted from here. Takes no memory. Refused while a transaction is live.
     pub fn checkpoint(&self) -> Result<()> {
         self.reach(|handle| answered(handle, Handle::checkpoint))?;
         Ok(())

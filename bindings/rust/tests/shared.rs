@@ -129,7 +129,7 @@ fn commit_over_a_live_step_aborts() -> Result<()> {
 
 #[test]
 fn refusals_are_told() -> Result<()> {
-    let tree = shared(LONG)?;
+    let tree = Shared::new(Tree::builder().depth(64).build()?, LONG);
     let mut jobs = vec![tree.begin()?];
     assert_eq!(jobs[0].undo(), Err(Error::Refused(Refusal::NothingToUndo)));
     assert_eq!(tree.checkpoint(), Err(Error::Refused(Refusal::Live)));

@@ -1,18 +1,20 @@
 -- What a script does that is played first.
-use Rattle.std.specs.Prelude.{◌≡◌, ◌≢◌, ◌⊎◌, ℕ, suc, Bool, true, false, List, [], ◌∷◌, ◌++◌, length, Option, None, Some}
+use Rattle.std.specs.Prelude.{◌≡◌, ◌≢◌, ◌⊎◌, ℕ, suc, Bool, true, false, List, [], ◌∷◌, ◌++◌, length, cond, Option, None, Some}
 use Rattle.ft_moss.specs.declared.rule.Rule.{Rule}
 use Rattle.ft_posix.specs.declared.call.Reply.TheVariants.{Done, Names, Number, Bytes, Info, Failed}
 use Rattle.ft_core.specs.declared.fault.Fault.TheVariants.{Memory as MemoryFault}
 use Rattle.ft_core.specs.declared.request.Answer.{Answer}
 use Rattle.ft_core.specs.declared.request.Answer.TheVariants.{Txn, Granted, Waits, Dropped, Committed, Aborted, Undone, Cleared, Refused}
-use Rattle.ft_core.specs.States.{State, after_checkpoint, at_base, first_base, has_live}
+use Rattle.ft_core.specs.declared.limits.Limits.{Limits}
+use Rattle.ft_core.specs.Limits.{are_within, greatest_limits}
+use Rattle.ft_core.specs.States.{State, after_checkpoint, first_state, has_live}
 use Rattle.ft_replies.specs.Lines.{IsLegal}
 use Rattle.ft_replies.specs.Requests.{meaning_of}
 use Rattle.ft_replies.specs.declared.line.Line.{Line}
 use Rattle.ft_replies.specs.declared.line.Line.TheVariants as line
 use Rattle.ft_words.specs.Spelling.{lines_of}
 use Rattle.ft_after.specs.declared.fault.AfterFault.{AfterFault}
-use Rattle.ft_after.specs.declared.fault.AfterFault.TheVariants.{Memory, Script}
+use Rattle.ft_after.specs.declared.fault.AfterFault.TheVariants.{Memory, BadLimits, Script}
 
 -- a request was granted, and did not fail
 abbrev pub is_well : Answer → Bool
@@ -76,14 +78,19 @@ WantsMemory old lines new = (done : List (List ℕ)) × (rest : List (List ℕ))
 -- What came where they were not played.
 abbrev pub StopsFirst : AfterFault → State → List (List ℕ) → State → Type 0
 StopsFirst Memory old lines new = WantsMemory old lines new
+StopsFirst BadLimits old lines new = ⊥
 StopsFirst (Script number) old lines new = StopsAtLine number old lines new ⊎ LeavesLive number old lines new
 
--- a new core, or one on which a script was played first
-abbrev pub Begins : Rule → Option (List ℕ) → State → Type 0
-Begins rule None state = state ≡ at_base rule first_base
-Begins rule (Some script) state = IsPlayedFirst (at_base rule first_base) (lines_of script) state
+-- a new core with these limits, or one on which a script was played first
+abbrev pub Begins : Rule → Limits → Option (List ℕ) → State → Type 0
+Begins rule limits None state = state ≡ first_state rule limits
+Begins rule limits (Some script) state = IsPlayedFirst (first_state rule limits) (lines_of script) state
 
--- There is no core: there was no memory for it, or the script was not played.
-abbrev pub StopsBegin : AfterFault → Rule → Option (List ℕ) → Type 0
-StopsBegin fault rule None = fault ≡ Memory
-StopsBegin fault rule (Some script) = (fault ≡ Memory) ⊎ ((new : State) × StopsFirst fault (at_base rule first_base) (lines_of script) new)
+-- why there is no new core: there was no memory for it, or it can't have these limits
+abbrev pub no_core : Limits → AfterFault
+no_core limits = cond (are_within limits greatest_limits) Memory BadLimits
+
+-- There is no core: no new one, or the script was not played.
+abbrev pub StopsBegin : AfterFault → Rule → Limits → Option (List ℕ) → Type 0
+StopsBegin fault rule limits None = fault ≡ no_core limits
+StopsBegin fault rule limits (Some script) = (fault ≡ no_core limits) ⊎ ((new : State) × StopsFirst fault (first_state rule limits) (lines_of script) new)

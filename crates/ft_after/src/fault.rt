@@ -8,6 +8,9 @@ pub enum AfterFault {
     /// There was no memory, for a line or for what it asks for.
     #[error("Memory")]
     Memory,
+    /// The limits are greater than a core may have.
+    #[error("BadLimits")]
+    BadLimits,
     /// The line of this number, from 1, asks for nothing, or its request is refused, fails or
     /// waits; or a transaction is live behind it, the last.
     #[error("Script {0}")]

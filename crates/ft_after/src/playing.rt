@@ -1,36 +1,56 @@
 // A script that is played first.
 ghost use Rattle.std.specs.Prelude.{◌≡◌, ◌↔◌, ◌<◌, ◌^◌, true, false, length, option_copied, IfErr, IfOk, IsTrue, OnErr, OnOk};
 ghost use Rattle.ft_core.specs.Living.{NoneIsLive};
-ghost use Rattle.ft_core.specs.States.{at_base, first_base};
+ghost use Rattle.ft_core.specs.Limits.{are_within, greatest_limits};
+ghost use Rattle.ft_core.specs.States.{at_base, first_state};
 ghost use Rattle.ft_replies.specs.Requests.{meaning_of};
 ghost use Rattle.ft_words.specs.Spelling.{lines_of};
-ghost use Rattle.ft_after.specs.After.{Begins, GoesBadly, GoesWell, IsPlayedFirst, PlaysWell, StopsBegin, StopsFirst, is_well};
+ghost use Rattle.ft_after.specs.After.{Begins, GoesBadly, GoesWell, IsPlayedFirst, PlaysWell, StopsBegin, StopsFirst, is_well, no_core};
 
 use crate::fault::AfterFault;
 use ft_base::Memory;
 use ft_calls::Reply;
-use ft_core::{Answer, Core, Fault, Request, Rule};
+use ft_core::{Answer, Core, Fault, Limits, Request, Rule};
 use ft_replies::{Line, carry_out, meaning_of};
 use ft_words::Lines;
 use std::alloc::Global;
 
-/// A core that grants calls by this rule: a new one, or where there is a script, one on which that
-/// was played first.
-pub fn core_after(alloc: Global, rule: Rule, script: Option<&[u8]>) -> Result<Core, AfterFault>
-    ensures state { IfOk result (λ core. Begins rule (option_copied script.entry) core.state) }
+/// A core that grants calls by this rule and has these limits: a new one, or where there is a
+/// script, one on which that was played first.
+///
+/// Limits that a core can't have are refused.
+pub fn core_after(
+    alloc: Global,
+    rule: Rule,
+    limits: Limits,
+    script: Option<&[u8]>,
+) -> Result<Core, AfterFault>
+    ensures state { IfOk result (λ core. Begins rule limits (option_copied script.entry) core.state) }
+    ensures within { OnOk result (are_within limits greatest_limits ≡ true) }
     ensures none_live { IfOk result (λ core. NoneIsLive core.state) }
-    ensures base { IfOk result (λ core. core.state ≡ at_base core.state.rule core.state.base) }
-    ensures fault { IfErr result (λ fault. StopsBegin fault rule (option_copied script.entry)) }
+    ensures base { IfOk result (λ core. core.state ≡ at_base core.state.rule core.state.limits core.state.base) }
+    ensures fault { IfErr result (λ fault. StopsBegin fault rule limits (option_copied script.entry)) }
 {
-    let Ok(mut core) = Core::with_rule(alloc, rule) else {
-        return Err(AfterFault::Memory);
-    };
+    let mut core = new_core(alloc, rule, limits)?;
     match script {
         None => Ok(core),
         Some(text) => {
             play_first(alloc, text, &mut core)?;
             Ok(core)
         }
+    }
+}
+
+// A new core that has these limits, if a core may have them.
+fn new_core(alloc: Global, rule: Rule, limits: Limits) -> Result<Core, AfterFault>
+    ensures state { IfOk result (λ core. core.state ≡ first_state rule limits) }
+    ensures within { OnOk result (are_within limits greatest_limits ≡ true) }
+    ensures fault { IfErr result (λ fault. fault ≡ no_core limits) }
+{
+    match Core::with(alloc, rule, limits) {
+        Ok(core) => Ok(core),
+        Err(Fault::BadLimits) => Err(AfterFault::BadLimits),
+        Err(_) => Err(AfterFault::Memory),
     }
 }
 

@@ -3,6 +3,8 @@ pub mod Views
 pub mod Orders
 pub mod Places
 pub mod Pages
+pub mod ListPages
+pub mod Groups
 pub mod Tables
 pub mod Clones
 pub mod ChainShape

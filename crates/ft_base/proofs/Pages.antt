@@ -1,6 +1,7 @@
 -- Pages of places: what one has, how many of its places have a value, and where the places of many
 -- stand one after another.
 use Rattle.std.proofs.Common.{◌≡◌, ◌≤◌, ◌<◌, ◌+◌, ◌-◌, ◌*◌, ℕ, zero, suc, List, [], ◌∷◌, ◌++◌, length, Option, Some, None, IsSome, false, set, get_or, replicate, take, drop, arith, refl, sym, ap, subst, ◌∙◌, ⊎_elim}
+use Rattle.std.proofs.Math.Nat.{mul-suc, mul-zero}
 use Rattle.std.proofs.lemmas.Bool.{false≢true}
 use Rattle.std.proofs.lemmas.Option.{none-some}
 use Rattle.std.proofs.lemmas.List.{length-replicate, length-append, length-set, append_assoc, replicate-append-replicate, get_or_append_left, get_or_default, get_or-append-add, set-append_left, set-append_right}
@@ -8,12 +9,12 @@ use Rattle.std.proofs.Math.Seq.{drop-append_seam, take-append_seam}
 use Rattle.std.specs.Option.{is_some}
 use Rattle.ft_base.specs.declared.TheConstants.{PAGE_LEN}
 use Rattle.ft_base.proofs.Places.{inside}
-use Rattle.ft_base.specs.Paged.{all_places, blank, valued, joined_places, ArePages, IsWhole}
+use Rattle.ft_base.specs.Paged.{all_places, blank, valued, joined_places, HaveLen, IsWhole}
 
--- pages without values have all their places
-pub pages-blank : (V : Type 0) (n : ℕ) → ArePages {V = V} (replicate n blank)
-pages-blank V zero = tt
-pages-blank V (suc n) = (length-replicate {A = Option V} PAGE_LEN None, pages-blank V n)
+-- places without values are as many
+pub pages-blank : (V : Type 0) (len n : ℕ) → HaveLen {V = V} len (replicate n (replicate len None))
+pages-blank V len zero = tt
+pages-blank V len (suc n) = (length-replicate {A = Option V} len None, pages-blank V len n)
 
 module _ {V : Type 0} where
   -- How many places have a value.
@@ -104,69 +105,69 @@ module _ {V : Type 0} where
 
   -- The places of many, one after another.
 
-  pub joined-length : (ps : List (List (Option V))) → ArePages ps → length (joined_places ps) ≡ PAGE_LEN * length ps
-  joined-length [] are = refl
-  joined-length (p ∷ ps) are = let more = joined-length ps are.1 in let long = are.0 in let all = length-append p (joined_places ps) in omega arith
+  pub joined-length : (len : ℕ) (ps : List (List (Option V))) → HaveLen len ps → length (joined_places ps) ≡ len * length ps
+  joined-length len [] are = sym (mul-zero len)
+  joined-length len (p ∷ ps) are = let more = joined-length len ps are.1 in let long = are.0 in let all = length-append p (joined_places ps) in let times = mul-suc len (length ps) in omega arith
 
-  -- what the pages have at a place of one of them
-  pub joined-get : (ps : List (List (Option V))) (i j : ℕ) → ArePages ps → i < length ps → j < PAGE_LEN → get_or (joined_places ps) (PAGE_LEN * i + j) None ≡ get_or (get_or ps i []) j None
-  joined-get [] i j are there within = absurd (omega arith)
-  joined-get (p ∷ ps) zero j are there within =
-      let long : length p ≡ PAGE_LEN = are.0 in let at : PAGE_LEN * 0 + j ≡ j = omega arith in
+  -- what they have at a place of one of them
+  pub joined-get : (len : ℕ) (ps : List (List (Option V))) (i j : ℕ) → HaveLen len ps → i < length ps → j < len → get_or (joined_places ps) (len * i + j) None ≡ get_or (get_or ps i []) j None
+  joined-get len [] i j are there within = absurd (omega arith)
+  joined-get len (p ∷ ps) zero j are there within =
+      let long : length p ≡ len = are.0 in let times = mul-zero len in let at : len * 0 + j ≡ j = omega arith in
       ap (λ k. get_or (p ++ joined_places ps) k None) at ∙ get_or_append_left p (joined_places ps) None j (omega arith)
-  joined-get (p ∷ ps) (suc i) j are there within =
-      let long : length p ≡ PAGE_LEN = are.0 in let at : PAGE_LEN * suc i + j ≡ length p + (PAGE_LEN * i + j) = omega arith in
-      ap (λ k. get_or (p ++ joined_places ps) k None) at ∙ get_or-append-add p (joined_places ps) (PAGE_LEN * i + j) None ∙ joined-get ps i j are.1 (omega arith) within
+  joined-get len (p ∷ ps) (suc i) j are there within =
+      let long : length p ≡ len = are.0 in let times = mul-suc len i in let at : len * suc i + j ≡ length p + (len * i + j) = omega arith in
+      ap (λ k. get_or (p ++ joined_places ps) k None) at ∙ get_or-append-add p (joined_places ps) (len * i + j) None ∙ joined-get len ps i j are.1 (omega arith) within
 
-  -- a place of a page that is set
-  pub joined-set : (ps : List (List (Option V))) (i j : ℕ) (o : Option V) → ArePages ps → i < length ps → j < PAGE_LEN → joined_places (set ps i (set (get_or ps i []) j o)) ≡ set (joined_places ps) (PAGE_LEN * i + j) o
-  joined-set [] i j o are there within = absurd (omega arith)
-  joined-set (p ∷ ps) zero j o are there within =
-      let long : length p ≡ PAGE_LEN = are.0 in let at : j ≡ PAGE_LEN * 0 + j = omega arith in
+  -- a place of one of them that is set
+  pub joined-set : (len : ℕ) (ps : List (List (Option V))) (i j : ℕ) (o : Option V) → HaveLen len ps → i < length ps → j < len → joined_places (set ps i (set (get_or ps i []) j o)) ≡ set (joined_places ps) (len * i + j) o
+  joined-set len [] i j o are there within = absurd (omega arith)
+  joined-set len (p ∷ ps) zero j o are there within =
+      let long : length p ≡ len = are.0 in let times = mul-zero len in let at : j ≡ len * 0 + j = omega arith in
       sym (set-append_left p (joined_places ps) j o (omega arith)) ∙ ap (λ k. set (p ++ joined_places ps) k o) at
-  joined-set (p ∷ ps) (suc i) j o are there within =
-      let long : length p ≡ PAGE_LEN = are.0 in let past : PAGE_LEN * suc i + j - length p ≡ PAGE_LEN * i + j = omega arith in
-      ap (λ xs. p ++ xs) (joined-set ps i j o are.1 (omega arith) within ∙ ap (λ k. set (joined_places ps) k o) (sym past))
-      ∙ sym (set-append_right p (joined_places ps) (length p) (PAGE_LEN * suc i + j) o refl (omega arith))
+  joined-set len (p ∷ ps) (suc i) j o are there within =
+      let long : length p ≡ len = are.0 in let times = mul-suc len i in let past : len * suc i + j - length p ≡ len * i + j = omega arith in
+      ap (λ xs. p ++ xs) (joined-set len ps i j o are.1 (omega arith) within ∙ ap (λ k. set (joined_places ps) k o) (sym past))
+      ∙ sym (set-append_right p (joined_places ps) (length p) (len * suc i + j) o refl (omega arith))
 
-  pub pages-set : (ps : List (List (Option V))) (i : ℕ) (p : List (Option V)) → ArePages ps → length p ≡ PAGE_LEN → ArePages (set ps i p)
-  pages-set [] i p are long = are
-  pages-set (q ∷ ps) zero p are long = (long, are.1)
-  pages-set (q ∷ ps) (suc i) p are long = (are.0, pages-set ps i p are.1 long)
+  pub pages-set : (len : ℕ) (ps : List (List (Option V))) (i : ℕ) (p : List (Option V)) → HaveLen len ps → length p ≡ len → HaveLen len (set ps i p)
+  pages-set len [] i p are long = are
+  pages-set len (q ∷ ps) zero p are long = (long, are.1)
+  pages-set len (q ∷ ps) (suc i) p are long = (are.0, pages-set len ps i p are.1 long)
 
-  -- each page has all its places
-  pub pages-long : (ps : List (List (Option V))) (i : ℕ) → ArePages ps → i < length ps → length (get_or ps i []) ≡ PAGE_LEN
-  pages-long [] i are there = absurd (omega arith)
-  pages-long (p ∷ ps) zero are there = are.0
-  pages-long (p ∷ ps) (suc i) are there = pages-long ps i are.1 (omega arith)
+  -- each has all its places
+  pub pages-long : (len : ℕ) (ps : List (List (Option V))) (i : ℕ) → HaveLen len ps → i < length ps → length (get_or ps i []) ≡ len
+  pages-long len [] i are there = absurd (omega arith)
+  pages-long len (p ∷ ps) zero are there = are.0
+  pages-long len (p ∷ ps) (suc i) are there = pages-long len ps i are.1 (omega arith)
 
-  -- Pages more, without values.
+  -- More of them, without values.
 
-  pub pages-joined : (ps qs : List (List (Option V))) → ArePages ps → ArePages qs → ArePages (ps ++ qs)
-  pages-joined [] qs are are' = are'
-  pages-joined (p ∷ ps) qs are are' = (are.0, pages-joined ps qs are.1 are')
+  pub pages-joined : (len : ℕ) (ps qs : List (List (Option V))) → HaveLen len ps → HaveLen len qs → HaveLen len (ps ++ qs)
+  pages-joined len [] qs are are' = are'
+  pages-joined len (p ∷ ps) qs are are' = (are.0, pages-joined len ps qs are.1 are')
 
   joined-append : (ps qs : List (List (Option V))) → joined_places (ps ++ qs) ≡ joined_places ps ++ joined_places qs
   joined-append [] qs = refl
   joined-append (p ∷ ps) qs = ap (λ xs. p ++ xs) (joined-append ps qs) ∙ sym (append_assoc p (joined_places ps) (joined_places qs))
 
-  joined-blank : (n : ℕ) → joined_places {V = V} (replicate n blank) ≡ replicate (PAGE_LEN * n) None
-  joined-blank zero = refl
-  joined-blank (suc n) =
-      let all : PAGE_LEN + PAGE_LEN * n ≡ PAGE_LEN * suc n = omega arith in
-      ap (λ xs. blank ++ xs) (joined-blank n) ∙ replicate-append-replicate PAGE_LEN (PAGE_LEN * n) None ∙ ap (λ k. replicate k None) all
+  joined-blank : (len n : ℕ) → joined_places {V = V} (replicate n (replicate len None)) ≡ replicate (len * n) None
+  joined-blank len zero = let times = mul-zero len in let none : 0 ≡ len * 0 = omega arith in ap (λ k. replicate k None) none
+  joined-blank len (suc n) =
+      let times = mul-suc len n in let all : len + len * n ≡ len * suc n = omega arith in
+      ap (λ xs. replicate len None ++ xs) (joined-blank len n) ∙ replicate-append-replicate len (len * n) None ∙ ap (λ k. replicate k None) all
 
-  pub joined-more : (ps : List (List (Option V))) (n : ℕ) → joined_places (ps ++ replicate n blank) ≡ joined_places ps ++ replicate (PAGE_LEN * n) None
-  joined-more ps n = joined-append ps (replicate n blank) ∙ ap (λ xs. joined_places ps ++ xs) (joined-blank n)
+  pub joined-more : (len : ℕ) (ps : List (List (Option V))) (n : ℕ) → joined_places (ps ++ replicate n (replicate len None)) ≡ joined_places ps ++ replicate (len * n) None
+  joined-more len ps n = joined-append ps (replicate n (replicate len None)) ∙ ap (λ xs. joined_places ps ++ xs) (joined-blank len n)
 
-  pub joined-front : (n : ℕ) (ps : List (List (Option V))) → joined_places (replicate n blank ++ ps) ≡ replicate (PAGE_LEN * n) None ++ joined_places ps
-  joined-front n ps = joined-append (replicate n blank) ps ∙ ap (λ xs. xs ++ joined_places ps) (joined-blank n)
+  pub joined-front : (len n : ℕ) (ps : List (List (Option V))) → joined_places (replicate n (replicate len None) ++ ps) ≡ replicate (len * n) None ++ joined_places ps
+  joined-front len n ps = joined-append (replicate n (replicate len None)) ps ∙ ap (λ xs. xs ++ joined_places ps) (joined-blank len n)
 
-  pub lengthened : (ps qs : List (List (Option V))) (n : ℕ) → qs ≡ ps ++ replicate n blank → length qs ≡ length ps + n
-  lengthened ps qs n is = ap length is ∙ length-append ps (replicate n blank) ∙ ap (λ k. length ps + k) (length-replicate n blank)
+  pub lengthened : (p : List (Option V)) (ps qs : List (List (Option V))) (n : ℕ) → qs ≡ ps ++ replicate n p → length qs ≡ length ps + n
+  lengthened p ps qs n is = ap length is ∙ length-append ps (replicate n p) ∙ ap (λ k. length ps + k) (length-replicate n p)
 
-  -- pages more behind, turned to the front
-  pub turned : (ps qs : List (List (Option V))) (n k : ℕ) → qs ≡ ps ++ replicate n blank → k ≡ length ps → drop k qs ++ take k qs ≡ replicate n blank ++ ps
-  turned ps qs n k is long =
+  -- those more behind, turned to the front
+  pub turned : (p : List (Option V)) (ps qs : List (List (Option V))) (n k : ℕ) → qs ≡ ps ++ replicate n p → k ≡ length ps → drop k qs ++ take k qs ≡ replicate n p ++ ps
+  turned p ps qs n k is long =
       ap (λ k. drop k qs ++ take k qs) long ∙ ap (λ rs. drop (length ps) rs ++ take (length ps) rs) is
-      ∙ ap (λ rs. rs ++ take (length ps) (ps ++ replicate n blank)) (drop-append_seam ps (replicate n blank)) ∙ ap (λ rs. replicate n blank ++ rs) (take-append_seam ps (replicate n blank))
+      ∙ ap (λ rs. rs ++ take (length ps) (ps ++ replicate n p)) (drop-append_seam ps (replicate n p)) ∙ ap (λ rs. replicate n p ++ rs) (take-append_seam ps (replicate n p))

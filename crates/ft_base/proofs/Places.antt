@@ -117,7 +117,7 @@ module _ {V : Type 0} where
   nowhere (suc n) zero = refl
   nowhere (suc n) (suc q) = nowhere n q
 
-  behind : (xs : List (Option V)) (n q : ℕ) → get_or (xs ++ replicate n None) q None ≡ get_or xs q None
+  pub behind : (xs : List (Option V)) (n q : ℕ) → get_or (xs ++ replicate n None) q None ≡ get_or xs q None
   behind [] n q = nowhere n q ∙ sym (nothing q)
   behind (x ∷ xs) n zero = refl
   behind (x ∷ xs) n (suc q) = behind xs n q

@@ -6,3 +6,4 @@ pub mod Chains
 pub mod Linked
 pub mod Paged
 pub mod Lent
+pub mod Roomy

@@ -1,9 +1,9 @@
 -- A map from numbers whose values stand in pages, each at the place of its number.
-use Rattle.std.specs.Prelude.{◌≡◌, ◌⊎◌, ◌*◌, ℕ, suc, List, [], ◌∷◌, ◌++◌, length, replicate, Option, Some, None}
+use Rattle.std.specs.Prelude.{◌≡◌, ◌≤◌, ◌⊎◌, ◌-◌, ◌*◌, ℕ, suc, List, [], ◌∷◌, ◌++◌, length, replicate, Option, Some, None}
 use Rattle.std.specs.Ordering.{nat_cmp}
 use Rattle.std.specs.List.{AllByRecursion}
 use Rattle.std.specs.FinMap as finite
-use Rattle.ft_base.specs.declared.TheConstants.{PAGE_LEN}
+use Rattle.ft_base.specs.declared.TheConstants.{PAGE_LEN, GROUP_LEN, GROUP_PAGES}
 
 module _ {V : Type 0} where
   -- the values of the places, from this number on, with their numbers
@@ -40,21 +40,40 @@ module _ {V : Type 0} where
     pub whole : IsWhole places
     pub counted : used ≡ valued places
 
-  -- the places of pages, one page after another
+  -- the places of pages or of groups, one after another
   abbrev pub joined_places : List (List (Option V)) → List (Option V)
   joined_places [] = []
   joined_places (page ∷ pages) = page ++ joined_places pages
 
-  -- all places, where the pages have those behind the skipped ones: of 0, of the numbers whose
-  -- pages are skipped, which nobody has, and those of the pages
+  -- each has so many places
+  abbrev pub HaveLen : ℕ → List (List (Option V)) → Type 0
+  HaveLen n = AllByRecursion (λ places. length places ≡ n)
+
+  -- a group without a value
+  abbrev pub blank_group : List (Option V)
+  blank_group = replicate GROUP_LEN None
+
+  -- the places of a group: those of its pages, and behind them others without a value
+  abbrev pub group_places : List (List (Option V)) → List (Option V)
+  group_places pages = joined_places pages ++ replicate (GROUP_LEN - PAGE_LEN * length pages) None
+
+  -- each page has all its places, no page is past the group, and so many places have a value
+  pub record IsGroup (used : ℕ) (pages : List (List (Option V))) : Type 0 where
+    pub whole : HaveLen PAGE_LEN pages
+    pub few : length pages ≤ GROUP_PAGES
+    pub counted : used ≡ valued (joined_places pages)
+
+  -- all places, where the groups have those behind the skipped ones: of 0, of the numbers whose
+  -- groups are skipped, which nobody has, and those of the groups
   abbrev pub spread : Option V → ℕ → List (List (Option V)) → List (Option V)
-  spread zero skipped pages = zero ∷ (replicate (PAGE_LEN * skipped) None ++ joined_places pages)
+  spread zero skipped groups = zero ∷ (replicate (GROUP_LEN * skipped) None ++ joined_places groups)
 
-  -- each page has all its places
-  abbrev pub ArePages : List (List (Option V)) → Type 0
-  ArePages = AllByRecursion (λ page. length page ≡ PAGE_LEN)
+  -- the memory that is kept has no value
+  pub record IsSpare (page group : List (Option V)) : Type 0 where
+    pub no_page : page ≡ blank
+    pub no_group : group ≡ blank_group
 
-  -- all pages have all their places, and the spare one has no value
-  pub record IsPagedTable (pages : List (List (Option V))) (spare : List (Option V)) : Type 0 where
-    pub whole : ArePages pages
-    pub unused : spare ≡ blank
+  -- all groups have all their places, and the spare page and group have no value
+  pub record IsPagedTable (groups : List (List (Option V))) (page group : List (Option V)) : Type 0 where
+    pub whole : HaveLen GROUP_LEN groups
+    pub unused : IsSpare page group

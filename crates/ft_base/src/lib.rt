@@ -4,9 +4,11 @@
 
 mod chains;
 mod few;
+mod group;
 mod memory;
 mod node;
 mod page;
+mod paged_list;
 mod paged_table;
 mod sequence;
 mod table;
@@ -15,6 +17,7 @@ mod values;
 pub use chains::Chains;
 pub use few::Few;
 pub use memory::Memory;
+pub use paged_list::PagedList;
 pub use paged_table::PagedTable;
 pub use sequence::Sequence;
 pub use table::Table;
@@ -22,3 +25,18 @@ pub use values::Values;
 
 /// How many numbers share a page of a `PagedTable`.
 const PAGE_LEN: usize = 64;
+
+/// How many pages share a group of a `PagedTable`.
+const GROUP_PAGES: usize = 64;
+
+/// How many numbers share a group of a `PagedTable`.
+const GROUP_LEN: usize = 4_096;
+
+/// How many numbers share a page of a `PagedList`.
+const LIST_PAGE_LEN: usize = 512;
+
+/// How many full pages a `PagedList` has at most: so its length is a number of 64 bits.
+const MOST_LIST_PAGES: usize = 1 << 54;
+
+/// How many numbers the first page of a `PagedList` has room for when it is made.
+const FIRST_ROOM: usize = 4;

@@ -1,10 +1,11 @@
 // A map from numbers that are given one after another, seen as a finite map.
 ghost use Rattle.std.specs.Prelude.{◌≡◌, ◌<◌, ◌≤◌, ◌+◌, ◌*◌, ◌^◌, ◌++◌, ℕ, Option, None, List, length, replicate, IsSome, IsOk, OnOk, OnErr};
 ghost use Rattle.std.specs.FinMap as finite;
-ghost use Rattle.ft_base.specs.declared.TheConstants.{PAGE_LEN as page_len};
-ghost use Rattle.ft_base.specs.Paged.{dense, spread, blank, ArePages};
+ghost use Rattle.ft_base.specs.declared.TheConstants.{GROUP_LEN as group_len};
+ghost use Rattle.ft_base.specs.Paged.{dense, spread, blank_group, HaveLen};
 
-use crate::PAGE_LEN;
+use crate::GROUP_LEN;
+use crate::group::{Group, Spare};
 use crate::memory::Memory;
 use crate::page::Page;
 use std::alloc::Global;
@@ -12,19 +13,20 @@ use std::marker::Model;
 
 /// A map from numbers that are given one after another, which clauses see as a finite map.
 ///
-/// Each value stands at its number in a page of 64, so nothing is hashed, and each call takes the
-/// same time however many numbers there are. A page of whose numbers none has a value takes 32
-/// bytes, from the first page that was given a value up to the last; so a number far above all
-/// others is refused for want of memory. A number whose page is below the first makes places in
-/// front, and moves all others.
+/// Each value stands at its number in a page of 64, and each page in a group of 64, so nothing is
+/// hashed, and each call takes the same time however many numbers there are. A group of whose
+/// numbers none has a value takes 32 bytes, from the first group that was given a value up to the
+/// last: so a number without a value takes a hundredth of a byte, and one far above all others is
+/// refused for want of memory. In another group, a page of whose numbers none has a value takes 32
+/// bytes, up to the last page that was given one. A number whose group is below the first makes
+/// places in front, and moves all other groups.
 #[derive(Drop)]
 pub struct PagedTable<V> {
     zero: Option<V>,
-    // How many pages from that of 1 on have no place.
+    // How many groups from that of 1 on have no place.
     skipped: u64,
-    pages: Vec<Page<V>>,
-    // What the next page to get a value takes.
-    spare: Page<V>,
+    groups: Vec<Group<V>>,
+    spare: Spare<V>,
 }
 
 impl<V> Model for PagedTable<V> {
@@ -37,9 +39,9 @@ impl<V> Model for PagedTable<V> {
 
     ghost coded = { finite.code coded_ℕ V.code };
 
-    ghost view = { λ a. dense (spread a.zero a.skipped a.pages.items) };
+    ghost view = { λ a. dense (spread a.zero a.skipped a.groups.items) };
 
-    ghost invariant = { λ a. IsPagedTable a.pages.items a.spare };
+    ghost invariant = { λ a. IsPagedTable a.groups.items a.spare.page a.spare.group };
 }
 
 impl<V: Copy> PagedTable<V> {
@@ -50,8 +52,11 @@ impl<V: Copy> PagedTable<V> {
         PagedTable {
             zero: None,
             skipped: 0,
-            pages: Vec::new(alloc),
-            spare: Page::new(alloc),
+            groups: Vec::new(alloc),
+            spare: Spare {
+                page: Page::new(alloc),
+                group: Group::new(alloc),
+            },
         }
     }
 
@@ -63,8 +68,8 @@ impl<V: Copy> PagedTable<V> {
             return self.zero;
         }
         let spot = spot_of(key);
-        let page = spot.page.checked_sub(self.skipped)?;
-        self.pages.get(page as usize)?.get(spot.place)
+        let group = spot.group.checked_sub(self.skipped)?;
+        self.groups.get(group as usize)?.get(spot.place)
     }
 
     /// Whether a key has a value.
@@ -86,10 +91,10 @@ impl<V: Copy> PagedTable<V> {
             return Ok(());
         }
         let spot = spot_of(key);
-        begin_at(&mut self.skipped, &mut self.pages, spot.page)?;
-        let page = (spot.page - self.skipped) as usize;
-        make_page(&mut self.pages, page)?;
-        self.pages[page].insert(&mut self.spare, spot.place, value)?;
+        begin_at(&mut self.skipped, &mut self.groups, spot.group)?;
+        let group = (spot.group - self.skipped) as usize;
+        make_group(&mut self.groups, group)?;
+        self.groups[group].insert(&mut self.spare, spot.place, value)?;
         Ok(())
     }
 
@@ -109,8 +114,8 @@ impl<V: Copy> PagedTable<V> {
             self.set_zero(value);
         } else {
             let spot = spot_of(key);
-            let page = (spot.page - self.skipped) as usize;
-            self.pages[page].set(spot.place, value);
+            let group = (spot.group - self.skipped) as usize;
+            self.groups[group].set(spot.place, value);
         }
     }
 
@@ -123,47 +128,51 @@ impl<V: Copy> PagedTable<V> {
             return;
         }
         let spot = spot_of(key);
-        let Some(page) = spot.page.checked_sub(self.skipped) else {
+        let Some(group) = spot.group.checked_sub(self.skipped) else {
             return;
         };
-        let page = page as usize;
-        if page < self.pages.len() {
-            self.pages[page].remove(&mut self.spare, spot.place);
+        let group = group as usize;
+        if group < self.groups.len() {
+            self.groups[group].remove(&mut self.spare, spot.place);
         }
     }
 }
 
-/// Where the value of a number stands: the number of its page, and its place there.
+/// Where the value of a number stands: the number of its group, and its place there.
 #[derive(Clone, Copy)]
 struct Spot {
-    page: u64,
+    group: u64,
     place: usize,
 }
 
 /// Where the value of a number from 1 on stands.
 fn spot_of(key: u64) -> Spot
     requires { 0 < key }
-    ensures key { key ≡ page_len * result.page + result.place + 1 }
-    ensures place { result.place < page_len }
+    ensures key { key ≡ group_len * result.group + result.place + 1 }
+    ensures place { result.place < group_len }
 {
     let number = key - 1;
     Spot {
-        page: number / PAGE_LEN as u64,
-        place: (number % PAGE_LEN as u64) as usize,
+        group: number / GROUP_LEN as u64,
+        place: (number % GROUP_LEN as u64) as usize,
     }
 }
 
-/// Has the pages begin at this one or below it. Nothing is seen of it.
-fn begin_at<V: Copy>(skipped: &mut u64, pages: &mut Vec<Page<V>>, number: u64) -> Result<(), Memory>
-    requires { ArePages pages.old.items }
-    ensures pages { ArePages pages.new.items }
-    ensures same { (zero : Option V) → dense (spread zero skipped.new pages.new.items) ≡ dense (spread zero skipped.old pages.old.items) }
+/// Has the groups begin at this one or below it. Nothing is seen of it.
+fn begin_at<V: Copy>(
+    skipped: &mut u64,
+    groups: &mut Vec<Group<V>>,
+    number: u64,
+) -> Result<(), Memory>
+    requires { HaveLen group_len groups.old.items }
+    ensures groups { HaveLen group_len groups.new.items }
+    ensures same { (zero : Option V) → dense (spread zero skipped.new groups.new.items) ≡ dense (spread zero skipped.old groups.old.items) }
     ensures begun { OnOk result (skipped.new ≤ number) }
-    ensures none { skipped.old ≤ number → 0 < length pages.old.items → IsOk result }
-    ensures skipped_kept { skipped.old ≤ number → 0 < length pages.old.items → skipped.new ≡ skipped.old }
-    ensures pages_kept { skipped.old ≤ number → pages.new.items ≡ pages.old.items }
+    ensures none { skipped.old ≤ number → 0 < length groups.old.items → IsOk result }
+    ensures skipped_kept { skipped.old ≤ number → 0 < length groups.old.items → skipped.new ≡ skipped.old }
+    ensures groups_kept { skipped.old ≤ number → groups.new.items ≡ groups.old.items }
 {
-    if pages.is_empty() {
+    if groups.is_empty() {
         *skipped = number;
         return Ok(());
     }
@@ -171,40 +180,40 @@ fn begin_at<V: Copy>(skipped: &mut u64, pages: &mut Vec<Page<V>>, number: u64) -
         return Ok(());
     }
     let more = (*skipped - number) as usize;
-    add_pages(pages, more)?;
-    pages.rotate_right(more);
+    add_groups(groups, more)?;
+    groups.rotate_right(more);
     *skipped = number;
     Ok(())
 }
 
-/// Makes this page, without a value, and those before it, where there are none. Nothing is seen of
+/// Makes this group, without a value, and those before it, where there are none. Nothing is seen of
 /// it.
-fn make_page<V: Copy>(pages: &mut Vec<Page<V>>, page: usize) -> Result<(), Memory>
-    requires room { page + 1 < 2 ^ 64 }
-    requires pages { ArePages pages.old.items }
-    ensures pages { ArePages pages.new.items }
-    ensures same { (zero : Option V) → (skipped : ℕ) → dense (spread zero skipped pages.new.items) ≡ dense (spread zero skipped pages.old.items) }
-    ensures there { OnOk result (page < length pages.new.items) }
-    ensures none { page < length pages.old.items → IsOk result }
-    ensures kept { page < length pages.old.items → pages.new.items ≡ pages.old.items }
+fn make_group<V: Copy>(groups: &mut Vec<Group<V>>, group: usize) -> Result<(), Memory>
+    requires room { group + 1 < 2 ^ 64 }
+    requires groups { HaveLen group_len groups.old.items }
+    ensures groups { HaveLen group_len groups.new.items }
+    ensures same { (zero : Option V) → (skipped : ℕ) → dense (spread zero skipped groups.new.items) ≡ dense (spread zero skipped groups.old.items) }
+    ensures there { OnOk result (group < length groups.new.items) }
+    ensures none { group < length groups.old.items → IsOk result }
+    ensures kept { group < length groups.old.items → groups.new.items ≡ groups.old.items }
 {
-    if page < pages.len() {
+    if group < groups.len() {
         return Ok(());
     }
-    let more = page + 1 - pages.len();
-    add_pages(pages, more)?;
+    let more = group + 1 - groups.len();
+    add_groups(groups, more)?;
     Ok(())
 }
 
-/// Makes pages without values behind all others.
-fn add_pages<V: Copy>(pages: &mut Vec<Page<V>>, count: usize) -> Result<(), Memory>
-    ensures ok { OnOk result (pages.new.items ≡ pages.old.items ++ replicate count blank) }
-    ensures err { OnErr result (pages.new.items ≡ pages.old.items) }
+/// Makes groups without values behind all others.
+fn add_groups<V: Copy>(groups: &mut Vec<Group<V>>, count: usize) -> Result<(), Memory>
+    ensures ok { OnOk result (groups.new.items ≡ groups.old.items ++ replicate count blank_group) }
+    ensures err { OnErr result (groups.new.items ≡ groups.old.items) }
 {
-    let alloc = *pages.allocator();
-    pages.reserve(count)?;
+    let alloc = *groups.allocator();
+    groups.reserve(count)?;
     for _ in 0..count {
-        pages.push_reserved(Page::new(alloc));
+        groups.push_reserved(Group::new(alloc));
     }
     Ok(())
 }

@@ -3,7 +3,7 @@ use crate::failed::{Failed, check};
 use crate::paths::path;
 use ft_calls::{Access, Mode};
 use ft_core::Rule;
-use ft_forest::{Forest, TxnId};
+use ft_forest::{Forest, ForestLimits, TxnId};
 use ft_locks::Locks;
 use ft_path::FilePath;
 use ft_tree::{Cell, EntryRef};
@@ -157,7 +157,7 @@ fn run_in(
 
 /// The same in a new table.
 pub fn run(alloc: Global, asking: Asking, count: u64, size: u64) -> Result<u64, Failed> {
-    let forest = Forest::new(alloc, 0);
+    let forest = Forest::new(alloc, 0, ForestLimits::default());
     let locks = Locks::new(alloc);
     let mut table = Table { forest, locks };
     let done = run_in(alloc, &mut table, asking, count, size);

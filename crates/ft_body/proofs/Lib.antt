@@ -1,6 +1,13 @@
+pub mod BlockLists
+pub mod Blocked
+pub mod Crossing
+pub mod BlockWrites
+pub mod Filled
 pub mod Writes
 pub mod Made
+pub mod MadeBlocks
 pub mod PageLists
 pub mod PageWrites
 pub mod Paged
 pub mod PartsBack
+pub mod StepsBack

@@ -11,7 +11,8 @@ use Rattle.std.proofs.lemmas.Bool.{cases_lt, lt-ltb, le-ltb, cases_eq, cases_Boo
 use Rattle.ft_body.specs.Bytes.{written, resized}
 use Rattle.ft_body.specs.Paging.{bytes_in, is_made, made_pages, page_count, IsPaged, KeepsPagesOutside, MakesNoPage}
 use Rattle.ft_body.proofs.PageLists.{byte_at}
-use Rattle.ft_body.proofs.Paged.{bytes_in-at, length-bytes_in, resized-before, resized-behind}
+use Rattle.ft_body.proofs.Filled.{resized-before, resized-behind}
+use Rattle.ft_body.proofs.Paged.{bytes_in-at, length-bytes_in}
 use Rattle.ft_body.proofs.PageWrites.{written_at}
 
 -- a count by index is a count of the elements
@@ -64,7 +65,7 @@ kept_pages size pages paged =
     ∙ ap (λ n. count_by (is_made (bytes_in size pages)) (range_with_len 0 n)) (paged.count ∙ ap page_count (sym (length-bytes_in size pages)))
 
 -- a page of zeros is a hole
-zeros_are_hole : (xs : List ℕ) (page : ℕ) → ((k : ℕ) → page * 4096 ≤ k → k < (page + 1) * 4096 → get_or xs k 0 ≡ 0) → is_made xs page ≡ false
+pub zeros_are_hole : (xs : List ℕ) (page : ℕ) → ((k : ℕ) → page * 4096 ≤ k → k < (page + 1) * 4096 → get_or xs k 0 ≡ 0) → is_made xs page ≡ false
 zeros_are_hole xs page zeros =
     let part : List ℕ = take 4096 (drop (page * 4096) xs) in
     let short : length part ≤ 4096 = omega (arith, length-take 4096 (drop (page * 4096) xs)) in

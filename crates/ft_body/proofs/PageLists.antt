@@ -1,11 +1,12 @@
 -- Lists of pages: lengthened, written and cut, and the bytes in them.
 use Rattle.std.proofs.Common.{refl, ◌≡◌, ◌≢◌, ℕ, ◌+◌, ◌-◌, ◌*◌, ◌/◌, ◌%◌, ◌<◌, ◌≤◌, List, [], ◌∷◌, ◌++◌, length, take, drop, replicate, get_or, arith, ap, sym, ◌∙◌, ⊎_elim, length-append, length-take, length-drop, length-take-le}
 use Rattle.std.proofs.Math.ListN.{set}
+use Rattle.std.proofs.Math.Seq.{take-append-add}
 use Prim.Native.Nat.{min, max}
 use Rattle.std.specs.List.{FoldsTo}
 use Rattle.std.proofs.lemmas.List.{places, get_or-take, get_or-drop, get_or-set_same, get_or-set_other, get_or_past, get_or_append_left, get_or-append_right, get_or-replicate, take_all, take_min, append_assoc, set-append_right, drop_more, take_more}
 use Rattle.std.proofs.lemmas.Bool.{cases_lt, cases_eq}
-use Rattle.ft_body.specs.Paging.{byte_in, page_count, IsWritten, IsFront, IsPage, ArePages}
+use Rattle.ft_body.specs.Paging.{byte_in, page_count, EndsWithNoZero, IsWritten, IsFront, IsPage, ArePages}
 
 -- behind the last page are zeros
 pub byte_past : (pages : List (List ℕ)) (k : ℕ) → length pages ≤ k / 4096 → byte_in pages k ≡ 0
@@ -130,7 +131,7 @@ read_there pages page out part new start i from to k found fits at is gives late
     (cases_lt j (length part))
 
 -- and those that were read before
-read_before : (out part new : List ℕ) (n k : ℕ) → new ≡ take n (out ++ part) ++ replicate (n - length (out ++ part)) 0 → k < length out → length out ≤ n → get_or new k 0 ≡ get_or out k 0
+pub read_before : (out part new : List ℕ) (n k : ℕ) → new ≡ take n (out ++ part) ++ replicate (n - length (out ++ part)) 0 → k < length out → length out ≤ n → get_or new k 0 ≡ get_or out k 0
 read_before out part new n k gives h l =
     let long : length (take n (out ++ part)) ≡ min n (length out + length part) = length-take n (out ++ part) ∙ ap (min n) (length-append out part) in
     ap (λ zs. get_or zs k 0) gives ∙ get_or_append_left (take n (out ++ part)) (replicate (n - length (out ++ part)) 0) 0 k (omega arith)
@@ -205,3 +206,34 @@ cut_front pages front new kept i d is h g = ap (λ zs. get_or zs i d) is ∙ gri
 
 pub cut_last : {X : Type 0} (pages front new : List X) (kept : ℕ) (d : X) → new ≡ take kept pages ++ drop kept front → kept ≤ length pages → kept < length front → get_or new kept d ≡ get_or front kept d
 cut_last pages front new kept d is h g = ap (λ zs. get_or zs kept d) is ∙ grind (arith, places)
+
+-- where the bytes before an index end, page by page from the last on
+pub end_zeros : (pages : List (List ℕ)) (page : List ℕ) (i size m end k : ℕ) → page ≡ get_or pages i [] → m ≡ min (length page) (size - i * 4096)
+    → ((j : ℕ) → end ≤ j → get_or (take m page) j 0 ≡ 0) → i * 4096 + end ≤ k → k < (i + 1) * 4096 → k < size → byte_in pages k ≡ 0
+end_zeros pages page i size m end k found is zeros from to below =
+    let j : ℕ = k - i * 4096 in
+    byte_at pages k i j (omega arith) (omega arith) ∙ ap (λ p. get_or p j 0) (sym found) ∙ ⊎_elim
+    (λ (kept : j < m). sym (get_or-take m page j 0 kept) ∙ zeros j (omega arith))
+    (λ (past : m ≤ j). get_or_past page j 0 (omega arith))
+    (cases_lt j m)
+
+pub end_last : (pages : List (List ℕ)) (page front : List ℕ) (i m : ℕ) → page ≡ get_or pages i [] → length page ≤ 4096 → front ≡ take (length front) (take m page) → length front ≤ length (take m page)
+    → EndsWithNoZero front → 0 < length front → byte_in pages (i * 4096 + length front - 1) ≢ 0
+end_last pages page front i m found fits is within last some e =
+    let j : ℕ = length front - 1 in
+    let size : length (take m page) ≡ min m (length page) = length-take m page in
+    let there : get_or front j 0 ≡ get_or page j 0 = ap (λ zs. get_or zs j 0) is ∙ get_or-take (length front) (take m page) j 0 (omega arith) ∙ get_or-take m page j 0 (omega arith) in
+    last some (there ∙ ap (λ p. get_or p j 0) found ∙ sym (byte_at pages (i * 4096 + length front - 1) i j (omega arith) (omega arith)) ∙ e)
+
+-- what was read stands behind what was there
+pub read_behind : (old out part new : List ℕ) (m n : ℕ) → new ≡ take m (old ++ out ++ part) ++ replicate (m - length (old ++ out ++ part)) 0 → m ≡ length old + n
+    → new ≡ old ++ (take n (out ++ part) ++ replicate (n - length (out ++ part)) 0)
+read_behind old out part new m n gives at =
+    let rest : List ℕ = out ++ part in
+    let apart : old ++ out ++ part ≡ old ++ rest = append_assoc old out part in
+    let left : m - length (old ++ rest) ≡ n - length rest = omega (arith, length-append old rest) in
+    gives ∙ ap (λ zs. take m zs ++ replicate (m - length zs) 0) apart
+    ∙ ap (λ k. take k (old ++ rest) ++ replicate (m - length (old ++ rest)) 0) at
+    ∙ ap (λ zs. zs ++ replicate (m - length (old ++ rest)) 0) (take-append-add old rest n)
+    ∙ ap (λ k. old ++ take n rest ++ replicate k 0) left
+    ∙ append_assoc old (take n rest) (replicate (n - length rest) 0)

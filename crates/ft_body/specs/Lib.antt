@@ -1,3 +1,4 @@
+pub mod Blocks
 pub mod Bytes
 pub mod Paging
 pub mod PutBack

@@ -30,7 +30,7 @@ KeepsPagesOutside old new from to =
 abbrev pub MakesNoPage : List ℕ → List ℕ → ℕ → Type 0
 MakesNoPage old new size = (page : ℕ) → is_made new page ≡ true → (is_made old page ≡ true) × (page * PAGE_SIZE < size)
 
--- What a `Body` and a `BodyUndo` keep true of their fields, which no public clause cites.
+-- What a `Block` and a `BlockUndo` keep true of their fields, which no public clause cites.
 
 -- a list of bytes is empty, or its last is not zero
 abbrev pub EndsWithNoZero : List ℕ → Type 0
@@ -71,3 +71,9 @@ pub record IsWritten (old new : ℕ → ℕ) (start : ℕ) (bytes : List ℕ) : 
 pub record IsFront (old new : ℕ → ℕ) (size : ℕ) : Type 0 where
   pub before : (k : ℕ) → k < size → new k ≡ old k
   pub zeros : (k : ℕ) → size ≤ k → new k ≡ 0
+
+-- how many of the bytes before an index there are without the zeros at their end
+pub record IsFrontEnd (bytes : ℕ → ℕ) (size end : ℕ) : Type 0 where
+  pub within : end ≤ size
+  pub zeros : (k : ℕ) → end ≤ k → k < size → bytes k ≡ 0
+  pub last : 0 < end → bytes (end - 1) ≢ 0

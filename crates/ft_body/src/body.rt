@@ -4,11 +4,12 @@ ghost use Rattle.ft_body.specs.declared.TheConstants.{LARGEST_SIZE};
 ghost use Rattle.ft_body.specs.Bytes.{bytes_at, fitting, written, resized};
 ghost use Rattle.ft_body.specs.Paging.{made_pages, is_made, KeepsPagesOutside, MakesNoPage};
 
-use crate::page::Page;
-use crate::pages::{Lost, copy_of_pages, read, resize, write};
+use crate::blocks::Placed;
+use crate::spread::{copy_of_blocks, made, read, resize, write};
 use crate::undo::BodyUndo;
 use crate::{LARGEST_SIZE, PAGE_SIZE};
 use ft_base::Memory;
+use smallvec::SmallVec;
 use std::alloc::Global;
 use std::marker::Model;
 use std::snapshot::Snapshot;
@@ -16,24 +17,25 @@ use std::snapshot::Snapshot;
 /// The bytes of a file, which clauses see as a list.
 ///
 /// They stand in pages of `PAGE_SIZE` bytes. A page is made where one of its bytes is not zero; any
-/// other is a hole, which takes no bytes. A write takes time as the bytes that it writes and a page
-/// at most, a read as those that it gives, and a change of the length as the pages that stay or are
-/// added, and the bytes of one page at most.
+/// other is a hole, which takes no bytes. The pages stand in blocks of 2 MiB, and a block of which
+/// no page is made is not there. A write takes time as the bytes that it writes and a page at most,
+/// a read as those that it gives. To lengthen takes neither time nor memory, and a cut takes both as
+/// the blocks and the pages of one block that stay, and the bytes of one page at most.
 #[derive(Drop)]
 pub struct Body {
     size: usize,
-    pages: Vec<Page>,
+    blocks: Vec<Placed>,
 }
 
 impl Model for Body {
     ghost use Rattle.std.specs.Prelude.{ℕ, List};
-    ghost use Rattle.ft_body.specs.Paging.{IsPaged, bytes_in};
+    ghost use Rattle.ft_body.specs.Blocks.{IsBlocked, bytes_of};
 
     ghost Value = { List ℕ };
 
-    ghost view = { λ a. bytes_in a.size a.pages.items };
+    ghost view = { λ a. bytes_of a.size a.blocks.items };
 
-    ghost invariant = { λ a. IsPaged a.size a.pages.items };
+    ghost invariant = { λ a. IsBlocked a.size a.blocks.items };
 }
 
 impl Body {
@@ -43,7 +45,7 @@ impl Body {
     {
         Body {
             size: 0,
-            pages: Vec::new(alloc),
+            blocks: Vec::new(alloc),
         }
     }
 
@@ -71,8 +73,8 @@ impl Body {
         let size = self.size as u64;
         let start = offset.min(size);
         let count = count.min(size - start);
-        let alloc = *self.pages.allocator();
-        read(alloc, &self.pages, start as usize, count as usize)
+        let alloc = *self.blocks.allocator();
+        read(alloc, &self.blocks, start as usize, count as usize)
     }
 
     /// Writes as many of the bytes as there is room for below `LARGEST_SIZE` at an offset, and
@@ -93,11 +95,11 @@ impl Body {
         }
         let offset = offset as usize;
         let size = self.size;
-        let before = Snapshot::of(&self.pages);
-        let lost = write(&mut self.pages, offset, &bytes[..taken])?;
+        let before = Snapshot::of(&self.blocks);
+        let lost = write(&mut self.blocks, offset, &bytes[..taken])?;
         self.size = size.max(offset + taken);
         let size_after = Snapshot::of(&self.size);
-        let after = Snapshot::of(&self.pages);
+        let after = Snapshot::of(&self.blocks);
         let undo = BodyUndo::new(lost, size, before, size_after, after);
         Ok((taken as u64, undo))
     }
@@ -106,15 +108,15 @@ impl Body {
     fn unchanged(&self) -> BodyUndo
         ensures { result ≡ record { before = self.now; after = self.now } }
     {
-        let lost = Lost::nothing(&self.pages);
-        let before = Snapshot::of(&self.pages);
+        let lost = SmallVec::new(*self.blocks.allocator());
+        let before = Snapshot::of(&self.blocks);
         let size_after = Snapshot::of(&self.size);
-        let after = Snapshot::of(&self.pages);
+        let after = Snapshot::of(&self.blocks);
         BodyUndo::new(lost, self.size, before, size_after, after)
     }
 
-    /// Cuts the body to a size, or adds zeros up to it. To set the size that it has takes no
-    /// memory.
+    /// Cuts the body to a size, or adds zeros up to it. To set the size that it has, or a greater
+    /// one, takes no memory.
     pub fn set_len(&mut self, size: u64) -> Result<BodyUndo, Memory>
         requires { size ≤ LARGEST_SIZE }
         ensures after { OnOk result (self.new ≡ resized self.old size) }
@@ -124,11 +126,11 @@ impl Body {
         ensures pages { OnOk result (MakesNoPage self.old self.new size) }
     {
         let old_size = self.size;
-        let before = Snapshot::of(&self.pages);
-        let lost = resize(&mut self.pages, old_size, size as usize)?;
+        let before = Snapshot::of(&self.blocks);
+        let lost = resize(&mut self.blocks, old_size, size as usize)?;
         self.size = size as usize;
         let size_after = Snapshot::of(&self.size);
-        let after = Snapshot::of(&self.pages);
+        let after = Snapshot::of(&self.blocks);
         Ok(BodyUndo::new(lost, old_size, before, size_after, after))
     }
 
@@ -137,7 +139,7 @@ impl Body {
         requires { self.old ≡ undo.after }
         ensures { self.new ≡ undo.before }
     {
-        undo.put_back(&mut self.size, &mut self.pages);
+        undo.put_back(&mut self.size, &mut self.blocks);
     }
 
     /// How many pages are made. A page is made where one of its bytes is not zero; any other is a
@@ -146,7 +148,7 @@ impl Body {
         ensures count { result ≡ made_pages self.now }
         ensures holes { (k : ℕ) → is_made self.now (k / PAGE_SIZE) ≡ false → slice_index self.now k ≡ 0 }
     {
-        self.pages.iter().filter(|page| page.is_made()).count() as u64
+        made(self.size, &self.blocks)
     }
 
     /// A body of its own with equal bytes. An empty one takes no memory.
@@ -154,10 +156,10 @@ impl Body {
         ensures equal { IfOk result (λ copy. copy ≡ self.now) }
         ensures nothing { self.now ≡ [] → IsOk result }
     {
-        let pages = copy_of_pages(*self.pages.allocator(), &self.pages)?;
+        let blocks = copy_of_blocks(*self.blocks.allocator(), &self.blocks)?;
         Ok(Body {
             size: self.size,
-            pages,
+            blocks,
         })
     }
 }

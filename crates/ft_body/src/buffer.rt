@@ -76,12 +76,19 @@ pub(crate) fn overwrite(
     })
 }
 
-/// Makes room for a whole page where so many bytes want more than half of one and have no room.
+/// Makes room for so many bytes: for no more where there were none, and for a whole page where they
+/// want more than half of one.
 fn make_room(buffer: &mut Vec<u8>, size: usize) -> Result<(), Memory>
     ensures { buffer.new.items ≡ buffer.old.items }
 {
-    if size > PAGE_SIZE / 2 && size > buffer.capacity() {
-        buffer.reserve_exact(PAGE_SIZE.saturating_sub(buffer.len()))?;
+    if size <= buffer.capacity() {
+        return Ok(());
+    }
+    let has = buffer.len();
+    if has == 0 {
+        buffer.reserve_exact(size)?;
+    } else if size > PAGE_SIZE / 2 {
+        buffer.reserve_exact(PAGE_SIZE.saturating_sub(has))?;
     }
     Ok(())
 }

@@ -2,13 +2,17 @@
 //!
 //! The rules are those of POSIX.1-2017: Base Definitions, 3.164 (File), and System Interfaces,
 //! read, write, lseek and ftruncate. That a file has at most 2^47 bytes, and that its bytes stand
-//! in pages, of which those of zeros alone take no bytes, are rules of this project.
+//! in blocks of pages, of which those of zeros alone take no bytes, are rules of this project.
 #![tactic(auto)]
 
+mod block;
+mod block_undo;
+mod blocks;
 mod body;
 mod buffer;
 mod page;
 mod pages;
+mod spread;
 mod undo;
 
 pub use body::Body;
@@ -20,3 +24,6 @@ pub const LARGEST_SIZE: u64 = 140_737_488_355_328;
 
 /// How many bytes a page has.
 pub const PAGE_SIZE: usize = 4_096;
+
+/// How many bytes a block has: those of 512 pages.
+pub(crate) const BLOCK_SIZE: usize = 2_097_152;

@@ -1,11 +1,11 @@
-// The pages of a body: read, written, cut, and put back.
+// The pages of a block: read, written, cut, and put back.
 ghost use Rattle.std.specs.Prelude.{◌≡◌, ℕ, List, [], ◌+◌, ◌-◌, ◌*◌, ◌/◌, ◌<◌, ◌≤◌, ◌++◌, length, replicate, take, drop, vec_len, slice_index, IsOk, IfOk, OnOk, OnErr};
 ghost use Prim.Native.Nat.{max};
-ghost use Rattle.ft_body.specs.Paging.{page_count as count_of, byte_in, bytes_in, ArePages, IsPaged, IsWritten, IsFront};
+ghost use Rattle.ft_body.specs.Paging.{page_count as count_of, byte_in, bytes_in, ArePages, IsPaged, IsWritten, IsFront, IsFrontEnd};
 ghost use Rattle.ft_body.specs.Bytes.{resized};
 ghost use Rattle.ft_body.specs.PutBack.{PutsBack, PutPartsBack};
 
-use crate::buffer::LostBytes;
+use crate::buffer::{LostBytes, without_end_zeros};
 use crate::page::Page;
 use crate::{LARGEST_SIZE, PAGE_SIZE};
 use ft_base::Memory;
@@ -51,34 +51,49 @@ pub(crate) fn lengthen(pages: &mut Vec<Page>, count: usize) -> Result<(), Memory
     Ok(())
 }
 
-/// So many bytes from `start` on.
+/// Adds so many bytes from `start` on.
 pub(crate) fn read(
-    alloc: Global,
     pages: &[Page],
+    read: &mut Vec<u8>,
     start: usize,
     count: usize,
-) -> Result<Vec<u8>, Memory>
+) -> Result<(), Memory>
     requires limit { start + count ≤ LARGEST_SIZE }
     requires room { count_of (start + count) ≤ length pages.now }
     requires pages { ArePages pages.now }
-    ensures count { IfOk result (λ read. length read.items ≡ count) }
-    ensures bytes { IfOk result (λ read. (k : ℕ) → k < count → slice_index read.items k ≡ byte_in pages.now (start + k)) }
-    ensures nothing { count ≡ 0 → IsOk result }
+    ensures { OnOk result ((bytes : List ℕ) × (read.new.items ≡ read.old.items ++ bytes) × (length bytes ≡ count) × ((k : ℕ) → k < count → slice_index bytes k ≡ byte_in pages.now (start + k))) }
 {
-    if count == 0 {
-        return Ok(Vec::new(alloc));
-    }
+    let before = read.len();
     let end = start + count;
-    let mut read = Vec::with_capacity(alloc, count)?;
     for index in start / PAGE_SIZE..page_count(end) {
         let first = index * PAGE_SIZE;
         let from = start.max(first) - first;
         let to = end.min(first + PAGE_SIZE) - first;
         let bytes = pages[index].bytes();
         read.extend_from_slice(&bytes[from.min(bytes.len())..to.min(bytes.len())])?;
-        read.resize(first + to - start, 0)?;
+        read.resize(before + first + to - start, 0)?;
     }
-    Ok(read)
+    Ok(())
+}
+
+/// The length of the bytes before an index without the zeros at their end.
+pub(crate) fn end_below(pages: &[Page], size: usize) -> usize
+    requires limit { size ≤ LARGEST_SIZE }
+    requires room { count_of size ≤ length pages.now }
+    requires pages { ArePages pages.now }
+    ensures { IsFrontEnd (byte_in pages.now) size result }
+{
+    let mut index = page_count(size);
+    while index > 0 {
+        index -= 1;
+        let first = index * PAGE_SIZE;
+        let bytes = pages[index].bytes();
+        let end = without_end_zeros(&bytes[..bytes.len().min(size - first)]).len();
+        if end > 0 {
+            return first + end;
+        }
+    }
+    0
 }
 
 /// Pages of their own with equal bytes.
@@ -199,7 +214,7 @@ fn cut(pages: &mut Vec<Page>, size: usize) -> Result<Lost, Memory>
 }
 
 /// Swaps the first pages of two lists, so many of them.
-fn swap_fronts(some: &mut Vec<Page>, others: &mut Vec<Page>, count: usize)
+pub(crate) fn swap_fronts<T>(some: &mut Vec<T>, others: &mut Vec<T>, count: usize)
     requires some { count ≤ vec_len some.old }
     requires others { count ≤ vec_len others.old }
     ensures some { some.new.items ≡ take count others.old.items ++ drop count some.old.items }

@@ -1,23 +1,23 @@
 // How a change of a body is taken back.
 ghost use Rattle.std.specs.Prelude.{◌≡◌};
-ghost use Rattle.ft_body.specs.Paging.{IsPaged, bytes_in};
-ghost use Rattle.ft_body.specs.PutBack.{PutsBack};
+ghost use Rattle.ft_body.specs.Blocks.{IsBlocked, bytes_of, Undoes};
 
-use crate::page::Page;
-use crate::pages::{Lost, put_back};
+use crate::blocks::{LostBlocks, Placed, put_back};
+use smallvec::SmallVec;
 use std::marker::Model;
 use std::snapshot::Snapshot;
 
 /// What takes one change of a body back.
 ///
 /// Clauses see it as the bytes before the change and the bytes after it. It keeps only what the
-/// change destroyed, and room for the pages in which that stood: the snapshots have no bytes.
+/// change destroyed, and room for the pages and the blocks in which that stood: the snapshots have
+/// no bytes.
 pub struct BodyUndo {
-    lost: Lost,
+    lost: SmallVec<LostBlocks, 1>,
     size: usize,
-    before: Snapshot<Vec<Page>>,
+    before: Snapshot<Vec<Placed>>,
     size_after: Snapshot<usize>,
-    after: Snapshot<Vec<Page>>,
+    after: Snapshot<Vec<Placed>>,
 }
 
 impl Model for BodyUndo {
@@ -25,12 +25,11 @@ impl Model for BodyUndo {
 
     ghost Value = { BodyChange };
 
-    ghost use Rattle.ft_body.specs.Paging.{IsPaged, bytes_in};
-    ghost use Rattle.ft_body.specs.PutBack.{PutsBack};
+    ghost use Rattle.ft_body.specs.Blocks.{IsBlocked, bytes_of, Undoes};
 
-    ghost view = { λ a. record { before = bytes_in a.size a.before.value.items; after = bytes_in a.size_after.value a.after.value.items } };
+    ghost view = { λ a. record { before = bytes_of a.size a.before.value.items; after = bytes_of a.size_after.value a.after.value.items } };
 
-    ghost invariant = { λ a. IsPaged a.size a.before.value.items × IsPaged a.size_after.value a.after.value.items × PutsBack a.lost a.after.value.items a.before.value.items };
+    ghost invariant = { λ a. IsBlocked a.size a.before.value.items × IsBlocked a.size_after.value a.after.value.items × Undoes a.lost.items a.after.value.items a.before.value.items };
 }
 
 // By hand, so that callers that let one go see one step.
@@ -49,16 +48,16 @@ impl Drop for BodyUndo {
 impl BodyUndo {
     /// The undo of a change that destroyed `lost`.
     pub(crate) fn new(
-        lost: Lost,
+        lost: SmallVec<LostBlocks, 1>,
         size: usize,
-        before: Snapshot<Vec<Page>>,
+        before: Snapshot<Vec<Placed>>,
         size_after: Snapshot<usize>,
-        after: Snapshot<Vec<Page>>,
+        after: Snapshot<Vec<Placed>>,
     ) -> BodyUndo
-        requires lost { PutsBack lost after.value.items before.value.items }
-        requires before { IsPaged size before.value.items }
-        requires after { IsPaged size_after.value after.value.items }
-        ensures { result ≡ record { before = bytes_in size before.value.items; after = bytes_in size_after.value after.value.items } }
+        requires lost { Undoes lost.items after.value.items before.value.items }
+        requires before { IsBlocked size before.value.items }
+        requires after { IsBlocked size_after.value after.value.items }
+        ensures { result ≡ record { before = bytes_of size before.value.items; after = bytes_of size_after.value after.value.items } }
     {
         BodyUndo {
             lost,
@@ -69,12 +68,12 @@ impl BodyUndo {
         }
     }
 
-    /// Puts back what the change destroyed, in pages as the change left them. Takes no memory.
-    pub(crate) fn put_back(self, size: &mut usize, pages: &mut Vec<Page>)
-        requires paged { IsPaged size.old pages.old.items }
-        requires after { bytes_in size.old pages.old.items ≡ self.after }
-        ensures paged { IsPaged size.new pages.new.items }
-        ensures before { bytes_in size.new pages.new.items ≡ self.before }
+    /// Puts back what the change destroyed, in blocks as the change left them. Takes no memory.
+    pub(crate) fn put_back(self, size: &mut usize, blocks: &mut Vec<Placed>)
+        requires blocked { IsBlocked size.old blocks.old.items }
+        requires after { bytes_of size.old blocks.old.items ≡ self.after }
+        ensures blocked { IsBlocked size.new blocks.new.items }
+        ensures before { bytes_of size.new blocks.new.items ≡ self.before }
     {
         let BodyUndo {
             lost,
@@ -83,7 +82,7 @@ impl BodyUndo {
             size_after: _,
             after: _,
         } = self;
-        put_back(pages, lost);
+        put_back(blocks, lost);
         *size = size_before;
     }
 }

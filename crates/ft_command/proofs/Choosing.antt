@@ -44,25 +44,25 @@ pub choice_of_matches : (words : List Text) (m : ArgMatches) (choice : Choice) �
 choice_of_matches words m choice free rows h = go choice (subst (λ met. ReadChoice met choice) (rows is_plain).1 h)
   where
     go : (choice : Choice) → ReadChoice (subcommand_of program words) choice → ChoiceOf words choice
-    go (Play rule after) h = (free, h)
+    go (Play rule after limits) h = (free, h)
     go Dot h = (free, h)
     go (Load dir skip quiet) h = (free, h)
     go (Save dir quiet) h = (free, h)
-    go (Jobs file turns quiet rule after) h = (free, h)
+    go (Jobs file turns quiet rule after limits) h = (free, h)
     go (Help text) h = absurd h
-    go (Usage text) h = absurd h
+    go (Usage text) h = inr (free, h)
     go Fault h = tt
 
 pub choice_of_error : (words : List Text) (kind : ErrorKind) (choice : Choice) → (kind ≡ OutOfMemory) ⊎ IsAmong kind (fault_of program words) → ErrorChoice kind choice → ChoiceOf words choice
-choice_of_error words kind (Play rule after) among h = absurd h
+choice_of_error words kind (Play rule after limits) among h = absurd h
 choice_of_error words kind Dot among h = absurd h
 choice_of_error words kind (Load dir skip quiet) among h = absurd h
 choice_of_error words kind (Save dir quiet) among h = absurd h
-choice_of_error words kind (Jobs file turns quiet rule after) among h = absurd h
+choice_of_error words kind (Jobs file turns quiet rule after limits) among h = absurd h
 choice_of_error words kind (Help text) (inl is) h = cc
 choice_of_error words kind (Help text) (inr among) h = subst (λ k. IsAmong k (fault_of program words)) h among
 choice_of_error words kind (Usage text) (inl is) h = absurd (h.1 is)
-choice_of_error words kind (Usage text) (inr among) h = (kind, among, h.0)
+choice_of_error words kind (Usage text) (inr among) h = inl (kind, among, h.0)
 choice_of_error words kind Fault among h = tt
 
 -- ---- how often a call asks

@@ -1,5 +1,5 @@
 -- The command line of the program, in the words of the crate `clap`, which reads it.
-use Rattle.std.specs.Prelude.{◌≡◌, ◌≢◌, ◌≤◌, ℕ, Bool, true, false, List, [], ◌∷◌, codes, Option, None, Some, option_map, string_bytes}
+use Rattle.std.specs.Prelude.{◌≡◌, ◌≢◌, ◌≤◌, ◌⊎◌, ℕ, Bool, true, false, List, [], ◌∷◌, codes, Option, None, Some, option_map, string_bytes}
 use Rattle.std.specs.Str.Parse.{digits_value, without_leading_plus}
 use Rattle.clap.specs.Words.{App, IsAmong, Row, Rule, Text, fault_of, first_of, new_app, new_rule, one_of, subcommand_of, with_rule, with_subcommand}
 use Rattle.clap.specs.declared.builder.action.ArgAction.TheVariants.{SetTrue}
@@ -10,6 +10,7 @@ use Rattle.clap.specs.declared.error.kind.ErrorKind.{ErrorKind}
 use Rattle.clap.specs.declared.error.kind.ErrorKind.TheVariants.{DisplayHelp, OutOfMemory}
 use Rattle.ft_moss.specs.declared.rule.Rule.{Rule as LockRule}
 use Rattle.ft_moss.specs.Rules.{is_strict}
+use Rattle.ft_command.specs.Limits.{HasBadLimit, TellsLimits, limited}
 use Rattle.ft_command.specs.declared.choice.Choice.{Choice}
 use Rattle.ft_command.specs.declared.choice.Choice.TheVariants.{Play, Dot, Load, Save, Jobs, Help, Usage, Fault}
 
@@ -42,9 +43,9 @@ skip_rule = record (new_rule (codes "skip")) { long = Some (codes "skip"); actio
 abbrev pub after_rule : Rule
 after_rule = record (new_rule (codes "after")) { long = Some (codes "after"); value_names = 1 }
 
--- `play`, which may have `--moss` and `--after FILE`
+-- `play`, which may have `--moss` and `--after FILE`, and as each other the flags for limits
 abbrev pub play : App
-play = with_rule (with_rule (new_app (codes "play")) moss_rule) after_rule
+play = limited (with_rule (with_rule (new_app (codes "play")) moss_rule) after_rule)
 
 -- `load`, which needs a directory and may have `--skip`
 abbrev pub load : App
@@ -56,7 +57,7 @@ save = with_rule (with_rule (new_app (codes "save")) dir_rule) quiet_rule
 
 -- `jobs`, which needs a file and may have `--turns N`, `--quiet`, `--moss` and `--after FILE`
 abbrev pub jobs : App
-jobs = with_rule (with_rule (with_rule (with_rule (with_rule (new_app (codes "jobs")) file_rule) turns_rule) quiet_rule) moss_rule) after_rule
+jobs = limited (with_rule (with_rule (with_rule (with_rule (with_rule (new_app (codes "jobs")) file_rule) turns_rule) quiet_rule) moss_rule) after_rule)
 
 -- no argument of the command is one of its subcommands too
 abbrev pub HasNoGlobals : Command → Type 0
@@ -115,25 +116,28 @@ TellsAfter found after = after ≡ first_of (codes "after") found
 abbrev pub TellsDir : List Row → Text → Type 0
 TellsDir found dir = first_of (codes "dir") found ≡ Some dir
 
--- the choice where the words name this subcommand
+-- The choice where the words name this subcommand: a usage text only where the value of a flag is no
+-- limit.
 abbrev pub ReadChoice : Met → Choice → Type 0
-ReadChoice met (Play rule after) = (found : List Row) × (met ≡ Some (codes "play", found)) × TellsRule found rule × TellsAfter found (option_map string_bytes after)
+ReadChoice met (Play rule after limits) =
+    (found : List Row) × (met ≡ Some (codes "play", found)) × TellsRule found rule × TellsAfter found (option_map string_bytes after) × TellsLimits found limits
 ReadChoice met Dot = Names (codes "dot") met
 ReadChoice met (Load dir skip quiet) = (found : List Row) × (met ≡ Some (codes "load", found)) × TellsDir found (string_bytes dir) × IsFlag (one_of (codes "skip") found) skip × IsFlag (one_of (codes "quiet") found) quiet
 ReadChoice met (Save dir quiet) = (found : List Row) × (met ≡ Some (codes "save", found)) × TellsDir found (string_bytes dir) × IsFlag (one_of (codes "quiet") found) quiet
-ReadChoice met (Jobs file turns quiet rule after) = (found : List Row) × (met ≡ Some (codes "jobs", found)) × TellsJobs found (string_bytes file) turns quiet × TellsRule found rule × TellsAfter found (option_map string_bytes after)
+ReadChoice met (Jobs file turns quiet rule after limits) =
+    (found : List Row) × (met ≡ Some (codes "jobs", found)) × TellsJobs found (string_bytes file) turns quiet × TellsRule found rule × TellsAfter found (option_map string_bytes after) × TellsLimits found limits
 ReadChoice met (Help text) = ⊥
-ReadChoice met (Usage text) = ⊥
+ReadChoice met (Usage text) = (name : Text) × (found : List Row) × (met ≡ Some (name, found)) × HasBadLimit found
 ReadChoice met Fault = Unit {0}
 
 -- The choice at an error of this kind: a help text just for a request of help, and a usage text
 -- for a mistake. Want of memory may stand in place of any.
 abbrev pub ErrorChoice : ErrorKind → Choice → Type 0
-ErrorChoice kind (Play rule after) = ⊥
+ErrorChoice kind (Play rule after limits) = ⊥
 ErrorChoice kind Dot = ⊥
 ErrorChoice kind (Load dir skip quiet) = ⊥
 ErrorChoice kind (Save dir quiet) = ⊥
-ErrorChoice kind (Jobs file turns quiet rule after) = ⊥
+ErrorChoice kind (Jobs file turns quiet rule after limits) = ⊥
 ErrorChoice kind (Help text) = kind ≡ DisplayHelp
 ErrorChoice kind (Usage text) = (kind ≢ DisplayHelp) × (kind ≢ OutOfMemory)
 ErrorChoice kind Fault = Unit {0}
@@ -144,13 +148,13 @@ abbrev pub IsCommand : List Text → Choice → Type 0
 IsCommand words choice = (fault_of program words ≡ []) × ReadChoice (subcommand_of program words) choice
 
 -- The choice that words ask for: a subcommand only where they name just that, a help text only
--- where help was asked for, a usage text only at another error.
+-- where help was asked for, a usage text only at another error or at a value that is no limit.
 abbrev pub ChoiceOf : List Text → Choice → Type 0
-ChoiceOf words (Play rule after) = IsCommand words (Play rule after)
+ChoiceOf words (Play rule after limits) = IsCommand words (Play rule after limits)
 ChoiceOf words Dot = IsCommand words Dot
 ChoiceOf words (Load dir skip quiet) = IsCommand words (Load dir skip quiet)
 ChoiceOf words (Save dir quiet) = IsCommand words (Save dir quiet)
-ChoiceOf words (Jobs file turns quiet rule after) = IsCommand words (Jobs file turns quiet rule after)
+ChoiceOf words (Jobs file turns quiet rule after limits) = IsCommand words (Jobs file turns quiet rule after limits)
 ChoiceOf words (Help text) = IsAmong DisplayHelp (fault_of program words)
-ChoiceOf words (Usage text) = (kind : ErrorKind) × IsAmong kind (fault_of program words) × (kind ≢ DisplayHelp)
+ChoiceOf words (Usage text) = ((kind : ErrorKind) × IsAmong kind (fault_of program words) × (kind ≢ DisplayHelp)) ⊎ IsCommand words (Usage text)
 ChoiceOf words Fault = Unit {0}

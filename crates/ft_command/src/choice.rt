@@ -1,8 +1,10 @@
 // What a command line asks for.
 ghost use Rattle.std.specs.Prelude.{◌≡◌, IfOk, IfSome, Some, codes, false, map, option_map, string_bytes};
-ghost use Rattle.clap.specs.Words.{app_of, found_of, kind_of, new_app, rows_of, rule_of, subcommand_rows_of};
+ghost use Rattle.clap.specs.Words.{Text, app_of, found_of, kind_of, new_app, rows_of, rule_of, subcommand_rows_of};
+ghost use Rattle.ft_command.specs.Limits.{IsBadLimit};
 ghost use Rattle.ft_command.specs.CommandLine.{ChoiceOf, ErrorChoice, HasNoGlobals, ReadChoice, TellsAfter, TellsDir, TellsJobs, TellsRule, after_rule, bare, dir_rule, file_rule, jobs, load, moss_rule, play, program, quiet_rule, save, skip_rule, turns_rule, with_filters, with_folders};
 
+use crate::limits::{AskedLimits, Flag, asked_limits, with_limits};
 use clap::builder::ValueParser;
 use clap::error::ErrorKind;
 use clap::{Arg, ArgAction, ArgMatches, Command, Error};
@@ -13,11 +15,12 @@ use std::convert::AsStr;
 /// What the program is to do.
 #[derive(Debug, Drop)]
 pub enum Choice {
-    /// Run a script on a core that grants calls by this rule, after the script in a file, if there
-    /// is one.
+    /// Run a script on a core that grants calls by this rule and has these limits, after the script
+    /// in a file, if there is one.
     Play {
         rule: Rule,
         after: Option<String>,
+        limits: AskedLimits,
     },
     /// Draw the last report on who waits for whom.
     Dot,
@@ -36,13 +39,14 @@ pub enum Choice {
     },
     /// Run the jobs of the plan in a file. A call of theirs asks at most so many times, at least
     /// once. How far they have come is not shown where it is to be quiet. Their core grants calls
-    /// by this rule. The script in a file, if there is one, is played first.
+    /// by this rule and has these limits. The script in a file, if there is one, is played first.
     Jobs {
         file: String,
         turns: u64,
         quiet: bool,
         rule: Rule,
         after: Option<String>,
+        limits: AskedLimits,
     },
     /// Print this help to the standard output, and end with status 0.
     Help(String),
@@ -103,8 +107,32 @@ fn play_choice(alloc: Global, found: &ArgMatches) -> Choice
     ensures { ReadChoice (Some (codes "play", rows_of (found_of found.now))) result }
 {
     let rule = asked_rule(found);
+    let limits = match asked_limits(found) {
+        Ok(limits) => limits,
+        Err(flag) => return misused(alloc, found, flag),
+    };
     match asked_after(alloc, found) {
-        Ok(after) => Choice::Play { rule, after },
+        Ok(after) => Choice::Play {
+            rule,
+            after,
+            limits,
+        },
+        Err(_) => Choice::Fault,
+    }
+}
+
+// The choice where the value of a flag is no limit.
+fn misused(alloc: Global, found: &ArgMatches, flag: Flag) -> Choice
+    ensures { (name : Text) → IsBadLimit flag (rows_of (found_of found.now)) → ReadChoice (Some (name, rows_of (found_of found.now))) result }
+{
+    let name = flag.name();
+    let value = found.get_str(name).unwrap_or("");
+    let text = format!(in alloc;
+        "error: invalid value '{value}' for '--{name} <N>': it is neither {} nor none\n\nFor more information, try '--help'.\n",
+        flag.values()
+    );
+    match text {
+        Ok(text) => Choice::Usage(text),
         Err(_) => Choice::Fault,
     }
 }
@@ -137,6 +165,10 @@ fn jobs_choice(alloc: Global, found: &ArgMatches) -> Choice
     ensures { ReadChoice (Some (codes "jobs", rows_of (found_of found.now))) result }
 {
     let rule = asked_rule(found);
+    let limits = match asked_limits(found) {
+        Ok(limits) => limits,
+        Err(flag) => return misused(alloc, found, flag),
+    };
     let Ok(after) = asked_after(alloc, found) else {
         return Choice::Fault;
     };
@@ -147,6 +179,7 @@ fn jobs_choice(alloc: Global, found: &ArgMatches) -> Choice
             quiet,
             rule,
             after,
+            limits,
         },
         None => Choice::Fault,
     }
@@ -240,10 +273,11 @@ fn play_command<'a>(alloc: Global) -> Result<Command<'a>, AllocError>
     ensures app { IfOk result (λ command. app_of command ≡ play) }
     ensures local { IfOk result HasNoGlobals }
 {
-    Command::new(alloc, "play")
+    let command = Command::new(alloc, "play")
         .about("Runs a script from standard input to standard output")
         .arg(moss_arg(alloc))?
-        .arg(after_arg(alloc))
+        .arg(after_arg(alloc))?;
+    with_limits(alloc, command)
 }
 
 // The part of it that draws who waits for whom.
@@ -284,13 +318,14 @@ fn jobs_command<'a>(alloc: Global) -> Result<Command<'a>, AllocError>
     ensures app { IfOk result (λ command. app_of command ≡ jobs) }
     ensures local { IfOk result HasNoGlobals }
 {
-    Command::new(alloc, "jobs")
+    let command = Command::new(alloc, "jobs")
         .about("Runs the jobs of a plan in threads, and prints what they came to")
         .arg(file_arg(alloc))?
         .arg(turns_arg(alloc))?
         .arg(quiet_arg(alloc))?
         .arg(moss_arg(alloc))?
-        .arg(after_arg(alloc))
+        .arg(after_arg(alloc))?;
+    with_limits(alloc, command)
 }
 
 // The directory of it.

@@ -2,5 +2,7 @@
 #![tactic(auto)]
 
 mod choice;
+mod limits;
 
 pub use choice::{Choice, choose};
+pub use limits::AskedLimits;

@@ -97,7 +97,7 @@ module _ (W : CallLaws) (K : LockLaws) {base : Base} {h : History} {asks : Asks}
     taking = abort_first posix_calls W.lawful from (values W core.kept) h core.kept.hidden cells₀ core.log core.kept.core t;
     logs = core.logs;
     places = named W core.kept;
-    forest_is = record { base = refl; last = refl; parents = λ x. refl; states = λ x. inl refl };
+    forest_is = record { limits = refl; base = refl; last = refl; parents = λ x. refl; states = λ x. inl refl };
     ended = λ x e. ended_list posix_calls W.lawful from (values W core.kept) h core.kept.hidden cells₀ core.log core.kept.core x
         (λ now. false≢true (sym e ∙ sym (fate-of x) ∙ ap is_live now));
     gone = λ x. false;

@@ -16,7 +16,6 @@ use Rattle.ft_forest.specs.Transactions.{Transactions}
 use Rattle.ft_moss.specs.Locks.{AreBlockers}
 use Rattle.ft_history.specs.History.{grants}
 use Rattle.ft_history.specs.History.Fate.{Live}
-use Rattle.ft_core.specs.declared.TheConstants.{MOST_CALLS}
 use Rattle.ft_core.specs.declared.request.Answer.TheVariants.{Granted}
 use Rattle.ft_core.specs.declared.request.Event.TheVariants.{Call as CallEvent}
 use Rattle.ft_core.specs.States.{State, history, fate_of, next_stamp, reply_of, accesses_now, has_most_calls, after_call, after_grant, after_wait}
@@ -42,7 +41,7 @@ next-fits full last few =
     omega arith
 
 pub one-more : (j : Journaled) → is_full j ≡ false → j.last_stamp + 1 ≤ LAST_NUMBER
-one-more j few = next-fits (nat_le MOST_CALLS (j.last_stamp - j.base_stamp)) j.last_stamp few
+one-more j few = next-fits (nat_le j.calls (j.last_stamp - j.base_stamp)) j.last_stamp few
 
 module _ (W : CallLaws) (K : LockLaws) (p : Parts) (j : Journaled) (core : IsCoreOf (state_of p.forest j) p j) where
   abbrev s : State
@@ -53,7 +52,7 @@ module _ (W : CallLaws) (K : LockLaws) (p : Parts) (j : Journaled) (core : IsCor
   full-same =
       let stamped = core.kept.started.stamped in
       let count : j.last_stamp - j.base_stamp ≡ length (grants posix_calls (history s)) = omega arith in
-      (λ i. nat_le MOST_CALLS (count i) || nat_le LAST_NUMBER j.last_stamp)
+      (λ i. nat_le j.calls (count i) || nat_le LAST_NUMBER j.last_stamp)
 
   pub touched-now : (call : Call) → accesses_of p.tree (next_stamp s) call ≡ accesses_now s call
   touched-now call = accesses-are W core.kept (next_stamp s) call

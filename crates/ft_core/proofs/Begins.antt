@@ -155,6 +155,7 @@ live-parent s (Some p) fine q e =
 pub state-begun : (forest forest' : Transactions) (up : Option ℕ) (j j' : Journaled) (subs : Subs) → HasBegun forest forest' up → j' ≡ with_begin (record j { subs = subs }) (last_in forest + 1) up → state_of forest' j' ≡ after_begin (state_of forest j) up
 state-begun forest forest' up j j' subs has is = λ i. record {
   rule = (is i).rule;
+  limits = record { depth = (has.limits i).depth; transactions = (has.limits i).transactions; calls = (is i).calls };
   base = record { tree = (is i).base_tree; last_txn = has.base i; last_stamp = (is i).base_stamp };
   events = (is i).events;
   asks = (is i).asks;

@@ -1,8 +1,7 @@
 -- A checkpoint: the core starts again from its tree.
-use Rattle.std.proofs.Common.{◌≡◌, ◌+◌, ℕ, Bool, true, false, not, cond, List, [], ◌∷◌, Option, Some, None, Result, Ok, Err, is_some, length, arith, refl, sym, ap, subst, ◌∙◌}
-use Rattle.std.specs.Prelude.{nat_lt, MatchBool, MatchOption}
+use Rattle.std.proofs.Common.{◌≡◌, ◌+◌, ℕ, Bool, true, false, not, cond, List, [], ◌∷◌, Option, Some, None, is_some, length, arith, refl, sym, ap, subst, ◌∙◌}
+use Rattle.std.specs.Prelude.{nat_lt, MatchBool}
 use Rattle.std.proofs.lemmas.Bool.{false≢true, and_parts, lt-ltb}
-use Rattle.std.specs.Result.{IsErrAnd}
 use Rattle.std.specs.Ordering.{nat_cmp}
 use Rattle.std.specs.FinMap as finite
 use Rattle.ft_base.specs.Chains.{Lists}
@@ -28,10 +27,8 @@ use Rattle.ft_history.proofs.Living.{lived}
 use Rattle.ft_history.proofs.Methods.{core_checkpoint, core_new}
 use Rattle.ft_history.proofs.Words.{passing-In}
 use Rattle.ft_core.specs.declared.fault.Fault.{Fault}
-use Rattle.ft_core.specs.declared.fault.Fault.TheVariants.{Live as LiveFault, Memory}
+use Rattle.ft_core.specs.declared.fault.Fault.TheVariants.{Live as LiveFault}
 use Rattle.ft_core.specs.declared.request.Request.TheVariants.{Checkpoint}
-use Rattle.ft_core.specs.declared.request.Answer.{Answer}
-use Rattle.ft_core.specs.declared.request.Answer.TheVariants.{Cleared, Refused}
 use Rattle.ft_core.specs.Living.{SomeIsLive, NoneIsLive}
 use Rattle.ft_core.specs.States.{State, history, fate_of, tree_of, live_transactions, has_live, after_checkpoint, fate_in}
 use Rattle.ft_core.specs.Steps.{fault_if, refusal_of}
@@ -92,10 +89,10 @@ module _ (W : CallLaws) (K : LockLaws) (p : Parts) (j : Journaled) (core : IsCor
     -- no use.
     module _ (useless : (c : Cell) → is_useless cells c ≡ false) (fresh-lists : Lists Logged) (empty : AreLists fresh-lists (λ t. [])) where
       abbrev q : Journaled
-      q = no_events j.rule (tidy cells) j.last_stamp
+      q = no_events j.rule j.calls (tidy cells) j.last_stamp
 
       abbrev f : Transactions
-      f = none_since (last_in forest)
+      f = none_since forest.limits (last_in forest)
 
       abbrev at : State
       at = state_of f q
@@ -128,8 +125,8 @@ module _ (W : CallLaws) (K : LockLaws) (p : Parts) (j : Journaled) (core : IsCor
         transactions = record {
           base_is = refl;
           last = refl;
-          parents = λ x. ap parent_of (none-in (last_in forest) x);
-          fates = λ x. ap (λ o. fate_in (life_of o)) (none-in (last_in forest) x) ∙ sym (unborn (last_in forest) x);
+          parents = λ x. ap parent_of (none-in forest.limits (last_in forest) x);
+          fates = λ x. ap (λ o. fate_in (life_of o)) (none-in forest.limits (last_in forest) x) ∙ sym (unborn (last_in forest) x);
         };
         locks = K.first;
         no_holder = λ strict. K.holders.first f;
@@ -142,19 +139,19 @@ module _ (W : CallLaws) (K : LockLaws) (p : Parts) (j : Journaled) (core : IsCor
           not_live : {x : Fate} → None ≡ Some x → ⊥
           not_live e = cc
 
-    pub core-restarted : ((c : Cell) → is_useless cells c ≡ false) → (f' : Transactions) → f' ≡ none_since (last_in forest) → (copy : Cells) → copy ≡ cells → (rule : _) → rule ≡ j.rule → (stamp : ℕ) → stamp ≡ j.last_stamp
-        → (table' : LockTable) → table' ≡ no_locks → (lists' : Lists Logged) → AreLists lists' (λ t. []) → (j' : Journaled) → j' ≡ no_events rule (tidy copy) stamp → IsCoreOf (state_of f' j') (parts cells f' table' lists') j'
-    core-restarted useless f' first copy same rule is stamp last table' new lists' empty j' told =
-        subst (λ (k : Journaled). IsCoreOf (state_of f' k) (parts cells f' table' lists') k) (sym (told ∙ (λ i. no_events (is i) (tidy (same i)) (last i))))
+    pub core-restarted : ((c : Cell) → is_useless cells c ≡ false) → (f' : Transactions) → f' ≡ none_since forest.limits (last_in forest) → (copy : Cells) → copy ≡ cells → (rule : _) → rule ≡ j.rule → (calls : ℕ) → calls ≡ j.calls → (stamp : ℕ) → stamp ≡ j.last_stamp
+        → (table' : LockTable) → table' ≡ no_locks → (lists' : Lists Logged) → AreLists lists' (λ t. []) → (j' : Journaled) → j' ≡ no_events rule calls (tidy copy) stamp → IsCoreOf (state_of f' j') (parts cells f' table' lists') j'
+    core-restarted useless f' first copy same rule is calls as_many stamp last table' new lists' empty j' told =
+        subst (λ (k : Journaled). IsCoreOf (state_of f' k) (parts cells f' table' lists') k) (sym (told ∙ (λ i. no_events (is i) (as_many i) (tidy (same i)) (last i))))
         (subst (λ (m : Transactions). IsCoreOf (state_of m (q useless lists' empty)) (parts cells m table' lists') (q useless lists' empty)) (sym first)
         (subst (λ (t : LockTable). IsCoreOf (at useless lists' empty) (parts cells (f useless lists' empty) t lists') (q useless lists' empty)) (sym new) (restarted useless lists' empty)))
 
-    pub state-restarted : (f' : Transactions) → f' ≡ none_since (last_in forest) → (copy : Cells) → copy ≡ cells → (rule : _) → rule ≡ j.rule → (stamp : ℕ) → stamp ≡ j.last_stamp
-        → (j' : Journaled) → j' ≡ no_events rule (tidy copy) stamp → state_of f' j' ≡ after_checkpoint s
-    state-restarted f' first copy same rule is stamp last j' told =
+    pub state-restarted : (f' : Transactions) → f' ≡ none_since forest.limits (last_in forest) → (copy : Cells) → copy ≡ cells → (rule : _) → rule ≡ j.rule → (calls : ℕ) → calls ≡ j.calls → (stamp : ℕ) → stamp ≡ j.last_stamp
+        → (j' : Journaled) → j' ≡ no_events rule calls (tidy copy) stamp → state_of f' j' ≡ after_checkpoint s
+    state-restarted f' first copy same rule is calls as_many stamp last j' told =
         let tree : tidy copy ≡ tree_of s = ap tidy same ∙ tree_is W core.kept in
         let none_more : last_in forest + 0 ≡ last_in forest = omega arith in
-        (λ i. state_of (first i) (told i)) ∙ (λ i. record { rule = is i; base = record { tree = tree i; last_txn = last_in forest; last_stamp = last i }; events = []; asks = finite.empty; last_txn = none_more i; last_stamp = last i })
+        (λ i. state_of (first i) (told i)) ∙ (λ i. record { rule = is i; limits = record { depth = forest.limits.depth; transactions = forest.limits.transactions; calls = as_many i }; base = record { tree = tree i; last_txn = last_in forest; last_stamp = last i }; events = []; asks = finite.empty; last_txn = none_more i; last_stamp = last i })
 
 pub no-lives : (s : State) → NoneIsLive s → has_live s ≡ false
 no-lives s none = ap (λ n. nat_lt 0 n) (nobody (begun posix_calls (history s)))

@@ -16,6 +16,7 @@ use Rattle.ft_posix.specs.declared.call.Call.{Call}
 use Rattle.ft_posix.specs.Posix.{posix_calls}
 use Rattle.ft_undo.specs.declared.logs.Logged.{Logged}
 use Rattle.ft_undo.specs.Logs.{AreLists}
+use Rattle.ft_forest.specs.declared.limits.ForestLimits.{ForestLimits}
 use Rattle.ft_forest.specs.Transactions.{Transaction, Transactions, none_since, transaction_in, parent_of, state_of as life_of}
 use Rattle.ft_moss.specs.declared.rule.Rule.{Rule}
 use Rattle.ft_moss.specs.Rules.{is_strict}
@@ -33,8 +34,8 @@ use Rattle.ft_core.proofs.Accounts.{fresh-accounted}
 use Rattle.ft_core.proofs.Joining.{sound_values}
 use Rattle.ft_core.proofs.Gathered.{parts}
 
-pub none-in : (first x : ℕ) → transaction_in (none_since first) x ≡ None
-none-in first x = by_test (nat_lt first x) (λ k. ap (λ b. cond b (slice_get {X = Transaction} [] (x - (first + 1))) None) k ∙ refl) (λ k. ap (λ b. cond b (slice_get {X = Transaction} [] (x - (first + 1))) None) k)
+pub none-in : (limits : ForestLimits) (first x : ℕ) → transaction_in (none_since limits first) x ≡ None
+none-in limits first x = by_test (nat_lt first x) (λ k. ap (λ b. cond b (slice_get {X = Transaction} [] (x - (first + 1))) None) k ∙ refl) (λ k. ap (λ b. cond b (slice_get {X = Transaction} [] (x - (first + 1))) None) k)
 
 pub unborn : (first x : ℕ) → fate posix_calls first [] x ≡ None
 unborn first x = by_test (nat_lt first x && nat_le x first)
@@ -42,9 +43,9 @@ unborn first x = by_test (nat_lt first x && nat_le x first)
     (λ k. ap (λ b. cond b (Some (cond false Committed (cond false Aborted Live))) None) k)
 
 -- new: the root alone
-pub core-first : CallLaws → LockLaws → (rule : Rule) (limits : TreeLimits) (cells : Cells) → cells ≡ fresh_cells limits → AreSoundCells cells → ((k : ℕ) → 2 ≤ k → IsFree cells k) → (lists : Lists Logged) → AreLists lists (λ t. [])
-    → IsCoreOf (state_of (none_since 0) (no_events rule (tidy cells) 1)) (parts cells (none_since 0) no_locks lists) (no_events rule (tidy cells) 1)
-core-first W K rule limits cells fresh sound free lists none = record {
+pub core-first : CallLaws → LockLaws → (rule : Rule) (calls : ℕ) (few : ForestLimits) (limits : TreeLimits) (cells : Cells) → cells ≡ fresh_cells limits → AreSoundCells cells → ((k : ℕ) → 2 ≤ k → IsFree cells k) → (lists : Lists Logged) → AreLists lists (λ t. [])
+    → IsCoreOf (state_of (none_since few 0) (no_events rule calls (tidy cells) 1)) (parts cells (none_since few 0) no_locks lists) (no_events rule calls (tidy cells) 1)
+core-first W K rule calls few limits cells fresh sound free lists none = record {
   log = λ t. [];
   kept = record {
     started = record {
@@ -65,11 +66,11 @@ core-first W K rule limits cells fresh sound free lists none = record {
   transactions = record {
     base_is = refl;
     last = refl;
-    parents = λ x. ap parent_of (none-in 0 x);
-    fates = λ x. ap (λ o. fate_in (life_of o)) (none-in 0 x) ∙ sym (unborn 0 x);
+    parents = λ x. ap parent_of (none-in few 0 x);
+    fates = λ x. ap (λ o. fate_in (life_of o)) (none-in few 0 x) ∙ sym (unborn 0 x);
   };
   locks = K.first;
-  no_holder = λ strict. K.holders.first (none_since 0);
+  no_holder = λ strict. K.holders.first (none_since few 0);
   logs = record { logged = λ t. subst (AreLogged []) (sym (none t)) tt; placed = λ t e i. absurd i };
   ready = λ t live. absurd (not_live (sym (unborn 0 t) ∙ live));
   waiting = λ t some. absurd (false≢true (sym (ap is_some (finite.get-empty {X = Call} nat_cmp t)) ∙ some));
@@ -79,14 +80,14 @@ core-first W K rule limits cells fresh sound free lists none = record {
     not_live : {f : Fate} → None ≡ Some f → ⊥
     not_live e = cc
 
-pub core-new : CallLaws → LockLaws → (rule : Rule) (limits : TreeLimits) (cells : Cells) → cells ≡ fresh_cells limits → AreSoundCells cells → ((k : ℕ) → 2 ≤ k → IsFree cells k) → (lists : Lists Logged) → AreLists lists (λ t. []) → (forest : Transactions) → forest ≡ none_since 0
-    → (table : LockTable) → table ≡ no_locks → (j : Journaled) → j ≡ no_events rule (tidy cells) 1 → IsCoreOf (state_of forest j) (parts cells forest table lists) j
-core-new W K rule limits cells fresh sound free lists none forest first table empty j is =
-    let q : Journaled = no_events rule (tidy cells) 1 in
+pub core-new : CallLaws → LockLaws → (rule : Rule) (calls : ℕ) (few : ForestLimits) (limits : TreeLimits) (cells : Cells) → cells ≡ fresh_cells limits → AreSoundCells cells → ((k : ℕ) → 2 ≤ k → IsFree cells k) → (lists : Lists Logged) → AreLists lists (λ t. []) → (forest : Transactions) → forest ≡ none_since few 0
+    → (table : LockTable) → table ≡ no_locks → (j : Journaled) → j ≡ no_events rule calls (tidy cells) 1 → IsCoreOf (state_of forest j) (parts cells forest table lists) j
+core-new W K rule calls few limits cells fresh sound free lists none forest first table empty j is =
+    let q : Journaled = no_events rule calls (tidy cells) 1 in
     subst (λ (k : Journaled). IsCoreOf (state_of forest k) (parts cells forest table lists) k) (sym is)
     (subst (λ (m : Transactions). IsCoreOf (state_of m q) (parts cells m table lists) q) (sym first)
-    (subst (λ (t : LockTable). IsCoreOf (state_of (none_since 0) q) (parts cells (none_since 0) t lists) q) (sym empty)
-    (core-first W K rule limits cells fresh sound free lists none)))
+    (subst (λ (t : LockTable). IsCoreOf (state_of (none_since few 0) q) (parts cells (none_since few 0) t lists) q) (sym empty)
+    (core-first W K rule calls few limits cells fresh sound free lists none)))
 
 module _ {base : Base} {h : History} {asks : Asks} {last_txn last_number : ℕ} {cells : Cells} {forest : Transactions} {table : LockTable} {lists : Lists Logged} {j : Journaled} (core : IsCoreAt base h asks last_txn last_number cells forest table lists j) where
   -- others wait

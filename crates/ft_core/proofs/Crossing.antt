@@ -3,10 +3,10 @@
 use denote.Param.Send.{IsSend, sendable}
 use Rattle.std.proofs.Crossing.{crosses}
 use Rattle.ft_base.proofs.chains.Chains.TheSendSync as chains
+use Rattle.ft_base.proofs.paged_table.PagedTable.TheSendSync as paged_table
 use Rattle.ft_base.proofs.table.Table.TheSendSync as table
 use Rattle.ft_path.proofs.name.Name.TheSendSync as name
-use Rattle.ft_body.proofs.pages.Lost.TheSendSync as lost
-use Rattle.ft_body.specs.contracts.undo.BodyUndo as BodyUndo
+use Rattle.ft_body.proofs.Crossing.{BodyUndo-send}
 use Rattle.ft_cells.proofs.node.Node.TheSendSync as node
 use Rattle.ft_cells.proofs.open_file.OpenFile.TheSendSync as open_file
 use Rattle.ft_tree.proofs.tree.Tree.TheSendSync as tree
@@ -18,12 +18,10 @@ use Rattle.ft_undo.specs.contracts.undo.Undo as Undo
 use Rattle.ft_undo.specs.contracts.logs.Logged as Logged
 use Rattle.ft_undo.specs.contracts.logs.Logs as Logs
 use Rattle.ft_core.proofs.past.Past.TheSendSync as past
+use Rattle.ft_core.proofs.journal.Terms.TheSendSync as terms
 use Rattle.ft_core.specs.contracts.journal.Journal as Journal
 use Rattle.ft_core.specs.contracts.parts.Parts as Parts
 use Rattle.ft_core.specs.contracts.manager.Core as Core
-
-BodyUndo-send : IsSend BodyUndo.the_row
-BodyUndo-send = search (lost.the_field_send, crosses, sendable) depth 40
 
 Back-send : IsSend Back.the_row
 Back-send = search (BodyUndo-send, name.the_send, node.the_field_send, open_file.the_field_send, sendable) depth 40
@@ -38,7 +36,7 @@ Logs-send : IsSend Logs.the_row
 Logs-send = let chains = chains.the_send Logged.the_row Logged-send in search sendable depth 20
 
 Journal-send : IsSend Journal.the_row
-Journal-send = search (past.the_send, call.the_send, table.the_send, tree.the_send, crosses, sendable) depth 40
+Journal-send = search (past.the_send, terms.the_field_send, call.the_send, table.the_send, paged_table.the_send, tree.the_send, crosses, sendable) depth 40
 
 Parts-send : IsSend Parts.the_field.row
 Parts-send = search (tree.the_send, forest.the_send, locks.the_send, Logs-send, crosses, sendable) depth 40

@@ -36,13 +36,14 @@ pub record HasTold (j j' : Journaled) (e : Event) (asks : Asks) : Type 0 where
   pub events : j'.events ≡ j.events ++ e ∷ []
   pub asks_are : j'.asks ≡ asks
   pub rule : j'.rule ≡ j.rule
+  pub calls : j'.calls ≡ j.calls
   pub base_tree : j'.base_tree ≡ j.base_tree
   pub base_stamp : j'.base_stamp ≡ j.base_stamp
   pub last_stamp : j'.last_stamp ≡ j.last_stamp
 
-pub state-ended : (forest forest' : Transactions) (j j' : Journaled) (e : Event) (asks : Asks) → forest'.base ≡ forest.base → last_in forest' ≡ last_in forest → HasTold j j' e asks → state_of forest' j' ≡ ended (state_of forest j) e asks
-state-ended forest forest' j j' e asks base last has =
-    λ i. record { rule = has.rule i; base = record { tree = has.base_tree i; last_txn = base i; last_stamp = has.base_stamp i }; events = has.events i; asks = has.asks_are i; last_txn = last i; last_stamp = has.last_stamp i }
+pub state-ended : (forest forest' : Transactions) (j j' : Journaled) (e : Event) (asks : Asks) → forest'.limits ≡ forest.limits → forest'.base ≡ forest.base → last_in forest' ≡ last_in forest → HasTold j j' e asks → state_of forest' j' ≡ ended (state_of forest j) e asks
+state-ended forest forest' j j' e asks limits base last has =
+    λ i. record { rule = has.rule i; limits = record { depth = (limits i).depth; transactions = (limits i).transactions; calls = has.calls i }; base = record { tree = has.base_tree i; last_txn = base i; last_stamp = has.base_stamp i }; events = has.events i; asks = has.asks_are i; last_txn = last i; last_stamp = has.last_stamp i }
 
 pub core-ended : (s s' : State) (e : Event) (asks : Asks) {cells : Cells} {forest : Transactions} {table : LockTable} {lists : Lists Logged} {j : Journaled} → s' ≡ ended s e asks
     → IsCoreAt s.base (as_happening e ∷ history s) asks s.last_txn s.last_stamp cells forest table lists j → IsCoreOf s' (parts cells forest table lists) j
@@ -51,11 +52,11 @@ core-ended s s' e asks {cells} {forest} {table} {lists} {j} is core =
     (subst (λ h. IsCoreAt s.base h asks s.last_txn s.last_stamp cells forest table lists j) (sym (told-push s.events e)) core)
 
 pub told-commit : (j j' : Journaled) (t : ℕ) (up : Option ℕ) → j' ≡ with_event (without (noted_up j up) t) (Commit t) → HasTold j j' (Commit t) (finite.remove j.asks t)
-told-commit j j' t None is = record { events = ap (λ (q : Journaled). q.events) is; asks_are = ap (λ (q : Journaled). q.asks) is; rule = ap (λ (q : Journaled). q.rule) is; base_tree = ap (λ (q : Journaled). q.base_tree) is; base_stamp = ap (λ (q : Journaled). q.base_stamp) is; last_stamp = ap (λ (q : Journaled). q.last_stamp) is }
-told-commit j j' t (Some p) is = record { events = ap (λ (q : Journaled). q.events) is; asks_are = ap (λ (q : Journaled). q.asks) is; rule = ap (λ (q : Journaled). q.rule) is; base_tree = ap (λ (q : Journaled). q.base_tree) is; base_stamp = ap (λ (q : Journaled). q.base_stamp) is; last_stamp = ap (λ (q : Journaled). q.last_stamp) is }
+told-commit j j' t None is = record { events = ap (λ (q : Journaled). q.events) is; asks_are = ap (λ (q : Journaled). q.asks) is; rule = ap (λ (q : Journaled). q.rule) is; calls = ap (λ (q : Journaled). q.calls) is; base_tree = ap (λ (q : Journaled). q.base_tree) is; base_stamp = ap (λ (q : Journaled). q.base_stamp) is; last_stamp = ap (λ (q : Journaled). q.last_stamp) is }
+told-commit j j' t (Some p) is = record { events = ap (λ (q : Journaled). q.events) is; asks_are = ap (λ (q : Journaled). q.asks) is; rule = ap (λ (q : Journaled). q.rule) is; calls = ap (λ (q : Journaled). q.calls) is; base_tree = ap (λ (q : Journaled). q.base_tree) is; base_stamp = ap (λ (q : Journaled). q.base_stamp) is; last_stamp = ap (λ (q : Journaled). q.last_stamp) is }
 
 pub told-event : (j j' : Journaled) (e : Event) → j' ≡ with_event j e → HasTold j j' e j.asks
-told-event j j' e is = record { events = ap (λ (q : Journaled). q.events) is; asks_are = ap (λ (q : Journaled). q.asks) is; rule = ap (λ (q : Journaled). q.rule) is; base_tree = ap (λ (q : Journaled). q.base_tree) is; base_stamp = ap (λ (q : Journaled). q.base_stamp) is; last_stamp = ap (λ (q : Journaled). q.last_stamp) is }
+told-event j j' e is = record { events = ap (λ (q : Journaled). q.events) is; asks_are = ap (λ (q : Journaled). q.asks) is; rule = ap (λ (q : Journaled). q.rule) is; calls = ap (λ (q : Journaled). q.calls) is; base_tree = ap (λ (q : Journaled). q.base_tree) is; base_stamp = ap (λ (q : Journaled). q.base_stamp) is; last_stamp = ap (λ (q : Journaled). q.last_stamp) is }
 
 -- asks and marks went before
 pub told-less : (j₀ j j' : Journaled) (e : Event) (asks : Asks) → j ≡ record j₀ { asks = j.asks; subs = j.subs } → j.asks ≡ asks → j' ≡ with_event j e → HasTold j₀ j' e asks
@@ -63,6 +64,7 @@ told-less j₀ j j' e asks less are is = record {
   events = ap (λ (q : Journaled). q.events) is ∙ ap (λ (q : Journaled). q.events ++ e ∷ []) less;
   asks_are = ap (λ (q : Journaled). q.asks) is ∙ are;
   rule = ap (λ (q : Journaled). q.rule) is ∙ ap (λ (q : Journaled). q.rule) less;
+  calls = ap (λ (q : Journaled). q.calls) is ∙ ap (λ (q : Journaled). q.calls) less;
   base_tree = ap (λ (q : Journaled). q.base_tree) is ∙ ap (λ (q : Journaled). q.base_tree) less;
   base_stamp = ap (λ (q : Journaled). q.base_stamp) is ∙ ap (λ (q : Journaled). q.base_stamp) less;
   last_stamp = ap (λ (q : Journaled). q.last_stamp) is ∙ ap (λ (q : Journaled). q.last_stamp) less;

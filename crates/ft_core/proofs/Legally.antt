@@ -13,7 +13,6 @@ use Rattle.ft_history.specs.Legal.{outcome, MayGrant, Allowed}
 use Rattle.ft_history.specs.Core.{Machine, machine}
 use Rattle.ft_history.proofs.Machine.{machine_core, machine_same}
 use Rattle.ft_history.proofs.Methods.{core_same}
-use Rattle.ft_core.specs.declared.TheConstants.{MOST_CALLS}
 use Rattle.ft_core.specs.declared.fault.Fault.{Fault}
 use Rattle.ft_core.specs.declared.fault.Fault.TheVariants.{ChildLive, Full}
 use Rattle.ft_core.specs.declared.request.Request.{Request}
@@ -105,7 +104,7 @@ module _ (W : CallLaws) (K : LockLaws) where
       } in
       subst (λ h. IsLegalFrom s.base h s.last_txn k) (sym (told-push s.events (CallEvent k t call (reply_of s call) (accesses_now s call))))
       (record {
-        started = started-granted s.base (history s) s.last_txn s.last_stamp c refl (next-fits (nat_le MOST_CALLS (length (grants posix_calls (history s)))) s.last_stamp few) at.started;
+        started = started-granted s.base (history s) s.last_txn s.last_stamp c refl (next-fits (nat_le s.limits.calls (length (grants posix_calls (history s)))) s.last_stamp few) at.started;
         legal = (may, at.legal);
       })
 

@@ -3,7 +3,7 @@ mod PastWalks
 mod Gathered
 mod Counts
 pub mod Joining
-pub mod Limits
+pub mod Allowing
 mod Reporting
 pub mod Begins
 mod Opening

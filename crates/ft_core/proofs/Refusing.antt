@@ -2,12 +2,12 @@
 use Rattle.std.proofs.Common.{◌≡◌, ◌||◌, ℕ, Bool, true, false, nat_le, Option, Some, None, Result, Ok, Err, IfErr, IsErrAnd, MatchOption, length, arith, refl, sym, ap, subst, ◌∙◌}
 use Rattle.std.specs.Option.{option_map}
 use Rattle.ft_posix.specs.Posix.{posix_calls}
-use Rattle.ft_forest.specs.declared.TheConstants.{MOST_TRANSACTIONS, MOST_DEPTH, LAST_NUMBER}
+use Rattle.ft_forest.specs.declared.TheConstants.{LAST_NUMBER}
 use Rattle.ft_forest.specs.declared.fault.ForestFault.{ForestFault}
 use Rattle.ft_forest.specs.declared.fault.ForestFault.TheVariants as forest_fault
 use Rattle.ft_forest.specs.declared.state.State.{State as Life}
 use Rattle.ft_forest.specs.declared.state.State.TheVariants.{Live as LiveState, Committed as CommittedState, Aborted as AbortedState}
-use Rattle.ft_forest.specs.Transactions.{Transactions, state_in, depth_in, depth_within}
+use Rattle.ft_forest.specs.Transactions.{Transactions, state_in, last_in, depth_in, depth_within}
 use Rattle.ft_forest.specs.Refusals.{refusal_of as refusal_after, fault_if as forest_fault_if, is_full, begin_refusal, sub_refusal, IsRefusal}
 use Rattle.ft_history.specs.History.{begun}
 use Rattle.ft_core.specs.declared.fault.Fault.{Fault}
@@ -18,6 +18,7 @@ use Rattle.ft_core.specs.declared.request.Answer.{Answer}
 use Rattle.ft_core.specs.declared.request.Answer.TheVariants.{Refused}
 use Rattle.ft_core.specs.Faults.{fault_from}
 use Rattle.ft_core.specs.States.{State, history, has_most_transactions, is_deepest, fate_in}
+use Rattle.ft_core.specs.Journals.{Journaled, state_of}
 use Rattle.ft_core.specs.Opens.{add_refusal}
 use Rattle.ft_core.specs.Steps.{fault_if, fault_of_fate, refusal_of, begin_request, IsAnswered, IsStep, exact_rule, answer_with}
 use Rattle.ft_core.specs.Kept.{IsStarted, AreTransactions}
@@ -32,25 +33,28 @@ from-state (Some LiveState) later = refl
 from-state (Some CommittedState) later = refl
 from-state (Some AbortedState) later = refl
 
-module _ (s : State) (forest : Transactions) (are : AreTransactions s.base (history s) s.last_txn forest) (started : IsStarted s.base (history s) s.last_txn s.last_stamp) where
+module _ (j : Journaled) (forest : Transactions) (are : AreTransactions (state_of forest j).base (history (state_of forest j)) (last_in forest) forest) (started : IsStarted (state_of forest j).base (history (state_of forest j)) (last_in forest) j.last_stamp) where
+  abbrev s : State
+  s = state_of forest j
+
   full-same : is_full forest ≡ has_most_transactions s
   full-same =
       let base_is = are.base_is in
       let last = are.last in
       let counted = started.counted in
       let count : length forest.list ≡ length (begun posix_calls (history s)) = omega arith in
-      (λ i. nat_le MOST_TRANSACTIONS (count i) || nat_le LAST_NUMBER (last i))
+      (λ i. nat_le forest.limits.transactions (count i) || nat_le LAST_NUMBER (last i))
 
-  deep-same : (t : ℕ) → nat_le MOST_DEPTH (depth_in forest t) ≡ is_deepest s t
-  deep-same t = λ i. nat_le MOST_DEPTH (depth_within (λ x. are.parents x i) t t)
+  deep-same : (t : ℕ) → nat_le forest.limits.depth (depth_in forest t) ≡ is_deepest s t
+  deep-same t = λ i. nat_le forest.limits.depth (depth_within (λ x. are.parents x i) t t)
 
   pub begin-same : option_map fault_from (begin_refusal forest) ≡ refusal_of s Begin
   begin-same = from-if (is_full forest) forest_fault.Full None ∙ ap (λ b. fault_if b Full None) full-same
 
   pub sub-same : (t : ℕ) → option_map fault_from (sub_refusal forest t) ≡ refusal_of s (Sub t)
   sub-same t =
-      from-state (state_in forest t) (forest_fault_if (nat_le MOST_DEPTH (depth_in forest t)) forest_fault.Deep (begin_refusal forest))
-      ∙ ap (fault_of_fate (fate_in (state_in forest t))) (from-if (nat_le MOST_DEPTH (depth_in forest t)) forest_fault.Deep (begin_refusal forest) ∙ (λ i. fault_if (deep-same t i) Deep (begin-same i)))
+      from-state (state_in forest t) (forest_fault_if (nat_le forest.limits.depth (depth_in forest t)) forest_fault.Deep (begin_refusal forest))
+      ∙ ap (fault_of_fate (fate_in (state_in forest t))) (from-if (nat_le forest.limits.depth (depth_in forest t)) forest_fault.Deep (begin_refusal forest) ∙ (λ i. fault_if (deep-same t i) Deep (begin-same i)))
       ∙ ap (λ o. fault_of_fate o (fault_if (is_deepest s t) Deep (refusal_of s Begin))) (are.fates t)
 
   pub add-same : (up : Option ℕ) → option_map fault_from (add_refusal forest up) ≡ refusal_of s (begin_request up)

@@ -14,7 +14,7 @@ use Rattle.ft_laws.proofs.Tests.{by_test, by_option}
 use Rattle.ft_cells.specs.declared.cell.Cell.{Cell}
 use Rattle.ft_cells.specs.declared.cell.Cell.TheVariants.{Entry, Names, Parent, Links, Bytes, Fd}
 use Rattle.ft_cells.specs.Cells.{Cells, FileCells, no_file, bytes_of, links_of, HasFilePlace}
-use Rattle.ft_tree.specs.Held.{Holds, IsStored, held, blank}
+use Rattle.ft_tree.specs.Held.{Holds, IsStored, held}
 use Rattle.ft_tree.specs.Sound.{AreSoundCells}
 use Rattle.ft_tree.specs.Sweep.{IsSwept, is_dropped, HasNoneToDrop}
 use Rattle.ft_posix.specs.Posix.{HasSoundValues, file_of, names_file, posix_calls}

@@ -15,16 +15,16 @@ use Rattle.ft_moss.specs.declared.rule.Rule.{Rule}
 use Rattle.ft_moss.specs.contracts.rule.Rule as rule
 use Rattle.ft_forest.specs.declared.TheConstants.{LAST_NUMBER}
 use Rattle.ft_forest.specs.Transactions.{Transactions, last_in}
-use Rattle.ft_core.specs.declared.TheConstants.{MOST_CALLS}
 use Rattle.ft_core.specs.declared.request.Event.{Event}
 use Rattle.ft_core.specs.declared.request.Event.TheVariants.{Begin, Call as CallEvent}
 use Rattle.ft_core.specs.contracts.request.Event as event
 use Rattle.ft_core.specs.States.{State, Asks, coded_asks}
 
--- the rule for holders, the events and the asks, what is noted of each live transaction, the base,
--- and the last stamp
+-- the rule for holders, how many calls may be granted since the base, the events and the asks, what
+-- is noted of each live transaction, the base, and the last stamp
 pub record Journaled : Type 0 where
   pub rule : Rule
+  pub calls : ℕ
   pub events : List Event
   pub asks : Asks
   -- for each live transaction the last stamp when a child of it last committed
@@ -36,10 +36,10 @@ pub record Journaled : Type 0 where
 -- a code of it, which a model needs
 abbrev pub coded_journaled : Coded Journaled
 coded_journaled =
-    code_by (Rule × (List Event × (Asks × (finite.FinMap nat_cmp (Option ℕ) × (PlainTree × (ℕ × ℕ))))))
-    (coded× rule.the_row.coded (coded× (coded_list event.the_row.coded) (coded× coded_asks (coded× (finite.code coded_ℕ (coded_option coded_ℕ)) (coded× coded_tree (coded× coded_ℕ coded_ℕ))))))
-    (λ j. (j.rule, (j.events, (j.asks, (j.subs, (j.base_tree, (j.base_stamp, j.last_stamp)))))))
-    (λ p. record { rule = p.0; events = p.1.0; asks = p.1.1.0; subs = p.1.1.1.0; base_tree = p.1.1.1.1.0; base_stamp = p.1.1.1.1.1.0; last_stamp = p.1.1.1.1.1.1 }) (λ _. refl)
+    code_by (Rule × (ℕ × (List Event × (Asks × (finite.FinMap nat_cmp (Option ℕ) × (PlainTree × (ℕ × ℕ)))))))
+    (coded× rule.the_row.coded (coded× coded_ℕ (coded× (coded_list event.the_row.coded) (coded× coded_asks (coded× (finite.code coded_ℕ (coded_option coded_ℕ)) (coded× coded_tree (coded× coded_ℕ coded_ℕ)))))))
+    (λ j. (j.rule, (j.calls, (j.events, (j.asks, (j.subs, (j.base_tree, (j.base_stamp, j.last_stamp))))))))
+    (λ p. record { rule = p.0; calls = p.1.0; events = p.1.1.0; asks = p.1.1.1.0; subs = p.1.1.1.1.0; base_tree = p.1.1.1.1.1.0; base_stamp = p.1.1.1.1.1.1.0; last_stamp = p.1.1.1.1.1.1.1 }) (λ _. refl)
 
 -- A tree from which a history may go on: it is sound, and no number above
 -- the last stamp stands in it.
@@ -47,17 +47,17 @@ pub record IsBaseTree (cells : Cells) (stamp : ℕ) : Type 0 where
   pub sound : AreSoundCells cells
   pub free : (k : ℕ) → stamp < k → IsFree cells k
 
--- no event, from this tree and this stamp on
-abbrev pub no_events : Rule → PlainTree → ℕ → Journaled
-no_events rule tree stamp = record { rule = rule; events = []; asks = finite.empty; subs = finite.empty; base_tree = tree; base_stamp = stamp; last_stamp = stamp }
+-- no event, by this rule and with so many calls that there may be, from this tree and this stamp on
+abbrev pub no_events : Rule → ℕ → PlainTree → ℕ → Journaled
+no_events rule calls tree stamp = record { rule = rule; calls = calls; events = []; asks = finite.empty; subs = finite.empty; base_tree = tree; base_stamp = stamp; last_stamp = stamp }
 
 -- the last stamp when a child of t last committed
 abbrev pub sub_in : Journaled → ℕ → Option ℕ
 sub_in j t = option_flatten (finite.get j.subs t)
 
--- 1,000,000 calls since the base, or the last stamp is 2^63 - 1
+-- as many calls since the base as there may be, or the last stamp is 2^63 - 1
 abbrev pub is_full : Journaled → Bool
-is_full j = nat_le MOST_CALLS (j.last_stamp - j.base_stamp) || nat_le LAST_NUMBER j.last_stamp
+is_full j = nat_le j.calls (j.last_stamp - j.base_stamp) || nat_le LAST_NUMBER j.last_stamp
 
 -- a begin more
 abbrev pub with_begin : Journaled → ℕ → Option ℕ → Journaled
@@ -107,6 +107,7 @@ IsNoted j (Some parent) = IsSome (finite.get j.subs parent)
 abbrev pub state_of : Transactions → Journaled → State
 state_of forest j = record {
   rule = j.rule;
+  limits = record { depth = forest.limits.depth; transactions = forest.limits.transactions; calls = j.calls };
   base = record { tree = j.base_tree; last_txn = forest.base; last_stamp = j.base_stamp };
   events = j.events;
   asks = j.asks;

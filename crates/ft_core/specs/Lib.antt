@@ -1,5 +1,6 @@
 pub mod Faults
 pub mod Histories
+pub mod Limits
 pub mod States
 pub mod Living
 pub mod Steps

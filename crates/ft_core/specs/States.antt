@@ -6,7 +6,7 @@ use Rattle.std.specs.Prelude.{ℕ, ◌+◌, Bool, not, ◌||◌, nat_le, nat_lt,
 use Rattle.std.specs.Ordering.{nat_cmp}
 use Rattle.std.specs.FinMap as finite
 use Rattle.std.specs.Coded.{Coded, code_by, coded×, coded_ℕ, coded_list}
-use Rattle.ft_cells.specs.Limits.{default_limits}
+use Rattle.ft_cells.specs.declared.limits.TreeLimits.{TreeLimits}
 use Rattle.ft_cells.specs.Cells.{Cells, fresh_cells}
 use Rattle.ft_cells.specs.Plain.{PlainTree}
 use Rattle.ft_cells.specs.PlainCode.{coded_tree}
@@ -27,12 +27,13 @@ use Rattle.ft_moss.specs.declared.rule.Rule.{Rule}
 use Rattle.ft_moss.specs.contracts.rule.Rule as rule
 use Rattle.ft_forest.specs.declared.state.State.{State as Life}
 use Rattle.ft_forest.specs.declared.state.State.TheVariants.{Live as LiveState, Committed as CommittedState, Aborted as AbortedState}
-use Rattle.ft_forest.specs.declared.TheConstants.{MOST_TRANSACTIONS, MOST_DEPTH, LAST_NUMBER}
-use Rattle.ft_core.specs.declared.TheConstants.{MOST_CALLS}
+use Rattle.ft_forest.specs.declared.TheConstants.{LAST_NUMBER}
+use Rattle.ft_core.specs.declared.limits.Limits.{Limits}
 use Rattle.ft_core.specs.declared.request.Event.{Event}
 use Rattle.ft_core.specs.declared.request.Event.TheVariants.{Begin, Call as CallEvent, Undo, Commit, Abort}
 use Rattle.ft_core.specs.contracts.request.Event as event
 use Rattle.ft_core.specs.Histories.{History, Granted, told, depth_of}
+use Rattle.ft_core.specs.Limits.{HistoryLimits, of_tree, of_history}
 
 -- what stood at the start, or at the last checkpoint: a plain tree, the last
 -- transaction's number and the last stamp
@@ -45,11 +46,13 @@ pub record Base : Type 0 where
 abbrev pub Asks : Type 0
 Asks = finite.FinMap nat_cmp Call
 
--- the rule for holders, the base, what has happened since, who waits for
--- what, and the last numbers given
+-- the rule for holders, the limits of what may happen, the base, what has happened since, who waits
+-- for what, and the last numbers given
 pub record State : Type 0 where
   -- by which rule it is told who is in the way of a call; it never changes
   pub rule : Rule
+  -- what is allowed of the history; it never changes, and those of the tree are the tree's
+  pub limits : HistoryLimits
   pub base : Base
   -- what has happened since, oldest first
   pub events : List Event
@@ -68,13 +71,17 @@ coded_base =
 abbrev pub coded_asks : Coded Asks
 coded_asks = finite.code coded_ℕ call.the_row.coded
 
+-- a code of limits, which a model needs
+abbrev pub coded_limits : Coded HistoryLimits
+coded_limits = code_by (ℕ × (ℕ × ℕ)) (coded× coded_ℕ (coded× coded_ℕ coded_ℕ)) (λ l. (l.depth, (l.transactions, l.calls))) (λ p. record { depth = p.0; transactions = p.1.0; calls = p.1.1 }) (λ _. refl)
+
 -- a code of states, which a model needs
 abbrev pub coded_state : Coded State
 coded_state =
-    code_by (Rule × (Base × (List Event × (Asks × (ℕ × ℕ)))))
-    (coded× rule.the_row.coded (coded× coded_base (coded× (coded_list event.the_row.coded) (coded× coded_asks (coded× coded_ℕ coded_ℕ)))))
-    (λ s. (s.rule, (s.base, (s.events, (s.asks, (s.last_txn, s.last_stamp))))))
-    (λ p. record { rule = p.0; base = p.1.0; events = p.1.1.0; asks = p.1.1.1.0; last_txn = p.1.1.1.1.0; last_stamp = p.1.1.1.1.1 }) (λ _. refl)
+    code_by (Rule × (HistoryLimits × (Base × (List Event × (Asks × (ℕ × ℕ))))))
+    (coded× rule.the_row.coded (coded× coded_limits (coded× coded_base (coded× (coded_list event.the_row.coded) (coded× coded_asks (coded× coded_ℕ coded_ℕ))))))
+    (λ s. (s.rule, (s.limits, (s.base, (s.events, (s.asks, (s.last_txn, s.last_stamp)))))))
+    (λ p. record { rule = p.0; limits = p.1.0; base = p.1.1.0; events = p.1.1.1.0; asks = p.1.1.1.1.0; last_txn = p.1.1.1.1.1.0; last_stamp = p.1.1.1.1.1.1 }) (λ _. refl)
 
 -- What a core is: its state, and the cells in which its tree is stored. No call sees more of them
 -- than their tree; how many places they have is what a sweep changes.
@@ -86,14 +93,17 @@ pub record StoredState : Type 0 where
 abbrev pub coded_stored : Coded StoredState
 coded_stored = code_by (State × Cells) (coded× coded_state tree.the_row.coded) (λ s. (s.state, s.cells)) (λ p. record { state = p.0; cells = p.1 }) (λ _. refl)
 
--- the root alone, of number 1, in a tree with the limits that it has by default; no transaction,
--- and the stamp 1
-abbrev pub first_base : Base
-first_base = record { tree = tidy (fresh_cells default_limits); last_txn = 0; last_stamp = 1 }
+-- the root alone, of number 1, in a tree with these limits; no transaction, and the stamp 1
+abbrev pub first_base : TreeLimits → Base
+first_base limits = record { tree = tidy (fresh_cells limits); last_txn = 0; last_stamp = 1 }
 
--- the state of a rule and a base: nothing has happened since
-abbrev pub at_base : Rule → Base → State
-at_base rule base = record { rule = rule; base = base; events = []; asks = finite.empty; last_txn = base.last_txn; last_stamp = base.last_stamp }
+-- the state of a rule, of limits and of a base: nothing has happened since
+abbrev pub at_base : Rule → HistoryLimits → Base → State
+at_base rule limits base = record { rule = rule; limits = limits; base = base; events = []; asks = finite.empty; last_txn = base.last_txn; last_stamp = base.last_stamp }
+
+-- the state of a new core with this rule and these limits
+abbrev pub first_state : Rule → Limits → State
+first_state rule limits = at_base rule (of_history limits) (first_base (of_tree limits))
 
 -- the events as a history
 abbrev pub history : State → History
@@ -144,17 +154,27 @@ tree_of s = tree_after s.base.tree (standing_calls s)
 
 -- Limits.
 
--- 100,000 transactions since the base, or the last number is 2^63 - 1
+-- those of the tree, which are the base's, and those of the history
+abbrev pub limits_of : State → Limits
+limits_of s = record {
+  file_size = s.base.tree.limits.file_size;
+  links = s.base.tree.limits.links;
+  depth = s.limits.depth;
+  transactions = s.limits.transactions;
+  calls = s.limits.calls;
+}
+
+-- as many transactions since the base as there may be, or the last number is 2^63 - 1
 abbrev pub has_most_transactions : State → Bool
-has_most_transactions s = nat_le MOST_TRANSACTIONS (length (begun posix_calls (history s))) || nat_le LAST_NUMBER s.last_txn
+has_most_transactions s = nat_le s.limits.transactions (length (begun posix_calls (history s))) || nat_le LAST_NUMBER s.last_txn
 
--- 1,000,000 granted calls since the base, or the last stamp is 2^63 - 1
+-- as many granted calls since the base as there may be, or the last stamp is 2^63 - 1
 abbrev pub has_most_calls : State → Bool
-has_most_calls s = nat_le MOST_CALLS (length (grants posix_calls (history s))) || nat_le LAST_NUMBER s.last_stamp
+has_most_calls s = nat_le s.limits.calls (length (grants posix_calls (history s))) || nat_le LAST_NUMBER s.last_stamp
 
--- the transaction has depth 64
+-- the transaction stands as deep as one may
 abbrev pub is_deepest : State → ℕ → Bool
-is_deepest s t = nat_le MOST_DEPTH (depth_of (history s) t)
+is_deepest s t = nat_le s.limits.depth (depth_of (history s) t)
 
 -- The state after an event.
 
@@ -216,10 +236,10 @@ abbrev pub count_standing : State → ℕ → ℕ
 count_standing s t = calls_below posix_calls (history s) t
 
 -- the tree as it stands is the base, and what has happened is forgotten; the
--- last numbers and the rule stay
+-- last numbers, the rule and the limits stay
 abbrev pub base_now : State → Base
 base_now s = record { tree = tree_of s; last_txn = s.last_txn; last_stamp = s.last_stamp }
 
--- the state of that base and the same rule: nothing has happened since
+-- the state of that base, the same rule and the same limits: nothing has happened since
 abbrev pub after_checkpoint : State → State
-after_checkpoint s = at_base s.rule (base_now s)
+after_checkpoint s = at_base s.rule s.limits (base_now s)

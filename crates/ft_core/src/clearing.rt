@@ -14,7 +14,7 @@ use ft_undo::Logs;
 
 impl Core {
     /// Makes the tree as it stands the base, and forgets the transactions and all that has
-    /// happened: limits count from here, and the next numbers go on.
+    /// happened: limits are the same and count from here, and the next numbers go on.
     ///
     /// Refuses Live where a transaction is live, and nothing else. Takes no memory.
     pub fn checkpoint(&mut self) -> Result<(), Fault>
@@ -43,9 +43,9 @@ impl Core {
         ensures { self.new.state ≡ after_checkpoint self.old.state }
     {
         self.sweep();
-        let rule = self.journal.rule();
+        let terms = self.journal.terms();
         let stamp = self.journal.last_stamp();
-        self.journal = Journal::new(self.alloc, rule, &self.parts.tree, stamp);
+        self.journal = Journal::new(self.alloc, terms, &self.parts.tree, stamp);
         self.parts.forest.restart();
         self.parts.locks = Locks::new(self.alloc);
         self.parts.logs = Logs::new(self.alloc);

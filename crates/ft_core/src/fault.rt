@@ -38,6 +38,9 @@ pub enum Fault {
     /// There are no views. No core answers it, but `publish` of one behind a lock (ft_shared).
     #[error("NoViews")]
     NoViews = 11,
+    /// A limit is above the greatest. No request answers it, but the making of a core.
+    #[error("BadLimits")]
+    BadLimits = 12,
 }
 
 impl From<Memory> for Fault {

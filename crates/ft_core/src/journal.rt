@@ -8,8 +8,8 @@ ghost use Rattle.ft_forest.specs.declared.TheConstants.{LAST_NUMBER as last_numb
 ghost use Rattle.ft_core.specs.Journals.{IsNoted, asked_for, no_events, sub_in, is_full, with_begin, with_call, with_ask, with_event, without, noted_up};
 ghost use Rattle.ft_core.specs.Noted.{event_of};
 
+use crate::LAST_NUMBER;
 use crate::past::{Grant, Past, Turn};
-use crate::{LAST_NUMBER, MOST_CALLS};
 use ft_base::{Memory, PagedTable, Table};
 use ft_calls::{Access, Call, Reply};
 use ft_forest::TxnId;
@@ -18,8 +18,15 @@ use ft_tree::Tree;
 use std::alloc::Global;
 use std::marker::Model;
 
+/// On what terms calls are granted: by which rule, and how many since the base.
+#[derive(Clone, Copy)]
+pub(crate) struct Terms {
+    pub rule: Rule,
+    pub calls: u64,
+}
+
 pub(crate) struct Journal {
-    rule: Rule,
+    terms: Terms,
     // (no bytes: what has happened is seen by clauses alone)
     past: Past,
     asks: Table<Call>,
@@ -31,7 +38,7 @@ pub(crate) struct Journal {
 impl Drop for Journal {
     fn drop(self) {
         let Journal {
-            rule: _,
+            terms: _,
             past: _,
             asks: _,
             subs: _,
@@ -50,7 +57,7 @@ impl Model for Journal {
 
     ghost coded = { coded_journaled };
 
-    ghost view = { λ a. record { rule = a.rule; events = a.past.events; asks = a.asks; subs = a.subs; base_tree = a.past.tree; base_stamp = a.base_stamp; last_stamp = a.last_stamp } };
+    ghost view = { λ a. record { rule = a.terms.rule; calls = a.terms.calls; events = a.past.events; asks = a.asks; subs = a.subs; base_tree = a.past.tree; base_stamp = a.base_stamp; last_stamp = a.last_stamp } };
 
     ghost invariant = { λ a. (a.base_stamp ≤ a.last_stamp) × (a.last_stamp ≤ last_number) };
 }
@@ -58,12 +65,12 @@ impl Model for Journal {
 impl Journal {
     /// Nothing has happened since this tree, which is not kept; `stamp` is the last one given
     /// before. Takes no memory.
-    pub(crate) fn new(alloc: Global, rule: Rule, base: &Tree, stamp: u64) -> Journal
+    pub(crate) fn new(alloc: Global, terms: Terms, base: &Tree, stamp: u64) -> Journal
         requires { stamp ≤ last_number }
-        ensures { result ≡ no_events rule (tidy base.now) stamp }
+        ensures { result ≡ no_events terms.rule terms.calls (tidy base.now) stamp }
     {
         Journal {
-            rule,
+            terms,
             past: Past::new(base),
             asks: Table::new(alloc),
             subs: PagedTable::new(alloc),
@@ -72,11 +79,19 @@ impl Journal {
         }
     }
 
+    /// By which rule calls are granted, and how many since the base.
+    pub(crate) fn terms(&self) -> Terms
+        ensures rule { result.rule ≡ self.now.rule }
+        ensures calls { result.calls ≡ self.now.calls }
+    {
+        self.terms
+    }
+
     /// By which rule calls are granted.
     pub(crate) fn rule(&self) -> Rule
         ensures { result ≡ self.now.rule }
     {
-        self.rule
+        self.terms.rule
     }
 
     /// The calls that transactions wait for.
@@ -125,7 +140,7 @@ impl Journal {
     pub(crate) fn is_full(&self) -> bool
         ensures { result ≡ is_full self.now }
     {
-        self.last_stamp - self.base_stamp >= MOST_CALLS || self.last_stamp >= LAST_NUMBER
+        self.last_stamp - self.base_stamp >= self.terms.calls || self.last_stamp >= LAST_NUMBER
     }
 
     pub(crate) fn next_stamp(&self) -> u64

@@ -8,6 +8,7 @@ mod ending;
 mod fault;
 mod journal;
 pub mod laws;
+mod limits;
 mod manager;
 mod parts;
 mod past;
@@ -17,11 +18,23 @@ mod running;
 mod sweeping;
 
 pub use fault::Fault;
-pub use ft_forest::{LAST_NUMBER, MOST_DEPTH, MOST_TRANSACTIONS, State, TxnId};
+pub use ft_forest::{
+    DEFAULT_DEPTH, DEFAULT_TRANSACTIONS, LAST_NUMBER, MOST_TRANSACTIONS, State, TxnId,
+};
 pub use ft_moss::Rule;
+pub use limits::Limits;
 pub use manager::Core;
 pub use reports::{LiveChild, Pending};
 pub use request::{Answer, Event, FullOutcome, Outcome, Request};
 
-/// The most granted calls since the base. A call that was undone counts too: it was granted.
-pub const MOST_CALLS: u64 = 1_000_000;
+/// How many calls may be granted since the base where nobody asks for more.
+pub const DEFAULT_CALLS: u64 = 1_000_000;
+
+/// The greatest limit of granted calls: 2^62.
+pub const MOST_CALLS: u64 = 4_611_686_018_427_387_904;
+
+/// The greatest limit of depth.
+pub const MOST_DEPTH: u64 = 4_096;
+
+/// The greatest limit of links: 2^32.
+pub const MOST_LINKS: u64 = 4_294_967_296;

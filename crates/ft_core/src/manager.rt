@@ -1,18 +1,19 @@
 // The core: nested transactions over one tree.
-ghost use Rattle.std.specs.Prelude.{◌≡◌, ◌<◌, ◌≤◌, ◌+◌, Some, None, Option, MatchBool, IfOk, IfErr, OnOk, OnErr};
+ghost use Rattle.std.specs.Prelude.{◌≡◌, ◌<◌, ◌≤◌, ◌+◌, true, cond, Some, None, Option, MatchBool, IfOk, IfErr, OnOk, OnErr};
 ghost use Rattle.ft_body.specs.declared.TheConstants.{LARGEST_SIZE};
 ghost use Rattle.ft_tree.specs.Tidy.{tidy};
 ghost use Rattle.ft_forest.specs.declared.TheConstants.{LAST_NUMBER as last_number};
 ghost use Rattle.ft_tree.specs.Sound.{IsSoundTree, AreSoundCells};
 ghost use Rattle.ft_core.specs.declared.fault.Fault.{Fault as FaultOf};
-ghost use Rattle.ft_core.specs.declared.fault.Fault.TheVariants.{Memory as MemoryFault};
+ghost use Rattle.ft_core.specs.declared.fault.Fault.TheVariants.{Memory as MemoryFault, BadLimits};
 ghost use Rattle.ft_moss.specs.declared.rule.Rule.TheVariants.{Profile};
 ghost use Rattle.ft_posix.specs.Posix.{posix_calls};
 ghost use Rattle.ft_history.specs.History.{parent as parent_of};
 ghost use Rattle.ft_history.specs.History.Fate.{Live};
 ghost use Rattle.ft_core.specs.declared.request.Request.TheVariants.{Begin, Sub, Drop as DropAsk};
 ghost use Rattle.ft_core.specs.declared.request.Answer.TheVariants.{Txn, Dropped};
-ghost use Rattle.ft_core.specs.States.{at_base, first_base, fate_in, fate_of, has_live, history, next_txn, after_begin};
+ghost use Rattle.ft_core.specs.Limits.{default_limits, greatest_limits, are_within};
+ghost use Rattle.ft_core.specs.States.{first_state, limits_of, fate_in, fate_of, has_live, history, next_txn, after_begin};
 ghost use Rattle.ft_core.specs.Journals.{IsBaseTree};
 ghost use Rattle.ft_core.specs.Living.{SomeIsLive, NoneIsLive};
 ghost use Rattle.ft_core.specs.Promises.{IsHeadline};
@@ -22,10 +23,11 @@ ghost use Rattle.ft_forest.specs.Transactions.{last_in, HasBegun};
 ghost use Rattle.ft_forest.specs.Refusals.{IsRefusal};
 
 use crate::fault::Fault;
-use crate::journal::Journal;
+use crate::journal::{Journal, Terms};
+use crate::limits::Limits;
 use crate::parts::Parts;
 use ft_base::Memory;
-use ft_forest::{Forest, ForestFault, State, TxnId};
+use ft_forest::{Forest, ForestFault, ForestLimits, State, TxnId};
 use ft_locks::Locks;
 use ft_moss::Rule;
 use ft_tree::{Tree, TreeLimits};
@@ -69,25 +71,53 @@ impl Model for Core {
 }
 
 impl Core {
-    /// A core over the empty tree: the root alone. Its rule is `Rule::Profile`.
+    /// A core over the empty tree: the root alone. Its rule is `Rule::Profile`, and its limits are
+    /// the default ones.
     pub fn new(alloc: Global) -> Result<Core, Memory>
-        ensures { IfOk result (λ core. core.state ≡ at_base Profile first_base) }
+        ensures { IfOk result (λ core. core.state ≡ first_state Profile default_limits) }
     {
         Core::with_rule(alloc, Rule::Profile)
     }
 
-    /// A core over the empty tree that grants calls by this rule.
+    /// A core over the empty tree that grants calls by this rule. Its limits are the default ones.
     pub fn with_rule(alloc: Global, rule: Rule) -> Result<Core, Memory>
-        ensures { IfOk result (λ core. core.state ≡ at_base rule first_base) }
+        ensures { IfOk result (λ core. core.state ≡ first_state rule default_limits) }
     {
-        let tree = Tree::new(alloc)?;
-        let journal = Journal::new(alloc, rule, &tree, 1);
+        Core::within(alloc, rule, Limits::default())
+    }
+
+    /// A core over the empty tree that grants calls by this rule, with these limits.
+    ///
+    /// Refuses BadLimits where one of them is above the greatest, and then want of memory.
+    pub fn with(alloc: Global, rule: Rule, limits: Limits) -> Result<Core, Fault>
+        ensures state { IfOk result (λ core. core.state ≡ first_state rule limits) }
+        ensures within { OnOk result (are_within limits greatest_limits ≡ true) }
+        ensures refused { IfErr result (λ fault. fault ≡ cond (are_within limits greatest_limits) MemoryFault BadLimits) }
+    {
+        if !limits.are_within(&Limits::greatest()) {
+            return Err(Fault::BadLimits);
+        }
+        let core = Core::within(alloc, rule, limits)?;
+        Ok(core)
+    }
+
+    /// A core over the empty tree with limits that it may have.
+    fn within(alloc: Global, rule: Rule, limits: Limits) -> Result<Core, Memory>
+        requires { are_within limits greatest_limits ≡ true }
+        ensures { IfOk result (λ core. core.state ≡ first_state rule limits) }
+    {
+        let tree = Tree::with_limits(alloc, limits.of_tree())?;
+        let terms = Terms {
+            rule,
+            calls: limits.calls,
+        };
+        let journal = Journal::new(alloc, terms, &tree, 1);
         Ok(Core {
             alloc,
             journal,
             parts: Parts {
                 tree,
-                forest: Forest::new(alloc, 0),
+                forest: Forest::new(alloc, 0, limits.of_forest()),
                 locks: Locks::new(alloc),
                 logs: Logs::new(alloc),
             },
@@ -106,12 +136,23 @@ impl Core {
         self.journal.rule()
     }
 
-    /// How large files may be, and how many links they may have. It never changes.
-    pub fn tree_limits(&self) -> TreeLimits
-        ensures limits { result ≡ self.now.state.base.tree.limits }
+    /// What the core allows. It never changes.
+    pub fn limits(&self) -> Limits
+        ensures are { result ≡ limits_of self.now.state }
         ensures size { result.file_size ≤ LARGEST_SIZE }
     {
-        self.parts.tree.limits()
+        let TreeLimits { file_size, links } = self.parts.tree.limits();
+        let ForestLimits {
+            transactions,
+            depth,
+        } = self.parts.forest.limits();
+        Limits {
+            file_size,
+            links,
+            depth,
+            transactions,
+            calls: self.journal.terms().calls,
+        }
     }
 
     /// Begins a top-level transaction.

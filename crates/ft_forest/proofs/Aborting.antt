@@ -14,7 +14,7 @@ use Rattle.ft_forest.proofs.Counting.{count-less}
 use Rattle.ft_forest.proofs.Seeing.{live-of}
 
 pub not_started : (m : Transactions) (t : ℕ) → IsAborting m m t
-not_started m t = record { base = refl; last = refl; parents = λ x. refl; states = λ x. inl refl }
+not_started m t = record { limits = refl; base = refl; last = refl; parents = λ x. refl; states = λ x. inl refl }
 
 -- who has a state was begun
 pub begun-last : (m : Transactions) (x : ℕ) (state : State) → state_in m x ≡ Some state → x ≤ last_in m
@@ -25,6 +25,15 @@ begun-last m x state e = by_test (nat_lt m.base x)
     (λ k. absurd (no_state (sym (ap (λ b. state_of (cond b (slice_get m.list (x - (m.base + 1))) None)) k) ∙ e)))
   where
     no_state : None ≡ Some state → ⊥
+    no_state e = cc
+
+-- who is live was begun behind the base
+pub begun-after : (m : Transactions) (x : ℕ) → state_in m x ≡ Some Live → m.base < x
+begun-after m x e = by_test (nat_lt m.base x)
+    (λ k. ltb-true m.base x k)
+    (λ k. absurd (no_state (sym (ap (λ b. state_of (cond b (slice_get m.list (x - (m.base + 1))) None)) k) ∙ e)))
+  where
+    no_state : None ≡ Some Live → ⊥
     no_state e = cc
 
 -- each is at or above itself
@@ -56,6 +65,7 @@ module _ (now new : Transactions) (next : ℕ) (live : state_in now next ≡ Som
   -- a live transaction at or below t is aborted
   pub one-more : (old : Transactions) (t : ℕ) → over_in now t next ≡ true → IsAborting old now t → IsAborting old new t
   one-more old t below h = record {
+    limits = ended.limits ∙ h.limits;
     base = ended.base ∙ h.base;
     last = ended.last ∙ h.last;
     parents = λ x. ended.parents x ∙ h.parents x;
@@ -105,6 +115,7 @@ no_deeper m forest up next none = climb (parent_in m) forest (λ x. over_in m ne
 -- once nothing at or below t is live, all that was is aborted
 pub all-aborted : (old now : Transactions) (t : ℕ) → IsAborting old now t → ((x : ℕ) → over_in now t x ≡ true → state_in now x ≢ Some Live) → HasAborted old now t
 all-aborted old now t h none = record {
+  limits = h.limits;
   base = h.base;
   last = h.last;
   parents = h.parents;

@@ -1,11 +1,10 @@
 -- The links after a transaction has begun.
-use Rattle.std.proofs.Common.{◌≡◌, ◌≢◌, ◌<◌, ◌≤◌, ◌+◌, ◌==◌, ◌&&◌, ℕ, true, cond, Option, Some, None, inl, inr, IsSome, refl, sym, ap, subst, ◌∙◌, arith, add-one}
+use Rattle.std.proofs.Common.{◌≡◌, ◌≢◌, ◌<◌, ◌+◌, ◌==◌, ◌&&◌, ℕ, true, cond, Option, Some, None, inl, inr, IsSome, refl, sym, ap, subst, ◌∙◌, arith, add-one}
 use Rattle.std.proofs.lemmas.Bool.{cases_lt}
 use Rattle.ft_laws.proofs.Tests.{by_option}
 use Rattle.ft_history.specs.Forest.{is_some_and}
 use Rattle.ft_history.specs.Logs.{put}
 use Rattle.ft_history.proofs.Words.{put_same, put_other, by_number}
-use Rattle.ft_forest.specs.declared.TheConstants.{MOST_DEPTH}
 use Rattle.ft_forest.specs.declared.state.State.TheVariants.{Live}
 use Rattle.ft_forest.specs.Transactions.{is_live, count_below}
 use Rattle.ft_forest.specs.Records.{Links, AreLinked, IsSibling, IsYoungest, IsOlder, IsYounger, begun_links, put_youngest, is_child_at, DepthIs}
@@ -14,7 +13,7 @@ use Rattle.ft_forest.proofs.Counting.{by_parent, put_youngest_same, put_youngest
 none_live : None ≡ Some Live → ⊥
 none_live e = cc
 
-module _ (s : Links) (h : AreLinked s) (parent : Option ℕ) (depth : ℕ) (live : (p : ℕ) → parent ≡ Some p → s.state p ≡ Some Live) (deeper : DepthIs s parent depth) (shallow : depth ≤ MOST_DEPTH) where
+module _ (s : Links) (h : AreLinked s) (parent : Option ℕ) (depth : ℕ) (live : (p : ℕ) → parent ≡ Some p → s.state p ≡ Some Live) (deeper : DepthIs s parent depth) where
   abbrev new : ℕ
   new = s.count
 
@@ -200,5 +199,4 @@ module _ (s : Links) (h : AreLinked s) (parent : Option ℕ) (depth : ℕ) (live
     younger = younger-after;
     children = children-after;
     depth = depth-after;
-    shallow = λ i l. by_number i new (λ e. subst (λ d. d ≤ MOST_DEPTH) (sym (put_same s.depth new depth i e)) shallow) (λ ne. subst (λ d. d ≤ MOST_DEPTH) (sym (put_other s.depth new depth i ne)) (h.shallow i (sym (put_other s.state new (Some Live) i ne) ∙ l)));
   }

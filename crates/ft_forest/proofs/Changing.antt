@@ -5,7 +5,8 @@ use Rattle.std.specs.Option.{option_map}
 use Rattle.std.proofs.lemmas.List.{length-map}
 use Rattle.std.proofs.lemmas.Bool.{false≢true, leb-false, cases_lt}
 use Rattle.ft_history.proofs.Words.{put_same, put_other, by_number, none_some}
-use Rattle.ft_forest.specs.declared.TheConstants.{MOST_TRANSACTIONS, MOST_DEPTH, LAST_NUMBER}
+use Rattle.ft_forest.specs.declared.TheConstants.{MOST_TRANSACTIONS, LAST_NUMBER}
+use Rattle.ft_forest.specs.declared.limits.ForestLimits.{ForestLimits}
 use Rattle.ft_forest.specs.declared.state.State.{State}
 use Rattle.ft_forest.specs.declared.state.State.TheVariants.{Live}
 use Rattle.ft_forest.specs.declared.records.Records.{Records}
@@ -22,16 +23,16 @@ use Rattle.ft_forest.proofs.Beginning.{begun-linked}
 pub none_live : None ≡ Some Live → ⊥
 none_live e = cc
 
-module _ (base : ℕ) (r : Records) (h : AreRecords base r) where
+module _ (limits : ForestLimits) (base : ℕ) (r : Records) (h : AreRecords limits base r) where
   abbrev old : Transactions
-  old = transactions_of base r
+  old = transactions_of limits base r
 
   abbrev s : Links
   s = links_of r
 
   -- the record of a live transaction is live
   pub live-links : (i t : ℕ) → t ≡ number_at base i → state_in old t ≡ Some Live → s.state i ≡ Some Live
-  live-links i t is live = sym (state-at base r i) ∙ ap (state_in old) (sym is) ∙ live
+  live-links i t is live = sym (state-at limits base r i) ∙ ap (state_in old) (sym is) ∙ live
 
   -- who is live was begun
   pub live-begun : (i : ℕ) → s.state i ≡ Some Live → i < length r.list.items
@@ -58,37 +59,40 @@ module _ (base : ℕ) (r : Records) (h : AreRecords base r) where
       let counted = h.linked.children p in
       let most = count-most (is_child_at s p) (length r.list.items) in
       let few = h.few in
+      let sound = h.sound in
       omega arith
 
   module _ (i t : ℕ) (is : t ≡ number_at base i) (live : state_in old t ≡ Some Live) (no_child : (x : ℕ) → IsLiveChild old t x → ⊥) (state : State) (ended : is_live_state state ≡ false) (r' : Records) (now : links_of r' ≡ ended_links (links_of r) i state) where
     live-at : s.state i ≡ Some Live
-    live-at = sym (state-at base r i) ∙ ap (state_in old) (sym is) ∙ live
+    live-at = sym (state-at limits base r i) ∙ ap (state_in old) (sym is) ∙ live
 
     childless : (y : ℕ) → IsSibling s (Some i) y → ⊥
     childless y c = no_child (number_at base y) (record {
-      child = parent-at base r y ∙ ap (option_map (number_at base)) c.parent ∙ ap Some (sym is);
-      live = state-at base r y ∙ c.live;
+      child = parent-at limits base r y ∙ ap (option_map (number_at base)) c.parent ∙ ap Some (sym is);
+      live = state-at limits base r y ∙ c.live;
     })
 
-    pub records-ended : AreRecords base r'
+    pub records-ended : AreRecords limits base r'
     records-ended = record {
       linked = subst AreLinked (sym now) (ended-linked s h.linked i state ended live-at childless);
-      few = subst (λ n. n ≤ MOST_TRANSACTIONS) (sym (ap (λ (l : Links). l.count) now)) h.few;
+      few = subst (λ n. n ≤ limits.transactions) (sym (ap (λ (l : Links). l.count) now)) h.few;
+      sound = h.sound;
       numbers = λ j lt. h.numbers j (subst (λ n. j < n) (ap (λ (l : Links). l.count) now) lt);
     }
 
-    pub value-ended : HasEnded old (transactions_of base r') t state
+    pub value-ended : HasEnded old (transactions_of limits base r') t state
     value-ended = record {
+      limits = refl;
       base = refl;
-      last = last-is base r' ∙ ap (λ (l : Links). base + l.count) now ∙ sym (last-is base r);
+      last = last-is limits base r' ∙ ap (λ (l : Links). base + l.count) now ∙ sym (last-is limits base r);
       parents = λ x. by_place base x
-          (λ le. parent-none base r' x le ∙ sym (parent-none base r x le))
-          (λ j e. ap (parent_in (transactions_of base r')) e ∙ parent-at base r' j ∙ ap (λ (l : Links). option_map (number_at base) (l.parent j)) now ∙ sym (parent-at base r j) ∙ ap (parent_in old) (sym e));
+          (λ le. parent-none limits base r' x le ∙ sym (parent-none limits base r x le))
+          (λ j e. ap (parent_in (transactions_of limits base r')) e ∙ parent-at limits base r' j ∙ ap (λ (l : Links). option_map (number_at base) (l.parent j)) now ∙ sym (parent-at limits base r j) ∙ ap (parent_in old) (sym e));
       states = λ x. by_place base x
-          (λ le. state-none base r' x le ∙ sym (state-none base r x le) ∙ sym (put_other (state_in old) t (Some state) x (λ e. let k : x ≡ t = e in absurd (omega arith))))
-          (λ j e. ap (state_in (transactions_of base r')) e ∙ state-at base r' j ∙ ap (λ (l : Links). l.state j) now ∙ by_number j i
+          (λ le. state-none limits base r' x le ∙ sym (state-none limits base r x le) ∙ sym (put_other (state_in old) t (Some state) x (λ e. let k : x ≡ t = e in absurd (omega arith))))
+          (λ j e. ap (state_in (transactions_of limits base r')) e ∙ state-at limits base r' j ∙ ap (λ (l : Links). l.state j) now ∙ by_number j i
           (λ same. put_same s.state i (Some state) j same ∙ sym (put_same (state_in old) t (Some state) x (e ∙ ap (number_at base) same ∙ sym is)))
-          (λ ne. put_other s.state i (Some state) j ne ∙ sym (state-at base r j) ∙ ap (state_in old) (sym e)
+          (λ ne. put_other s.state i (Some state) j ne ∙ sym (state-at limits base r j) ∙ ap (state_in old) (sym e)
           ∙ sym (put_other (state_in old) t (Some state) x (λ k. ne (same_place base j i (sym e ∙ k ∙ is))))));
     }
 
@@ -97,14 +101,14 @@ module _ (base : ℕ) (r : Records) (h : AreRecords base r) where
   room-both true b e = absurd (false≢true (sym e))
   room-both false b e = (refl, e)
 
-  pub room : is_full old ≡ false → (length r.list.items < MOST_TRANSACTIONS) × (last_in old < LAST_NUMBER)
+  pub room : is_full old ≡ false → (length r.list.items < limits.transactions) × (last_in old < LAST_NUMBER)
   room e =
-      let both = room-both (nat_le MOST_TRANSACTIONS (length old.list)) (nat_le LAST_NUMBER (last_in old)) e in
-      (subst (λ n. n < MOST_TRANSACTIONS) (length-map r.list.items (transaction_from base)) (leb-false MOST_TRANSACTIONS (length old.list) both.0), leb-false LAST_NUMBER (last_in old) both.1)
+      let both = room-both (nat_le limits.transactions (length old.list)) (nat_le LAST_NUMBER (last_in old)) e in
+      (subst (λ n. n < limits.transactions) (length-map r.list.items (transaction_from base)) (leb-false limits.transactions (length old.list) both.0), leb-false LAST_NUMBER (last_in old) both.1)
 
-  module _ (free : begin_refusal old ≡ None) (parent : Option ℕ) (depth : ℕ) (live : (p : ℕ) → parent ≡ Some p → state_in old (number_at base p) ≡ Some Live) (deeper : IsDepthBelow old parent depth) (shallow : depth ≤ MOST_DEPTH) where
+  module _ (free : begin_refusal old ≡ None) (parent : Option ℕ) (depth : ℕ) (live : (p : ℕ) → parent ≡ Some p → state_in old (number_at base p) ≡ Some Live) (deeper : IsDepthBelow old parent depth) where
     live-parent : (p : ℕ) → parent ≡ Some p → s.state p ≡ Some Live
-    live-parent p e = sym (state-at base r p) ∙ live p e
+    live-parent p e = sym (state-at limits base r p) ∙ live p e
 
     pub parent-begun : (p : ℕ) → parent ≡ Some p → p < length r.list.items
     parent-begun p e = live-begun p (live-parent p e)
@@ -112,7 +116,7 @@ module _ (base : ℕ) (r : Records) (h : AreRecords base r) where
     pub above-kept : (p : ℕ) → parent ≡ Some p → s.kept p ≡ true
     above-kept p e = live-kept p (live-parent p e)
 
-    pub has-room : length r.list.items < MOST_TRANSACTIONS
+    pub has-room : length r.list.items < limits.transactions
     has-room = (room (not_full old free)).0
 
     deeper-at : DepthIs s parent depth
@@ -120,50 +124,53 @@ module _ (base : ℕ) (r : Records) (h : AreRecords base r) where
       where
         by_parent-depth : (o : Option ℕ) → parent ≡ o → IsDepthBelow old o depth → DepthIs s o depth
         by_parent-depth None e d = d
-        by_parent-depth (Some p) e d = d ∙ ap (λ n. n + 1) (sym (depth-seen base r h p (live-parent p e)))
+        by_parent-depth (Some p) e d = d ∙ ap (λ n. n + 1) (sym (depth-seen limits base r h p (live-parent p e)))
 
     module _ (r' : Records) (now : links_of r' ≡ begun_links (links_of r) parent depth) where
       count-is : length r'.list.items ≡ length r.list.items + 1
       count-is = ap (λ (l : Links). l.count) now
 
-      pub records-begun : AreRecords base r'
+      pub records-begun : AreRecords limits base r'
       records-begun =
           let space = room (not_full old free) in
-          let last = last-is base r in
+          let last = last-is limits base r in
           record {
-            linked = subst AreLinked (sym now) (begun-linked s h.linked parent depth live-parent deeper-at shallow);
+            linked = subst AreLinked (sym now) (begun-linked s h.linked parent depth live-parent deeper-at);
             few = let lt = space.0 in let n = count-is in omega arith;
+            sound = h.sound;
             numbers = λ j lt. let n = count-is in let most = space.1 in omega arith;
           }
 
       number-is : number_at base (length r.list.items) ≡ last_in old + 1
-      number-is = let last = last-is base r in omega arith
+      number-is = let last = last-is limits base r in omega arith
 
-      pub value-begun : HasBegun old (transactions_of base r') (option_map (number_at base) parent)
+      pub value-begun : HasBegun old (transactions_of limits base r') (option_map (number_at base) parent)
       value-begun = record {
+        limits = refl;
         base = refl;
-        last = last-is base r' ∙ ap (λ n. base + n) count-is ∙ sym (add_assoc base (length r.list.items) 1) ∙ ap (λ n. n + 1) (sym (last-is base r));
+        last = last-is limits base r' ∙ ap (λ n. base + n) count-is ∙ sym (add_assoc base (length r.list.items) 1) ∙ ap (λ n. n + 1) (sym (last-is limits base r));
         parents = λ x. by_place base x
-            (λ le. parent-none base r' x le ∙ sym (parent-none base r x le) ∙ sym (put_other (parent_in old) (last_in old + 1) (option_map (number_at base) parent) x (λ e. let k : x ≡ last_in old + 1 = e in let last = last-is base r in absurd (omega arith))))
-            (λ j e. ap (parent_in (transactions_of base r')) e ∙ parent-at base r' j ∙ ap (λ (l : Links). option_map (number_at base) (l.parent j)) now ∙ by_number j (length r.list.items)
+            (λ le. parent-none limits base r' x le ∙ sym (parent-none limits base r x le) ∙ sym (put_other (parent_in old) (last_in old + 1) (option_map (number_at base) parent) x (λ e. let k : x ≡ last_in old + 1 = e in let last = last-is limits base r in absurd (omega arith))))
+            (λ j e. ap (parent_in (transactions_of limits base r')) e ∙ parent-at limits base r' j ∙ ap (λ (l : Links). option_map (number_at base) (l.parent j)) now ∙ by_number j (length r.list.items)
             (λ same. ap (option_map (number_at base)) (put_same s.parent (length r.list.items) parent j same)
             ∙ sym (put_same (parent_in old) (last_in old + 1) (option_map (number_at base) parent) x (e ∙ ap (number_at base) same ∙ number-is)))
-            (λ ne. ap (option_map (number_at base)) (put_other s.parent (length r.list.items) parent j ne) ∙ sym (parent-at base r j) ∙ ap (parent_in old) (sym e)
+            (λ ne. ap (option_map (number_at base)) (put_other s.parent (length r.list.items) parent j ne) ∙ sym (parent-at limits base r j) ∙ ap (parent_in old) (sym e)
             ∙ sym (put_other (parent_in old) (last_in old + 1) (option_map (number_at base) parent) x (λ k. ne (same_place base j (length r.list.items) (sym e ∙ k ∙ sym number-is))))));
         states = λ x. by_place base x
-            (λ le. state-none base r' x le ∙ sym (state-none base r x le) ∙ sym (put_other (state_in old) (last_in old + 1) (Some Live) x (λ e. let k : x ≡ last_in old + 1 = e in let last = last-is base r in absurd (omega arith))))
-            (λ j e. ap (state_in (transactions_of base r')) e ∙ state-at base r' j ∙ ap (λ (l : Links). l.state j) now ∙ by_number j (length r.list.items)
+            (λ le. state-none limits base r' x le ∙ sym (state-none limits base r x le) ∙ sym (put_other (state_in old) (last_in old + 1) (Some Live) x (λ e. let k : x ≡ last_in old + 1 = e in let last = last-is limits base r in absurd (omega arith))))
+            (λ j e. ap (state_in (transactions_of limits base r')) e ∙ state-at limits base r' j ∙ ap (λ (l : Links). l.state j) now ∙ by_number j (length r.list.items)
             (λ same. put_same s.state (length r.list.items) (Some Live) j same
             ∙ sym (put_same (state_in old) (last_in old + 1) (Some Live) x (e ∙ ap (number_at base) same ∙ number-is)))
-            (λ ne. put_other s.state (length r.list.items) (Some Live) j ne ∙ sym (state-at base r j) ∙ ap (state_in old) (sym e)
+            (λ ne. put_other s.state (length r.list.items) (Some Live) j ne ∙ sym (state-at limits base r j) ∙ ap (state_in old) (sym e)
             ∙ sym (put_other (state_in old) (last_in old + 1) (Some Live) x (λ k. ne (same_place base j (length r.list.items) (sym e ∙ k ∙ sym number-is))))));
       }
 
 -- the same records
-pub records-same : (base : ℕ) (r r' : Records) → AreRecords base r → r'.list.items ≡ r.list.items → r'.youngest ≡ r.youngest → r'.live ≡ r.live → AreRecords base r'
-records-same base r r' h items youngest live = record {
+pub records-same : (limits : ForestLimits) (base : ℕ) (r r' : Records) → AreRecords limits base r → r'.list.items ≡ r.list.items → r'.youngest ≡ r.youngest → r'.live ≡ r.live → AreRecords limits base r'
+records-same limits base r r' h items youngest live = record {
   linked = subst AreLinked (λ i. links_by (sym youngest i) (sym items i) (sym live i)) h.linked;
-  few = subst (λ rs. length rs ≤ MOST_TRANSACTIONS) (sym items) h.few;
+  few = subst (λ rs. length rs ≤ limits.transactions) (sym items) h.few;
+  sound = h.sound;
   numbers = λ i lt. h.numbers i (subst (λ rs. i < length rs) items lt);
 }
 
@@ -180,14 +187,14 @@ none-linked = record {
   younger = λ i l. absurd (none_live l);
   children = λ p. refl;
   depth = λ i l. absurd (none_live l);
-  shallow = λ i l. absurd (none_live l);
 }
 
-pub records-none : (base : ℕ) (r : Records) → links_of r ≡ no_links → AreRecords base r
-records-none base r none =
+pub records-none : (limits : ForestLimits) (base : ℕ) (r : Records) → limits.transactions ≤ MOST_TRANSACTIONS → links_of r ≡ no_links → AreRecords limits base r
+records-none limits base r sound none =
     let count : length r.list.items ≡ 0 = ap (λ (l : Links). l.count) none in
     record {
       linked = subst AreLinked (sym none) none-linked;
       few = omega arith;
+      sound = sound;
       numbers = λ i lt. absurd (omega arith);
     }

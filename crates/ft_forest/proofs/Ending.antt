@@ -4,7 +4,6 @@ use Rattle.std.proofs.lemmas.Bool.{false≢true, cases_lt}
 use Rattle.ft_laws.proofs.Tests.{by_test, by_option}
 use Rattle.ft_history.specs.Forest.{is_some_and}
 use Rattle.ft_history.proofs.Words.{put_same, put_other, by_number, none_some}
-use Rattle.ft_forest.specs.declared.TheConstants.{MOST_DEPTH}
 use Rattle.ft_forest.specs.declared.state.State.{State}
 use Rattle.ft_forest.specs.declared.state.State.TheVariants.{Live}
 use Rattle.ft_forest.specs.Transactions.{is_live_state, is_live, count_below}
@@ -290,5 +289,4 @@ module _ (s : Links) (h : AreLinked s) (x : ℕ) (state : State) (ended : is_liv
     younger = younger-after;
     children = children-after;
     depth = depth-after;
-    shallow = λ i l. let was = still i l in subst (λ d. d ≤ MOST_DEPTH) (sym (put_other s.depth x 0 i was.1)) (h.shallow i was.0);
   }

@@ -1,135 +1,205 @@
 -- On the way through a list of all that is live.
-use Rattle.std.proofs.Common.{◌≡◌, ◌≢◌, ◌<◌, ◌≤◌, ◌+◌, ◌-◌, ◌^◌, ◌==◌, ℕ, true, eqb, eqb-true, Option, Some, None, List, [], ◌∷◌, ◌++◌, ◌⊎◌, inl, inr, length, sym, ap, subst, ◌∙◌, arith}
-use Rattle.std.specs.Prelude.{Contains}
+use Rattle.std.proofs.Common.{◌≡◌, ◌<◌, ◌≤◌, ◌+◌, ◌-◌, ◌^◌, ◌==◌, ℕ, cond, eqb, eqb-true, eq-eqb, Option, Some, None, List, [], ◌∷◌, ◌++◌, ◌⊎◌, inl, inr, length, take, refl, sym, ap, subst, ◌∙◌, arith, append_assoc, length-append}
+use Rattle.std.specs.Prelude.{Contains, slice_get, nat_lt}
 use Rattle.std.specs.List.{IsDistinct, list_any}
 use Rattle.std.specs.Option.{option_map}
 use Rattle.std.specs.List.Sorted.{IsPermutation, IsSorted, IsStrictlyIncreasing}
 use Rattle.std.specs.Ordering.{nat_cmp}
 use Rattle.std.specs.Cmp.{nat_eq_equiv}
-use Rattle.std.proofs.lemmas.Bool.{false_from_ne_true}
-use Rattle.std.proofs.lemmas.List.{length-map}
-use Rattle.std.proofs.lemmas.List.Elements.{Contains-append_left, Contains-push_cases}
+use Rattle.std.proofs.Math.ListN.{get_or}
+use Rattle.std.proofs.Math.Seq.{take-length}
+use Rattle.std.proofs.lemmas.Bool.{false≢true, false_from_ne_true, ltb-true}
+use Rattle.std.proofs.lemmas.List.{append-nil, take-append-le, take_more, length-take-le, get_or-take}
+use Rattle.std.proofs.lemmas.List.Elements.{Contains-append_left, Contains-append_right, Contains-append_cases, Contains-push, Contains-push_cases}
 use Rattle.std.proofs.lemmas.List.Sorted.{IsNonDecreasingBy-from_sort}
-use Rattle.std.proofs.lemmas.Map.Keys.{IsDistinct-push, IsDistinct-IsPermutation, IsStrictlyIncreasing-from_distinct}
+use Rattle.std.proofs.lemmas.Map.Keys.{IsDistinct-push, IsDistinct-IsPermutation, IsStrictlyIncreasing-from_distinct, apart_from_distinct}
+use Rattle.std.proofs.lemmas.Map.Steps.{length-le_from_distinct_below}
 use Rattle.std.proofs.lemmas.Map.Views.{Contains-from_any}
-use Rattle.ft_history.specs.Forest.{above, IsForest}
-use Rattle.ft_history.proofs.Words.{by_number}
-use Rattle.ft_history.proofs.Forest.{climb, ForestLaws, forest_laws}
+use Rattle.ft_laws.proofs.Tests.{by_test}
+use Rattle.ft_history.specs.Forest.{IsForest}
+use Rattle.ft_history.proofs.Words.{by_number, same_some, none_some}
+use Rattle.ft_history.proofs.Forest.{climb}
+use Rattle.ft_forest.specs.declared.limits.ForestLimits.{ForestLimits}
 use Rattle.ft_forest.specs.declared.state.State.TheVariants.{Live}
-use Rattle.ft_forest.specs.Transactions.{Transactions, parent_in, state_in, last_in, over_in, IsLiveUnder, IsYoungestChild, IsOlderSibling}
-use Rattle.ft_forest.specs.Places.{IsStrictlyBelow, number_of}
 use Rattle.ft_forest.specs.declared.records.Records.{Records}
+use Rattle.ft_forest.specs.Transactions.{Transactions, state_of, parent_in, state_in, last_in, IsLiveUnder, IsYoungestChild, IsOlderSibling}
+use Rattle.ft_forest.specs.Places.{number_of, HasChildrenBehind}
 use Rattle.ft_forest.specs.Records.{AreRecords, links_of, number_at, transactions_of}
 use Rattle.ft_forest.proofs.Seeing.{value-forest, live-parent, state-at, youngest-seen, older-seen, numbers-fit}
 use Rattle.ft_forest.proofs.Changing.{live-begun}
-use Rattle.ft_forest.proofs.Aborting.{begun-last}
+use Rattle.ft_forest.proofs.Aborting.{begun-last, begun-after}
 
--- what stands at or below a live child is listed
-pub record IsListed (m : Transactions) (numbers : List ℕ) (child : ℕ) : Type 0 where
-  pub own : Contains numbers child
-  pub below : (x : ℕ) → IsStrictlyBelow m (Some child) x → state_in m x ≡ Some Live → Contains numbers x
-
--- the children from the youngest on are listed, those before the next one
-abbrev pub AreListedTo : Transactions → Option ℕ → List ℕ → Option ℕ → Type 0
-AreListedTo m parent numbers None = (x : ℕ) → IsLiveUnder m parent x → IsListed m numbers x
-AreListedTo m parent numbers (Some next) = IsLiveUnder m parent next × ((x : ℕ) → IsLiveUnder m parent x → (x ≤ next) ⊎ IsListed m numbers x)
-
--- the list keeps what it had, and gets none but these
-pub record IsGrown (These : ℕ → Type 0) (old new : List ℕ) : Type 0 where
-  pub keeps : (x : ℕ) → Contains old x → Contains new x
-  pub sound : (x : ℕ) → Contains new x → Contains old x ⊎ These x
-
--- x is live and strictly below the parent
-abbrev pub IsLiveBelow : Transactions → Option ℕ → ℕ → Type 0
-IsLiveBelow m parent x = (state_in m x ≡ Some Live) × IsStrictlyBelow m parent x
-
+-- the numbers before this are still to come
 abbrev pub after_next : Option ℕ → ℕ
 after_next None = 0
 after_next (Some n) = n + 1
 
--- x is live, at or below a child that is younger than the next one
-pub record IsPassed (m : Transactions) (parent next : Option ℕ) (x : ℕ) : Type 0 where
-  pub live : state_in m x ≡ Some Live
-  pub child : ℕ
-  pub under : IsLiveUnder m parent child
-  pub over : over_in m child x ≡ true
-  pub younger : after_next next ≤ child
+-- behind the old list stand the children that are younger than the next one
+pub record AreChildrenTo (m : Transactions) (parent next : Option ℕ) (old now : List ℕ) : Type 0 where
+  pub children : List ℕ
+  pub behind : now ≡ old ++ children
+  pub sound : (x : ℕ) → Contains children x → IsLiveUnder m parent x × (after_next next ≤ x)
+  pub all : (x : ℕ) → IsLiveUnder m parent x → Contains children x ⊎ (x < after_next next)
+  pub once : IsDistinct ◌==◌ now
+  pub follows : (c : ℕ) → next ≡ Some c → IsLiveUnder m parent c
 
--- how far a transaction is from the last
-abbrev pub depth_left : Transactions → Option ℕ → ℕ
-depth_left m None = last_in m + 1
-depth_left m (Some t) = last_in m - t
+none_in : (x : ℕ) → Contains [] x → ⊥
+none_in x i = let lt = i.1 in absurd (omega arith)
 
--- before the first child nothing is added
-pub none_grown : (These : ℕ → Type 0) (xs : List ℕ) → IsGrown These xs xs
-none_grown These xs = record { keeps = λ x i. i; sound = λ x i. inl i }
+-- no child comes behind the youngest
+before-youngest : (m : Transactions) (parent next : Option ℕ) → IsYoungestChild m parent next → (x : ℕ) → IsLiveUnder m parent x → x < after_next next
+before-youngest m parent None none x is = absurd (none x is)
+before-youngest m parent (Some y) youngest x is = let le = youngest.1 x is in omega arith
 
-pub listed-more : (m : Transactions) (xs ys : List ℕ) (x : ℕ) → ((z : ℕ) → Contains xs z → Contains ys z) → IsListed m xs x → IsListed m ys x
-listed-more m xs ys x keeps h = record { own = keeps x h.own; below = λ z b l. keeps z (h.below z b l) }
+-- at the youngest child none is listed
+pub first-children : (m : Transactions) (parent next : Option ℕ) (xs : List ℕ) → IsYoungestChild m parent next → IsDistinct ◌==◌ xs → AreChildrenTo m parent next xs xs
+first-children m parent next xs youngest once = record {
+  children = [];
+  behind = sym (append-nil xs);
+  sound = λ x i. absurd (none_in x i);
+  all = λ x is. inr (before-youngest m parent next youngest x is);
+  once = once;
+  follows = λ c is. (subst (IsYoungestChild m parent) is youngest).0;
+}
 
--- the child is listed with what is below it, and the next older one follows
-pub next-listed : (m : Transactions) (parent : Option ℕ) (child : ℕ) (next : Option ℕ) (xs ys : List ℕ) → AreListedTo m parent xs (Some child) → ((z : ℕ) → Contains xs z → Contains ys z) → IsListed m ys child
-    → IsOlderSibling m child next → AreListedTo m parent ys next
-next-listed m parent child None xs ys h keeps own older = λ x is. elim (h.1 x is) [
-  | inl le ↦ let ge = older x (record { child = is.child ∙ sym h.0.child; live = is.live }) in let same : child ≡ x = omega arith in subst (IsListed m ys) same own
-  | inr done ↦ listed-more m xs ys x keeps done
-]
-next-listed m parent child (Some y) xs ys h keeps own older = (
-  record { child = older.0.child ∙ h.0.child; live = older.0.live },
-  λ x is. elim (h.1 x is) [
-    | inl le ↦ elim (older.2 x (record { child = is.child ∙ sym h.0.child; live = is.live })) [
-      | inl below ↦ inl below
-      | inr ge ↦ let same : child ≡ x = omega arith in inr (subst (IsListed m ys) same own)
-    ]
-    | inr done ↦ inr (listed-more m xs ys x keeps done)
-  ],
-)
-
--- at the youngest child none is left out
-pub first-listed : (m : Transactions) (parent next : Option ℕ) (xs : List ℕ) → IsYoungestChild m parent next → AreListedTo m parent xs next
-first-listed m parent None xs none = λ x is. absurd (none x is)
-first-listed m parent (Some y) xs youngest = (youngest.0, λ x is. inl (youngest.1 x is))
+-- no sibling comes between the next older one and a child
+before-older : (m : Transactions) (child : ℕ) (next : Option ℕ) → IsOlderSibling m child next → (x : ℕ) → IsLiveUnder m (parent_in m child) x → x < child → x < after_next next
+before-older m child None older x is lt = let ge = older x is in absurd (omega arith)
+before-older m child (Some y) older x is lt = elim (older.2 x is) [ inl le ↦ omega arith | inr ge ↦ absurd (omega arith) ]
 
 -- the next older one has a smaller number
-pub after-older : (m : Transactions) (child : ℕ) (next : Option ℕ) → IsOlderSibling m child next → after_next next ≤ child
+after-older : (m : Transactions) (child : ℕ) (next : Option ℕ) → IsOlderSibling m child next → after_next next ≤ child
 after-older m child None older = omega arith
 after-older m child (Some y) older = let lt = older.1 in omega arith
-
-module _ (m : Transactions) (forest : IsForest (parent_in m)) (up : (x p : ℕ) → parent_in m x ≡ Some p → state_in m x ≡ Some Live → state_in m p ≡ Some Live) where
-  laws : ForestLaws (parent_in m) (above (parent_in m))
-  laws = forest_laws (parent_in m) forest
-
-  -- what is live below t stands at or below a live child of t
-  child-over : (t x : ℕ) → over_in m t x ≡ true → x ≢ t → state_in m x ≡ Some Live → (c : ℕ) × IsLiveUnder m (Some t) c × (over_in m c x ≡ true)
-  child-over t = climb (parent_in m) forest (λ x. over_in m t x ≡ true → x ≢ t → state_in m x ≡ Some Live → (c : ℕ) × IsLiveUnder m (Some t) c × (over_in m c x ≡ true))
-      (λ x none over ne live. absurd (ne (sym (laws.at_top x t none over))))
-      (λ x p some ih over ne live. by_number p t
-      (λ same. (x, record { child = some ∙ ap Some same; live = live }, laws.itself x))
-      (λ other.
-      let more : over_in m t p ≡ true = elim (laws.to_parent x p t some over) [ inl same ↦ absurd (ne (sym same)) | inr more ↦ more ] in
-      let found = ih more other (up x p some live) in
-      (found.0, found.1, laws.along found.0 p x found.2 (laws.over_parent x p x some (laws.itself x)))))
-
-  -- and at or below a live top-level transaction
-  root-over : (x : ℕ) → state_in m x ≡ Some Live → (c : ℕ) × IsLiveUnder m None c × (over_in m c x ≡ true)
-  root-over = climb (parent_in m) forest (λ x. state_in m x ≡ Some Live → (c : ℕ) × IsLiveUnder m None c × (over_in m c x ≡ true))
-      (λ x none live. (x, record { child = none; live = live }, laws.itself x))
-      (λ x p some ih live.
-      let found = ih (up x p some live) in
-      (found.0, found.1, laws.along found.0 p x found.2 (laws.over_parent x p x some (laws.itself x))))
-
-  at-or-below : (numbers : List ℕ) (c x : ℕ) → IsListed m numbers c → over_in m c x ≡ true → state_in m x ≡ Some Live → Contains numbers x
-  at-or-below numbers c x h over live = by_number x c (λ same. subst (Contains numbers) (sym same) h.own) (λ ne. h.below x (over, ne) live)
-
-  -- once all children are listed, all is that is below
-  pub all-listed : (parent : Option ℕ) (numbers : List ℕ) → AreListedTo m parent numbers None → (x : ℕ) → IsStrictlyBelow m parent x → state_in m x ≡ Some Live → Contains numbers x
-  all-listed None numbers h x below live = let c = root-over x live in at-or-below numbers c.0 x (h c.0 c.1) c.2 live
-  all-listed (Some t) numbers h x below live = let c = child-over t x below.0 below.1 live in at-or-below numbers c.0 x (h c.0 c.1) c.2 live
 
 -- with the next older one the walk is nearer to its end
 pub older-nearer : (m : Transactions) (i : ℕ) (o : Option ℕ) → IsOlderSibling m (number_at m.base i) (number_of m o) → after_next o < i + 1
 older-nearer m i None older = omega arith
 older-nearer m i (Some y) older = let lt = older.1 in omega arith
+
+module _ (m : Transactions) (parent : Option ℕ) (child : ℕ) (old xs : List ℕ) (h : AreChildrenTo m parent (Some child) old xs) where
+  own : IsLiveUnder m parent child
+  own = h.follows child refl
+
+  not_yet : ((x : ℕ) → IsLiveUnder m parent x → Contains old x → ⊥) → Contains xs child → ⊥
+  not_yet fresh i = elim (Contains-append_cases old h.children child (subst (λ zs. Contains zs child) h.behind i)) [
+    | inl j ↦ fresh child own j
+    | inr j ↦ let le = (h.sound child j).1 in absurd (omega arith)
+  ]
+
+  -- the child is listed, and the next older one follows
+  pub next-children : ((x : ℕ) → IsLiveUnder m parent x → Contains old x → ⊥) → (next : Option ℕ) (ys : List ℕ) → ys ≡ xs ++ child ∷ [] → IsOlderSibling m child next → AreChildrenTo m parent next old ys
+  next-children fresh next ys pushed older =
+      let below = after-older m child next older in
+      record {
+        children = h.children ++ child ∷ [];
+        behind = pushed ∙ ap (λ zs. zs ++ child ∷ []) h.behind ∙ append_assoc old h.children (child ∷ []);
+        sound = λ x i. elim (Contains-push_cases h.children child x i) [
+          | inl j ↦ let was = h.sound x j in let le = was.1 in (was.0, omega arith)
+          | inr same ↦ (subst (IsLiveUnder m parent) same own, subst (λ z. after_next next ≤ z) same below)
+        ];
+        all = λ x is. elim (h.all x is) [
+          | inl j ↦ inl (Contains-append_left h.children (child ∷ []) x j)
+          | inr lt ↦ by_number x child
+              (λ e. inl (subst (Contains (h.children ++ child ∷ [])) (sym e) (Contains-push h.children child)))
+              (λ ne. inr (before-older m child next older x (record { child = is.child ∙ sym own.child; live = is.live }) (omega arith)))
+        ];
+        once = subst (IsDistinct ◌==◌) (sym pushed) (IsDistinct-push nat_eq_equiv xs child h.once (false_from_ne_true (list_any (eqb child) xs) (λ any. not_yet fresh (Contains-from_any eqb-true child xs any))));
+        follows = λ c is. let next_is = (subst (IsOlderSibling m child) is older).0 in record { child = next_is.child ∙ own.child; live = next_is.live };
+      }
+
+-- once none follows, all children are listed
+pub all-children : (m : Transactions) (parent : Option ℕ) (old xs : List ℕ) → AreChildrenTo m parent None old xs → HasChildrenBehind m parent old xs
+all-children m parent old xs h = record {
+  children = h.children;
+  behind = h.behind;
+  sound = λ x i. (h.sound x i).0;
+  all = λ x is. elim (h.all x is) [ inl j ↦ j | inr lt ↦ absurd (omega arith) ];
+  once = h.once;
+}
+
+-- What is live is listed, but for what stands below those from a place on: the children of those
+-- before it are, and of them alone.
+pub record AreListedTo (m : Transactions) (i : ℕ) (numbers : List ℕ) : Type 0 where
+  pub within : i ≤ length numbers
+  pub live : (x : ℕ) → Contains numbers x → state_in m x ≡ Some Live
+  pub once : IsDistinct ◌==◌ numbers
+  pub roots : (x : ℕ) → IsLiveUnder m None x → Contains numbers x
+  pub children : (p x : ℕ) → Contains (take i numbers) p → IsLiveUnder m (Some p) x → Contains numbers x
+  pub parents : (p x : ℕ) → Contains numbers x → parent_in m x ≡ Some p → Contains (take i numbers) p
+
+-- at first what is live at the top level is listed
+pub roots-listed : (m : Transactions) (xs : List ℕ) → HasChildrenBehind m None [] xs → AreListedTo m 0 xs
+roots-listed m xs h = record {
+  within = omega arith;
+  live = λ x i. (h.sound x (subst (λ zs. Contains zs x) h.behind i)).live;
+  once = h.once;
+  roots = λ x is. subst (λ zs. Contains zs x) (sym h.behind) (h.all x is);
+  children = λ p x i is. absurd (none_in p i);
+  parents = λ p x i up. absurd (none_some p (sym (h.sound x (subst (λ zs. Contains zs x) h.behind i)).child ∙ up));
+}
+
+module _ (m : Transactions) (i : ℕ) (xs : List ℕ) (h : AreListedTo m i xs) where
+  -- as many as have begun are listed at most
+  pub few-listed : length xs ≤ last_in m + 1
+  few-listed = length-le_from_distinct_below xs (last_in m + 1) h.once (λ q any. let le = begun-last m q Live (h.live q (Contains-from_any eqb-true q xs any)) in omega arith)
+
+  module _ (lt : i < length xs) (p : ℕ) (is : p ≡ get_or xs i p) where
+    -- it stands at no place before
+    once-only : Contains (take i xs) p → ⊥
+    once-only c =
+        let most = length-take-le i xs h.within in
+        let there = c.1 in
+        let before : c.0 < i = omega arith in
+        let alike : get_or xs c.0 p ≡ get_or xs i p = sym (get_or-take i xs c.0 p before) ∙ c.2 ∙ is in
+        false≢true (sym (apart_from_distinct ◌==◌ xs c.0 i p h.once before lt) ∙ eq-eqb (get_or xs c.0 p) (get_or xs i p) alike)
+
+    -- its children are not listed
+    pub fresh-children : (x : ℕ) → IsLiveUnder m (Some p) x → Contains xs x → ⊥
+    fresh-children x under c = once-only (h.parents p x c under.child)
+
+    -- it was begun behind the base
+    pub listed-after : m.base < p
+    listed-after = begun-after m p (h.live p (i, lt, sym is))
+
+    module _ (ys : List ℕ) (more : HasChildrenBehind m (Some p) xs ys) where
+      taken : take (i + 1) ys ≡ take i xs ++ p ∷ []
+      taken = ap (take (i + 1)) more.behind ∙ take-append-le (i + 1) xs more.children (omega arith) ∙ take_more xs i p lt ∙ ap (λ d. take i xs ++ d ∷ []) (sym is)
+
+      kept : (x : ℕ) → Contains xs x → Contains ys x
+      kept x c = subst (λ zs. Contains zs x) (sym more.behind) (Contains-append_left xs more.children x c)
+
+      either : (x : ℕ) → Contains ys x → Contains xs x ⊎ Contains more.children x
+      either x c = Contains-append_cases xs more.children x (subst (λ zs. Contains zs x) more.behind c)
+
+      -- with its children the list goes on to the next one
+      pub next-listed : AreListedTo m (i + 1) ys
+      next-listed =
+          let longer = ap length more.behind ∙ length-append xs more.children in
+          record {
+            within = omega arith;
+            live = λ x c. elim (either x c) [ inl j ↦ h.live x j | inr j ↦ (more.sound x j).live ];
+            once = more.once;
+            roots = λ x under. kept x (h.roots x under);
+            children = λ q x c under. elim (Contains-push_cases (take i xs) p q (subst (λ zs. Contains zs q) taken c)) [
+              | inl j ↦ kept x (h.children q x j under)
+              | inr same ↦ subst (λ zs. Contains zs x) (sym more.behind) (Contains-append_right xs more.children x (more.all x (subst (λ o. IsLiveUnder m (Some o) x) (sym same) under)))
+            ];
+            parents = λ q x c up. subst (λ zs. Contains zs q) (sym taken) (elim (either x c) [
+              | inl j ↦ Contains-append_left (take i xs) (p ∷ []) q (h.parents q x j up)
+              | inr j ↦ subst (Contains (take i xs ++ p ∷ [])) (same_some p q (sym (more.sound x j).child ∙ up)) (Contains-push (take i xs) p)
+            ]);
+          }
+
+  -- once all have their children listed, all is that is live
+  pub all-listed : IsForest (parent_in m) → ((x p : ℕ) → parent_in m x ≡ Some p → state_in m x ≡ Some Live → state_in m p ≡ Some Live) → length xs ≤ i → (x : ℕ) → state_in m x ≡ Some Live → Contains xs x
+  all-listed forest up done =
+      let within = h.within in
+      let end : i ≡ length xs = omega arith in
+      let whole : take i xs ≡ xs = ap (λ n. take n xs) end ∙ take-length xs in
+      climb (parent_in m) forest (λ x. state_in m x ≡ Some Live → Contains xs x)
+      (λ x none live. h.roots x (record { child = none; live = live }))
+      (λ x p some ih live. h.children p x (subst (λ zs. Contains zs p) (sym whole) (ih (up x p some live))) (record { child = some; live = live }))
 
 -- nothing is listed twice at first
 pub none_twice : IsDistinct ◌==◌ []
@@ -140,95 +210,19 @@ none_twice = tt
 pub sorted-rising : (found sorted : List ℕ) → IsDistinct ◌==◌ found → IsPermutation found sorted → IsSorted nat_cmp sorted → IsStrictlyIncreasing sorted
 sorted-rising found sorted once moved rises = IsStrictlyIncreasing-from_distinct sorted (IsNonDecreasingBy-from_sort (λ x. x) sorted rises) (IsDistinct-IsPermutation ◌==◌ nat_eq_equiv.symm found sorted moved once)
 
--- What is listed stands at or below the children passed, and so the next one is new with what is
--- below it.
-module _ (m : Transactions) (forest : IsForest (parent_in m)) where
-  tree : ForestLaws (parent_in m) (above (parent_in m))
-  tree = forest_laws (parent_in m) forest
-
-  -- of two siblings none is above the other's parent
-  no-sibling_above : (c d x p : ℕ) → parent_in m d ≡ parent_in m c → c ≡ x → parent_in m x ≡ Some p → over_in m d p ≡ true → ⊥
-  no-sibling_above c d x p alike same some over =
-      let lt = forest d p (alike ∙ ap (parent_in m) same ∙ some) in
-      let le = tree.falls d p over in
-      omega arith
-
-  -- two siblings at or above the same transaction are one
-  same-sibling : (c d : ℕ) → parent_in m d ≡ parent_in m c → (x : ℕ) → over_in m c x ≡ true → over_in m d x ≡ true → c ≡ d
-  same-sibling c d alike = climb (parent_in m) forest (λ x. over_in m c x ≡ true → over_in m d x ≡ true → c ≡ d)
-      (λ x none first second. tree.at_top x c none first ∙ sym (tree.at_top x d none second))
-      (λ x p some ih first second. elim (tree.to_parent x p c some first) [
-        | inl same ↦ elim (tree.to_parent x p d some second) [
-          | inl also ↦ same ∙ sym also
-          | inr over ↦ absurd (no-sibling_above c d x p alike same some over)
-        ]
-        | inr over ↦ elim (tree.to_parent x p d some second) [
-          | inl same ↦ absurd (no-sibling_above d c x p (sym alike) same some over)
-          | inr also ↦ ih over also
-        ]
-      ])
-
-  -- what is at or below a child is below the parent
-  below-parent : (parent : Option ℕ) (c x : ℕ) → IsLiveUnder m parent c → over_in m c x ≡ true → IsStrictlyBelow m parent x
-  below-parent None c x is over = tt
-  below-parent (Some t) c x is over = let lt = forest c t is.child in let le = tree.falls c x over in (tree.over_parent c t x is.child over, omega arith)
-
-  module _ (parent : Option ℕ) (c : ℕ) (is : IsLiveUnder m parent c) (old xs : List ℕ) (fresh : (x : ℕ) → Contains old x → IsStrictlyBelow m parent x → ⊥) (grown : IsGrown (IsPassed m parent (Some c)) old xs) where
-    -- nothing at or below the next child is listed
-    not_listed : (x : ℕ) → Contains xs x → over_in m c x ≡ true → ⊥
-    not_listed x i over = elim (grown.sound x i) [
-      | inl first ↦ fresh x first (below-parent parent c x is over)
-      | inr passed ↦
-          let same = same-sibling c passed.child (passed.under.child ∙ sym is.child) x over passed.over in
-          let younger = passed.younger in
-          absurd (omega arith)
-    ]
-
-    -- nor is anything below it once it is
-    pub not_below : (x : ℕ) → Contains (xs ++ c ∷ []) x → IsStrictlyBelow m (Some c) x → ⊥
-    not_below x i below = elim (Contains-push_cases xs c x i) [ inl j ↦ not_listed x j below.0 | inr same ↦ below.1 (sym same) ]
-
-    -- with the child each is listed once
-    pub once-pushed : IsDistinct ◌==◌ xs → IsDistinct ◌==◌ (xs ++ c ∷ [])
-    once-pushed once = IsDistinct-push nat_eq_equiv xs c once (false_from_ne_true (list_any (eqb c) xs) (λ any. not_listed c (Contains-from_any eqb-true c xs any) (tree.itself c)))
-
-  -- with the child and what is below it the list goes on to the next one
-  pub grown-child : (parent : Option ℕ) (c : ℕ) (next : Option ℕ) (old xs ys : List ℕ) → IsLiveUnder m parent c → after_next next ≤ c → IsGrown (IsPassed m parent (Some c)) old xs
-      → IsGrown (IsLiveBelow m (Some c)) (xs ++ c ∷ []) ys → IsGrown (IsPassed m parent next) old ys
-  grown-child parent c next old xs ys is le grown below = record {
-    keeps = λ x i. below.keeps x (Contains-append_left xs (c ∷ []) x (grown.keeps x i));
-    sound = λ x i. elim (below.sound x i) [
-      | inl first ↦ elim (Contains-push_cases xs c x first) [
-        | inl listed ↦ elim (grown.sound x listed) [
-          | inl kept ↦ inl kept
-          | inr p ↦ let younger = p.younger in inr (record { live = p.live; child = p.child; under = p.under; over = p.over; younger = omega arith })
-        ]
-        | inr same ↦ inr (record { live = ap (state_in m) (sym same) ∙ is.live; child = c; under = is; over = ap (over_in m c) (sym same) ∙ tree.itself c; younger = le })
-      ]
-      | inr more ↦ inr (record { live = more.0; child = c; under = is; over = more.1.0; younger = le })
-    ];
-  }
-
-  -- what is passed is live and below the parent
-  pub grown-below : (parent next : Option ℕ) (old xs : List ℕ) → IsGrown (IsPassed m parent next) old xs → IsGrown (IsLiveBelow m parent) old xs
-  grown-below parent next old xs grown = record {
-    keeps = grown.keeps;
-    sound = λ x i. elim (grown.sound x i) [ inl first ↦ inl first | inr p ↦ inr (p.live, below-parent parent p.child x p.under p.over) ];
-  }
-
 -- What the records tell of the value m that they are seen as.
-module _ (base : ℕ) (r : Records) (h : AreRecords base r) (m : Transactions) (seen : transactions_of base r ≡ m) where
+module _ (limits : ForestLimits) (base : ℕ) (r : Records) (h : AreRecords limits base r) (m : Transactions) (seen : transactions_of limits base r ≡ m) where
   -- a parent was begun before its child
   pub forest-seen : IsForest (parent_in m)
-  forest-seen = subst (λ n. IsForest (parent_in n)) seen (value-forest base r h)
+  forest-seen = subst (λ n. IsForest (parent_in n)) seen (value-forest limits base r h)
 
   -- and lives as long
   pub parents-live : (x p : ℕ) → parent_in m x ≡ Some p → state_in m x ≡ Some Live → state_in m p ≡ Some Live
-  parents-live = subst (λ n. (x p : ℕ) → parent_in n x ≡ Some p → state_in n x ≡ Some Live → state_in n p ≡ Some Live) seen (λ x p up live. live-parent base r h x p live up)
+  parents-live = subst (λ n. (x p : ℕ) → parent_in n x ≡ Some p → state_in n x ≡ Some Live → state_in n p ≡ Some Live) seen (λ x p up live. live-parent limits base r h x p live up)
 
   -- the youngest child of what stands at a place
   pub youngest-of : (p : Option ℕ) → IsYoungestChild m (number_of m p) (number_of m ((links_of r).youngest p))
-  youngest-of p = subst (λ n. IsYoungestChild n (number_of n p) (number_of n ((links_of r).youngest p))) seen (youngest-seen base r h p)
+  youngest-of p = subst (λ n. IsYoungestChild n (number_of n p) (number_of n ((links_of r).youngest p))) seen (youngest-seen limits base r h p)
 
   -- the number that is pushed is that of a place
   pub pushed-seen : (i : ℕ) (xs ys : List ℕ) → ys ≡ xs ++ number_at base i ∷ [] → ys ≡ xs ++ number_at m.base i ∷ []
@@ -238,27 +232,18 @@ module _ (base : ℕ) (r : Records) (h : AreRecords base r) (m : Transactions) (
   module _ (i : ℕ) (live : state_in m (number_at m.base i) ≡ Some Live) where
     -- it is live
     live-at : (links_of r).state i ≡ Some Live
-    live-at = sym (state-at base r i) ∙ ap (λ n. state_in n (number_at n.base i)) seen ∙ live
+    live-at = sym (state-at limits base r i) ∙ ap (λ n. state_in n (number_at n.base i)) seen ∙ live
 
     -- and stands in the records
     pub begun-at : i < length r.list.items
-    begun-at = live-begun base r h i live-at
-
-    -- and in the list that is seen
-    pub listed-at : i < length m.list
-    listed-at = subst (λ n. i < length n.list) seen (simp length-map begun-at)
+    begun-at = live-begun limits base r h i live-at
 
     -- its number fits
     pub number-fits : number_at m.base i < 2 ^ 64
-    number-fits = subst (λ n. number_at n.base i < 2 ^ 64) seen (numbers-fit base r h i live-at)
+    number-fits = subst (λ n. number_at n.base i < 2 ^ 64) seen (numbers-fit limits base r h i live-at)
 
     -- and its record tells its next older sibling
     pub older-of : (o : Option ℕ) → o ≡ (links_of r).older i → IsOlderSibling m (number_at m.base i) (number_of m o)
     older-of o is =
         subst (λ n. IsOlderSibling n (number_at n.base i) (number_of n o)) seen
-        (subst (λ o. IsOlderSibling (transactions_of base r) (number_at base i) (option_map (number_at base) o)) (sym is) (older-seen base r h i live-at))
-
--- a live child is nearer to the last
-pub child-nearer : (m : Transactions) → IsForest (parent_in m) → (parent : Option ℕ) (c : ℕ) → IsLiveUnder m parent c → depth_left m (Some c) < depth_left m parent
-child-nearer m forest None c is = let le = begun-last m c Live is.live in omega arith
-child-nearer m forest (Some t) c is = let le = begun-last m c Live is.live in let lt = forest c t is.child in omega arith
+        (subst (λ o. IsOlderSibling (transactions_of limits base r) (number_at base i) (option_map (number_at base) o)) (sym is) (older-seen limits base r h i live-at))

@@ -10,9 +10,9 @@ use Rattle.ft_laws.proofs.Tests.{by_test, by_option}
 use Rattle.ft_history.specs.Forest.{above, is_some_and, map_or, IsForest}
 use Rattle.ft_history.proofs.Words.{by_number, same_some, none_some}
 use Rattle.ft_history.proofs.Forest.{climb, ForestLaws, forest_laws}
+use Rattle.ft_forest.specs.declared.limits.ForestLimits.{ForestLimits}
 use Rattle.ft_forest.specs.declared.state.State.{State}
 use Rattle.ft_forest.specs.declared.state.State.TheVariants.{Live, Committed, Aborted}
-use Rattle.ft_forest.specs.declared.record.Record.{Record}
 use Rattle.ft_forest.specs.declared.records.Records.{Records}
 use Rattle.ft_forest.specs.Transactions.{Transactions, transaction_in, parent_of, state_of, parent_in, state_in, last_in, over_in, is_live, depth_within, depth_in, is_live_child, live_children_in, IsLiveChild, IsLiveUnder, IsYoungestChild, IsOlderSibling, count_below}
 use Rattle.ft_forest.specs.Records.{Links, IsSibling, IsYoungest, IsOlder, links_of, number_at, transaction_from, transactions_of, AreRecords, is_child_at, DepthIs, parent_from, state_from}
@@ -25,9 +25,9 @@ by_place base t old new = elim (cases_lt base t) [ inl lt ↦ new (t - (base + 1
 pub same_place : (base i j : ℕ) → number_at base i ≡ number_at base j → i ≡ j
 same_place base i j e = omega arith
 
-module _ (base : ℕ) (r : Records) where
+module _ (limits : ForestLimits) (base : ℕ) (r : Records) where
   abbrev value : Transactions
-  value = transactions_of base r
+  value = transactions_of limits base r
 
   abbrev links : Links
   links = links_of r
@@ -44,14 +44,14 @@ module _ (base : ℕ) (r : Records) where
   pub state-at : (i : ℕ) → state_in value (number_at base i) ≡ links.state i
   state-at i = ap state_of (transaction-at i) ∙ by_record (slice_get r.list.items i)
     where
-      by_record : (o : Option Record) → state_of (option_map (transaction_from base) o) ≡ state_from o
+      by_record : (o : Option ℕ) → state_of (option_map (transaction_from base) o) ≡ state_from o
       by_record None = refl
       by_record (Some x) = refl
 
   pub parent-at : (i : ℕ) → parent_in value (number_at base i) ≡ option_map (number_at base) (links.parent i)
   parent-at i = ap parent_of (transaction-at i) ∙ by_record (slice_get r.list.items i)
     where
-      by_record : (o : Option Record) → parent_of (option_map (transaction_from base) o) ≡ option_map (number_at base) (parent_from o)
+      by_record : (o : Option ℕ) → parent_of (option_map (transaction_from base) o) ≡ option_map (number_at base) (parent_from o)
       by_record None = refl
       by_record (Some x) = refl
 
@@ -77,25 +77,25 @@ module _ (base : ℕ) (r : Records) where
   pub last-is : last_in value ≡ base + length r.list.items
   last-is = ap (λ n. base + n) (length-map r.list.items (transaction_from base))
 
-module _ (base : ℕ) (r : Records) (h : AreRecords base r) where
+module _ (limits : ForestLimits) (base : ℕ) (r : Records) (h : AreRecords limits base r) where
   -- a parent has a smaller number
-  pub value-forest : IsForest (parent_in (transactions_of base r))
+  pub value-forest : IsForest (parent_in (transactions_of limits base r))
   value-forest x p up = by_place base x
-      (λ le. absurd (none_some p (sym (parent-none base r x le) ∙ up)))
+      (λ le. absurd (none_some p (sym (parent-none limits base r x le) ∙ up)))
       (λ i e. by_option ((links_of r).parent i)
-      (λ none. absurd (none_some p (sym (ap (parent_in (transactions_of base r)) e ∙ parent-at base r i ∙ ap (option_map (number_at base)) none) ∙ up)))
+      (λ none. absurd (none_some p (sym (ap (parent_in (transactions_of limits base r)) e ∙ parent-at limits base r i ∙ ap (option_map (number_at base)) none) ∙ up)))
       (λ q some.
-      let is : number_at base q ≡ p = same_some (number_at base q) p (sym (ap (parent_in (transactions_of base r)) e ∙ parent-at base r i ∙ ap (option_map (number_at base)) some) ∙ up) in
+      let is : number_at base q ≡ p = same_some (number_at base q) p (sym (ap (parent_in (transactions_of limits base r)) e ∙ parent-at limits base r i ∙ ap (option_map (number_at base)) some) ∙ up) in
       let lt = h.linked.lower i q some in
       omega arith))
 
-  pub value-laws : ForestLaws (parent_in (transactions_of base r)) (over_in (transactions_of base r))
-  value-laws = forest_laws (parent_in (transactions_of base r)) value-forest
+  pub value-laws : ForestLaws (parent_in (transactions_of limits base r)) (over_in (transactions_of limits base r))
+  value-laws = forest_laws (parent_in (transactions_of limits base r)) value-forest
 
-module _ (base : ℕ) (r : Records) (i : ℕ) (x : Record) (there : slice_get r.list.items i ≡ Some x) (t : ℕ) (is : t ≡ number_at base i) where
+module _ (limits : ForestLimits) (base : ℕ) (r : Records) (i t : ℕ) (is : t ≡ number_at base i) where
   -- a transaction whose record stands at i
-  pub state-here : state_in (transactions_of base r) t ≡ Some x.state
-  state-here = ap (state_in (transactions_of base r)) is ∙ state-at base r i ∙ ap state_from there
+  pub state-here : state_in (transactions_of limits base r) t ≡ (links_of r).state i
+  state-here = ap (state_in (transactions_of limits base r)) is ∙ state-at limits base r i
 
 -- How deep.
 module _ (parent : ℕ → Option ℕ) (lower : IsForest parent) where
@@ -121,17 +121,17 @@ module _ (parent : ℕ → Option ℕ) (lower : IsForest parent) where
       depth_steps x (suc x) x (omega arith) (omega arith) ∙ ap (λ o. map_or 1 o (λ p. suc (depth_within parent x p))) e
       ∙ ap suc (depth_steps x p p (omega arith) (omega arith)) ∙ sym (add-one (depth_within parent p p))
 
-module _ (base : ℕ) (r : Records) (h : AreRecords base r) where
+module _ (limits : ForestLimits) (base : ℕ) (r : Records) (h : AreRecords limits base r) where
   -- the depth that is kept is the depth
-  pub depth-seen : (i : ℕ) → (links_of r).state i ≡ Some Live → (links_of r).depth i ≡ depth_in (transactions_of base r) (number_at base i)
-  depth-seen = climb (links_of r).parent h.linked.lower (λ i. (links_of r).state i ≡ Some Live → (links_of r).depth i ≡ depth_in (transactions_of base r) (number_at base i))
+  pub depth-seen : (i : ℕ) → (links_of r).state i ≡ Some Live → (links_of r).depth i ≡ depth_in (transactions_of limits base r) (number_at base i)
+  depth-seen = climb (links_of r).parent h.linked.lower (λ i. (links_of r).state i ≡ Some Live → (links_of r).depth i ≡ depth_in (transactions_of limits base r) (number_at base i))
       (λ i none live.
       subst (λ o. DepthIs (links_of r) o ((links_of r).depth i)) none (h.linked.depth i live)
-      ∙ sym (depth_root (parent_in (transactions_of base r)) (value-forest base r h) (number_at base i) (parent-at base r i ∙ ap (option_map (number_at base)) none)))
+      ∙ sym (depth_root (parent_in (transactions_of limits base r)) (value-forest limits base r h) (number_at base i) (parent-at limits base r i ∙ ap (option_map (number_at base)) none)))
       (λ i p some ih live.
       subst (λ o. DepthIs (links_of r) o ((links_of r).depth i)) some (h.linked.depth i live)
       ∙ ap (λ n. n + 1) (ih (h.linked.live_parent i p live some))
-      ∙ sym (depth_child (parent_in (transactions_of base r)) (value-forest base r h) (number_at base i) (number_at base p) (parent-at base r i ∙ ap (option_map (number_at base)) some)))
+      ∙ sym (depth_child (parent_in (transactions_of limits base r)) (value-forest limits base r h) (number_at base i) (number_at base p) (parent-at limits base r i ∙ ap (option_map (number_at base)) some)))
 
 -- How many children.
 
@@ -159,11 +159,11 @@ live-of (Some Live) e = refl
 live-of (Some Committed) e = absurd (false≢true e)
 live-of (Some Aborted) e = absurd (false≢true e)
 
-module _ (base : ℕ) (r : Records) where
-  child-seen : (t i : ℕ) → passes (is_live_child t) (slice_get (transactions_of base r).list i) ≡ (is_some_and (option_map (number_at base) ((links_of r).parent i)) (λ q. q == t) && is_live ((links_of r).state i))
+module _ (limits : ForestLimits) (base : ℕ) (r : Records) where
+  child-seen : (t i : ℕ) → passes (is_live_child t) (slice_get (transactions_of limits base r).list i) ≡ (is_some_and (option_map (number_at base) ((links_of r).parent i)) (λ q. q == t) && is_live ((links_of r).state i))
   child-seen t i = ap (passes (is_live_child t)) (slice_get-map (transaction_from base) r.list.items i) ∙ by_record (slice_get r.list.items i)
     where
-      by_record : (o : Option Record) → passes (is_live_child t) (option_map (transaction_from base) o) ≡ (is_some_and (option_map (number_at base) (parent_from o)) (λ q. q == t) && is_live (state_from o))
+      by_record : (o : Option ℕ) → passes (is_live_child t) (option_map (transaction_from base) o) ≡ (is_some_and (option_map (number_at base) (parent_from o)) (λ q. q == t) && is_live (state_from o))
       by_record None = refl
       by_record (Some x) = refl
 
@@ -173,48 +173,48 @@ module _ (base : ℕ) (r : Records) where
       (λ e. eq-eqb (number_at base q) (number_at base i) (ap (number_at base) e) ∙ sym (eq-eqb q i e))
       (λ ne. ne_eqb (number_at base q) (number_at base i) (λ e. ne (same_place base q i e)) ∙ sym (ne_eqb q i ne))
 
-  pub children-seen : (i : ℕ) → live_children_in (transactions_of base r) (number_at base i) ≡ count_below (is_child_at (links_of r) i) (length r.list.items)
+  pub children-seen : (i : ℕ) → live_children_in (transactions_of limits base r) (number_at base i) ≡ count_below (is_child_at (links_of r) i) (length r.list.items)
   children-seen i =
-      count-list (is_live_child (number_at base i)) (transactions_of base r).list
-      ∙ ap (count_below (λ j. passes (is_live_child (number_at base i)) (slice_get (transactions_of base r).list j))) (length-map r.list.items (transaction_from base))
+      count-list (is_live_child (number_at base i)) (transactions_of limits base r).list
+      ∙ ap (count_below (λ j. passes (is_live_child (number_at base i)) (slice_get (transactions_of limits base r).list j))) (length-map r.list.items (transaction_from base))
       ∙ count-same _ _ (length r.list.items) (λ j lt. child-seen (number_at base i) j ∙ ap (λ b. b && is_live ((links_of r).state j)) (same_child i ((links_of r).parent j)))
 
   -- who counts, counts as a child
-  child-up : (t i : ℕ) → (is_some_and (option_map (number_at base) ((links_of r).parent i)) (λ q. q == t) && is_live ((links_of r).state i)) ≡ true → IsLiveChild (transactions_of base r) t (number_at base i)
+  child-up : (t i : ℕ) → (is_some_and (option_map (number_at base) ((links_of r).parent i)) (λ q. q == t) && is_live ((links_of r).state i)) ≡ true → IsLiveChild (transactions_of limits base r) t (number_at base i)
   child-up t i e =
       let parts = and_parts (is_some_and (option_map (number_at base) ((links_of r).parent i)) (λ q. q == t)) (is_live ((links_of r).state i)) e in
-      record { child = parent-at base r i ∙ child-of (option_map (number_at base) ((links_of r).parent i)) t parts.0; live = state-at base r i ∙ live-of ((links_of r).state i) parts.1 }
+      record { child = parent-at limits base r i ∙ child-of (option_map (number_at base) ((links_of r).parent i)) t parts.0; live = state-at limits base r i ∙ live-of ((links_of r).state i) parts.1 }
 
-module _ (base : ℕ) (r : Records) (h : AreRecords base r) (t : ℕ) where
+module _ (limits : ForestLimits) (base : ℕ) (r : Records) (h : AreRecords limits base r) (t : ℕ) where
   abbrev is_counted : ℕ → Bool
   is_counted i = is_some_and (option_map (number_at base) ((links_of r).parent i)) (λ q. q == t) && is_live ((links_of r).state i)
 
-  all-counted : live_children_in (transactions_of base r) t ≡ count_below is_counted (length r.list.items)
+  all-counted : live_children_in (transactions_of limits base r) t ≡ count_below is_counted (length r.list.items)
   all-counted =
-      count-list (is_live_child t) (transactions_of base r).list
-      ∙ ap (count_below (λ j. passes (is_live_child t) (slice_get (transactions_of base r).list j))) (length-map r.list.items (transaction_from base))
-      ∙ count-same _ _ (length r.list.items) (λ j lt. child-seen base r t j)
+      count-list (is_live_child t) (transactions_of limits base r).list
+      ∙ ap (count_below (λ j. passes (is_live_child t) (slice_get (transactions_of limits base r).list j))) (length-map r.list.items (transaction_from base))
+      ∙ count-same _ _ (length r.list.items) (λ j lt. child-seen limits base r t j)
 
   -- a live child is a counted place
-  child-place : (x : ℕ) → IsLiveChild (transactions_of base r) t x → (i : ℕ) × (i < length r.list.items) × (is_counted i ≡ true) × (x ≡ number_at base i)
+  child-place : (x : ℕ) → IsLiveChild (transactions_of limits base r) t x → (i : ℕ) × (i < length r.list.items) × (is_counted i ≡ true) × (x ≡ number_at base i)
   child-place x is = by_place base x
-      (λ le. absurd (none_live (sym (state-none base r x le) ∙ is.live)))
+      (λ le. absurd (none_live (sym (state-none limits base r x le) ∙ is.live)))
       (λ i e.
-      let live : (links_of r).state i ≡ Some Live = sym (ap (state_in (transactions_of base r)) e ∙ state-at base r i) ∙ is.live in
-      let up : option_map (number_at base) ((links_of r).parent i) ≡ Some t = sym (ap (parent_in (transactions_of base r)) e ∙ parent-at base r i) ∙ is.child in
+      let live : (links_of r).state i ≡ Some Live = sym (ap (state_in (transactions_of limits base r)) e ∙ state-at limits base r i) ∙ is.live in
+      let up : option_map (number_at base) ((links_of r).parent i) ≡ Some t = sym (ap (parent_in (transactions_of limits base r)) e ∙ parent-at limits base r i) ∙ is.child in
       let lt : i < length r.list.items = elim (cases_lt i (length r.list.items)) [ inl lt ↦ lt | inr ge ↦ absurd (none_live (sym (h.linked.unbegun i ge) ∙ live)) ] in
       (i, lt, (λ j. is_some_and (up j) (λ q. q == t) && is_live (live j)) ∙ ap (λ b. b && true) (eq-eqb t t refl), e))
 
-  pub some-child : 0 < live_children_in (transactions_of base r) t → (x : ℕ) × IsLiveChild (transactions_of base r) t x
-  some-child lt = let found = count-found is_counted (length r.list.items) (subst (λ n. 0 < n) all-counted lt) in (number_at base found.0, child-up base r t found.0 found.2)
+  pub some-child : 0 < live_children_in (transactions_of limits base r) t → (x : ℕ) × IsLiveChild (transactions_of limits base r) t x
+  some-child lt = let found = count-found is_counted (length r.list.items) (subst (λ n. 0 < n) all-counted lt) in (number_at base found.0, child-up limits base r t found.0 found.2)
 
-  pub no-child : live_children_in (transactions_of base r) t ≡ 0 → (x : ℕ) → IsLiveChild (transactions_of base r) t x → ⊥
+  pub no-child : live_children_in (transactions_of limits base r) t ≡ 0 → (x : ℕ) → IsLiveChild (transactions_of limits base r) t x → ⊥
   no-child none x is =
       let place = child-place x is in
       false≢true (sym (count-zero is_counted (length r.list.items) (sym all-counted ∙ none) place.0 place.1) ∙ place.2)
 
   -- one that was not begun has none
-  pub absent-children : ((i : ℕ) → i < length r.list.items → t ≢ number_at base i) → live_children_in (transactions_of base r) t ≡ 0
+  pub absent-children : ((i : ℕ) → i < length r.list.items → t ≢ number_at base i) → live_children_in (transactions_of limits base r) t ≡ 0
   absent-children absent = all-counted ∙ count-none is_counted (length r.list.items) (λ i lt. by_test (is_counted i)
       (λ k.
       let parts = and_parts (is_some_and (option_map (number_at base) ((links_of r).parent i)) (λ q. q == t)) (is_live ((links_of r).state i)) k in
@@ -225,29 +225,29 @@ module _ (base : ℕ) (r : Records) (h : AreRecords base r) (t : ℕ) where
       absurd (absent p (omega arith) (sym (same_some (number_at base p) t (sym (ap (option_map (number_at base)) some) ∙ child-of _ t parts.0))))))
       (λ k. k))
 
-module _ (base : ℕ) (r : Records) (h : AreRecords base r) where
+module _ (limits : ForestLimits) (base : ℕ) (r : Records) (h : AreRecords limits base r) where
   abbrev seen : Transactions
-  seen = transactions_of base r
+  seen = transactions_of limits base r
 
   abbrev up : ℕ → Option ℕ
   up = parent_in seen
 
   laws : ForestLaws up (above up)
-  laws = value-laws base r h
+  laws = value-laws limits base r h
 
   -- a live transaction's parent is live
   pub live-parent : (x p : ℕ) → state_in seen x ≡ Some Live → up x ≡ Some p → state_in seen p ≡ Some Live
   live-parent x p live e = by_place base x
-      (λ le. absurd (none_live (sym (state-none base r x le) ∙ live)))
+      (λ le. absurd (none_live (sym (state-none limits base r x le) ∙ live)))
       (λ i is. by_option ((links_of r).parent i)
-      (λ none. absurd (none_some p (sym (ap up is ∙ parent-at base r i ∙ ap (option_map (number_at base)) none) ∙ e)))
+      (λ none. absurd (none_some p (sym (ap up is ∙ parent-at limits base r i ∙ ap (option_map (number_at base)) none) ∙ e)))
       (λ q some.
-      let same : number_at base q ≡ p = same_some (number_at base q) p (sym (ap up is ∙ parent-at base r i ∙ ap (option_map (number_at base)) some) ∙ e) in
-      ap (state_in seen) (sym same) ∙ state-at base r q ∙ h.linked.live_parent i q (sym (state-at base r i) ∙ ap (state_in seen) (sym is) ∙ live) some))
+      let same : number_at base q ≡ p = same_some (number_at base q) p (sym (ap up is ∙ parent-at limits base r i ∙ ap (option_map (number_at base)) some) ∙ e) in
+      ap (state_in seen) (sym same) ∙ state-at limits base r q ∙ h.linked.live_parent i q (sym (state-at limits base r i) ∙ ap (state_in seen) (sym is) ∙ live) some))
 
   -- what is above a live transaction is live
   pub live-over : (t x : ℕ) → over_in seen t x ≡ true → state_in seen x ≡ Some Live → state_in seen t ≡ Some Live
-  live-over t = climb up (value-forest base r h) (λ x. over_in seen t x ≡ true → state_in seen x ≡ Some Live → state_in seen t ≡ Some Live)
+  live-over t = climb up (value-forest limits base r h) (λ x. over_in seen t x ≡ true → state_in seen x ≡ Some Live → state_in seen t ≡ Some Live)
       (λ x none over live. ap (state_in seen) (laws.at_top x t none over) ∙ live)
       (λ x p some ih over live. elim (laws.to_parent x p t some over) [
         | inl same ↦ ap (state_in seen) same ∙ live
@@ -257,27 +257,27 @@ module _ (base : ℕ) (r : Records) (h : AreRecords base r) where
   -- at or below t, one step down
   pub over-child : (t i j : ℕ) → over_in seen t (number_at base i) ≡ true → (links_of r).parent j ≡ Some i → over_in seen t (number_at base j) ≡ true
   over-child t i j over e =
-      let some : up (number_at base j) ≡ Some (number_at base i) = parent-at base r j ∙ ap (option_map (number_at base)) e in
+      let some : up (number_at base j) ≡ Some (number_at base i) = parent-at limits base r j ∙ ap (option_map (number_at base)) e in
       laws.along t (number_at base i) (number_at base j) over (laws.over_parent (number_at base j) (number_at base i) (number_at base j) some (laws.itself (number_at base j)))
 
   -- a live child has a place, and a sibling's link
   pub child-sibling : (i x : ℕ) → IsLiveChild seen (number_at base i) x → (j : ℕ) × IsSibling (links_of r) (Some i) j
   child-sibling i x is = by_place base x
-      (λ le. absurd (none_live (sym (state-none base r x le) ∙ is.live)))
+      (λ le. absurd (none_live (sym (state-none limits base r x le) ∙ is.live)))
       (λ j e. (
         j,
         record {
           parent = by_option ((links_of r).parent j)
-              (λ none. absurd (none_some (number_at base i) (sym (ap up e ∙ parent-at base r j ∙ ap (option_map (number_at base)) none) ∙ is.child)))
+              (λ none. absurd (none_some (number_at base i) (sym (ap up e ∙ parent-at limits base r j ∙ ap (option_map (number_at base)) none) ∙ is.child)))
               (λ q some.
-              let same : number_at base q ≡ number_at base i = same_some (number_at base q) (number_at base i) (sym (ap up e ∙ parent-at base r j ∙ ap (option_map (number_at base)) some) ∙ is.child) in
+              let same : number_at base q ≡ number_at base i = same_some (number_at base q) (number_at base i) (sym (ap up e ∙ parent-at limits base r j ∙ ap (option_map (number_at base)) some) ∙ is.child) in
               some ∙ ap Some (same_place base q i same));
-          live = sym (state-at base r j) ∙ ap (state_in seen) (sym e) ∙ is.live;
+          live = sym (state-at limits base r j) ∙ ap (state_in seen) (sym e) ∙ is.live;
         },
       ))
 
 -- Siblings, as callers see them.
-module _ (base : ℕ) (r : Records) (h : AreRecords base r) where
+module _ (limits : ForestLimits) (base : ℕ) (r : Records) (h : AreRecords limits base r) where
   abbrev shown : Option ℕ → Option ℕ
   shown = option_map (number_at base)
 
@@ -287,35 +287,35 @@ module _ (base : ℕ) (r : Records) (h : AreRecords base r) where
   same_shown (Some p) None e = absurd (none_some (number_at base p) (sym e))
   same_shown (Some p) (Some q) e = ap Some (same_place base p q (same_some (number_at base p) (number_at base q) e))
 
-  sibling-up : (q : Option ℕ) (j : ℕ) → IsSibling (links_of r) q j → IsLiveUnder (transactions_of base r) (shown q) (number_at base j)
-  sibling-up q j is = record { child = parent-at base r j ∙ ap shown is.parent; live = state-at base r j ∙ is.live }
+  sibling-up : (q : Option ℕ) (j : ℕ) → IsSibling (links_of r) q j → IsLiveUnder (transactions_of limits base r) (shown q) (number_at base j)
+  sibling-up q j is = record { child = parent-at limits base r j ∙ ap shown is.parent; live = state-at limits base r j ∙ is.live }
 
-  sibling-down : (q : Option ℕ) (x : ℕ) → IsLiveUnder (transactions_of base r) (shown q) x → (j : ℕ) × (x ≡ number_at base j) × IsSibling (links_of r) q j
+  sibling-down : (q : Option ℕ) (x : ℕ) → IsLiveUnder (transactions_of limits base r) (shown q) x → (j : ℕ) × (x ≡ number_at base j) × IsSibling (links_of r) q j
   sibling-down q x is = by_place base x
-      (λ le. absurd (none_live (sym (state-none base r x le) ∙ is.live)))
+      (λ le. absurd (none_live (sym (state-none limits base r x le) ∙ is.live)))
       (λ j e. (
         j,
         e,
         record {
-          parent = same_shown ((links_of r).parent j) q (sym (ap (parent_in (transactions_of base r)) e ∙ parent-at base r j) ∙ is.child);
-          live = sym (state-at base r j) ∙ ap (state_in (transactions_of base r)) (sym e) ∙ is.live;
+          parent = same_shown ((links_of r).parent j) q (sym (ap (parent_in (transactions_of limits base r)) e ∙ parent-at limits base r j) ∙ is.child);
+          live = sym (state-at limits base r j) ∙ ap (state_in (transactions_of limits base r)) (sym e) ∙ is.live;
         },
       ))
 
-  pub youngest-seen : (q : Option ℕ) → IsYoungestChild (transactions_of base r) (shown q) (shown ((links_of r).youngest q))
+  pub youngest-seen : (q : Option ℕ) → IsYoungestChild (transactions_of limits base r) (shown q) (shown ((links_of r).youngest q))
   youngest-seen q = by_option ((links_of r).youngest q)
-      (λ none. subst (λ o. IsYoungestChild (transactions_of base r) (shown q) (shown o)) (sym none) (λ x is. let j = sibling-down q x is in subst (IsYoungest (links_of r) q) none (h.linked.youngest q) j.0 j.2))
+      (λ none. subst (λ o. IsYoungestChild (transactions_of limits base r) (shown q) (shown o)) (sym none) (λ x is. let j = sibling-down q x is in subst (IsYoungest (links_of r) q) none (h.linked.youngest q) j.0 j.2))
       (λ y some.
       let was = subst (IsYoungest (links_of r) q) some (h.linked.youngest q) in
-      subst (λ o. IsYoungestChild (transactions_of base r) (shown q) (shown o)) (sym some)
+      subst (λ o. IsYoungestChild (transactions_of limits base r) (shown q) (shown o)) (sym some)
       (sibling-up q y was.0, λ x is. let j = sibling-down q x is in let le = was.1 j.0 j.2 in let e = j.1 in omega arith))
 
-  pub older-seen : (i : ℕ) → (links_of r).state i ≡ Some Live → IsOlderSibling (transactions_of base r) (number_at base i) (shown ((links_of r).older i))
+  pub older-seen : (i : ℕ) → (links_of r).state i ≡ Some Live → IsOlderSibling (transactions_of limits base r) (number_at base i) (shown ((links_of r).older i))
   older-seen i live =
       let q = (links_of r).parent i in
       by_option ((links_of r).older i)
-      (λ none. subst (λ o. IsOlderSibling (transactions_of base r) (number_at base i) (shown o)) (sym none) (λ x is.
-      let j = sibling-down q x (record { child = is.child ∙ parent-at base r i; live = is.live }) in
+      (λ none. subst (λ o. IsOlderSibling (transactions_of limits base r) (number_at base i) (shown o)) (sym none) (λ x is.
+      let j = sibling-down q x (record { child = is.child ∙ parent-at limits base r i; live = is.live }) in
       let le = subst (IsOlder (links_of r) q i) none (h.linked.older i live) j.0 j.2 in
       let e = j.1 in
       omega arith))
@@ -323,11 +323,11 @@ module _ (base : ℕ) (r : Records) (h : AreRecords base r) where
       let was = subst (IsOlder (links_of r) q i) some (h.linked.older i live) in
       let up = sibling-up q y was.0 in
       let below = was.1 in
-      subst (λ o. IsOlderSibling (transactions_of base r) (number_at base i) (shown o)) (sym some) (
-        record { child = up.child ∙ sym (parent-at base r i); live = up.live },
+      subst (λ o. IsOlderSibling (transactions_of limits base r) (number_at base i) (shown o)) (sym some) (
+        record { child = up.child ∙ sym (parent-at limits base r i); live = up.live },
         omega arith,
         λ x is.
-            let j = sibling-down q x (record { child = is.child ∙ parent-at base r i; live = is.live }) in
+            let j = sibling-down q x (record { child = is.child ∙ parent-at limits base r i; live = is.live }) in
             let e = j.1 in
             elim (was.2 j.0 j.2) [ inl le ↦ inl (omega arith) | inr ge ↦ inr (omega arith) ],
       ))

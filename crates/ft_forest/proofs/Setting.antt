@@ -1,7 +1,6 @@
 -- What the links are after a record is written.
 use Rattle.std.proofs.Common.{◌≡◌, ◌≢◌, ◌<◌, ◌+◌, ℕ, zero, suc, true, cond, Option, Some, None, List, [], ◌∷◌, ◌++◌, length, set, refl, sym, ap, ◌∙◌, arith, length-set, eq-eqb, ne_eqb}
 use Rattle.std.specs.Prelude.{slice_get, is_some}
-use Rattle.std.specs.Option.{option_map}
 use Rattle.std.specs.Cmp.{nat_cmp_total, unsigned_tied}
 use Rattle.std.specs.Ordering.{nat_cmp}
 use Rattle.std.specs.FinMap as finite
@@ -10,9 +9,8 @@ use Rattle.ft_history.specs.Logs.{put}
 use Rattle.ft_history.proofs.Words.{put_same, put_other, by_number}
 use Rattle.ft_forest.specs.declared.state.State.{State}
 use Rattle.ft_forest.specs.declared.state.State.TheVariants.{Live}
-use Rattle.ft_forest.specs.declared.record.Record.{Record}
 use Rattle.ft_forest.specs.declared.record.LiveRecord.{LiveRecord}
-use Rattle.ft_forest.specs.Records.{Links, LiveRecords, links_by, youngest_by, put_youngest, forgotten_links, no_links, place_before, parent_from, state_from, depth_from, children_from, youngest_from, older_from, younger_from}
+use Rattle.ft_forest.specs.Records.{Links, LiveRecords, links_by, youngest_by, put_youngest, forgotten_links, no_links, parent_by, state_by, parent_from, state_from, depth_from, children_from, youngest_from, older_from, younger_from}
 
 -- the element at a place, once another is written
 pub get-set_same : {A : Type 0} (xs : List A) (p : ℕ) (x : A) → p < length xs → slice_get (set xs p x) p ≡ Some x
@@ -67,31 +65,27 @@ links-same a b count parent state kept depth children youngest older younger = �
   younger = λ i. younger i j;
 }
 
-module _ (top : Option ℕ) (rs : List Record) (live : LiveRecords) where
+module _ (top : Option ℕ) (rs : List ℕ) (live : LiveRecords) where
   abbrev s : Links
   s = links_by top rs live
 
   -- another state
-  module _ (p : ℕ) (old : Record) (lt : p < length rs) (there : slice_get rs p ≡ Some old) (state : State) where
-    abbrev written : List Record
-    written = set rs p (record old { state = state })
+  module _ (p old new : ℕ) (lt : p < length rs) (there : slice_get rs p ≡ Some old) (parent : parent_by new ≡ parent_by old) (state : State) (is : state_by new ≡ state) where
+    abbrev written : List ℕ
+    written = set rs p new
 
     same_parent : (i : ℕ) → parent_from (slice_get written i) ≡ parent_from (slice_get rs i)
     same_parent i = by_number i p
-        (λ e. ap (λ k. parent_from (slice_get written k)) e ∙ ap parent_from (get-set_same rs p (record old { state = state }) lt ∙ sym (ap (option_map (λ (r : Record). record r { state = state })) there)) ∙ by_record (slice_get rs p) ∙ ap (λ k. parent_from (slice_get rs k)) (sym e))
-        (λ ne. ap parent_from (get-set_other rs p (record old { state = state }) i ne))
-      where
-        by_record : (o : Option Record) → parent_from (option_map (λ (r : Record). record r { state = state }) o) ≡ parent_from o
-        by_record None = refl
-        by_record (Some r) = refl
+        (λ e. ap (λ k. parent_from (slice_get written k)) e ∙ ap parent_from (get-set_same rs p new lt) ∙ parent ∙ sym (ap parent_from there) ∙ ap (λ k. parent_from (slice_get rs k)) (sym e))
+        (λ ne. ap parent_from (get-set_other rs p new i ne))
 
     new_state : (i : ℕ) → state_from (slice_get written i) ≡ put s.state p (Some state) i
     new_state i = by_number i p
-        (λ e. ap (λ k. state_from (slice_get written k)) e ∙ ap state_from (get-set_same rs p (record old { state = state }) lt) ∙ sym (put_same s.state p (Some state) i e))
-        (λ ne. ap state_from (get-set_other rs p (record old { state = state }) i ne) ∙ sym (put_other s.state p (Some state) i ne))
+        (λ e. ap (λ k. state_from (slice_get written k)) e ∙ ap state_from (get-set_same rs p new lt) ∙ ap Some is ∙ sym (put_same s.state p (Some state) i e))
+        (λ ne. ap state_from (get-set_other rs p new i ne) ∙ sym (put_other s.state p (Some state) i ne))
 
     pub write-state : links_by top written live ≡ record s { state = put s.state p (Some state) }
-    write-state = links-same _ _ (length-set rs p (record old { state = state })) same_parent new_state (λ i. refl) (λ i. refl) (λ i. refl) (λ q. refl) (λ i. refl) (λ i. refl)
+    write-state = links-same _ _ (length-set rs p new) same_parent new_state (λ i. refl) (λ i. refl) (λ i. refl) (λ q. refl) (λ i. refl) (λ i. refl)
 
   -- another record of a live transaction
   module _ (p : ℕ) (old : LiveRecord) (there : finite.get live p ≡ Some old) where
@@ -166,8 +160,8 @@ pushed_links s parent depth older = record {
 abbrev pub live_record : ℕ → Option ℕ → LiveRecord
 live_record depth older = record { depth = depth; children = 0; youngest = None; older = older; younger = None }
 
-module _ (top : Option ℕ) (rs : List Record) (live : LiveRecords) (r : Record) where
-  pushed : {X : Type 0} (g : Option Record → X) (i : ℕ) → g (slice_get (rs ++ r ∷ []) i) ≡ put (λ k. g (slice_get rs k)) (length rs) (g (Some r)) i
+module _ (top : Option ℕ) (rs : List ℕ) (live : LiveRecords) (r : ℕ) where
+  pushed : {X : Type 0} (g : Option ℕ → X) (i : ℕ) → g (slice_get (rs ++ r ∷ []) i) ≡ put (λ k. g (slice_get rs k)) (length rs) (g (Some r)) i
   pushed g i = by_number i (length rs)
       (λ e. ap (λ k. g (slice_get (rs ++ r ∷ []) k)) e ∙ ap g (get-push_same rs r) ∙ sym (put_same (λ k. g (slice_get rs k)) (length rs) (g (Some r)) i e))
       (λ ne. ap g (get-push_other rs r i ne) ∙ sym (put_other (λ k. g (slice_get rs k)) (length rs) (g (Some r)) i ne))
@@ -176,7 +170,7 @@ module _ (top : Option ℕ) (rs : List Record) (live : LiveRecords) (r : Record)
   more_youngest x None = refl
   more_youngest x (Some q) = inserted live (length rs) youngest_from x q
 
-  pub write-push : (parent : Option ℕ) (depth : ℕ) (older : Option ℕ) → place_before r.above ≡ parent → r.state ≡ Live
+  pub write-push : (parent : Option ℕ) (depth : ℕ) (older : Option ℕ) → parent_by r ≡ parent → state_by r ≡ Live
       → links_by top (rs ++ r ∷ []) (finite.insert live (length rs) (live_record depth older)) ≡ pushed_links (links_by top rs live) parent depth older
   write-push parent depth older up state =
       let x = live_record depth older in

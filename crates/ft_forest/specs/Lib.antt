@@ -1,3 +1,4 @@
+pub mod Limits
 pub mod Transactions
 pub mod Refusals
 pub mod Records

@@ -1,15 +1,15 @@
 -- How the records of the transactions are linked, seen as functions of a place: what a forest
 -- keeps, which no public contract cites.
-use Rattle.std.specs.Prelude.{◌≡◌, ◌<◌, ◌≤◌, ◌+◌, ◌-◌, ◌==◌, ◌&&◌, ◌⊎◌, ℕ, zero, suc, Bool, true, false, Option, Some, None, is_some, List, map, length, slice_get, IsSome}
+use Rattle.std.specs.Prelude.{◌≡◌, ◌<◌, ◌≤◌, ◌+◌, ◌-◌, ◌/◌, ◌%◌, ◌==◌, ◌&&◌, ◌⊎◌, ℕ, zero, suc, Bool, true, false, Option, Some, None, is_some, List, map, length, slice_get, IsSome}
 use Rattle.std.specs.Option.{option_map}
 use Rattle.std.specs.Ordering.{nat_cmp}
 use Rattle.std.specs.FinMap as finite
 use Rattle.ft_history.specs.Forest.{is_some_and}
 use Rattle.ft_history.specs.Logs.{put}
-use Rattle.ft_forest.specs.declared.TheConstants.{MOST_TRANSACTIONS, MOST_DEPTH, LAST_NUMBER}
+use Rattle.ft_forest.specs.declared.TheConstants.{MOST_TRANSACTIONS, LAST_NUMBER}
+use Rattle.ft_forest.specs.declared.limits.ForestLimits.{ForestLimits}
 use Rattle.ft_forest.specs.declared.state.State.{State}
-use Rattle.ft_forest.specs.declared.state.State.TheVariants.{Live}
-use Rattle.ft_forest.specs.declared.record.Record.{Record}
+use Rattle.ft_forest.specs.declared.state.State.TheVariants.{Live, Committed, Aborted}
 use Rattle.ft_forest.specs.declared.record.LiveRecord.{LiveRecord}
 use Rattle.ft_forest.specs.declared.records.Records.{Records}
 use Rattle.ft_forest.specs.Transactions.{Transaction, Transactions, is_live, count_below}
@@ -38,15 +38,29 @@ abbrev pub place_before : ℕ → Option ℕ
 place_before zero = None
 place_before (suc p) = Some p
 
--- the parent's place that a record tells, if there is a record
-abbrev pub parent_from : Option Record → Option ℕ
+-- the parent's place that a record's number tells
+abbrev pub parent_by : ℕ → Option ℕ
+parent_by n = place_before (n / 4)
+
+-- a state by its discriminant
+abbrev pub state_at : ℕ → State
+state_at zero = Live
+state_at (suc zero) = Committed
+state_at (suc (suc _)) = Aborted
+
+-- what has become of the transaction, as a record's number tells
+abbrev pub state_by : ℕ → State
+state_by n = state_at (n % 4)
+
+-- the parent's place, if there is a record
+abbrev pub parent_from : Option ℕ → Option ℕ
 parent_from None = None
-parent_from (Some r) = place_before r.above
+parent_from (Some n) = parent_by n
 
 -- what has become of it, if there is a record
-abbrev pub state_from : Option Record → Option State
+abbrev pub state_from : Option ℕ → Option State
 state_from None = None
-state_from (Some r) = Some r.state
+state_from (Some n) = Some (state_by n)
 
 -- its depth, or 0
 abbrev pub depth_from : Option LiveRecord → ℕ
@@ -79,7 +93,7 @@ youngest_by top live None = top
 youngest_by top live (Some p) = youngest_from (finite.get live p)
 
 -- the links that these records tell, with the youngest at the top level
-abbrev pub links_by : Option ℕ → List Record → LiveRecords → Links
+abbrev pub links_by : Option ℕ → List ℕ → LiveRecords → Links
 links_by top rs live = record {
   count = length rs;
   parent = λ i. parent_from (slice_get rs i);
@@ -209,22 +223,22 @@ pub record AreLinked (s : Links) : Type 0 where
   pub younger : (i : ℕ) → s.state i ≡ Some Live → IsYounger s (s.parent i) i (s.younger i)
   pub children : (p : ℕ) → s.children p ≡ count_below (is_child_at s p) s.count
   pub depth : (i : ℕ) → s.state i ≡ Some Live → DepthIs s (s.parent i) (s.depth i)
-  pub shallow : (i : ℕ) → s.state i ≡ Some Live → s.depth i ≤ MOST_DEPTH
 
 -- the number of the transaction at a place
 abbrev pub number_at : ℕ → ℕ → ℕ
 number_at base i = base + 1 + i
 
--- what callers see of a record
-abbrev pub transaction_from : ℕ → Record → Transaction
-transaction_from base r = record { parent = option_map (number_at base) (place_before r.above); state = r.state }
+-- what callers see of a record's number
+abbrev pub transaction_from : ℕ → ℕ → Transaction
+transaction_from base n = record { parent = option_map (number_at base) (parent_by n); state = state_by n }
 
 -- the transactions that the records tell
-abbrev pub transactions_of : ℕ → Records → Transactions
-transactions_of base r = record { base = base; list = map (transaction_from base) r.list.items }
+abbrev pub transactions_of : ForestLimits → ℕ → Records → Transactions
+transactions_of limits base r = record { limits = limits; base = base; list = map (transaction_from base) r.list.items }
 
--- what a forest keeps of its records: they are linked so, and within the limits
-pub record AreRecords (base : ℕ) (r : Records) : Type 0 where
+-- what a forest keeps of its records: they are linked so, and within the limits, which are sound
+pub record AreRecords (limits : ForestLimits) (base : ℕ) (r : Records) : Type 0 where
   pub linked : AreLinked (links_of r)
-  pub few : length r.list.items ≤ MOST_TRANSACTIONS
+  pub few : length r.list.items ≤ limits.transactions
+  pub sound : limits.transactions ≤ MOST_TRANSACTIONS
   pub numbers : (i : ℕ) → i < length r.list.items → number_at base i ≤ LAST_NUMBER

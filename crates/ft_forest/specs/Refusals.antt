@@ -1,7 +1,7 @@
 -- When each call of a forest is refused. (The order of refusals and the
 -- limits are rules of this project.)
 use Rattle.std.specs.Prelude.{◌≡◌, ◌||◌, ℕ, Bool, cond, nat_le, nat_lt, Option, Some, None, length}
-use Rattle.ft_forest.specs.declared.TheConstants.{MOST_TRANSACTIONS, MOST_DEPTH, LAST_NUMBER}
+use Rattle.ft_forest.specs.declared.TheConstants.{LAST_NUMBER}
 use Rattle.ft_forest.specs.declared.fault.ForestFault.{ForestFault}
 use Rattle.ft_forest.specs.declared.fault.ForestFault.TheVariants.{Memory, NoTxn, Ended, ChildLive, Full, Deep}
 use Rattle.ft_forest.specs.declared.state.State.{State}
@@ -19,9 +19,9 @@ refusal_of (Some Aborted) later = Some Ended
 abbrev pub fault_if : Bool → ForestFault → Option ForestFault → Option ForestFault
 fault_if b fault later = cond b (Some fault) later
 
--- 100,000 transactions since the base, or the number 2^63 - 1 given
+-- as many transactions since the base as are allowed, or the number 2^63 - 1 given
 abbrev pub is_full : Transactions → Bool
-is_full m = nat_le MOST_TRANSACTIONS (length m.list) || nat_le LAST_NUMBER (last_in m)
+is_full m = nat_le m.limits.transactions (length m.list) || nat_le LAST_NUMBER (last_in m)
 
 -- of a begin: Full
 abbrev pub begin_refusal : Transactions → Option ForestFault
@@ -29,7 +29,7 @@ begin_refusal m = fault_if (is_full m) Full None
 
 -- of a begin below t, in this order: NoTxn, Ended, Deep, Full
 abbrev pub sub_refusal : Transactions → ℕ → Option ForestFault
-sub_refusal m t = refusal_of (state_in m t) (fault_if (nat_le MOST_DEPTH (depth_in m t)) Deep (begin_refusal m))
+sub_refusal m t = refusal_of (state_in m t) (fault_if (nat_le m.limits.depth (depth_in m t)) Deep (begin_refusal m))
 
 -- of a commit: NoTxn, Ended, ChildLive
 abbrev pub commit_refusal : Transactions → ℕ → Option ForestFault

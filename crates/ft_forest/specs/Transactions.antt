@@ -4,6 +4,7 @@
 use Rattle.std.specs.Prelude.{◌≡◌, ◌≢◌, ◌<◌, ◌≤◌, ◌⊎◌, ◌+◌, ◌-◌, ◌==◌, ◌&&◌, ℕ, zero, suc, Bool, true, false, cond, nat_lt, Option, Some, None, List, [], length, slice_get, count_by}
 use Rattle.ft_history.specs.Forest.{above, is_some_and, map_or}
 use Rattle.ft_history.specs.Logs.{put}
+use Rattle.ft_forest.specs.declared.limits.ForestLimits.{ForestLimits}
 use Rattle.ft_forest.specs.declared.state.State.{State}
 use Rattle.ft_forest.specs.declared.state.State.TheVariants.{Live, Committed, Aborted}
 
@@ -13,14 +14,15 @@ pub record Transaction : Type 0 where
   pub state : State
 
 -- The transactions begun since a base, in the order of their numbers, which go
--- on from the base's last one.
+-- on from the base's last one, and what is allowed of them.
 pub record Transactions : Type 0 where
+  pub limits : ForestLimits
   pub base : ℕ
   pub list : List Transaction
 
 -- no transaction has begun since this base
-abbrev pub none_since : ℕ → Transactions
-none_since base = record { base = base; list = [] }
+abbrev pub none_since : ForestLimits → ℕ → Transactions
+none_since limits base = record { limits = limits; base = base; list = [] }
 
 -- the transaction of this number, where there is one since the base
 abbrev pub transaction_in : Transactions → ℕ → Option Transaction
@@ -111,6 +113,7 @@ live_count m = count_below (λ x. is_live (state_in m x)) (suc (last_in m))
 
 -- one more transaction, live, with the next number and this parent; all else is as it was
 pub record HasBegun (old new : Transactions) (up : Option ℕ) : Type 0 where
+  pub limits : new.limits ≡ old.limits
   pub base : new.base ≡ old.base
   pub last : last_in new ≡ last_in old + 1
   pub parents : (x : ℕ) → parent_in new x ≡ put (parent_in old) (last_in old + 1) up x
@@ -118,6 +121,7 @@ pub record HasBegun (old new : Transactions) (up : Option ℕ) : Type 0 where
 
 -- this has become of the transactions now, and nothing else has changed
 pub record HaveStates (old new : Transactions) (now : ℕ → Option State) : Type 0 where
+  pub limits : new.limits ≡ old.limits
   pub base : new.base ≡ old.base
   pub last : last_in new ≡ last_in old
   pub parents : (x : ℕ) → parent_in new x ≡ parent_in old x
@@ -141,6 +145,7 @@ pub record IsNextToEnd (m : Transactions) (t x : ℕ) : Type 0 where
 -- An abort of t is on its way: since the old transactions nothing has changed but that some of the
 -- live ones at or below t are aborted.
 pub record IsAborting (old now : Transactions) (t : ℕ) : Type 0 where
+  pub limits : now.limits ≡ old.limits
   pub base : now.base ≡ old.base
   pub last : last_in now ≡ last_in old
   pub parents : (x : ℕ) → parent_in now x ≡ parent_in old x

@@ -4,20 +4,21 @@ ghost use Rattle.std.specs.List.{IsDistinct};
 ghost use Rattle.std.specs.List.Sorted.{IsStrictlyIncreasing};
 ghost use Rattle.std.specs.Option.{option_map, ForSome};
 ghost use Rattle.ft_history.specs.Forest.{IsForest};
-ghost use Rattle.ft_forest.specs.declared.TheConstants.{MOST_DEPTH as most_depth};
+ghost use Rattle.ft_forest.specs.declared.TheConstants.{MOST_TRANSACTIONS as most_transactions};
 ghost use Rattle.ft_forest.specs.declared.fault.ForestFault.{ForestFault as FaultOf};
 ghost use Rattle.ft_forest.specs.declared.fault.ForestFault.TheVariants.{Memory as MemoryFault};
 ghost use Rattle.ft_forest.specs.declared.state.State.TheVariants.{Live, Committed, Aborted};
-ghost use Rattle.ft_forest.specs.Transactions.{none_since, parent_in, state_in, last_in, over_in, depth_in, is_live_state, live_children_in, IsLiveChild, HasBegun, HasEnded, HasAborted, IsNextToEnd, IsYoungestChild, IsOlderSibling, Transactions, live_count, IsAborting, IsLastOf};
+ghost use Rattle.ft_forest.specs.Transactions.{none_since, parent_in, state_in, last_in, over_in, depth_in, is_live_state, live_children_in, IsLiveChild, IsLiveUnder, HasBegun, HasEnded, HasAborted, IsNextToEnd, IsYoungestChild, IsOlderSibling, Transactions, live_count, IsAborting, IsLastOf};
 ghost use Rattle.ft_forest.specs.Refusals.{refusal_of, begin_refusal, sub_refusal, commit_refusal, abort_refusal, IsRefusal};
 ghost use Rattle.ft_forest.specs.Records.{number_at};
-ghost use Rattle.ft_forest.specs.Places.{IsDepthBelow, IsBelowPlace};
+ghost use Rattle.ft_forest.specs.Places.{IsDepthBelow, number_of, HasChildrenBehind};
 
+use crate::LAST_NUMBER;
 use crate::fault::ForestFault;
+use crate::limits::ForestLimits;
 use crate::records::Records;
 use crate::state::State;
 use crate::txn::TxnId;
-use crate::{LAST_NUMBER, MOST_DEPTH, MOST_TRANSACTIONS};
 use ft_base::Memory;
 use std::alloc::Global;
 use std::marker::Model;
@@ -28,6 +29,7 @@ use std::marker::Model;
 /// Their numbers go on from the base's last one. A call takes the same time however many
 /// transactions there are, except where it says so.
 pub struct Forest {
+    limits: ForestLimits,
     base: u64,
     records: Records,
 }
@@ -35,6 +37,7 @@ pub struct Forest {
 impl Drop for Forest {
     fn drop(self) {
         let Forest {
+            limits: _,
             base: _,
             records: _,
         } = self;
@@ -47,29 +50,41 @@ impl Model for Forest {
 
     ghost Value = { Transactions };
 
-    ghost view = { λ a. transactions_of a.base a.records };
+    ghost view = { λ a. transactions_of a.limits a.base a.records };
 
-    ghost invariant = { λ a. AreRecords a.base a.records };
+    ghost invariant = { λ a. AreRecords a.limits a.base a.records };
 }
 
 impl Forest {
     /// No transaction yet; `base` is the last number given before. Takes no memory.
-    pub fn new(alloc: Global, base: u64) -> Forest
-        ensures { result ≡ none_since base }
+    ///
+    /// The limits are the caller's (`ForestLimits::default()` are 100,000 transactions and a depth
+    /// of 64), up to 2^62 transactions, and any depth.
+    pub fn new(alloc: Global, base: u64, limits: ForestLimits) -> Forest
+        requires { limits.transactions ≤ most_transactions }
+        ensures { result ≡ none_since limits base }
     {
         Forest {
+            limits,
             base,
             records: Records::new(alloc),
         }
     }
 
+    /// What the forest allows, as it was made.
+    pub fn limits(&self) -> ForestLimits
+        ensures { result ≡ self.now.limits }
+    {
+        self.limits
+    }
+
     /// Forgets all transactions, none of which is live, and gives their memory back. Their numbers
-    /// go on from the last one. Takes no memory.
+    /// go on from the last one, and the limits stay. Takes no memory.
     pub fn restart(&mut self)
         requires { (x : ℕ) → state_in self.old x ≢ Some Live }
-        ensures { self.new ≡ none_since (last_in self.old) }
+        ensures { self.new ≡ none_since self.old.limits (last_in self.old) }
     {
-        let alloc = *self.records.list.allocator();
+        let alloc = self.records.list.allocator();
         self.base = self.last();
         self.records = Records::new(alloc);
     }
@@ -86,7 +101,7 @@ impl Forest {
         ensures { result ≡ state_in self.now txn }
     {
         let place = place_of(self.base, self.records.list.len(), txn)?;
-        Some(self.records.list[place].state)
+        Some(self.records.state_of(place))
     }
 
     /// The parent of a transaction; none of a top-level one, nor where there is no transaction of
@@ -154,33 +169,34 @@ impl Forest {
 
     /// All live transactions, in rising order.
     ///
-    /// Takes the time to sort them, and the stack of the deepest one.
+    /// Takes the time to sort them, and no more stack for those that stand deep.
     pub fn live(&self, alloc: Global) -> Result<Vec<TxnId>, Memory>
         ensures rising { IfOk result (λ live. IsStrictlyIncreasing live.items) }
         ensures sound { IfOk result (λ live. (x : ℕ) → Contains live.items x → state_in self.now x ≡ Some Live) }
         ensures all { IfOk result (λ live. (x : ℕ) → state_in self.now x ≡ Some Live → Contains live.items x) }
     {
         let mut live = Vec::new(alloc);
-        self.list_below(None, &mut live)?;
+        self.list_children(None, &mut live)?;
+        let mut index = 0;
+        while index < live.len() {
+            let place = begun_place(self.base, live[index]);
+            self.list_children(Some(place), &mut live)?;
+            index += 1;
+        }
         live.sort()?;
         Ok(live)
     }
 
-    /// Lists what is live below the transaction at a place, each once; without a place, all that
-    /// is live.
-    fn list_below(&self, parent: Option<usize>, live: &mut Vec<TxnId>) -> Result<(), Memory>
-        requires parent { ForSome parent (λ p. p < length self.now.list) }
-        requires fresh { (x : ℕ) → Contains live.old.items x → IsBelowPlace self.now parent x → ⊥ }
+    /// Lists the live children of the transaction at a place; without a place, what is live at the
+    /// top level.
+    fn list_children(&self, parent: Option<usize>, live: &mut Vec<TxnId>) -> Result<(), Memory>
+        requires fresh { (x : ℕ) → IsLiveUnder self.now (number_of self.now parent) x → Contains live.old.items x → ⊥ }
         requires once { IsDistinct ◌==◌ live.old.items }
-        ensures keeps { (x : ℕ) → Contains live.old.items x → Contains live.new.items x }
-        ensures sound { (x : ℕ) → Contains live.new.items x → Contains live.old.items x ⊎ ((state_in self.now x ≡ Some Live) × IsBelowPlace self.now parent x) }
-        ensures all { OnOk result ((x : ℕ) → IsBelowPlace self.now parent x → state_in self.now x ≡ Some Live → Contains live.new.items x) }
-        ensures once { OnOk result (IsDistinct ◌==◌ live.new.items) }
+        ensures { OnOk result (HasChildrenBehind self.now (number_of self.now parent) live.old.items live.new.items) }
     {
         let mut next = self.records.youngest_of(parent);
         while let Some(place) = next {
             live.push(TxnId(self.base + 1 + place as u64))?;
-            self.list_below(Some(place), live)?;
             next = self.records.older_of(place);
         }
         Ok(())
@@ -210,7 +226,8 @@ impl Forest {
     pub fn check_begin(&self) -> Result<(), ForestFault>
         ensures { MatchResult result (λ _. begin_refusal self.now ≡ None) (λ fault. begin_refusal self.now ≡ Some fault) }
     {
-        if self.records.list.len() as u64 >= MOST_TRANSACTIONS || self.last() >= LAST_NUMBER {
+        let count = self.records.list.len() as u64;
+        if count >= self.limits.transactions || self.last() >= LAST_NUMBER {
             return Err(ForestFault::Full);
         }
         Ok(())
@@ -218,8 +235,8 @@ impl Forest {
 
     /// Begins a top-level transaction, with the next number.
     ///
-    /// Refuses Full where there are 100,000 since the base, or the number 2^63 - 1 is given. Want
-    /// of memory changes nothing.
+    /// Refuses Full where there are as many since the base as the limits allow, or the number
+    /// 2^63 - 1 is given. Want of memory changes nothing.
     pub fn begin(&mut self) -> Result<TxnId, ForestFault>
         ensures begun { OnOk result (HasBegun self.old self.new None) }
         ensures number { IfOk result (λ txn. txn ≡ last_in self.old + 1) }
@@ -234,28 +251,22 @@ impl Forest {
     pub fn check_sub(&self, txn: TxnId) -> Result<(), ForestFault>
         ensures { MatchResult result (λ _. sub_refusal self.now txn ≡ None) (λ fault. sub_refusal self.now txn ≡ Some fault) }
     {
-        let parent = self.live_place(txn)?;
-        let is_deepest = self.records.depth_of(parent) >= MOST_DEPTH;
-        if is_deepest {
-            return Err(ForestFault::Deep);
-        }
-        self.check_begin()
+        self.room_below(txn)?;
+        Ok(())
     }
 
     /// Begins a subtransaction, with the next number.
     ///
-    /// Refuses NoTxn, Ended, Deep where the parent stands at depth 64, and Full, in this order.
-    /// Want of memory changes nothing.
+    /// Refuses NoTxn, Ended, Deep where the parent stands as deep as the limits allow, and Full, in
+    /// this order. Want of memory changes nothing.
     pub fn sub(&mut self, txn: TxnId) -> Result<TxnId, ForestFault>
         ensures begun { OnOk result (HasBegun self.old self.new (Some txn)) }
         ensures number { IfOk result (λ child. child ≡ last_in self.old + 1) }
         ensures refused { MatchResult result (λ _. sub_refusal self.old txn ≡ None) (λ fault. IsRefusal (sub_refusal self.old txn) fault) }
         ensures same { OnErr result (self.new ≡ self.old) }
     {
-        self.check_sub(txn)?;
-        let parent = self.live_place(txn)?;
-        let depth = self.records.depth_of(parent);
-        self.add(Some(parent), depth + 1)
+        let (parent, depth) = self.room_below(txn)?;
+        self.add(Some(parent), depth)
     }
 
     /// Commits a transaction, relative to its parent: an abort above it takes its calls away all
@@ -268,8 +279,8 @@ impl Forest {
         ensures refused { MatchResult result (λ _. commit_refusal self.old txn ≡ None) (λ fault. commit_refusal self.old txn ≡ Some fault) }
         ensures same { OnErr result (self.new ≡ self.old) }
     {
-        self.live_place(txn)?;
-        if self.live_children(txn) > 0 {
+        let place = self.live_place(txn)?;
+        if self.records.children_of(place) > 0 {
             return Err(ForestFault::ChildLive);
         }
         self.end(txn, State::Committed);
@@ -336,6 +347,24 @@ impl Forest {
         }
     }
 
+    /// The place of a transaction below which there may be one more, and how deep that would stand.
+    fn room_below(&self, txn: TxnId) -> Result<(usize, u64), ForestFault>
+        ensures place { IfOk result (λ below. txn ≡ number_at self.now.base below.0) }
+        ensures live { OnOk result (state_in self.now txn ≡ Some Live) }
+        ensures deeper { IfOk result (λ below. IsDepthBelow self.now (Some below.0) below.1) }
+        ensures room { OnOk result (begin_refusal self.now ≡ None) }
+        ensures refused { MatchResult result (λ _. sub_refusal self.now txn ≡ None) (λ fault. sub_refusal self.now txn ≡ Some fault) }
+    {
+        let parent = self.live_place(txn)?;
+        let depth = self.records.depth_of(parent);
+        let is_deepest = depth >= self.limits.depth;
+        if is_deepest {
+            return Err(ForestFault::Deep);
+        }
+        self.check_begin()?;
+        Ok((parent, depth + 1))
+    }
+
     /// The place of a live transaction.
     fn live_place(&self, txn: TxnId) -> Result<usize, ForestFault>
         ensures place { IfOk result (λ place. txn ≡ number_at self.now.base place) }
@@ -343,13 +372,17 @@ impl Forest {
         ensures live { OnOk result (state_in self.now txn ≡ Some Live) }
         ensures refused { IfErr result (λ fault. (later : Option FaultOf) → refusal_of (state_in self.now txn) later ≡ Some fault) }
     {
-        let Some(place) = place_of(self.base, self.records.list.len(), txn) else {
+        if txn.0 <= self.base {
             return Err(ForestFault::NoTxn);
-        };
-        match self.records.list[place].state {
-            State::Live => Ok(place),
-            State::Committed | State::Aborted => Err(ForestFault::Ended),
         }
+        let place = begun_place(self.base, txn);
+        if self.records.is_live(place) {
+            return Ok(place);
+        }
+        if place < self.records.list.len() {
+            return Err(ForestFault::Ended);
+        }
+        Err(ForestFault::NoTxn)
     }
 
     /// Begins a transaction where there may be one more.
@@ -357,7 +390,6 @@ impl Forest {
         requires room { begin_refusal self.old ≡ None }
         requires live { (p : ℕ) → parent ≡ Some p → state_in self.old (number_at self.old.base p) ≡ Some Live }
         requires deeper { IsDepthBelow self.old parent depth }
-        requires shallow { depth ≤ most_depth }
         ensures begun { OnOk result (HasBegun self.old self.new (option_map (number_at self.old.base) parent)) }
         ensures number { IfOk result (λ txn. txn ≡ last_in self.old + 1) }
         ensures memory { IfErr result (λ fault. fault ≡ MemoryFault) }
@@ -375,9 +407,8 @@ impl Forest {
         requires ended { is_live_state state ≡ false }
         ensures { HasEnded self.old self.new txn state }
     {
-        if let Some(place) = place_of(self.base, self.records.list.len(), txn) {
-            self.records.end(place, state);
-        }
+        let place = begun_place(self.base, txn);
+        self.records.end(place, state);
     }
 }
 
@@ -393,6 +424,14 @@ fn place_of(base: u64, count: usize, txn: TxnId) -> Option<usize>
     } else {
         None
     }
+}
+
+/// The place of a transaction that has begun since the base.
+fn begun_place(base: u64, txn: TxnId) -> usize
+    requires { base < txn }
+    ensures { txn ≡ number_at base result }
+{
+    (txn.0 - base - 1) as usize
 }
 
 /// The number of the transaction at a place, if there is one.

@@ -3,6 +3,7 @@
 
 mod fault;
 mod forest;
+mod limits;
 mod record;
 mod records;
 mod state;
@@ -10,14 +11,19 @@ mod txn;
 
 pub use fault::ForestFault;
 pub use forest::Forest;
+pub use limits::ForestLimits;
 pub use state::State;
 pub use txn::TxnId;
 
-/// How many transactions there may be since the base.
-pub const MOST_TRANSACTIONS: u64 = 100_000;
+/// How many transactions there may be since the base where nobody asks for more.
+pub const DEFAULT_TRANSACTIONS: u64 = 100_000;
 
-/// How deep a transaction may stand; a top-level one has depth 1.
-pub const MOST_DEPTH: u64 = 64;
+/// How deep a transaction may stand where nobody asks for more.
+pub const DEFAULT_DEPTH: u64 = 64;
+
+/// The most transactions since the base that a forest may be asked to allow, 2^62. (Any depth may
+/// be asked for.)
+pub const MOST_TRANSACTIONS: u64 = 4_611_686_018_427_387_904;
 
 /// The last number that a transaction may have.
 pub const LAST_NUMBER: u64 = 9_223_372_036_854_775_807;

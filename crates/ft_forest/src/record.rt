@@ -3,19 +3,14 @@
 ghost use Rattle.std.specs.Prelude.{◌≡◌, ◌<◌, ◌+◌, ◌^◌, None};
 ghost use Rattle.std.specs.Option.{ForSome};
 ghost use Rattle.ft_forest.specs.declared.state.State.TheVariants.{Live};
-ghost use Rattle.ft_forest.specs.Records.{place_before};
+ghost use Rattle.ft_forest.specs.Records.{parent_by, state_by};
 
 use crate::state::State;
 
-// What is kept of each, also once it has ended.
+// What is kept of each, also once it has ended, in one number: four times its parent's place and
+// one more (0 at the top level), and the discriminant of its state.
 #[derive(Clone, Copy)]
-pub struct Record {
-    // Its parent's place and one more; 0 at the top level.
-    pub above: u32,
-    pub state: State,
-}
-
-const _: () = prove!(size_of::<Record>() == 8);
+pub struct Record(pub u64);
 
 // What is kept besides of a live one.
 #[derive(Clone, Copy)]
@@ -32,29 +27,46 @@ pub struct LiveRecord {
 impl Record {
     // A live transaction below this parent.
     pub fn begun(parent: Option<usize>) -> Record
-        requires { ForSome parent (λ p. p + 1 < 2 ^ 32) }
-        ensures parent { place_before result.above ≡ parent }
-        ensures live { result.state ≡ Live }
+        requires { ForSome parent (λ p. p + 1 < 2 ^ 62) }
+        ensures parent { parent_by result.0 ≡ parent }
+        ensures live { state_by result.0 ≡ Live }
     {
         let above = match parent {
-            Some(place) => place as u32 + 1,
+            Some(place) => place as u64 + 1,
             None => 0,
         };
-        Record {
-            above,
-            state: State::Live,
-        }
+        Record(4 * above + State::Live as u64)
     }
 
     // Its parent's place, where it has a parent.
     pub fn parent(self) -> Option<usize>
-        ensures { result ≡ place_before self.above }
+        ensures { result ≡ parent_by self.0 }
     {
-        if self.above == 0 {
+        let above = self.0 / 4;
+        if above == 0 {
             None
         } else {
-            Some(self.above as usize - 1)
+            Some(above as usize - 1)
         }
+    }
+
+    // What has become of it.
+    pub fn state(self) -> State
+        ensures { result ≡ state_by self.0 }
+    {
+        match self.0 % 4 {
+            0 => State::Live,
+            1 => State::Committed,
+            _ => State::Aborted,
+        }
+    }
+
+    // The same with another state.
+    pub fn with_state(self, state: State) -> Record
+        ensures parent { parent_by result.0 ≡ parent_by self.0 }
+        ensures state { state_by result.0 ≡ state }
+    {
+        Record(self.0 - self.0 % 4 + state as u64)
     }
 }
 

@@ -2,11 +2,11 @@
 ghost use Rattle.std.specs.Prelude.{◌≡◌, ◌<◌, ◌+◌, ◌-◌, ◌^◌, ℕ, [], true, Some, None, IfOk, IfSome, OnOk, OnErr, length};
 ghost use Rattle.std.specs.Option.{ForSome};
 ghost use Rattle.ft_history.specs.Logs.{put};
-ghost use Rattle.ft_forest.specs.Records.{no_links, links_of, put_youngest, put_at, closed_links, forgotten_links, ended_links, begun_links};
+ghost use Rattle.ft_forest.specs.Records.{no_links, links_of, put_youngest, put_at, where_some, forgotten_links, ended_links, begun_links};
 
 use crate::record::{LiveRecord, Record};
 use crate::state::State;
-use ft_base::{Memory, PagedTable};
+use ft_base::{Memory, PagedList, PagedTable};
 use std::alloc::Global;
 
 // All transactions since the base, in order, what is kept besides of the live ones, by their
@@ -14,7 +14,7 @@ use std::alloc::Global;
 #[derive(Drop)]
 pub struct Records {
     pub youngest: Option<usize>,
-    pub list: Vec<Record>,
+    pub list: PagedList,
     pub live: PagedTable<LiveRecord>,
 }
 
@@ -26,14 +26,14 @@ impl Records {
     {
         Records {
             youngest: None,
-            list: Vec::new(alloc),
+            list: PagedList::new(alloc),
             live: PagedTable::new(alloc),
         }
     }
 
     // Puts a live transaction behind all others, as the youngest child of its parent.
     pub fn begin(&mut self, parent: Option<usize>, depth: u64) -> Result<(), Memory>
-        requires few { length self.old.list.items + 1 < 2 ^ 32 }
+        requires few { length self.old.list.items < 2 ^ 62 }
         requires parent { ForSome parent (λ p. p < length self.old.list.items) }
         requires kept { ForSome parent (λ p. (links_of self.old).kept p ≡ true) }
         requires children { (p : ℕ) → (links_of self.old).children p < 2 ^ 63 }
@@ -45,10 +45,10 @@ impl Records {
     {
         let place = self.list.len();
         let older = self.youngest_of(parent);
-        self.list.reserve(1)?;
+        self.list.reserve()?;
         self.live
             .insert(place as u64, LiveRecord::begun(depth, older))?;
-        self.list.push_reserved(Record::begun(parent));
+        self.list.push_reserved(Record::begun(parent).0);
         self.add_child(parent, place);
         if let Some(sibling) = older {
             self.set_younger(sibling, Some(place));
@@ -65,24 +65,21 @@ impl Records {
         requires younger { ForSome ((links_of self.old).younger place) (λ p. (links_of self.old).kept p ≡ true) }
         ensures { links_of self.new ≡ ended_links (links_of self.old) place state }
     {
-        let parent = self.parent_of(place);
         let LiveRecord { older, younger, .. } = self.live.get(place as u64).unwrap();
-        self.set_state(place, state);
-        self.take_child(parent);
-        self.close_gap(parent, older, younger);
+        let parent = self.set_state(place, state);
+        self.take_child(parent, older, younger);
+        self.close_gap(older, younger);
         self.forget(place);
     }
 
     // Links what stands on both sides of a gap between siblings.
-    fn close_gap(&mut self, parent: Option<usize>, older: Option<usize>, younger: Option<usize>)
-        requires parent { ForSome parent (λ p. (links_of self.old).kept p ≡ true) }
+    fn close_gap(&mut self, older: Option<usize>, younger: Option<usize>)
         requires older { ForSome older (λ p. (links_of self.old).kept p ≡ true) }
         requires younger { ForSome younger (λ p. (links_of self.old).kept p ≡ true) }
-        ensures { links_of self.new ≡ closed_links (links_of self.old) parent older younger }
+        ensures { links_of self.new ≡ (let s = links_of self.old in record s { older = put_at s.older younger (λ _. older); younger = put_at s.younger older (λ _. younger) }) }
     {
-        match younger {
-            Some(sibling) => self.set_older(sibling, older),
-            None => self.set_youngest(parent, older),
+        if let Some(sibling) = younger {
+            self.set_older(sibling, older);
         }
         if let Some(sibling) = older {
             self.set_younger(sibling, younger);
@@ -94,7 +91,22 @@ impl Records {
         requires { place < length self.now.list.items }
         ensures { result ≡ (links_of self.now).parent place }
     {
-        self.list[place].parent()
+        Record(self.list.get(place)).parent()
+    }
+
+    // What has become of a transaction.
+    pub fn state_of(&self, place: usize) -> State
+        requires { place < length self.now.list.items }
+        ensures { Some result ≡ (links_of self.now).state place }
+    {
+        Record(self.list.get(place)).state()
+    }
+
+    // Whether a transaction is live.
+    pub fn is_live(&self, place: usize) -> bool
+        ensures { result ≡ (links_of self.now).kept place }
+    {
+        self.live.get(place as u64).is_some()
     }
 
     // How deep a live transaction stands; 0 if it is not live.
@@ -134,20 +146,6 @@ impl Records {
         self.live.get(place as u64)?.older
     }
 
-    fn set_youngest(&mut self, parent: Option<usize>, youngest: Option<usize>)
-        requires { ForSome parent (λ p. (links_of self.old).kept p ≡ true) }
-        ensures { links_of self.new ≡ (let s = links_of self.old in record s { youngest = put_youngest s.youngest parent youngest }) }
-    {
-        match parent {
-            Some(place) => {
-                let mut record = self.live.get(place as u64).unwrap();
-                record.youngest = youngest;
-                self.live.set(place as u64, record);
-            }
-            None => self.youngest = youngest,
-        }
-    }
-
     // One more live child, the youngest.
     fn add_child(&mut self, parent: Option<usize>, child: usize)
         requires kept { ForSome parent (λ p. (links_of self.old).kept p ≡ true) }
@@ -165,8 +163,19 @@ impl Records {
         }
     }
 
-    // One live child less.
-    fn take_child(&mut self, parent: Option<usize>)
+    // One live child less, which had these siblings.
+    fn take_child(&mut self, parent: Option<usize>, older: Option<usize>, younger: Option<usize>)
+        requires { ForSome parent (λ p. (links_of self.old).kept p ≡ true) }
+        ensures { links_of self.new ≡ (let s = links_of self.old in record s { children = put_at s.children parent (λ n. n - 1); youngest = where_some younger s.youngest (put_youngest s.youngest parent older) }) }
+    {
+        match younger {
+            Some(_) => self.take_older_child(parent),
+            None => self.take_youngest(parent, older),
+        }
+    }
+
+    // One live child less, which was not the youngest.
+    fn take_older_child(&mut self, parent: Option<usize>)
         requires { ForSome parent (λ p. (links_of self.old).kept p ≡ true) }
         ensures { links_of self.new ≡ (let s = links_of self.old in record s { children = put_at s.children parent (λ n. n - 1) }) }
     {
@@ -177,12 +186,31 @@ impl Records {
         }
     }
 
-    fn set_state(&mut self, place: usize, state: State)
-        requires { place < length self.old.list.items }
-        ensures { links_of self.new ≡ (let s = links_of self.old in record s { state = put s.state place (Some state) }) }
+    // One live child less, which was the youngest, with this next older sibling.
+    fn take_youngest(&mut self, parent: Option<usize>, older: Option<usize>)
+        requires { ForSome parent (λ p. (links_of self.old).kept p ≡ true) }
+        ensures { links_of self.new ≡ (let s = links_of self.old in record s { children = put_at s.children parent (λ n. n - 1); youngest = put_youngest s.youngest parent older }) }
     {
-        let record = &mut self.list[place];
-        record.state = state;
+        match parent {
+            Some(place) => {
+                let mut record = self.live.get(place as u64).unwrap();
+                record.children = record.children.saturating_sub(1);
+                record.youngest = older;
+                self.live.set(place as u64, record);
+            }
+            None => self.youngest = older,
+        }
+    }
+
+    // Puts the state of a transaction, and answers its parent's place.
+    fn set_state(&mut self, place: usize, state: State) -> Option<usize>
+        requires { place < length self.old.list.items }
+        ensures parent { result ≡ (links_of self.old).parent place }
+        ensures state { links_of self.new ≡ (let s = links_of self.old in record s { state = put s.state place (Some state) }) }
+    {
+        let record = Record(self.list.get(place));
+        self.list.set(place, record.with_state(state).0);
+        record.parent()
     }
 
     fn set_older(&mut self, place: usize, older: Option<usize>)

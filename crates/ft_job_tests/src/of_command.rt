@@ -1,6 +1,6 @@
 // What no clause says: which words the crate that reads them takes, and its texts.
 use ft_command::{Choice, choose};
-use ft_core::Rule;
+use ft_core::{Limits, Rule};
 use std::alloc::Global;
 use std::test::Fail;
 
@@ -18,7 +18,15 @@ fn is_help(alloc: Global, words: &[&str], part: &str) -> bool {
 
 // Whether they ask for a script on a core of this rule.
 fn is_play_by(alloc: Global, words: &[&str], wanted: Rule) -> bool {
-    matches!(choose(alloc, words), Choice::Play { rule, after: None } if rule == wanted)
+    matches!(choose(alloc, words), Choice::Play { rule, after: None, .. } if rule == wanted)
+}
+
+// Whether they ask for a script on a core of these limits.
+fn is_play_within(alloc: Global, words: &[&str], wanted: Limits) -> bool {
+    match choose(alloc, words) {
+        Choice::Play { limits, .. } => limits.over(Limits::default()) == wanted,
+        _ => false,
+    }
 }
 
 fn is_play(alloc: Global, words: &[&str]) -> bool {
@@ -38,6 +46,7 @@ fn is_jobs(alloc: Global, words: &[&str], plan: &str, most: u64, hushed: bool) -
             quiet,
             rule,
             after: None,
+            ..
         } => { file.as_str() == plan && turns == most && quiet == hushed && rule == Rule::Profile }
         _ => false,
     }
@@ -62,13 +71,18 @@ fn is_save(alloc: Global, words: &[&str], folder: &str, hushed: bool) -> bool {
 // The file of the script that is to be played first, if they ask for one.
 fn first_file(alloc: Global, words: &[&str]) -> Option<String> {
     match choose(alloc, words) {
-        Choice::Play { rule: _, after } => after,
+        Choice::Play {
+            rule: _,
+            after,
+            limits: _,
+        } => after,
         Choice::Jobs {
             file: _plan,
             turns: _,
             quiet: _,
             rule: _,
             after,
+            limits: _,
         } => after,
         _ => None,
     }
@@ -147,5 +161,40 @@ fn choices_of_jobs(rt: HostRuntime) -> Result<(), Fail> {
     );
     assert!(rt; is_usage(alloc, &["jobs"], "<FILE>"));
     assert!(rt; is_help(alloc, &["jobs", "--help"], "[default: 10000]"));
+    Ok(())
+}
+
+#[test]
+fn choices_of_limits(rt: HostRuntime) -> Result<(), Fail> {
+    let alloc = rt.alloc();
+    let mut wanted = Limits::default();
+    assert!(rt; is_play_within(alloc, &["play"], wanted));
+    wanted.file_size = 3 << 30;
+    assert!(rt; is_play_within(alloc, &["play", "--largest-file", "3G"], wanted));
+    wanted.calls = 5_000_000;
+    let words = ["play", "--largest-file=3145728K", "--most-calls", "5000000"];
+    assert!(rt; is_play_within(alloc, &words, wanted));
+    wanted = Limits::default();
+    wanted.transactions = 1 << 62;
+    wanted.depth = 4_096;
+    let words = ["play", "--most-transactions", "none", "--deepest=none"];
+    assert!(rt; is_play_within(alloc, &words, wanted));
+    Ok(())
+}
+
+#[test]
+fn bad_limits_are_usage_errors(rt: HostRuntime) -> Result<(), Fail> {
+    let alloc = rt.alloc();
+    let text = "invalid value '3T' for '--largest-file <N>'";
+    assert!(rt; is_usage(alloc, &["play", "--largest-file", "3T"], text));
+    assert!(rt;
+        is_usage(
+            alloc,
+            &["jobs", "p", "--deepest", "4097"],
+            "a number up to 4096"
+        )
+    );
+    assert!(rt; is_usage(alloc, &["play", "--most-calls="], "--most-calls"));
+    assert!(rt; is_usage(alloc, &["play", "--most-transactions", "2K"], "'2K'"));
     Ok(())
 }

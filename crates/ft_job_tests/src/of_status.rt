@@ -1,6 +1,6 @@
 // What no clause says: the line that tells of a fault, and what jobs came to.
 use ft_after::core_after;
-use ft_core::Rule;
+use ft_core::{Limits, Rule};
 use ft_record::Recorded;
 use ft_status::{jobs_status, play_status};
 use std::alloc::Global;
@@ -66,7 +66,7 @@ fn ends_with<R: Read>(
     held: &str,
 ) -> bool {
     let mut replies = Narrow::new(alloc, 100);
-    let Ok(core) = core_after(alloc, Rule::Profile, None) else {
+    let Ok(core) = core_after(alloc, Rule::Profile, Limits::default(), None) else {
         return false;
     };
     let status = play_status(alloc, core, reader, &mut replies, errors);

@@ -6,7 +6,7 @@ use Rattle.ft_posix.specs.declared.call.Call.{Call}
 use Rattle.ft_posix.specs.declared.call.Call.TheVariants as calls
 use Rattle.ft_words.specs.CallTexts.{call_text}
 use Rattle.ft_path.specs.Name.{has_nul}
-use Rattle.ft_core.specs.declared.TheConstants.{MOST_CALLS}
+use Rattle.ft_core.specs.declared.TheConstants.{DEFAULT_CALLS}
 use Rattle.ft_script.specs.Runs.{WritesPart}
 use Rattle.ft_copy.specs.declared.trouble.Trouble.{Trouble}
 use Rattle.ft_copy.specs.declared.trouble.Trouble.TheVariants.{Memory, Write, BadName, Full}
@@ -97,7 +97,7 @@ Scripts asked next fd held next_now fd_now held_now = Appends held held_now (tex
 abbrev pub BreaksOff : Trouble → Asked → ℕ → ℕ → Option (List ℕ) → Option (List ℕ) → Type 0
 BreaksOff trouble asked next fd held held_now =
     ((trouble ≡ Write) × WritesPart held held_now (text_at asked next fd))
-    ⊎ (Keeps held held_now × ((trouble ≡ Memory) ⊎ ((trouble ≡ Full) × (suc MOST_CALLS < next)) ⊎ ((trouble ≡ BadName) × (has_nul_path asked ≡ true))))
+    ⊎ (Keeps held held_now × ((trouble ≡ Memory) ⊎ ((trouble ≡ Full) × (suc DEFAULT_CALLS < next)) ⊎ ((trouble ≡ BadName) × (has_nul_path asked ≡ true))))
 
 -- A part of a text was written, and then the writer failed.
 abbrev pub FailsToSay : Trouble → List ℕ → Option (List ℕ) → Option (List ℕ) → Type 0
@@ -106,4 +106,4 @@ FailsToSay trouble text held held_after = (trouble ≡ Write) × WritesPart held
 -- The same of a call; or nothing was written of it.
 abbrev pub FailsToAsk : Trouble → Call → ℕ → Option (List ℕ) → Option (List ℕ) → Type 0
 FailsToAsk trouble call next held held_after =
-    FailsToSay trouble (call_line call) held held_after ⊎ (Keeps held held_after × ((trouble ≡ Memory) ⊎ ((trouble ≡ Full) × (suc MOST_CALLS < next))))
+    FailsToSay trouble (call_line call) held held_after ⊎ (Keeps held held_after × ((trouble ≡ Memory) ⊎ ((trouble ≡ Full) × (suc DEFAULT_CALLS < next))))

@@ -1,13 +1,13 @@
 // A script as a target.
 ghost use Rattle.std.specs.Prelude.{◌≡◌, ◌⊎◌, ◌<◌, suc, true, IfErr, IfOk, IsTrue, OnOk};
-ghost use Rattle.ft_core.specs.declared.TheConstants.{MOST_CALLS};
+ghost use Rattle.ft_core.specs.declared.TheConstants.{DEFAULT_CALLS};
 ghost use Rattle.ft_path.specs.Name.{has_nul};
 ghost use Rattle.ft_load.specs.Scripts.{AsksFor, FailsToAsk, FailsToSay, Says};
 
 use ft_calls::Call;
 use ft_cells::AccessMode;
 use ft_copy::{Target, Trouble};
-use ft_core::MOST_CALLS;
+use ft_core::DEFAULT_CALLS;
 use ft_path::{FilePath, PathFault};
 use ft_script::write_out;
 use ft_words::CallText;
@@ -33,7 +33,7 @@ impl<W: Write> Script<W> {
         ensures err { IfErr result (λ trouble. FailsToAsk trouble call.now self.old.next (W.contents self.old.writer) (W.contents self.new.writer)) }
         ensures fd { self.new.fd ≡ self.old.fd }
     {
-        if self.next > MOST_CALLS + 1 {
+        if self.next > DEFAULT_CALLS + 1 {
             return Err(Trouble::Full);
         }
         let line = format!(in self.alloc; "1 {}\n", CallText(call))?;

@@ -1,11 +1,11 @@
 // The limits, and what no clause says: printed text, and the numbers of faults.
 use crate::of_path::is_printed;
-use ft_forest::{Forest, ForestFault, TxnId};
+use ft_forest::{Forest, ForestFault, ForestLimits, TxnId};
 use std::test::Fail;
 
 #[test]
 fn forests_are_full(rt: HostRuntime) -> Result<(), Fail> {
-    let mut forest = Forest::new(rt.alloc(), 0);
+    let mut forest = Forest::new(rt.alloc(), 0, ForestLimits::default());
     assert!(rt; begin_all(&mut forest)?);
     Ok(())
 }
@@ -20,7 +20,11 @@ fn begin_all(forest: &mut Forest) -> Result<bool, ForestFault> {
 
 #[test]
 fn numbers_are_used_up(rt: HostRuntime) -> Result<(), Fail> {
-    let mut forest = Forest::new(rt.alloc(), 9_223_372_036_854_775_806);
+    let mut forest = Forest::new(
+        rt.alloc(),
+        9_223_372_036_854_775_806,
+        ForestLimits::default(),
+    );
     assert!(rt; gives_the_last_number(&mut forest)?);
     Ok(())
 }

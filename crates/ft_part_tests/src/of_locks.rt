@@ -5,7 +5,7 @@ ghost use Rattle.ft_moss.specs.Locks.{is_opened};
 use ft_base::Memory;
 use ft_calls::{Access, Mode};
 use ft_cells::Cell;
-use ft_forest::{Forest, TxnId};
+use ft_forest::{Forest, ForestLimits, TxnId};
 use ft_locks::Locks;
 use ft_moss::Rule;
 use std::alloc::Global;
@@ -45,7 +45,7 @@ impl Crowd {
 /// A thousand transactions lock one cell in the order of their numbers: one to write it, and the
 /// others to read it. None is asked whether others are in its way.
 fn gather(alloc: Global) -> Result<Crowd, Fail> {
-    let forest = Forest::new(alloc, 0);
+    let forest = Forest::new(alloc, 0, ForestLimits::default());
     let locks = Locks::new(alloc);
     let mut crowd = Crowd { forest, locks };
     for _ in 0..CROWD {

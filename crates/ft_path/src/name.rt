@@ -104,6 +104,19 @@ impl Name {
     }
 }
 
+impl Default for Name {
+    /// `.`, the name of a directory in itself.
+    fn default() -> Name
+        ensures { result ≡ 46 ∷ [] }
+    {
+        let mut place = [0; SHORT_NAME];
+        place[0] = b'.';
+        Name {
+            bytes: Bytes::Short(1, place),
+        }
+    }
+}
+
 impl Clone for Name {
     ghost is_clone = { λ name copy. copy ≡ name };
 

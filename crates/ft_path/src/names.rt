@@ -5,13 +5,14 @@ ghost use Rattle.std.specs.Cmp.Lexicographic.{pointwise, lists_equiv, nat_list_e
 
 use crate::name::Name;
 use ft_base::Memory;
+use smallvec::SmallVec;
 use std::alloc::Global;
 use std::marker::Model;
 
-/// A list of names. An empty one takes no memory.
+/// A list of names. One of up to four takes no memory but that of its names.
 #[derive(Debug, Drop)]
 pub struct Names {
-    items: Vec<Name>,
+    items: SmallVec<Name, 4>,
 }
 
 impl Model for Names {
@@ -28,7 +29,7 @@ impl Names {
         ensures { result ≡ [] }
     {
         Names {
-            items: Vec::new(alloc),
+            items: SmallVec::new(alloc),
         }
     }
 
@@ -55,7 +56,7 @@ impl PartialEq for Names {
     ghost laws = { partial_equiv_from_equiv (lists_equiv nat_list_eq_equiv) };
 
     fn eq(&self, other: &Names) -> bool {
-        self.items == other.items
+        self.as_slice() == other.as_slice()
     }
 }
 

@@ -16,30 +16,30 @@ use Rattle.ft_core.specs.States.{State, history, next_txn, next_stamp, reply_of,
 use Rattle.ft_core.specs.Steps.{BlockingRule, exact_rule, refusal_of, IsAsked, IsUndone, IsAnswered, IsStep}
 use Rattle.ft_record.specs.Going.{GoesOn}
 
-stays : (s s' : State) → s'.base ≡ s.base → s'.rule ≡ s.rule → s'.events ≡ s.events → GoesOn s s'
-stays s s' base rule events = record { base = base; rule = rule; events = ([], append-nil s.events ∙ sym events) }
+stays : (s s' : State) → s'.base ≡ s.base → s'.rule ≡ s.rule → s'.limits ≡ s.limits → s'.events ≡ s.events → GoesOn s s'
+stays s s' base rule limits events = record { base = base; rule = rule; limits = limits; events = ([], append-nil s.events ∙ sym events) }
 
 same : (s s' : State) → s' ≡ s → GoesOn s s'
-same s s' e = stays s s' (ap (λ (x : State). x.base) e) (ap (λ (x : State). x.rule) e) (ap (λ (x : State). x.events) e)
+same s s' e = stays s s' (ap (λ (x : State). x.base) e) (ap (λ (x : State). x.rule) e) (ap (λ (x : State). x.limits) e) (ap (λ (x : State). x.events) e)
 
-adds : (s s' : State) (e : Event) → s'.base ≡ s.base → s'.rule ≡ s.rule → s'.events ≡ s.events ++ e ∷ [] → GoesOn s s'
-adds s s' e base rule events = record { base = base; rule = rule; events = (e ∷ [], sym events) }
+adds : (s s' : State) (e : Event) → s'.base ≡ s.base → s'.rule ≡ s.rule → s'.limits ≡ s.limits → s'.events ≡ s.events ++ e ∷ [] → GoesOn s s'
+adds s s' e base rule limits events = record { base = base; rule = rule; limits = limits; events = (e ∷ [], sym events) }
 
 granted : (s s' : State) (t : ℕ) (call : Call) → s' ≡ after_grant s t call → GoesOn s s'
-granted s s' t call e = adds s s' (CallEvent (next_stamp s) t call (reply_of s call) (accesses_now s call)) (ap (λ (x : State). x.base) e) (ap (λ (x : State). x.rule) e) (ap (λ (x : State). x.events) e)
+granted s s' t call e = adds s s' (CallEvent (next_stamp s) t call (reply_of s call) (accesses_now s call)) (ap (λ (x : State). x.base) e) (ap (λ (x : State). x.rule) e) (ap (λ (x : State). x.limits) e) (ap (λ (x : State). x.events) e)
 
 waits : (s s' : State) (t : ℕ) (call : Call) → s' ≡ after_wait s t call → GoesOn s s'
-waits s s' t call e = stays s s' (ap (λ (x : State). x.base) e) (ap (λ (x : State). x.rule) e) (ap (λ (x : State). x.events) e)
+waits s s' t call e = stays s s' (ap (λ (x : State). x.base) e) (ap (λ (x : State). x.rule) e) (ap (λ (x : State). x.limits) e) (ap (λ (x : State). x.events) e)
 
 undone : (s s' : State) (k : ℕ) (target : Target posix_calls) → IsUndone s target k s' → GoesOn s s'
-undone s s' k (Found c) h = adds s s' (UndoEvent k) (ap (λ (x : State). x.base) h.1) (ap (λ (x : State). x.rule) h.1) (ap (λ (x : State). x.events) h.1)
+undone s s' k (Found c) h = adds s s' (UndoEvent k) (ap (λ (x : State). x.base) h.1) (ap (λ (x : State). x.rule) h.1) (ap (λ (x : State). x.limits) h.1) (ap (λ (x : State). x.events) h.1)
 undone s s' k SubSinceTarget h = absurd h
 undone s s' k Nothing h = absurd h
 
 answered : (rule : BlockingRule) (s : State) (r : Request) (a : Answer) (s' : State) → r ≢ Checkpoint → IsAnswered rule s r a s' → GoesOn s s'
-answered rule s Begin (Txn n) s' ne h = adds s s' (BeginEvent (next_txn s) None) (ap (λ (x : State). x.base) h.1) (ap (λ (x : State). x.rule) h.1) (ap (λ (x : State). x.events) h.1)
+answered rule s Begin (Txn n) s' ne h = adds s s' (BeginEvent (next_txn s) None) (ap (λ (x : State). x.base) h.1) (ap (λ (x : State). x.rule) h.1) (ap (λ (x : State). x.limits) h.1) (ap (λ (x : State). x.events) h.1)
 answered rule s Begin (Refused fault) s' ne h = same s s' h.2
-answered rule s (Sub p) (Txn n) s' ne h = adds s s' (BeginEvent (next_txn s) (Some p)) (ap (λ (x : State). x.base) h.1) (ap (λ (x : State). x.rule) h.1) (ap (λ (x : State). x.events) h.1)
+answered rule s (Sub p) (Txn n) s' ne h = adds s s' (BeginEvent (next_txn s) (Some p)) (ap (λ (x : State). x.base) h.1) (ap (λ (x : State). x.rule) h.1) (ap (λ (x : State). x.limits) h.1) (ap (λ (x : State). x.events) h.1)
 answered rule s (Sub p) (Refused fault) s' ne h = same s s' h.2
 answered rule s (Ask t call) (Granted k reply) s' ne h = granted s s' t call h.3
 answered rule s (Ask t call) (Waits blockers) s' ne h = waits s s' t call h.2
@@ -48,11 +48,11 @@ answered rule s (Retry t) (Granted k reply) s' ne h = let call = h.0 in let g : 
 answered rule s (Retry t) (Waits blockers) s' ne h = let call = h.0 in let g : IsAsked rule s t call (Waits blockers) s' = h.2 in waits s s' t call g.2
 answered rule s (Retry t) (Refused fault) s' ne h = same s s' h.2
 answered rule s (Retry t) other s' ne h = absurd h.2
-answered rule s (Drop t) Dropped s' ne h = stays s s' (ap (λ (x : State). x.base) h) (ap (λ (x : State). x.rule) h) (ap (λ (x : State). x.events) h)
+answered rule s (Drop t) Dropped s' ne h = stays s s' (ap (λ (x : State). x.base) h) (ap (λ (x : State). x.rule) h) (ap (λ (x : State). x.limits) h) (ap (λ (x : State). x.events) h)
 answered rule s (Drop t) (Refused fault) s' ne h = same s s' h.2
-answered rule s (Commit t) Committed s' ne h = adds s s' (CommitEvent t) (ap (λ (x : State). x.base) h) (ap (λ (x : State). x.rule) h) (ap (λ (x : State). x.events) h)
+answered rule s (Commit t) Committed s' ne h = adds s s' (CommitEvent t) (ap (λ (x : State). x.base) h) (ap (λ (x : State). x.rule) h) (ap (λ (x : State). x.limits) h) (ap (λ (x : State). x.events) h)
 answered rule s (Commit t) (Refused fault) s' ne h = same s s' h.2
-answered rule s (Abort t) (Aborted n) s' ne h = adds s s' (AbortEvent t) (ap (λ (x : State). x.base) h.1) (ap (λ (x : State). x.rule) h.1) (ap (λ (x : State). x.events) h.1)
+answered rule s (Abort t) (Aborted n) s' ne h = adds s s' (AbortEvent t) (ap (λ (x : State). x.base) h.1) (ap (λ (x : State). x.rule) h.1) (ap (λ (x : State). x.limits) h.1) (ap (λ (x : State). x.events) h.1)
 answered rule s (Abort t) (Refused fault) s' ne h = same s s' h.2
 answered rule s (Undo t) (Undone k) s' ne h = undone s s' k (undo_target posix_calls (history s) t) h
 answered rule s (Undo t) (Refused fault) s' ne h = same s s' h.2

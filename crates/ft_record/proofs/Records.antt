@@ -34,6 +34,7 @@ use Rattle.ft_core.specs.Kept.{start_of}
 use Rattle.ft_core.specs.Living.{NoneIsLive}
 use Rattle.ft_core.specs.Laws.{CallLaws, LockLaws}
 use Rattle.ft_core.specs.Reached.{IsLegalAt}
+use Rattle.ft_core.specs.Limits.{HistoryLimits}
 use Rattle.ft_core.specs.States.{Base, State, history, next_txn, next_stamp, after_begin, reply_of, accesses_now, fate_of, has_live_child, live_children, at_base, after_checkpoint}
 use Rattle.ft_core.specs.Steps.{IsStep, IsAnswered, MayWantMemory, IsAsked, IsUndone, exact_rule, answer_with, begin_request, refusal_of, fault_if, fault_of_fate, fault_of_target}
 use Rattle.ft_core.proofs.Begins.{live-parent, live-fault}
@@ -139,8 +140,8 @@ recent-waits-on s s' t w blockers is was gone h step now events spare =
     recent-same s s' was now gone h (ap (λ (q : State). q.base) waits.2) (ap (λ (q : State). q.events) waits.2) (subst IsLegalAt (sym waits.2) h.legal) events spare
 
 -- from a base on
-pub recent-at : (rule : Rule) (b : Base) (s : State) → s ≡ at_base rule b → (r : Recording) → r.events ≡ [] → IsLegalAt s → IsRecent s r 0
-recent-at rule b s is r none legal = record {
+pub recent-at : (rule : Rule) (limits : HistoryLimits) (b : Base) (s : State) → s ≡ at_base rule limits b → (r : Recording) → r.events ≡ [] → IsLegalAt s → IsRecent s r 0
+recent-at rule limits b s is r none legal = record {
   events = none ∙ ap (λ (q : State). q.events) (sym is);
   within = omega arith;
   legal = legal;

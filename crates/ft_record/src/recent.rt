@@ -53,7 +53,7 @@ impl Model for Recent {
 impl Recent {
     /// A core on which nothing has happened since its base. Takes no memory.
     pub fn of(core: Core) -> Recent
-        requires { core.state ≡ at_base core.state.rule core.state.base }
+        requires { core.state ≡ at_base core.state.rule core.state.limits core.state.base }
         ensures core { result.core ≡ core }
         ensures forgotten { result.forgotten ≡ 0 }
     {

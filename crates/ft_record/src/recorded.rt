@@ -1,5 +1,5 @@
 // A core that keeps what has happened.
-ghost use Rattle.std.specs.Prelude.{◌≡◌, ◌<◌, ◌≤◌, ◌+◌, ◌-◌, ◌^◌, ℕ, Ok, MatchBool, OnOk, OnErr, IfOk};
+ghost use Rattle.std.specs.Prelude.{◌≡◌, ◌<◌, ◌≤◌, ◌+◌, ◌-◌, ◌^◌, ℕ, true, cond, Ok, MatchBool, OnOk, OnErr, IfOk, IfErr};
 ghost use Rattle.ft_tree.specs.Tidy.{tidy};
 ghost use Rattle.ft_tree.specs.Sound.{IsSoundTree, AreSoundCells};
 ghost use Rattle.ft_tree.specs.Sweep.{places_in};
@@ -7,7 +7,9 @@ ghost use Rattle.ft_forest.specs.declared.TheConstants.{LAST_NUMBER as last_numb
 ghost use Rattle.ft_moss.specs.declared.rule.Rule.TheVariants.{Profile};
 ghost use Rattle.ft_core.specs.declared.request.Request.TheVariants.{Begin, Sub, Ask, Retry, Drop as DropAsk, Commit, Abort, Undo, Checkpoint};
 ghost use Rattle.ft_core.specs.declared.request.Answer.TheVariants.{Txn, Dropped, Committed, Aborted, Undone, Cleared};
-ghost use Rattle.ft_core.specs.States.{State as StateOf, at_base, first_base, tree_of, count_standing, has_live, fate_in, fate_of, history};
+ghost use Rattle.ft_core.specs.declared.fault.Fault.TheVariants.{Memory as MemoryFault, BadLimits};
+ghost use Rattle.ft_core.specs.Limits.{default_limits, greatest_limits, are_within};
+ghost use Rattle.ft_core.specs.States.{State as StateOf, at_base, first_state, limits_of, tree_of, count_standing, has_live, fate_in, fate_of, history};
 ghost use Rattle.ft_posix.specs.Posix.{posix_calls};
 ghost use Rattle.ft_history.specs.History.{parent as parent_of};
 ghost use Rattle.ft_core.specs.Journals.{IsBaseTree};
@@ -21,7 +23,7 @@ use crate::recent::Recent;
 use ft_base::Memory;
 use ft_calls::Call;
 use ft_core::laws::reached;
-use ft_core::{Core, Event, Fault, Outcome, Rule, State, TxnId};
+use ft_core::{Core, Event, Fault, Limits, Outcome, Rule, State, TxnId};
 use ft_tree::Tree;
 use std::alloc::Global;
 use std::marker::Model;
@@ -54,24 +56,38 @@ impl Model for Recorded {
 }
 
 impl Recorded {
-    /// A core over the empty tree: the root alone. Its rule is `Rule::Profile`.
+    /// A core over the empty tree: the root alone. Its rule is `Rule::Profile`, and its limits are
+    /// the default ones.
     pub fn new(alloc: Global) -> Result<Recorded, Memory>
-        ensures { IfOk result (λ core. core.state ≡ at_base Profile first_base) }
+        ensures { IfOk result (λ core. core.state ≡ first_state Profile default_limits) }
     {
         Recorded::with_rule(alloc, Rule::Profile)
     }
 
-    /// A core over the empty tree that grants calls by this rule.
+    /// A core over the empty tree that grants calls by this rule. Its limits are the default ones.
     pub fn with_rule(alloc: Global, rule: Rule) -> Result<Recorded, Memory>
-        ensures { IfOk result (λ core. core.state ≡ at_base rule first_base) }
+        ensures { IfOk result (λ core. core.state ≡ first_state rule default_limits) }
     {
         let core = Core::with_rule(alloc, rule)?;
         Recorded::of(core)
     }
 
+    /// A core over the empty tree that grants calls by this rule, with these limits.
+    ///
+    /// Refuses BadLimits where one of them is above the greatest, and then want of memory.
+    pub fn with(alloc: Global, rule: Rule, limits: Limits) -> Result<Recorded, Fault>
+        ensures state { IfOk result (λ core. core.state ≡ first_state rule limits) }
+        ensures within { OnOk result (are_within limits greatest_limits ≡ true) }
+        ensures refused { IfErr result (λ fault. fault ≡ cond (are_within limits greatest_limits) MemoryFault BadLimits) }
+    {
+        let core = Core::with(alloc, rule, limits)?;
+        let recorded = Recorded::of(core)?;
+        Ok(recorded)
+    }
+
     /// A core on which nothing has happened since its base, with a record from there on.
     pub fn of(core: Core) -> Result<Recorded, Memory>
-        requires { core.state ≡ at_base core.state.rule core.state.base }
+        requires { core.state ≡ at_base core.state.rule core.state.limits core.state.base }
         ensures { IfOk result (λ recorded. recorded.state ≡ core.state) }
     {
         let base = core.tree().copy()?;
@@ -97,6 +113,13 @@ impl Recorded {
         ensures { result ≡ self.now.state.rule }
     {
         self.core().rule()
+    }
+
+    /// What the core allows. It never changes.
+    pub fn limits(&self) -> Limits
+        ensures { result ≡ limits_of self.now.state }
+    {
+        self.core().limits()
     }
 
     /// Whether a transaction is live.

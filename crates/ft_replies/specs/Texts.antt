@@ -26,6 +26,7 @@ fault_name faults.Deep = codes "Deep"
 fault_name faults.Live = codes "Live"
 fault_name faults.NoAsk = codes "NoAsk"
 fault_name faults.NoViews = codes "NoViews"
+fault_name faults.BadLimits = codes "BadLimits"
 
 -- the text of an answer, without the line feed behind it
 abbrev pub text_of : Answer → List ℕ

@@ -58,5 +58,6 @@ pub fn fault_name(fault: Fault) -> &'static str
         Fault::Live => "Live",
         Fault::NoAsk => "NoAsk",
         Fault::NoViews => "NoViews",
+        Fault::BadLimits => "BadLimits",
     }
 }

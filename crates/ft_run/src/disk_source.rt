@@ -1,5 +1,6 @@
 // A directory on disk as a source.
 use ft_copy::{FileFacts, FileId, Found, Listed, Source, Trouble, name_of};
+use ft_path::LONGEST_PATH;
 use ft_script::write_out;
 use ft_words::Coded;
 use std::fs::{File, Metadata};
@@ -33,8 +34,12 @@ impl Source for DiskSource<'_> {
         let alloc = self.rt.alloc();
         let place = self.place(path)?;
         let mut names = Vec::new(alloc);
-        for entry in fs::read_dir(self.rt, place.as_str()).map_err(trouble_of)? {
-            let entry = entry.map_err(trouble_of)?;
+        let entries = fs::read_dir(self.rt, place.as_str()).map_err(|error| trouble_of(
+            place.as_str(),
+            error,
+        ))?;
+        for entry in entries {
+            let entry = entry.map_err(|error| trouble_of(place.as_str(), error))?;
             let name = name_of(alloc, entry.file_name().as_bytes())?;
             names.push(Listed { name, node: 0 })?;
         }
@@ -43,13 +48,15 @@ impl Source for DiskSource<'_> {
 
     fn look(&self, path: &[u8], _node: u64) -> Result<Found, Trouble> {
         let place = self.place(path)?;
-        let metadata = fs::symlink_metadata(self.rt, place.as_str()).map_err(trouble_of)?;
-        Ok(found(&metadata))
+        match fs::symlink_metadata(self.rt, place.as_str()) {
+            Ok(metadata) => Ok(found(&metadata)),
+            Err(error) => Err(trouble_of(place.as_str(), error)),
+        }
     }
 
     fn open(&self, path: &[u8], _node: u64) -> Result<File, Trouble> {
         let place = self.place(path)?;
-        File::open(self.rt, place.as_str()).map_err(trouble_of)
+        File::open(self.rt, place.as_str()).map_err(|error| trouble_of(place.as_str(), error))
     }
 
     fn omits(&self, path: &[u8]) -> Result<bool, Trouble> {
@@ -79,10 +86,11 @@ fn found(metadata: &Metadata) -> Found {
     })
 }
 
-// Why a read failed. The kit's library gives names that are UTF-8 text alone.
-fn trouble_of(error: io::Error) -> Trouble {
+// Why a read at a place failed. The kit's library gives names that are UTF-8 text alone.
+fn trouble_of(place: &str, error: io::Error) -> Trouble {
     match error.kind() {
         ErrorKind::OutOfMemory => Trouble::Memory,
+        ErrorKind::InvalidFilename if place.len() >= LONGEST_PATH => Trouble::PathTooLong,
         ErrorKind::InvalidFilename => Trouble::BadName,
         _ => Trouble::Read,
     }

@@ -11,6 +11,7 @@
 
 mod disk_source;
 mod disk_target;
+mod removal;
 
 ghost use Rattle.std.specs.Prelude.{◌≡◌, IfOk};
 ghost use Rattle.ft_core.specs.Living.{NoneIsLive};
@@ -19,11 +20,11 @@ ghost use Rattle.ft_core.specs.States.{at_base};
 use crate::disk_source::DiskSource;
 use crate::disk_target::DiskTarget;
 use ft_after::core_after;
-use ft_command::{Choice, choose};
-use ft_core::{Core, Rule};
+use ft_command::{AskedLimits, Choice, choose};
+use ft_core::{Core, Limits, Rule};
 use ft_jobs::LONGEST_PLAN;
 use ft_record::Recorded;
-use ft_script::PlayFault;
+use ft_script::{PlayFault, write_out};
 use ft_shown::ShownTarget;
 use ft_status::{
     after_failed, dot_status, failed, fault_line, jobs_status, load_status, play_status,
@@ -41,7 +42,11 @@ fn main(rt: HostRuntime) -> ExitCode {
         Err(_) => Choice::Fault,
     };
     let status = match choice {
-        Choice::Play { rule, after } => run_script(&rt, rule, after),
+        Choice::Play {
+            rule,
+            after,
+            limits,
+        } => run_script(&rt, rule, limits, after),
         Choice::Dot => dot_status(alloc, &mut rt.stdin(), &mut rt.stdout(), &mut rt.stderr()),
         Choice::Load { dir, skip, quiet } => load_dir(&rt, dir.as_str(), skip, quiet),
         Choice::Save { dir, quiet } => save_dir(&rt, dir.as_str(), quiet),
@@ -51,7 +56,8 @@ fn main(rt: HostRuntime) -> ExitCode {
             quiet,
             rule,
             after,
-        } => match begun_jobs(&rt, file.as_str(), rule, after) {
+            limits,
+        } => match begun_jobs(&rt, file.as_str(), rule, limits, after) {
             Ok((core, plan)) => jobs_status(
                 &rt,
                 alloc,
@@ -64,7 +70,7 @@ fn main(rt: HostRuntime) -> ExitCode {
             ),
             Err(status) => status,
         },
-        Choice::Help(text) => helped(&rt, text),
+        Choice::Help(text) => helped(&rt, text.as_str()),
         Choice::Usage(text) => misused(&rt, text),
         Choice::Fault => failed(&mut rt.stderr(), fault_line(PlayFault::Memory)),
     };
@@ -77,8 +83,8 @@ fn words_given(rt: &HostRuntime) -> io::Result<Vec<String>> {
 }
 
 // Runs the script on standard input.
-fn run_script(rt: &HostRuntime, rule: Rule, after: Option<String>) -> u8 {
-    match core_for(rt, rule, after) {
+fn run_script(rt: &HostRuntime, rule: Rule, limits: AskedLimits, after: Option<String>) -> u8 {
+    match core_for(rt, rule, limits, after) {
         Ok(core) => play_status(
             rt.alloc(),
             core,
@@ -96,11 +102,12 @@ fn begun_jobs(
     rt: &HostRuntime,
     file: &str,
     rule: Rule,
+    limits: AskedLimits,
     after: Option<String>,
 ) -> Result<(Recorded, Vec<u8>), u8>
     ensures { IfOk result (λ begun. NoneIsLive begun.0.state) }
 {
-    let Ok(core) = Recorded::of(core_for(rt, rule, after)?) else {
+    let Ok(core) = Recorded::of(core_for(rt, rule, limits, after)?) else {
         return Err(failed(&mut rt.stderr(), fault_line(PlayFault::Memory)));
     };
     match read_file(rt, file, LONGEST_PLAN as u64 + 1) {
@@ -110,9 +117,11 @@ fn begun_jobs(
 }
 
 // Prints a help text.
-fn helped(rt: &HostRuntime, text: String) -> u8 {
-    let _ = rt.print(text);
-    0
+fn helped(rt: &HostRuntime, text: &str) -> u8 {
+    match write_out(&mut rt.stdout(), text.as_bytes()) {
+        Ok(()) => 0,
+        Err(_) => failed(&mut rt.stderr(), fault_line(PlayFault::Write)),
+    }
 }
 
 // Prints what can be asked for.
@@ -144,17 +153,24 @@ fn save_dir(rt: &HostRuntime, dir: &str, quiet: bool) -> u8 {
     save_status(alloc, &mut rt.stdin(), &mut target, &mut rt.stderr())
 }
 
-// A core that grants calls by this rule, on which the script in a file was played first, if there
-// is one. Where that could not be, it was told, and the status to end with is answered.
-fn core_for(rt: &HostRuntime, rule: Rule, after: Option<String>) -> Result<Core, u8>
+// A core that grants calls by this rule and has the limits that are asked for, on which the script
+// in a file was played first, if there is one. Where that could not be, it was told, and the status
+// to end with is answered.
+fn core_for(
+    rt: &HostRuntime,
+    rule: Rule,
+    limits: AskedLimits,
+    after: Option<String>,
+) -> Result<Core, u8>
     ensures none_live { IfOk result (λ core. NoneIsLive core.state) }
-    ensures base { IfOk result (λ core. core.state ≡ at_base core.state.rule core.state.base) }
+    ensures base { IfOk result (λ core. core.state ≡ at_base core.state.rule core.state.limits core.state.base) }
 {
     let alloc = rt.alloc();
+    let limits = limits.over(Limits::default());
     let begun = match after {
-        None => core_after(alloc, rule, None),
+        None => core_after(alloc, rule, limits, None),
         Some(file) => match read_file(rt, file.as_str(), u64::MAX) {
-            Ok(script) => core_after(alloc, rule, Some(script.as_slice())),
+            Ok(script) => core_after(alloc, rule, limits, Some(script.as_slice())),
             Err(fault) => return Err(failed(&mut rt.stderr(), fault_line(fault))),
         },
     };

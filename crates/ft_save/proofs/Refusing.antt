@@ -19,8 +19,8 @@ no_name all front edge more t other is same (inl memory) = inl (same ∙ memory)
 no_name all front edge more t other is same (inr none) = inr (same ∙ none.0, (front, listed edge, map listed more, is, none.1))
 
 -- the names of a directory are those that the rows tell
-pub refused_name : (index : Index) (rows : List Row) (node : ℕ) (edges : List IndexEdge) (t : Trouble) → Indexes index rows → finite.get index.edges node ≡ Some edges
-    → (t ≡ Memory) ⊎ ((t ≡ BadName) × HasNoName (map listed edges)) → IsRefused rows node t
-refused_name index rows node edges t h is (inl memory) = subst (λ e. IsRefused rows node e) (sym memory) tt
-refused_name index rows node edges t h is (inr none) =
-    subst (λ e. IsRefused rows node e) (sym none.0) (subst HasNoName (sym (ap (λ o. map listed (unwrap_or o [])) is) ∙ h.names node) none.1)
+pub refused_name : (index : Index) (rows : List Row) (path : List ℕ) (node : ℕ) (edges : List IndexEdge) (t : Trouble) → Indexes index rows → finite.get index.edges node ≡ Some edges
+    → (t ≡ Memory) ⊎ ((t ≡ BadName) × HasNoName (map listed edges)) → IsRefused rows path node t
+refused_name index rows path node edges t h is (inl memory) = subst (λ e. IsRefused rows path node e) (sym memory) tt
+refused_name index rows path node edges t h is (inr none) =
+    subst (λ e. IsRefused rows path node e) (sym none.0) (subst HasNoName (sym (ap (λ o. map listed (unwrap_or o [])) is) ∙ h.names node) none.1)

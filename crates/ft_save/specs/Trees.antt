@@ -68,46 +68,56 @@ has_more rows node = unwrap_or (named_in rows node) false
 abbrev pub file_facts : ℕ → Bool → List ℕ → FileFacts
 file_facts node more bytes = record { id = record { device = 0; number = node }; links = if more then DEFAULT_LINKS else 1; size = length bytes }
 
--- A directory has one row of its own and one name at most, and is not the root. So no directory is
--- in itself, or in two places.
-abbrev pub IsPlainFolder : List Row → ℕ → Type 0
-IsPlainFolder rows node = (has_one_row rows node ≡ true) × (has_more rows node ≡ false) × ((node == ROOT) ≡ false)
+-- the path of the root: no name leads there
+abbrev pub is_top : List ℕ → Bool
+is_top path = length path == 0
 
--- A file has one row of its own, and no names in it.
-abbrev pub IsPlainFile : List Row → ℕ → Type 0
-IsPlainFile rows node = (has_one_row rows node ≡ true) × (has_names rows node ≡ false)
+-- A directory has one row of its own and one name at most, and is the root just where no name
+-- leads. So no directory is in itself, or in two places.
+abbrev pub IsPlainFolder : List Row → List ℕ → ℕ → Type 0
+IsPlainFolder rows path node = (has_one_row rows node ≡ true) × (has_more rows node ≡ false) × ((node == ROOT) ≡ is_top path)
 
--- What stands at a number: a plain file where there is a row of a file, or else a plain directory.
-abbrev pub IsFound : List Row → ℕ → Found → Type 0
-IsFound rows node found.Folder = (file_in rows node ≡ None) × IsPlainFolder rows node
-IsFound rows node (found.File facts) = (bytes : List ℕ) × (file_in rows node ≡ Some bytes) × IsPlainFile rows node × (facts ≡ file_facts node (has_more rows node) bytes)
-IsFound rows node found.Special = ⊥
+-- A file has one row of its own, no names in it, and a name that leads to it.
+abbrev pub IsPlainFile : List Row → List ℕ → ℕ → Type 0
+IsPlainFile rows path node = (has_one_row rows node ≡ true) × (has_names rows node ≡ false) × (is_top path ≡ false)
 
--- a file with names in it, or a directory that has more than one name or is the root
-abbrev pub IsMisplaced : Option (List ℕ) → List Row → ℕ → Type 0
-IsMisplaced None rows node = (has_more rows node ≡ true) ⊎ (node ≡ ROOT)
-IsMisplaced (Some bytes) rows node = has_names rows node ≡ true
+-- What stands at a path, by its number: a plain file where there is a row of a file, or else a plain
+-- directory.
+abbrev pub IsFound : List Row → List ℕ → ℕ → Found → Type 0
+IsFound rows path node found.Folder = (file_in rows node ≡ None) × IsPlainFolder rows path node
+IsFound rows path node (found.File facts) = (bytes : List ℕ) × (file_in rows node ≡ Some bytes) × IsPlainFile rows path node × (facts ≡ file_facts node (has_more rows node) bytes)
+IsFound rows path node found.Special = ⊥
 
--- a number that is neither a plain file nor a plain directory
-abbrev pub IsNothing : List Row → ℕ → Type 0
-IsNothing rows node = (has_one_row rows node ≡ false) ⊎ IsMisplaced (file_in rows node) rows node
+-- a file with names in it or with no name that leads to it; or a directory that has more than one
+-- name, and the root where a name leads to it, or something else at the root
+abbrev pub IsMisplaced : Option (List ℕ) → List Row → List ℕ → ℕ → Type 0
+IsMisplaced None rows path node = (has_more rows node ≡ true) ⊎ ((node == ROOT) ≡ not (is_top path))
+IsMisplaced (Some bytes) rows path node = (has_names rows node ≡ true) ⊎ (is_top path ≡ true)
+
+-- neither a plain file nor a plain directory
+abbrev pub IsNothing : List Row → List ℕ → ℕ → Type 0
+IsNothing rows path node = (has_one_row rows node ≡ false) ⊎ IsMisplaced (file_in rows node) rows path node
 
 -- Why it cannot be told what stands there, or which names: which trouble comes when.
-abbrev pub IsRefused : List Row → ℕ → Trouble → Type 0
-IsRefused rows node Memory = Unit {0}
-IsRefused rows node Read = file_in rows node ≡ None
-IsRefused rows node BadName = HasNoName (edges_in rows node)
-IsRefused rows node BadTree = IsNothing rows node
-IsRefused rows node other = ⊥
+abbrev pub IsRefused : List Row → List ℕ → ℕ → Trouble → Type 0
+IsRefused rows path node Memory = Unit {0}
+IsRefused rows path node Read = file_in rows node ≡ None
+IsRefused rows path node BadName = HasNoName (edges_in rows node)
+IsRefused rows path node BadTree = IsNothing rows path node
+IsRefused rows path node other = ⊥
+
+-- the names in a directory, and at the root a directory stands
+abbrev pub AreNames : List Row → List ℕ → ℕ → List Listed → Type 0
+AreNames rows path node names = (names ≡ edges_in rows node) × (is_top path ≡ true → IsFound rows path node found.Folder)
 
 -- What the rows of a report tell. Nothing is to be left out.
 abbrev pub Tells : List Row → Told → Type 0
-Tells rows (Lists path node names) = names ≡ edges_in rows node
-Tells rows (Finds path node found) = IsFound rows node found
+Tells rows (Lists path node names) = AreNames rows path node names
+Tells rows (Finds path node found) = IsFound rows path node found
 Tells rows (Holds path node bytes) = bytes ≡ file_in rows node
 Tells rows (Omits path) = ⊥
 Tells rows (Keeps path) = Unit {0}
-Tells rows (Refuses path node trouble) = IsRefused rows node trouble
+Tells rows (Refuses path node trouble) = IsRefused rows path node trouble
 
 -- ---- the index
 

@@ -23,7 +23,11 @@ impl<'a> Source for Reported<'a> {
 
     ghost tells = { λ reported told. (rows : List Row) → Indexes reported.index.now rows → Tells rows told };
 
-    fn names(&self, _path: &[u8], node: u64) -> Result<Vec<Listed>, Trouble> {
+    fn names(&self, path: &[u8], node: u64) -> Result<Vec<Listed>, Trouble> {
+        // (what stands at the root is asked nowhere else)
+        if path.is_empty() {
+            self.look(path, node)?;
+        }
         let alloc = self.index.alloc;
         match self.index.edges.get(node) {
             Some(edges) => names_of(alloc, edges.as_slice()),
@@ -31,13 +35,13 @@ impl<'a> Source for Reported<'a> {
         }
     }
 
-    fn look(&self, _path: &[u8], node: u64) -> Result<Found, Trouble> {
+    fn look(&self, path: &[u8], node: u64) -> Result<Found, Trouble> {
         if !self.index.has_one_row(node) {
             return Err(Trouble::BadTree);
         }
         let more = self.index.named.get(node).copied().unwrap_or(false);
         if let Some(bytes) = self.index.files.get(node) {
-            if self.index.has_names(node) {
+            if path.is_empty() || self.index.has_names(node) {
                 return Err(Trouble::BadTree);
             }
             return Ok(Found::File(FileFacts {
@@ -49,7 +53,7 @@ impl<'a> Source for Reported<'a> {
                 size: bytes.len() as u64,
             }));
         }
-        if more || node == ROOT {
+        if more || path.is_empty() != (node == ROOT) {
             return Err(Trouble::BadTree);
         }
         Ok(Found::Folder)

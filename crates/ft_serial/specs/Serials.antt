@@ -48,8 +48,8 @@ pub record RunsSerially (s : State) : Type 0 where
   -- The committed calls alone give their replies too.
   pub committed : GiveReplies s.base.tree (committed_part posix_calls (history s))
 
--- The base and the rule are the same, and the events and the committed calls from before stand
--- first.
+-- The base, the rule and the limits are the same, and the events and the committed calls from before
+-- stand first.
 pub record Grows (old new : State) : Type 0 where
   pub goes_on : GoesOn old new
   pub committed : IsPrefix (committed_calls old) (committed_calls new)

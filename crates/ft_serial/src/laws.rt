@@ -13,9 +13,9 @@ pub fn serial_runs(core: &Recorded)
     reached(core);
 }
 
-/// What has committed stays: whatever is asked of a core except a checkpoint, the base and the rule
-/// are the same, and the events and the committed calls from before stand first among those after
-/// it.
+/// What has committed stays: whatever is asked of a core except a checkpoint, the base, the rule and
+/// the limits are the same, and the events and the committed calls from before stand first among
+/// those after it.
 pub fn committed_stays()
     ensures { CommittedStays }
 {}

@@ -1,9 +1,10 @@
 // A core and its caller.
-ghost use Rattle.std.specs.Prelude.{◌≡◌, [], OnOk, OnErr, IfErr};
+ghost use Rattle.std.specs.Prelude.{◌≡◌, ◌⊎◌, [], OnOk, OnErr, IfErr};
 ghost use Rattle.ft_posix.specs.declared.call.Call.{Call as CallOf};
 ghost use Rattle.ft_core.specs.declared.request.Answer.{Answer as AnswerOf};
-ghost use Rattle.ft_core.specs.declared.request.Answer.TheVariants.{Refused};
-ghost use Rattle.ft_core.specs.declared.request.Request.TheVariants.{Ask};
+ghost use Rattle.ft_core.specs.declared.fault.Fault.TheVariants.{Live as LiveFault};
+ghost use Rattle.ft_core.specs.declared.request.Answer.TheVariants.{Cleared, Refused};
+ghost use Rattle.ft_core.specs.declared.request.Request.TheVariants.{Ask, Checkpoint};
 ghost use Rattle.ft_core.specs.Steps.{IsStep, exact_rule};
 ghost use Rattle.ft_replies.specs.declared.line.Line.TheVariants.{Bad as BadLine};
 ghost use Rattle.ft_replies.specs.Requests.{meaning_of};
@@ -60,6 +61,18 @@ impl Session {
         ensures { (answer : AnswerOf) × HasAnswered self.old request answer self.new }
     {
         self.last = Last::Answer(carry_out(&mut self.core, request));
+    }
+
+    /// Makes the tree as it stands the base, as that request does. Takes no memory.
+    pub fn checkpoint(&mut self)
+        ensures asked { (answer : AnswerOf) × HasAnswered self.old Checkpoint answer self.new }
+        ensures live { (self.new.last ≡ Last.Answer Cleared) ⊎ (self.new.last ≡ Last.Answer (Refused LiveFault)) }
+    {
+        let answer = match self.core.checkpoint() {
+            Ok(()) => Answer::Cleared,
+            Err(fault) => Answer::Refused(fault),
+        };
+        self.last = Last::Answer(answer);
     }
 
     /// Answers a call in a transaction that is not made, for want of memory. It is refused as the

@@ -15,12 +15,13 @@ use Rattle.ft_shared.specs.Origins.{Origin}
 
 -- each state goes on from itself, and so on
 pub goes_nowhere : (s : State) → GoesOn s s
-goes_nowhere s = record { base = refl; rule = refl; events = prefix_self s.events }
+goes_nowhere s = record { base = refl; rule = refl; limits = refl; events = prefix_self s.events }
 
 pub goes_far : (first s s' : State) → GoesOn first s → GoesOn s s' → GoesOn first s'
 goes_far first s s' before goes = record {
   base = goes.base ∙ before.base;
   rule = goes.rule ∙ before.rule;
+  limits = goes.limits ∙ before.limits;
   events = prefix_trans first.events s.events s'.events before.events goes.events;
 }
 

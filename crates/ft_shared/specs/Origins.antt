@@ -3,7 +3,8 @@ use Rattle.std.specs.Prelude.{◌≡◌, ◌⊎◌, Bool, false, List, []}
 use Rattle.logbook.specs.Pages.{Book}
 use Rattle.ft_posix.specs.declared.stamped.StampedCall.{StampedCall}
 use Rattle.ft_moss.specs.declared.rule.Rule.TheVariants.{Profile}
-use Rattle.ft_core.specs.States.{State, at_base, first_base}
+use Rattle.ft_core.specs.Limits.{default_limits}
+use Rattle.ft_core.specs.States.{State, first_state}
 use Rattle.ft_book.specs.Names.{Views, no_views}
 use Rattle.ft_serial.specs.Serials.{committed_calls}
 use Rattle.ft_shared.specs.Behind.{OfCoreFrom}
@@ -18,9 +19,9 @@ pub record Origin : Type 0 where
 abbrev pub without_views : State → Origin
 without_views s = record { from = s; shown = false; book = no_views.book }
 
--- a new core, by the rule of this project, that has no views
+-- a new core, by the rule of this project and with the default limits, that has no views
 abbrev pub new_core : Origin
-new_core = without_views (at_base Profile first_base)
+new_core = without_views (first_state Profile default_limits)
 
 -- the views of a core start from its base
 abbrev pub views_of : Origin → Views

@@ -109,7 +109,7 @@ impl Shareable for Core {
     ghost forgets = { false };
 
     // Nothing has happened since.
-    ghost knows_base = { λ core. core.state ≡ at_base core.state.rule core.state.base };
+    ghost knows_base = { λ core. core.state ≡ at_base core.state.rule core.state.limits core.state.base };
 
     fn core(&self) -> &Core {
         self
@@ -177,7 +177,7 @@ impl Shareable for Recent {
     ghost forgets = { true };
 
     // Nothing has happened since.
-    ghost knows_base = { λ recent. recent.core.state ≡ at_base recent.core.state.rule recent.core.state.base };
+    ghost knows_base = { λ recent. recent.core.state ≡ at_base recent.core.state.rule recent.core.state.limits recent.core.state.base };
 
     fn core(&self) -> &Core {
         self.core()

@@ -89,7 +89,7 @@ impl<J: Sharing, C: Shareable> Shared<J, C> {
     ///
     /// Refuses Full where there are as many transactions as there may be.
     pub fn begin<R: Wait>(&self, rt: &R) -> Result<TxnId, Fault>
-        ensures { InCoreFrom J.origin.from (λ old new. IsStep exact_rule old Begin (answer_with Txn result) new) }
+        ensures some_core { InCoreFrom J.origin.from (λ old new. IsStep exact_rule old Begin (answer_with Txn result) new) }
     {
         let mut behind = self.held(rt);
         let answer = behind.begin();
@@ -102,7 +102,7 @@ impl<J: Sharing, C: Shareable> Shared<J, C> {
     /// Refuses NoTxn, Ended, Deep where the parent stands as deep as one may, and Full, in this
     /// order.
     pub fn sub<R: Wait>(&self, rt: &R, parent: TxnId) -> Result<TxnId, Fault>
-        ensures { InCoreFrom J.origin.from (λ old new. IsStep exact_rule old (Sub parent) (answer_with Txn result) new) }
+        ensures some_core { InCoreFrom J.origin.from (λ old new. IsStep exact_rule old (Sub parent) (answer_with Txn result) new) }
     {
         let mut behind = self.held(rt);
         let answer = behind.sub(parent);
@@ -114,7 +114,7 @@ impl<J: Sharing, C: Shareable> Shared<J, C> {
     ///
     /// Refuses NoTxn, Ended, and Full where as many calls are granted as may be, in this order.
     pub fn ask<R: Wait>(&self, rt: &R, txn: TxnId, call: Call) -> Result<Outcome, Fault>
-        ensures { InCoreFrom J.origin.from (λ old new. IsStep exact_rule old (Ask txn call) (answer_with outcome_answer result) new) }
+        ensures some_core { InCoreFrom J.origin.from (λ old new. IsStep exact_rule old (Ask txn call) (answer_with outcome_answer result) new) }
     {
         let mut behind = self.held(rt);
         let answer = behind.ask(txn, call);
@@ -138,7 +138,7 @@ impl<J: Sharing, C: Shareable> Shared<J, C> {
         turns: u64,
     ) -> Result<Outcome, Fault>
         requires { 1 ≤ turns }
-        ensures { InCoreFrom J.origin.from (λ old new. IsStep exact_rule old (Ask txn call.now) (answer_with outcome_answer result) new) }
+        ensures some_core { InCoreFrom J.origin.from (λ old new. IsStep exact_rule old (Ask txn call.now) (answer_with outcome_answer result) new) }
     {
         for _ in 1..turns {
             match self.turn(rt, txn, call) {
@@ -151,7 +151,7 @@ impl<J: Sharing, C: Shareable> Shared<J, C> {
 
     /// Asks once, for a copy of the call.
     fn turn<R: Wait>(&self, rt: &R, txn: TxnId, call: &Call) -> Result<Outcome, Fault>
-        ensures { InCoreFrom J.origin.from (λ old new. IsStep exact_rule old (Ask txn call.now) (answer_with outcome_answer result) new) }
+        ensures some_core { InCoreFrom J.origin.from (λ old new. IsStep exact_rule old (Ask txn call.now) (answer_with outcome_answer result) new) }
     {
         match call.copy(self.alloc) {
             Ok(copy) => self.ask(rt, txn, copy),
@@ -162,7 +162,7 @@ impl<J: Sharing, C: Shareable> Shared<J, C> {
 
     /// Makes a copy of a call, as `ask` makes a call. The copy is made while the lock is held.
     fn ask_copy<R: Wait>(&self, rt: &R, txn: TxnId, call: &Call) -> Result<Outcome, Fault>
-        ensures { InCoreFrom J.origin.from (λ old new. IsStep exact_rule old (Ask txn call.now) (answer_with outcome_answer result) new) }
+        ensures some_core { InCoreFrom J.origin.from (λ old new. IsStep exact_rule old (Ask txn call.now) (answer_with outcome_answer result) new) }
     {
         let mut behind = self.held(rt);
         let answer = behind.ask_copy(txn, call);
@@ -190,7 +190,7 @@ impl<J: Sharing, C: Shareable> Shared<J, C> {
     /// Refuses NoTxn, Ended, NoAsk, and Full where as many calls are granted as may be, in this
     /// order.
     pub fn retry<R: Wait>(&self, rt: &R, txn: TxnId) -> Result<Outcome, Fault>
-        ensures { InCoreFrom J.origin.from (λ old new. IsStep exact_rule old (Retry txn) (answer_with outcome_answer result) new) }
+        ensures some_core { InCoreFrom J.origin.from (λ old new. IsStep exact_rule old (Retry txn) (answer_with outcome_answer result) new) }
     {
         let mut behind = self.held(rt);
         let answer = behind.retry(txn);
@@ -202,7 +202,7 @@ impl<J: Sharing, C: Shareable> Shared<J, C> {
     ///
     /// Refuses NoTxn, Ended and NoAsk, in this order.
     pub fn drop_ask<R: Wait>(&self, rt: &R, txn: TxnId) -> Result<(), Fault>
-        ensures { InCoreFrom J.origin.from (λ old new. IsStep exact_rule old (DropAsk txn) (answer_with (λ done. Dropped) result) new) }
+        ensures some_core { InCoreFrom J.origin.from (λ old new. IsStep exact_rule old (DropAsk txn) (answer_with (λ done. Dropped) result) new) }
     {
         let mut behind = self.held(rt);
         let answer = behind.drop_ask(txn);
@@ -216,7 +216,7 @@ impl<J: Sharing, C: Shareable> Shared<J, C> {
     ///
     /// Refuses NoTxn, Ended, and ChildLive where it has a live child, in this order.
     pub fn commit<R: Wait>(&self, rt: &R, txn: TxnId) -> Result<(), Fault>
-        ensures { InCoreFrom J.origin.from (λ old new. IsStep exact_rule old (Commit txn) (answer_with (λ done. Committed) result) new) }
+        ensures some_core { InCoreFrom J.origin.from (λ old new. IsStep exact_rule old (Commit txn) (answer_with (λ done. Committed) result) new) }
     {
         let mut behind = self.held(rt);
         let answer = behind.commit(txn);
@@ -232,7 +232,7 @@ impl<J: Sharing, C: Shareable> Shared<J, C> {
     ///
     /// Refuses NoTxn and Ended, in this order.
     pub fn abort<R: Wait>(&self, rt: &R, txn: TxnId) -> Result<u64, Fault>
-        ensures { InCoreFrom J.origin.from (λ old new. IsAborted old txn (answer_with Aborted result) new) }
+        ensures some_core { InCoreFrom J.origin.from (λ old new. IsAborted old txn (answer_with Aborted result) new) }
     {
         let mut behind = self.held(rt);
         let answer = behind.abort(txn);
@@ -249,7 +249,7 @@ impl<J: Sharing, C: Shareable> Shared<J, C> {
     /// Refuses NoTxn, Ended, ChildLive, and NothingToUndo where there is none or SubSince where a
     /// child has committed since, in this order.
     pub fn undo_call<R: Wait>(&self, rt: &R, txn: TxnId) -> Result<u64, Fault>
-        ensures { InCoreFrom J.origin.from (λ old new. IsUndone old txn (answer_with Undone result) new) }
+        ensures some_core { InCoreFrom J.origin.from (λ old new. IsUndone old txn (answer_with Undone result) new) }
     {
         let mut behind = self.held(rt);
         let answer = behind.undo_call(txn);
@@ -261,13 +261,12 @@ impl<J: Sharing, C: Shareable> Shared<J, C> {
     /// there is a cycle of just these.
     ///
     /// Want of memory is the only refusal.
-    pub fn waits<R: Wait>(&self, rt: &R) -> Result<(Vec<Edge>, Verdict), Fault>
+    pub fn waits<R: Wait>(&self, rt: &R) -> Result<(Vec<Edge>, Verdict), Memory>
         ensures edges { IfOk result (λ told. OfCoreFrom J.origin.from (λ state. AreEdgesOf state told.0.items)) }
         ensures verdict { IfOk result (λ told. IsVerdict told.0.items told.1) }
-        ensures fault { IfErr result (λ fault. fault ≡ MemoryFault) }
     {
         let edges = self.list_edges(rt)?;
-        Ok(with_verdict(edges)?)
+        with_verdict(edges)
     }
 
     /// The waits-for edges of the core, each once, in their order. The lock is free when they are

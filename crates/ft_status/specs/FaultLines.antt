@@ -35,6 +35,7 @@ run_fault_line run.Write = fault_line Write
 -- the same of a script that was not played first
 abbrev pub after_line : AfterFault → List ℕ
 after_line after.Memory = fault_line Memory
+after_line after.BadLimits = codes "fault: BadLimits" ++ 10 ∷ []
 after_line (after.Script number) = codes "fault: Script " ++ decimal number ++ 10 ∷ []
 
 -- the name of what stopped a copy

@@ -118,8 +118,10 @@ pub fn after_failed<E: Write>(alloc: Global, errors: &mut E, fault: AfterFault) 
     ensures status { result ≡ 1 }
     ensures line { TellsLine (E.contents errors.old) (E.contents errors.new) (after_line fault) }
 {
-    let AfterFault::Script(number) = fault else {
-        return failed(errors, fault_line(PlayFault::Memory));
+    let number = match fault {
+        AfterFault::Memory => return failed(errors, fault_line(PlayFault::Memory)),
+        AfterFault::BadLimits => return failed(errors, "fault: BadLimits\n"),
+        AfterFault::Script(number) => number,
     };
     match format!(in alloc; "fault: Script {number}\n") {
         Ok(line) => failed(errors, line.as_str()),

@@ -404,6 +404,7 @@ const NUMBERS: &[(Fault, u8)] = &[
     (Fault::Live, 9),
     (Fault::NoAsk, 10),
     (Fault::NoViews, 11),
+    (Fault::BadLimits, 12),
 ];
 
 #[test]

@@ -1,12 +1,16 @@
 -- What a session that was taken out has carried out, its handle has.
-use Rattle.std.proofs.Common.{◌≡◌, ◌∙◌, Option, Some, subst, ap}
+use Rattle.std.proofs.Common.{◌≡◌, ◌≢◌, ◌⊎◌, ◌∙◌, ⊎_elim, Option, Some, sym, subst, ap, arith}
+use Rattle.ft_core.specs.declared.fault.Fault.TheVariants.{Live}
 use Rattle.ft_core.specs.declared.request.Answer.{Answer}
+use Rattle.ft_core.specs.declared.request.Answer.TheVariants.{Cleared, Refused}
 use Rattle.ft_core.specs.declared.request.Request.{Request}
 use Rattle.ft_replies.specs.declared.line.Line.{Line}
+use Rattle.ft_session.specs.declared.last.Last.{Last}
+use Rattle.ft_session.specs.declared.last.Last.TheVariants as last
 use Rattle.ft_session.specs.declared.session.Session.{Session}
 use Rattle.ft_session.specs.Sessions.{HasAnswered}
 use Rattle.nuzolged.specs.declared.told.Told.{Told}
-use Rattle.nuzolged.specs.Numbers.{told_of}
+use Rattle.nuzolged.specs.Numbers.{told_of, no_memory}
 use Rattle.nuzolged.specs.Asked.{IsAsked}
 use Rattle.nuzolged.specs.Lines.{IsLineAsked, IsLineTold}
 
@@ -16,3 +20,15 @@ module _ (told : Told) (old new : Option Session) (s s' : Session) (was : Some s
 
   pub line_asked : (line : Line) → IsLineTold s line told s' → IsLineAsked old line told new
   line_asked line is = subst (λ (o : Option Session). IsLineAsked o line told new) was (s', now, is)
+
+-- ---- a checkpoint
+
+cleared : told_of (last.Answer Cleared) ≢ no_memory
+cleared e = let code : 0 ≡ 1001 = ap (λ (t : Told). t.code) e in omega (arith, code)
+
+live : told_of (last.Answer (Refused Live)) ≢ no_memory
+live e = let code : 1009 ≡ 1001 = ap (λ (t : Told). t.code) e in omega (arith, code)
+
+-- what it is answered is not want of memory
+pub wants_none : (l : Last) → (l ≡ last.Answer Cleared) ⊎ (l ≡ last.Answer (Refused Live)) → told_of l ≢ no_memory
+wants_none l has e = ⊎_elim (λ (is : l ≡ last.Answer Cleared). cleared (sym (ap told_of is) ∙ e)) (λ (is : l ≡ last.Answer (Refused Live)). live (sym (ap told_of is) ∙ e)) has

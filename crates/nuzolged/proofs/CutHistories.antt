@@ -28,7 +28,7 @@ use Rattle.ft_history.specs.Promises.{calls_below}
 use Rattle.ft_moss.specs.declared.rule.Rule.{Rule}
 use Rattle.ft_moss.specs.declared.rule.Rule.TheVariants.{Profile, Moss}
 use Rattle.ft_moss.specs.Law.{History, blockers_by}
-use Rattle.ft_core.proofs.Limits.{limits-exec}
+use Rattle.ft_core.proofs.Allowing.{limits-exec}
 use Rattle.nuzolged.specs.Cuts.{cut_of}
 use Rattle.nuzolged.proofs.CutCalls.{steps_of_cut}
 

@@ -55,6 +55,7 @@ module _ (s s' : State) (alike : AreAlike s s') where
   back =
       let same : limits_in s ≡ limits_in s' = ap (λ (b : Base). b.tree.limits) (sym alike.base) in record {
         rule = sym alike.rule;
+        limits = sym alike.limits;
         base = sym alike.base;
         events = subst (λ l. map (cut_event l) s.events ≡ map (cut_event l) s'.events) same (sym alike.events);
         asks = λ t. subst (λ l. option_map (cut_of l) (finite.get s.asks t) ≡ option_map (cut_of l) (finite.get s'.asks t)) same (sym (alike.asks t));
@@ -92,7 +93,7 @@ cut_law = record { calls = calls; requests = requests; reports = reports-alike; 
 
 -- a state is alike itself
 same_state : (s : State) → AreAlike s s
-same_state s = record { rule = refl; base = refl; events = refl; asks = λ t. refl; last_txn = refl; last_stamp = refl }
+same_state s = record { rule = refl; limits = refl; base = refl; events = refl; asks = λ t. refl; last_txn = refl; last_stamp = refl }
 
 -- what is asked by the cut of a call is asked by the call itself
 pub whole_asked : (old new : Option Session) (txn : ℕ) (told : Told) (call : Call) → IsAsked old (Ask txn (cut_of (limits_of old) call)) told new → IsCallAsked old txn call told new

@@ -17,8 +17,7 @@ use Rattle.ft_history.specs.Undoing.{Target, undo_target}
 use Rattle.ft_history.specs.Undoing.Target.{Found, SubSince as SubSinceTarget, Nothing}
 use Rattle.ft_history.specs.Promises.{calls_below}
 use Rattle.ft_forest.specs.Transactions.{depth_within}
-use Rattle.ft_forest.specs.declared.TheConstants.{MOST_TRANSACTIONS, MOST_DEPTH, LAST_NUMBER}
-use Rattle.ft_core.specs.declared.TheConstants.{MOST_CALLS}
+use Rattle.ft_forest.specs.declared.TheConstants.{LAST_NUMBER}
 use Rattle.ft_moss.specs.declared.line.LockLine.{LockLine}
 use Rattle.ft_moss.specs.Locks.{is_held}
 use Rattle.ft_moss.specs.Law.{is_of, is_lock, blockers_by}
@@ -33,7 +32,7 @@ use Rattle.ft_core.specs.declared.request.Answer.TheVariants.{Txn, Granted, Wait
 use Rattle.ft_core.specs.Histories.{History, told_after, as_happening}
 use Rattle.ft_core.specs.States.{State, Base, Asks, history, fate_of, has_live_child, has_live, live_children, is_deepest, has_most_transactions, has_most_calls, next_txn, next_stamp, after_begin, reply_of, accesses_now, after_grant, after_wait, after_drop, after_undo, after_commit, after_abort, after_checkpoint, count_standing, tree_of}
 use Rattle.ft_core.specs.Steps.{IsAnswered, IsAsked, IsUndone, MayWantMemory, exact_rule, refusal_of, fault_if, fault_of_fate, fault_of_target, fault_of_ask}
-use Rattle.ft_core.proofs.Limits.{limits-after}
+use Rattle.ft_core.proofs.Allowing.{limits-after}
 use Rattle.nuzolged.specs.Cuts.{cut_of, cut_event, limits_in, AreAlike, AnswerAlike}
 use Rattle.nuzolged.proofs.CutHistories.{begun-cut, parent-cut, grants-cut, fate-cut, over-cut, live_children-cut, standing-cut, calls_below-cut, blockers-cut, holds-cut, retains-cut, find_back-cut, exec-cut, accesses-cut, tree-cut, cut_done, cut_history, cut_target}
 
@@ -144,16 +143,16 @@ module _ (s s' : State) (alike : AreAlike s s') where
   has_live-same = λ i. nat_lt 0 (length (passing (λ t. is_live (fate-same t i)) (begun-same i)))
 
   most_transactions-same : has_most_transactions s' ≡ has_most_transactions s
-  most_transactions-same = λ i. nat_le MOST_TRANSACTIONS (length (begun-same i)) || nat_le LAST_NUMBER (alike.last_txn i)
+  most_transactions-same = λ i. nat_le (alike.limits i).transactions (length (begun-same i)) || nat_le LAST_NUMBER (alike.last_txn i)
 
   grants-same : length (grants posix_calls (history s')) ≡ length (grants posix_calls (history s))
   grants-same = same_of (λ h. length (grants posix_calls h)) (λ h. ap length (grants-cut limits h) ∙ length-map (grants posix_calls h) (cut_done limits))
 
   most_calls-same : has_most_calls s' ≡ has_most_calls s
-  most_calls-same = λ i. nat_le MOST_CALLS (grants-same i) || nat_le LAST_NUMBER (alike.last_stamp i)
+  most_calls-same = λ i. nat_le (alike.limits i).calls (grants-same i) || nat_le LAST_NUMBER (alike.last_stamp i)
 
   deepest-same : (t : ℕ) → is_deepest s' t ≡ is_deepest s t
-  deepest-same t = ap (λ f. nat_le MOST_DEPTH (depth_within f t t)) (same_of (parent posix_calls) (parent-cut limits))
+  deepest-same t = λ i. nat_le (alike.limits i).depth (depth_within (same_of (parent posix_calls) (parent-cut limits) i) t t)
 
   next_stamp-same : next_stamp s' ≡ next_stamp s
   next_stamp-same = ap (λ k. k + 1) alike.last_stamp
@@ -224,6 +223,7 @@ module _ (s s' : State) (alike : AreAlike s s') where
   begin-alike : (up : Option ℕ) → AreAlike (after_begin s up) (after_begin s' up)
   begin-alike up = record {
     rule = alike.rule;
+    limits = alike.limits;
     base = alike.base;
     events = more (event.Begin (next_txn s) up) (event.Begin (next_txn s') up) (λ i. event.Begin (alike.last_txn i + 1) up);
     asks = alike.asks;
@@ -234,6 +234,7 @@ module _ (s s' : State) (alike : AreAlike s s') where
   grant-alike : (t : ℕ) (call call' : Call) → cut_of limits call' ≡ cut_of limits call → AreAlike (after_grant s t call) (after_grant s' t call')
   grant-alike t call call' e = record {
     rule = alike.rule;
+    limits = alike.limits;
     base = alike.base;
     events = more (event.Call (next_stamp s) t call (reply_of s call) (accesses_now s call)) (event.Call (next_stamp s') t call' (reply_of s' call') (accesses_now s' call'))
         (λ i. event.Call (next_stamp-same i) t (e i) (reply-same call call' e i) (accesses-same call call' e i));
@@ -243,17 +244,18 @@ module _ (s s' : State) (alike : AreAlike s s') where
   }
 
   wait-alike : (t : ℕ) (call call' : Call) → cut_of limits call' ≡ cut_of limits call → AreAlike (after_wait s t call) (after_wait s' t call')
-  wait-alike t call call' e = record { rule = alike.rule; base = alike.base; events = alike.events; asks = inserted-alike limits s.asks s'.asks t call call' e alike.asks; last_txn = alike.last_txn; last_stamp = alike.last_stamp }
+  wait-alike t call call' e = record { rule = alike.rule; limits = alike.limits; base = alike.base; events = alike.events; asks = inserted-alike limits s.asks s'.asks t call call' e alike.asks; last_txn = alike.last_txn; last_stamp = alike.last_stamp }
 
   drop-alike : (t : ℕ) → AreAlike (after_drop s t) (after_drop s' t)
-  drop-alike t = record { rule = alike.rule; base = alike.base; events = alike.events; asks = removed-alike limits s.asks s'.asks t alike.asks; last_txn = alike.last_txn; last_stamp = alike.last_stamp }
+  drop-alike t = record { rule = alike.rule; limits = alike.limits; base = alike.base; events = alike.events; asks = removed-alike limits s.asks s'.asks t alike.asks; last_txn = alike.last_txn; last_stamp = alike.last_stamp }
 
   undo-alike : (k : ℕ) → AreAlike (after_undo s k) (after_undo s' k)
-  undo-alike k = record { rule = alike.rule; base = alike.base; events = more (event.Undo k) (event.Undo k) refl; asks = alike.asks; last_txn = alike.last_txn; last_stamp = alike.last_stamp }
+  undo-alike k = record { rule = alike.rule; limits = alike.limits; base = alike.base; events = more (event.Undo k) (event.Undo k) refl; asks = alike.asks; last_txn = alike.last_txn; last_stamp = alike.last_stamp }
 
   commit-alike : (t : ℕ) → AreAlike (after_commit s t) (after_commit s' t)
   commit-alike t = record {
     rule = alike.rule;
+    limits = alike.limits;
     base = alike.base;
     events = more (event.Commit t) (event.Commit t) refl;
     asks = removed-alike limits s.asks s'.asks t alike.asks;
@@ -264,6 +266,7 @@ module _ (s s' : State) (alike : AreAlike s s') where
   abort-alike : (t : ℕ) → AreAlike (after_abort s t) (after_abort s' t)
   abort-alike t = record {
     rule = alike.rule;
+    limits = alike.limits;
     base = alike.base;
     events = more (event.Abort t) (event.Abort t) refl;
     asks = retained-alike limits s.asks s'.asks (λ u. not (over posix_calls (history s) t u)) (λ u. not (over posix_calls (history s') t u)) (λ u. ap not (over-same t u)) alike.asks;
@@ -274,6 +277,7 @@ module _ (s s' : State) (alike : AreAlike s s') where
   checkpoint-alike : AreAlike (after_checkpoint s) (after_checkpoint s')
   checkpoint-alike = record {
     rule = alike.rule;
+    limits = alike.limits;
     base = λ i. record { tree = tree-same i; last_txn = alike.last_txn i; last_stamp = alike.last_stamp i };
     events = refl;
     asks = λ t. refl;

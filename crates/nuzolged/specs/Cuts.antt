@@ -75,6 +75,7 @@ limits_in s = s.base.tree.limits
 -- that wait.
 pub record AreAlike (s s' : State) : Type 0 where
   pub rule : s'.rule ≡ s.rule
+  pub limits : s'.limits ≡ s.limits
   pub base : s'.base ≡ s.base
   pub events : map (cut_event (limits_in s)) s'.events ≡ map (cut_event (limits_in s)) s.events
   pub asks : (t : ℕ) → option_map (cut_of (limits_in s)) (finite.get s'.asks t) ≡ option_map (cut_of (limits_in s)) (finite.get s.asks t)

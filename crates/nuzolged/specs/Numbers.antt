@@ -68,6 +68,7 @@ fault_number fault.Deep = 1008
 fault_number fault.Live = 1009
 fault_number fault.NoAsk = 1010
 fault_number fault.NoViews = 1011
+fault_number fault.BadLimits = 1012
 
 -- a reply: its stamp, and code 0 with a number, with how many names or bytes there are, or with
 -- what `stat` tells; or the number of its error

@@ -1,15 +1,16 @@
 // Requests through a handle.
-ghost use Rattle.std.specs.Prelude.{◌≡◌, ℤ, Bool, IfOk, take};
+ghost use Rattle.std.specs.Prelude.{◌≡◌, ◌≢◌, ℤ, Bool, IfOk, take};
 ghost use Rattle.ft_posix.specs.declared.call.Call.{Call as CallOf};
-ghost use Rattle.ft_core.specs.declared.request.Request.TheVariants.{Ask};
+ghost use Rattle.ft_core.specs.declared.request.Request.TheVariants.{Ask, Checkpoint};
 ghost use Rattle.nuzolged.specs.Asked.{limits_of, IsAsked, IsCallAsked, IsCalled, IsBad, IsPath, ArePaths, is_bad};
 ghost use Rattle.nuzolged.specs.Cuts.{cut_of, most_at, most_of};
+ghost use Rattle.nuzolged.specs.Numbers.{no_memory};
 
 use crate::handle::Handle;
 use crate::told::{BAD, CLOSED, Told, told_of};
 use ft_base::{Memory, Sequence};
 use ft_calls::Call;
-use ft_core::{Request, TxnId};
+use ft_core::{Limits, Request, TxnId};
 use ft_path::{FilePath, LONGEST_PATH, PathFault};
 use ft_tree::TreeLimits;
 use std::alloc::Global;
@@ -37,6 +38,22 @@ pub(crate) fn ask(alloc: Global, tree: &mut Handle, request: Request) -> Told
             told
         }
     }
+}
+
+/// Has the core of a handle make the tree as it stands the base, and answers in numbers. Takes no
+/// memory.
+pub(crate) fn checkpoint(alloc: Global, tree: &mut Handle) -> Told
+    ensures asked { IsAsked tree.old.session Checkpoint result tree.new.session }
+    ensures memory { result ≢ no_memory }
+{
+    let Some(session) = tree.take(alloc) else {
+        return Told::of(CLOSED, 0, 0);
+    };
+    let mut session = session;
+    session.checkpoint();
+    let told = told_of(&session.last);
+    tree.put(session);
+    told
 }
 
 /// Asks for a call in a transaction. It may be the cut of another one.
@@ -131,9 +148,13 @@ pub(crate) fn limits_of(alloc: Global, tree: &mut Handle) -> TreeLimits
     let Some(session) = tree.take(alloc) else {
         return TreeLimits::default();
     };
-    let limits = session.core.tree_limits();
+    let Limits {
+        file_size,
+        links,
+        ..
+    } = session.core.limits();
     tree.put(session);
-    limits
+    TreeLimits { file_size, links }
 }
 
 /// How many bytes of a write a file could have. Where it may have none, one is kept: to write none

@@ -8,6 +8,7 @@ mod asking;
 mod calls;
 mod handle;
 pub mod laws;
+mod limits;
 mod lines;
 mod parts;
 mod paths;
@@ -19,6 +20,7 @@ pub use calls::{
     nuz_close, nuz_fstat, nuz_ftruncate, nuz_lseek, nuz_pread, nuz_pwrite, nuz_read, nuz_write,
 };
 pub use handle::Handle;
+pub use limits::Limits;
 pub use lines::{nuz_reply, nuz_request};
 pub use parts::{nuz_blocker, nuz_bytes, nuz_name};
 pub use paths::{
@@ -29,4 +31,4 @@ pub use told::Told;
 pub use transactions::{
     nuz_abort, nuz_begin, nuz_checkpoint, nuz_commit, nuz_drop, nuz_retry, nuz_sub, nuz_undo,
 };
-pub use trees::{nuz_tree_close, nuz_tree_open};
+pub use trees::{nuz_tree_close, nuz_tree_open, nuz_tree_open_with};

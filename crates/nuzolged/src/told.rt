@@ -126,8 +126,8 @@ pub(crate) fn kind_number(kind: Kind) -> u32
     }
 }
 
-// The number of a refusal: they stand behind those of errors.
-fn fault_number(fault: Fault) -> u32
+/// The number of a refusal: they stand behind those of errors.
+pub(crate) fn fault_number(fault: Fault) -> u32
     ensures { result ≡ fault_number fault }
 {
     match fault {
@@ -142,6 +142,7 @@ fn fault_number(fault: Fault) -> u32
         Fault::Live => 1009,
         Fault::NoAsk => 1010,
         Fault::NoViews => 1011,
+        Fault::BadLimits => 1012,
     }
 }
 

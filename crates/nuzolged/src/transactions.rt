@@ -1,8 +1,10 @@
 // Transactions.
+ghost use Rattle.std.specs.Prelude.{◌≢◌};
 ghost use Rattle.ft_core.specs.declared.request.Request.TheVariants.{Begin, Sub, Commit, Abort, Undo, Retry, Drop, Checkpoint};
 ghost use Rattle.nuzolged.specs.Asked.{IsAsked};
+ghost use Rattle.nuzolged.specs.Numbers.{no_memory};
 
-use crate::asking::ask;
+use crate::asking::{ask, checkpoint};
 use crate::handle::Handle;
 use crate::told::Told;
 use ft_core::{Request, TxnId};
@@ -65,10 +67,11 @@ pub extern "C" fn nuz_retry(alloc: Global, tree: &mut Handle, txn: u64) -> Told
     ask(alloc, tree, Request::Retry(TxnId(txn)))
 }
 
-/// Makes the tree as it stands the base, and forgets the transactions.
+/// Makes the tree as it stands the base, and forgets the transactions. Takes no memory.
 #[unsafe(no_mangle)]
 pub extern "C" fn nuz_checkpoint(alloc: Global, tree: &mut Handle) -> Told
-    ensures { IsAsked tree.old.session Checkpoint result tree.new.session }
+    ensures asked { IsAsked tree.old.session Checkpoint result tree.new.session }
+    ensures memory { result ≢ no_memory }
 {
-    ask(alloc, tree, Request::Checkpoint)
+    checkpoint(alloc, tree)
 }

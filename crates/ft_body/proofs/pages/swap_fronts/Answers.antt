@@ -4,7 +4,7 @@ use Rattle.ft_body.proofs.PageLists.{swap_step}
 use Rattle.ft_body.proofs.pages.swap_fronts.Goals as goal
 
 pub loop-index-preserved : goal.loop-index-preserved
-loop-index-preserved c =
+loop-index-preserved g c =
     let some : c.loop-index.index < length c.args.some.now.items = grind (arith, common_steps) in
     let others : c.loop-index.index < length c.args.others.now.items = grind (arith, common_steps) in
     record {

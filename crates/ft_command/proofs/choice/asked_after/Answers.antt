@@ -1,4 +1,4 @@
-use Rattle.std.proofs.Common.{◌≡◌, ◌∙◌, Some, ap, sym, codes, rules}
+use Rattle.std.proofs.Common.{◌≡◌, ◌∙◌, Some, ap, codes, rules}
 use Rattle.std.specs.Prelude.{string_bytes}
 use Rattle.clap.specs.Words.{found_of}
 use Rattle.clap.proofs.WalkLemmas.{first_value-rows}

@@ -3,6 +3,7 @@ use Rattle.std.proofs.lemmas.Result.{IfOk-weaker}
 use Rattle.clap.specs.Simple.{app_of_fields}
 use Rattle.clap.specs.Words.{with_rule}
 use Rattle.clap.specs.declared.builder.command.Command.TheViews.{out-Command}
+use Rattle.ft_command.specs.Limits.{limited}
 use Rattle.ft_command.proofs.choice.jobs_command.Goals as goal
 
 pub returns-clause-app : goal.returns-clause-app
@@ -11,7 +12,8 @@ returns-clause-app c =
     let two_is = c.in_ok-arg-2.ensures.shape c.turns_arg.ensures.local ∙ ap₂ with_rule one_is c.turns_arg.ensures.rule in
     let three_is = c.in_ok-arg-3.ensures.shape c.quiet_arg.ensures.local ∙ ap₂ with_rule two_is c.quiet_arg.ensures.rule in
     let four_is = c.in_ok-arg-4.ensures.shape c.moss_arg.ensures.local ∙ ap₂ with_rule three_is c.moss_arg.ensures.rule in
-    IfOk-weaker c.arg-5.result _ _ (λ command h. h.shape c.after_arg.ensures.local ∙ ap₂ with_rule four_is c.after_arg.ensures.rule) c.arg-5.ensures
+    let all_is = c.in_ok-command.ensures.shape c.after_arg.ensures.local ∙ ap₂ with_rule four_is c.after_arg.ensures.rule in
+    IfOk-weaker c.with_limits.result _ _ (λ command h. h ∙ ap limited all_is) c.with_limits.ensures.app
 
 pub returns-clause-local : goal.returns-clause-local
 returns-clause-local c =
@@ -20,4 +22,4 @@ returns-clause-local c =
     let two = c.in_ok-arg-2.ensures.globals ∙ ap₂ (λ a b. a || b) one c.turns_arg.ensures.local in
     let three = c.in_ok-arg-3.ensures.globals ∙ ap₂ (λ a b. a || b) two c.quiet_arg.ensures.local in
     let four = c.in_ok-arg-4.ensures.globals ∙ ap₂ (λ a b. a || b) three c.moss_arg.ensures.local in
-    IfOk-weaker c.arg-5.result _ _ (λ command h. h.globals ∙ ap₂ (λ a b. a || b) four c.after_arg.ensures.local) c.arg-5.ensures
+    c.with_limits.ensures.local (c.in_ok-command.ensures.globals ∙ ap₂ (λ a b. a || b) four c.after_arg.ensures.local)

@@ -1,4 +1,4 @@
-use Rattle.std.proofs.Common.{◌≡◌, ◌∙◌, Ok, Result, ap, sym, false}
+use Rattle.std.proofs.Common.{◌≡◌, ◌∙◌, Ok, ap, sym, false}
 use Rattle.std.specs.FinMap as finite
 use Rattle.ft_base.proofs.ChainCalls.{opened-sound, opened-is, open-is}
 use Rattle.ft_base.proofs.chains.Chains.open_zero.Goals as goal

@@ -92,7 +92,7 @@ invariant_of-self c =
     let done : HasAborted i.parts.forest c.abort_next.new.self c.args.txn = c.in_default.ensures.done i.parts.forest way.forest_is in
     let last_way = subst (λ (f : Transactions). IsOnWay call_laws lock_laws c.self.invariant c.args.txn live c.loop-next.count c.loop-next.self-inside.parts.tree f c.loop-next.self-inside.parts.locks c.loop-next.self-inside.parts.logs c.loop-next.self-inside.journal) (sym c.in_default.ensures.same) way in
     core-ended s (state_of c.abort_next.new.self c.tell.new.self) (AbortEvent c.args.txn) c.loop-next.self-inside.journal.asks
-    (state-ended i.parts.forest c.abort_next.new.self i.journal c.tell.new.self (AbortEvent c.args.txn) c.loop-next.self-inside.journal.asks done.base done.last
+    (state-ended i.parts.forest c.abort_next.new.self i.journal c.tell.new.self (AbortEvent c.args.txn) c.loop-next.self-inside.journal.asks done.limits done.base done.last
     (told-less i.journal c.loop-next.self-inside.journal c.tell.new.self (AbortEvent c.args.txn) c.loop-next.self-inside.journal.asks last_way.journal refl c.tell.ensures))
     (core-abort call_laws lock_laws c.self.invariant c.args.txn live last_way done c.in_default.ensures.none c.tell.new.self c.tell.ensures)
 
@@ -119,7 +119,7 @@ returns-clause-ended c =
     let last_way = subst (λ (f : Transactions). IsOnWay call_laws lock_laws c.self.invariant c.args.txn live c.loop-next.count now.parts.tree f now.parts.locks now.parts.logs now.journal) (sym c.in_default.ensures.same) way in
     let asks = finite.retain_keys s.asks (λ u. not (over posix_calls (history s) c.args.txn u)) in
     let are = asks-are call_laws lock_laws c.self.invariant c.args.txn live last_way done c.in_default.ensures.none in
-    state-ended i.parts.forest c.abort_next.new.self i.journal c.tell.new.self (AbortEvent c.args.txn) asks done.base done.last
+    state-ended i.parts.forest c.abort_next.new.self i.journal c.tell.new.self (AbortEvent c.args.txn) asks done.limits done.base done.last
     (told-less i.journal now.journal c.tell.new.self (AbortEvent c.args.txn) asks last_way.journal are c.tell.ensures)
     ∙ ap (λ (q : State). after_abort q c.args.txn) same
 

@@ -51,7 +51,7 @@ invariant_of-self-2 c =
     c.tell.ensures ∙ ap (λ (q : Journaled). with_event q (CommitEvent c.args.txn)) (c.forget.ensures ∙ ap (λ (q : Journaled). without q c.args.txn) c.note_sub.ensures) in
     subst (λ (p : Parts). IsCoreOf (state_of p.forest c.tell.new.self) p c.tell.new.self) (sym c.hand_up.ensures.others)
     (core-ended s (state_of c.commit.new.self c.tell.new.self) (CommitEvent c.args.txn) (finite.remove i.journal.asks c.args.txn)
-    (state-ended i.parts.forest c.commit.new.self i.journal c.tell.new.self (CommitEvent c.args.txn) (finite.remove i.journal.asks c.args.txn) c.in_ok-commit.ensures.committed.base c.in_ok-commit.ensures.committed.last
+    (state-ended i.parts.forest c.commit.new.self i.journal c.tell.new.self (CommitEvent c.args.txn) (finite.remove i.journal.asks c.args.txn) c.in_ok-commit.ensures.committed.limits c.in_ok-commit.ensures.committed.base c.in_ok-commit.ensures.committed.last
     (told-commit i.journal c.tell.new.self c.args.txn c.parent-parent.result told))
     (core-commit call_laws lock_laws c.self.invariant c.args.txn live none refl c.parent-parent.result c.parent-parent.ensures.parent
     c.commit.new.self c.in_ok-commit.ensures.committed c.hand_up.new.self.locks c.hand_up.ensures.locks c.hand_up.new.self.logs c.hand_up.ensures.lists c.hand_up.ensures.opened c.tell.new.self told))
@@ -64,7 +64,7 @@ returns c =
     let none : has_live_child s c.args.txn ≡ false = longer-none (live_children posix_calls i.parts.forest.base (history s) c.args.txn) childless in
     let told : c.tell.new.self ≡ with_event (without (noted_up i.journal c.parent-parent.result) c.args.txn) (CommitEvent c.args.txn) =
     c.tell.ensures ∙ ap (λ (q : Journaled). with_event q (CommitEvent c.args.txn)) (c.forget.ensures ∙ ap (λ (q : Journaled). without q c.args.txn) c.note_sub.ensures) in
-    let state = state-ended i.parts.forest c.commit.new.self i.journal c.tell.new.self (CommitEvent c.args.txn) (finite.remove i.journal.asks c.args.txn) c.in_ok-commit.ensures.committed.base c.in_ok-commit.ensures.committed.last
+    let state = state-ended i.parts.forest c.commit.new.self i.journal c.tell.new.self (CommitEvent c.args.txn) (finite.remove i.journal.asks c.args.txn) c.in_ok-commit.ensures.committed.limits c.in_ok-commit.ensures.committed.base c.in_ok-commit.ensures.committed.last
     (told-commit i.journal c.tell.new.self c.args.txn c.parent-parent.result told) in
     step-commit exact_rule c.args.self.now.state (state_of c.hand_up.new.self.forest c.tell.new.self) c.args.txn c.in_ok-check_live.ensures.live (ap (λ (q : State). has_live_child q c.args.txn) (sym (state-is c.self.view_is)) ∙ none)
     (ap (λ (p : Parts). state_of p.forest c.tell.new.self) c.hand_up.ensures.others ∙ state ∙ ap (λ (q : State). after_commit q c.args.txn) (state-is c.self.view_is))

@@ -20,7 +20,7 @@ returns-in_err-check_sub c =
     let s : State = state_of i.parts.forest i.journal in
     let core = c.self.invariant in
     let fault = c.in_err-check_sub.field-0.0 in
-    let due : refusal_of s (Sub c.args.txn) ≡ Some (fault_from fault) = sym (sub-same s i.parts.forest core.transactions core.kept.started c.args.txn) ∙ ap (option_map fault_from) c.in_err-check_sub.ensures in
+    let due : refusal_of s (Sub c.args.txn) ≡ Some (fault_from fault) = sym (sub-same i.journal i.parts.forest core.transactions core.kept.started c.args.txn) ∙ ap (option_map fault_from) c.in_err-check_sub.ensures in
     subst (λ (q : State). refusal_of q (Sub c.args.txn) ≡ refused_with c.from_residual.result) (state-is c.self.view_is)
     (with-fault (refusal_of s (Sub c.args.txn)) (fault_from fault) c.from_residual.result due c.from_residual.ensures.1)
 
@@ -30,4 +30,4 @@ returns c =
     let s : State = state_of i.parts.forest i.journal in
     let core = c.self.invariant in
     subst (λ (q : State). refusal_of q (Sub c.args.txn) ≡ None) (state-is c.self.view_is)
-    (sym (sub-same s i.parts.forest core.transactions core.kept.started c.args.txn) ∙ ap (option_map fault_from) c.in_ok-check_sub.ensures)
+    (sym (sub-same i.journal i.parts.forest core.transactions core.kept.started c.args.txn) ∙ ap (option_map fault_from) c.in_ok-check_sub.ensures)

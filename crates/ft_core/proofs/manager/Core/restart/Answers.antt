@@ -26,7 +26,7 @@ invariant_of-self c =
     let none = none-lives call_laws lock_laws i.parts i.journal c.self.invariant (subst (λ (q : State). refusal_of q Checkpoint ≡ None) (sym same) c.requires) in
     let useless : (x : Cell) → is_useless i.parts.tree x ≡ false = subst (λ (v : StoredState). HasNoUselessPlace v.cells) (sym c.self.view_is) (c.sweep.ensures.none_left (subst NoneIsLive same none)) in
     core-restarted call_laws lock_laws i.parts i.journal c.self.invariant none useless
-    c.restart.new.self c.restart.ensures i.parts.tree refl c.rule-rule.result c.rule-rule.ensures c.last_stamp-stamp.result c.last_stamp-stamp.ensures.stamp
+    c.restart.new.self c.restart.ensures i.parts.tree refl c.terms-terms.result.rule c.terms-terms.ensures.rule c.terms-terms.result.calls c.terms-terms.ensures.calls c.last_stamp-stamp.result c.last_stamp-stamp.ensures.stamp
     c.new-2.result c.new-2.ensures c.new-3.result c.new-3.ensures.lists c.new.result c.new.ensures
 
 pub returns : goal.returns
@@ -34,5 +34,5 @@ returns c =
     let i = c.self.inside in
     let same : state_of i.parts.forest i.journal ≡ c.args.self.now.state = state-is c.self.view_is ∙ c.sweep.ensures.same in
     state-restarted call_laws lock_laws i.parts i.journal c.self.invariant (none-lives call_laws lock_laws i.parts i.journal c.self.invariant (subst (λ (q : State). refusal_of q Checkpoint ≡ None) (sym same) c.requires))
-    c.restart.new.self c.restart.ensures i.parts.tree refl c.rule-rule.result c.rule-rule.ensures c.last_stamp-stamp.result c.last_stamp-stamp.ensures.stamp c.new.result c.new.ensures
+    c.restart.new.self c.restart.ensures i.parts.tree refl c.terms-terms.result.rule c.terms-terms.ensures.rule c.terms-terms.result.calls c.terms-terms.ensures.calls c.last_stamp-stamp.result c.last_stamp-stamp.ensures.stamp c.new.result c.new.ensures
     ∙ (λ x. after_checkpoint (same x))

@@ -28,5 +28,5 @@ returns-in_err-txn-clause-memory c =
     let s = state_of i.parts.forest i.journal in
     let core = c.self.invariant in
     let fine = ap (λ q. refusal_of q (begin_request up)) (state-is c.self.view_is) ∙ c.requires in
-    let memory = only-memory (add_refusal i.parts.forest up) (refusal_of s (begin_request up)) c.in_err-txn.field-0.0 (add-same s i.parts.forest core.transactions core.kept.started up) fine c.in_err-txn.ensures.refused in
+    let memory = only-memory (add_refusal i.parts.forest up) (refusal_of s (begin_request up)) c.in_err-txn.field-0.0 (add-same i.journal i.parts.forest core.transactions core.kept.started up) fine c.in_err-txn.ensures.refused in
     err-is c.from_residual-in_err-txn.result (fault_from c.in_err-txn.field-0.0) MemoryFault c.from_residual-in_err-txn.ensures.1 memory

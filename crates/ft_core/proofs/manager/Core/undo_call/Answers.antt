@@ -74,7 +74,7 @@ invariant_of-self c =
     let told : c.tell.new.self ≡ with_event i.journal (UndoEvent d.call.stamp) = c.tell.ensures ∙ ap (λ k. with_event i.journal (UndoEvent k)) (sym c.in_ok-stamp.ensures.found.2) in
     subst (λ (p : Parts). IsCoreOf (state_of p.forest c.tell.new.self) p c.tell.new.self) (sym c.take_newest.ensures.others)
     (core-ended s (state_of i.parts.forest c.tell.new.self) (UndoEvent d.call.stamp) s.asks
-    (state-ended i.parts.forest i.parts.forest i.journal c.tell.new.self (UndoEvent d.call.stamp) s.asks refl refl (told-event i.journal c.tell.new.self (UndoEvent d.call.stamp) told))
+    (state-ended i.parts.forest i.parts.forest i.journal c.tell.new.self (UndoEvent d.call.stamp) s.asks refl refl refl (told-event i.journal c.tell.new.self (UndoEvent d.call.stamp) told))
     (undoes.after c.take_newest.new.self.tree (c.take_newest.ensures.cells undoes.newest undoes.rest undoes.list) c.take_newest.new.self.logs
     (λ x. c.take_newest.ensures.lists x ∙ ap (λ (ys : List Logged). put (list_in i.parts.logs) c.args.txn (rest ys) x) undoes.list) c.take_newest.ensures.opened c.tell.new.self told))
 
@@ -89,7 +89,7 @@ returns-clause-step c =
     let k = c.in_ok-stamp.stamp in
     step-undo exact_rule c.args.self.now.state (state_of c.take_newest.new.self.forest c.tell.new.self) c.args.txn k d c.in_ok-check_live.ensures.live (ap (λ (q : State). has_live_child q c.args.txn) (sym (state-is c.self.view_is)) ∙ no_child)
     c.in_ok-stamp.ensures.found.1 c.in_ok-stamp.ensures.found.2
-    (ap (λ (p : Parts). state_of p.forest c.tell.new.self) c.take_newest.ensures.others ∙ state-ended i.parts.forest i.parts.forest i.journal c.tell.new.self (UndoEvent k) s.asks refl refl (told-event i.journal c.tell.new.self (UndoEvent k) c.tell.ensures) ∙ ap (λ (q : State). after_undo q k) (state-is c.self.view_is))
+    (ap (λ (p : Parts). state_of p.forest c.tell.new.self) c.take_newest.ensures.others ∙ state-ended i.parts.forest i.parts.forest i.journal c.tell.new.self (UndoEvent k) s.asks refl refl refl (told-event i.journal c.tell.new.self (UndoEvent k) c.tell.ensures) ∙ ap (λ (q : State). after_undo q k) (state-is c.self.view_is))
 
 -- An undo of the call just made gives back the tree before it.
 

@@ -1,36 +1,34 @@
-use Rattle.std.proofs.Common.{◌≡◌, ◌<◌, ◌∙◌, length, Some, None, inl, inr, refl, sym, ap, subst}
-use Rattle.std.proofs.lemmas.Option.{slice_get_read}
-use Rattle.ft_forest.specs.Transactions.{state_in}
+use Rattle.std.proofs.Common.{◌≡◌, ◌<◌, ◌≤◌, ◌∙◌, length, Some, None, sym, ap, subst, arith}
+use Rattle.std.proofs.lemmas.List.{length-map}
+use Rattle.std.proofs.lemmas.Option.{slice_get_past}
+use Rattle.ft_forest.specs.declared.state.State.TheVariants.{Live}
+use Rattle.ft_forest.specs.Transactions.{Transactions, state_in}
 use Rattle.ft_forest.specs.Refusals.{refusal_of}
-use Rattle.ft_forest.proofs.Seeing.{state-here, state-absent}
+use Rattle.ft_forest.specs.Records.{links_of, number_at, state_from}
+use Rattle.ft_forest.proofs.Seeing.{state-here, state-none, live-of}
+use Rattle.ft_forest.proofs.Changing.{live-begun}
+use Rattle.ft_forest.proofs.Refusing.{ended_refused}
 use Rattle.ft_forest.proofs.forest.Forest.live_place.Goals as goal
 
-pub returns-in_default-clause-refused : goal.returns-in_default-clause-refused
-returns-in_default-clause-refused c =
-    let count : c.len.result ≡ length c.self.inside.records.list.items = c.len.ensures ∙ c.self.inside.records.list.ok.0 in
-    let none : state_in c.args.self.now c.args.txn ≡ None =
-    ap (λ m. state_in m c.args.txn) (sym c.self.view_is) ∙ state-absent c.self.inside.base c.self.inside.records c.args.txn (λ i lt. c.in_default.ensures.none i (subst (λ n. i < n) (sym count) lt)) in
-    λ later. ap (λ o. refusal_of o later) none
+pub returns-then-is_live-clause-live : goal.returns-then-is_live-clause-live
+returns-then-is_live-clause-live c =
+    let r = c.self.inside.records in
+    let live = live-of ((links_of r).state c.begun_place-place.result) (sym (c.self.invariant.linked.kept c.begun_place-place.result) ∙ sym c.is_live.ensures ∙ c.if-is_live.true) in
+    ap (λ m. state_in m c.args.txn) (sym c.self.view_is) ∙ state-here c.self.inside.limits c.self.inside.base r c.begun_place-place.result c.args.txn c.begun_place-place.ensures ∙ live
 
-pub returns-in-Live-clause-live : goal.returns-in-Live-clause-live
-returns-in-Live-clause-live c =
-    let count : c.len.result ≡ length c.self.inside.records.list.items = c.len.ensures ∙ c.self.inside.records.list.ok.0 in
-    let lt = subst (λ n. c.in-Some.place < n) count c.in-Some.ensures.within in
-    let there = slice_get_read _ _ _ _ refl lt c.index.ensures in
-    ap (λ m. state_in m c.args.txn) (sym c.self.view_is) ∙ state-here c.self.inside.base c.self.inside.records c.in-Some.place c.index.result.now there c.args.txn c.in-Some.ensures.there ∙ ap Some c.in-Live.is
+pub returns-then-place-len-clause-refused : goal.returns-then-place-len-clause-refused
+returns-then-place-len-clause-refused c =
+    let r = c.self.inside.records in
+    let place = c.begun_place-place.result in
+    let there = c.self.invariant.linked.begun place (subst (λ n. place < n) c.len.ensures c.if-place-len.true) in
+    let dead = sym (c.self.invariant.linked.kept place) ∙ sym c.is_live.ensures ∙ c.if-is_live.false in
+    let is = ap (λ m. state_in m c.args.txn) (sym c.self.view_is) ∙ state-here c.self.inside.limits c.self.inside.base r place c.args.txn c.begun_place-place.ensures in
+    λ later. ap (λ o. refusal_of o later) is ∙ ended_refused ((links_of r).state place) there dead later
 
-pub returns-in-Committed : goal.returns-in-Committed
-returns-in-Committed c =
-    let count : c.len.result ≡ length c.self.inside.records.list.items = c.len.ensures ∙ c.self.inside.records.list.ok.0 in
-    let lt = subst (λ n. c.in-Some.place < n) count c.in-Some.ensures.within in
-    let there = slice_get_read _ _ _ _ refl lt c.index.ensures in
-    let state = ap (λ m. state_in m c.args.txn) (sym c.self.view_is) ∙ state-here c.self.inside.base c.self.inside.records c.in-Some.place c.index.result.now there c.args.txn c.in-Some.ensures.there in
-    record {
-      place = tt;
-      within = tt;
-      live = tt;
-      refused = elim c.in-Committed.is [
-        | inl committed ↦ λ later. ap (λ o. refusal_of o later) (state ∙ ap Some committed)
-        | inr aborted ↦ λ later. ap (λ o. refusal_of o later) (state ∙ ap Some aborted)
-      ];
-    }
+pub returns-clause-refused : goal.returns-clause-refused
+returns-clause-refused c =
+    let r = c.self.inside.records in
+    let place = c.begun_place-place.result in
+    let none = c.self.invariant.linked.unbegun place (subst (λ n. n ≤ place) c.len.ensures c.if-place-len.false) in
+    let is = ap (λ m. state_in m c.args.txn) (sym c.self.view_is) ∙ state-here c.self.inside.limits c.self.inside.base r place c.args.txn c.begun_place-place.ensures in
+    λ later. ap (λ o. refusal_of o later) (is ∙ none)

@@ -19,18 +19,19 @@ not_live state fault due live = absurd (none_fault (sym (ap (λ o. refusal_of o 
 pub returns-in_default-clause-none : goal.returns-in_default-clause-none
 returns-in_default-clause-none c = λ x over live.
     not_live (state_in c.args.self.now c.args.txn) c.in_default.field-0 c.in_default.ensures.refused
-    (subst (λ m. over_in m c.args.txn x ≡ true → state_in m x ≡ Some Live → state_in m c.args.txn ≡ Some Live) c.self.view_is (live-over c.self.inside.base c.self.inside.records c.self.invariant c.args.txn x) over live)
+    (subst (λ m. over_in m c.args.txn x ≡ true → state_in m x ≡ Some Live → state_in m c.args.txn ≡ Some Live) c.self.view_is (live-over c.self.inside.limits c.self.inside.base c.self.inside.records c.self.invariant c.args.txn x) over live)
 
 pub loop-child-init : goal.loop-child-init
 loop-child-init c =
+    let limits = c.self.inside.limits in
     let base = c.self.inside.base in
     let r = c.self.inside.records in
     let is = c.in-Ok.ensures.place ∙ ap (λ m. number_at m.base c.in-Ok.place) (sym c.self.view_is) in
-    let live = live-links base r c.self.invariant c.in-Ok.place c.args.txn is (ap (λ m. state_in m c.args.txn) c.self.view_is ∙ c.in-Ok.ensures.live) in
+    let live = live-links limits base r c.self.invariant c.in-Ok.place c.args.txn is (ap (λ m. state_in m c.args.txn) c.self.view_is ∙ c.in-Ok.ensures.live) in
     record {
-      within = live-begun base r c.self.invariant c.in-Ok.place live;
+      within = live-begun limits base r c.self.invariant c.in-Ok.place live;
       live = live;
-      below = subst (λ m. over_in m c.args.txn (number_at base c.in-Ok.place) ≡ true) c.self.view_is (subst (λ x. over_in (transactions_of base r) c.args.txn x ≡ true) is ((value-laws base r c.self.invariant).itself c.args.txn));
+      below = subst (λ m. over_in m c.args.txn (number_at base c.in-Ok.place) ≡ true) c.self.view_is (subst (λ x. over_in (transactions_of limits base r) c.args.txn x ≡ true) is ((value-laws limits base r c.self.invariant).itself c.args.txn));
     }
 
 pub loop-child-smaller : goal.loop-child-smaller
@@ -38,29 +39,31 @@ loop-child-smaller c =
     let r = c.self.inside.records in
     let youngest = subst (IsYoungest (links_of r) (Some c.loop-child.place)) (sym c.youngest_of.ensures ∙ c.in-Some.is) (c.self.invariant.linked.youngest (Some c.loop-child.place)) in
     let above = c.self.invariant.linked.lower c.in-Some.child c.loop-child.place youngest.0.parent in
-    let within = live-begun c.self.inside.base r c.self.invariant c.in-Some.child youngest.0.live in
+    let within = live-begun c.self.inside.limits c.self.inside.base r c.self.invariant c.in-Some.child youngest.0.live in
     omega arith
 
 pub loop-child-preserved : goal.loop-child-preserved
 loop-child-preserved c =
+    let limits = c.self.inside.limits in
     let base = c.self.inside.base in
     let r = c.self.inside.records in
     let youngest = subst (IsYoungest (links_of r) (Some c.loop-child.place)) (sym c.youngest_of.ensures ∙ c.in-Some.is) (c.self.invariant.linked.youngest (Some c.loop-child.place)) in
     record {
-      within = live-begun base r c.self.invariant c.in-Some.child youngest.0.live;
+      within = live-begun limits base r c.self.invariant c.in-Some.child youngest.0.live;
       live = youngest.0.live;
       below = subst (λ m. over_in m c.args.txn (number_at base c.in-Some.child) ≡ true) c.self.view_is
-          (over-child base r c.self.invariant c.args.txn c.loop-child.place c.in-Some.child (subst (λ m. over_in m c.args.txn (number_at base c.loop-child.place) ≡ true) (sym c.self.view_is) c.loop-child.invariant.below) youngest.0.parent);
+          (over-child limits base r c.self.invariant c.args.txn c.loop-child.place c.in-Some.child (subst (λ m. over_in m c.args.txn (number_at base c.loop-child.place) ≡ true) (sym c.self.view_is) c.loop-child.invariant.below) youngest.0.parent);
     }
 
 pub returns-clause-next : goal.returns-clause-next
 returns-clause-next c =
+    let limits = c.self.inside.limits in
     let base = c.self.inside.base in
     let r = c.self.inside.records in
     let youngest = subst (IsYoungest (links_of r) (Some c.loop-child.place)) (sym c.youngest_of.ensures ∙ c.in_default-youngest_of.is) (c.self.invariant.linked.youngest (Some c.loop-child.place)) in
     subst (λ m. IsNextToEnd m c.args.txn (number_at base c.loop-child.place)) c.self.view_is
     (record {
       below = subst (λ m. over_in m c.args.txn (number_at base c.loop-child.place) ≡ true) (sym c.self.view_is) c.loop-child.invariant.below;
-      live = state-at base r c.loop-child.place ∙ c.loop-child.invariant.live;
-      no_child = λ y is. let j = child-sibling base r c.self.invariant c.loop-child.place y is in youngest j.0 j.1;
+      live = state-at limits base r c.loop-child.place ∙ c.loop-child.invariant.live;
+      no_child = λ y is. let j = child-sibling limits base r c.self.invariant c.loop-child.place y is in youngest j.0 j.1;
     })

@@ -7,35 +7,39 @@ use Rattle.ft_forest.proofs.forest.Forest.youngest_child.Goals as goal
 
 pub returns-in_err-place-in-Some : goal.returns-in_err-place-in-Some
 returns-in_err-place-in-Some c =
+    let limits = c.self.inside.limits in
     let base = c.self.inside.base in
     let r = c.self.inside.records in
-    let count : c.len.result ≡ length r.list.items = c.len.ensures ∙ r.list.ok.0 in
-    let none = no-child base r c.self.invariant c.in-Some.txn (absent-children base r c.self.invariant c.in-Some.txn (λ i lt. c.in_err-place-in-Some.ensures.none i (subst (λ n. i < n) (sym count) lt))) in
+    let count : c.len.result ≡ length r.list.items = c.len.ensures in
+    let none = no-child limits base r c.self.invariant c.in-Some.txn (absent-children limits base r c.self.invariant c.in-Some.txn (λ i lt. c.in_err-place-in-Some.ensures.none i (subst (λ n. i < n) (sym count) lt))) in
     subst (λ o. IsYoungestChild c.args.self.now c.args.parent o) (sym c.from_residual.ensures)
-    (subst (λ m. IsYoungestChild m c.args.parent None) c.self.view_is (subst (λ p. IsYoungestChild (transactions_of base r) p None) (sym c.in-Some.is) none))
+    (subst (λ m. IsYoungestChild m c.args.parent None) c.self.view_is (subst (λ p. IsYoungestChild (transactions_of limits base r) p None) (sym c.in-Some.is) none))
 
 pub numbered-requires : goal.numbered-requires
 numbered-requires c = λ y is.
+    let limits = c.self.inside.limits in
     let base = c.self.inside.base in
     let r = c.self.inside.records in
-    numbers-fit base r c.self.invariant y (subst (IsYoungest (links_of r) (Some c.in_ok-place-in-Some.place)) (sym c.youngest_of.ensures ∙ is) (c.self.invariant.linked.youngest (Some c.in_ok-place-in-Some.place))).0.live
+    numbers-fit limits base r c.self.invariant y (subst (IsYoungest (links_of r) (Some c.in_ok-place-in-Some.place)) (sym c.youngest_of.ensures ∙ is) (c.self.invariant.linked.youngest (Some c.in_ok-place-in-Some.place))).0.live
 
 pub numbered-requires-in-None : goal.numbered-requires-in-None
 numbered-requires-in-None c = λ y is.
-    numbers-fit c.self.inside.base c.self.inside.records c.self.invariant y (subst (IsYoungest (links_of c.self.inside.records) None) is (c.self.invariant.linked.youngest None)).0.live
+    numbers-fit c.self.inside.limits c.self.inside.base c.self.inside.records c.self.invariant y (subst (IsYoungest (links_of c.self.inside.records) None) is (c.self.invariant.linked.youngest None)).0.live
 
 pub returns-in_ok-place-in-Some : goal.returns-in_ok-place-in-Some
 returns-in_ok-place-in-Some c =
+    let limits = c.self.inside.limits in
     let base = c.self.inside.base in
     let r = c.self.inside.records in
     subst (λ m. IsYoungestChild m c.args.parent c.numbered.result) c.self.view_is
-    (subst (λ p. IsYoungestChild (transactions_of base r) p c.numbered.result) (sym (c.in-Some.is ∙ ap Some c.in_ok-place-in-Some.ensures.there))
-    (subst (IsYoungestChild (transactions_of base r) (Some (number_at base c.in_ok-place-in-Some.place))) (sym (c.numbered.ensures ∙ ap (option_map (number_at base)) c.youngest_of.ensures)) (youngest-seen base r c.self.invariant (Some c.in_ok-place-in-Some.place))))
+    (subst (λ p. IsYoungestChild (transactions_of limits base r) p c.numbered.result) (sym (c.in-Some.is ∙ ap Some c.in_ok-place-in-Some.ensures.there))
+    (subst (IsYoungestChild (transactions_of limits base r) (Some (number_at base c.in_ok-place-in-Some.place))) (sym (c.numbered.ensures ∙ ap (option_map (number_at base)) c.youngest_of.ensures)) (youngest-seen limits base r c.self.invariant (Some c.in_ok-place-in-Some.place))))
 
 pub returns-in-None : goal.returns-in-None
 returns-in-None c =
+    let limits = c.self.inside.limits in
     let base = c.self.inside.base in
     let r = c.self.inside.records in
     subst (λ m. IsYoungestChild m c.args.parent c.numbered-in-None.result) c.self.view_is
-    (subst (λ p. IsYoungestChild (transactions_of base r) p c.numbered-in-None.result) (sym c.in-None.is)
-    (subst (IsYoungestChild (transactions_of base r) None) (sym c.numbered-in-None.ensures) (youngest-seen base r c.self.invariant None)))
+    (subst (λ p. IsYoungestChild (transactions_of limits base r) p c.numbered-in-None.result) (sym c.in-None.is)
+    (subst (IsYoungestChild (transactions_of limits base r) None) (sym c.numbered-in-None.ensures) (youngest-seen limits base r c.self.invariant None)))

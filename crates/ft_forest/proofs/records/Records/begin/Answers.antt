@@ -1,5 +1,6 @@
 use Rattle.std.proofs.Common.{◌≡◌, ◌∙◌, ◌+◌, ◌^◌, ◌<◌, ◌∷◌, ◌++◌, [], ℕ, Bool, true, Option, Some, None, sym, ap, subst, arith}
 use Rattle.std.specs.FinMap as finite
+use Rattle.ft_base.specs.Roomy.{RoomyList}
 use Rattle.ft_history.specs.Logs.{put}
 use Rattle.ft_history.proofs.Words.{put_same, put_other, by_number}
 use Rattle.ft_forest.specs.Records.{Links, links_of, links_by, put_at, put_youngest}
@@ -24,7 +25,7 @@ put_zero f n x lt = by_number x n (λ e. let zero = put_same f n 0 x e in omega 
 behind : (c : After-push_reserved) → links_by c.args.self.now.youngest c.push_reserved.new.self.items c.insert.new.self ≡ pushed_links (links_of c.args.self.now) c.args.parent c.args.depth c.youngest_of-older.result
 behind c =
     let r = c.args.self.now in
-    let place_is : c.len-place.result ≡ (links_of r).count = c.len-place.ensures ∙ r.list.ok.0 in
+    let place_is : c.len-place.result ≡ (links_of r).count = c.len-place.ensures in
     let depth = c.args.depth in
     let older = c.youngest_of-older.result in
     let kept : c.begun.result ≡ live_record depth older = λ i. record {
@@ -34,9 +35,9 @@ behind c =
       older = c.begun.ensures.older i;
       younger = c.begun.ensures.younger i;
     } in
-    let items = c.push_reserved.ensures.items ∙ ap (λ xs. xs ++ c.begun-2.result ∷ []) c.in_ok-reserve.ensures.items in
+    let items = ap (λ (l : RoomyList). l.items) c.push_reserved.ensures ∙ ap (λ xs. xs ++ c.begun-2.result.0 ∷ []) c.reserve.ensures.same in
     let live = c.in_ok-insert.ensures.ok ∙ (λ i. finite.insert r.live (place_is i) (kept i)) in
-    (λ i. links_by r.youngest (items i) (live i)) ∙ write-push r.youngest r.list.items r.live c.begun-2.result c.args.parent depth older c.begun-2.ensures.parent c.begun-2.ensures.live
+    (λ i. links_by r.youngest (items i) (live i)) ∙ write-push r.youngest r.list.items r.live c.begun-2.result.0 c.args.parent depth older c.begun-2.ensures.parent c.begun-2.ensures.live
 
 pub add_child-requires-clause-kept : goal.add_child-requires-clause-kept
 add_child-requires-clause-kept c = λ p is. let s = links_of c.args.self.now in ap (λ (l : Links). l.kept p) (behind (goal.at.add_child-requires-clause-kept c).After-push_reserved) ∙ put_true s.kept s.count p (c.requires.kept p is)
@@ -58,7 +59,7 @@ returns-in-Some-clause-ok c =
     let depth = c.args.depth in
     let older = c.youngest_of-older.result in
     let place = c.len-place.result in
-    let place_is : place ≡ s.count = c.len-place.ensures ∙ c.args.self.now.list.ok.0 in
+    let place_is : place ≡ s.count = c.len-place.ensures in
     let knows : links_of c.add_child.new.self ≡ half_begun s parent depth older place =
     c.add_child.ensures ∙ ap (λ (l : Links). record l { children = put_at l.children parent (λ n. n + 1); youngest = put_youngest l.youngest parent (Some place) }) (behind (goal.at.returns-in-Some-clause-ok c).After-push_reserved) in
     c.set_younger.ensures
@@ -73,7 +74,7 @@ returns-in_default-clause-ok c =
     let depth = c.args.depth in
     let older = c.youngest_of-older.result in
     let place = c.len-place.result in
-    let place_is : place ≡ s.count = c.len-place.ensures ∙ c.args.self.now.list.ok.0 in
+    let place_is : place ≡ s.count = c.len-place.ensures in
     let knows : links_of c.add_child.new.self ≡ half_begun s parent depth older place =
     c.add_child.ensures ∙ ap (λ (l : Links). record l { children = put_at l.children parent (λ n. n + 1); youngest = put_youngest l.youngest parent (Some place) }) (behind (goal.at.returns-in_default-clause-ok c).After-push_reserved) in
     knows

@@ -5,7 +5,7 @@ use Rattle.ft_shared.specs.Publishing.{Backed}
 use Rattle.ft_shared.proofs.shared.Shared.commit.Goals as goal
 
 pub returns-then-is_ok : goal.returns-then-is_ok
-returns-then-is_ok g c = (c.deref_mut.result.now.core, subst (λ (b : Backed). IsReached b.core) (sym c.deref_mut.ensures.value) c.held-behind.ensures.reached, subst (λ (b : Backed). GoesOn g.J.Sharing.origin.from b.core.state) (sym c.deref_mut.ensures.value) c.held-behind.ensures.goes_on, (c.commit-answer.new.self.core.state, c.commit-answer.ensures.step))
+returns-then-is_ok g c = record { some_core = (c.deref_mut.result.now.core, subst (λ (b : Backed). IsReached b.core) (sym c.deref_mut.ensures.value) c.held-behind.ensures.reached, subst (λ (b : Backed). GoesOn g.J.Sharing.origin.from b.core.state) (sym c.deref_mut.ensures.value) c.held-behind.ensures.goes_on, (c.commit-answer.new.self.core.state, c.commit-answer.ensures.step)) }
 
 pub returns-else-is_ok : goal.returns-else-is_ok
-returns-else-is_ok g c = (c.deref_mut.result.now.core, subst (λ (b : Backed). IsReached b.core) (sym c.deref_mut.ensures.value) c.held-behind.ensures.reached, subst (λ (b : Backed). GoesOn g.J.Sharing.origin.from b.core.state) (sym c.deref_mut.ensures.value) c.held-behind.ensures.goes_on, (c.commit-answer.new.self.core.state, c.commit-answer.ensures.step))
+returns-else-is_ok g c = record { some_core = (c.deref_mut.result.now.core, subst (λ (b : Backed). IsReached b.core) (sym c.deref_mut.ensures.value) c.held-behind.ensures.reached, subst (λ (b : Backed). GoesOn g.J.Sharing.origin.from b.core.state) (sym c.deref_mut.ensures.value) c.held-behind.ensures.goes_on, (c.commit-answer.new.self.core.state, c.commit-answer.ensures.step)) }

@@ -7,4 +7,4 @@ use Rattle.ft_shared.proofs.shared.Shared.turn.Goals as goal
 
 pub returns-in-Ok : goal.returns-in-Ok
 returns-in-Ok g c =
-    subst (λ (call : Call). InCoreFrom g.J.Sharing.origin.from (λ old new. IsStep exact_rule old (Ask c.args.txn call) (answer_with outcome_answer c.ask.result) new)) c.in-Ok.ensures c.ask.ensures
+    record { some_core = subst (λ (call : Call). InCoreFrom g.J.Sharing.origin.from (λ old new. IsStep exact_rule old (Ask c.args.txn call) (answer_with outcome_answer c.ask.result) new)) c.in-Ok.ensures c.ask.ensures.some_core }

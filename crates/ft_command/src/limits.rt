@@ -1,0 +1,156 @@
+// The flags that set limits.
+ghost use Rattle.std.specs.Prelude.{◌≡◌, IfErr, IfOk, false};
+ghost use Rattle.std.specs.Option.{unwrap_or};
+ghost use Rattle.clap.specs.Words.{app_of, found_of, rows_of, rule_of};
+ghost use Rattle.ft_command.specs.CommandLine.{HasNoGlobals};
+ghost use Rattle.ft_command.specs.Limits.{IsAsked, IsBadLimit, TellsLimits, flag_limit, flag_name, limit_rule, limited};
+
+use clap::{Arg, ArgMatches, Command};
+use ft_core::Limits;
+use ft_needs::{limit_of, size_of};
+use std::alloc::{AllocError, Global};
+
+/// The limits that are asked for, each where its flag stands.
+#[derive(Clone, Copy, Debug, PartialEq, Eq)]
+pub struct AskedLimits {
+    pub file_size: Option<u64>,
+    pub calls: Option<u64>,
+    pub transactions: Option<u64>,
+    pub depth: Option<u64>,
+}
+
+impl AskedLimits {
+    /// The limits that are asked for, and for each that is not, that of these.
+    pub fn over(&self, limits: Limits) -> Limits
+        ensures { result ≡ record {
+          file_size = unwrap_or self.now.file_size limits.file_size;
+          links = limits.links;
+          depth = unwrap_or self.now.depth limits.depth;
+          transactions = unwrap_or self.now.transactions limits.transactions;
+          calls = unwrap_or self.now.calls limits.calls;
+        } }
+    {
+        Limits {
+            file_size: self.file_size.unwrap_or(limits.file_size),
+            links: limits.links,
+            depth: self.depth.unwrap_or(limits.depth),
+            transactions: self.transactions.unwrap_or(limits.transactions),
+            calls: self.calls.unwrap_or(limits.calls),
+        }
+    }
+}
+
+/// A flag that sets a limit.
+#[derive(Clone, Copy, Debug, PartialEq, Eq)]
+pub(crate) enum Flag {
+    LargestFile,
+    MostCalls,
+    MostTransactions,
+    Deepest,
+}
+
+impl Flag {
+    /// Its name, without the dashes before it.
+    pub(crate) fn name<'a>(self) -> &'a str
+        ensures { result.now ≡ flag_name self }
+    {
+        match self {
+            Flag::LargestFile => "largest-file",
+            Flag::MostCalls => "most-calls",
+            Flag::MostTransactions => "most-transactions",
+            Flag::Deepest => "deepest",
+        }
+    }
+
+    /// The limit that a value of it tells.
+    pub(crate) fn limit_of(self, value: &str) -> Option<u64>
+        ensures { result ≡ flag_limit self value.now }
+    {
+        let value = value.as_bytes();
+        let most = Limits::greatest();
+        match self {
+            Flag::LargestFile => size_of(value, most.file_size),
+            Flag::MostCalls => limit_of(value, most.calls),
+            Flag::MostTransactions => limit_of(value, most.transactions),
+            Flag::Deepest => limit_of(value, most.depth),
+        }
+    }
+
+    /// What a value of it may be.
+    pub(crate) fn values(self) -> &'static str {
+        match self {
+            Flag::LargestFile => "a number of bytes up to 2^47, with K, M or G behind it",
+            Flag::MostCalls | Flag::MostTransactions => "a number up to 2^62",
+            Flag::Deepest => "a number up to 4096",
+        }
+    }
+}
+
+/// The limits that flags ask for, or one of them whose value is no limit.
+pub(crate) fn asked_limits(found: &ArgMatches) -> Result<AskedLimits, Flag>
+    ensures ok { IfOk result (TellsLimits (rows_of (found_of found.now))) }
+    ensures err { IfErr result (λ flag. IsBadLimit flag (rows_of (found_of found.now))) }
+{
+    Ok(AskedLimits {
+        file_size: asked_limit(found, Flag::LargestFile)?,
+        calls: asked_limit(found, Flag::MostCalls)?,
+        transactions: asked_limit(found, Flag::MostTransactions)?,
+        depth: asked_limit(found, Flag::Deepest)?,
+    })
+}
+
+// The limit that a flag asks for, where it stands; or the flag, where its value is no limit.
+fn asked_limit(found: &ArgMatches, flag: Flag) -> Result<Option<u64>, Flag>
+    ensures ok { IfOk result (IsAsked flag (rows_of (found_of found.now))) }
+    ensures err { IfErr result (λ bad. (bad ≡ flag) × IsBadLimit flag (rows_of (found_of found.now))) }
+{
+    match found.get_str(flag.name()) {
+        None => Ok(None),
+        Some(value) => match flag.limit_of(value) {
+            None => Err(flag),
+            Some(limit) => Ok(Some(limit)),
+        },
+    }
+}
+
+/// Adds the flags to a command.
+pub(crate) fn with_limits<'a>(
+    alloc: Global,
+    command: Command<'a>,
+) -> Result<Command<'a>, AllocError>
+    ensures app { IfOk result (λ limited_command. app_of limited_command ≡ limited (app_of command.entry)) }
+    ensures local { HasNoGlobals command.entry → IfOk result HasNoGlobals }
+{
+    command
+        .arg(limit_arg(
+            alloc,
+            Flag::LargestFile,
+            "How many bytes a file may have, as 3G, or none",
+        ))?
+        .arg(limit_arg(
+            alloc,
+            Flag::MostCalls,
+            "How many calls are granted, or none",
+        ))?
+        .arg(limit_arg(
+            alloc,
+            Flag::MostTransactions,
+            "How many transactions begin, or none",
+        ))?
+        .arg(limit_arg(
+            alloc,
+            Flag::Deepest,
+            "How deep a transaction may stand, or none",
+        ))
+}
+
+// The argument of a flag.
+fn limit_arg<'a>(alloc: Global, flag: Flag, help: &'a str) -> Arg<'a>
+    ensures rule { rule_of result ≡ limit_rule flag }
+    ensures local { result.global ≡ false }
+{
+    Arg::new(alloc, flag.name())
+        .long(flag.name())
+        .value_name("N")
+        .help(help)
+}

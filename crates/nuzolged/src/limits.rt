@@ -1,0 +1,34 @@
+// What a tree allows, as C gives it.
+ghost use Rattle.std.specs.Prelude.{◌≡◌};
+ghost use Rattle.nuzolged.specs.Opened.{limits_given};
+
+use ft_core::Limits as CoreLimits;
+
+/// What a tree allows: `nuz_limits` of the header.
+#[repr(C)]
+#[derive(Clone, Copy, Debug, PartialEq, Eq)]
+pub struct Limits {
+    /// How many bytes a file may have.
+    pub file_size: u64,
+    /// How many names a file may have.
+    pub links: u64,
+    /// How deep a transaction may stand; one of the tree has depth 1.
+    pub depth: u64,
+    /// How many transactions may begin before a checkpoint.
+    pub transactions: u64,
+    /// How many calls may be granted before a checkpoint.
+    pub calls: u64,
+}
+
+/// The same limits, as a core takes them.
+pub(crate) fn limits_given(limits: Limits) -> CoreLimits
+    ensures { result ≡ limits_given limits }
+{
+    CoreLimits {
+        file_size: limits.file_size,
+        links: limits.links,
+        depth: limits.depth,
+        transactions: limits.transactions,
+        calls: limits.calls,
+    }
+}

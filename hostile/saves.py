@@ -1,0 +1,59 @@
+"""Saves that are refused memory: what was begun is taken away, also where there is none left."""
+import os
+import sys
+import tempfile
+
+# Directories in one another, an empty one, a file of two names, and one of more than one piece.
+ROWS = [
+    b"dir 1",
+    b"dir 2",
+    b"dir 3",
+    b"dir 4",
+    b"edge 1 a 2",
+    b"edge 1 empty 4",
+    b"edge 1 file 5",
+    b"edge 2 b 3",
+    b"edge 2 large 6",
+    b"edge 3 again 5",
+    b"file 5 7 a%20name",
+    b"file 6 100000 " + b"x" * 100_000,
+]
+REPORT = b"tree %d\n" % len(ROWS) + b"".join(row + b"\n" for row in ROWS)
+
+
+def tests():
+    return [
+        ("save is refused memory", refused_memory),
+        ("save is refused memory from some time on", refused_memory_for_good),
+    ]
+
+
+def refused_memory(bench):
+    return fault_of_refusals(bench, {})
+
+
+def refused_memory_for_good(bench):
+    return fault_of_refusals(bench, {"allocation_on": 1})
+
+
+def fault_of_refusals(bench, settings):
+    """Each allocation: the directory is whole, or nothing is left."""
+    for number in bench.part(range(1, sys.maxsize)):
+        with tempfile.TemporaryDirectory() as work:
+            out = os.path.join(work, "out")
+            ran, counts = bench.unkind.run(["save", out], REPORT, allocation=number, **settings)
+            fault = fault_of_run(ran, work)
+        if fault is not None:
+            return f"allocation {number}: {fault}"
+        if counts.refused == 0:
+            break
+    return None
+
+
+def fault_of_run(ran, work):
+    left = os.listdir(work)
+    if ran.status == 0:
+        return None if left == ["out"] else f"status 0, and there is {left}"
+    if ran.status != 1 or not ran.errors.startswith(b"fault: "):
+        return f"status {ran.status}, {ran.errors!r}"
+    return f"{left} is left" if left else None
