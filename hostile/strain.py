@@ -8,6 +8,7 @@ import scripts
 MOST_TRANSACTIONS = 100_000
 MOST_CALLS = 1_000_000
 LONGEST_LINE = 8_388_608
+GREATEST_DEPTH = 4_096
 
 # How many times as many instructions a script of four times the size may take. One that grows with
 # the square takes sixteen times as many.
@@ -23,6 +24,7 @@ def tests():
         ("longest request", longest_request),
         ("transactions are full until a checkpoint", transactions_are_full_until_a_checkpoint),
         ("full of live transactions", full_of_live_transactions),
+        ("transactions as deep as may be", transactions_as_deep_as_may_be),
     ]
 
 
@@ -40,6 +42,20 @@ def tests_of_growth():
         ("deep paths are linear", deep_paths_are_linear),
         ("crowds are linear", crowds_are_linear),
     ]
+
+
+def transactions_as_deep_as_may_be(bench):
+    """So many transactions inside one another are told, and end from the innermost on or at once."""
+    numbers = range(1, GREATEST_DEPTH + 1)
+    begun = b"begin\n" + b"".join(b"sub %d\n" % number for number in numbers)
+    told = b"".join(b"txn %d\n" % number for number in numbers) + b"refused Deep\n"
+    commits = b"".join(b"commit %d\n" % number for number in reversed(numbers))
+    words = [bench.program, "play", "--deepest", "none"]
+    for ends, wanted in ((commits, b"ok\n" * GREATEST_DEPTH), (b"abort 1\n", b"ok\n")):
+        fault = playing.fault_of(playing.run(words, begun + ends), told + wanted)
+        if fault is not None:
+            return fault
+    return None
 
 
 def longest_comment(bench):
