@@ -1,8 +1,7 @@
 /* nuzolged.h: a POSIX file tree in memory, under nested transactions.
  *
- * Link libnuzolged: the static library with the heap of its toolchain, or the shared object of
- * both. It needs memcpy, memmove, memset, malloc, realloc and free, and nothing else of the C
- * library.
+ * Link libnuzolged, static or shared: both have all that the library needs but memcpy, memmove,
+ * memset, malloc, realloc and free of the C library. (nuz_strerror, of this header, has strerror.)
  *
  * A function carries out one request, whole, or changes nothing, and its answer says which. The
  * library starts no thread, takes no lock, calls nobody back, and never ends the process.
@@ -19,8 +18,9 @@
  *   process has threads.
  *
  * The caller keeps all that it passes: paths, bytes and lines are copied, and no pointer is kept.
- * No more is copied of the bytes of a write than could have room in the file, and no more of a path
- * than tells that it is too long. So a long write is best made in pieces.
+ * Of the bytes of nuz_write no more are copied than a file may have, of those of nuz_pwrite no more
+ * than could have room behind its offset, and of a path no more than tells that it is too long. So
+ * a long write is best made in pieces.
  * The tree keeps all that it holds: no pointer into it is given out.
  *
  * The names of directories and files are bytes, of no encoding. A path is absolute or not, which is
@@ -37,6 +37,9 @@
 #ifdef __cplusplus
 extern "C" {
 #endif
+
+/* The version of this header and of the library that comes with it. */
+#define NUZ_VERSION "0.1.0"
 
 /* A handle: a tree, or none. It is closed while it is NUZ_TREE_INIT, and after nuz_tree_close. */
 typedef struct nuz_tree {
@@ -118,21 +121,47 @@ enum { NUZ_READ_ONLY = 0, NUZ_WRITE_ONLY = 1, NUZ_READ_WRITE = 2 };
 /* The whence of nuz_lseek, as SEEK_SET, SEEK_CUR and SEEK_END. */
 enum { NUZ_SET = 0, NUZ_CUR = 1, NUZ_END = 2 };
 
-/* A C string as the two arguments of a path, a line or bytes. */
+/* A C string as the two arguments of a path, a line or bytes. It is told twice: so give it a name,
+ * and no call. */
 #define NUZ_S(text) (const uint8_t *)(text), strlen(text)
+
+/** What a code says, for people. The text of an errno is that of strerror, which the next call of
+ * strerror may replace; the others stay. */
+static inline const char *nuz_strerror(uint32_t code) {
+    switch (code) {
+    case 0: return "carried out";
+    case NUZ_MEMORY: return "there is no memory";
+    case NUZ_NO_TXN: return "there is no such transaction";
+    case NUZ_ENDED: return "the transaction has ended";
+    case NUZ_CHILD_LIVE: return "the transaction has a live subtransaction";
+    case NUZ_NOTHING_TO_UNDO: return "there is no call to undo";
+    case NUZ_SUB_SINCE: return "a subtransaction has committed since the last call";
+    case NUZ_FULL: return "all transactions or calls are used up";
+    case NUZ_DEEP: return "the transaction stands too deep";
+    case NUZ_LIVE: return "a transaction is live";
+    case NUZ_NO_ASK: return "the transaction waits for no call";
+    case NUZ_BAD_LIMITS: return "a limit is above the greatest";
+    case NUZ_WAITS: return "the call waits for other transactions";
+    case NUZ_CLOSED: return "the handle holds no tree";
+    case NUZ_BAD: return "an argument is not valid";
+    default: return code < NUZ_MEMORY ? strerror((int)code) : "there is no such code";
+    }
+}
 
 /* ---- trees */
 
-/* Opens a tree: the root alone, and no transaction. The handle owns it until nuz_tree_close. What
+/** Opens a tree: the root alone, and no transaction. The handle owns it until nuz_tree_close. What
  * the handle held is freed. Its limits are NUZ_LIMITS_GREATEST. Answers 0; NUZ_MEMORY; or NUZ_BAD
- * where there is no such rule: then the handle holds what it held. */
+ * where there is no such rule: then the handle holds what it held.
+ * @param rule NUZ_PROFILE or NUZ_MOSS */
 uint32_t nuz_tree_open(nuz_tree *tree, uint32_t rule);
 
-/* The same with these limits, which stay, through checkpoints too. Answers NUZ_BAD_LIMITS where one
- * of them is above the greatest, and the rule is one that there is. */
+/** The same with these limits, which stay, through checkpoints too. Answers NUZ_BAD_LIMITS where
+ * one of them is above the greatest, and the rule is one that there is.
+ * @param limits what the tree allows, each at most the greatest */
 uint32_t nuz_tree_open_with(nuz_tree *tree, uint32_t rule, nuz_limits limits);
 
-/* Frees the tree, with all transactions, live ones too. The handle is closed; a closed one stays
+/** Frees the tree, with all transactions, live ones too. The handle is closed; a closed one stays
  * so, so that closing twice does no harm. */
 void nuz_tree_close(nuz_tree *tree);
 
@@ -141,112 +170,138 @@ void nuz_tree_close(nuz_tree *tree);
  * Each of these answers NUZ_CLOSED, the refusals that it names, in their order, or what it says.
  * Those that take no memory never answer NUZ_MEMORY. */
 
-/* Begins a transaction: number is that of the transaction. The caller ends it, by a commit or an
+/** Begins a transaction: number is that of the transaction. The caller ends it, by a commit or an
  * abort. Refused: NUZ_FULL, NUZ_MEMORY. */
 nuz_answer nuz_begin(nuz_tree *tree);
 
-/* Begins a subtransaction of txn: number is that of the subtransaction. Refused: NUZ_NO_TXN,
+/** Begins a subtransaction of txn: number is that of the subtransaction. Refused: NUZ_NO_TXN,
  * NUZ_ENDED, NUZ_DEEP, NUZ_FULL, NUZ_MEMORY. */
 nuz_answer nuz_sub(nuz_tree *tree, uint64_t txn);
 
-/* Commits txn: hands what it did to the transaction around it, or to the tree. Takes no memory.
+/** Commits txn: hands what it did to the transaction around it, or to the tree. Takes no memory.
  * Refused: NUZ_NO_TXN, NUZ_ENDED, NUZ_CHILD_LIVE. */
 nuz_answer nuz_commit(nuz_tree *tree, uint64_t txn);
 
-/* Aborts txn with all that is live below it, and takes back what they did, and what committed
+/** Aborts txn with all that is live below it, and takes back what they did, and what committed
  * subtransactions of it did: number is how many calls. Takes no memory. Refused: NUZ_NO_TXN,
  * NUZ_ENDED. */
 nuz_answer nuz_abort(nuz_tree *tree, uint64_t txn);
 
-/* Takes back the last of txn's own calls that stand: stamp is that of the call. It may be one that
+/** Takes back the last of txn's own calls that stand: stamp is that of the call. It may be one that
  * only looked, as nuz_stat, or that failed. Takes no memory. Refused: NUZ_NO_TXN, NUZ_ENDED,
  * NUZ_CHILD_LIVE, then NUZ_SUB_SINCE or NUZ_NOTHING_TO_UNDO. */
 nuz_answer nuz_undo(nuz_tree *tree, uint64_t txn);
 
-/* Forgets the call that txn waits for. Takes no memory. Refused: NUZ_NO_TXN, NUZ_ENDED,
+/** Forgets the call that txn waits for. Takes no memory. Refused: NUZ_NO_TXN, NUZ_ENDED,
  * NUZ_NO_ASK. */
 nuz_answer nuz_drop(nuz_tree *tree, uint64_t txn);
 
-/* Makes the call that txn waits for, and answers as that call; or it waits further, by NUZ_WAITS.
+/** Makes the call that txn waits for, and answers as that call; or it waits further, by NUZ_WAITS.
  * The bytes of a read are fetched by nuz_bytes, the names of a list by nuz_name. Refused:
  * NUZ_NO_TXN, NUZ_ENDED, NUZ_NO_ASK, NUZ_FULL, NUZ_MEMORY. */
 nuz_answer nuz_retry(nuz_tree *tree, uint64_t txn);
 
-/* Makes the tree as it stands the beginning, and forgets the transactions and what has happened:
- * transactions and calls are counted from here, and numbers go on. Takes no memory. Refused:
- * NUZ_LIVE. */
+/** Makes the tree as it stands the beginning, and forgets the transactions and what has happened:
+ * transactions and calls are counted from here, and numbers go on. Until then each transaction that
+ * has ended takes 8 bytes. Takes no memory. Refused: NUZ_LIVE. */
 nuz_answer nuz_checkpoint(nuz_tree *tree);
 
 /* ---- calls
+ *
+ * Throughout, tree is a handle, txn the number of the transaction that makes the call, path a path
+ * of len bytes, and fd the number of a descriptor.
  *
  * Each makes one call inside txn, and is what POSIX.1-2017 says of the function of that name.
  * Each answers NUZ_CLOSED; NUZ_BAD where a path has a null byte; the refusals NUZ_NO_TXN,
  * NUZ_ENDED, NUZ_FULL and NUZ_MEMORY, in this order; NUZ_WAITS; or was granted, with its stamp: 0,
  * or one of the errnos that it names. A path also gives ENOENT, ENOTDIR and ENAMETOOLONG. */
 
-/* Makes a directory. EEXIST. */
+/** Makes a directory. EEXIST. */
 nuz_answer nuz_mkdir(nuz_tree *tree, uint64_t txn, const uint8_t *path, size_t len);
 
-/* Removes an empty directory. EINVAL, ENOTEMPTY, EBUSY. */
+/** Removes an empty directory. EINVAL, ENOTEMPTY, EBUSY. */
 nuz_answer nuz_rmdir(nuz_tree *tree, uint64_t txn, const uint8_t *path, size_t len);
 
-/* The names of a directory, without . and ..: number is how many, and nuz_name tells each. */
+/** The names of a directory, without . and ..: number is how many, and nuz_name tells each. */
 nuz_answer nuz_list(nuz_tree *tree, uint64_t txn, const uint8_t *path, size_t len);
 
-/* What a path leads to: kind, number, links and size. A directory has one link and size 0. */
+/** What a path leads to: kind, number, links and size. A directory has one link and size 0. */
 nuz_answer nuz_stat(nuz_tree *tree, uint64_t txn, const uint8_t *path, size_t len);
 
-/* Removes a name of a file. The file lives while a descriptor has it open. EPERM. */
+/** Removes a name of a file. The file lives while a descriptor has it open. EPERM. */
 nuz_answer nuz_unlink(nuz_tree *tree, uint64_t txn, const uint8_t *path, size_t len);
 
-/* Cuts a file to size bytes, or adds zeros up to them. EINVAL, EFBIG, EISDIR. */
+/** Cuts a file to size bytes, or adds zeros up to them. EINVAL, EFBIG, EISDIR.
+ * @param size how many bytes the file has then */
 nuz_answer nuz_truncate(nuz_tree *tree, uint64_t txn, const uint8_t *path, size_t len,
                         int64_t size);
 
-/* Gives a file a further name. EPERM, EEXIST, EMLINK. */
+/** Gives a file a further name. EPERM, EEXIST, EMLINK.
+ * @param from the name that there is
+ * @param from_len how many bytes that has
+ * @param to the further name
+ * @param to_len how many bytes that has */
 nuz_answer nuz_link(nuz_tree *tree, uint64_t txn, const uint8_t *from, size_t from_len,
                     const uint8_t *to, size_t to_len);
 
-/* Gives a file or a directory another name, in place of what had that name. EINVAL, EBUSY, EISDIR,
- * ENOTEMPTY. */
+/** Gives a file or a directory another name, in place of what had that name. EINVAL, EBUSY, EISDIR,
+ * ENOTEMPTY.
+ * @param from the old name
+ * @param from_len how many bytes that has
+ * @param to the new name
+ * @param to_len how many bytes that has */
 nuz_answer nuz_rename(nuz_tree *tree, uint64_t txn, const uint8_t *from, size_t from_len,
                       const uint8_t *to, size_t to_len);
 
-/* Opens a file at offset 0: number is the descriptor. access is NUZ_READ_ONLY, NUZ_WRITE_ONLY or
+/** Opens a file at offset 0: number is the descriptor. access is NUZ_READ_ONLY, NUZ_WRITE_ONLY or
  * NUZ_READ_WRITE, and NUZ_BAD is answered for another; the others are as O_CREAT, O_EXCL, O_TRUNC
  * and O_APPEND, and are 0 or 1. A descriptor is the tree's: any transaction may use it once that of
- * its open has committed. The caller closes it. EINVAL, EEXIST, EISDIR. */
+ * its open has committed. The caller closes it. EINVAL, EEXIST, EISDIR.
+ * @param access NUZ_READ_ONLY, NUZ_WRITE_ONLY or NUZ_READ_WRITE
+ * @param create makes the file where it is missing, as O_CREAT
+ * @param excl with create: it has to be missing, as O_EXCL
+ * @param trunc cuts it to nothing, as O_TRUNC
+ * @param append each write is at its end, as O_APPEND */
 nuz_answer nuz_open(nuz_tree *tree, uint64_t txn, const uint8_t *path, size_t len, uint32_t access,
                     bool create, bool excl, bool trunc, bool append);
 
-/* Closes a descriptor. EBADF. */
+/** Closes a descriptor. EBADF. */
 nuz_answer nuz_close(nuz_tree *tree, uint64_t txn, uint64_t fd);
 
-/* What a descriptor has open: kind, number, links and size. EBADF. */
+/** What a descriptor has open: kind, number, links and size. EBADF. */
 nuz_answer nuz_fstat(nuz_tree *tree, uint64_t txn, uint64_t fd);
 
-/* Cuts the file of a descriptor to size bytes, or adds zeros up to them. EBADF, EINVAL, EFBIG. */
+/** Cuts the file of a descriptor to size bytes, or adds zeros up to them. EBADF, EINVAL, EFBIG.
+ * @param size how many bytes the file has then */
 nuz_answer nuz_ftruncate(nuz_tree *tree, uint64_t txn, uint64_t fd, int64_t size);
 
-/* Sets the offset of a descriptor: number is the new one. whence is NUZ_SET, NUZ_CUR or NUZ_END,
- * and NUZ_BAD is answered for another. EBADF, EINVAL, EOVERFLOW. */
+/** Sets the offset of a descriptor: number is the new one. whence is NUZ_SET, NUZ_CUR or NUZ_END,
+ * and NUZ_BAD is answered for another. EBADF, EINVAL, EOVERFLOW.
+ * @param off how far
+ * @param whence from where: NUZ_SET, NUZ_CUR or NUZ_END */
 nuz_answer nuz_lseek(nuz_tree *tree, uint64_t txn, uint64_t fd, int64_t off, uint32_t whence);
 
-/* Reads at the offset as many bytes as buffer has room for, and moves the offset: number is how
+/** Reads at the offset as many bytes as buffer has room for, and moves the offset: number is how
  * many there were, which stand at the front of buffer. The rest of buffer is untouched, and all of
  * it where the answer is another. Where it waits, the bytes come by nuz_retry and nuz_bytes.
- * EBADF. */
+ * EBADF.
+ * @param buffer where the bytes go
+ * @param room how many bytes it has room for */
 nuz_answer nuz_read(nuz_tree *tree, uint64_t txn, uint64_t fd, uint8_t *buffer, size_t room);
 
-/* The same at off, and the offset stays. EBADF, EINVAL. */
+/** The same at off, and the offset stays. EBADF, EINVAL.
+ * @param off where it begins to read */
 nuz_answer nuz_pread(nuz_tree *tree, uint64_t txn, uint64_t fd, uint8_t *buffer, size_t room,
                      int64_t off);
 
-/* Writes at the offset, or at the end of a file that is open for appending, as many bytes as have
- * room in the file, and moves the offset: number is how many. EBADF, EFBIG. */
+/** Writes at the offset, or at the end of a file that is open for appending, as many bytes as have
+ * room in the file, and moves the offset: number is how many. EBADF, EFBIG.
+ * @param bytes what is written
+ * @param len how many bytes that has */
 nuz_answer nuz_write(nuz_tree *tree, uint64_t txn, uint64_t fd, const uint8_t *bytes, size_t len);
 
-/* The same at off, and the offset stays. EBADF, EINVAL, EFBIG. */
+/** The same at off, and the offset stays. EBADF, EINVAL, EFBIG.
+ * @param off where it begins to write */
 nuz_answer nuz_pwrite(nuz_tree *tree, uint64_t txn, uint64_t fd, const uint8_t *bytes, size_t len,
                       int64_t off);
 
@@ -256,34 +311,44 @@ nuz_answer nuz_pwrite(nuz_tree *tree, uint64_t txn, uint64_t fd, const uint8_t *
  * wait, and change nothing. (NUZ_BAD answers none.) Each answers 0; NUZ_CLOSED; or NUZ_BAD where
  * that answer has no such part. */
 
-/* A name of a list, counted from 0, in the order of bytes: kind, and in size how long it is. As
+/** A name of a list, counted from 0, in the order of bytes: kind, and in size how long it is. As
  * much of it as has room is copied to buffer, whose rest is untouched; there is no null byte behind
- * it. A name has 1 to 255 bytes. */
+ * it. A name has 1 to 255 bytes.
+ * @param index which one, from 0
+ * @param buffer where its bytes go
+ * @param room how many bytes it has room for */
 nuz_answer nuz_name(nuz_tree *tree, size_t index, uint8_t *buffer, size_t room);
 
-/* A transaction for which the call waits, counted from 0, in rising order: number is that of the
- * transaction. */
+/** A transaction for which the call waits, counted from 0, in rising order: number is that of the
+ * transaction.
+ * @param index which one, from 0 */
 nuz_answer nuz_blocker(nuz_tree *tree, size_t index);
 
-/* The bytes of a read: size is how many. As many of them as have room are copied to buffer, whose
- * rest is untouched. For a read that nuz_retry has made, and for one by nuz_request. */
+/** The bytes of a read: size is how many. As many of them as have room are copied to buffer, whose
+ * rest is untouched. For a read that nuz_retry has made, and for one by nuz_request.
+ * @param buffer where they go
+ * @param room how many bytes it has room for */
 nuz_answer nuz_bytes(nuz_tree *tree, uint8_t *buffer, size_t room);
 
 /* ---- lines of a script
  *
  * The same requests as text, and reports, which have no other form (docs/SCRIPT.md). */
 
-/* Carries out one line, without its line feed. A request is answered as its function answers it. A
+/** Carries out one line, without its line feed. A request is answered as its function answers it. A
  * report, `tree`, `locks` or `waits`, changes nothing of the tree, and is answered 0; so is an
  * empty line or a comment, which asks for nothing: size is how long the reply is. NUZ_BAD: the line
  * asks for none of these. NUZ_MEMORY too where there was none for the words of the line, or for the
  * text of a report: then the last answer stays. Where there was none for what a report tells of,
- * its reply is `refused Memory`. */
+ * its reply is `refused Memory`.
+ * @param line the line
+ * @param len how many bytes that has */
 nuz_answer nuz_request(nuz_tree *tree, const uint8_t *line, size_t len);
 
-/* The text of the reply to the last request, whether it was a line or not, each of its lines with
+/** The text of the reply to the last request, whether it was a line or not, each of its lines with
  * its line feed: size is how many bytes. As many of them as have room are copied to buffer, whose
- * rest is untouched. NUZ_MEMORY: there was none for the text; ask again. */
+ * rest is untouched. NUZ_MEMORY: there was none for the text; ask again.
+ * @param buffer where the text goes
+ * @param room how many bytes it has room for */
 nuz_answer nuz_reply(nuz_tree *tree, uint8_t *buffer, size_t room);
 
 #ifdef __cplusplus

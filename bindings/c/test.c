@@ -650,6 +650,17 @@ static bool error_numbers_are_those_of_the_system(void) {
 
 /* ---- calls that wait */
 
+static bool codes_have_texts(void) {
+    const char *none = nuz_strerror(2000);
+    CHECK(strcmp(nuz_strerror(ENOENT), strerror(ENOENT)) == 0);
+    for (uint32_t code = NUZ_MEMORY; code <= NUZ_BAD_LIMITS; code++) {
+        CHECK((nuz_strerror(code) != none) == (code != 1011)); /* which is none of the library's */
+    }
+    CHECK(nuz_strerror(NUZ_WAITS) != none && nuz_strerror(NUZ_BAD) != none);
+    CHECK(strcmp(nuz_strerror(NUZ_CLOSED), "the handle holds no tree") == 0);
+    return true;
+}
+
 static bool blockers_are_told(void) {
     nuz_tree t = NUZ_TREE_INIT;
     CHECK(opened(&t) && nuz_begin(&t).number == 1 && nuz_begin(&t).number == 2);
@@ -878,6 +889,7 @@ static const struct {
     TEST(paths_that_are_too_long_are_told),
     TEST(constants_are_those_of_the_system),
     TEST(error_numbers_are_those_of_the_system),
+    TEST(codes_have_texts),
     TEST(blockers_are_told),
     TEST(call_that_waits_is_dropped),
     TEST(read_that_waits_gives_its_bytes),

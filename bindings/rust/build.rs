@@ -1,5 +1,6 @@
-//! Finds libnuzolged.a: in the folder that NUZOLGED_LIB_DIR names, else where `make` builds it
-//! beside this crate, else in the lib folder of the place that this crate was installed in.
+//! Finds libnuzolged.a: in the folder that NUZOLGED_LIB_DIR names, else in `native`, as it is
+//! packed, else where `make` builds it beside this crate, else in the lib folder of the place that
+//! this crate was installed in. For docs.rs, which links nothing, it is not looked for.
 
 use std::env;
 use std::path::{Path, PathBuf};
@@ -10,7 +11,9 @@ fn places() -> Vec<PathBuf> {
     let this = Path::new(env!("CARGO_MANIFEST_DIR"));
     match env::var_os("NUZOLGED_LIB_DIR") {
         Some(named) => vec![named.into()],
-        None => vec![this.join("../out"), this.join("../../../lib")],
+        None => ["native", "../out", "../../../lib"]
+            .map(|place| this.join(place))
+            .into(),
     }
 }
 
@@ -27,6 +30,9 @@ fn found() -> PathBuf {
 
 fn main() {
     println!("cargo:rerun-if-env-changed=NUZOLGED_LIB_DIR");
+    if env::var_os("DOCS_RS").is_some() {
+        return;
+    }
     let found = found();
     println!("cargo:rerun-if-changed={}", found.join(LIBRARY).display());
     println!("cargo:rustc-link-search=native={}", found.display());

@@ -3,25 +3,26 @@
     install.py FOLDER PACKAGE..
 
 A package is installed as a whole or not at all: where a file of it is there already, or can not be
-read, nothing of it is left, and the others stay. The folder is replaced at the end, and it too has
-all of what was installed, or, where that fails, is as it was. The status is 0 where each package
-was installed, and else 1.
+read, nothing of it is left, and the others stay. The folder is replaced at the end, at once, by one
+that has all of what was installed, or, where that fails, is as it was; so too where the power fails
+meanwhile. Modes and files with more names stay so; where a symbolic link or anything else is met
+that is neither a file nor a directory, nothing of that package, or of the folder, is installed. The
+status is 0 where each package was installed, and else 1.
 """
 from __future__ import annotations
 
 import os
-import shutil
 import sys
 
-from nuzolged import Transaction, Tree, copy_in, copy_out
+from nuzolged import Modes, Transaction, Tree, copy_in, copy_out
 
 
-def install(job: Transaction, package: str) -> bool:
+def install(job: Transaction, package: str, modes: Modes) -> bool:
     """Installs a package in a step of its own, and tells whether that went well."""
     name = os.path.basename(os.path.normpath(package))
     try:
         with job.begin() as step:
-            copy_in(step, package)
+            copy_in(step, package, modes=modes)
     except OSError as error:
         print(f"{name}: not installed: {error}")
         return False
@@ -29,24 +30,25 @@ def install(job: Transaction, package: str) -> bool:
     return True
 
 
-def replace(job: Transaction, folder: str) -> None:
-    """Puts what the job has made in the place of a folder."""
-    new, old = f"{folder}.new", f"{folder}.old"
-    copy_out(job, new)
-    os.rename(folder, old)
-    os.rename(new, folder)
-    shutil.rmtree(old)
+def install_all(folder: str, packages: list[str]) -> bool:
+    """Installs packages into a folder, and tells whether all went well."""
+    modes: Modes = {}
+    with Tree() as tree:
+        with tree.begin() as job:
+            copy_in(job, folder, modes=modes)
+            installed = [install(job, package, modes) for package in packages]
+        if any(installed):
+            copy_out(tree, folder, modes=modes, replace=True, sync=True)
+    return all(installed)
 
 
 def main(folder: str, packages: list[str]) -> bool:
-    """Installs packages into a folder, and tells whether all went well."""
-    folder = os.path.normpath(folder)
-    with Tree() as tree, tree.begin() as job:
-        copy_in(job, folder)
-        installed = [install(job, package) for package in packages]
-        if any(installed):
-            replace(job, folder)
-    return all(installed)
+    """The same; where the folder can not be read or replaced, it is told."""
+    try:
+        return install_all(os.path.normpath(folder), packages)
+    except OSError as error:
+        print(f"{folder} is as it was: {error}")
+        return False
 
 
 if __name__ == "__main__":

@@ -8,33 +8,62 @@ from typing import Sequence, Union
 from . import _library
 
 #: A path: names are bytes, and a string is encoded as `os.fsencode` does it.
-AnyPath = Union[str, bytes, os.PathLike[str], os.PathLike[bytes]]
+AnyPath = Union[str, bytes, "os.PathLike[str]", "os.PathLike[bytes]"]
 
 
-class Waits(BlockingIOError):
-    """The call waits for the transactions `blockers`. To ask again, make the call again."""
+class Error(Exception):
+    """What stands in the way of a request and is the errno of no call: `Waits` or `Refused`."""
+
+
+class Waits(OSError, Error):
+    """The call waits for the transactions `blockers`. To ask again, make the call again.
+
+    Its errno is EAGAIN. It is no BlockingIOError, which the buffers of `io` would take for their
+    own and replace.
+    """
 
     blockers: list[int]
 
     def __init__(self, blockers: list[int], *paths: AnyPath) -> None:
-        text = "The call waits for transactions " + ", ".join(map(str, blockers))
-        super().__init__(errno.EAGAIN, text, *_named(paths))
+        super().__init__(errno.EAGAIN, self._text(blockers), *_named(paths))
         self.blockers = blockers
 
+    @staticmethod
+    def _text(numbers: list[int]) -> str:
+        return "The call waits for transactions " + ", ".join(map(str, numbers))
 
-class Refused(RuntimeError):
+
+class Deadlock(Waits):
+    """The call would wait for ever: each of the transactions `cycle` waits for the next one, and
+    the last for the first, which is the one that asked. Its call is forgotten. Abort it, or let it
+    do something else, and the others go on."""
+
+    cycle: list[int]
+
+    def __init__(self, blockers: list[int], cycle: list[int], *paths: AnyPath) -> None:
+        super().__init__(blockers, *paths)
+        self.strerror = "A cycle of transactions wait for each other: " + ", ".join(map(str, cycle))
+        self.cycle = cycle
+
+
+class Refused(RuntimeError, Error):
     """The request is refused, for the reason `name`, and nothing has changed."""
 
     name: str
 
     def __init__(self, name: str) -> None:
-        super().__init__(name)
+        super().__init__(f"{_library.REFUSALS[name]} ({name})")
         self.name = name
 
 
 def _named(paths: Sequence[AnyPath]) -> tuple[object, ...]:
     """Paths as arguments of an OSError: between two there stands one that only Windows uses."""
     return (paths[0], None, *paths[1:]) if len(paths) == 2 else tuple(paths)
+
+
+def os_error(code: int, *paths: AnyPath) -> OSError:
+    """The exception of an errno, about these paths."""
+    return OSError(code, os.strerror(code), *_named(paths))
 
 
 def error_of(code: int, *paths: AnyPath) -> Exception:
@@ -44,7 +73,7 @@ def error_of(code: int, *paths: AnyPath) -> Exception:
     if code == _library.CLOSED:
         return ValueError("the tree is closed")
     if code == _library.BAD:
-        return ValueError("embedded null byte" if paths else "invalid line")
+        return ValueError("embedded null byte" if paths else "invalid argument")
     if code > _library.MEMORY:
-        return Refused(_library.REFUSALS[code - _library.MEMORY])
-    return OSError(code, os.strerror(code), *_named(paths))
+        return Refused(_library.name_of(code))
+    return os_error(code, *paths)

@@ -5,111 +5,140 @@ import ctypes
 import io
 import os
 import weakref
-from typing import IO, TYPE_CHECKING, Any, NamedTuple, Optional
+from typing import IO, TYPE_CHECKING, Any, Iterator, Optional
 
 from . import _library
-from ._errors import AnyPath
+from ._errors import AnyPath, Refused
 from ._library import Answer
+from ._modes import Mode
+from ._told import Info, info_of
 
 if TYPE_CHECKING:
-    from ._tree import Transaction
+    from ._calls import Calls
 
 
-class Info(NamedTuple):
-    """What there is to tell of a file or directory."""
-
-    is_dir: bool
-    number: int
-    links: int
-    size: int
-
-
-def info_of(answer: Answer) -> Info:
-    """What an answer tells of a file or directory."""
-    return Info(answer.kind == _library.DIR, answer.number, answer.links, answer.size)
-
-
-class Mode(NamedTuple):
-    """What a mode of `open` asks for."""
-
-    is_text: bool
-    reads: bool
-    writes: bool
-    creates: bool
-    is_new: bool
-    cuts: bool
-    appends: bool
-
-    @classmethod
-    def of(cls, mode: str) -> Mode:
-        """The meaning of a mode, as of Python's `open`."""
-        letters = set(mode)
-        kind = letters & set("rwax")
-        is_plain = len(letters) == len(mode) and letters <= set("rwax+bt")
-        if not is_plain or len(kind) != 1 or letters >= set("bt"):
-            raise ValueError(f"invalid mode: {mode!r}")
-        plus = "+" in letters
-        return cls(
-            is_text="b" not in letters,
-            reads="r" in kind or plus,
-            writes="r" not in kind or plus,
-            creates="r" not in kind,
-            is_new="x" in kind,
-            cuts="w" in kind,
-            appends="a" in kind,
-        )
-
-    @property
-    def access(self) -> int:
-        """The access as the library takes it."""
-        if self.reads and self.writes:
-            return _library.READ_WRITE
-        return _library.WRITE_ONLY if self.writes else _library.READ_ONLY
+#: A file of fewer bytes is read whole by one call.
+_SMALL = 1 << 14
 
 
 class RawFile(io.RawIOBase):
     """An open file of a transaction, with no buffer."""
 
-    def __init__(self, transaction: Transaction, path: AnyPath, mode: Mode) -> None:
+    #: None until it is open.
+    _fd: int | None = None
+
+    def __init__(self, calls: Calls, path: AnyPath, mode: str) -> None:
         self.name = path
-        self._transaction = transaction
-        self._mode = mode
-        self._fd: int | None = None
-        flags = (mode.creates, mode.is_new, mode.cuts, mode.appends)
-        self._fd = transaction._on("nuz_open", path, mode.access, *flags).number
-        transaction._files[self._fd] = weakref.ref(self)
+        self._asked = Mode.of(mode)
+        self.mode = self._asked.raw_name
+        self._calls = calls
+        self._transaction = calls.transaction
+        #: Whether nobody has it any more: then nothing waits.
+        self._is_dropped = False
+        asked = self._asked
+        flags = (asked.creates, asked.is_new, asked.cuts, asked.appends)
+        calls._on("nuz_open", path, asked.access, *flags, parts=self._take_descriptor)
+
+    def _take_descriptor(self, answer: Answer) -> None:
+        if answer.code == 0:
+            self._fd = answer.number
+            self._transaction._files[self._fd] = weakref.ref(self)
+
+    def __repr__(self) -> str:
+        state = "closed" if self.closed else f"mode={self.mode!r}"
+        return f"<RawFile name={self.name!r} {state} of {self._transaction!r}>"
 
     def _ask(self, function: str, *args: object) -> Answer:
         if self.closed:
             raise ValueError("I/O operation on closed file")
-        return self._transaction._ask(function, self._fd, *args, paths=(self.name,))
+        return self._calls._ask(function, self._fd, *args, paths=(self.name,))
+
+    def _has_to(self, can: bool, what: str) -> None:
+        if not can:
+            raise io.UnsupportedOperation(what)
 
     def readable(self) -> bool:
-        return self._mode.reads
+        return self._asked.reads
 
     def writable(self) -> bool:
-        return self._mode.writes
+        return self._asked.writes
 
     def seekable(self) -> bool:
         return True
 
     def readinto(self, buffer: Any) -> int:
+        self._has_to(self._asked.reads, "read")
+        return self._read_to(buffer, "nuz_read")
+
+    def _read_to(self, buffer: Any, function: str, *at: int) -> int:
         view = memoryview(buffer).cast("B")
         if not view:
             return 0
         room = (ctypes.c_char * len(view)).from_buffer(view)
-        return self._ask("nuz_read", room, len(view)).number
+        return self._ask(function, room, len(view), *at).number
+
+    def readall(self) -> bytes:
+        """All bytes from the offset to the end, as many as there are now."""
+        self._has_to(self._asked.reads, "read")
+        left = max(self.stat().size - self.tell(), 0)
+        data = bytearray(left)
+        count = self.readinto(data)
+        return bytes(data[:count])
+
+    def read_whole(self) -> bytes:
+        """All bytes from its beginning to its end. A small file takes one call."""
+        first = self.pread(_SMALL, 0)
+        if len(first) < _SMALL:
+            return first
+        self.seek(0)
+        return self.readall()
+
+    def pieces(self) -> Iterator[bytes]:
+        """All bytes from its beginning to its end, in pieces that have room in memory."""
+        self.seek(0)
+        left = self.stat().size
+        while left > 0:
+            piece = self.read(min(left, _library.MOST_WRITTEN)) or b""
+            left = left - len(piece) if piece else 0
+            yield piece
+
+    def pread(self, size: int, offset: int) -> bytes:
+        """Up to `size` bytes at an offset. That of the file stays."""
+        self._has_to(self._asked.reads, "read")
+        data = bytearray(size)
+        return bytes(data[: self._read_to(data, "nuz_pread", _library.signed(offset))])
 
     def write(self, data: Any) -> int:
+        self._has_to(self._asked.writes, "write")
         raw = memoryview(data).cast("B")[: _library.MOST_WRITTEN].tobytes()
+        if self._is_dropped and not self.closed:
+            self._transaction._late.put("nuz_write", *self._named(raw, len(raw)))
+            return len(raw)
         return self._ask("nuz_write", raw, len(raw)).number
+
+    def write_all(self, data: Any) -> None:
+        """Writes all of it, or raises what stood in the way of the rest."""
+        left = memoryview(data).cast("B")
+        while left:
+            left = left[self.write(left) :]
+
+    def pwrite(self, data: Any, offset: int) -> int:
+        """Writes at an offset as many bytes as have room, and answers how many. That of the file
+        stays."""
+        self._has_to(self._asked.writes, "write")
+        raw = memoryview(data).cast("B")[: _library.MOST_WRITTEN].tobytes()
+        return self._ask("nuz_pwrite", raw, len(raw), _library.signed(offset)).number
 
     def seek(self, offset: int, whence: int = os.SEEK_SET) -> int:
         if whence not in (os.SEEK_SET, os.SEEK_CUR, os.SEEK_END):
             raise ValueError(f"invalid whence: {whence}")
+        if self._is_dropped and not self.closed:
+            self._transaction._late.put("nuz_lseek", *self._named(offset, whence))
+            return 0
         return self._ask("nuz_lseek", _library.signed(offset), whence).number
 
     def truncate(self, size: int | None = None) -> int:
+        self._has_to(self._asked.writes, "truncate")
         size = self.tell() if size is None else size
         self._ask("nuz_ftruncate", _library.signed(size))
         return size
@@ -120,46 +149,110 @@ class RawFile(io.RawIOBase):
 
     def close(self) -> None:
         """Closes it. Where that has to wait, or has no memory, it is open still, and may be closed
-        again; where nobody has it any more, its transaction closes it before it commits."""
+        again. Where nobody has it any more it does not wait: what is left to write and to close is
+        done before its transaction commits."""
         if self.closed:
             return
-        if self._fd is not None:
-            self._transaction._close_file(self._fd, self.name)
+        if self._fd is None:
+            pass
+        elif self._is_dropped or getattr(self, "_finalizing", False):
+            self._leave(self._fd)
+            if not self._is_dropped:
+                return  # it may have a buffer that comes after it, with bytes to write
+        else:
+            self._close_now()
+            self._forget(self._fd)
         super().close()
+
+    def _leave(self, fd: int) -> None:
+        """Leaves it to be closed later."""
+        if self._forget(fd):
+            self._transaction._late.put_close(*self._named())
+
+    def _forget(self, fd: int) -> bool:
+        """Tells the transaction that it has no such file. Whether it had one."""
+        return self._transaction._files.pop(fd, None) is not None
+
+    def _close_now(self) -> None:
+        """Closes it. Where its transaction, or one around it, has ended, or the tree is closed,
+        that is closed already."""
+        try:
+            self._ask("nuz_close")
+        except Refused as refused:
+            if refused.name not in ("NoTxn", "Ended"):
+                raise
+        except ValueError:
+            if self._transaction.session.is_open:
+                raise
+
+    def _named(self, *args: object) -> tuple[object, ...]:
+        return (self._transaction.number, self._fd, *args)
+
+    def _dealloc_warn(self, source: object) -> None:
+        """A buffer calls it where nobody has the buffer any more, before it writes what it has."""
+        self._is_dropped = True
 
 
 #: The encoding, the errors and the newline of a text.
 Text = tuple[Optional[str], Optional[str], Optional[str]]
 
 
-def opened(
-    transaction: Transaction, path: AnyPath, mode: str, buffering: int, text: Text
-) -> IO[Any]:
+def opened(calls: Calls, path: AnyPath, mode: str, buffering: int, text: Text) -> IO[Any]:
     """Opens a file, as `open` of a transaction does."""
     asked = Mode.of(mode)
     if not asked.is_text and any(part is not None for part in text):
         raise ValueError("binary mode takes no encoding, errors or newline")
     if asked.is_text and buffering == 0:
         raise ValueError("can't have unbuffered text I/O")
-    raw: Any = RawFile(transaction, path, asked)
+    raw: Any = RawFile(calls, path, mode)
     try:
         if asked.appends:
             raw.seek(0, os.SEEK_END)
-        file: IO[Any] = raw if buffering == 0 else _wrapped(raw, asked, buffering, text)
+        file: IO[Any] = raw if buffering == 0 else _wrapped(raw, mode, buffering, text)
         return file
     except BaseException:
         raw.close()
         raise
 
 
-def _wrapped(raw: Any, mode: Mode, buffering: int, text: Text) -> Any:
+class _UnderText(io.BufferedIOBase):
+    """A buffer below a text. The garbage collector may find it before the text, which has more to
+    write: so it writes then, and is closed by the text."""
+
+    raw: Any
+
+    def close(self) -> None:
+        if getattr(self, "_finalizing", False) and not self.raw._is_dropped:
+            self.raw._is_dropped = True
+            self.flush()
+        else:
+            super().close()
+
+
+class _ReaderUnderText(_UnderText, io.BufferedReader):  # type: ignore[misc]
+    pass
+
+
+class _WriterUnderText(_UnderText, io.BufferedWriter):  # type: ignore[misc]
+    pass
+
+
+class _RandomUnderText(_UnderText, io.BufferedRandom):  # type: ignore[misc]
+    pass
+
+
+def _wrapped(raw: Any, name: str, buffering: int, text: Text) -> Any:
     """A file with a buffer, and with an encoding where it is of text."""
+    mode = Mode.of(name)
     size = buffering if buffering > 1 else io.DEFAULT_BUFFER_SIZE
-    kind = io.BufferedReader if not mode.writes else io.BufferedWriter
-    buffered = (io.BufferedRandom if mode.reads and mode.writes else kind)(raw, size)
     if not mode.is_text:
-        return buffered
+        kind = io.BufferedWriter if mode.writes else io.BufferedReader
+        return (io.BufferedRandom if mode.reads and mode.writes else kind)(raw, size)
+    below = _WriterUnderText if mode.writes else _ReaderUnderText
+    buffered: Any = (_RandomUnderText if mode.reads and mode.writes else below)(raw, size)
     encoding, errors, newline = text
-    return io.TextIOWrapper(
+    wrapped: Any = io.TextIOWrapper(
         buffered, encoding or "utf-8", errors, newline, line_buffering=buffering == 1
     )
+    wrapped.mode = name
+    return wrapped

@@ -7,6 +7,9 @@ from ctypes import POINTER, c_bool, c_char_p, c_int64, c_size_t, c_uint32, c_uin
 from pathlib import Path
 from typing import Iterator
 
+#: The file of the library.
+_NAME = "libnuzolged.so.0"
+
 DIR = 1
 READ_ONLY, WRITE_ONLY, READ_WRITE = 0, 1, 2
 PROFILE, MOSS = 0, 1
@@ -15,13 +18,29 @@ PROFILE, MOSS = 0, 1
 MOST_WRITTEN = 1 << 26
 
 MEMORY = 1001
+FULL = 1007
 WAITS = 1100
 CLOSED = 1200
 BAD = 1201
 
-#: The names of the refusals 1001 and on, as a script has them (docs/SCRIPT.md).
-REFUSALS = ("Memory", "NoTxn", "Ended", "ChildLive", "NothingToUndo", "SubSince", "Full", "Deep",
-            "Live", "NoAsk")
+#: The refusals 1001 and on, by the names that a script has for them (docs/SCRIPT.md).
+REFUSALS = {
+    "Memory": "there is no memory",
+    "NoTxn": "there is no such transaction",
+    "Ended": "the transaction has ended",
+    "ChildLive": "the transaction has a live step",
+    "NothingToUndo": "there is no call to undo",
+    "SubSince": "a step has committed since the last call",
+    "Full": "all transactions or calls are used up",
+    "Deep": "the transaction stands too deep",
+    "Live": "a transaction is live",
+    "NoAsk": "the transaction waits for no call",
+}
+
+
+def name_of(code: int) -> str:
+    """The name of a refusal."""
+    return list(REFUSALS)[code - MEMORY]
 
 
 class Handle(ctypes.Structure):
@@ -43,7 +62,16 @@ class Limits(ctypes.Structure):
 
 
 class Answer(ctypes.Structure):
-    """`nuz_answer`: what a request came to."""
+    """`nuz_answer`: what a request came to, with the parts that were asked for with it."""
+
+    #: For which transactions a call waits.
+    blockers: list[int] = []
+    #: Where it waits for ever: the transactions that wait for each other.
+    cycle: list[int] = []
+    #: The names of a list.
+    names: list[tuple[bytes, bool]] = []
+    #: The reply to a line.
+    text: bytes = b""
 
     code: int
     kind: int
@@ -70,7 +98,6 @@ _FUNCTIONS: dict[str, tuple[type, ...]] = {
     "nuz_sub": (c_uint64,),
     "nuz_commit": (c_uint64,),
     "nuz_abort": (c_uint64,),
-    "nuz_undo": (c_uint64,),
     "nuz_drop": (c_uint64,),
     "nuz_checkpoint": (),
     "nuz_mkdir": (c_uint64, *_BYTES),
@@ -87,7 +114,9 @@ _FUNCTIONS: dict[str, tuple[type, ...]] = {
     "nuz_ftruncate": (c_uint64, c_uint64, c_int64),
     "nuz_lseek": (c_uint64, c_uint64, c_int64, c_uint32),
     "nuz_read": (c_uint64, c_uint64, *_BUFFER),
+    "nuz_pread": (c_uint64, c_uint64, *_BUFFER, c_int64),
     "nuz_write": (c_uint64, c_uint64, *_BYTES),
+    "nuz_pwrite": (c_uint64, c_uint64, *_BYTES, c_int64),
     "nuz_name": (c_size_t, *_BUFFER),
     "nuz_blocker": (c_size_t,),
     "nuz_request": _BYTES,
@@ -103,23 +132,32 @@ def signed(number: int) -> int:
 
 
 def _places() -> Iterator[str]:
-    """Where the library may be: where NUZOLGED_LIBRARY says; where `make` builds it beside this
-    package; in the lib folder of the place that this package was installed in; and else wherever
-    the system finds libraries."""
+    """Where the library may be: where NUZOLGED_LIBRARY says; in this package, as a wheel has it;
+    where `make` builds it beside this package; in the lib folder of the place that this package was
+    installed in; and else wherever the system finds libraries."""
     named = os.environ.get("NUZOLGED_LIBRARY")
     if named:
         yield named
         return
     here = Path(__file__).resolve().parent
-    for folder in (here.parents[1] / "out", here.parents[3] / "lib"):
-        place = folder / "libnuzolged.so.0"
+    for folder in (here, here.parents[1] / "out", here.parents[3] / "lib"):
+        place = folder / _NAME
         if place.is_file():
             yield str(place)
-    yield "libnuzolged.so.0"
+    yield _NAME
+
+
+def _opened() -> ctypes.CDLL:
+    place = next(_places())
+    try:
+        return ctypes.CDLL(place)
+    except OSError as error:
+        hint = "build it by make -C bindings, or name the file in NUZOLGED_LIBRARY"
+        raise ImportError(f"there is no {_NAME}: {error}; {hint}") from error
 
 
 def _load() -> ctypes.CDLL:
-    library = ctypes.CDLL(next(_places()))
+    library = _opened()
     for name, takes in _FUNCTIONS.items():
         function = getattr(library, name)
         function.argtypes = [POINTER(Handle), *takes]

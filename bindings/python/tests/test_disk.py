@@ -1,11 +1,16 @@
 """Copies from and to directories of the disk."""
+import contextlib
 import errno
 import os
+import stat
 import tempfile
+import threading
+import time
 import unittest
 from pathlib import Path
+from unittest import mock
 
-from nuzolged import Tree, copy_in, copy_out
+from nuzolged import Limits, Tree, _disk, copy_in, copy_out
 
 
 class DiskTest(unittest.TestCase):
@@ -27,34 +32,123 @@ class DiskTest(unittest.TestCase):
         os.link(source / "a" / "one", source / "three")
         return source
 
+    def mode(self, path):
+        return stat.S_IMODE(path.stat().st_mode)
+
     def test_copies_are_alike(self):
         source, target = self.make(), self.disk / "target"
-        self.job.mkdir("/in")
         copy_in(self.job, source, "/in")
         self.assertEqual(self.job.listdir("/in"), ["a", "empty", "three"])
         self.assertEqual(self.job.stat("/in/three"), self.job.stat("/in/a/one"))
         self.assertEqual(self.job.stat("/in/three").links, 2)
-        copy_out(self.job, target, "/in/")
+        copy_out(self.job, target, "/in/", sync=True)
         found = {path.relative_to(target): path for path in target.rglob("*")}
         self.assertEqual(set(found), {path.relative_to(source) for path in source.rglob("*")})
         self.assertEqual(found[Path("a/one")].read_bytes(), b"\0\xff\n")
         self.assertTrue(os.path.samefile(found[Path("a/one")], found[Path("three")]))
 
+    def test_modes_are_kept_beside_the_tree(self):
+        source, target, modes = self.make(), self.disk / "target", {}
+        os.chmod(source / "a" / "one", 0o4755)
+        os.chmod(source / "a" / "b" / "two", 0o600)
+        os.chmod(source / "a" / "b", 0o500)
+        os.chmod(source, 0o751)
+        copy_in(self.job, source, modes=modes)
+        self.job.rename("/a/b", "/b")
+        self.job.write_bytes("/a/one", b"other bytes")
+        self.job.write_bytes("/new", b"")
+        copy_out(self.job, target, modes=modes)
+        told = [self.mode(target / name) for name in ("", "a/one", "b", "b/two", "new")]
+        self.assertEqual(list(map(oct, told)), ["0o751", "0o755", "0o500", "0o600", "0o600"])
+
+    def test_what_has_no_mode_is_private(self):
+        self.job.makedirs("/etc")
+        self.job.write_bytes("/etc/shadow", b"secret")
+        copy_out(self.job, self.disk / "target")
+        paths = [self.disk / "target" / name for name in ("", "etc", "etc/shadow")]
+        self.assertEqual([self.mode(path) for path in paths], [0o700, 0o700, 0o600])
+
+    def test_mode_of_what_was_there_stays(self):
+        one, two, modes = self.disk / "one", self.disk / "two", {}
+        for folder, mode in ((one, 0o700), (two, 0o755)):
+            (folder / "etc").mkdir(parents=True)
+            os.chmod(folder / "etc", mode)
+            copy_in(self.job, folder, modes=modes)
+        self.assertEqual(modes[self.job.stat("/etc").number], 0o700)
+
     def test_copy_in_keeps_what_is_there(self):
         source = self.make()
         self.job.mkdir("/a")
         self.job.write_bytes("/three", b"mine")
-        with self.assertRaises(FileExistsError), self.job.begin() as step:
+        with self.assertRaises(FileExistsError) as exists, self.job.begin() as step:
             copy_in(step, source)
+        self.assertEqual(exists.exception.filename, "/three")
         self.assertEqual(self.job.listdir("/a"), [])
         self.assertEqual(self.job.read_bytes("/three"), b"mine")
 
     def test_copy_in_of_what_no_tree_has(self):
         source = self.make()
-        os.symlink("one", source / "a" / "link")
-        with self.assertRaises(OSError) as error:
-            copy_in(self.job, source)
+        for make in (lambda path: os.symlink("one", path), os.mkfifo):
+            make(source / "a" / "other")
+            with self.assertRaises(OSError) as error, self.job.begin() as step:
+                copy_in(step, source)
+            self.assertEqual(error.exception.errno, errno.ENOTSUP)
+            self.assertEqual(error.exception.filename, str(source / "a" / "other"))
+            os.unlink(source / "a" / "other")
+
+    def test_copy_in_of_a_file_that_is_too_large(self):
+        source = self.make()
+        with Tree(limits=Limits(file_size=2)) as tree, self.assertRaises(OSError) as error:
+            with tree.begin() as job:
+                copy_in(job, source)
+        self.assertEqual(error.exception.errno, errno.EFBIG)
+        self.assertEqual(error.exception.filename, str(source / "a" / "one"))
+
+    def test_link_that_comes_instead_of_a_file_is_not_followed(self):
+        """A file is replaced by a link, after its name has been read."""
+        source, secret, scandir = self.make(), self.disk / "secret", os.scandir
+        secret.write_bytes(b"secret")
+
+        def listed(folder):
+            entries = list(scandir(folder))
+            (source / "three").unlink(missing_ok=True)
+            os.symlink(secret, source / "three")
+            return contextlib.nullcontext(entries)
+
+        with mock.patch.object(_disk.os, "scandir", listed):
+            with self.assertRaises(OSError) as error:
+                copy_in(self.job, source)
         self.assertEqual(error.exception.errno, errno.ENOTSUP)
+
+    def test_links_that_come_and_go_are_not_followed(self):
+        source, secret, stop = self.disk / "source", self.disk / "secret", threading.Event()
+        source.mkdir()
+        secret.write_bytes(b"secret")
+
+        def swap():
+            while not stop.is_set():
+                (self.disk / "file").write_bytes(b"mine")
+                os.rename(self.disk / "file", source / "a")
+                os.symlink(secret, self.disk / "link")
+                os.rename(self.disk / "link", source / "a")
+
+        thread = threading.Thread(target=swap)
+        thread.start()
+        try:
+            end = time.monotonic() + 1
+            while time.monotonic() < end:
+                self.assertNotEqual(self.copy_of_a(source), b"secret")
+        finally:
+            stop.set()
+            thread.join()
+
+    def copy_of_a(self, source):
+        with Tree() as tree, tree.begin() as job:
+            try:
+                copy_in(job, source)
+                return job.read_bytes("/a")
+            except OSError:
+                return None
 
     def test_copy_out_is_whole_or_nothing(self):
         self.job.mkdir("/a")
@@ -66,6 +160,28 @@ class DiskTest(unittest.TestCase):
             copy_out(self.job, self.disk / "other", "/nothing")
         self.assertEqual(os.listdir(self.disk), ["target"])
         self.assertEqual(sorted(os.listdir(self.disk / "target")), ["a", "b"])
+
+    def test_copy_out_replaces_at_once(self):
+        target = self.disk / "target"
+        self.job.write_bytes("/new", b"bytes")
+        self.job.commit()
+        copy_out(self.tree, target, replace=True)
+        (target / "old").write_bytes(b"")
+        copy_out(self.tree, target, replace=True, sync=True)
+        self.assertEqual((os.listdir(self.disk), os.listdir(target)), (["target"], ["new"]))
+        os.symlink(target, self.disk / "link")
+        with self.assertRaises(NotADirectoryError):
+            copy_out(self.tree, self.disk / "link", replace=True)
+        self.tree.checkpoint()
+
+    def test_copy_out_that_cannot_replace_changes_nothing(self):
+        target = self.disk / "target"
+        target.mkdir()
+        (target / "old").write_bytes(b"")
+        with mock.patch.object(_disk, "exchange", side_effect=OSError(errno.EINVAL, "no")):
+            with self.assertRaises(OSError):
+                copy_out(self.job, target, replace=True)
+        self.assertEqual((os.listdir(self.disk), os.listdir(target)), (["target"], ["old"]))
 
 
 if __name__ == "__main__":

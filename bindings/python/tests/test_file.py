@@ -63,6 +63,18 @@ class Modes(FileTest):
             file.read()
         with self.job.open("/f", "rb") as file, self.assertRaises(io.UnsupportedOperation):
             file.write(b"x")
+        with self.job.open("/f", "rb", 0) as file:
+            for request in (lambda: file.write(b"x"), file.truncate, lambda: file.pwrite(b"x", 0)):
+                self.assertRaises(io.UnsupportedOperation, request)
+        with self.job.open("/f", "wb", 0) as file:
+            self.assertRaises(io.UnsupportedOperation, file.readinto, bytearray(1))
+            self.assertRaises(io.UnsupportedOperation, file.pread, 1, 0)
+            self.assertRaises(io.UnsupportedOperation, file.read)
+
+    def test_modes_are_told(self):
+        for mode, raw in (("w", "wb"), ("r+", "rb+"), ("ab", "ab"), ("xb+", "xb+")):
+            with self.job.open("/g" if mode[0] == "x" else "/f", mode) as file:
+                self.assertEqual(file.mode, mode if "b" not in mode else raw)
 
 
 class Contents(FileTest):
@@ -94,6 +106,13 @@ class Contents(FileTest):
             self.assertEqual(file.readinto(bytearray()), 0)
             self.assertEqual(file.read(), b"")
 
+    def test_offsets(self):
+        with self.job.open("/f", "w+b", 0) as file:
+            self.assertEqual(file.pwrite(b"bytes", 2), 5)
+            self.assertEqual(file.pread(9, 1), b"\0bytes")
+            self.assertEqual(file.tell(), 0)
+            self.assertEqual(file.readall(), b"\0\0bytes")
+
     def test_arguments_that_are_none(self):
         with self.job.open("/f", "wb", 0) as file:
             with self.assertRaises(TypeError):
@@ -120,6 +139,15 @@ class Contents(FileTest):
             with job.open("/h", "wb", 0) as file:
                 self.assertEqual(file.write(most + most), len(most))
             self.assertEqual(job.read_bytes("/h"), most)
+
+    def test_small_files_take_three_calls(self):
+        def stamp():
+            return int(self.tree.request(f"{self.job.number} stat /").split()[0])
+
+        begun = stamp()
+        self.job.write_bytes("/f", b"bytes")
+        self.job.read_bytes("/f")
+        self.assertEqual(stamp() - begun, 1 + 3 + 3)
 
     def test_file_of_more_than_a_request_writes(self):
         data = os.urandom(1 << 20) * 65
@@ -183,7 +211,8 @@ class Lives(FileTest):
             self.job.commit()
         file.close()
         self.job.commit()
-        self.assertEqual(self.tree.begin().read_bytes("/f"), b"not yet written")
+        with self.tree.begin() as reader:
+            self.assertEqual(reader.read_bytes("/f"), b"not yet written")
 
     def test_file_of_an_aborted_transaction(self):
         file = self.job.open("/f", "wb", 0)
@@ -192,7 +221,7 @@ class Lives(FileTest):
         self.assertEqual(self.tree.request("tree"), "tree 1\ndir 1\n")
 
     def test_file_of_a_step_that_was_aborted_around_it(self):
-        file = self.job.begin().open("/f", "wb", 0)
+        file = self.job.begin().open("/f", "wb", 0)  # which has the step
         self.job.abort()
         file.close()
 

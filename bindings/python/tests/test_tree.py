@@ -1,10 +1,9 @@
 """Trees, transactions and their calls on paths."""
 import errno
-import threading
 import unittest
 from pathlib import Path
 
-from nuzolged import Entry, Info, Limits, Refused, Tree, Waits
+from nuzolged import Error, Info, Limits, Refused, Tree, Waits
 
 
 class TreeTest(unittest.TestCase):
@@ -15,18 +14,23 @@ class TreeTest(unittest.TestCase):
         self.addCleanup(self.tree.close)
         self.job = self.tree.begin()
 
+    def names(self):
+        """What stands behind all that has committed."""
+        with self.tree.begin() as reader:
+            return reader.listdir()
+
 
 class Transactions(TreeTest):
     def test_context_commits(self):
         with self.job as job:
             job.mkdir("/a")
-        self.assertEqual(self.tree.begin().listdir(), ["a"])
+        self.assertEqual(self.names(), ["a"])
 
     def test_context_aborts_at_an_exception(self):
         with self.assertRaises(KeyError), self.job as job:
             job.mkdir("/a")
             raise KeyError
-        self.assertEqual(self.tree.begin().listdir(), [])
+        self.assertEqual(self.names(), [])
 
     def test_step_fails_alone(self):
         with self.job as job:
@@ -35,7 +39,7 @@ class Transactions(TreeTest):
             with self.assertRaises(FileNotFoundError), job.begin() as step:
                 step.mkdir("/gone")
                 step.rmdir("/nothing")
-        self.assertEqual(self.tree.begin().listdir(), ["kept"])
+        self.assertEqual(self.names(), ["kept"])
 
     def test_context_may_have_ended_before(self):
         with self.job as job:
@@ -43,7 +47,7 @@ class Transactions(TreeTest):
             self.assertEqual(job.abort(), 1)
         with self.tree.begin() as job:
             job.commit()
-        self.assertEqual(self.tree.begin().listdir(), [])
+        self.assertEqual(self.names(), [])
 
     def test_context_of_a_step_ends_with_what_is_around_it(self):
         with self.assertRaises(KeyError), self.job.begin():
@@ -52,21 +56,32 @@ class Transactions(TreeTest):
 
     def test_context_that_cannot_commit_aborts(self):
         with self.assertRaises(Refused) as refused, self.job as job:
-            job.begin().mkdir("/a")
+            step = job.begin()
+            step.mkdir("/a")
         self.assertEqual(refused.exception.name, "ChildLive")
-        self.assertEqual(self.tree.begin().listdir(), [])
-
-    def test_undo(self):
-        self.job.mkdir("/a")
-        self.job.mkdir("/b")
-        self.assertEqual(self.job.undo(), 3)
-        self.assertEqual(self.job.listdir(), ["a"])
+        self.assertEqual(self.names(), [])
 
     def test_refusals(self):
-        for name, request in {"NoAsk": self.job.forget, "NothingToUndo": self.job.undo}.items():
-            with self.assertRaises(Refused) as refused:
-                request()
-            self.assertEqual(refused.exception.name, name)
+        with self.assertRaises(Refused) as refused:
+            self.job.forget()
+        self.assertEqual(refused.exception.name, "NoAsk")
+        self.assertEqual(str(refused.exception), "the transaction waits for no call (NoAsk)")
+        self.assertIsInstance(refused.exception, Error)
+
+    def test_no_undo_but_of_steps(self):
+        self.assertFalse(hasattr(self.job, "undo"))
+        with self.assertRaises(KeyError), self.job.begin() as step:
+            step.write_bytes("/a", b"bytes")
+            raise KeyError
+        self.assertEqual(self.job.listdir(), [])
+
+    def test_reprs(self):
+        self.assertEqual(repr(self.tree), "<Tree, open>")
+        self.assertEqual(repr(self.job), "<Transaction 1, live>")
+        self.job.abort()
+        self.tree.close()
+        self.assertEqual(repr(self.tree), "<Tree, closed>")
+        self.assertEqual(repr(self.job), "<Transaction 1, ended>")
 
     def test_checkpoint(self):
         with self.assertRaises(Refused) as refused:
@@ -83,8 +98,9 @@ class TreeLimits(unittest.TestCase):
     def begun(self, **limits):
         """A tree with limits, and a job."""
         tree = Tree(limits=Limits(**limits))
+        self.job = tree.begin()
         self.addCleanup(tree.close)
-        return tree, tree.begin()
+        return tree, self.job
 
     def assert_refused(self, name, request, *args):
         with self.assertRaises(Refused) as refused:
@@ -102,6 +118,7 @@ class TreeLimits(unittest.TestCase):
         with self.assertRaises(Refused) as refused:
             while True:
                 steps.append(steps[-1].begin())
+        job.abort()
         return len(steps), refused.exception.name
 
     def test_depth(self):
@@ -127,7 +144,7 @@ class TreeLimits(unittest.TestCase):
                 job.rmdir("/a")
                 self.assert_refused("Full", job.listdir)
             tree.checkpoint()
-            job = tree.begin()
+            self.job = job = tree.begin()
 
     def test_file_that_no_call_is_left_to_close(self):
         tree, job = self.begun(calls=1)
@@ -149,7 +166,8 @@ class TreeLimits(unittest.TestCase):
             self.assertEqual(file.write(b"xyz"), 1)
         job.commit()
         tree.checkpoint()
-        self.assert_error(errno.EFBIG, tree.begin().write_bytes, "/f", b"eleven byte")
+        with tree.begin() as job:
+            self.assert_error(errno.EFBIG, job.write_bytes, "/f", b"eleven byte")
 
     def test_links(self):
         _, job = self.begun(links=2)
@@ -184,54 +202,14 @@ class TreeLimits(unittest.TestCase):
             self.assertEqual(self.depth_of(tree.begin()), (2, "Deep"))
 
 
-class Waiting(TreeTest):
-    def test_blockers_are_told(self):
-        second, third = self.tree.begin(), self.tree.begin()
-        self.job.mkdir("/a")
-        second.mkdir("/b")
-        with self.assertRaises(Waits) as waits:
-            third.listdir("/")
-        error = waits.exception
-        self.assertIsInstance(error, BlockingIOError)
-        self.assertEqual(error.blockers, [self.job.number, second.number])
-        self.assertEqual((error.errno, error.filename), (errno.EAGAIN, "/"))
-        third.forget()
-        self.job.commit()
-        second.abort()
-        self.assertEqual(third.listdir("/"), ["a"])
-
-    def test_moss(self):
-        with Tree(moss=True) as tree:
-            job = tree.begin()
-            job.mkdir("/a")
-            with self.assertRaises(Waits) as waits:
-                job.begin().stat("/a")
-            self.assertEqual(waits.exception.blockers, [job.number])
-
-    def test_threads_share_a_tree(self):
-        def work(place):
-            with self.tree.begin() as job:
-                job.mkdir(place)
-                for number in range(20):
-                    job.write_bytes(f"{place}/{number}", b"bytes")
-                sizes.append(len(job.listdir(place)))
-
-        self.job.commit()
-        sizes = []
-        threads = [threading.Thread(target=work, args=(f"/{n}",)) for n in range(4)]
-        for thread in threads:
-            thread.start()
-        for thread in threads:
-            thread.join()
-        self.assertEqual(sizes, [20] * 4)
-        self.assertEqual(self.tree.begin().listdir(), ["0", "1", "2", "3"])
-
-
 class Paths(TreeTest):
     def test_directories(self):
         self.job.mkdir("/b")
         self.job.write_bytes("/a", b"four")
-        self.assertEqual(self.job.scandir(), [Entry("a", False), Entry("b", True)])
+        a, b = self.job.scandir()
+        self.assertEqual((a.name, a.path, a.is_dir(), a.is_file()), ("a", "/a", False, True))
+        self.assertEqual((b.name, b.path, b.is_dir(), b.is_file()), ("b", "/b", True, False))
+        self.assertEqual(a.stat().st_size, 4)
         self.assertEqual(self.job.stat("/b"), Info(is_dir=True, number=2, links=1, size=0))
         self.job.rmdir("/b")
         self.assertEqual(self.job.listdir("/"), ["a"])
@@ -250,17 +228,21 @@ class Paths(TreeTest):
     def test_directories_above(self):
         self.job.makedirs("/a/b/c")
         self.job.makedirs("a/b/d/")
-        self.job.makedirs(Path("/a"))
+        self.job.makedirs(Path("/a"), exist_ok=True)
+        with self.assertRaises(FileExistsError):
+            self.job.makedirs("/a/b")
         self.assertEqual(self.job.listdir("/a/b"), ["c", "d"])
         self.job.write_bytes("/a/f", b"")
         with self.assertRaises(FileExistsError):
-            self.job.makedirs("/a/f")
+            self.job.makedirs("/a/f", exist_ok=True)
         self.job.mkdir("/a", exist_ok=True)
 
     def test_paths_are_of_any_kind(self):
         self.job.mkdir(b"/\xff")
         self.job.mkdir(Path("/é"))
         self.assertEqual(self.job.listdir(), ["é", "\udcff"])
+        self.assertEqual(self.job.listdir(b"/"), ["é".encode(), b"\xff"])
+        self.assertEqual(self.job.scandir(b"/")[1].path, b"/\xff")
         self.assertTrue(self.job.exists("/\udcff") and self.job.exists(b"/\xc3\xa9"))
 
     def test_errors_have_their_filenames(self):
@@ -284,6 +266,21 @@ class Paths(TreeTest):
 
 
 class Trees(unittest.TestCase):
+    def test_trees_that_are_none(self):
+        with self.assertRaises(TypeError):
+            Tree(True)
+
+    def test_abort_by_number(self):
+        with Tree() as tree:
+            job = tree.begin()
+            job.mkdir("/a")
+            self.assertEqual(tree.abort(job.number), 1)
+            with self.assertRaises(Refused) as refused:
+                job.listdir()
+            self.assertEqual(refused.exception.name, "Ended")
+            with self.assertWarnsRegex(ResourceWarning, "Transaction 1"):
+                del job
+
     def test_closed_tree(self):
         with Tree() as tree:
             job = tree.begin()

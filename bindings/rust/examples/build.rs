@@ -26,8 +26,6 @@ const LIMIT: Duration = Duration::from_secs(60);
 /// What each target adds its name to.
 const LOG: &str = "/log";
 
-const EEXIST: i32 = 17;
-
 struct Target<'a> {
     path: &'a str,
     inputs: Vec<&'a str>,
@@ -156,14 +154,8 @@ fn make(job: &Transaction<Shared>, target: &Target) -> io::Result<()> {
 
 /// Makes the directories above a path, where they are missing.
 fn make_parents(job: &Transaction<Shared>, path: &str) -> Result<(), Error> {
-    let above: Vec<_> = Path::new(path).ancestors().skip(1).collect();
-    for directory in above.into_iter().rev().skip(1) {
-        match job.mkdir(directory) {
-            Ok(()) | Err(Error::Errno(EEXIST)) => {}
-            Err(error) => return Err(error),
-        }
-    }
-    Ok(())
+    let above = Path::new(path).parent().unwrap_or(Path::new("/"));
+    job.create_dir_all(above)
 }
 
 /// Makes what the targets begin with: the sources, and the directories of all files.

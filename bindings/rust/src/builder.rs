@@ -60,8 +60,12 @@ impl Builder {
         self
     }
 
-    /// A tree of the root alone. A limit above the greatest is refused as
-    /// [`BadLimits`](crate::Refusal::BadLimits).
+    /// A tree of the root alone.
+    ///
+    /// # Errors
+    ///
+    /// Refused as [`BadLimits`](crate::Refusal::BadLimits) where a limit is above the greatest, or
+    /// as `Memory`.
     pub fn build(self) -> Result<Tree> {
         Tree::open(self.rule, self.limits)
     }

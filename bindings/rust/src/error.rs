@@ -1,6 +1,7 @@
 //! What stands in the way of a request.
 
 use crate::sys;
+use std::path::{Path, PathBuf};
 use std::{error, fmt, io};
 
 /// Why a request is refused. Nothing has changed.
@@ -31,6 +32,8 @@ pub enum Refusal {
     ///
     /// [`Builder::build`]: crate::Builder::build
     BadLimits,
+    /// One that a later library knows, by its code.
+    Other(u32),
 }
 
 impl Refusal {
@@ -47,7 +50,7 @@ impl Refusal {
             1009 => Refusal::Live,
             1010 => Refusal::NoAsk,
             1012 => Refusal::BadLimits,
-            _ => unreachable!("the library answered {code}, which its header does not name"),
+            _ => Refusal::Other(code),
         }
     }
 }
@@ -55,6 +58,7 @@ impl Refusal {
 impl fmt::Display for Refusal {
     fn fmt(&self, f: &mut fmt::Formatter<'_>) -> fmt::Result {
         f.write_str(match self {
+            Refusal::Other(code) => return write!(f, "the request is refused as {code}"),
             Refusal::Memory => "there is no memory",
             Refusal::NoTxn => "there is no such transaction",
             Refusal::Ended => "the transaction has ended",
@@ -72,17 +76,30 @@ impl fmt::Display for Refusal {
 
 /// What stood in the way of a request.
 #[derive(Clone, Debug, PartialEq, Eq)]
+#[non_exhaustive]
 pub enum Error {
-    /// The call failed with this error number of the system, and changed nothing.
-    Errno(i32),
+    /// The call failed, and changed nothing.
+    #[non_exhaustive]
+    Errno {
+        /// The error number of the system, as of [`io::Error::raw_os_error`].
+        number: i32,
+        /// The path or the two paths that the call was given, or with which its file was opened.
+        paths: Vec<PathBuf>,
+    },
     /// The call waits for the transactions of these numbers, in rising order. To ask again, make
     /// the call again.
     Waits(Vec<u64>),
+    /// The call would wait for ever: each of these transactions waits for the next one, and the
+    /// last for the first, which made the call. That is forgotten. Drop that transaction, or let
+    /// it do something else, and the others go on.
+    Deadlock(Vec<u64>),
     /// The request is refused, and nothing has changed.
     Refused(Refusal),
-    /// A path has a null byte, a line asks for nothing that there is, a file is opened for neither
-    /// reading nor writing, or an offset or a length is 2^63 or more. Nothing has changed.
+    /// A path has a null byte, a line asks for nothing that there is, a file is opened as
+    /// `std::fs` opens none, or an offset or a length is 2^63 or more. Nothing has changed.
     Invalid,
+    /// The bytes of a file are no UTF-8.
+    NotUtf8,
 }
 
 /// What this crate answers.
@@ -92,39 +109,89 @@ impl Error {
     /// The error of a code that is neither 0 nor that of a call that waits.
     pub(crate) fn of(code: u32) -> Error {
         match code {
-            sys::BAD => Error::Invalid,
-            sys::CLOSED => unreachable!("the handle is open until it is dropped"),
+            sys::BAD | sys::CLOSED => Error::Invalid,
             sys::MEMORY.. => Error::Refused(Refusal::of(code)),
-            _ => Error::Errno(code as i32),
+            _ => Error::Errno {
+                number: code as i32,
+                paths: Vec::new(),
+            },
         }
+    }
+
+    /// The same error, about these paths.
+    pub(crate) fn about(mut self, about: &[&Path]) -> Error {
+        if let Error::Errno { paths, .. } = &mut self {
+            *paths = about.iter().map(|path| path.to_path_buf()).collect();
+        }
+        self
+    }
+
+    /// Its kind: that of the system's error, or `WouldBlock` where a call waits.
+    pub fn kind(&self) -> io::ErrorKind {
+        match self {
+            Error::Errno { number, .. } => io::Error::from_raw_os_error(*number).kind(),
+            Error::Waits(_) | Error::Deadlock(_) => io::ErrorKind::WouldBlock,
+            Error::Refused(Refusal::Memory) => io::ErrorKind::OutOfMemory,
+            Error::Refused(Refusal::BadLimits) => io::ErrorKind::InvalidInput,
+            Error::Refused(_) => io::ErrorKind::Other,
+            Error::Invalid => io::ErrorKind::InvalidInput,
+            Error::NotUtf8 => io::ErrorKind::InvalidData,
+        }
+    }
+
+    /// The error number of the system, of a call that failed.
+    pub fn raw_os_error(&self) -> Option<i32> {
+        match self {
+            Error::Errno { number, .. } => Some(*number),
+            _ => None,
+        }
+    }
+
+    /// The paths of a call that failed.
+    pub fn paths(&self) -> &[PathBuf] {
+        match self {
+            Error::Errno { paths, .. } => paths,
+            _ => &[],
+        }
+    }
+
+    /// The error inside an `io::Error` that came of one of this crate and has no error number, as
+    /// where a write to a [`File`](crate::File) waits.
+    pub fn inside(error: &io::Error) -> Option<&Error> {
+        error.get_ref()?.downcast_ref()
     }
 }
 
 impl fmt::Display for Error {
     fn fmt(&self, f: &mut fmt::Formatter<'_>) -> fmt::Result {
         match self {
-            Error::Errno(number) => io::Error::from_raw_os_error(*number).fmt(f),
+            Error::Errno { number, paths } => {
+                io::Error::from_raw_os_error(*number).fmt(f)?;
+                let mut before = ": ";
+                for path in paths {
+                    write!(f, "{before}{}", path.display())?;
+                    before = " -> ";
+                }
+                Ok(())
+            }
             Error::Waits(blockers) => write!(f, "the call waits for transactions {blockers:?}"),
+            Error::Deadlock(cycle) => write!(f, "transactions {cycle:?} wait for each other"),
             Error::Refused(refusal) => refusal.fmt(f),
             Error::Invalid => f.write_str("an argument is not valid"),
+            Error::NotUtf8 => f.write_str("the file is not of UTF-8"),
         }
     }
 }
 
 impl error::Error for Error {}
 
-/// An error number stays one, so that its kind is that of the system's. The others have the error
-/// inside.
+/// An error number stays one, so that its kind is that of the system's; it has no path then. The
+/// others have the error inside.
 impl From<Error> for io::Error {
     fn from(error: Error) -> io::Error {
-        let kind = match &error {
-            Error::Errno(number) => return io::Error::from_raw_os_error(*number),
-            Error::Waits(_) => io::ErrorKind::WouldBlock,
-            Error::Refused(Refusal::Memory) => io::ErrorKind::OutOfMemory,
-            Error::Refused(Refusal::BadLimits) => io::ErrorKind::InvalidInput,
-            Error::Refused(_) => io::ErrorKind::Other,
-            Error::Invalid => io::ErrorKind::InvalidInput,
-        };
-        io::Error::new(kind, error)
+        match error.raw_os_error() {
+            Some(number) => io::Error::from_raw_os_error(number),
+            None => io::Error::new(error.kind(), error),
+        }
     }
 }

@@ -1,12 +1,15 @@
 //! Open files.
 
 use crate::error::{Error, Result};
-use crate::sys::Flags;
+use crate::sys::{Answer, Flags, Handle};
 use crate::transaction::{signed, Metadata, Transaction};
 use crate::tree::Reach;
 use std::io::{self, SeekFrom};
+use std::path::{Path, PathBuf};
+use std::sync::Arc;
 
-/// How a file is opened, as `std::fs::OpenOptions` has it.
+/// How a file is opened, as `std::fs::OpenOptions` has it: what that refuses is invalid. (But a
+/// directory is not opened, for reading neither.)
 #[derive(Clone, Copy, Debug, Default, PartialEq, Eq)]
 pub struct OpenOptions {
     read: bool,
@@ -69,95 +72,157 @@ impl OpenOptions {
         }
     }
 
-    pub(crate) fn flags(&self) -> Flags {
-        Flags {
+    /// The flags as the library takes them. To make or cut what is not written is invalid, and so
+    /// is to cut what is written at its end.
+    pub(crate) fn flags(&self) -> Result<Flags> {
+        let is_valid = match (self.write, self.append) {
+            (true, false) => true,
+            (false, false) => !(self.truncate || self.create || self.create_new),
+            (_, true) => !self.truncate || self.create_new,
+        };
+        let flags = Flags {
             create: self.create || self.create_new,
             excl: self.create_new,
-            trunc: self.truncate,
+            trunc: self.truncate && !self.create_new,
             append: self.append,
-        }
+        };
+        is_valid.then_some(flags).ok_or(Error::Invalid)
     }
 }
 
-/// An open file of a transaction. It is closed where it is dropped, and what stands in the way of
-/// that is passed over; [`close`](File::close) tells it.
+/// How an open file has its transaction.
+pub trait Holder {
+    /// How that reaches its tree.
+    type Reach: Reach;
+
+    /// The transaction.
+    fn transaction(&self) -> &Transaction<Self::Reach>;
+}
+
+impl<R: Reach> Holder for &Transaction<R> {
+    type Reach = R;
+
+    fn transaction(&self) -> &Transaction<R> {
+        self
+    }
+}
+
+impl<R: Reach> Holder for Arc<Transaction<R>> {
+    type Reach = R;
+
+    fn transaction(&self) -> &Transaction<R> {
+        self
+    }
+}
+
+/// An open file that borrows its transaction.
+pub type File<'t, R> = OpenFile<&'t Transaction<R>>;
+
+/// An open file that has its transaction with others.
+pub type OwnedFile<R> = OpenFile<Arc<Transaction<R>>>;
+
+/// An open file of a transaction: a [`File`] or an [`OwnedFile`].
+///
+/// It is closed where it is dropped, at once: what has to wait, or stands in the way, is left to
+/// the commit of its transaction. It has no buffer: a `BufWriter` around it spares calls, and is
+/// best flushed before the file is closed, since one that is dropped passes over what stands in the
+/// way of its last bytes.
 #[derive(Debug)]
-pub struct File<'t, R: Reach> {
-    transaction: &'t Transaction<R>,
+pub struct OpenFile<H: Holder> {
+    holder: H,
     fd: u64,
+    path: PathBuf,
     is_open: bool,
 }
 
-impl<'t, R: Reach> File<'t, R> {
-    pub(crate) fn of(transaction: &'t Transaction<R>, fd: u64) -> File<'t, R> {
-        File {
-            transaction,
+impl<H: Holder> OpenFile<H> {
+    pub(crate) fn of(holder: H, fd: u64, path: PathBuf) -> OpenFile<H> {
+        OpenFile {
+            holder,
             fd,
+            path,
             is_open: true,
         }
     }
 
+    /// Makes a request about the file.
+    fn ask(&self, mut ask: impl FnMut(&mut Handle, u64, u64) -> Answer) -> Result<Answer> {
+        let transaction = self.holder.transaction();
+        transaction
+            .ask(|handle, txn| ask(handle, txn, self.fd))
+            .map_err(|error| error.about(&[&self.path]))
+    }
+
+    /// The path by which it was opened.
+    pub fn path(&self) -> &Path {
+        &self.path
+    }
+
     /// What there is to tell of it.
+    ///
+    /// # Errors
+    ///
+    /// `Waits`, `Deadlock`, or refused.
     pub fn metadata(&self) -> Result<Metadata> {
-        let told = self
-            .transaction
-            .ask(|handle, txn| handle.fstat(txn, self.fd))?;
-        Ok(Metadata::of(told))
+        Ok(Metadata::of(self.ask(Handle::fstat)?))
     }
 
     /// Cuts it to a length, or adds zeros up to it.
+    ///
+    /// # Errors
+    ///
+    /// EINVAL where it is not open for writing, EFBIG; `Invalid` where the length is 2^63 or more.
     pub fn set_len(&self, len: u64) -> Result<()> {
         let len = signed(len)?;
-        self.transaction
-            .ask(|handle, txn| handle.ftruncate(txn, self.fd, len))?;
+        self.ask(|handle, txn, fd| handle.ftruncate(txn, fd, len))?;
         Ok(())
     }
 
     /// Reads at an offset, and leaves that of the file: how many bytes there were.
+    ///
+    /// # Errors
+    ///
+    /// EBADF where it is not open for reading; `Invalid` where the offset is 2^63 or more.
     pub fn read_at(&self, buffer: &mut [u8], offset: u64) -> Result<usize> {
         let off = signed(offset)?;
-        let got = self
-            .transaction
-            .ask(|handle, txn| handle.pread(txn, self.fd, buffer, off))?;
+        let got = self.ask(|handle, txn, fd| handle.pread(txn, fd, buffer, off))?;
         Ok(got.number as usize)
     }
 
     /// Writes at an offset, and leaves that of the file: how many bytes had room.
+    ///
+    /// # Errors
+    ///
+    /// EBADF where it is not open for writing, EFBIG; `Invalid` where the offset is 2^63 or more.
     pub fn write_at(&self, bytes: &[u8], offset: u64) -> Result<usize> {
         let off = signed(offset)?;
-        let got = self
-            .transaction
-            .ask(|handle, txn| handle.pwrite(txn, self.fd, bytes, off))?;
+        let got = self.ask(|handle, txn, fd| handle.pwrite(txn, fd, bytes, off))?;
         Ok(got.number as usize)
     }
 
-    /// Closes it. Where that has to wait, it stays open in the tree.
+    /// Closes it. Where that has to wait too long, or has no memory, the commit of its transaction
+    /// closes it.
+    ///
+    /// # Errors
+    ///
+    /// `Waits`, `Deadlock`, or refused.
     pub fn close(mut self) -> Result<()> {
+        self.ask(Handle::close_file)?;
         self.is_open = false;
-        self.close_descriptor()
-    }
-
-    fn close_descriptor(&self) -> Result<()> {
-        self.transaction
-            .ask(|handle, txn| handle.close_file(txn, self.fd))?;
         Ok(())
     }
 }
 
-impl<R: Reach> io::Read for File<'_, R> {
+impl<H: Holder> io::Read for &OpenFile<H> {
     fn read(&mut self, buffer: &mut [u8]) -> io::Result<usize> {
-        let got = self
-            .transaction
-            .ask(|handle, txn| handle.read(txn, self.fd, buffer))?;
+        let got = self.ask(|handle, txn, fd| handle.read(txn, fd, buffer))?;
         Ok(got.number as usize)
     }
 }
 
-impl<R: Reach> io::Write for File<'_, R> {
+impl<H: Holder> io::Write for &OpenFile<H> {
     fn write(&mut self, bytes: &[u8]) -> io::Result<usize> {
-        let got = self
-            .transaction
-            .ask(|handle, txn| handle.write(txn, self.fd, bytes))?;
+        let got = self.ask(|handle, txn, fd| handle.write(txn, fd, bytes))?;
         Ok(got.number as usize)
     }
 
@@ -166,24 +231,44 @@ impl<R: Reach> io::Write for File<'_, R> {
     }
 }
 
-impl<R: Reach> io::Seek for File<'_, R> {
+impl<H: Holder> io::Seek for &OpenFile<H> {
     fn seek(&mut self, to: SeekFrom) -> io::Result<u64> {
         let (off, whence) = match to {
             SeekFrom::Start(offset) => (signed(offset)?, 0),
             SeekFrom::Current(distance) => (distance, 1),
             SeekFrom::End(distance) => (distance, 2),
         };
-        let moved = self
-            .transaction
-            .ask(|handle, txn| handle.lseek(txn, self.fd, off, whence))?;
+        let moved = self.ask(|handle, txn, fd| handle.lseek(txn, fd, off, whence))?;
         Ok(moved.number)
     }
 }
 
-impl<R: Reach> Drop for File<'_, R> {
+impl<H: Holder> io::Read for OpenFile<H> {
+    fn read(&mut self, buffer: &mut [u8]) -> io::Result<usize> {
+        (&*self).read(buffer)
+    }
+}
+
+impl<H: Holder> io::Write for OpenFile<H> {
+    fn write(&mut self, bytes: &[u8]) -> io::Result<usize> {
+        (&*self).write(bytes)
+    }
+
+    fn flush(&mut self) -> io::Result<()> {
+        Ok(())
+    }
+}
+
+impl<H: Holder> io::Seek for OpenFile<H> {
+    fn seek(&mut self, to: SeekFrom) -> io::Result<u64> {
+        (&*self).seek(to)
+    }
+}
+
+impl<H: Holder> Drop for OpenFile<H> {
     fn drop(&mut self) {
         if self.is_open {
-            let _ = self.close_descriptor();
+            self.holder.transaction().leave(self.fd);
         }
     }
 }

@@ -21,10 +21,11 @@
 //! # }
 //! ```
 //!
-//! [`Tree`] is for one thread at a time, and [`Shared`] for many. A [`Transaction`] is aborted
-//! where it is dropped, unless it has committed. A [`File`] is read and written by the traits of
-//! `std::io`. [`Error`] is what stands in the way of a request, and becomes an `io::Error` by
-//! `From`.
+//! [`Tree`] is for one thread at a time, and [`Shared`] for many, where a call that has to wait
+//! does so. A [`Transaction`] is aborted where it is dropped, unless it has committed; to take back
+//! a part of what it does, do that in a step and drop the step. A [`File`] is read and written by
+//! the traits of `std::io`. [`Error`] is what stands in the way of a request, and becomes an
+//! `io::Error` by `From`.
 //!
 //! A path is absolute or not, which is the same here: there is no working directory but the root.
 //!
@@ -85,9 +86,21 @@ mod file;
 mod sys;
 mod transaction;
 mod tree;
+mod waits;
+mod whole;
+mod within;
+
+#[cfg(not(unix))]
+compile_error!("nuzolged takes paths as Unix has them");
+
+#[cfg(doctest)]
+#[doc = include_str!("../README.md")]
+struct Readme;
 
 pub use builder::Builder;
 pub use error::{Error, Refusal, Result};
-pub use file::{File, OpenOptions};
+pub use file::{File, Holder, OpenFile, OpenOptions, OwnedFile};
 pub use transaction::{Entry, Kind, Metadata, Transaction};
 pub use tree::{Reach, Rule, Shared, Tree};
+pub use whole::{Place, Walk};
+pub use within::Within;

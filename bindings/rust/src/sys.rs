@@ -106,7 +106,6 @@ functions! {
     sub(txn: u64) = nuz_sub(txn => u64);
     commit(txn: u64) = nuz_commit(txn => u64);
     abort(txn: u64) = nuz_abort(txn => u64);
-    undo(txn: u64) = nuz_undo(txn => u64);
     forget(txn: u64) = nuz_drop(txn => u64);
     checkpoint() = nuz_checkpoint();
 

@@ -1,30 +1,33 @@
 //! Transactions, and their calls on paths.
 
-use crate::error::{Error, Result};
-use crate::file::{File, OpenOptions};
+use crate::error::{Error, Refusal, Result};
+use crate::file::{File, OpenFile, OpenOptions, OwnedFile};
 use crate::sys::{self, Answer, Handle};
 use crate::tree::{answered, Reach, Shared, Tree};
-use std::ffi::OsString;
+use std::ffi::{OsStr, OsString};
 use std::os::unix::ffi::{OsStrExt, OsStringExt};
-use std::path::Path;
-
-/// How many bytes of a whole file are read or written at once: the library makes a copy of them.
-const PIECE: usize = 1 << 26;
+use std::path::{Path, PathBuf};
+use std::sync::{Arc, Mutex, MutexGuard, PoisonError};
+use std::time::Duration;
 
 /// A live transaction: of a tree, or, as a step, of the transaction around it.
 ///
 /// It is aborted where it is dropped, with all that it and its steps have done, those that have
-/// committed included. [`commit`](Transaction::commit) keeps all of it.
+/// committed included. [`commit`](Transaction::commit) keeps all of it. To take back a part of what
+/// it does, do that in a step, and drop the step.
 ///
 /// One of a `&Tree` stays in its thread, and borrows what is around it: it can be committed only
 /// once its files are closed and its steps have ended. One of a [`Shared`] may go to another
-/// thread, and so may its steps; its files borrow it too.
+/// thread, and so may its steps; its files borrow it too, but for an [`OwnedFile`]. Threads may
+/// share it, by `&` or as an [`Arc`]: of their calls that wait, reports tell of the last alone.
 #[derive(Debug)]
 #[must_use = "a transaction that is dropped is aborted"]
 pub struct Transaction<R: Reach> {
     tree: R,
     number: u64,
     is_live: bool,
+    /// Descriptors that nobody has any more and that could not be closed yet.
+    left: Mutex<Vec<u64>>,
 }
 
 /// What a name leads to.
@@ -38,6 +41,7 @@ pub enum Kind {
 
 /// What there is to tell of a file or directory.
 #[derive(Clone, Copy, Debug, PartialEq, Eq)]
+#[non_exhaustive]
 pub struct Metadata {
     /// Which of the two it is.
     pub kind: Kind,
@@ -51,6 +55,7 @@ pub struct Metadata {
 
 /// A name of a directory.
 #[derive(Clone, Debug, PartialEq, Eq)]
+#[non_exhaustive]
 pub struct Entry {
     /// The name.
     pub name: OsString,
@@ -87,19 +92,62 @@ impl Metadata {
     pub fn is_dir(&self) -> bool {
         self.kind == Kind::Dir
     }
+
+    /// Whether it is of a file.
+    pub fn is_file(&self) -> bool {
+        self.kind == Kind::File
+    }
+}
+
+impl Entry {
+    /// The name.
+    pub fn file_name(&self) -> &OsStr {
+        &self.name
+    }
+
+    /// Whether it leads to a directory.
+    pub fn is_dir(&self) -> bool {
+        self.kind == Kind::Dir
+    }
+
+    /// Whether it leads to a file.
+    pub fn is_file(&self) -> bool {
+        self.kind == Kind::File
+    }
 }
 
 impl Transaction<&Tree> {
     /// Begins a step: a transaction inside this one.
+    ///
+    /// # Errors
+    ///
+    /// Refused as `Deep` or `Full`.
     pub fn begin(&self) -> Result<Transaction<&Tree>> {
         Ok(Transaction::of(self.tree, self.begin_step()?))
     }
 }
 
 impl Transaction<Shared> {
-    /// Begins a step: a transaction inside this one. A commit is refused while one is live.
+    /// Begins a step: a transaction inside this one, whose calls wait as long as those of this one.
+    /// A commit is refused while one is live.
+    ///
+    /// # Errors
+    ///
+    /// Refused as `Deep` or `Full`, or as `Ended` where one around it has been aborted.
     pub fn begin(&self) -> Result<Transaction<Shared>> {
         Ok(Transaction::of(self.tree.clone(), self.begin_step()?))
+    }
+
+    /// The same transaction with another time limit. Its end is that of this one.
+    pub(crate) fn alike(&self, limit: Duration) -> Transaction<Shared> {
+        let mut alike = Transaction::of(self.tree.with_limit(limit), self.number);
+        alike.is_live = false;
+        alike
+    }
+
+    /// Sets how long its calls wait from here on, and those of steps that are begun from here on.
+    pub fn set_limit(&mut self, limit: Duration) {
+        self.tree.set_limit(limit);
     }
 }
 
@@ -109,6 +157,7 @@ impl<R: Reach> Transaction<R> {
             tree,
             number,
             is_live: true,
+            left: Mutex::default(),
         }
     }
 
@@ -118,8 +167,30 @@ impl<R: Reach> Transaction<R> {
 
     /// Makes a request for this transaction.
     pub(crate) fn ask(&self, mut ask: impl FnMut(&mut Handle, u64) -> Answer) -> Result<Answer> {
-        self.tree
-            .reach(|handle| answered(handle, |handle| ask(handle, self.number)))
+        let request = |handle: &mut Handle| answered(handle, |handle| ask(handle, self.number));
+        self.tree.reach(self.number, request)
+    }
+
+    /// Makes a request about a path.
+    fn on(
+        &self,
+        path: &Path,
+        mut ask: impl FnMut(&mut Handle, u64, &[u8]) -> Answer,
+    ) -> Result<Answer> {
+        let bytes = path.as_os_str().as_bytes();
+        self.ask(|handle, txn| ask(handle, txn, bytes))
+            .map_err(|error| error.about(&[path]))
+    }
+
+    /// Makes a request about two paths.
+    fn on_both(
+        &self,
+        paths: [&Path; 2],
+        mut ask: impl FnMut(&mut Handle, u64, [&[u8]; 2]) -> Answer,
+    ) -> Result<Answer> {
+        let bytes = paths.map(|path| path.as_os_str().as_bytes());
+        self.ask(|handle, txn| ask(handle, txn, bytes))
+            .map_err(|error| error.about(&paths))
     }
 
     /// Makes a request that ends this transaction.
@@ -128,129 +199,236 @@ impl<R: Reach> Transaction<R> {
             .end(|handle| answered(handle, |handle| ask(handle, self.number)))
     }
 
+    /// Closes a descriptor that nobody has any more, without waiting. Where it would have to, a
+    /// commit closes it.
+    pub(crate) fn leave(&self, fd: u64) {
+        // (who waits asks again, since a thread that shares this transaction may have lost its ask)
+        let closed = self.tree.end(|handle| {
+            let closed = answered(handle, |handle| handle.close_file(self.number, fd));
+            if let Err(Error::Waits(_)) = closed {
+                handle.forget(self.number);
+            }
+            closed
+        });
+        if matches!(
+            closed,
+            Err(Error::Waits(_) | Error::Refused(Refusal::Memory | Refusal::Full))
+        ) {
+            self.left().push(fd);
+        }
+    }
+
+    pub(crate) fn left(&self) -> MutexGuard<'_, Vec<u64>> {
+        self.left.lock().unwrap_or_else(PoisonError::into_inner)
+    }
+
+    /// Closes what was left.
+    fn close_left(&self) -> Result<()> {
+        let left = self.left().clone();
+        for fd in left {
+            self.ask(|handle, txn| handle.close_file(txn, fd))?;
+            self.left().retain(|other| *other != fd);
+        }
+        Ok(())
+    }
+
     /// Its number, by which others are told that they wait for it.
     pub fn number(&self) -> u64 {
         self.number
     }
 
     /// Commits it: hands what it did to the transaction around it, or to the tree. Where that is
-    /// refused it is aborted.
-    pub fn commit(mut self) -> Result<()> {
-        self.end(Handle::commit)?;
-        self.is_live = false;
-        Ok(())
+    /// refused it is aborted; [`try_commit`](Transaction::try_commit) gives it back.
+    ///
+    /// # Errors
+    ///
+    /// Refused as `ChildLive` where a step is live, or as `Ended` where one around it has been
+    /// aborted; `Waits` or `Deadlock` where a file was dropped whose close has to wait.
+    pub fn commit(self) -> Result<()> {
+        self.try_commit().map_err(|(_, error)| error)
+    }
+
+    /// The same, but where it is refused the transaction is given back, as it was.
+    ///
+    /// # Errors
+    ///
+    /// Those of [`commit`](Transaction::commit).
+    pub fn try_commit(mut self) -> std::result::Result<(), (Transaction<R>, Error)> {
+        let committed = self.close_left().and_then(|()| self.end(Handle::commit));
+        match committed {
+            Ok(_) => {
+                self.is_live = false;
+                Ok(())
+            }
+            Err(error) => Err((self, error)),
+        }
     }
 
     /// Aborts it, and answers how many calls were taken back.
+    ///
+    /// # Errors
+    ///
+    /// Refused as `Ended` where one around it has been aborted, and it with that one.
     pub fn abort(mut self) -> Result<u64> {
         self.is_live = false;
         Ok(self.end(Handle::abort)?.number)
     }
 
-    /// Takes back the last of its own calls that stand, and answers the stamp of that call. It may
-    /// be one that only looked, as `stat` does, or that failed.
-    pub fn undo(&self) -> Result<u64> {
-        Ok(self.ask(Handle::undo)?.stamp)
-    }
-
-    /// Forgets the call that it waits for.
+    /// Forgets the call that it waits for. (A [`Shared`] forgets one that it gives up.)
+    ///
+    /// # Errors
+    ///
+    /// Refused as `NoAsk` where it waits for none.
+    #[doc(alias = "cancel")]
     pub fn forget(&self) -> Result<()> {
         self.ask(Handle::forget)?;
         Ok(())
     }
 
     /// Makes a directory.
+    ///
+    /// # Errors
+    ///
+    /// EEXIST, or one of the path: ENOENT, ENOTDIR, ENAMETOOLONG. As of each call: `Waits`,
+    /// `Deadlock`, or refused as `Ended` or `Full`.
+    #[doc(alias = "create_dir")]
     pub fn mkdir(&self, path: impl AsRef<Path>) -> Result<()> {
-        let path = bytes_of(path.as_ref());
-        self.ask(|handle, txn| handle.mkdir(txn, path))?;
+        self.on(path.as_ref(), Handle::mkdir)?;
         Ok(())
     }
 
     /// Removes an empty directory.
+    ///
+    /// # Errors
+    ///
+    /// EINVAL, ENOTEMPTY, EBUSY, or one of the path.
+    #[doc(alias = "remove_dir")]
     pub fn rmdir(&self, path: impl AsRef<Path>) -> Result<()> {
-        let path = bytes_of(path.as_ref());
-        self.ask(|handle, txn| handle.rmdir(txn, path))?;
+        self.on(path.as_ref(), Handle::rmdir)?;
         Ok(())
     }
 
     /// The names of a directory, in the order of their bytes.
+    ///
+    /// # Errors
+    ///
+    /// Those of the path.
+    #[doc(alias = "read_dir")]
     pub fn list(&self, path: impl AsRef<Path>) -> Result<Vec<Entry>> {
-        let path = bytes_of(path.as_ref());
-        self.tree.reach(|handle| {
-            let count = answered(handle, |handle| handle.list(self.number, path))?.number;
+        let path = path.as_ref();
+        let bytes = path.as_os_str().as_bytes();
+        let listed = self.tree.reach(self.number, |handle| {
+            let count = answered(handle, |handle| handle.list(self.number, bytes))?.number;
             (0..count as usize)
                 .map(|index| entry(handle, index))
                 .collect()
-        })
+        });
+        listed.map_err(|error| error.about(&[path]))
     }
 
     /// What a path leads to.
+    ///
+    /// # Errors
+    ///
+    /// Those of the path.
+    #[doc(alias = "metadata")]
     pub fn stat(&self, path: impl AsRef<Path>) -> Result<Metadata> {
-        let path = bytes_of(path.as_ref());
-        Ok(Metadata::of(
-            self.ask(|handle, txn| handle.stat(txn, path))?,
-        ))
+        Ok(Metadata::of(self.on(path.as_ref(), Handle::stat)?))
     }
 
-    /// Removes a name of a file.
+    /// Removes a name of a file. The file lives while it has another, or is open.
+    ///
+    /// # Errors
+    ///
+    /// EPERM where it is a directory, or one of the path.
+    #[doc(alias = "remove_file")]
     pub fn unlink(&self, path: impl AsRef<Path>) -> Result<()> {
-        let path = bytes_of(path.as_ref());
-        self.ask(|handle, txn| handle.unlink(txn, path))?;
+        self.on(path.as_ref(), Handle::unlink)?;
         Ok(())
     }
 
     /// Cuts a file to a length, or adds zeros up to it.
+    ///
+    /// # Errors
+    ///
+    /// EFBIG, EISDIR, or one of the path; `Invalid` where the length is 2^63 or more.
     pub fn truncate(&self, path: impl AsRef<Path>, len: u64) -> Result<()> {
-        let (path, len) = (bytes_of(path.as_ref()), signed(len)?);
-        self.ask(|handle, txn| handle.truncate(txn, path, len))?;
+        let len = signed(len)?;
+        self.on(path.as_ref(), |handle, txn, path| {
+            handle.truncate(txn, path, len)
+        })?;
         Ok(())
     }
 
     /// Gives a file a further name.
+    ///
+    /// # Errors
+    ///
+    /// EPERM where it is a directory, EEXIST, EMLINK, or one of the paths.
+    #[doc(alias = "hard_link")]
     pub fn link(&self, from: impl AsRef<Path>, to: impl AsRef<Path>) -> Result<()> {
-        let (from, to) = (bytes_of(from.as_ref()), bytes_of(to.as_ref()));
-        self.ask(|handle, txn| handle.link(txn, from, to))?;
+        self.on_both([from.as_ref(), to.as_ref()], |handle, txn, [from, to]| {
+            handle.link(txn, from, to)
+        })?;
         Ok(())
     }
 
     /// Gives a file or a directory another name, in place of what had that name.
+    ///
+    /// # Errors
+    ///
+    /// EINVAL where that is below it, EBUSY, EISDIR, ENOTEMPTY, or one of the paths.
     pub fn rename(&self, from: impl AsRef<Path>, to: impl AsRef<Path>) -> Result<()> {
-        let (from, to) = (bytes_of(from.as_ref()), bytes_of(to.as_ref()));
-        self.ask(|handle, txn| handle.rename(txn, from, to))?;
+        self.on_both([from.as_ref(), to.as_ref()], |handle, txn, [from, to]| {
+            handle.rename(txn, from, to)
+        })?;
         Ok(())
     }
 
-    /// Opens a file.
+    /// Opens a file, which borrows this transaction.
+    ///
+    /// # Errors
+    ///
+    /// `Invalid` where `std::fs` opens no file so; EEXIST, EISDIR, or one of the path.
     pub fn open(&self, path: impl AsRef<Path>, options: &OpenOptions) -> Result<File<'_, R>> {
-        let (path, access) = (bytes_of(path.as_ref()), options.access()?);
-        let flags = options.flags();
-        let opened = self.ask(|handle, txn| handle.open_file(txn, path, access, flags))?;
-        Ok(File::of(self, opened.number))
+        let (path, fd) = self.opened(path.as_ref(), options)?;
+        Ok(OpenFile::of(self, fd, path))
     }
 
-    /// All bytes of a file.
-    pub fn read(&self, path: impl AsRef<Path>) -> Result<Vec<u8>> {
-        let file = self.open(path, OpenOptions::new().read(true))?;
-        let mut bytes = vec![0; file.metadata()?.len as usize];
-        let mut count = 0;
-        for piece in bytes.chunks_mut(PIECE) {
-            count += file.read_at(piece, count as u64)?;
-        }
-        bytes.truncate(count);
-        file.close()?;
-        Ok(bytes)
+    /// Opens a file that has this transaction with others, so that it may be kept wherever, and go
+    /// to another thread. The transaction can be committed when nobody else has it.
+    ///
+    /// ```
+    /// # use nuzolged::{OpenOptions, Result, Tree};
+    /// # use std::sync::Arc;
+    /// # fn main() -> Result<()> {
+    /// let tree = Tree::new()?;
+    /// let job = Arc::new(tree.begin()?);
+    /// let log = job.open_owned("/log", OpenOptions::new().write(true).create(true))?;
+    /// log.write_at(b"all of it", 0)?;
+    /// log.close()?;
+    /// Arc::try_unwrap(job).expect("nobody else has it").commit()
+    /// # }
+    /// ```
+    ///
+    /// # Errors
+    ///
+    /// Those of [`open`](Transaction::open).
+    pub fn open_owned(
+        self: &Arc<Self>,
+        path: impl AsRef<Path>,
+        options: &OpenOptions,
+    ) -> Result<OwnedFile<R>> {
+        let (path, fd) = self.opened(path.as_ref(), options)?;
+        Ok(OpenFile::of(Arc::clone(self), fd, path))
     }
 
-    /// Makes a file of these bytes, in place of those that it had.
-    pub fn write(&self, path: impl AsRef<Path>, bytes: &[u8]) -> Result<()> {
-        let options = *OpenOptions::new().write(true).create(true).truncate(true);
-        let file = self.open(path, &options)?;
-        let mut written = 0;
-        while written < bytes.len() {
-            let end = bytes.len().min(written + PIECE);
-            written += file.write_at(&bytes[written..end], written as u64)?;
-        }
-        file.close()
+    fn opened(&self, path: &Path, options: &OpenOptions) -> Result<(PathBuf, u64)> {
+        let (access, flags) = (options.access()?, options.flags()?);
+        let opened = self.on(path, |handle, txn, path| {
+            handle.open_file(txn, path, access, flags)
+        })?;
+        Ok((path.to_path_buf(), opened.number))
     }
 }
 
@@ -261,10 +439,6 @@ impl<R: Reach> Drop for Transaction<R> {
             let _ = self.end(Handle::abort);
         }
     }
-}
-
-fn bytes_of(path: &Path) -> &[u8] {
-    path.as_os_str().as_bytes()
 }
 
 /// A length or an offset as the library takes it: one past its reach is past each file's too.

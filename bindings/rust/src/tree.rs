@@ -4,9 +4,13 @@ use crate::builder::Builder;
 use crate::error::{Error, Result};
 use crate::sys::{self, Answer, Handle, Limits};
 use crate::transaction::Transaction;
+use crate::waits;
 use std::cell::RefCell;
 use std::sync::{Arc, Condvar, Mutex, MutexGuard, PoisonError};
 use std::time::{Duration, Instant};
+
+/// How long a thread sleeps at most before its call is made again.
+const MOST_PAUSE: Duration = Duration::from_millis(50);
 
 /// Which locks are in a call's way.
 #[derive(Clone, Copy, Debug, Default, PartialEq, Eq)]
@@ -27,11 +31,19 @@ pub struct Tree {
 
 impl Tree {
     /// A tree of the root alone, by [`Rule::Profile`], with the greatest limits.
+    ///
+    /// # Errors
+    ///
+    /// Refused as `Memory`.
     pub fn new() -> Result<Tree> {
         Tree::with_rule(Rule::default())
     }
 
     /// A tree of the root alone, by a rule.
+    ///
+    /// # Errors
+    ///
+    /// Refused as `Memory`.
     pub fn with_rule(rule: Rule) -> Result<Tree> {
         Tree::builder().rule(rule).build()
     }
@@ -60,33 +72,60 @@ impl Tree {
     }
 
     /// Begins a transaction.
+    ///
+    /// # Errors
+    ///
+    /// Refused as `Full` where as many have begun since the last checkpoint as may.
     pub fn begin(&self) -> Result<Transaction<&Tree>> {
-        let number = self.reach(|handle| answered(handle, Handle::begin))?.number;
+        let number = self.once(|handle| answered(handle, Handle::begin))?.number;
         Ok(Transaction::of(self, number))
+    }
+
+    /// Aborts the transaction of this number, which nobody may have any more, as after
+    /// `std::mem::forget`, and answers how many calls were taken back.
+    ///
+    /// # Errors
+    ///
+    /// Refused as `NoTxn` or `Ended`.
+    pub fn abort(&self, number: u64) -> Result<u64> {
+        let aborted = self.end(|handle| answered(handle, |handle| handle.abort(number)))?;
+        Ok(aborted.number)
     }
 
     /// Makes the tree as it stands the beginning, and forgets the transactions: those and calls are
     /// counted from here. Takes no memory.
+    ///
+    /// # Errors
+    ///
+    /// Refused as `Live` where one was left live, as by `std::mem::forget`.
     pub fn checkpoint(&mut self) -> Result<()> {
         answered(self.handle.get_mut(), Handle::checkpoint)?;
         Ok(())
     }
 
     /// Carries out one line of a script, a report such as `tree`, `locks` or `waits` too, and
-    /// answers the text of the reply.
+    /// answers the text of the reply. A line may end a transaction of which somebody has a
+    /// [`Transaction`]: what that is asked for then is refused.
+    ///
+    /// # Errors
+    ///
+    /// `Invalid` where it is no line of a script.
     pub fn request(&self, line: &str) -> Result<String> {
-        self.reach(|handle| reply_to(handle, line))
+        self.once(|handle| reply_to(handle, line))
     }
 }
 
 /// A tree that threads share: each clone is of the same tree.
 ///
-/// A call that has to wait is made again whenever a transaction has ended, until a time limit is
-/// over; then it answers [`Error::Waits`]. That ends a cycle of transactions which wait for each
-/// other: drop the one that is told so, and begin again.
+/// A call that has to wait is made again whenever a transaction has ended, and some times a second
+/// (a call of a transaction around it may let it go on), until a time limit is over; then it is
+/// forgotten, and answers [`Error::Waits`]. Where it would wait for ever, since transactions wait for
+/// each other, it answers [`Error::Deadlock`] at once: drop the transaction that is told so, and
+/// begin again.
 #[derive(Clone, Debug)]
 pub struct Shared {
     inner: Arc<Inner>,
+    limit: Duration,
 }
 
 #[derive(Debug)]
@@ -94,39 +133,73 @@ struct Inner {
     handle: Mutex<Handle>,
     /// Told whenever a transaction has ended.
     ended: Condvar,
-    limit: Duration,
 }
 
 impl Shared {
     /// Shares a tree. A call waits as long as `limit`, and not longer.
     pub fn new(tree: Tree, limit: Duration) -> Shared {
         let handle = Mutex::new(tree.handle.into_inner());
+        let ended = Condvar::new();
         Shared {
-            inner: Arc::new(Inner {
-                handle,
-                ended: Condvar::new(),
-                limit,
-            }),
+            inner: Arc::new(Inner { handle, ended }),
+            limit,
+        }
+    }
+
+    /// The same tree with another limit, for the transactions that are begun by it.
+    #[must_use]
+    pub fn with_limit(&self, limit: Duration) -> Shared {
+        Shared {
+            inner: Arc::clone(&self.inner),
+            limit,
         }
     }
 
     /// Begins a transaction.
+    ///
+    /// # Errors
+    ///
+    /// Refused as `Full` where as many have begun since the last checkpoint as may.
     pub fn begin(&self) -> Result<Transaction<Shared>> {
-        let number = self.reach(|handle| answered(handle, Handle::begin))?.number;
+        let number = self.once(|handle| answered(handle, Handle::begin))?.number;
         Ok(Transaction::of(self.clone(), number))
     }
 
+    /// Aborts the transaction of this number, which may be another thread's, and answers how many
+    /// calls were taken back.
+    ///
+    /// # Errors
+    ///
+    /// Refused as `NoTxn` or `Ended`.
+    pub fn abort(&self, number: u64) -> Result<u64> {
+        let aborted = self.end(|handle| answered(handle, |handle| handle.abort(number)))?;
+        Ok(aborted.number)
+    }
+
     /// Makes the tree as it stands the beginning, and forgets the transactions: those and calls are
-    /// counted from here. Takes no memory. Refused while a transaction is live.
+    /// counted from here. Takes no memory.
+    ///
+    /// # Errors
+    ///
+    /// Refused as `Live` while a transaction is live.
     pub fn checkpoint(&self) -> Result<()> {
-        self.reach(|handle| answered(handle, Handle::checkpoint))?;
+        self.once(|handle| answered(handle, Handle::checkpoint))?;
         Ok(())
     }
 
     /// Carries out one line of a script, a report such as `tree`, `locks` or `waits` too, and
-    /// answers the text of the reply. It does not wait.
+    /// answers the text of the reply. It does not wait. A line may end a transaction of which
+    /// somebody has a [`Transaction`]: what that is asked for then is refused.
+    ///
+    /// # Errors
+    ///
+    /// `Invalid` where it is no line of a script.
     pub fn request(&self, line: &str) -> Result<String> {
         self.end(|handle| reply_to(handle, line))
+    }
+
+    pub(crate) fn set_limit(&mut self, limit: Duration) {
+        self.limit = limit;
     }
 
     /// The handle, for as long as the answer lives. (A thread that panics while it has the handle
@@ -156,8 +229,12 @@ pub(crate) mod sealed {
     use super::{Handle, Result};
 
     pub trait Reach {
-        /// Makes a request. Where others may end meanwhile, one that waits is made again.
-        fn reach<T>(&self, request: impl FnMut(&mut Handle) -> Result<T>) -> Result<T>;
+        /// Makes a request of a transaction. Where others may end meanwhile, one that waits is
+        /// made again.
+        fn reach<T>(&self, txn: u64, request: impl FnMut(&mut Handle) -> Result<T>) -> Result<T>;
+
+        /// Makes a request once.
+        fn once<T>(&self, request: impl FnOnce(&mut Handle) -> Result<T>) -> Result<T>;
 
         /// Makes a request by which a transaction may end.
         fn end<T>(&self, request: impl FnOnce(&mut Handle) -> Result<T>) -> Result<T>;
@@ -167,27 +244,41 @@ pub(crate) mod sealed {
 use sealed::Reach as _;
 
 impl sealed::Reach for &Tree {
-    fn reach<T>(&self, mut request: impl FnMut(&mut Handle) -> Result<T>) -> Result<T> {
+    fn reach<T>(&self, _: u64, request: impl FnMut(&mut Handle) -> Result<T>) -> Result<T> {
+        self.once(request)
+    }
+
+    fn once<T>(&self, request: impl FnOnce(&mut Handle) -> Result<T>) -> Result<T> {
         request(&mut self.handle.borrow_mut())
     }
 
     fn end<T>(&self, request: impl FnOnce(&mut Handle) -> Result<T>) -> Result<T> {
-        request(&mut self.handle.borrow_mut())
+        self.once(request)
     }
 }
 
 impl sealed::Reach for Shared {
-    fn reach<T>(&self, mut request: impl FnMut(&mut Handle) -> Result<T>) -> Result<T> {
-        let begun = Instant::now();
+    fn reach<T>(&self, txn: u64, mut request: impl FnMut(&mut Handle) -> Result<T>) -> Result<T> {
         let mut handle = self.lock();
+        let mut begun = None;
         loop {
             let answer = request(&mut handle);
-            let left = self.inner.limit.saturating_sub(begun.elapsed());
-            if left.is_zero() || !matches!(answer, Err(Error::Waits(_))) {
+            if !matches!(answer, Err(Error::Waits(_))) {
                 return answer;
             }
-            handle = self.sleep(handle, left);
+            let waited = begun.get_or_insert_with(Instant::now).elapsed();
+            let left = self.limit.saturating_sub(waited);
+            let cycle = waits::cycle(&mut handle, txn);
+            if left.is_zero() || cycle.is_some() {
+                handle.forget(txn);
+                return cycle.map_or(answer, |cycle| Err(Error::Deadlock(cycle)));
+            }
+            handle = self.sleep(handle, left.min(MOST_PAUSE));
         }
+    }
+
+    fn once<T>(&self, request: impl FnOnce(&mut Handle) -> Result<T>) -> Result<T> {
+        request(&mut self.lock())
     }
 
     fn end<T>(&self, request: impl FnOnce(&mut Handle) -> Result<T>) -> Result<T> {
@@ -218,7 +309,7 @@ fn blockers(handle: &mut Handle, count: u64) -> Vec<u64> {
 }
 
 /// The reply to a line of a script.
-fn reply_to(handle: &mut Handle, line: &str) -> Result<String> {
+pub(crate) fn reply_to(handle: &mut Handle, line: &str) -> Result<String> {
     if let code @ (sys::BAD | sys::MEMORY) = handle.request(line.as_bytes()).code {
         return Err(Error::of(code));
     }

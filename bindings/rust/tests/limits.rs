@@ -10,6 +10,11 @@ const FULL: Error = Error::Refused(Refusal::Full);
 const DEEP: Error = Error::Refused(Refusal::Deep);
 const BAD: Error = Error::Refused(Refusal::BadLimits);
 
+/// The error number of what went wrong.
+fn errno<T>(result: Result<T>) -> Option<i32> {
+    result.err()?.raw_os_error()
+}
+
 #[test]
 fn file_takes_no_more() -> Result<()> {
     let mut tree = Tree::builder().file_size(1_048_576).build()?;
@@ -17,12 +22,12 @@ fn file_takes_no_more() -> Result<()> {
     let most = vec![1; 1_048_576];
     job.write("/f", &most)?;
     assert_eq!(job.read("/f")?, most);
-    assert_eq!(job.write("/g", &[0; 1_048_577]), Err(Error::Errno(EFBIG)));
-    assert_eq!(job.truncate("/f", 1_048_577), Err(Error::Errno(EFBIG)));
+    assert_eq!(errno(job.write("/g", [0; 1_048_577])), Some(EFBIG));
+    assert_eq!(errno(job.truncate("/f", 1_048_577)), Some(EFBIG));
     job.commit()?;
     tree.checkpoint()?;
     let job = tree.begin()?;
-    assert_eq!(job.truncate("/f", 1_048_577), Err(Error::Errno(EFBIG)));
+    assert_eq!(errno(job.truncate("/f", 1_048_577)), Some(EFBIG));
     Ok(())
 }
 
@@ -32,7 +37,7 @@ fn file_has_no_more_names() -> Result<()> {
     let job = tree.begin()?;
     job.write("/f", b"")?;
     job.link("/f", "/g")?;
-    assert_eq!(job.link("/f", "/h"), Err(Error::Errno(EMLINK)));
+    assert_eq!(errno(job.link("/f", "/h")), Some(EMLINK));
     job.unlink("/g")?;
     job.link("/f", "/h")
 }
@@ -100,7 +105,7 @@ fn limits_that_are_not_set_are_the_greatest() -> Result<()> {
     job.write("/f", b"")?;
     job.truncate("/f", 1 << 32)?;
     assert_eq!(job.stat("/f")?.len, 1 << 32);
-    assert_eq!(job.truncate("/f", (1 << 47) + 1), Err(Error::Errno(EFBIG)));
+    assert_eq!(errno(job.truncate("/f", (1 << 47) + 1)), Some(EFBIG));
     for name in 1..=1500 {
         job.link("/f", name.to_string())?;
     }

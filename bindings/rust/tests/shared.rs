@@ -1,8 +1,8 @@
 //! A tree that threads share.
 
-use nuzolged::{Error, OpenOptions, Refusal, Result, Shared, Transaction, Tree};
-use std::io::Write;
-use std::sync::mpsc;
+use nuzolged::{Error, OpenOptions, OwnedFile, Refusal, Result, Rule, Shared, Transaction, Tree};
+use std::io::{ErrorKind, Write};
+use std::sync::{mpsc, Arc, Barrier};
 use std::thread;
 use std::time::{Duration, Instant};
 
@@ -53,20 +53,177 @@ fn call_waits_no_longer_than_the_limit() -> Result<()> {
 }
 
 #[test]
-fn cycle_is_ended_by_the_limit() -> Result<()> {
-    let tree = shared(SHORT)?;
+fn limits_are_of_the_tree_and_of_a_transaction() -> Result<()> {
+    let tree = shared(LONG)?;
+    let first = tree.begin()?;
+    first.mkdir("/a")?;
+    let second = tree.with_limit(SHORT).begin()?;
+    let mut third = tree.begin()?;
+    third.set_limit(SHORT);
+    let step = third.begin()?;
+    for job in [&second, &third, &step] {
+        let begun = Instant::now();
+        assert_eq!(job.stat("/a"), Err(Error::Waits(vec![first.number()])));
+        assert!(begun.elapsed() >= SHORT && begun.elapsed() < LONG);
+        assert!(!tree.request("waits")?.contains("lock"), "it is forgotten");
+    }
+    Ok(())
+}
+
+#[test]
+fn limit_is_of_a_call() -> Result<()> {
+    let tree = shared(LONG)?;
+    let (job, other) = (tree.begin()?, tree.begin()?);
+    job.write("/f", "bytes")?;
+    let begun = Instant::now();
+    assert_eq!(
+        other.within(SHORT).stat("/f"),
+        Err(Error::Waits(vec![job.number()]))
+    );
+    let step = other.within(SHORT).begin()?;
+    assert_eq!(step.stat("/f"), Err(Error::Waits(vec![job.number()])));
+    assert!(begun.elapsed() >= 2 * SHORT && begun.elapsed() < LONG);
+    drop(step);
+    job.commit()?;
+    let third = tree.begin()?;
+    let calls = other.within(SHORT);
+    let file = calls.open("/f", OpenOptions::new().read(true))?;
+    third.link("/f", "/g")?;
+    drop(file);
+    drop(calls);
+    third.commit()?;
+    other.commit()?;
+    assert!(!tree.request("tree")?.contains("fd"), "a commit closes it");
+    Ok(())
+}
+
+#[test]
+fn cycle_is_told_at_once() -> Result<()> {
+    let (tree, begun) = (shared(LONG)?, Instant::now());
     let (first, second) = (tree.begin()?, tree.begin()?);
     first.mkdir("/a")?;
     second.mkdir("/b")?;
-    let crossed = |job: Transaction<Shared>, path: &str| job.stat(path).and_then(|_| job.commit());
-    let ends = thread::scope(|threads| {
-        let first = threads.spawn(|| crossed(first, "/b"));
-        let second = threads.spawn(|| crossed(second, "/a"));
-        [first, second].map(|job| job.join().expect("it does not panic"))
-    });
-    assert!(ends.iter().any(|end| matches!(end, Err(Error::Waits(_)))));
-    assert_eq!(tree.request("waits")?, "edges 0\nranks\n");
+    let waiting = thread::spawn(move || first.stat("/b").and_then(|_| first.commit()));
+    wait_for(&tree, "edges 1\nedge 1 2 lock\nranks 1:1 2:0\n")?;
+    assert_eq!(second.stat("/a"), Err(Error::Deadlock(vec![2, 1])));
+    assert_eq!(
+        tree.request("waits")?,
+        "edges 1\nedge 1 2 lock\nranks 1:1 2:0\n"
+    );
+    second.commit()?;
+    assert_eq!(waiting.join().expect("it does not panic"), Ok(()));
+    assert!(begun.elapsed() < LONG);
     Ok(())
+}
+
+#[test]
+fn job_and_its_step_make_a_cycle_under_moss() -> Result<()> {
+    let tree = Shared::new(Tree::with_rule(Rule::Moss)?, LONG);
+    let job = tree.begin()?;
+    job.mkdir("/a")?;
+    let step = job.begin()?;
+    assert_eq!(step.stat("/a"), Err(Error::Deadlock(vec![2, 1])));
+    Ok(())
+}
+
+#[test]
+fn deadlocks_cost_no_time_limit() -> Result<()> {
+    let (tree, begun) = (shared(LONG)?, Instant::now());
+    for _ in 0..20 {
+        let meet = Barrier::new(2);
+        let cross = |here, there| -> Result<()> {
+            let job = tree.begin()?;
+            job.write(here, "1")?;
+            meet.wait();
+            job.write(there, "2")?;
+            job.commit()
+        };
+        let ends = thread::scope(|threads| {
+            [("/p", "/q"), ("/q", "/p")]
+                .map(|(here, there)| threads.spawn(move || cross(here, there)))
+                .map(|job| job.join().expect("it does not panic"))
+        });
+        let told = |end: &&Result<()>| matches!(end, Err(Error::Deadlock(_)));
+        assert_eq!(ends.iter().filter(told).count(), 1, "{ends:?}");
+    }
+    assert!(begun.elapsed() < LONG);
+    Ok(())
+}
+
+#[test]
+fn dropped_file_waits_for_nobody() -> Result<()> {
+    let tree = shared(LONG)?;
+    let prepared = tree.begin()?;
+    prepared.write("/f", "bytes")?;
+    prepared.commit()?;
+    let (job, other) = (tree.begin()?, tree.begin()?);
+    let files = (0..3)
+        .map(|_| job.open("/f", OpenOptions::new().read(true)))
+        .collect::<Result<Vec<_>>>()?;
+    other.link("/f", "/g")?;
+    let begun = Instant::now();
+    drop(files);
+    assert!(begun.elapsed() < LONG / 2, "a drop does not wait");
+    assert_eq!(tree.request("waits")?, "edges 0\nranks\n");
+    other.commit()?;
+    job.commit()?;
+    let report = tree.request("tree")?;
+    assert!(!report.contains("fd"), "a commit closes them: {report}");
+    Ok(())
+}
+
+#[test]
+fn commit_that_has_to_wait_gives_the_transaction_back() -> Result<()> {
+    let tree = shared(SHORT)?;
+    let prepared = tree.begin()?;
+    prepared.write("/f", "bytes")?;
+    prepared.commit()?;
+    let (job, other) = (tree.begin()?, tree.begin()?);
+    let file = job.open("/f", OpenOptions::new().read(true))?;
+    other.link("/f", "/g")?;
+    assert_eq!(file.close(), Err(Error::Waits(vec![other.number()])));
+    let (job, error) = job.try_commit().unwrap_err();
+    assert_eq!(error, Error::Waits(vec![other.number()]));
+    other.commit()?;
+    job.commit()?;
+    assert!(!tree.request("tree")?.contains("fd"));
+    Ok(())
+}
+
+#[test]
+fn forgotten_transaction_is_aborted_by_its_number() -> Result<()> {
+    let tree = shared(SHORT)?;
+    let job = tree.begin()?;
+    job.mkdir("/a")?;
+    let number = job.number();
+    std::mem::forget(job);
+    assert_eq!(tree.abort(number), Ok(1));
+    assert_eq!(tree.begin()?.list("/")?, []);
+    assert_eq!(tree.abort(number), Err(Error::Refused(Refusal::Ended)));
+    tree.checkpoint()
+}
+
+#[test]
+fn owned_file_goes_to_another_thread() -> Result<()> {
+    let tree = shared(LONG)?;
+    let job = Arc::new(tree.begin()?);
+    let options = *OpenOptions::new().write(true).create_new(true);
+    let mut log = job.open_owned("/log", &options)?;
+    let written = thread::spawn(move || log.write_all(b"all of it"));
+    written
+        .join()
+        .expect("it does not panic")
+        .expect("there is room");
+    assert_eq!(job.read("/log")?, b"all of it");
+    Arc::try_unwrap(job).expect("the file is closed").commit()
+}
+
+#[test]
+fn trees_and_transactions_go_between_threads() {
+    fn both<T: Send + Sync>() {}
+    both::<Shared>();
+    both::<Transaction<Shared>>();
+    both::<OwnedFile<Shared>>();
 }
 
 #[test]
@@ -83,6 +240,28 @@ fn waiting_step_is_ended_with_its_job() -> Result<()> {
     job.abort()?;
     let ended = waiting.join().expect("it does not panic");
     assert_eq!(ended, Err(Error::Refused(Refusal::Ended)));
+    Ok(())
+}
+
+#[test]
+fn waiting_step_goes_on_by_a_call_of_its_job() -> Result<()> {
+    let (tree, begun) = (shared(LONG)?, Instant::now());
+    let first = tree.begin()?;
+    first.mkdir("/p")?;
+    first.mkdir("/a")?;
+    first.commit()?;
+    let (job, other) = (tree.begin()?, tree.begin()?);
+    let step = job.begin()?;
+    other.mkdir("/a/x")?;
+    let waiting = thread::spawn(move || step.stat("/p/../a/x").err());
+    wait_for(
+        &tree,
+        "edges 2\nedge 2 4 child\nedge 4 3 lock\nranks 2:2 3:0 4:1\n",
+    )?;
+    job.rmdir("/p")?;
+    let told = waiting.join().expect("it does not panic");
+    assert_eq!(told.map(|error| error.kind()), Some(ErrorKind::NotFound));
+    assert!(begun.elapsed() < LONG, "it is made again");
     Ok(())
 }
 
@@ -131,7 +310,7 @@ fn commit_over_a_live_step_aborts() -> Result<()> {
 fn refusals_are_told() -> Result<()> {
     let tree = Shared::new(Tree::builder().depth(64).build()?, LONG);
     let mut jobs = vec![tree.begin()?];
-    assert_eq!(jobs[0].undo(), Err(Error::Refused(Refusal::NothingToUndo)));
+    assert_eq!(jobs[0].forget(), Err(Error::Refused(Refusal::NoAsk)));
     assert_eq!(tree.checkpoint(), Err(Error::Refused(Refusal::Live)));
     let refused = loop {
         match jobs[jobs.len() - 1].begin() {

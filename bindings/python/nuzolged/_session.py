@@ -1,0 +1,423 @@
+"""A tree of the library, one request at a time, each with the parts of its answer.
+
+The library keeps the last answer, of which names, blockers and replies are parts. So no other
+request may come between a request and its parts: other threads wait for the lock, and what a
+finalizer asks for, which the garbage collector may run anywhere, is put off until behind them.
+"""
+from __future__ import annotations
+
+import collections
+import ctypes
+import os
+import threading
+import time
+import weakref
+from typing import Callable, Optional
+
+from ._errors import AnyPath, Deadlock, Waits, error_of
+from ._library import BAD, CLOSED, DIR, FULL, MEMORY, WAITS, Answer, Handle, Limits, library
+
+#: A name has at most so many bytes.
+_LONGEST_NAME = 255
+
+#: The codes of what may be carried out when it is asked for again.
+_MAY_COME = (WAITS, MEMORY, FULL)
+
+#: The codes that are no reply to a line.
+NO_REPLY = (MEMORY, CLOSED, BAD)
+
+Request = tuple[str, tuple[object, ...]]
+Parts = Optional[Callable[[Answer], None]]
+
+
+class Session:
+    """A tree of the library, which threads share."""
+
+    def __init__(self, rule: int, limits: Limits, keeps_waits: bool) -> None:
+        self._handle = Handle()
+        #: Whether a call that does not wait, and has to, is kept.
+        self._keeps_waits = keeps_waits
+        #: The same, as the functions take it.
+        self._at = ctypes.byref(self._handle)
+        self._renew_lock()
+        #: Whether who has the lock is between a request and its parts. (Where an interrupt comes
+        #: too soon it stays, and nobody has the lock.)
+        self._is_amid = False
+        self._late: collections.deque[Late] = collections.deque()
+        #: The live transactions that somebody had when they began, by their numbers.
+        self._held: dict[int, Held] = {}
+        #: Those that nobody has any more. (No interrupt can come when one is added.)
+        self._dropped: collections.deque[weakref.ref[object]] = collections.deque()
+        #: The greatest number of a transaction that anybody knows of.
+        self.newest = 0
+        code = library.nuz_tree_open_with(self._at, rule, limits)
+        if code:
+            raise error_of(code)
+        _register(self)
+
+    def _renew_lock(self) -> None:
+        self.lock = threading.RLock()
+        self._ended = threading.Condition(self.lock)
+
+    def __del__(self) -> None:
+        library.nuz_tree_close(self._handle)
+
+    @property
+    def is_open(self) -> bool:
+        return bool(self._handle.at)
+
+    def close(self) -> None:
+        """Frees the tree, which wakes those that wait."""
+        with self.lock:
+            library.nuz_tree_close(self._at)
+            self._ended.notify_all()
+
+    def ask(
+        self,
+        request: Request,
+        paths: tuple[AnyPath, ...] = (),
+        timeout: float | None = 0,
+        parts: Parts = None,
+    ) -> Answer:
+        """Makes a request, and raises what stood in its way, about these paths. One that has to
+        wait is made again when a transaction has ended, for so many seconds."""
+        if timeout == 0 and self._keeps_waits:
+            answer = self._once(request, parts)
+        else:
+            answer = self._wait(request, parts, timeout)
+        if _elsewhere:
+            _make_late_elsewhere()
+        if not answer.code:
+            return answer
+        if answer.code != WAITS:
+            raise error_of(answer.code, *paths)
+        if answer.cycle:
+            raise Deadlock(answer.blockers, answer.cycle, *paths)
+        raise Waits(answer.blockers, *paths)
+
+    def end(self, request: Request) -> Answer:
+        """Makes a request by which transactions may end, and wakes who waits for them."""
+        try:
+            return self.ask(request)
+        finally:
+            self._wake()
+
+    def _wake(self) -> None:
+        with self.lock:
+            self._ended.notify_all()
+
+    def _once(self, request: Request, parts: Parts) -> Answer:
+        """Makes a request, and takes the parts of its answer."""
+        function, args = request
+        if self._is_amid and self._is_mine():
+            raise RuntimeError("a request of a finalizer or signal handler amid another one")
+        with self.lock:
+            if self._late or self._dropped:
+                self._make_late(True)
+            try:
+                self._is_amid = True
+                answer: Answer = getattr(library, function)(self._at, *args)
+                if answer.code == WAITS:
+                    answer.blockers = self._blockers(answer.number)
+                if parts:
+                    parts(answer)
+            except BaseException:
+                self._abort_unknown()
+                raise
+            finally:
+                self._is_amid = False
+                if self._late:
+                    self._make_late(True)
+        return answer
+
+    def _is_mine(self) -> bool:
+        """Whether this thread has the lock."""
+        return bool(self.lock._is_owned())  # type: ignore[attr-defined]
+
+    def hold(self, transaction: object, number: int) -> None:
+        """Takes note of a transaction, which is aborted when nobody has it any more."""
+        self._held[number] = Held(number, transaction, self._dropped.append)
+        self.newest = number
+
+    def let_go(self, number: int) -> None:
+        """Forgets a transaction that has ended."""
+        self._held.pop(number, None)
+
+    def _abort_unknown(self) -> None:
+        """Aborts what the last request began, where an interrupt has lost its number."""
+        words = self._text().split()
+        if words[:1] == [b"txn"] and int(words[1]) > self.newest:
+            self.newest = int(words[1])
+            library.nuz_abort(self._at, self.newest)
+
+    def _wait(self, request: Request, parts: Parts, timeout: float | None) -> Answer:
+        """Makes a request, and again where it has to wait, until the time is over or it would wait
+        for ever. Then it is forgotten, so that others are not told that it waits."""
+        with self.lock:
+            answer = self._once(request, parts)
+            end = _end_of(timeout) if answer.code == WAITS else None
+            while answer.code == WAITS:
+                number = request[1][0]
+                left = None if end is None else end - time.monotonic()
+                answer.cycle = self._cycle(number) if timeout != 0 else []
+                if answer.cycle or (left is not None and left <= 0):
+                    library.nuz_drop(self._at, number)
+                    break
+                self._sleep(left, number)
+                answer = self._once(request, parts)
+            return answer
+
+    def _sleep(self, seconds: float | None, number: object) -> None:
+        """Sleeps until a transaction has ended. At an interrupt what waits is forgotten."""
+        try:
+            self._ended.wait(seconds)
+        except BaseException:
+            library.nuz_drop(self._at, number)
+            raise
+
+    def _cycle(self, number: object) -> list[int]:
+        """The transactions of a cycle of waits that begins with this one; none where there is
+        none, or no memory to tell."""
+        waits: dict[int, list[int]] = {}
+        for words in map(bytes.split, self._report().splitlines()):
+            if words[0] == b"edge":
+                waits.setdefault(int(words[1]), []).append(int(words[2]))
+        return _way_back(number, waits) if isinstance(number, int) else []
+
+    def _report(self) -> bytes:
+        return self.line(b"waits").text
+
+    def line(self, words: bytes) -> Answer:
+        """Carries out a line of a script."""
+        return self._once(("nuz_request", (words, len(words))), self.take_text)
+
+    def line_of_user(self, words: bytes) -> Answer:
+        """The same for a line by which transactions may end."""
+        try:
+            return self.line(words)
+        finally:
+            self._wake()
+
+    def _blockers(self, count: int) -> list[int]:
+        return [library.nuz_blocker(self._at, index).number for index in range(count)]
+
+    def take_names(self, answer: Answer) -> None:
+        """Takes the names of a list, and which are of directories."""
+        if answer.code:
+            return
+        names = []
+        room = ctypes.create_string_buffer(_LONGEST_NAME)
+        for index in range(answer.number):
+            told = library.nuz_name(self._at, index, room, _LONGEST_NAME)
+            names.append((room.raw[: told.size], told.kind == DIR))
+        answer.names = names
+
+    def take_text(self, answer: Answer) -> None:
+        """Takes the reply to a line."""
+        if answer.code in NO_REPLY:
+            return
+        answer.text = self._text()
+        words = answer.text.split()
+        if words[:1] == [b"txn"]:
+            self.newest = int(words[1])
+
+    def _text(self, room: int = 256) -> bytes:
+        text = ctypes.create_string_buffer(room)
+        told = library.nuz_reply(self._at, text, room)
+        if told.code == MEMORY:
+            raise MemoryError
+        return text.raw[: told.size] if told.size <= room else self._text(told.size)
+
+    def put_off(self, late: Late, may_be_now: bool) -> None:
+        """Makes what a finalizer asks for: at once, unless it came amid a request, or before the
+        next one."""
+        self._late.append(late)
+        if not may_be_now or (self._is_amid and self._is_mine()):
+            return
+        if any(session._is_mine() for session in _all_sessions()):
+            # (who has a lock must not wait for another)
+            _elsewhere.append(self)
+        else:
+            self.make_late()
+
+    def make_late(self) -> None:
+        """Makes what was put off, but for what closes files."""
+        with self.lock:
+            self._make_late(False)
+
+    def _make_late(self, closes: bool) -> None:
+        left = []
+        try:
+            self._is_amid = True
+            while self._late:
+                late = self._late.popleft()
+                if late.make(closes):
+                    left.append(late)
+            while self._dropped:
+                self._abort_dropped(self._dropped.popleft())
+        finally:
+            self._is_amid = False
+            self._late.extend(left)
+            self._ended.notify_all()
+
+    def _abort_dropped(self, held: weakref.ref[object]) -> None:
+        """Aborts a transaction that nobody has, if an interrupt kept it from that."""
+        if isinstance(held, Held) and held.number in self._held:
+            del self._held[held.number]
+            self.try_once(("nuz_abort", (held.number,)))
+
+    def try_once(self, request: Request) -> bool:
+        """Makes a request of which nobody takes an answer. Whether that was of use, or none will
+        be: else it may be asked for again."""
+        function, args = request
+        with self.lock:
+            code: int = getattr(library, function)(self._at, *args).code
+            if code == WAITS:
+                library.nuz_drop(self._at, args[0])
+        return code not in _MAY_COME
+
+    def renew_after_fork(self) -> None:
+        """In the child this thread is alone: no other holds the lock or waits."""
+        self._renew_lock()
+
+
+class Held(weakref.ref):  # type: ignore[type-arg]
+    """Somebody's transaction, with its number."""
+
+    __slots__ = ("number",)
+
+    def __new__(cls, number: int, *args: object) -> Held:
+        return super().__new__(cls, *args)  # type: ignore[arg-type]
+
+    def __init__(self, number: int, *args: object) -> None:
+        super().__init__(*args)
+        self.number = number
+
+
+class Late:
+    """What finalizers ask for in the name of a transaction, in their order. What has to wait stays,
+    for the transaction to make before it commits.
+
+    The garbage collector may find a file before its buffer, which has bytes to write. So what is
+    closed is closed behind all that is written, and not before the next request.
+    """
+
+    def __init__(self, session: Session) -> None:
+        self._session = session
+        self._requests: collections.deque[Request] = collections.deque()
+        self._closes: collections.deque[Request] = collections.deque()
+        self._is_finishing = False
+
+    def put(self, function: str, *args: object) -> None:
+        self._requests.append((function, args))
+        self._session.put_off(self, True)
+
+    def put_close(self, *args: object) -> None:
+        self._closes.append(("nuz_close", args))
+        self._session.put_off(self, False)
+
+    def make(self, closes: bool) -> bool:
+        """Makes each at most once, as far as none has to wait. Whether files are left to close,
+        which are not closed here."""
+        while not self._is_finishing:
+            left = self._requests or (self._closes if closes else None)
+            if not left or not self._session.try_once(left[0]):
+                break
+            left.popleft()
+        return bool(self._closes) and not closes
+
+    def finish(self, timeout: float | None) -> None:
+        """Makes all of them, and raises what stood in the way of one."""
+        self._is_finishing = True
+        try:
+            while left := self._requests or self._closes:
+                self._finish_one(left, timeout)
+        finally:
+            self._is_finishing = False
+
+    def _finish_one(self, left: collections.deque[Request], timeout: float | None) -> None:
+        try:
+            self._session.ask(left[0], timeout=timeout)
+        except OSError as error:
+            if not isinstance(error, Waits):
+                left.popleft()
+            raise
+        left.popleft()
+
+
+def _end_of(timeout: float | None) -> float | None:
+    """When the time is over that begins now."""
+    return None if timeout is None else time.monotonic() + timeout
+
+
+def _way_back(start: int, waits: dict[int, list[int]]) -> list[int]:
+    """A shortest way along who waits for whom from a transaction back to itself."""
+    came_from = {start: start}
+    reached = collections.deque([start])
+    while reached:
+        here = reached.popleft()
+        for there in waits.get(here, []):
+            if there == start:
+                return _way_to(here, came_from)
+            if there not in came_from:
+                came_from[there] = here
+                reached.append(there)
+    return []
+
+
+def _way_to(end: int, came_from: dict[int, int]) -> list[int]:
+    way = [end]
+    while came_from[way[-1]] != way[-1]:
+        way.append(came_from[way[-1]])
+    return way[::-1]
+
+
+#: The trees of this process, and what whoever looks them up holds for no longer than that.
+_sessions: weakref.WeakSet[Session] = weakref.WeakSet()
+_registry = threading.RLock()
+
+#: The trees of which something was put off while a thread had the lock of another one.
+_elsewhere: collections.deque[Session] = collections.deque()
+
+#: Those whose locks a fork has.
+_locked: list[Session] = []
+
+
+def _register(session: Session) -> None:
+    with _registry:
+        _sessions.add(session)
+
+
+def _all_sessions() -> list[Session]:
+    with _registry:
+        return list(_sessions)
+
+
+def _make_late_elsewhere() -> None:
+    """Makes what was put off, once this thread has no lock."""
+    while _elsewhere and not any(session._is_mine() for session in _all_sessions()):
+        _elsewhere.popleft().make_late()
+
+
+def _before_fork() -> None:
+    """A fork waits until no thread makes a request."""
+    _locked[:] = _all_sessions()
+    for session in _locked:
+        session.lock.acquire()
+
+
+def _in_parent() -> None:
+    while _locked:
+        _locked.pop().lock.release()
+
+
+def _in_child() -> None:
+    global _registry
+    _registry = threading.RLock()
+    while _locked:
+        _locked.pop().renew_after_fork()
+
+
+os.register_at_fork(
+    before=_before_fork, after_in_parent=_in_parent, after_in_child=_in_child
+)

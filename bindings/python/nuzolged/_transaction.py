@@ -1,0 +1,180 @@
+"""Transactions."""
+from __future__ import annotations
+
+import contextlib
+import warnings
+import weakref
+from types import TracebackType
+from typing import TYPE_CHECKING
+
+from ._errors import AnyPath, Refused
+from ._library import Answer
+from ._session import Late, Parts, Request, Session
+from ._whole import Whole
+
+if TYPE_CHECKING:
+    from ._file import RawFile
+    from ._tree import Tree
+
+#: A time limit that is not given: that of what is around it.
+SAME = -1.0
+
+
+class Transaction(Whole):
+    """A transaction: of a tree, or, as a step, of the transaction around it.
+
+    As a context it is committed at the end, and aborted at an exception. Else it is live until
+    `commit` or `abort`, or until nobody has it any more: then it is aborted, with a
+    ResourceWarning. To take back a part of what it does, do that in a step and abort the step.
+    """
+
+    #: 0 until it has begun.
+    number: int = 0
+
+    def __init__(self, tree: Tree, around: Transaction | None, timeout: float | None) -> None:
+        self.tree = tree
+        #: How many seconds a call waits for others to end; with None, as long as it has to.
+        self.timeout = timeout
+        self._around = around
+        self._has_ended = False
+        self._late: Late = Late(tree.session)
+        #: Its open descriptors, and whose each is.
+        self._files: dict[int, weakref.ref[RawFile]] = {}
+        self.session: Session = tree.session
+        begun: Request = ("nuz_sub", (around.number,)) if around else ("nuz_begin", ())
+        self.session.ask(begun, parts=self._take_number)
+
+    def _take_number(self, answer: Answer) -> None:
+        if answer.code == 0:
+            self.number = answer.number
+            self.session.hold(self, answer.number)
+
+    def __repr__(self) -> str:
+        state = "ended" if self.is_over else "live"
+        return f"<Transaction {self.number}, {state}>"
+
+    def __enter__(self) -> Transaction:
+        return self
+
+    def __exit__(
+        self,
+        kind: type[BaseException] | None,
+        error: BaseException | None,
+        trace: TracebackType | None,
+    ) -> None:
+        try:
+            if kind is None and not self._has_ended:
+                self.commit()
+        finally:
+            if not self._has_ended:
+                with contextlib.suppress(Refused):  # one around it has been aborted
+                    self.abort()
+
+    def __del__(self) -> None:
+        if self.number and not self.is_over:
+            self._late.put("nuz_abort", self.number)
+            warnings.warn(f"neither committed nor aborted: {self!r}", ResourceWarning, source=self)
+
+    @property
+    def transaction(self) -> Transaction:
+        return self
+
+    @property
+    def is_over(self) -> bool:
+        """Whether it has committed or is aborted, or one around it is, or the tree is closed."""
+        around: Transaction | None = self
+        while around is not None and not around._has_ended:
+            around = around._around
+        return around is not None or not self.session.is_open
+
+    def begin(self, *, timeout: float | None = SAME) -> Transaction:
+        """Begins a step: a transaction inside this one. A commit is refused while one is live.
+
+        Args:
+            timeout: How many seconds its calls wait for others to end; with None, as long as they
+                have to. If it is not given, as those of this transaction.
+
+        Raises:
+            Refused: The transaction has ended, or stands too deep, or too many have begun.
+        """
+        return Transaction(self.tree, self, self.timeout if timeout == SAME else timeout)
+
+    def within(self, timeout: float | None) -> Within:
+        """Its calls, with another time limit: `job.within(0.5).mkdir("/a")`."""
+        return Within(self, timeout)
+
+    def commit(self) -> None:
+        """Commits it: hands what it did to the transaction around it, or to the tree. First it
+        makes what is left of files that nobody has any more: to write and to close them.
+
+        Raises:
+            ValueError: One of its files is open, so that what is buffered would be lost.
+            Refused: A step of it is live, or it has ended.
+            Waits: A file that nobody has any more has to wait. Commit again.
+        """
+        for held in list(self._files.values()):
+            file = held()
+            if file is not None:
+                raise ValueError(f"commit with an open file: {file.name!r}")
+        self._late.finish(self.timeout)
+        self.session.end(("nuz_commit", (self.number,)))
+        self._end()
+
+    def abort(self) -> int:
+        """Takes back all that it has done, with what its steps have done, and answers how many
+        calls that were.
+
+        Raises:
+            Refused: It has ended.
+        """
+        count = self.session.end(("nuz_abort", (self.number,))).number
+        self._end()
+        return count
+
+    def _end(self) -> None:
+        self._has_ended = True
+        self.session.let_go(self.number)
+
+    def forget(self) -> None:
+        """Forgets the call that it waits for, so that no report tells of it.
+
+        Raises:
+            Refused: It waits for none, or has ended.
+        """
+        self._ask("nuz_drop")
+
+    def _ask(
+        self,
+        function: str,
+        *args: object,
+        paths: tuple[AnyPath, ...] = (),
+        parts: Parts = None,
+    ) -> Answer:
+        return self.session.ask((function, (self.number, *args)), paths, self.timeout, parts)
+
+
+class Within(Whole):
+    """The calls of a transaction, with a time limit of their own."""
+
+    def __init__(self, transaction: Transaction, timeout: float | None) -> None:
+        self._transaction = transaction
+        #: How many seconds a call waits for others to end; with None, as long as it has to.
+        self.timeout = timeout
+
+    def __repr__(self) -> str:
+        return f"<{self._transaction!r} within {self.timeout} seconds>"
+
+    @property
+    def transaction(self) -> Transaction:
+        return self._transaction
+
+    def _ask(
+        self,
+        function: str,
+        *args: object,
+        paths: tuple[AnyPath, ...] = (),
+        parts: Parts = None,
+    ) -> Answer:
+        transaction = self._transaction
+        request = (function, (transaction.number, *args))
+        return transaction.session.ask(request, paths, self.timeout, parts)

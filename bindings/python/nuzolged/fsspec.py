@@ -1,0 +1,123 @@
+"""fsspec: a file system over a transaction. `with fs.transaction:` is a step, which takes back all
+that was done where it is left by an exception: `mkdir`, `mv` and `rm` too."""
+from __future__ import annotations
+
+import os
+import posixpath
+from typing import Any
+
+from fsspec import AbstractFileSystem  # type: ignore[import]
+from fsspec.transaction import Transaction as FsspecTransaction  # type: ignore[import]
+
+from ._told import Info
+from ._transaction import Transaction
+from ._tree import Tree
+
+
+class Step(FsspecTransaction):  # type: ignore[misc]
+    """fsspec's transaction, as a step."""
+
+    def start(self) -> None:
+        self.fs.begin_step()
+
+    def complete(self, commit: bool = True) -> None:
+        self.fs.end_step(commit)
+
+
+class NuzolgedFileSystem(AbstractFileSystem):  # type: ignore[misc]
+    """The file system of a transaction; of one of a new tree where none is given."""
+
+    protocol = "nuzolged"
+    root_marker = "/"
+    cachable = False
+    transaction_type = Step
+
+    def __init__(self, transaction: Transaction | None = None, **options: Any) -> None:
+        super().__init__(**options)
+        self._steps = [transaction or Tree().begin()]
+
+    @property
+    def at(self) -> Transaction:
+        """The innermost transaction, which makes the calls."""
+        return self._steps[-1]
+
+    @property
+    def transaction(self) -> FsspecTransaction:
+        return Step(self)
+
+    def start_transaction(self) -> FsspecTransaction:
+        step = Step(self)
+        step.start()
+        return step
+
+    def end_transaction(self) -> None:
+        self.end_step(True)
+
+    def begin_step(self) -> None:
+        self._steps.append(self.at.begin())
+
+    def end_step(self, commit: bool) -> None:
+        step = self._steps.pop()
+        if commit:
+            step.commit()
+        else:
+            step.abort()
+
+    @classmethod
+    def _strip_protocol(cls, path: Any) -> Any:
+        if isinstance(path, list):
+            return [cls._strip_protocol(each) for each in path]
+        name = os.fspath(path)
+        prefix = f"{cls.protocol}://"
+        return "/" + (name[len(prefix) :] if name.startswith(prefix) else name).strip("/")
+
+    @staticmethod
+    def _told(path: str, info: Info) -> dict[str, Any]:
+        kind = "directory" if info.is_dir else "file"
+        told = {"name": path, "size": info.size, "type": kind}
+        return {**told, "ino": info.number, "nlink": info.links}
+
+    def info(self, path: str, **_: Any) -> dict[str, Any]:
+        path = self._strip_protocol(path)
+        return self._told(path, self.at.stat(path))
+
+    def ls(self, path: str, detail: bool = True, **_: Any) -> list[Any]:
+        path = self._strip_protocol(path)
+        info = self.info(path)
+        if info["type"] == "file":
+            return [info] if detail else [path]
+        names = [posixpath.join(path, name) for name in self.at.listdir(path)]
+        return [self.info(name) for name in names] if detail else names
+
+    def mkdir(self, path: str, create_parents: bool = True, **_: Any) -> None:
+        path = self._strip_protocol(path)
+        if create_parents:
+            self.at.makedirs(path)
+        else:
+            self.at.mkdir(path)
+
+    def makedirs(self, path: str, exist_ok: bool = False) -> None:
+        self.at.makedirs(self._strip_protocol(path), exist_ok)
+
+    def rmdir(self, path: str) -> None:
+        self.at.rmdir(self._strip_protocol(path))
+
+    def _rm(self, path: str) -> None:
+        path = self._strip_protocol(path)
+        if self.at.isdir(path):
+            self.at.rmdir(path)
+        else:
+            self.at.unlink(path)
+
+    def mv(self, path1: str, path2: str, **_: Any) -> None:
+        self.at.rename(self._strip_protocol(path1), self._strip_protocol(path2))
+
+    def cp_file(self, path1: str, path2: str, **_: Any) -> None:
+        old, new = self._strip_protocol(path1), self._strip_protocol(path2)
+        if self.at.isdir(old):
+            self.at.makedirs(new, exist_ok=True)
+        else:
+            self.at.copyfile(old, new)
+
+    def _open(self, path: str, mode: str = "rb", **_: Any) -> Any:
+        return self.at.open(self._strip_protocol(path), mode)

@@ -1,0 +1,200 @@
+//! What takes several calls. Where one of them fails, those before it stand: to have all or
+//! nothing, do it in a step.
+
+use crate::error::{Error, Result};
+use crate::file::{File, OpenOptions};
+use crate::transaction::{Kind, Transaction};
+use crate::tree::Reach;
+use std::io;
+use std::path::{Path, PathBuf};
+
+/// How many bytes of a whole file are read or written at once: the library makes a copy of them.
+const PIECE: usize = 1 << 26;
+
+/// A file or directory that a [`Walk`] has come to.
+#[derive(Clone, Debug, PartialEq, Eq)]
+#[non_exhaustive]
+pub struct Place {
+    /// Its path, which begins with that of the walk.
+    pub path: PathBuf,
+    /// What it is.
+    pub kind: Kind,
+}
+
+/// Goes through what is below a directory: by [`Transaction::walk`].
+#[derive(Debug)]
+pub struct Walk<'t, R: Reach> {
+    transaction: &'t Transaction<R>,
+    /// What is still to come, the next one last.
+    left: Vec<Place>,
+}
+
+impl<R: Reach> Walk<'_, R> {
+    fn enter(&mut self, folder: &Path) -> Result<()> {
+        let names = self.transaction.list(folder)?;
+        self.left.extend(names.into_iter().rev().map(|entry| Place {
+            path: folder.join(entry.name),
+            kind: entry.kind,
+        }));
+        Ok(())
+    }
+}
+
+impl<R: Reach> Iterator for Walk<'_, R> {
+    type Item = Result<Place>;
+
+    fn next(&mut self) -> Option<Result<Place>> {
+        let place = self.left.pop()?;
+        let entered = match place.kind {
+            Kind::Dir => self.enter(&place.path),
+            Kind::File => Ok(()),
+        };
+        Some(entered.map(|()| place))
+    }
+}
+
+impl<R: Reach> Transaction<R> {
+    /// Whether a path leads to anything.
+    ///
+    /// # Errors
+    ///
+    /// Those of [`stat`](Transaction::stat) but ENOENT and ENOTDIR.
+    pub fn exists(&self, path: impl AsRef<Path>) -> Result<bool> {
+        const ENOTDIR: i32 = 20;
+        match self.stat(path) {
+            Ok(_) => Ok(true),
+            Err(error) if error.kind() == io::ErrorKind::NotFound => Ok(false),
+            Err(error) if error.raw_os_error() == Some(ENOTDIR) => Ok(false),
+            Err(error) => Err(error),
+        }
+    }
+
+    /// All bytes of a file.
+    ///
+    /// # Errors
+    ///
+    /// EISDIR where it is a directory, or one of the path.
+    pub fn read(&self, path: impl AsRef<Path>) -> Result<Vec<u8>> {
+        let file = self.open(path, OpenOptions::new().read(true))?;
+        let mut bytes = vec![0; file.metadata()?.len as usize];
+        let mut count = 0;
+        for piece in bytes.chunks_mut(PIECE) {
+            count += file.read_at(piece, count as u64)?;
+        }
+        bytes.truncate(count);
+        file.close()?;
+        Ok(bytes)
+    }
+
+    /// All of a file, as a text.
+    ///
+    /// # Errors
+    ///
+    /// Those of [`read`](Transaction::read), and `NotUtf8`.
+    pub fn read_to_string(&self, path: impl AsRef<Path>) -> Result<String> {
+        String::from_utf8(self.read(path)?).map_err(|_| Error::NotUtf8)
+    }
+
+    /// Makes a file of these bytes, in place of those that it had.
+    ///
+    /// # Errors
+    ///
+    /// EISDIR, EFBIG, or one of the path.
+    pub fn write(&self, path: impl AsRef<Path>, bytes: impl AsRef<[u8]>) -> Result<()> {
+        let file = self.created(path.as_ref())?;
+        write_all_at(&file, bytes.as_ref(), 0)?;
+        file.close()
+    }
+
+    /// Opens a file of no bytes for writing.
+    fn created(&self, path: &Path) -> Result<File<'_, R>> {
+        let options = *OpenOptions::new().write(true).create(true).truncate(true);
+        self.open(path, &options)
+    }
+
+    /// Makes a file of the bytes of another, in place of those that it had, and answers how many
+    /// they are. Where both are the same file, it stays as it is.
+    ///
+    /// # Errors
+    ///
+    /// EISDIR, EFBIG, or one of the paths.
+    pub fn copy(&self, from: impl AsRef<Path>, to: impl AsRef<Path>) -> Result<u64> {
+        let source = self.open(from, OpenOptions::new().read(true))?;
+        let (told, to) = (source.metadata()?, to.as_ref());
+        if self.exists(to)? && self.stat(to)?.number == told.number {
+            return source.close().map(|()| told.len);
+        }
+        let target = self.created(to)?;
+        let mut piece = vec![0; PIECE.min(told.len as usize)];
+        let mut copied = 0;
+        while copied < told.len {
+            let count = source.read_at(&mut piece, copied)?;
+            write_all_at(&target, &piece[..count], copied)?;
+            copied += count as u64;
+        }
+        target.close()?;
+        source.close().map(|()| copied)
+    }
+
+    /// Makes a directory, and those above it, where they are missing.
+    ///
+    /// # Errors
+    ///
+    /// EEXIST where it leads to a file, ENOTDIR where something above it does, or one of the path.
+    #[doc(alias = "mkdir -p")]
+    pub fn create_dir_all(&self, path: impl AsRef<Path>) -> Result<()> {
+        let path = path.as_ref();
+        let above: Vec<_> = path.ancestors().collect();
+        for directory in above.into_iter().rev() {
+            if !directory.as_os_str().is_empty() && !self.exists(directory)? {
+                self.mkdir(directory)?;
+            }
+        }
+        match self.stat(path)?.kind {
+            Kind::Dir => Ok(()),
+            Kind::File => self.mkdir(path),
+        }
+    }
+
+    /// Removes a directory with all below it.
+    ///
+    /// # Errors
+    ///
+    /// ENOTDIR where it is a file, EBUSY where it is the root, which is empty then, or one of the
+    /// path.
+    #[doc(alias = "rm -r")]
+    pub fn remove_dir_all(&self, path: impl AsRef<Path>) -> Result<()> {
+        let path = path.as_ref();
+        let below = self.walk(path)?.collect::<Result<Vec<_>>>()?;
+        for place in below.iter().rev() {
+            match place.kind {
+                Kind::Dir => self.rmdir(&place.path)?,
+                Kind::File => self.unlink(&place.path)?,
+            }
+        }
+        self.rmdir(path)
+    }
+
+    /// Goes through what is below a directory: each directory before what is in it, and names in
+    /// the order of their bytes. A directory is listed when it is come to.
+    ///
+    /// # Errors
+    ///
+    /// Those of [`list`](Transaction::list), here and of each directory that it comes to.
+    pub fn walk(&self, path: impl AsRef<Path>) -> Result<Walk<'_, R>> {
+        let (transaction, left) = (self, Vec::new());
+        let mut walk = Walk { transaction, left };
+        walk.enter(path.as_ref())?;
+        Ok(walk)
+    }
+}
+
+/// Writes all of these bytes at an offset, or tells what stood in the way of the rest.
+fn write_all_at<R: Reach>(file: &File<'_, R>, bytes: &[u8], offset: u64) -> Result<()> {
+    let mut written = 0;
+    while written < bytes.len() {
+        let end = bytes.len().min(written + PIECE);
+        written += file.write_at(&bytes[written..end], offset + written as u64)?;
+    }
+    Ok(())
+}
