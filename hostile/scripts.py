@@ -27,6 +27,10 @@ class Case:
         args = path[: -len(".ft")] + ".args"
         self.words = contents(args).decode().split() if os.path.exists(args) else []
 
+    def is_of_one_piece(self):
+        """It ends at a line that fails, or its first line says what all others need."""
+        return "--strict" in self.words or self.script.startswith(b"# needs")
+
     def requests(self):
         return requests_of(self.script)
 
@@ -40,7 +44,9 @@ def contents(path):
 
 
 def all_cases():
-    return [Case(path) for path in sorted(glob.glob(os.path.join(FOLDER, "*.ft")))]
+    """All scripts but those of which each line does not stand for itself."""
+    cases = [Case(path) for path in sorted(glob.glob(os.path.join(FOLDER, "*.ft")))]
+    return [case for case in cases if not case.is_of_one_piece()]
 
 
 def case_named(name):

@@ -3,14 +3,11 @@ use Rattle.std.proofs.Common.{◌≡◌, ◌≤◌, ℕ, suc, Bool, true, false,
 use Rattle.std.specs.Prelude.{◌==◌}
 use Rattle.std.specs.List.{onto_first}
 use Rattle.ft_words.specs.Spelling.{lines_of}
-use Rattle.ft_core.specs.declared.fault.Fault.{Fault}
-use Rattle.ft_core.specs.declared.request.Answer.{Answer}
 use Rattle.ft_core.specs.declared.request.Answer.TheVariants.{Cleared, Refused}
 use Rattle.ft_core.specs.declared.fault.Fault.TheVariants.{Memory as MemoryFault, Live as LiveFault}
-use Rattle.ft_core.specs.declared.request.Request.{Request}
 use Rattle.ft_core.specs.declared.request.Request.TheVariants.{Checkpoint}
 use Rattle.ft_core.specs.States.{State, after_checkpoint, has_live}
-use Rattle.ft_core.specs.Steps.{IsStep, MayWantMemory, exact_rule, fault_if, refusal_of}
+use Rattle.ft_core.specs.Steps.{IsStep, MayWantMemory, exact_rule, fault_if}
 use Rattle.ft_replies.specs.Requests.{meaning_of}
 use Rattle.ft_after.specs.After.{GoesWell, PlaysWell}
 
@@ -25,18 +22,6 @@ cleared old new h = either (has_live old) h
     either : (live : Bool) → MatchOption (fault_if live LiveFault None) (new ≡ after_checkpoint old) (λ fault. (Cleared ≡ Refused fault) × (new ≡ old)) → (live ≡ false) × (new ≡ after_checkpoint old)
     either true k = let no = k.0 in cc
     either false k = (refl, k)
-
--- a request that is refused changes nothing
-pub refused_stays : (old new : State) (request : Request) (fault : Fault) → IsStep exact_rule old request (Refused fault) new → new ≡ old
-refused_stays old new request fault h = either (refusal_of old request) h
-  where
-    either : (refusal : Option Fault) → MatchOption refusal ((fault ≡ MemoryFault) × MayWantMemory request × (new ≡ old)) (λ other. (Refused fault ≡ Refused other) × (new ≡ old)) → new ≡ old
-    either (Some other) k = k.1
-    either None k = k.2
-
--- so does one for which there is no memory
-pub wanting_stays : (old new : State) (request : Request) (answer : Answer) → IsStep exact_rule old request answer new → answer ≡ Refused MemoryFault → new ≡ old
-wanting_stays old new request answer h is = refused_stays old new request MemoryFault (subst (λ (a : Answer). IsStep exact_rule old request a new) is h)
 
 -- as Live, where a transaction is live
 pub found_live : (old new : State) → IsStep exact_rule old Checkpoint (Refused LiveFault) new → has_live old ≡ true

@@ -1,43 +1,23 @@
 -- What a script does that is played first.
-use Rattle.std.specs.Prelude.{◌≡◌, ◌≢◌, ◌⊎◌, ℕ, suc, Bool, true, false, List, [], ◌∷◌, ◌++◌, length, cond, Option, None, Some}
+use Rattle.std.specs.Prelude.{◌≡◌, ◌⊎◌, ℕ, suc, true, false, List, [], ◌∷◌, ◌++◌, length, cond, Option, None, Some}
 use Rattle.ft_moss.specs.declared.rule.Rule.{Rule}
-use Rattle.ft_posix.specs.declared.call.Reply.TheVariants.{Done, Names, Number, Bytes, Info, Failed}
-use Rattle.ft_core.specs.declared.fault.Fault.TheVariants.{Memory as MemoryFault}
 use Rattle.ft_core.specs.declared.request.Answer.{Answer}
-use Rattle.ft_core.specs.declared.request.Answer.TheVariants.{Txn, Granted, Waits, Dropped, Committed, Aborted, Undone, Cleared, Refused}
 use Rattle.ft_core.specs.declared.limits.Limits.{Limits}
 use Rattle.ft_core.specs.Limits.{are_within, greatest_limits}
 use Rattle.ft_core.specs.States.{State, after_checkpoint, first_state, has_live}
-use Rattle.ft_replies.specs.Lines.{IsLegal}
 use Rattle.ft_replies.specs.Requests.{meaning_of}
 use Rattle.ft_replies.specs.declared.line.Line.{Line}
 use Rattle.ft_replies.specs.declared.line.Line.TheVariants as line
+use Rattle.ft_strict.specs.Wells.{IsMet, is_well}
 use Rattle.ft_words.specs.Spelling.{lines_of}
 use Rattle.ft_after.specs.declared.fault.AfterFault.{AfterFault}
 use Rattle.ft_after.specs.declared.fault.AfterFault.TheVariants.{Memory, BadLimits, Script}
-
--- a request was granted, and did not fail
-abbrev pub is_well : Answer → Bool
-is_well (Txn txn) = true
-is_well (Granted stamp Done) = true
-is_well (Granted stamp (Names names)) = true
-is_well (Granted stamp (Number number)) = true
-is_well (Granted stamp (Bytes bytes)) = true
-is_well (Granted stamp (Info kind number links size)) = true
-is_well (Granted stamp (Failed errno)) = false
-is_well (Waits blockers) = false
-is_well Dropped = true
-is_well Committed = true
-is_well (Aborted calls) = true
-is_well (Undone stamp) = true
-is_well Cleared = true
-is_well (Refused fault) = false
 
 -- A line does what it asks for. A report changes nothing.
 abbrev pub GoesWell : State → Line → State → Type 0
 GoesWell old line.Silent new = new ≡ old
 GoesWell old line.Bad new = ⊥
-GoesWell old (line.Request request) new = (answer : Answer) × IsLegal old request answer new × (is_well answer ≡ true)
+GoesWell old (line.Request request) new = (answer : Answer) × IsMet old request answer new × (is_well answer ≡ true)
 GoesWell old (line.Report report) new = new ≡ old
 
 -- A line asks for nothing, or its request is refused, except for being out of memory, fails or
@@ -45,8 +25,7 @@ GoesWell old (line.Report report) new = new ≡ old
 abbrev pub GoesBadly : State → Line → State → Type 0
 GoesBadly old line.Silent new = ⊥
 GoesBadly old line.Bad new = new ≡ old
-GoesBadly old (line.Request request) new =
-    (answer : Answer) × IsLegal old request answer new × (is_well answer ≡ false) × (answer ≢ Refused MemoryFault)
+GoesBadly old (line.Request request) new = (answer : Answer) × IsMet old request answer new × (is_well answer ≡ false)
 GoesBadly old (line.Report report) new = ⊥
 
 -- Lines do, one after another.

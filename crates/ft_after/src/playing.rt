@@ -1,17 +1,17 @@
 // A script that is played first.
-ghost use Rattle.std.specs.Prelude.{◌≡◌, ◌↔◌, ◌<◌, ◌^◌, true, false, length, option_copied, IfErr, IfOk, IsTrue, OnErr, OnOk};
+ghost use Rattle.std.specs.Prelude.{◌≡◌, true, false, length, option_copied, IfErr, IfOk, OnErr, OnOk};
 ghost use Rattle.ft_core.specs.Living.{NoneIsLive};
 ghost use Rattle.ft_core.specs.Limits.{are_within, greatest_limits};
 ghost use Rattle.ft_core.specs.States.{at_base, first_state};
 ghost use Rattle.ft_replies.specs.Requests.{meaning_of};
 ghost use Rattle.ft_words.specs.Spelling.{lines_of};
-ghost use Rattle.ft_after.specs.After.{Begins, GoesBadly, GoesWell, IsPlayedFirst, PlaysWell, StopsBegin, StopsFirst, is_well, no_core};
+ghost use Rattle.ft_after.specs.After.{Begins, GoesBadly, GoesWell, IsPlayedFirst, PlaysWell, StopsBegin, StopsFirst, no_core};
 
 use crate::fault::AfterFault;
 use ft_base::Memory;
-use ft_calls::Reply;
-use ft_core::{Answer, Core, Fault, Limits, Request, Rule};
-use ft_replies::{Line, carry_out, meaning_of};
+use ft_core::{Core, Fault, Limits, Request, Rule};
+use ft_replies::{Line, meaning_of};
+use ft_strict::{is_well, try_carry_out};
 use ft_words::Lines;
 use std::alloc::Global;
 
@@ -110,31 +110,6 @@ fn does_well(core: &mut Core, request: Request) -> Result<bool, Memory>
     ensures badly { IfOk result (λ well. well ≡ false → GoesBadly core.old.state (Line.Request request) core.new.state) }
     ensures memory { OnErr result (core.new.state ≡ core.old.state) }
 {
-    let answer = carry_out(core, request);
-    if wants_memory(&answer) {
-        return Err(Memory);
-    }
+    let answer = try_carry_out(core, request)?;
     Ok(is_well(&answer))
-}
-
-// Whether there was no memory for a request.
-fn wants_memory(answer: &Answer) -> bool
-    ensures { IsTrue result ↔ answer.now ≡ Answer.Refused Fault.Memory }
-{
-    matches!(answer, Answer::Refused(Fault::Memory))
-}
-
-// Whether a request was granted and did not fail.
-fn is_well(answer: &Answer) -> bool
-    ensures { result ≡ is_well answer.now }
-{
-    match answer {
-        Answer::Granted {
-            reply: Reply::Failed(_),
-            ..
-        }
-        | Answer::Waits { .. }
-        | Answer::Refused(_) => false,
-        _ => true,
-    }
 }

@@ -4,7 +4,7 @@ use Prim.Native.Nat.{min, max}
 use Rattle.std.proofs.lemmas.List.{length-replicate, get_or_past}
 use Rattle.std.proofs.lemmas.List.FromFn.{length-map-range_with_len}
 use Rattle.std.proofs.lemmas.Bool.{cases_lt}
-use Rattle.ft_body.specs.declared.TheConstants.{LARGEST_SIZE}
+use Rattle.ft_body.specs.declared.TheConstants.{BLOCK_SIZE}
 use Rattle.ft_body.specs.Bytes.{resized, written}
 use Rattle.ft_body.specs.Paging.{byte_in, bytes_in, page_count, IsPaged, IsWritten, IsFront, IsFrontEnd, ArePages}
 use Rattle.ft_body.proofs.Filled.{fill-at, fill_resized, fill_written, fill_read, same_ends}
@@ -23,14 +23,14 @@ bytes_in-at size pages k paged = fill-at (byte_in pages) size k paged.past
 pub cut_paged : (size n : ℕ) (pages new : List (List ℕ)) → IsPaged size pages → n ≤ size → length new ≡ page_count n → ArePages new → IsFront (byte_in pages) (byte_in new) n
     → IsPaged n new
 cut_paged size n pages new paged h count each front =
-    let limit : size ≤ 140737488355328 = paged.limit in record { limit = omega arith; count = count; pages_are = each; past = front.zeros }
+    let limit : size ≤ 2097152 = paged.limit in record { limit = omega arith; count = count; pages_are = each; past = front.zeros }
 
 pub cut_resized : (size n : ℕ) (pages new : List (List ℕ)) → IsPaged size pages → IsPaged n new → IsFront (byte_in pages) (byte_in new) n
     → bytes_in n new ≡ resized (bytes_in size pages) n
 cut_resized size n pages new paged cut front = fill_resized (byte_in pages) (byte_in new) size n paged.past front
 
 -- pages that are lengthened by holes hold the bytes padded
-pub longer_paged : (size n more : ℕ) (pages new : List (List ℕ)) → IsPaged size pages → size ≤ n → n ≤ LARGEST_SIZE → new ≡ pages ++ replicate more [] → length pages + more ≡ page_count n
+pub longer_paged : (size n more : ℕ) (pages new : List (List ℕ)) → IsPaged size pages → size ≤ n → n ≤ BLOCK_SIZE → new ≡ pages ++ replicate more [] → length pages + more ≡ page_count n
     → IsPaged n new
 longer_paged size n more pages new paged h limit is count = rw is record {
   limit = limit;
@@ -45,12 +45,12 @@ longer_resized size n more pages new paged longer h is =
     fill_resized (byte_in pages) (byte_in new) size n paged.past record { before = λ k g. ap (λ ps. byte_in ps k) is ∙ byte_in-holes pages more k; zeros = longer.past }
 
 -- pages that are written hold the bytes written
-pub written_paged : (size n offset : ℕ) (pages new : List (List ℕ)) (bytes : List ℕ) → IsPaged size pages → 0 < length bytes → offset + length bytes ≤ LARGEST_SIZE
+pub written_paged : (size n offset : ℕ) (pages new : List (List ℕ)) (bytes : List ℕ) → IsPaged size pages → 0 < length bytes → offset + length bytes ≤ BLOCK_SIZE
     → n ≡ max size (offset + length bytes) → length new ≡ max (length pages) (page_count (offset + length bytes)) → ArePages new → IsWritten (byte_in pages) (byte_in new) offset bytes
     → IsPaged n new
 written_paged size n offset pages new bytes paged some limit is count each w =
-    let least : size ≤ 140737488355328 = paged.limit in
-    let most : offset + length bytes ≤ 140737488355328 = limit in
+    let least : size ≤ 2097152 = paged.limit in
+    let most : offset + length bytes ≤ 2097152 = limit in
     let had : length pages ≡ (size + 4095) / 4096 = paged.count in
     record {
       limit = omega arith;

@@ -1,7 +1,7 @@
 -- The pages of a body: which are made, and how the bytes stand in them. (Rules of this project.)
 use Rattle.std.specs.Prelude.{◌≡◌, ◌≢◌, ℕ, ◌+◌, ◌-◌, ◌*◌, ◌/◌, ◌%◌, ◌<◌, ◌≤◌, ◌==◌, Bool, true, not, ◌⊎◌, List, [], length, take, drop, map, count_by, slice_index, slice_index_or}
 use Rattle.std.specs.List.{list_any, range_with_len}
-use Rattle.ft_body.specs.declared.TheConstants.{LARGEST_SIZE, PAGE_SIZE}
+use Rattle.ft_body.specs.declared.TheConstants.{BLOCK_SIZE, PAGE_SIZE}
 
 -- the bytes of one page; pages count from 0, and the last has as many as there are
 abbrev pub page_of : List ℕ → ℕ → List ℕ
@@ -55,7 +55,7 @@ ArePages pages = (i : ℕ) → IsPage (slice_index_or pages i [])
 
 -- pages hold so many bytes: there are as many as these take, and behind the bytes are zeros
 pub record IsPaged (size : ℕ) (pages : List (List ℕ)) : Type 0 where
-  pub limit : size ≤ LARGEST_SIZE
+  pub limit : size ≤ BLOCK_SIZE
   pub count : length pages ≡ page_count size
   pub pages_are : ArePages pages
   pub past : (k : ℕ) → size ≤ k → byte_in pages k ≡ 0

@@ -14,14 +14,14 @@ use Rattle.ft_body.specs.Bytes.{laid_over}
 -- a part that is to be laid over its place is not longer than what is there
 abbrev pub LiesWithin : LostBytes → List ℕ → Type 0
 LiesWithin bytes.Nothing after = Unit {0}
-LiesWithin (bytes.Part from bytes size) after = from + length bytes.items ≤ length after
+LiesWithin (bytes.Part from size bytes) after = from + length bytes.items ≤ length after
 LiesWithin (bytes.Whole bytes) after = Unit {0}
 
 -- the bytes with what was lost put back: a part is laid over its place and the old length
 -- restored, and where all was lost it is all of them
 abbrev pub bytes_back : LostBytes → List ℕ → List ℕ
 bytes_back bytes.Nothing after = after
-bytes_back (bytes.Part from bytes size) after = take size (laid_over after from bytes.items)
+bytes_back (bytes.Part from size bytes) after = take size (laid_over after from bytes.items)
 bytes_back (bytes.Whole bytes) after = bytes.items
 
 -- a buffer's change is taken back by what it destroyed

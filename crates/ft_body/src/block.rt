@@ -1,10 +1,10 @@
 // A block of a body: some of its bytes, in pages.
 ghost use Rattle.std.specs.Prelude.{◌≡◌, ℕ, ◌+◌, ◌<◌, ◌≤◌, ◌≢◌, ◌++◌, [], length, slice_index, IfOk, OnOk, OnErr};
-ghost use Rattle.ft_body.specs.declared.TheConstants.{LARGEST_SIZE};
+ghost use Rattle.ft_body.specs.declared.TheConstants.{BLOCK_SIZE};
 ghost use Rattle.ft_body.specs.Bytes.{bytes_at, written, resized};
 ghost use Rattle.ft_body.specs.Paging.{made_pages, IsFrontEnd};
 
-use crate::LARGEST_SIZE;
+use crate::BLOCK_SIZE;
 use crate::block_undo::BlockUndo;
 use crate::page::Page;
 use crate::pages::{Lost, copy_of_pages, end_below, read as read_pages, resize, write};
@@ -50,7 +50,7 @@ impl Block {
     /// How many bytes there are.
     pub(crate) fn len(&self) -> usize
         ensures count { result ≡ length self.now }
-        ensures limit { result ≤ LARGEST_SIZE }
+        ensures limit { result ≤ BLOCK_SIZE }
     {
         self.size
     }
@@ -78,7 +78,7 @@ impl Block {
 
     /// Writes bytes at an offset. Zeros fill a gap before them. No bytes change nothing.
     pub(crate) fn write_at(&mut self, offset: usize, bytes: &[u8]) -> Result<BlockUndo, Memory>
-        requires { offset + length bytes.now ≤ LARGEST_SIZE }
+        requires { offset + length bytes.now ≤ BLOCK_SIZE }
         ensures after { OnOk result (self.new ≡ written self.old offset bytes.now) }
         ensures undo { IfOk result (λ undo. undo ≡ record { before = self.old; after = self.new }) }
         ensures err { OnErr result (self.new ≡ self.old) }
@@ -108,7 +108,7 @@ impl Block {
 
     /// Cuts the block to a size, or adds zeros up to it.
     pub(crate) fn set_len(&mut self, size: usize) -> Result<BlockUndo, Memory>
-        requires { size ≤ LARGEST_SIZE }
+        requires { size ≤ BLOCK_SIZE }
         ensures after { OnOk result (self.new ≡ resized self.old size) }
         ensures undo { IfOk result (λ undo. undo ≡ record { before = self.old; after = self.new }) }
         ensures err { OnErr result (self.new ≡ self.old) }

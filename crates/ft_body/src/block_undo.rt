@@ -14,7 +14,7 @@ use std::snapshot::Snapshot;
 /// change destroyed, and room for the pages in which that stood: the snapshots have no bytes.
 pub struct BlockUndo {
     lost: Lost,
-    size: usize,
+    size: u32,
     before: Snapshot<Vec<Page>>,
     size_after: Snapshot<usize>,
     after: Snapshot<Vec<Page>>,
@@ -62,7 +62,7 @@ impl BlockUndo {
     {
         BlockUndo {
             lost,
-            size,
+            size: size as u32,
             before,
             size_after,
             after,
@@ -84,6 +84,6 @@ impl BlockUndo {
             after: _,
         } = self;
         put_back(pages, lost);
-        *size = size_before;
+        *size = size_before as usize;
     }
 }

@@ -19,8 +19,8 @@ use std::snapshot::Snapshot;
 /// They stand in pages of `PAGE_SIZE` bytes. A page is made where one of its bytes is not zero; any
 /// other is a hole, which takes no bytes. The pages stand in blocks of 2 MiB, and a block of which
 /// no page is made is not there. A write takes time as the bytes that it writes and a page at most,
-/// a read as those that it gives. To lengthen takes neither time nor memory, and a cut takes both as
-/// the blocks and the pages of one block that stay, and the bytes of one page at most.
+/// and a read as those that it gives. To lengthen takes neither time nor memory; a cut takes both
+/// as the blocks and the pages of one block that stay, and the bytes of one page at most.
 #[derive(Drop)]
 pub struct Body {
     size: usize,

@@ -16,9 +16,9 @@ pub(crate) enum LostBytes {
     Nothing,
     /// Bytes that were overwritten, where they stood, and how many there were in all.
     Part {
-        from: usize,
+        from: u16,
+        size: u16,
         bytes: Vec<u8>,
-        size: usize,
     },
     /// All bytes, where fewer were left.
     Whole(Vec<u8>),
@@ -54,7 +54,8 @@ pub(crate) fn overwrite(
     start: usize,
     bytes: &[u8],
 ) -> Result<LostBytes, Memory>
-    requires { start + length bytes.now ≤ PAGE_SIZE }
+    requires room { start + length bytes.now ≤ PAGE_SIZE }
+    requires page { vec_len buffer.old ≤ PAGE_SIZE }
     ensures after { OnOk result (buffer.new.items ≡ written buffer.old.items start bytes.now) }
     ensures lost { IfOk result (λ lost. PutsBytesBack lost buffer.new.items buffer.old.items) }
     ensures err { OnErr result (buffer.new.items ≡ buffer.old.items) }
@@ -70,9 +71,9 @@ pub(crate) fn overwrite(
     buffer.resize(end.max(size), 0)?;
     lay_over(buffer, start, bytes);
     Ok(LostBytes::Part {
-        from,
+        from: from as u16,
+        size: size as u16,
         bytes: lost,
-        size,
     })
 }
 

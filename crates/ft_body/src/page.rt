@@ -95,9 +95,9 @@ impl Page {
     {
         match lost {
             LostBytes::Nothing => {}
-            LostBytes::Part { from, bytes, size } => {
-                lay_over(&mut self.bytes, from, &bytes);
-                self.bytes.truncate(size);
+            LostBytes::Part { from, size, bytes } => {
+                lay_over(&mut self.bytes, from as usize, &bytes);
+                self.bytes.truncate(size as usize);
             }
             LostBytes::Whole(bytes) => self.bytes = bytes,
         }

@@ -7,7 +7,7 @@ ghost use Rattle.ft_body.specs.PutBack.{PutsBack, PutPartsBack};
 
 use crate::buffer::{LostBytes, without_end_zeros};
 use crate::page::Page;
-use crate::{LARGEST_SIZE, PAGE_SIZE};
+use crate::{BLOCK_SIZE, PAGE_SIZE};
 use ft_base::Memory;
 use smallvec::SmallVec;
 use std::alloc::Global;
@@ -18,13 +18,13 @@ use std::mem;
 pub(crate) enum Lost {
     /// What stood in the pages that were written, from `first` on, and how many pages there were.
     Parts {
-        count: usize,
-        first: usize,
+        count: u16,
+        first: u16,
         parts: SmallVec<LostBytes, 1>,
     },
     /// The pages from before a cut. The first `kept` of them are holes here, since they stay.
     Tail {
-        kept: usize,
+        kept: u16,
         pages: Vec<Page>,
     },
 }
@@ -58,7 +58,7 @@ pub(crate) fn read(
     start: usize,
     count: usize,
 ) -> Result<(), Memory>
-    requires limit { start + count ≤ LARGEST_SIZE }
+    requires limit { start + count ≤ BLOCK_SIZE }
     requires room { count_of (start + count) ≤ length pages.now }
     requires pages { ArePages pages.now }
     ensures { OnOk result ((bytes : List ℕ) × (read.new.items ≡ read.old.items ++ bytes) × (length bytes ≡ count) × ((k : ℕ) → k < count → slice_index bytes k ≡ byte_in pages.now (start + k))) }
@@ -78,7 +78,7 @@ pub(crate) fn read(
 
 /// The length of the bytes before an index without the zeros at their end.
 pub(crate) fn end_below(pages: &[Page], size: usize) -> usize
-    requires limit { size ≤ LARGEST_SIZE }
+    requires limit { size ≤ BLOCK_SIZE }
     requires room { count_of size ≤ length pages.now }
     requires pages { ArePages pages.now }
     ensures { IsFrontEnd (byte_in pages.now) size result }
@@ -110,8 +110,9 @@ pub(crate) fn copy_of_pages(alloc: Global, pages: &[Page]) -> Result<Vec<Page>, 
 
 /// Writes bytes, at least one, from `offset` on.
 pub(crate) fn write(pages: &mut Vec<Page>, offset: usize, bytes: &[u8]) -> Result<Lost, Memory>
-    requires limit { offset + length bytes.now ≤ LARGEST_SIZE }
+    requires limit { offset + length bytes.now ≤ BLOCK_SIZE }
     requires some { 0 < length bytes.now }
+    requires count { vec_len pages.old ≤ count_of BLOCK_SIZE }
     requires pages { ArePages pages.old.items }
     ensures count { OnOk result (vec_len pages.new ≡ max (vec_len pages.old) (count_of (offset + length bytes.now))) }
     ensures pages { OnOk result (ArePages pages.new.items) }
@@ -124,8 +125,8 @@ pub(crate) fn write(pages: &mut Vec<Page>, offset: usize, bytes: &[u8]) -> Resul
     lengthen(pages, count.max(page_count(offset + bytes.len())))?;
     match write_each(alloc, pages, offset, bytes) {
         Ok(parts) => Ok(Lost::Parts {
-            count,
-            first: offset / PAGE_SIZE,
+            count: count as u16,
+            first: (offset / PAGE_SIZE) as u16,
             parts,
         }),
         Err(error) => {
@@ -142,7 +143,7 @@ fn write_each(
     offset: usize,
     bytes: &[u8],
 ) -> Result<SmallVec<LostBytes, 1>, Memory>
-    requires limit { offset + length bytes.now ≤ LARGEST_SIZE }
+    requires limit { offset + length bytes.now ≤ BLOCK_SIZE }
     requires some { 0 < length bytes.now }
     requires room { offset + length bytes.now ≤ length pages.old * PAGE_SIZE }
     requires pages { ArePages pages.old }
@@ -173,7 +174,7 @@ fn write_each(
 /// Cuts pages that hold `old_size` bytes to so many, or adds holes up to them.
 pub(crate) fn resize(pages: &mut Vec<Page>, old_size: usize, size: usize) -> Result<Lost, Memory>
     requires paged { IsPaged old_size pages.old.items }
-    requires limit { size ≤ LARGEST_SIZE }
+    requires limit { size ≤ BLOCK_SIZE }
     ensures paged { OnOk result (IsPaged size pages.new.items) }
     ensures after { OnOk result (bytes_in size pages.new.items ≡ resized (bytes_in old_size pages.old.items) size) }
     ensures lost { IfOk result (λ lost. PutsBack lost pages.new.items pages.old.items) }
@@ -191,7 +192,7 @@ pub(crate) fn resize(pages: &mut Vec<Page>, old_size: usize, size: usize) -> Res
 /// Cuts to so many bytes.
 fn cut(pages: &mut Vec<Page>, size: usize) -> Result<Lost, Memory>
     requires room { count_of size ≤ vec_len pages.old }
-    requires limit { size ≤ LARGEST_SIZE }
+    requires limit { size ≤ BLOCK_SIZE }
     requires pages { ArePages pages.old.items }
     ensures count { OnOk result (vec_len pages.new ≡ count_of size) }
     ensures pages { OnOk result (ArePages pages.new.items) }
@@ -208,7 +209,7 @@ fn cut(pages: &mut Vec<Page>, size: usize) -> Result<Lost, Memory>
     }
     swap_fronts(&mut front, pages, kept);
     Ok(Lost::Tail {
-        kept,
+        kept: kept as u16,
         pages: mem::replace(pages, front),
     })
 }
@@ -236,14 +237,14 @@ pub(crate) fn put_back(pages: &mut Vec<Page>, lost: Lost)
             first,
             parts,
         } => {
-            put_parts_back(pages, first, parts);
-            pages.truncate(count);
+            put_parts_back(pages, first as usize, parts);
+            pages.truncate(count as usize);
         }
         Lost::Tail {
             kept,
             pages: mut tail,
         } => {
-            swap_fronts(&mut tail, pages, kept);
+            swap_fronts(&mut tail, pages, kept as usize);
             *pages = tail;
         }
     }
@@ -262,10 +263,11 @@ fn put_parts_back(pages: &mut [Page], first: usize, mut parts: SmallVec<LostByte
 impl Lost {
     /// That nothing was.
     pub(crate) fn nothing(pages: &Vec<Page>) -> Lost
+        requires { vec_len pages.now ≤ count_of BLOCK_SIZE }
         ensures { (added : List (List ℕ)) → PutsBack result (pages.now.items ++ added) pages.now.items }
     {
         Lost::Parts {
-            count: pages.len(),
+            count: pages.len() as u16,
             first: 0,
             parts: SmallVec::new(*pages.allocator()),
         }

@@ -15,7 +15,7 @@ use Rattle.clap.specs.declared.error.kind.ErrorKind.TheVariants.{OutOfMemory}
 use Rattle.clap.proofs.OnLiterals.{clap_on_literals}
 use Rattle.ft_command.specs.declared.choice.Choice.{Choice}
 use Rattle.ft_command.specs.declared.choice.Choice.TheVariants.{Play, Dot, Load, Save, Jobs, Help, Usage, Fault}
-use Rattle.ft_command.specs.CommandLine.{ChoiceOf, ErrorChoice, IsFlag, Met, Names, ReadChoice, program}
+use Rattle.ft_command.specs.CommandLine.{ChoiceOf, ErrorChoice, IsFlag, Met, ReadChoice, program}
 
 pub is_free : is_simple_and_free program ≡ true
 unfolding clap_on_literals
@@ -25,39 +25,24 @@ is_plain : is_simple program ≡ true
 unfolding clap_on_literals
 is_plain = refl
 
--- the name of the subcommand that was met
-name_of_rows : (m : ArgMatches) → option_map (λ met. met.0) (subcommand_rows_of m) ≡ subcommand_name_of m
-name_of_rows m = both_ways (out-ArgMatches m).subcommand
-  where
-    both_ways : {Z : Type 0} (met : Option (Box SubCommand Z)) → option_map (λ p. p.0) (subcommand_rows met) ≡ option_map (λ b. (out-SubCommand (box_value b)).name.now) met
-    both_ways None = refl
-    both_ways (Some met) = refl
-
-found_under : (name : Text) (met : Met) → option_map (λ p. p.0) met ≡ Some name → Names name met
-found_under name None h = cc
-found_under name (Some p) h = (p.1, ap (option_map (λ n. (n, p.1))) h)
-
-pub is_named : (m : ArgMatches) (name : Text) → subcommand_name_of m ≡ Some name → Names name (subcommand_rows_of m)
-is_named m name h = found_under name (subcommand_rows_of m) (name_of_rows m ∙ h)
-
 pub choice_of_matches : (words : List Text) (m : ArgMatches) (choice : Choice) → fault_of program words ≡ [] → HasMatchesOf program words m → ReadChoice (subcommand_rows_of m) choice → ChoiceOf words choice
 choice_of_matches words m choice free rows h = go choice (subst (λ met. ReadChoice met choice) (rows is_plain).1 h)
   where
     go : (choice : Choice) → ReadChoice (subcommand_of program words) choice → ChoiceOf words choice
-    go (Play rule after limits) h = (free, h)
+    go (Play strict rule after limits) h = (free, h)
     go Dot h = (free, h)
-    go (Load dir skip quiet) h = (free, h)
-    go (Save dir quiet) h = (free, h)
+    go (Load dir skip quiet limits) h = (free, h)
+    go (Save dir quiet limits) h = (free, h)
     go (Jobs file turns quiet rule after limits) h = (free, h)
     go (Help text) h = absurd h
     go (Usage text) h = inr (free, h)
     go Fault h = tt
 
 pub choice_of_error : (words : List Text) (kind : ErrorKind) (choice : Choice) → (kind ≡ OutOfMemory) ⊎ IsAmong kind (fault_of program words) → ErrorChoice kind choice → ChoiceOf words choice
-choice_of_error words kind (Play rule after limits) among h = absurd h
+choice_of_error words kind (Play strict rule after limits) among h = absurd h
 choice_of_error words kind Dot among h = absurd h
-choice_of_error words kind (Load dir skip quiet) among h = absurd h
-choice_of_error words kind (Save dir quiet) among h = absurd h
+choice_of_error words kind (Load dir skip quiet limits) among h = absurd h
+choice_of_error words kind (Save dir quiet limits) among h = absurd h
 choice_of_error words kind (Jobs file turns quiet rule after limits) among h = absurd h
 choice_of_error words kind (Help text) (inl is) h = cc
 choice_of_error words kind (Help text) (inr among) h = subst (λ k. IsAmong k (fault_of program words)) h among

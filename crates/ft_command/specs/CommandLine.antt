@@ -11,6 +11,7 @@ use Rattle.clap.specs.declared.error.kind.ErrorKind.TheVariants.{DisplayHelp, Ou
 use Rattle.ft_moss.specs.declared.rule.Rule.{Rule as LockRule}
 use Rattle.ft_moss.specs.Rules.{is_strict}
 use Rattle.ft_command.specs.Limits.{HasBadLimit, TellsLimits, limited}
+use Rattle.ft_command.specs.declared.limits.AskedLimits.{AskedLimits}
 use Rattle.ft_command.specs.declared.choice.Choice.{Choice}
 use Rattle.ft_command.specs.declared.choice.Choice.TheVariants.{Play, Dot, Load, Save, Jobs, Help, Usage, Fault}
 
@@ -43,17 +44,26 @@ skip_rule = record (new_rule (codes "skip")) { long = Some (codes "skip"); actio
 abbrev pub after_rule : Rule
 after_rule = record (new_rule (codes "after")) { long = Some (codes "after"); value_names = 1 }
 
--- `play`, which may have `--moss` and `--after FILE`, and as each other the flags for limits
+-- `--strict`, where each line of a script has to do what it asks for
+abbrev pub strict_rule : Rule
+strict_rule = record (new_rule (codes "strict")) { long = Some (codes "strict"); action = Some SetTrue }
+
+-- `play`, which may have `--strict`, `--moss` and `--after FILE`, and as each other the flags for
+-- limits
 abbrev pub play : App
-play = limited (with_rule (with_rule (new_app (codes "play")) moss_rule) after_rule)
+play = limited (with_rule (with_rule (with_rule (new_app (codes "play")) strict_rule) moss_rule) after_rule)
+
+-- `dot`
+abbrev pub dot : App
+dot = limited (new_app (codes "dot"))
 
 -- `load`, which needs a directory and may have `--skip`
 abbrev pub load : App
-load = with_rule (with_rule (with_rule (new_app (codes "load")) dir_rule) skip_rule) quiet_rule
+load = limited (with_rule (with_rule (with_rule (new_app (codes "load")) dir_rule) skip_rule) quiet_rule)
 
 -- `save`, which needs a directory
 abbrev pub save : App
-save = with_rule (with_rule (new_app (codes "save")) dir_rule) quiet_rule
+save = limited (with_rule (with_rule (new_app (codes "save")) dir_rule) quiet_rule)
 
 -- `jobs`, which needs a file and may have `--turns N`, `--quiet`, `--moss` and `--after FILE`
 abbrev pub jobs : App
@@ -71,7 +81,7 @@ bare =
 
 -- it has `play` and `dot`
 abbrev pub with_filters : App
-with_filters = with_subcommand (with_subcommand bare play.top) (new_app (codes "dot")).top
+with_filters = with_subcommand (with_subcommand bare play.top) dot.top
 
 -- `load` and `save`
 abbrev pub with_folders : App
@@ -84,10 +94,6 @@ program = with_subcommand with_folders jobs.top
 -- a subcommand by its name, with what was found for it (clap's rows)
 abbrev pub Met : Type 0
 Met = Option (Text × List Row)
-
--- it has this name
-abbrev pub Names : Text → Met → Type 0
-Names name met = (found : List Row) × (met ≡ Some (name, found))
 
 -- A flag stands where the text that was found for it is `true`, and does not where that is
 -- `false`, or nothing was found.
@@ -119,11 +125,13 @@ TellsDir found dir = first_of (codes "dir") found ≡ Some dir
 -- The choice where the words name this subcommand: a usage text only where the value of a flag is no
 -- limit.
 abbrev pub ReadChoice : Met → Choice → Type 0
-ReadChoice met (Play rule after limits) =
-    (found : List Row) × (met ≡ Some (codes "play", found)) × TellsRule found rule × TellsAfter found (option_map string_bytes after) × TellsLimits found limits
-ReadChoice met Dot = Names (codes "dot") met
-ReadChoice met (Load dir skip quiet) = (found : List Row) × (met ≡ Some (codes "load", found)) × TellsDir found (string_bytes dir) × IsFlag (one_of (codes "skip") found) skip × IsFlag (one_of (codes "quiet") found) quiet
-ReadChoice met (Save dir quiet) = (found : List Row) × (met ≡ Some (codes "save", found)) × TellsDir found (string_bytes dir) × IsFlag (one_of (codes "quiet") found) quiet
+ReadChoice met (Play strict rule after limits) =
+    (found : List Row) × (met ≡ Some (codes "play", found)) × IsFlag (one_of (codes "strict") found) strict × TellsRule found rule × TellsAfter found (option_map string_bytes after) × TellsLimits found limits
+ReadChoice met Dot = (found : List Row) × (met ≡ Some (codes "dot", found)) × ((limits : AskedLimits) × TellsLimits found limits)
+ReadChoice met (Load dir skip quiet limits) =
+    (found : List Row) × (met ≡ Some (codes "load", found)) × TellsDir found (string_bytes dir) × IsFlag (one_of (codes "skip") found) skip × IsFlag (one_of (codes "quiet") found) quiet × TellsLimits found limits
+ReadChoice met (Save dir quiet limits) =
+    (found : List Row) × (met ≡ Some (codes "save", found)) × TellsDir found (string_bytes dir) × IsFlag (one_of (codes "quiet") found) quiet × TellsLimits found limits
 ReadChoice met (Jobs file turns quiet rule after limits) =
     (found : List Row) × (met ≡ Some (codes "jobs", found)) × TellsJobs found (string_bytes file) turns quiet × TellsRule found rule × TellsAfter found (option_map string_bytes after) × TellsLimits found limits
 ReadChoice met (Help text) = ⊥
@@ -133,10 +141,10 @@ ReadChoice met Fault = Unit {0}
 -- The choice at an error of this kind: a help text just for a request of help, and a usage text
 -- for a mistake. Want of memory may stand in place of any.
 abbrev pub ErrorChoice : ErrorKind → Choice → Type 0
-ErrorChoice kind (Play rule after limits) = ⊥
+ErrorChoice kind (Play strict rule after limits) = ⊥
 ErrorChoice kind Dot = ⊥
-ErrorChoice kind (Load dir skip quiet) = ⊥
-ErrorChoice kind (Save dir quiet) = ⊥
+ErrorChoice kind (Load dir skip quiet limits) = ⊥
+ErrorChoice kind (Save dir quiet limits) = ⊥
 ErrorChoice kind (Jobs file turns quiet rule after limits) = ⊥
 ErrorChoice kind (Help text) = kind ≡ DisplayHelp
 ErrorChoice kind (Usage text) = (kind ≢ DisplayHelp) × (kind ≢ OutOfMemory)
@@ -150,10 +158,10 @@ IsCommand words choice = (fault_of program words ≡ []) × ReadChoice (subcomma
 -- The choice that words ask for: a subcommand only where they name just that, a help text only
 -- where help was asked for, a usage text only at another error or at a value that is no limit.
 abbrev pub ChoiceOf : List Text → Choice → Type 0
-ChoiceOf words (Play rule after limits) = IsCommand words (Play rule after limits)
+ChoiceOf words (Play strict rule after limits) = IsCommand words (Play strict rule after limits)
 ChoiceOf words Dot = IsCommand words Dot
-ChoiceOf words (Load dir skip quiet) = IsCommand words (Load dir skip quiet)
-ChoiceOf words (Save dir quiet) = IsCommand words (Save dir quiet)
+ChoiceOf words (Load dir skip quiet limits) = IsCommand words (Load dir skip quiet limits)
+ChoiceOf words (Save dir quiet limits) = IsCommand words (Save dir quiet limits)
 ChoiceOf words (Jobs file turns quiet rule after limits) = IsCommand words (Jobs file turns quiet rule after limits)
 ChoiceOf words (Help text) = IsAmong DisplayHelp (fault_of program words)
 ChoiceOf words (Usage text) = ((kind : ErrorKind) × IsAmong kind (fault_of program words) × (kind ≢ DisplayHelp)) ⊎ IsCommand words (Usage text)

@@ -1,8 +1,8 @@
 // What a command line asks for.
 ghost use Rattle.std.specs.Prelude.{◌≡◌, IfOk, IfSome, Some, codes, false, map, option_map, string_bytes};
-ghost use Rattle.clap.specs.Words.{Text, app_of, found_of, kind_of, new_app, rows_of, rule_of, subcommand_rows_of};
+ghost use Rattle.clap.specs.Words.{Text, app_of, found_of, kind_of, one_of, rows_of, rule_of, subcommand_rows_of};
 ghost use Rattle.ft_command.specs.Limits.{IsBadLimit};
-ghost use Rattle.ft_command.specs.CommandLine.{ChoiceOf, ErrorChoice, HasNoGlobals, ReadChoice, TellsAfter, TellsDir, TellsJobs, TellsRule, after_rule, bare, dir_rule, file_rule, jobs, load, moss_rule, play, program, quiet_rule, save, skip_rule, turns_rule, with_filters, with_folders};
+ghost use Rattle.ft_command.specs.CommandLine.{ChoiceOf, ErrorChoice, HasNoGlobals, IsFlag, ReadChoice, TellsAfter, TellsDir, TellsJobs, TellsRule, after_rule, bare, dir_rule, dot, file_rule, jobs, load, moss_rule, play, program, quiet_rule, save, skip_rule, strict_rule, turns_rule, with_filters, with_folders};
 
 use crate::limits::{AskedLimits, Flag, asked_limits, with_limits};
 use clap::builder::ValueParser;
@@ -16,8 +16,9 @@ use std::convert::AsStr;
 #[derive(Debug, Drop)]
 pub enum Choice {
     /// Run a script on a core that grants calls by this rule and has these limits, after the script
-    /// in a file, if there is one.
+    /// in a file, if there is one. Each of its lines has to do what it asks for where it is strict.
     Play {
+        strict: bool,
         rule: Rule,
         after: Option<String>,
         limits: AskedLimits,
@@ -25,17 +26,20 @@ pub enum Choice {
     /// Draw the last report on who waits for whom.
     Dot,
     /// Write a script that makes what this directory holds. What a tree has no place for is left
-    /// out where it is to be skipped. How far it has come is not shown where it is to be quiet.
+    /// out where it is to be skipped. How far it has come is not shown where it is to be quiet. No
+    /// more is written than these limits allow.
     Load {
         dir: String,
         skip: bool,
         quiet: bool,
+        limits: AskedLimits,
     },
     /// Make this directory of the tree with which replies end. How far it has come is not shown
-    /// where it is to be quiet.
+    /// where it is to be quiet. A file that is larger than these limits allow is refused.
     Save {
         dir: String,
         quiet: bool,
+        limits: AskedLimits,
     },
     /// Run the jobs of the plan in a file. A call of theirs asks at most so many times, at least
     /// once. How far they have come is not shown where it is to be quiet. Their core grants calls
@@ -87,8 +91,8 @@ fn choice_of(alloc: Global, matches: &ArgMatches) -> Choice
     if let Some(found) = matches.subcommand_matches("play") {
         return play_choice(alloc, found);
     }
-    if let Some("dot") = matches.subcommand_name() {
-        return Choice::Dot;
+    if let Some(found) = matches.subcommand_matches("dot") {
+        return dot_choice(alloc, found);
     }
     if let Some(found) = matches.subcommand_matches("load") {
         return load_choice(alloc, found);
@@ -106,6 +110,7 @@ fn choice_of(alloc: Global, matches: &ArgMatches) -> Choice
 fn play_choice(alloc: Global, found: &ArgMatches) -> Choice
     ensures { ReadChoice (Some (codes "play", rows_of (found_of found.now))) result }
 {
+    let strict = asked_strict(found);
     let rule = asked_rule(found);
     let limits = match asked_limits(found) {
         Ok(limits) => limits,
@@ -113,11 +118,22 @@ fn play_choice(alloc: Global, found: &ArgMatches) -> Choice
     };
     match asked_after(alloc, found) {
         Ok(after) => Choice::Play {
+            strict,
             rule,
             after,
             limits,
         },
         Err(_) => Choice::Fault,
+    }
+}
+
+// The choice where a report is to be drawn. The limits are for the other commands of a pipe.
+fn dot_choice(alloc: Global, found: &ArgMatches) -> Choice
+    ensures { ReadChoice (Some (codes "dot", rows_of (found_of found.now))) result }
+{
+    match asked_limits(found) {
+        Ok(_) => Choice::Dot,
+        Err(flag) => misused(alloc, found, flag),
     }
 }
 
@@ -143,8 +159,17 @@ fn load_choice(alloc: Global, found: &ArgMatches) -> Choice
 {
     let skip = found.get_flag("skip");
     let quiet = found.get_flag("quiet");
+    let limits = match asked_limits(found) {
+        Ok(limits) => limits,
+        Err(flag) => return misused(alloc, found, flag),
+    };
     match asked_dir(alloc, found) {
-        Some(dir) => Choice::Load { dir, skip, quiet },
+        Some(dir) => Choice::Load {
+            dir,
+            skip,
+            quiet,
+            limits,
+        },
         None => Choice::Fault,
     }
 }
@@ -154,8 +179,12 @@ fn save_choice(alloc: Global, found: &ArgMatches) -> Choice
     ensures { ReadChoice (Some (codes "save", rows_of (found_of found.now))) result }
 {
     let quiet = found.get_flag("quiet");
+    let limits = match asked_limits(found) {
+        Ok(limits) => limits,
+        Err(flag) => return misused(alloc, found, flag),
+    };
     match asked_dir(alloc, found) {
-        Some(dir) => Choice::Save { dir, quiet },
+        Some(dir) => Choice::Save { dir, quiet, limits },
         None => Choice::Fault,
     }
 }
@@ -207,6 +236,13 @@ fn asked_dir(alloc: Global, found: &ArgMatches) -> Option<String>
     Some(dir)
 }
 
+// Whether each line has to do what it asks for.
+fn asked_strict(found: &ArgMatches) -> bool
+    ensures { IsFlag (one_of (codes "strict") (rows_of (found_of found.now))) result }
+{
+    found.get_flag("strict")
+}
+
 // The rule by which calls are to be granted.
 fn asked_rule(found: &ArgMatches) -> Rule
     ensures { TellsRule (rows_of (found_of found.now)) result }
@@ -254,7 +290,8 @@ fn with_filters<'a>(alloc: Global) -> Result<Command<'a>, AllocError>
     ensures { IfOk result (λ command. app_of command ≡ with_filters) }
 {
     let play = play_command(alloc)?;
-    bare(alloc).subcommand(play)?.subcommand(dot_command(alloc))
+    let dot = dot_command(alloc)?;
+    bare(alloc).subcommand(play)?.subcommand(dot)
 }
 
 // The command line without its subcommands.
@@ -275,19 +312,21 @@ fn play_command<'a>(alloc: Global) -> Result<Command<'a>, AllocError>
 {
     let command = Command::new(alloc, "play")
         .about("Runs a script from standard input to standard output")
+        .arg(strict_arg(alloc))?
         .arg(moss_arg(alloc))?
         .arg(after_arg(alloc))?;
     with_limits(alloc, command)
 }
 
 // The part of it that draws who waits for whom.
-fn dot_command<'a>(alloc: Global) -> Command<'a>
-    ensures app { app_of result ≡ new_app (codes "dot") }
-    ensures local { HasNoGlobals result }
+fn dot_command<'a>(alloc: Global) -> Result<Command<'a>, AllocError>
+    ensures app { IfOk result (λ command. app_of command ≡ dot) }
+    ensures local { IfOk result HasNoGlobals }
 {
-    Command::new(alloc, "dot").about(
+    let command = Command::new(alloc, "dot").about(
         "Draws who waits for whom: the last report among replies, in the DOT language",
-    )
+    );
+    with_limits(alloc, command)
 }
 
 // The part of it that writes a script of a directory.
@@ -295,11 +334,12 @@ fn load_command<'a>(alloc: Global) -> Result<Command<'a>, AllocError>
     ensures app { IfOk result (λ command. app_of command ≡ load) }
     ensures local { IfOk result HasNoGlobals }
 {
-    Command::new(alloc, "load")
+    let command = Command::new(alloc, "load")
         .about("Writes a script that makes what a directory holds")
         .arg(dir_arg(alloc))?
         .arg(skip_arg(alloc))?
-        .arg(quiet_arg(alloc))
+        .arg(quiet_arg(alloc))?;
+    with_limits(alloc, command)
 }
 
 // The part of it that makes a directory.
@@ -307,10 +347,11 @@ fn save_command<'a>(alloc: Global) -> Result<Command<'a>, AllocError>
     ensures app { IfOk result (λ command. app_of command ≡ save) }
     ensures local { IfOk result HasNoGlobals }
 {
-    Command::new(alloc, "save")
+    let command = Command::new(alloc, "save")
         .about("Makes a directory of the tree with which replies end")
         .arg(dir_arg(alloc))?
-        .arg(quiet_arg(alloc))
+        .arg(quiet_arg(alloc))?;
+    with_limits(alloc, command)
 }
 
 // The part of it that runs the jobs of a plan.
@@ -348,6 +389,17 @@ fn skip_arg<'a>(alloc: Global) -> Arg<'a>
         .long("skip")
         .action(ArgAction::SetTrue)
         .help("Leave out symbolic links, devices, FIFOs and sockets, and tell of each")
+}
+
+// The flag that ends a run at the first line that does not do what it asks for.
+fn strict_arg<'a>(alloc: Global) -> Arg<'a>
+    ensures rule { rule_of result ≡ strict_rule }
+    ensures local { result.global ≡ false }
+{
+    Arg::new(alloc, "strict")
+        .long("strict")
+        .action(ArgAction::SetTrue)
+        .help("End with status 3 at the first line that does not do what it asks for")
 }
 
 // The script that is played first.

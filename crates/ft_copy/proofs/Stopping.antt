@@ -3,6 +3,7 @@ use Rattle.std.proofs.Common.{◌≡◌, ◌⊎◌, ◌||◌, ℕ, Bool, true, f
 use Rattle.std.proofs.lemmas.List.Folds.{list_any-append}
 use Rattle.std.specs.List.{concat, list_any, flat_map}
 use Rattle.std.specs.Io.KnownBytes.{Consumes}
+use Rattle.ft_cells.specs.declared.limits.TreeLimits.{TreeLimits}
 use Rattle.ft_copy.specs.declared.found.TheConstants.{ROOT}
 use Rattle.ft_copy.specs.declared.found.FileFacts.{FileFacts}
 use Rattle.ft_copy.specs.declared.found.Found.TheVariants as found
@@ -28,9 +29,9 @@ if_err (Ok x) f h = tt
 if_err (Err e) f h = f e h
 
 -- a read that failed ends a file
-pub unread : (trouble other : Trouble) (pieces : List (List ℕ)) → trouble ≡ other → (other ≡ Memory) ⊎ (other ≡ Read) → EndsReading trouble pieces
-unread trouble other pieces is (inl memory) = inl (is ∙ memory)
-unread trouble other pieces is (inr read) = inr (inl (is ∙ read))
+pub unread : (most : ℕ) (trouble other : Trouble) (pieces : List (List ℕ)) → trouble ≡ other → (other ≡ Memory) ⊎ (other ≡ Read) → EndsReading most trouble pieces
+unread most trouble other pieces is (inl memory) = inl (is ∙ memory)
+unread most trouble other pieces is (inr read) = inr (inl (is ∙ read))
 
 or_parts : (a b : Bool) → (a || b) ≡ false → a ≡ false
 or_parts true b h = h
@@ -111,110 +112,110 @@ module _ {T : Type 0} (does : T → Asked → T → Type 0) (fails : T → Asked
       by_parts [] (next ∷ rest) is h (inr failed) = (before, middle, free, did, inr (next, trouble, subst (λ t. fails t next trouble new) h failed))
       by_parts (first ∷ done) (next ∷ rest) is h (inr failed) = absurd (two_are_not_one last first done next rest is)
 
-module _ {T : Type 0} (tells : Told → Type 0) (does : T → Asked → T → Type 0) (fails : T → Asked → Trouble → T → Type 0) where
+module _ {T : Type 0} (limits : TreeLimits) (tells : Told → Type 0) (does : T → Asked → T → Type 0) (fails : T → Asked → Trouble → T → Type 0) where
   -- a copy that stops has not finished
-  pub reaches : (stopped : Stopped) (old new : T) → Stops tells does fails stopped old new → Reaches does fails old new
+  pub reaches : (stopped : Stopped) (old new : T) → Stops limits tells does fails stopped old new → Reaches does fails old new
   reaches stopped old new h = so_far h.0 h.4 h.5
     where
-      so_far : (reached : Reached) → DoesAll does old (asked_before reached) h.1 → StopsIn does fails (IsCause tells stopped.trouble reached) stopped.trouble (asked_then reached) h.1 new → Reaches does fails old new
-      so_far Root did k = reaches_in does fails (IsCause tells stopped.trouble Root) stopped.trouble (Start ∷ []) old h.1 new [] refl refl did k
-      so_far (Amid visits place visit) did k = reaches_in does fails (IsCauseAt tells stopped.trouble place visit) stopped.trouble (asked_of visit) old h.1 new (Start ∷ flat_map asked_of visits) (unfinished_visits visits) (unfinished_visit visit) did k
+      so_far : (reached : Reached) → DoesAll does old (asked_before reached) h.1 → StopsIn does fails (IsCause limits tells stopped.trouble reached) stopped.trouble (asked_then reached) h.1 new → Reaches does fails old new
+      so_far Root did k = reaches_in does fails (IsCause limits tells stopped.trouble Root) stopped.trouble (Start ∷ []) old h.1 new [] refl refl did k
+      so_far (Amid visits place visit) did k = reaches_in does fails (IsCauseAt limits tells stopped.trouble place visit) stopped.trouble (asked_of visit) old h.1 new (Start ∷ flat_map asked_of visits) (unfinished_visits visits) (unfinished_visit visit) did k
       so_far (Behind visits) did k = reaches_last does fails stopped.trouble Finish old h.1 new (Start ∷ flat_map asked_of visits) (unfinished_visits visits) did k
-      so_far (Endless visits) did k = reaches_in does fails (IsCause tells stopped.trouble (Endless visits)) stopped.trouble [] old h.1 new (Start ∷ flat_map asked_of visits) (unfinished_visits visits) refl did k
+      so_far (Endless visits) did k = reaches_in does fails (IsCause limits tells stopped.trouble (Endless visits)) stopped.trouble [] old h.1 new (Start ∷ flat_map asked_of visits) (unfinished_visits visits) refl did k
 
-  pub gives_up : (stopped : Stopped) (old new : T) → StopsCopy tells does fails stopped old new → GivesUp does fails old new
+  pub gives_up : (stopped : Stopped) (old new : T) → StopsCopy limits tells does fails stopped old new → GivesUp does fails old new
   gives_up stopped old new h = (h.0, reaches stopped old h.0 h.1, h.2)
 
   -- ---- files
 
-  reading_hinders : (trouble : Trouble) (place : Place) (path : List ℕ) (pieces : List (List ℕ)) → EndsReading trouble pieces → IsCauseAt tells trouble place (OfFile path pieces)
-  reading_hinders trouble place path pieces (inl h) = inl (subst (λ t. Hinders tells t place (OfFile path pieces)) (sym h) tt)
-  reading_hinders trouble place path pieces (inr (inl h)) = inl (subst (λ t. Hinders tells t place (OfFile path pieces)) (sym h) refl)
-  reading_hinders trouble place path pieces (inr (inr h)) = inl (subst (λ t. Hinders tells t place (OfFile path pieces)) (sym h.0) (inr h.1))
+  reading_hinders : (trouble : Trouble) (place : Place) (path : List ℕ) (pieces : List (List ℕ)) → EndsReading limits.file_size trouble pieces → IsCauseAt limits tells trouble place (OfFile path pieces)
+  reading_hinders trouble place path pieces (inl h) = inl (subst (λ t. Hinders limits tells t place (OfFile path pieces)) (sym h) tt)
+  reading_hinders trouble place path pieces (inr (inl h)) = inl (subst (λ t. Hinders limits tells t place (OfFile path pieces)) (sym h) refl)
+  reading_hinders trouble place path pieces (inr (inr h)) = inl (subst (λ t. Hinders limits tells t place (OfFile path pieces)) (sym h.0) (inr h.1))
 
   module _ (place : Place) (facts : FileFacts) (walk : Standing) (told : tells (Finds place.path place.node (found.File facts))) (left : Option (List ℕ)) (holds : tells (Holds place.path place.node left)) where
     has_begun : (pieces : List (List ℕ)) (after : Option (List ℕ)) → Consumes left after (concat pieces) → HasBegun tells place walk (OfFile place.path pieces)
     has_begun pieces after gave = inr (found.File facts, told, inl (pieces, left, after, refl, holds, gave))
 
     -- a file could not be opened by the target
-    pub stops_open : (trouble : Trouble) (old new : T) → Consumes left left [] → fails old (Open place.path) trouble new → StopsVisit tells does fails trouble place walk old new
+    pub stops_open : (trouble : Trouble) (old new : T) → Consumes left left [] → fails old (Open place.path) trouble new → StopsVisit limits tells does fails trouble place walk old new
     stops_open trouble old new none h =
-        (OfFile place.path [], has_begun [] left none, stops_first does fails (IsCauseAt tells trouble place (OfFile place.path [])) trouble (Open place.path) (Close ∷ []) old new h)
+        (OfFile place.path [], has_begun [] left none, stops_first does fails (IsCauseAt limits tells trouble place (OfFile place.path [])) trouble (Open place.path) (Close ∷ []) old new h)
 
     -- its pieces could not be read, or put into it
-    pub stops_pour : (trouble : Trouble) (old opened new : T) → does old (Open place.path) opened → StopsPouring does fails trouble left opened new → StopsVisit tells does fails trouble place walk old new
+    pub stops_pour : (trouble : Trouble) (old opened new : T) → does old (Open place.path) opened → StopsPouring does fails limits.file_size trouble left opened new → StopsVisit limits tells does fails trouble place walk old new
     stops_pour trouble old opened new was_opened h =
         let visit = OfFile place.path h.0 in
-        let cause = IsCauseAt tells trouble place visit in
-        let poured = stops_since does fails (EndsReading trouble h.0) cause trouble (map Piece h.0) opened new (reading_hinders trouble place place.path h.0) h.3 in
+        let cause = IsCauseAt limits tells trouble place visit in
+        let poured = stops_since does fails (EndsReading limits.file_size trouble h.0) cause trouble (map Piece h.0) opened new (reading_hinders trouble place place.path h.0) h.3 in
         let closes = stops_before does fails cause trouble (map Piece h.0) (Close ∷ []) opened new poured in
         (visit, has_begun h.0 h.1 h.2, stops_after does fails cause trouble (Open place.path ∷ []) (map Piece h.0 ++ Close ∷ []) old opened new (opened, was_opened, refl) closes)
 
     -- it could not be closed
     pub stops_close : (trouble : Trouble) (old opened poured new : T) (pieces : List (List ℕ)) (after : Option (List ℕ)) → Consumes left after (concat pieces)
-        → does old (Open place.path) opened → DoesAll does opened (map Piece pieces) poured → fails poured Close trouble new → StopsVisit tells does fails trouble place walk old new
+        → does old (Open place.path) opened → DoesAll does opened (map Piece pieces) poured → fails poured Close trouble new → StopsVisit limits tells does fails trouble place walk old new
     stops_close trouble old opened poured new pieces after gave was_opened pours h =
         let visit = OfFile place.path pieces in
-        let cause = IsCauseAt tells trouble place visit in
+        let cause = IsCauseAt limits tells trouble place visit in
         (visit, has_begun pieces after gave, stops_after does fails cause trouble (Open place.path ∷ map Piece pieces) (Close ∷ []) old poured new (opened, was_opened, pours) (stops_first does fails cause trouble Close [] poured new h))
 
   -- nothing was done at a place
-  pub stops_at : (trouble : Trouble) (place : Place) (walk : Standing) (old : T) → IsCauseAt tells trouble place OfNothing → StopsVisit tells does fails trouble place walk old old
-  stops_at trouble place walk old h = (OfNothing, inl refl, stops_nothing does fails (IsCauseAt tells trouble place OfNothing) trouble [] old h)
+  pub stops_at : (trouble : Trouble) (place : Place) (walk : Standing) (old : T) → IsCauseAt limits tells trouble place OfNothing → StopsVisit limits tells does fails trouble place walk old old
+  stops_at trouble place walk old h = (OfNothing, inl refl, stops_nothing does fails (IsCauseAt limits tells trouble place OfNothing) trouble [] old h)
 
   -- a directory was made, and could not be entered
   pub stops_folder : (trouble : Trouble) (place : Place) (walk : Standing) (path : List ℕ) (old made : T) → path ≡ place.path → tells (Finds path place.node found.Folder) → does old (Folder path) made
-      → (trouble ≡ Memory) ⊎ tells (Refuses path place.node trouble) → StopsVisit tells does fails trouble place walk old made
+      → (trouble ≡ Memory) ⊎ tells (Refuses path place.node trouble) → StopsVisit limits tells does fails trouble place walk old made
   stops_folder trouble place walk path old made is told did h =
       let visit = OfFolder place.path in (
         visit,
         inr (found.Folder, subst (λ p. tells (Finds p place.node found.Folder)) is told, refl),
-        stops_after does fails (IsCauseAt tells trouble place visit) trouble (Folder place.path ∷ []) [] old made made (made, subst (λ p. does old (Folder p) made) is did, refl)
-            (stops_nothing does fails (IsCauseAt tells trouble place visit) trouble [] made (either h)),
+        stops_after does fails (IsCauseAt limits tells trouble place visit) trouble (Folder place.path ∷ []) [] old made made (made, subst (λ p. does old (Folder p) made) is did, refl)
+            (stops_nothing does fails (IsCauseAt limits tells trouble place visit) trouble [] made (either h)),
       )
     where
-      either : (trouble ≡ Memory) ⊎ tells (Refuses path place.node trouble) → IsCauseAt tells trouble place (OfFolder place.path)
-      either (inl memory) = inl (subst (λ t. Hinders tells t place (OfFolder place.path)) (sym memory) tt)
+      either : (trouble ≡ Memory) ⊎ tells (Refuses path place.node trouble) → IsCauseAt limits tells trouble place (OfFolder place.path)
+      either (inl memory) = inl (subst (λ t. Hinders limits tells t place (OfFolder place.path)) (sym memory) tt)
       either (inr refused) = inr (subst (λ p. tells (Refuses p place.node trouble)) is refused)
 
   -- it could not be made
   pub stops_making : (trouble : Trouble) (place : Place) (walk : Standing) (path : List ℕ) (old new : T) → path ≡ place.path → tells (Finds path place.node found.Folder) → fails old (Folder path) trouble new
-      → StopsVisit tells does fails trouble place walk old new
+      → StopsVisit limits tells does fails trouble place walk old new
   stops_making trouble place walk path old new is told failed =
       let visit = OfFolder place.path in (
         visit,
         inr (found.Folder, subst (λ p. tells (Finds p place.node found.Folder)) is told, refl),
-        stops_first does fails (IsCauseAt tells trouble place visit) trouble (Folder place.path) [] old new (subst (λ p. fails old (Folder p) trouble new) is failed),
+        stops_first does fails (IsCauseAt limits tells trouble place visit) trouble (Folder place.path) [] old new (subst (λ p. fails old (Folder p) trouble new) is failed),
       )
 
   -- a further name could not be given
   pub stops_link : (trouble : Trouble) (place : Place) (facts : FileFacts) (walk : Standing) (first path : List ℕ) (old new : T) → path ≡ place.path
-      → tells (Finds place.path place.node (found.File facts)) → walk.firsts facts.id ≡ Some first → fails old (Link first path) trouble new → StopsVisit tells does fails trouble place walk old new
+      → tells (Finds place.path place.node (found.File facts)) → walk.firsts facts.id ≡ Some first → fails old (Link first path) trouble new → StopsVisit limits tells does fails trouble place walk old new
   stops_link trouble place facts walk first path old new is told met failed =
       let visit = OfFurther first place.path in (
         visit,
         inr (found.File facts, told, inr (first, refl, met)),
-        stops_first does fails (IsCauseAt tells trouble place visit) trouble (Link first place.path) [] old new (subst (λ p. fails old (Link first p) trouble new) is failed),
+        stops_first does fails (IsCauseAt limits tells trouble place visit) trouble (Link first place.path) [] old new (subst (λ p. fails old (Link first p) trouble new) is failed),
       )
 
   -- ---- the whole copy
 
-  pub stops_root : (stopped : Stopped) (trouble : Trouble) (old new : T) → stopped.trouble ≡ trouble → stopped.path ≡ [] → StopsIn does fails (IsCause tells trouble Root) trouble (Start ∷ []) old new
-      → Stops tells does fails stopped old new
+  pub stops_root : (stopped : Stopped) (trouble : Trouble) (old new : T) → stopped.trouble ≡ trouble → stopped.path ≡ [] → StopsIn does fails (IsCause limits tells trouble Root) trouble (Start ∷ []) old new
+      → Stops limits tells does fails stopped old new
   stops_root stopped trouble old new is at h =
-      (Root, old, tt, at, refl, subst (λ t. StopsIn does fails (IsCause tells t Root) t (Start ∷ []) old new) (sym is) h)
+      (Root, old, tt, at, refl, subst (λ t. StopsIn does fails (IsCause limits tells t Root) t (Start ∷ []) old new) (sym is) h)
 
-  pub stops_amid : (stopped : Stopped) (begun : Standing) (old started new : T) → Enters tells [] ROOT nothing begun → does old Start started → StopsVisiting tells does fails stopped begun started new
-      → Stops tells does fails stopped old new
+  pub stops_amid : (stopped : Stopped) (begun : Standing) (old started new : T) → Enters tells [] ROOT nothing begun → does old Start started → StopsVisiting limits tells does fails stopped begun started new
+      → Stops limits tells does fails stopped old new
   stops_amid stopped begun old started new entered did h = either h.5
     where
-      either : StopsNext tells does fails stopped h.1 h.2 new ⊎ RunsOut tells does fails stopped h.0 h.2 new → Stops tells does fails stopped old new
+      either : StopsNext limits tells does fails stopped h.1 h.2 new ⊎ RunsOut limits tells does fails stopped h.0 h.2 new → Stops limits tells does fails stopped old new
       either (inl k) = (Amid h.0 k.1 k.4.0, h.2, (h.1, k.0, (begun, entered, h.3), k.2, k.4.1), k.3, (started, did, h.4), k.4.2)
       either (inr k) =
           (Endless h.0, h.2, (h.1, (begun, entered, h.3), k.3), k.1, (started, did, h.4), ([], [], h.2, refl, refl, inl (k.0, k.2)))
 
   pub stops_last : (stopped : Stopped) (trouble : Trouble) (begun done : Standing) (visits : List Visit) (old started visited new : T) → stopped.trouble ≡ trouble → stopped.path ≡ [] → Enters tells [] ROOT nothing begun
-      → does old Start started → WalksTo tells begun visits done → done.left ≡ [] → DoesAll does started (flat_map asked_of visits) visited → fails visited Finish trouble new → Stops tells does fails stopped old new
+      → does old Start started → WalksTo limits tells begun visits done → done.left ≡ [] → DoesAll does started (flat_map asked_of visits) visited → fails visited Finish trouble new → Stops limits tells does fails stopped old new
   stops_last stopped trouble begun done visits old started visited new is at entered did walk all made failed = (
     Behind visits,
     visited,
@@ -227,4 +228,4 @@ module _ {T : Type 0} (tells : Told → Type 0) (does : T → Asked → T → Ty
   -- what is said of a file at a path that was not copied
   abbrev pub StopsFileAt : Result (Unit {0}) Trouble → List ℕ → ℕ → T → T → Type 0
   StopsFileAt result path node old new =
-      (facts : FileFacts) (walk : Standing) → tells (Finds path node (found.File facts)) → IfErr result (λ trouble. StopsVisit tells does fails trouble (record { path = path; node = node }) walk old new)
+      (facts : FileFacts) (walk : Standing) → tells (Finds path node (found.File facts)) → IfErr result (λ trouble. StopsVisit limits tells does fails trouble (record { path = path; node = node }) walk old new)

@@ -1,6 +1,7 @@
 -- What is copied from a source that tells something is copied from one that tells what follows
 -- from it.
 use Rattle.std.proofs.Common.{◌⊎◌, ℕ, List, [], ◌∷◌, inl, inr}
+use Rattle.ft_cells.specs.declared.limits.TreeLimits.{TreeLimits}
 use Rattle.ft_copy.specs.declared.found.FileFacts.{FileFacts}
 use Rattle.ft_copy.specs.declared.found.Found.{Found}
 use Rattle.ft_copy.specs.declared.found.Found.TheVariants as found
@@ -16,36 +17,36 @@ use Rattle.ft_copy.specs.Stops.{FindsFile, HasBegun, HasBegunAs, HasWalked, Hind
 use Rattle.ft_copy.proofs.Stopping.{stops_since}
 use Rattle.ft_copy.specs.Runs.{Copies, IsFileVisit, IsFirstName, IsFurtherName, IsVisit, IsVisitOf, Visit, WalksTo}
 
-module _ (P Q : Told → Type 0) (follows : (told : Told) → P told → Q told) where
+module _ (limits : TreeLimits) (P Q : Told → Type 0) (follows : (told : Told) → P told → Q told) where
   entered : (path : List ℕ) (node : ℕ) (old new : Standing) → Enters P path node old new → Enters Q path node old new
   entered path node old new h = (h.0, h.1, follows (Lists path node h.0) h.2, h.3, h.4, h.5)
 
   read : (path : List ℕ) (node : ℕ) (pieces : List (List ℕ)) → IsRead P path node pieces → IsRead Q path node pieces
   read path node pieces h = (h.0, follows (Holds path node h.0) h.1, h.2)
 
-  first : (place : Place) (facts : FileFacts) (old : Standing) (visit : Visit) (new : Standing) → IsFirstName P place facts old visit new → IsFirstName Q place facts old visit new
-  first place facts old visit new h = (h.0, h.1, read place.path place.node h.0 h.2, h.3)
+  first : (place : Place) (facts : FileFacts) (old : Standing) (visit : Visit) (new : Standing) → IsFirstName limits P place facts old visit new → IsFirstName limits Q place facts old visit new
+  first place facts old visit new h = (h.0, h.1, read place.path place.node h.0 h.2, h.3, h.4)
 
-  file : (place : Place) (facts : FileFacts) (old : Standing) (visit : Visit) (new : Standing) → IsFileVisit P place facts old visit new → IsFileVisit Q place facts old visit new
+  file : (place : Place) (facts : FileFacts) (old : Standing) (visit : Visit) (new : Standing) → IsFileVisit limits P place facts old visit new → IsFileVisit limits Q place facts old visit new
   file place facts old visit new h = (h.0, h.1, either h.2)
     where
-      either : IsFirstName P place facts old visit new ⊎ IsFurtherName place facts old visit new → IsFirstName Q place facts old visit new ⊎ IsFurtherName place facts old visit new
+      either : IsFirstName limits P place facts old visit new ⊎ IsFurtherName place facts old visit new → IsFirstName limits Q place facts old visit new ⊎ IsFurtherName place facts old visit new
       either (inl k) = inl (first place facts old visit new k)
       either (inr k) = inr k
 
-  found_there : (place : Place) (there : Found) (old : Standing) (visit : Visit) (new : Standing) → IsVisitOf P place there old visit new → IsVisitOf Q place there old visit new
+  found_there : (place : Place) (there : Found) (old : Standing) (visit : Visit) (new : Standing) → IsVisitOf limits P place there old visit new → IsVisitOf limits Q place there old visit new
   found_there place found.Folder old visit new h = (h.0, entered place.path place.node old new h.1)
   found_there place (found.File facts) old visit new h = file place facts old visit new h
   found_there place found.Special old visit new h = (h.0, follows (Omits place.path) h.1, h.2)
 
-  visited : (place : Place) (old : Standing) (visit : Visit) (new : Standing) → IsVisit P place old visit new → IsVisit Q place old visit new
+  visited : (place : Place) (old : Standing) (visit : Visit) (new : Standing) → IsVisit limits P place old visit new → IsVisit limits Q place old visit new
   visited place old visit new h = (h.0, h.1, (h.2.0, follows (Finds place.path place.node h.2.0) h.2.1, found_there place h.2.0 old visit new h.2.2))
 
-  walked : (old : Standing) (visits : List Visit) (new : Standing) → WalksTo P old visits new → WalksTo Q old visits new
+  walked : (old : Standing) (visits : List Visit) (new : Standing) → WalksTo limits P old visits new → WalksTo limits Q old visits new
   walked old [] new h = h
   walked old (visit ∷ visits) new h = (h.0, h.1, h.2, h.3, visited h.1 (record { left = h.0; firsts = old.firsts }) visit h.2 h.4, walked h.2 visits new h.5)
 
-  pub copies : {T : Type 0} (does : T → Asked → T → Type 0) (old new : T) → Copies P does old new → Copies Q does old new
+  pub copies : {T : Type 0} (does : T → Asked → T → Type 0) (old new : T) → Copies limits P does old new → Copies limits Q does old new
   copies does old new h = record {
     begun = h.begun;
     visits = h.visits;
@@ -61,7 +62,7 @@ module _ (P Q : Told → Type 0) (follows : (told : Told) → P told → Q told)
   found_file : (place : Place) (holds : FileFacts → Type 0) → FindsFile P place holds → FindsFile Q place holds
   found_file place holds h = (h.0, follows (Finds place.path place.node (found.File h.0)) h.1, h.2)
 
-  hinders : (why : Trouble) (place : Place) (visit : Visit) → Hinders P why place visit → Hinders Q why place visit
+  hinders : (why : Trouble) (place : Place) (visit : Visit) → Hinders limits P why place visit → Hinders limits Q why place visit
   hinders trouble.Memory place visit h = h
   hinders trouble.Read place visit h = h
   hinders trouble.Write place visit h = h
@@ -75,11 +76,11 @@ module _ (P Q : Told → Type 0) (follows : (told : Told) → P told → Q told)
   hinders trouble.Exists place visit h = h
   hinders trouble.Full place visit h = h
 
-  cause_at : (why : Trouble) (place : Place) (visit : Visit) → IsCauseAt P why place visit → IsCauseAt Q why place visit
+  cause_at : (why : Trouble) (place : Place) (visit : Visit) → IsCauseAt limits P why place visit → IsCauseAt limits Q why place visit
   cause_at why place visit (inl h) = inl (hinders why place visit h)
   cause_at why place visit (inr h) = inr (follows (Refuses place.path place.node why) h)
 
-  cause : (why : Trouble) (reached : Reached) → IsCause P why reached → IsCause Q why reached
+  cause : (why : Trouble) (reached : Reached) → IsCause limits P why reached → IsCause limits Q why reached
   cause why Root (inl h) = inl h
   cause why Root (inr h) = inr (follows (Refuses [] ROOT why) h)
   cause why (Amid visits place visit) h = cause_at why place visit h
@@ -96,18 +97,18 @@ module _ (P Q : Told → Type 0) (follows : (told : Told) → P told → Q told)
   begun place walk visit (inl h) = inl h
   begun place walk visit (inr h) = inr (h.0, follows (Finds place.path place.node h.0) h.1, begun_as place h.0 walk visit h.2)
 
-  has_walked : (visits : List Visit) (now : Standing) → HasWalked P visits now → HasWalked Q visits now
+  has_walked : (visits : List Visit) (now : Standing) → HasWalked limits P visits now → HasWalked limits Q visits now
   has_walked visits now h = (h.0, entered [] ROOT nothing h.0 h.1, walked h.0 visits now h.2)
 
-  is_reached : (reached : Reached) → IsReached P reached → IsReached Q reached
+  is_reached : (reached : Reached) → IsReached limits P reached → IsReached limits Q reached
   is_reached Root h = h
   is_reached (Amid visits place visit) h = (h.0, h.1, has_walked visits h.0 h.2, h.3, begun place (record { left = h.1; firsts = h.0.firsts }) visit h.4)
   is_reached (Behind visits) h = (h.0, has_walked visits h.0 h.1, h.2)
   is_reached (Endless visits) h = (h.0, has_walked visits h.0 h.1, h.2)
 
-  stops : {T : Type 0} (does : T → Asked → T → Type 0) (fails : T → Asked → Trouble → T → Type 0) (stopped : Stopped) (old new : T) → Stops P does fails stopped old new → Stops Q does fails stopped old new
+  stops : {T : Type 0} (does : T → Asked → T → Type 0) (fails : T → Asked → Trouble → T → Type 0) (stopped : Stopped) (old new : T) → Stops limits P does fails stopped old new → Stops limits Q does fails stopped old new
   stops does fails stopped old new h =
-      (h.0, h.1, is_reached h.0 h.2, h.3, h.4, stops_since does fails (IsCause P stopped.trouble h.0) (IsCause Q stopped.trouble h.0) stopped.trouble (asked_then h.0) h.1 new (cause stopped.trouble h.0) h.5)
+      (h.0, h.1, is_reached h.0 h.2, h.3, h.4, stops_since does fails (IsCause limits P stopped.trouble h.0) (IsCause limits Q stopped.trouble h.0) stopped.trouble (asked_then h.0) h.1 new (cause stopped.trouble h.0) h.5)
 
-  pub stops_copy : {T : Type 0} (does : T → Asked → T → Type 0) (fails : T → Asked → Trouble → T → Type 0) (stopped : Stopped) (old new : T) → StopsCopy P does fails stopped old new → StopsCopy Q does fails stopped old new
+  pub stops_copy : {T : Type 0} (does : T → Asked → T → Type 0) (fails : T → Asked → Trouble → T → Type 0) (stopped : Stopped) (old new : T) → StopsCopy limits P does fails stopped old new → StopsCopy limits Q does fails stopped old new
   stops_copy does fails stopped old new h = (h.0, stops does fails stopped old h.0 h.1, h.2)

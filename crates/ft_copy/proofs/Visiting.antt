@@ -1,6 +1,6 @@
 -- What is done at one place.
 use Rattle.std.proofs.Common.{◌≡◌, ◌<◌, ◌≤◌, ℕ, false, List, [], ◌∷◌, length, map, Option, Some, inl, inr, refl, sym, subst}
-use Rattle.ft_cells.specs.declared.TheConstants.{DEFAULT_FILE_SIZE, DEFAULT_LINKS}
+use Rattle.ft_cells.specs.declared.limits.TreeLimits.{TreeLimits}
 use Rattle.ft_path.specs.declared.TheConstants.{LONGEST_PATH}
 use Rattle.ft_copy.specs.declared.found.FileFacts.{FileFacts}
 use Rattle.ft_copy.specs.declared.found.Found.TheVariants as found
@@ -11,27 +11,27 @@ use Rattle.ft_copy.specs.Walks.{Enters, Standing, is_dotted}
 use Rattle.ft_copy.specs.Runs.{CopiesFile, IsNoted, OfFile, OfFolder, OfFurther, Pours, Visits, VisitsFile}
 use Rattle.ft_copy.proofs.Doing.{does_more, does_one}
 
-module _ {T : Type 0} (tells : Told → Type 0) (does : T → Asked → T → Type 0) (old new : T) where
-  pub first_name : (place : Place) (facts : FileFacts) (walk next : Standing) (path : List ℕ) → path ≡ place.path → facts.links ≤ DEFAULT_LINKS → facts.size ≤ DEFAULT_FILE_SIZE
-      → IsNoted facts place.path walk next → CopiesFile tells does path place.node old new → VisitsFile tells does place facts walk next old new
+module _ {T : Type 0} (limits : TreeLimits) (tells : Told → Type 0) (does : T → Asked → T → Type 0) (old new : T) where
+  pub first_name : (place : Place) (facts : FileFacts) (walk next : Standing) (path : List ℕ) → path ≡ place.path → facts.links ≤ limits.links → facts.size ≤ limits.file_size
+      → IsNoted facts place.path walk next → CopiesFile limits tells does path place.node old new → VisitsFile limits tells does place facts walk next old new
   first_name place facts walk next path is few small noted made =
-      let copied = subst (λ p. CopiesFile tells does p place.node old new) is made in
-      (OfFile place.path copied.0, (few, small, inl (copied.0, refl, copied.1, noted)), copied.2)
+      let copied = subst (λ p. CopiesFile limits tells does p place.node old new) is made in
+      (OfFile place.path copied.0, (few, small, inl (copied.0, refl, copied.1, copied.2, noted)), copied.3)
 
-  pub further_name : (place : Place) (facts : FileFacts) (walk : Standing) (first path : List ℕ) → path ≡ place.path → facts.links ≤ DEFAULT_LINKS → facts.size ≤ DEFAULT_FILE_SIZE
-      → 1 < facts.links → walk.firsts facts.id ≡ Some first → does old (Link first path) new → VisitsFile tells does place facts walk walk old new
+  pub further_name : (place : Place) (facts : FileFacts) (walk : Standing) (first path : List ℕ) → path ≡ place.path → facts.links ≤ limits.links → facts.size ≤ limits.file_size
+      → 1 < facts.links → walk.firsts facts.id ≡ Some first → does old (Link first path) new → VisitsFile limits tells does place facts walk walk old new
   further_name place facts walk first path is few small more met linked =
       (OfFurther first place.path, (few, small, inr (first, refl, more, met, refl)), does_one does old new (Link first place.path) (subst (λ p. does old (Link first p) new) is linked))
 
   pub folder : (middle : T) (place : Place) (walk next : Standing) (path : List ℕ) → path ≡ place.path → is_dotted path ≡ false → length path ≤ LONGEST_PATH
-      → tells (Finds path place.node found.Folder) → Enters tells path place.node walk next → does old (Folder path) middle → new ≡ middle → Visits tells does place walk next old new
+      → tells (Finds path place.node found.Folder) → Enters tells path place.node walk next → does old (Folder path) middle → new ≡ middle → Visits limits tells does place walk next old new
   folder middle place walk next path is plain short told entered done same = (
     OfFolder place.path,
     (subst (λ p. is_dotted p ≡ false) is plain, subst (λ p. length p ≤ LONGEST_PATH) is short, (found.Folder, subst (λ p. tells (Finds p place.node found.Folder)) is told, (refl, subst (λ p. Enters tells p place.node walk next) is entered))),
     does_one does old new (Folder place.path) (subst (λ p. does old (Folder p) new) is (subst (λ t. does old (Folder path) t) (sym same) done)),
   )
 
-  pub copied : (opened poured : T) (path : List ℕ) (node : ℕ) (left : Option (List ℕ)) → tells (Holds path node left) → does old (Open path) opened → Pours does left opened poured → does poured Close new
-      → CopiesFile tells does path node old new
+  pub copied : (opened poured : T) (path : List ℕ) (node : ℕ) (left : Option (List ℕ)) → tells (Holds path node left) → does old (Open path) opened → Pours does limits.file_size left opened poured → does poured Close new
+      → CopiesFile limits tells does path node old new
   copied opened poured path node left holds was_opened pours closed =
-      (pours.0, (left, holds, pours.1), (opened, was_opened, does_more does opened poured new (map Piece pours.0) (Close ∷ []) pours.2 (does_one does poured new Close closed)))
+      (pours.0, (left, holds, pours.1), pours.2, (opened, was_opened, does_more does opened poured new (map Piece pours.0) (Close ∷ []) pours.3 (does_one does poured new Close closed)))

@@ -1,5 +1,6 @@
 -- A walk, visit by visit.
 use Rattle.std.proofs.Common.{◌≡◌, ℕ, List, [], ◌∷◌, ◌++◌, length, arith, refl, sym, ap, ◌∙◌, subst, append_assoc}
+use Rattle.ft_cells.specs.declared.limits.TreeLimits.{TreeLimits}
 use Rattle.ft_copy.specs.declared.found.Listed.{Listed}
 use Rattle.ft_copy.specs.declared.found.Place.{Place}
 use Rattle.ft_copy.specs.Told.{Told}
@@ -21,11 +22,11 @@ pub none_left : (n : ℕ) (all : List Place) → n ≡ length all → n ≡ 0 �
 none_left n [] sized empty = refl
 none_left n (p ∷ ps) sized empty = absurd (omega (arith, sized, empty))
 
-module _ (tells : Told → Type 0) where
+module _ (limits : TreeLimits) (tells : Told → Type 0) where
   pub walks_one : (old new : Standing) (rest : List Place) (place : Place) (visit : Visit) → old.left ≡ rest ++ place ∷ []
-      → IsVisit tells place (record { left = rest; firsts = old.firsts }) visit new → WalksTo tells old (visit ∷ []) new
+      → IsVisit limits tells place (record { left = rest; firsts = old.firsts }) visit new → WalksTo limits tells old (visit ∷ []) new
   walks_one old new rest place visit is h = (rest, place, new, is, h, refl)
 
-  pub walks_more : (old middle new : Standing) (some others : List Visit) → WalksTo tells old some middle → WalksTo tells middle others new → WalksTo tells old (some ++ others) new
-  walks_more old middle new [] others h k = subst (λ s. WalksTo tells s others new) h k
+  pub walks_more : (old middle new : Standing) (some others : List Visit) → WalksTo limits tells old some middle → WalksTo limits tells middle others new → WalksTo limits tells old (some ++ others) new
+  walks_more old middle new [] others h k = subst (λ s. WalksTo limits tells s others new) h k
   walks_more old middle new (visit ∷ some) others h k = (h.0, h.1, h.2, h.3, h.4, walks_more h.2 middle new some others h.5 k)

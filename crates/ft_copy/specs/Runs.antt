@@ -1,7 +1,7 @@
 -- What a copy comes to: which places were visited, and what the target was asked for at each.
 use Rattle.std.specs.Prelude.{◌≡◌, ◌⊎◌, ◌<◌, ◌≤◌, ℕ, false, List, [], ◌∷◌, ◌++◌, map, length, Option, None, Some}
-use Rattle.std.specs.List.{flat_map}
-use Rattle.ft_cells.specs.declared.TheConstants.{DEFAULT_FILE_SIZE, DEFAULT_LINKS}
+use Rattle.std.specs.List.{concat, flat_map}
+use Rattle.ft_cells.specs.declared.limits.TreeLimits.{TreeLimits}
 use Rattle.ft_path.specs.declared.TheConstants.{LONGEST_PATH}
 use Rattle.ft_copy.specs.declared.found.TheConstants.{ROOT}
 use Rattle.ft_copy.specs.declared.found.FileFacts.{FileFacts}
@@ -44,16 +44,17 @@ abbrev pub IsFurtherName : Place → FileFacts → Standing → Visit → Standi
 IsFurtherName place facts old visit new =
     (first : List ℕ) × (visit ≡ OfFurther first place.path) × (1 < facts.links) × (old.firsts facts.id ≡ Some first) × (new ≡ old)
 
-module _ (tells : Told → Type 0) where
+module _ (limits : TreeLimits) (tells : Told → Type 0) where
   -- A file is made where it is met first.
   abbrev pub IsFirstName : Place → FileFacts → Standing → Visit → Standing → Type 0
   IsFirstName place facts old visit new =
-      (pieces : List (List ℕ)) × (visit ≡ OfFile place.path pieces) × IsRead tells place.path place.node pieces × IsNoted facts place.path old new
+      (pieces : List (List ℕ)) × (visit ≡ OfFile place.path pieces) × IsRead tells place.path place.node pieces
+      × (length (concat pieces) ≤ limits.file_size) × IsNoted facts place.path old new
 
   -- A visit of a file, which is within the limits.
   abbrev pub IsFileVisit : Place → FileFacts → Standing → Visit → Standing → Type 0
   IsFileVisit place facts old visit new =
-      (facts.links ≤ DEFAULT_LINKS) × (facts.size ≤ DEFAULT_FILE_SIZE) × (IsFirstName place facts old visit new ⊎ IsFurtherName place facts old visit new)
+      (facts.links ≤ limits.links) × (facts.size ≤ limits.file_size) × (IsFirstName place facts old visit new ⊎ IsFurtherName place facts old visit new)
 
   -- A visit of what was found.
   abbrev pub IsVisitOf : Place → Found → Standing → Visit → Standing → Type 0
@@ -75,31 +76,32 @@ module _ (tells : Told → Type 0) where
       × IsVisit place (record { left = rest; firsts = old.firsts }) visit next × WalksTo next visits new
 
 module _ {T : Type 0} (does : T → Asked → T → Type 0) where
-  -- the target put all that a reader had left behind the bytes of the open file
-  abbrev pub Pours : Option (List ℕ) → T → T → Type 0
-  Pours left old new = (pieces : List (List ℕ)) × ArePieces left pieces × DoesAll does old (map Piece pieces) new
+  -- the target put all that a reader had left behind the bytes of the open file: so many at most
+  abbrev pub Pours : ℕ → Option (List ℕ) → T → T → Type 0
+  Pours most left old new = (pieces : List (List ℕ)) × ArePieces left pieces × (length (concat pieces) ≤ most) × DoesAll does old (map Piece pieces) new
 
 module _ {T : Type 0} (tells : Told → Type 0) (does : T → Asked → T → Type 0) where
+  -- the target has started, and the root is entered
+  abbrev pub Begins : Standing → Standing → T → T → Type 0
+  Begins walk next old new = does old Start new × Enters tells [] ROOT walk next
+
+module _ {T : Type 0} (limits : TreeLimits) (tells : Told → Type 0) (does : T → Asked → T → Type 0) where
   -- the target made a file of what can be read of it
   abbrev pub CopiesFile : List ℕ → ℕ → T → T → Type 0
-  CopiesFile path node old new = (pieces : List (List ℕ)) × IsRead tells path node pieces × DoesAll does old (made path pieces) new
+  CopiesFile path node old new = (pieces : List (List ℕ)) × IsRead tells path node pieces × (length (concat pieces) ≤ limits.file_size) × DoesAll does old (made path pieces) new
 
   -- a file was visited, and the target did what it was asked for
   abbrev pub VisitsFile : Place → FileFacts → Standing → Standing → T → T → Type 0
-  VisitsFile place facts walk next old new = (visit : Visit) × IsFileVisit tells place facts walk visit next × DoesAll does old (asked_of visit) new
+  VisitsFile place facts walk next old new = (visit : Visit) × IsFileVisit limits tells place facts walk visit next × DoesAll does old (asked_of visit) new
 
   -- the same, whatever stands there
   abbrev pub Visits : Place → Standing → Standing → T → T → Type 0
-  Visits place walk next old new = (visit : Visit) × IsVisit tells place walk visit next × DoesAll does old (asked_of visit) new
+  Visits place walk next old new = (visit : Visit) × IsVisit limits tells place walk visit next × DoesAll does old (asked_of visit) new
 
   -- all that was left was visited
   abbrev pub VisitsAll : Standing → T → T → Type 0
   VisitsAll walk old new =
-      (visits : List Visit) × (done : Standing) × WalksTo tells walk visits done × (done.left ≡ []) × DoesAll does old (flat_map asked_of visits) new
-
-  -- the target has started, and the root is entered
-  abbrev pub Begins : Standing → Standing → T → T → Type 0
-  Begins walk next old new = does old Start new × Enters tells [] ROOT walk next
+      (visits : List Visit) × (done : Standing) × WalksTo limits tells walk visits done × (done.left ≡ []) × DoesAll does old (flat_map asked_of visits) new
 
   -- A whole tree was copied. What was visited is what the source told, from the root on, each
   -- place in its turn, until none was left; and for just that the target was asked, between its
@@ -109,7 +111,7 @@ module _ {T : Type 0} (tells : Told → Type 0) (does : T → Asked → T → Ty
     pub visits : List Visit
     pub done : Standing
     pub root : Enters tells [] ROOT nothing begun
-    pub walk : WalksTo tells begun visits done
+    pub walk : WalksTo limits tells begun visits done
     pub all : done.left ≡ []
     pub did : DoesAll does old (Start ∷ flat_map asked_of visits ++ Finish ∷ []) new
 

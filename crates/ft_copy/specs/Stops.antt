@@ -2,7 +2,7 @@
 use Rattle.std.specs.Prelude.{◌≡◌, ◌⊎◌, ◌<◌, ◌≤◌, ◌-◌, ◌^◌, ℕ, true, List, [], ◌∷◌, ◌++◌, map, length, IsSome, IsSomeAnd, Option, None, Some}
 use Rattle.std.specs.List.{concat, flat_map}
 use Rattle.std.specs.Io.KnownBytes.{Consumes}
-use Rattle.ft_cells.specs.declared.TheConstants.{DEFAULT_FILE_SIZE, DEFAULT_LINKS}
+use Rattle.ft_cells.specs.declared.limits.TreeLimits.{TreeLimits}
 use Rattle.ft_path.specs.declared.TheConstants.{LONGEST_PATH}
 use Rattle.ft_copy.specs.declared.found.TheConstants.{ROOT}
 use Rattle.ft_copy.specs.declared.found.FileFacts.{FileFacts}
@@ -35,16 +35,16 @@ module _ {T : Type 0} (does : T → Asked → T → Type 0) (fails : T → Asked
 -- ---- a visit that is not made, or not to its end
 
 -- A file that is read ends early where there is no memory for a piece, where its reader fails, or
--- where it gives more bytes than a file may have.
-abbrev pub EndsReading : Trouble → List (List ℕ) → Type 0
-EndsReading trouble pieces = (trouble ≡ Memory) ⊎ (trouble ≡ Read) ⊎ ((trouble ≡ TooLarge) × (DEFAULT_FILE_SIZE < length (concat pieces)))
+-- where it gives more bytes than it may have.
+abbrev pub EndsReading : ℕ → Trouble → List (List ℕ) → Type 0
+EndsReading most trouble pieces = (trouble ≡ Memory) ⊎ (trouble ≡ Read) ⊎ ((trouble ≡ TooLarge) × (most < length (concat pieces)))
 
 module _ {T : Type 0} (does : T → Asked → T → Type 0) (fails : T → Asked → Trouble → T → Type 0) where
   -- The target was to put the pieces of a file behind the bytes of the open one, and did so with a
   -- beginning of them.
-  abbrev pub StopsPouring : Trouble → Option (List ℕ) → T → T → Type 0
-  StopsPouring trouble left old new =
-      (pieces : List (List ℕ)) × (after : Option (List ℕ)) × Consumes left after (concat pieces) × StopsIn does fails (EndsReading trouble pieces) trouble (map Piece pieces) old new
+  abbrev pub StopsPouring : ℕ → Trouble → Option (List ℕ) → T → T → Type 0
+  StopsPouring most trouble left old new =
+      (pieces : List (List ℕ)) × (after : Option (List ℕ)) × Consumes left after (concat pieces) × StopsIn does fails (EndsReading most trouble pieces) trouble (map Piece pieces) old new
 
 -- the bytes that were read of a file
 abbrev pub read_of : Visit → Option (List ℕ)
@@ -78,13 +78,14 @@ module _ (tells : Told → Type 0) where
   abbrev pub FindsFile : Place → (FileFacts → Type 0) → Type 0
   FindsFile place holds = (facts : FileFacts) × tells (Finds place.path place.node (found.File facts)) × holds facts
 
+module _ (limits : TreeLimits) (tells : Told → Type 0) where
   -- Why a place is not copied: which trouble comes when.
   abbrev pub Hinders : Trouble → Place → Visit → Type 0
   Hinders Memory place visit = Unit {0}
   Hinders Read place visit = IsSome (read_of visit)
   Hinders Special place visit = tells (Finds place.path place.node found.Special) × tells (Keeps place.path)
-  Hinders TooLarge place visit = FindsFile place (λ facts. DEFAULT_FILE_SIZE < facts.size) ⊎ IsSomeAnd (read_of visit) (λ bytes. DEFAULT_FILE_SIZE < length bytes)
-  Hinders TooManyLinks place visit = FindsFile place (λ facts. DEFAULT_LINKS < facts.links)
+  Hinders TooLarge place visit = FindsFile tells place (λ facts. limits.file_size < facts.size) ⊎ IsSomeAnd (read_of visit) (λ bytes. limits.file_size < length bytes)
+  Hinders TooManyLinks place visit = FindsFile tells place (λ facts. limits.links < facts.links)
   Hinders PathTooLong place visit = LONGEST_PATH < length place.path
   Hinders BadName place visit = is_dotted place.path ≡ true
   Hinders other place visit = ⊥
@@ -125,9 +126,14 @@ path_at (Behind visits) = []
 path_at (Endless visits) = []
 
 module _ (tells : Told → Type 0) where
+  -- Why the root was not entered, where the target has started.
+  abbrev pub IsCauseAtRoot : Trouble → Type 0
+  IsCauseAtRoot trouble = (trouble ≡ Memory) ⊎ tells (Refuses [] ROOT trouble)
+
+module _ (limits : TreeLimits) (tells : Told → Type 0) where
   -- These visits were made from the root on, each of the place that was next, as the source told.
   abbrev pub HasWalked : List Visit → Standing → Type 0
-  HasWalked visits now = (begun : Standing) × Enters tells [] ROOT nothing begun × WalksTo tells begun visits now
+  HasWalked visits now = (begun : Standing) × Enters tells [] ROOT nothing begun × WalksTo limits tells begun visits now
 
   -- So far the source told.
   abbrev pub IsReached : Reached → Type 0
@@ -139,20 +145,21 @@ module _ (tells : Told → Type 0) where
 
   -- Why it went no further, where the target has not failed.
   abbrev pub IsCause : Trouble → Reached → Type 0
-  IsCause trouble Root = (trouble ≡ Memory) ⊎ tells (Refuses [] ROOT trouble)
-  IsCause trouble (Amid visits place visit) = IsCauseAt tells trouble place visit
+  IsCause trouble Root = IsCauseAtRoot tells trouble
+  IsCause trouble (Amid visits place visit) = IsCauseAt limits tells trouble place visit
   IsCause trouble (Behind visits) = ⊥
   IsCause trouble (Endless visits) = trouble ≡ Full
 
 module _ {T : Type 0} (tells : Told → Type 0) (does : T → Asked → T → Type 0) (fails : T → Asked → Trouble → T → Type 0) where
+  -- The target did not start, or the root could not be entered.
+  abbrev pub StopsBegin : Trouble → T → T → Type 0
+  StopsBegin trouble old new = StopsIn does fails (IsCauseAtRoot tells trouble) trouble (Start ∷ []) old new
+
+module _ {T : Type 0} (limits : TreeLimits) (tells : Told → Type 0) (does : T → Asked → T → Type 0) (fails : T → Asked → Trouble → T → Type 0) where
   -- A visit was not made, or not to its end.
   abbrev pub StopsVisit : Trouble → Place → Standing → T → T → Type 0
   StopsVisit trouble place walk old new =
-      (visit : Visit) × HasBegun tells place walk visit × StopsIn does fails (IsCauseAt tells trouble place visit) trouble (asked_of visit) old new
-
-  -- The target did not start, or the root could not be entered.
-  abbrev pub StopsBegin : Trouble → T → T → Type 0
-  StopsBegin trouble old new = StopsIn does fails (IsCause tells trouble Root) trouble (Start ∷ []) old new
+      (visit : Visit) × HasBegun tells place walk visit × StopsIn does fails (IsCauseAt limits tells trouble place visit) trouble (asked_of visit) old new
 
   -- The visit of the next place was not made, or not to its end.
   abbrev pub StopsNext : Stopped → Standing → T → T → Type 0
@@ -167,14 +174,14 @@ module _ {T : Type 0} (tells : Told → Type 0) (does : T → Asked → T → Ty
   -- Places were visited, until one was not.
   abbrev pub StopsVisiting : Stopped → Standing → T → T → Type 0
   StopsVisiting stopped walk old new =
-      (visits : List Visit) × (now : Standing) × (middle : T) × WalksTo tells walk visits now × DoesAll does old (flat_map asked_of visits) middle
+      (visits : List Visit) × (now : Standing) × (middle : T) × WalksTo limits tells walk visits now × DoesAll does old (flat_map asked_of visits) middle
       × (StopsNext stopped now middle new ⊎ RunsOut stopped visits middle new)
 
   -- A copy came so far, and no further: all before it was done, and of what came then a beginning.
   abbrev pub Stops : Stopped → T → T → Type 0
   Stops stopped old new =
-      (reached : Reached) × (middle : T) × IsReached tells reached × (stopped.path ≡ path_at reached) × DoesAll does old (asked_before reached) middle
-      × StopsIn does fails (IsCause tells stopped.trouble reached) stopped.trouble (asked_then reached) middle new
+      (reached : Reached) × (middle : T) × IsReached limits tells reached × (stopped.path ≡ path_at reached) × DoesAll does old (asked_before reached) middle
+      × StopsIn does fails (IsCause limits tells stopped.trouble reached) stopped.trouble (asked_then reached) middle new
 
   -- The same, and then the target has given up.
   abbrev pub StopsCopy : Stopped → T → T → Type 0

@@ -14,21 +14,27 @@ use crate::target::Target;
 use crate::trouble::{Stopped, Trouble};
 use crate::walk::{Walk, enter};
 use ft_base::Sequence;
-use ft_cells::{DEFAULT_FILE_SIZE, DEFAULT_LINKS};
+use ft_cells::TreeLimits;
 use ft_path::LONGEST_PATH;
 use std::alloc::Global;
 
 /// Copies what a source tells of to a target: each directory before what stands in it, the names of
 /// a directory in the order of their bytes, a file by its bytes where it is met first and as a link
-/// where it is met again. What a tree has no place for is refused, unless the source leaves it out.
+/// where it is met again. What a tree has no place for is refused, unless the source leaves it out,
+/// and so is a file that has more bytes or more names than these limits allow.
 ///
 /// Where something fails, the target is asked to give up, and for nothing more.
-pub fn copy<S: Source, T: Target>(alloc: Global, source: &S, target: &mut T) -> Result<(), Stopped>
-    ensures ok { OnOk result (Copies (S.tells source.now) T.does target.old target.new) }
+pub fn copy<S: Source, T: Target>(
+    alloc: Global,
+    limits: TreeLimits,
+    source: &S,
+    target: &mut T,
+) -> Result<(), Stopped>
+    ensures ok { OnOk result (Copies limits (S.tells source.now) T.does target.old target.new) }
     ensures err { OnErr result (GivesUp T.does T.fails target.old target.new) }
-    ensures stopped { IfErr result (λ stopped. StopsCopy (S.tells source.now) T.does T.fails stopped target.old target.new) }
+    ensures stopped { IfErr result (λ stopped. StopsCopy limits (S.tells source.now) T.does T.fails stopped target.old target.new) }
 {
-    match copy_whole(alloc, source, target) {
+    match copy_whole(alloc, limits, source, target) {
         Ok(()) => Ok(()),
         Err(stopped) => {
             target.give_up();
@@ -40,11 +46,12 @@ pub fn copy<S: Source, T: Target>(alloc: Global, source: &S, target: &mut T) -> 
 // The same, but for giving up.
 fn copy_whole<S: Source, T: Target>(
     alloc: Global,
+    limits: TreeLimits,
     source: &S,
     target: &mut T,
 ) -> Result<(), Stopped>
-    ensures ok { OnOk result (Copies (S.tells source.now) T.does target.old target.new) }
-    ensures err { IfErr result (λ stopped. Stops (S.tells source.now) T.does T.fails stopped target.old target.new) }
+    ensures ok { OnOk result (Copies limits (S.tells source.now) T.does target.old target.new) }
+    ensures err { IfErr result (λ stopped. Stops limits (S.tells source.now) T.does T.fails stopped target.old target.new) }
 {
     let mut walk = Walk {
         alloc,
@@ -54,7 +61,7 @@ fn copy_whole<S: Source, T: Target>(
     if let Err(trouble) = begin(source, target, &mut walk) {
         return Err(at_root(alloc, trouble));
     }
-    visit_all(source, target, &mut walk)?;
+    visit_all(limits, source, target, &mut walk)?;
     match target.finish() {
         Ok(()) => Ok(()),
         Err(trouble) => Err(at_root(alloc, trouble)),
@@ -83,12 +90,13 @@ fn begin<S: Source, T: Target>(source: &S, target: &mut T, walk: &mut Walk) -> R
 
 // Visits all that is left.
 fn visit_all<S: Source, T: Target>(
+    limits: TreeLimits,
     source: &S,
     target: &mut T,
     walk: &mut Walk,
 ) -> Result<(), Stopped>
-    ensures ok { OnOk result (VisitsAll (S.tells source.now) T.does (standing walk.old) target.old target.new) }
-    ensures err { IfErr result (λ stopped. StopsVisiting (S.tells source.now) T.does T.fails stopped (standing walk.old) target.old target.new) }
+    ensures ok { OnOk result (VisitsAll limits (S.tells source.now) T.does (standing walk.old) target.old target.new) }
+    ensures err { IfErr result (λ stopped. StopsVisiting limits (S.tells source.now) T.does T.fails stopped (standing walk.old) target.old target.new) }
 {
     let mut turns = u64::MAX;
     while turns > 0 {
@@ -96,7 +104,7 @@ fn visit_all<S: Source, T: Target>(
         let Some(place) = walk.left.pop() else {
             return Ok(());
         };
-        match visit(source, target, walk, &place) {
+        match visit(limits, source, target, walk, &place) {
             Ok(()) => {}
             Err(trouble) => {
                 return Err(Stopped {
@@ -111,13 +119,14 @@ fn visit_all<S: Source, T: Target>(
 
 // Visits one place.
 fn visit<S: Source, T: Target>(
+    limits: TreeLimits,
     source: &S,
     target: &mut T,
     walk: &mut Walk,
     place: &Place,
 ) -> Result<(), Trouble>
-    ensures ok { OnOk result (Visits (S.tells source.now) T.does place.now (standing walk.old) (standing walk.new) target.old target.new) }
-    ensures err { IfErr result (λ trouble. StopsVisit (S.tells source.now) T.does T.fails trouble place.now (standing walk.old) target.old target.new) }
+    ensures ok { OnOk result (Visits limits (S.tells source.now) T.does place.now (standing walk.old) (standing walk.new) target.old target.new) }
+    ensures err { IfErr result (λ trouble. StopsVisit limits (S.tells source.now) T.does T.fails trouble place.now (standing walk.old) target.old target.new) }
 {
     let path = place.path.as_slice();
     if is_dotted(path) {
@@ -131,7 +140,7 @@ fn visit<S: Source, T: Target>(
             target.folder(path)?;
             enter(source, walk, path, place.node)
         }
-        Found::File(facts) => visit_file(source, target, walk, place, &facts),
+        Found::File(facts) => visit_file(limits, source, target, walk, place, &facts),
         Found::Special => {
             if source.omits(path)? {
                 Ok(())
@@ -144,32 +153,33 @@ fn visit<S: Source, T: Target>(
 
 // Visits a file.
 fn visit_file<S: Source, T: Target>(
+    limits: TreeLimits,
     source: &S,
     target: &mut T,
     walk: &mut Walk,
     place: &Place,
     facts: &FileFacts,
 ) -> Result<(), Trouble>
-    ensures ok { OnOk result (VisitsFile (S.tells source.now) T.does place.now facts.now (standing walk.old) (standing walk.new) target.old target.new) }
+    ensures ok { OnOk result (VisitsFile limits (S.tells source.now) T.does place.now facts.now (standing walk.old) (standing walk.new) target.old target.new) }
     ensures err { S.tells source.now (Finds place.now.path place.now.node (File facts.now))
-        → IfErr result (λ trouble. StopsVisit (S.tells source.now) T.does T.fails trouble place.now (standing walk.old) target.old target.new) }
+        → IfErr result (λ trouble. StopsVisit limits (S.tells source.now) T.does T.fails trouble place.now (standing walk.old) target.old target.new) }
 {
     let path = place.path.as_slice();
-    if facts.links > DEFAULT_LINKS {
+    if facts.links > limits.links {
         return Err(Trouble::TooManyLinks);
     }
-    if facts.size > DEFAULT_FILE_SIZE {
+    if facts.size > limits.file_size {
         return Err(Trouble::TooLarge);
     }
     if facts.links <= 1 {
-        return copy_file(walk.alloc, source, target, path, place.node);
+        return copy_file(walk.alloc, limits, source, target, path, place.node);
     }
     match walk.firsts.get(facts.id) {
         Some(first) => target.link(first.as_slice(), path),
         None => {
             let first = Vec::from_slice(walk.alloc, path)?;
             walk.firsts.insert(facts.id, first.into())?;
-            copy_file(walk.alloc, source, target, path, place.node)
+            copy_file(walk.alloc, limits, source, target, path, place.node)
         }
     }
 }

@@ -13,39 +13,45 @@ ghost use Rattle.ft_copy.specs.Walks.{Standing};
 use crate::source::Source;
 use crate::target::Target;
 use crate::trouble::Trouble;
-use ft_cells::DEFAULT_FILE_SIZE;
+use ft_cells::TreeLimits;
 use std::alloc::{AllocError, Global};
 use std::io::{ErrorKind, Read};
 
 /// The most bytes of a piece in which a file is copied.
 pub const PIECE: usize = 65_536;
 
-/// Copies a file. One that turns out to have more than `DEFAULT_FILE_SIZE` bytes is refused.
+/// Copies a file. One that turns out to have more bytes than the limits allow is refused.
 pub(crate) fn copy_file<S: Source, T: Target>(
     alloc: Global,
+    limits: TreeLimits,
     source: &S,
     target: &mut T,
     path: &[u8],
     node: u64,
 ) -> Result<(), Trouble>
-    ensures ok { OnOk result (CopiesFile (S.tells source.now) T.does path.now node target.old target.new) }
+    ensures ok { OnOk result (CopiesFile limits (S.tells source.now) T.does path.now node target.old target.new) }
     ensures err { (facts : FileFacts) (walk : Standing) → S.tells source.now (Finds path.now node (File facts))
-        → IfErr result (λ trouble. StopsVisit (S.tells source.now) T.does T.fails trouble (record { path = path.now; node = node }) walk target.old target.new) }
+        → IfErr result (λ trouble. StopsVisit limits (S.tells source.now) T.does T.fails trouble (record { path = path.now; node = node }) walk target.old target.new) }
 {
     let mut file = source.open(path, node)?;
     target.open(path)?;
-    pour(alloc, &mut file, target)?;
+    pour(alloc, limits.file_size, &mut file, target)?;
     target.close()
 }
 
-// Puts all that a reader has left into the open file.
-fn pour<R: Read, T: Target>(alloc: Global, file: &mut R, target: &mut T) -> Result<(), Trouble>
-    ensures ok { OnOk result (Pours T.does (R.remaining file.old) target.old target.new) }
-    ensures err { IfErr result (λ trouble. StopsPouring T.does T.fails trouble (R.remaining file.old) target.old target.new) }
+// Puts all that a reader has left into the open file, so many bytes at most.
+fn pour<R: Read, T: Target>(
+    alloc: Global,
+    most: u64,
+    file: &mut R,
+    target: &mut T,
+) -> Result<(), Trouble>
+    ensures ok { OnOk result (Pours T.does most (R.remaining file.old) target.old target.new) }
+    ensures err { IfErr result (λ trouble. StopsPouring T.does T.fails most trouble (R.remaining file.old) target.old target.new) }
 {
     let mut room = room_for_piece(alloc)?;
     let piece = room.as_mut_slice();
-    let mut left = DEFAULT_FILE_SIZE as usize;
+    let mut left = most as usize;
     loop {
         let count = read_piece(file, piece)?;
         if count == 0 {

@@ -42,6 +42,7 @@ use Rattle.ft_core.specs.Kept.{Item, ArePlaced, AreLogged, AreLogs, IsCoreAt, Is
 use Rattle.ft_core.specs.Laws.{CallLaws, LockLaws}
 use Rattle.ft_core.specs.Taking.{taken_back, CanTakeBack}
 use Rattle.ft_core.proofs.Accounts.{still-accounted}
+use Rattle.ft_core.proofs.Allowing.{still-within, happened}
 use Rattle.ft_core.proofs.Ends.{named, kept-ending, same-live, live-in, not-live-in, fate-live}
 use Rattle.ft_core.proofs.Joining.{start, values}
 use Rattle.ft_core.proofs.Lists.{IsTaking, IsListTaken, list-taken}
@@ -320,6 +321,8 @@ module _ (W : CallLaws) (K : LockLaws) {base : Base} {h : History} {asks : Asks}
             (λ e. sym (fates-are x) ∙ ap fate_in (live-in (state_in forest x) e))
             (λ e. absurd (false≢true (sym (ap is_some (way.asks_ended x e)) ∙ some)));
         accounted = way.accounted;
+        within = still-within base forest₀ forest j₀ j' done.limits (ap (λ (q : Journaled). q.calls) told ∙ ap (λ (q : Journaled). q.calls) way.journal) core.within;
+        bare = λ e. happened e;
       }
         where
           with_true : (b : Bool) → (b && not false) ≡ b

@@ -99,7 +99,7 @@ module _ (limits : TreeLimits) where
   no-file : (i : ℕ) → is_useless (fresh_cells limits) (Links i) ≡ false
   no-file i = ap (λ (o : Option FileCells). is_some o && not (has_file (fresh_cells limits) i)) (finite.get-empty {X = FileCells} nat_cmp i)
 
-  fresh-none : (c : Cell) → is_useless (fresh_cells limits) c ≡ false
+  pub fresh-none : (c : Cell) → is_useless (fresh_cells limits) c ≡ false
   fresh-none (Entry entry) =
       ap (λ (x : DirCells). finite.contains_key x.entries entry.name && is_none (option_flatten (finite.get x.entries entry.name))) (fresh-dir entry.dir)
       ∙ ap (λ (o : Option (Option Node)). is_some o && is_none (option_flatten o)) (finite.get-empty {X = Option Node} (slice_cmp nat_cmp) entry.name)

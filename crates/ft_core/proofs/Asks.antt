@@ -86,7 +86,7 @@ module _ (W : CallLaws) (K : LockLaws) (p : Parts) (j : Journaled) (core : IsCor
       let q : Journaled = with_call j t call reply accesses in
       let at = core-granted W K core t call reply accesses (next_stamp s) refl (one-more j few) live touched answered
       (K.foreign (start W core.kept) (values W core.kept) (history s) core.kept.core.legal s.rule t (map as_place accesses) (ap (exact_rule s t) seen ∙ none)) p' made (finite.remove s.asks t)
-      (dropped core t) are q refl refl in
+      (dropped core t) are q refl refl refl in
       let whole : IsCoreOf (state_of p.forest q) (record p' { forest = p.forest }) q =
       subst (λ h. IsCoreAt s.base h (finite.remove s.asks t) s.last_txn (next_stamp s) p'.tree p.forest p'.locks p'.logs q) (sym (told-push s.events (CallEvent (next_stamp s) t call reply accesses))) at in
       record {
@@ -127,7 +127,7 @@ module _ (W : CallLaws) (K : LockLaws) (p : Parts) (j : Journaled) (core : IsCor
   core-waits t None live j' is = subst (λ (q : Journaled). IsCoreOf (state_of p.forest q) p q) (sym is) core
   core-waits t (Some call) live j' is =
       subst (λ (q : Journaled). IsCoreOf (state_of p.forest q) p q) (sym is)
-      (core-asks core (finite.insert j.asks t call) (awaited core t call live) (record j { asks = finite.insert j.asks t call }) refl refl)
+      (core-asks core (finite.insert j.asks t call) (awaited core t call live) (record j { asks = finite.insert j.asks t call }) refl refl refl)
 
 -- to wait for the call that one waits for changes nothing
 pub waits-again : (s : State) (t : ℕ) (call : Call) → finite.get s.asks t ≡ Some call → after_wait s t call ≡ s

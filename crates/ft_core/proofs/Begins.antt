@@ -36,6 +36,7 @@ use Rattle.ft_core.specs.declared.parts.Parts.{Parts}
 use Rattle.ft_core.specs.Kept.{AreLogged, IsCoreAt, IsCoreOf}
 use Rattle.ft_core.specs.Opens.{AreAsBefore, IsOpenFor}
 use Rattle.ft_core.specs.Laws.{CallLaws, LockLaws}
+use Rattle.ft_core.proofs.Allowing.{still-within, happened}
 use Rattle.ft_core.proofs.Opening.{Subs}
 use Rattle.ft_core.proofs.Told.{told-push}
 use Rattle.ft_core.proofs.Joining.{start, values, past, may-begin, kept-begin}
@@ -90,8 +91,8 @@ module _ (W : CallLaws) (K : LockLaws) {base : Base} {h : History} {asks : Asks}
     still-live : (x : ℕ) → IsLive posix_calls base.last_txn h x → IsLive posix_calls base.last_txn after x
     still-live x was = fates x ∙ by_number x n (λ is. put_same (fate posix_calls base.last_txn h) n (Some Live) x is) (λ ne. put_other (fate posix_calls base.last_txn h) n (Some Live) x ne ∙ was)
 
-    pub core-begin : (forest' : Transactions) → HasBegun forest forest' up → IsOpenFor j table lists n → (j' : Journaled) → j'.rule ≡ j.rule → j'.subs ≡ j.subs → IsCoreAt base after asks n last_number cells forest' table lists j'
-    core-begin forest' has open_for j' rule subs = record {
+    pub core-begin : (forest' : Transactions) → HasBegun forest forest' up → IsOpenFor j table lists n → (j' : Journaled) → j'.rule ≡ j.rule → j'.subs ≡ j.subs → j'.calls ≡ j.calls → IsCoreAt base after asks n last_number cells forest' table lists j'
+    core-begin forest' has open_for j' rule subs calls = record {
       log = core.log;
       kept = kept-begin W core.kept n up next live;
       transactions = record {
@@ -112,6 +113,8 @@ module _ (W : CallLaws) (K : LockLaws) {base : Base} {h : History} {asks : Asks}
           (λ ne. let was = core.ready t (was-live t ne now) in record { locks = was.locks; log = was.log; sub = ap (λ m. finite.get m t) subs ∙ was.sub });
       waiting = λ t some. still-live t (core.waiting t some);
       accounted = core.accounted;
+      within = still-within base forest forest' j j' has.limits calls core.within;
+      bare = λ e. happened e;
     }
       where
         number_is : last_in forest + 1 ≡ n
@@ -136,6 +139,8 @@ module _ (W : CallLaws) (K : LockLaws) {base : Base} {h : History} {asks : Asks}
         record { locks = same.opened t was.locks; log = same.open_still t was.log; sub = same.subs t (λ is. absurd (omega arith)) ∙ was.sub };
     waiting = core.waiting;
     accounted = subst (λ (q : LockTable). IsAccounted (is_locked q) (is_let_go q) cells) (sym same.locks) core.accounted;
+    within = still-within base forest forest j j' refl (ap (λ (q : Journaled). q.calls) same.journal) core.within;
+    bare = core.bare;
   }
 
 -- whom a begin is not refused under is live
@@ -169,7 +174,7 @@ core-started W K p p' j j1 j' up core fine same open_for has tree is =
     let n = last_in p.forest + 1 in
     let s : State = state_of p.forest j in
     let opened = core-opened W K core p'.locks p'.logs j1 same in
-    let begun = core-begin W K opened n up refl (live-parent s up fine) p'.forest has open_for j' (ap (λ (q : Journaled). q.rule) is) (ap (λ (q : Journaled). q.subs) is) in
+    let begun = core-begin W K opened n up refl (live-parent s up fine) p'.forest has open_for j' (ap (λ (q : Journaled). q.rule) is) (ap (λ (q : Journaled). q.subs) is) (ap (λ (q : Journaled). q.calls) is) in
     let told : IsCoreOf (after_begin s up) (parts p.tree p'.forest p'.locks p'.logs) j' =
     subst (λ h. IsCoreAt s.base h s.asks n s.last_stamp p.tree p'.forest p'.locks p'.logs j') (sym (told-push s.events (Begin n up))) begun in
     subst (λ c. IsCoreOf (state_of p'.forest j') (parts c p'.forest p'.locks p'.logs) j') (sym tree)

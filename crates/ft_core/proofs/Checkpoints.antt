@@ -34,8 +34,10 @@ use Rattle.ft_core.specs.States.{State, history, fate_of, tree_of, live_transact
 use Rattle.ft_core.specs.Steps.{fault_if, refusal_of}
 use Rattle.ft_core.specs.Journals.{Journaled, no_events, state_of}
 use Rattle.ft_core.specs.declared.parts.Parts.{Parts}
+use Rattle.ft_core.specs.Limits.{greatest_limits, are_within}
 use Rattle.ft_core.specs.Kept.{start_of, AreLogged, IsCoreOf}
 use Rattle.ft_core.specs.Laws.{CallLaws, LockLaws}
+use Rattle.ft_core.proofs.Allowing.{limits-kept}
 use Rattle.ft_core.proofs.Cores.{none-in, unborn}
 use Rattle.ft_core.proofs.Ends.{live-is}
 use Rattle.ft_core.proofs.Joining.{start, values, past, sound_values, tree_is}
@@ -134,6 +136,8 @@ module _ (W : CallLaws) (K : LockLaws) (p : Parts) (j : Journaled) (core : IsCor
         ready = λ t live. absurd (not_live (sym (unborn (last_in forest) t) ∙ live));
         waiting = λ t some. absurd (false≢true (sym (ap is_some (finite.get-empty {X = Call} nat_cmp t)) ∙ some));
         accounted = λ c spare. absurd (false≢true (sym (useless c) ∙ (and_parts (is_useless cells c) (not (at_place (is_locked no_locks) c)) spare).0));
+        within = (λ i. are_within (record { file_size = (limits-kept W core.kept i).file_size; links = (limits-kept W core.kept i).links; depth = forest.limits.depth; transactions = forest.limits.transactions; calls = j.calls }) greatest_limits) ∙ core.within;
+        bare = λ e. useless;
       }
         where
           not_live : {x : Fate} → None ≡ Some x → ⊥

@@ -37,6 +37,7 @@ use Rattle.ft_core.specs.Journals.{Journaled, with_event, without, with_sub, not
 use Rattle.ft_core.specs.Kept.{Item, AreLogged, IsCoreAt}
 use Rattle.ft_core.specs.Laws.{CallLaws, LockLaws}
 use Rattle.ft_core.proofs.Accounts.{still-accounted}
+use Rattle.ft_core.proofs.Allowing.{still-within, happened}
 use Rattle.ft_core.proofs.Children.{no-child}
 use Rattle.ft_core.proofs.Ends.{named, kept-ending}
 use Rattle.ft_core.proofs.Joining.{start, values, past}
@@ -142,6 +143,10 @@ module _ (W : CallLaws) (K : LockLaws) {base : Base} {h : History} {asks : Asks}
   rule-noted None = refl
   rule-noted (Some p) = refl
 
+  calls-noted : (up : Option ℕ) → (noted_up j up).calls ≡ j.calls
+  calls-noted None = refl
+  calls-noted (Some p) = refl
+
   pub core-commit : j.last_stamp ≡ last_number → (up : Option ℕ) → up ≡ parent_in forest t → (forest' : Transactions) → HasEnded forest forest' t CommittedState → (table' : LockTable) → AreHandedUp table table' t up
       → (lists' : Lists Logged) → AreLists lists' (handed (list_in lists) t up) → AreOpen lists' (put (is_open lists) t false) → (j' : Journaled) → j' ≡ with_event (without (noted_up j up) t) (Commit t)
       → IsCoreAt base after (finite.remove asks t) last_txn last_number cells forest' table' lists' j'
@@ -179,6 +184,8 @@ module _ (W : CallLaws) (K : LockLaws) {base : Base} {h : History} {asks : Asks}
             (λ same. absurd (none (sym (ap is_some (removed-same asks t x same)) ∙ some)))
             (λ ne. still-live x ne (core.waiting x (sym (ap is_some (removed-other asks t x ne)) ∙ some)));
         accounted = still-accounted table table' cells (knows up parent_is table' handed_up) core.accounted;
+        within = still-within base forest forest' j j' has.limits (ap (λ (q : Journaled). q.calls) is ∙ calls-noted up) core.within;
+        bare = λ e. happened e;
       }
     where
       none : false ≡ true → ⊥

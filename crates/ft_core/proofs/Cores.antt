@@ -10,7 +10,7 @@ use Rattle.ft_laws.proofs.Tests.{by_test}
 use Rattle.ft_cells.specs.declared.limits.TreeLimits.{TreeLimits}
 use Rattle.ft_cells.specs.Cells.{Cells, fresh_cells}
 use Rattle.ft_tree.specs.Sound.{AreSoundCells, IsFree}
-use Rattle.ft_tree.specs.Sweep.{IsAccounted}
+use Rattle.ft_tree.specs.Sweep.{IsAccounted, is_useless}
 use Rattle.ft_tree.specs.Tidy.{tidy}
 use Rattle.ft_posix.specs.declared.call.Call.{Call}
 use Rattle.ft_posix.specs.Posix.{posix_calls}
@@ -28,9 +28,11 @@ use Rattle.ft_history.proofs.Methods.{core_new}
 use Rattle.ft_core.specs.Histories.{History}
 use Rattle.ft_core.specs.States.{Base, Asks, fate_in}
 use Rattle.ft_core.specs.Journals.{Journaled, no_events, state_of}
+use Rattle.ft_core.specs.Limits.{greatest_limits, are_within}
 use Rattle.ft_core.specs.Kept.{start_of, AreLogged, IsCoreAt, IsCoreOf}
 use Rattle.ft_core.specs.Laws.{CallLaws, LockLaws}
-use Rattle.ft_core.proofs.Accounts.{fresh-accounted}
+use Rattle.ft_core.proofs.Accounts.{fresh-none, fresh-accounted}
+use Rattle.ft_core.proofs.Allowing.{still-within}
 use Rattle.ft_core.proofs.Joining.{sound_values}
 use Rattle.ft_core.proofs.Gathered.{parts}
 
@@ -42,10 +44,14 @@ unborn first x = by_test (nat_lt first x && nat_le x first)
     (λ k. let parts = and_parts (nat_lt first x) (nat_le x first) k in let one : first < x = ltb-true first x parts.0 in let two : x ≤ first = leb-true x first parts.1 in absurd (omega arith))
     (λ k. ap (λ b. cond b (Some (cond false Committed (cond false Aborted Live))) None) k)
 
+-- these are within the greatest limits
+abbrev pub AreAllowed : ℕ → ForestLimits → TreeLimits → Type 0
+AreAllowed calls few limits = are_within (record { file_size = limits.file_size; links = limits.links; depth = few.depth; transactions = few.transactions; calls = calls }) greatest_limits ≡ true
+
 -- new: the root alone
 pub core-first : CallLaws → LockLaws → (rule : Rule) (calls : ℕ) (few : ForestLimits) (limits : TreeLimits) (cells : Cells) → cells ≡ fresh_cells limits → AreSoundCells cells → ((k : ℕ) → 2 ≤ k → IsFree cells k) → (lists : Lists Logged) → AreLists lists (λ t. [])
-    → IsCoreOf (state_of (none_since few 0) (no_events rule calls (tidy cells) 1)) (parts cells (none_since few 0) no_locks lists) (no_events rule calls (tidy cells) 1)
-core-first W K rule calls few limits cells fresh sound free lists none = record {
+    → AreAllowed calls few limits → IsCoreOf (state_of (none_since few 0) (no_events rule calls (tidy cells) 1)) (parts cells (none_since few 0) no_locks lists) (no_events rule calls (tidy cells) 1)
+core-first W K rule calls few limits cells fresh sound free lists none within = record {
   log = λ t. [];
   kept = record {
     started = record {
@@ -75,24 +81,26 @@ core-first W K rule calls few limits cells fresh sound free lists none = record 
   ready = λ t live. absurd (not_live (sym (unborn 0 t) ∙ live));
   waiting = λ t some. absurd (false≢true (sym (ap is_some (finite.get-empty {X = Call} nat_cmp t)) ∙ some));
   accounted = subst (IsAccounted (is_locked no_locks) (is_let_go no_locks)) (sym fresh) (fresh-accounted limits (is_locked no_locks) (is_let_go no_locks));
+  within = (λ i. are_within (record { file_size = (fresh i).limits.file_size; links = (fresh i).limits.links; depth = few.depth; transactions = few.transactions; calls = calls }) greatest_limits) ∙ within;
+  bare = λ e c. ap (λ k. is_useless k c) fresh ∙ fresh-none limits c;
 }
   where
     not_live : {f : Fate} → None ≡ Some f → ⊥
     not_live e = cc
 
 pub core-new : CallLaws → LockLaws → (rule : Rule) (calls : ℕ) (few : ForestLimits) (limits : TreeLimits) (cells : Cells) → cells ≡ fresh_cells limits → AreSoundCells cells → ((k : ℕ) → 2 ≤ k → IsFree cells k) → (lists : Lists Logged) → AreLists lists (λ t. []) → (forest : Transactions) → forest ≡ none_since few 0
-    → (table : LockTable) → table ≡ no_locks → (j : Journaled) → j ≡ no_events rule calls (tidy cells) 1 → IsCoreOf (state_of forest j) (parts cells forest table lists) j
-core-new W K rule calls few limits cells fresh sound free lists none forest first table empty j is =
+    → (table : LockTable) → table ≡ no_locks → (j : Journaled) → j ≡ no_events rule calls (tidy cells) 1 → AreAllowed calls few limits → IsCoreOf (state_of forest j) (parts cells forest table lists) j
+core-new W K rule calls few limits cells fresh sound free lists none forest first table empty j is within =
     let q : Journaled = no_events rule calls (tidy cells) 1 in
     subst (λ (k : Journaled). IsCoreOf (state_of forest k) (parts cells forest table lists) k) (sym is)
     (subst (λ (m : Transactions). IsCoreOf (state_of m q) (parts cells m table lists) q) (sym first)
     (subst (λ (t : LockTable). IsCoreOf (state_of (none_since few 0) q) (parts cells (none_since few 0) t lists) q) (sym empty)
-    (core-first W K rule calls few limits cells fresh sound free lists none)))
+    (core-first W K rule calls few limits cells fresh sound free lists none within)))
 
 module _ {base : Base} {h : History} {asks : Asks} {last_txn last_number : ℕ} {cells : Cells} {forest : Transactions} {table : LockTable} {lists : Lists Logged} {j : Journaled} (core : IsCoreAt base h asks last_txn last_number cells forest table lists j) where
   -- others wait
-  pub core-asks : (asks' : Asks) → ((t : ℕ) → is_some (finite.get asks' t) ≡ true → IsLive posix_calls base.last_txn h t) → (j' : Journaled) → j'.rule ≡ j.rule → j'.subs ≡ j.subs → IsCoreAt base h asks' last_txn last_number cells forest table lists j'
-  core-asks asks' waiting j' rule subs = record {
+  pub core-asks : (asks' : Asks) → ((t : ℕ) → is_some (finite.get asks' t) ≡ true → IsLive posix_calls base.last_txn h t) → (j' : Journaled) → j'.rule ≡ j.rule → j'.subs ≡ j.subs → j'.calls ≡ j.calls → IsCoreAt base h asks' last_txn last_number cells forest table lists j'
+  core-asks asks' waiting j' rule subs calls = record {
     log = core.log;
     kept = core.kept;
     transactions = core.transactions;
@@ -102,6 +110,8 @@ module _ {base : Base} {h : History} {asks : Asks} {last_txn last_number : ℕ} 
     ready = λ t live. let was = core.ready t live in record { locks = was.locks; log = was.log; sub = ap (λ m. finite.get m t) subs ∙ was.sub };
     waiting = waiting;
     accounted = core.accounted;
+    within = still-within base forest forest j j' refl calls core.within;
+    bare = core.bare;
   }
 
   -- one waits no more

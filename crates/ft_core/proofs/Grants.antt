@@ -40,6 +40,7 @@ use Rattle.ft_core.specs.Kept.{Item, Change, TakesBack, AreLogged, ArePlaced, Is
 use Rattle.ft_core.specs.Laws.{CallLaws, LockLaws}
 use Rattle.ft_core.specs.Makes.{IsMadeOn}
 use Rattle.ft_core.proofs.Accounts.{granted-accounted}
+use Rattle.ft_core.proofs.Allowing.{still-within, happened}
 use Rattle.ft_core.proofs.Counts.{length-push}
 use Rattle.ft_core.proofs.Joining.{start, values, free, sound_values}
 use Rattle.ft_core.proofs.Written.{of-written}
@@ -155,8 +156,8 @@ module _ (W : CallLaws) (K : LockLaws) {base : Base} {h : History} {asks : Asks}
         ])
         (λ ne. placed-stays cells cells' stay e (core.logs.placed u e (subst (In e) (put_other core.log t (entry ∷ core.log t) u ne) i)))
 
-    pub core-granted : (asks' : Asks) → ((u : ℕ) → is_some (finite.get asks' u) ≡ true → IsLive posix_calls base.last_txn h u) → AreBlockers j.rule table forest t accesses [] → (j' : Journaled) → j'.rule ≡ j.rule → j'.subs ≡ j.subs → IsCoreAt base after asks' last_txn k cells' forest table' lists' j'
-    core-granted asks' waiting free j' rule subs = record {
+    pub core-granted : (asks' : Asks) → ((u : ℕ) → is_some (finite.get asks' u) ≡ true → IsLive posix_calls base.last_txn h u) → AreBlockers j.rule table forest t accesses [] → (j' : Journaled) → j'.rule ≡ j.rule → j'.subs ≡ j.subs → j'.calls ≡ j.calls → IsCoreAt base after asks' last_txn k cells' forest table' lists' j'
+    core-granted asks' waiting free j' rule subs calls = record {
       log = pushed core.log t entry;
       kept = record {
         started = started-granted base h last_txn last_number c next few core.kept.started;
@@ -175,4 +176,6 @@ module _ (W : CallLaws) (K : LockLaws) {base : Base} {h : History} {asks : Asks}
           record { locks = ap (λ s. set.contains s u) made.granted.opened ∙ was.locks; log = made.open_still u ∙ was.log; sub = ap (λ m. finite.get m u) subs ∙ was.sub };
       waiting = waiting;
       accounted = subst (IsAccounted (is_locked table') (is_let_go table')) acted (granted-accounted W K cells table table' a t accesses core.kept.sound is_free touched made.granted core.accounted);
+      within = still-within base forest forest j j' refl calls core.within;
+      bare = λ e. happened e;
     }

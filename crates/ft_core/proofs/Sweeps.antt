@@ -22,7 +22,7 @@ use Rattle.ft_posix.specs.RunLaws.{writes_cell}
 use Rattle.ft_undo.specs.declared.logs.Logged.{Logged}
 use Rattle.ft_forest.specs.Transactions.{Transactions}
 use Rattle.ft_moss.specs.Locks.{LockTable, is_locked}
-use Rattle.ft_history.specs.History.{Base as HistoryBase, over, standing}
+use Rattle.ft_history.specs.History.{Base as HistoryBase, Fate, fate, IsLive, over, standing}
 use Rattle.ft_history.specs.Locks.{owns_lock}
 use Rattle.ft_history.specs.Core.{AreInverses, IsSweep, IsCore}
 use Rattle.ft_history.proofs.Words.{same_some, none_some}
@@ -35,7 +35,8 @@ use Rattle.ft_core.specs.States.{Base, Asks, State, history}
 use Rattle.ft_core.specs.Journals.{Journaled}
 use Rattle.ft_core.specs.Kept.{Item, Change, file_is_stored, ArePlaced, IsCoreAt, IsCoreOf}
 use Rattle.ft_core.specs.Laws.{CallLaws, LockLaws}
-use Rattle.ft_core.proofs.Accounts.{not-named, swept-accounted}
+use Rattle.ft_core.proofs.Accounts.{not-named, swept-accounted, none-useless}
+use Rattle.ft_core.proofs.Cores.{unborn}
 use Rattle.ft_core.proofs.Joining.{start, values, past, free}
 use Rattle.ft_core.proofs.Owned.{owned-by, written-locked}
 use Rattle.ft_core.proofs.Written.{written-changes, set-once}
@@ -82,6 +83,13 @@ along-at : (P Q : Cells → Granted → Type 0) (s : Cells) (cs : List Granted) 
 along-at P Q s [] p q c i = absurd i
 along-at P Q s (d ∷ ds) p q c (inl e) = (s, subst (P s) (sym e) p.0, subst (Q s) (sym e) q.0)
 along-at P Q s (d ∷ ds) p q c (inr i) = along-at P Q (posix_calls.act s d.call) ds p.1 q.1 c i
+
+-- before anything has happened nobody is live
+never-live : (first : ℕ) (h : History) → h ≡ [] → (x : ℕ) → IsLive posix_calls first h x → ⊥
+never-live first h e x live = none_fate (sym (unborn first x) ∙ ap (λ (k : History). fate posix_calls first k x) (sym e) ∙ live)
+  where
+    none_fate : {f : Fate} → None ≡ Some f → ⊥
+    none_fate e = cc
 
 module _ (W : CallLaws) (K : LockLaws) {base : Base} {h : History} {asks : Asks} {last_txn last_number : ℕ} {cells : Cells} {forest : Transactions} {table : LockTable} {lists : Lists Logged} {j : Journaled} (core : IsCoreAt base h asks last_txn last_number cells forest table lists j) (new : Cells) (swept : IsSwept (is_locked table) cells new) (none_left : HasNoneToDrop (is_locked table) new) (sound' : AreSoundCells new) where
   abbrev from : HistoryBase posix_calls
@@ -244,6 +252,12 @@ module _ (W : CallLaws) (K : LockLaws) {base : Base} {h : History} {asks : Asks}
           (λ w j. file-kept w.cell w.value (brings w j) (Each-at (λ (v : Change). file_is_stored cells v.cell v.value) e.inverse.before w was.files j));
     }
 
+  -- Where nothing has happened no cell is locked.
+  all-free : h ≡ [] → (c : Cell) → is_locked table c ≡ false
+  all-free e c = by_test (is_locked table c)
+      (λ k. let lock = K.known.locked table c k in absurd (never-live base.last_txn h e lock.0.owner (K.live from with_values h table core.locks core.kept.core.legal lock.0 lock.1)))
+      (λ k. k)
+
   -- A core keeps all of it.
   pub core-swept : (table' : LockTable) → table'.lines ≡ table.lines → table'.opened ≡ table.opened → IsCoreAt base h asks last_txn last_number new forest table' lists j
   core-swept table' lines opened = record {
@@ -256,6 +270,8 @@ module _ (W : CallLaws) (K : LockLaws) {base : Base} {h : History} {asks : Asks}
     ready = λ u live. let now = core.ready u live in record { locks = ap (λ s. set.contains s u) opened ∙ now.locks; log = now.log; sub = now.sub };
     waiting = core.waiting;
     accounted = swept-accounted table table' new lines none_left;
+    within = core.within;
+    bare = λ e. none-useless table new (all-free e) none_left;
   }
 
 -- Where no transaction is live, no cell is locked.

@@ -37,6 +37,7 @@ use Rattle.ft_core.specs.Journals.{Journaled, with_event, sub_in}
 use Rattle.ft_core.specs.Kept.{Item, ArePlaced, TakesBack, AreLogged, IsKept, IsCoreAt}
 use Rattle.ft_core.specs.Laws.{CallLaws, LockLaws}
 use Rattle.ft_core.proofs.Accounts.{reverted-accounted}
+use Rattle.ft_core.proofs.Allowing.{still-within, happened}
 use Rattle.ft_core.proofs.Commits.{logged-put}
 use Rattle.ft_core.proofs.Children.{no-child}
 use Rattle.ft_core.proofs.Ends.{named, kept-ending}
@@ -181,5 +182,7 @@ module _ (W : CallLaws) (K : LockLaws) {base : Base} {h : History} {asks : Asks}
               waiting = core.waiting;
               accounted = subst (IsAccounted (is_locked table) (is_let_go table)) (sym reverted)
                   (reverted-accounted W cells e (core.logs.placed t e there).own table (written-locked W K core t e there) loses (subst AreSoundCells reverted kept.sound) core.accounted);
+              within = still-within base forest forest j j' refl (ap (λ (q : Journaled). q.calls) told) core.within;
+              bare = λ f. happened f;
             };
       })

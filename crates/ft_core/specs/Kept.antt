@@ -28,7 +28,10 @@ use Rattle.ft_history.specs.Core.{Entry, IsCore}
 use Rattle.ft_history.specs.Undoing.{last_sub}
 use Rattle.ft_core.specs.Histories.{History}
 use Rattle.ft_core.specs.declared.parts.Parts.{Parts}
+use Rattle.ft_core.specs.declared.limits.Limits.{Limits}
+use Rattle.ft_core.specs.Limits.{greatest_limits, are_within}
 use Rattle.ft_core.specs.States.{Base, State, Asks, fate_in, history}
+use Rattle.ft_core.specs.Sweeps.{HasNoUselessPlace}
 use Rattle.ft_core.specs.Journals.{Journaled}
 
 -- a call that can be taken back, with its inverse
@@ -125,6 +128,16 @@ pub record IsReady (base : Base) (h : History) (table : LockTable) (lists : List
   pub log : is_open lists t ≡ true
   pub sub : finite.get j.subs t ≡ Some (last_sub posix_calls base.last_stamp h t)
 
+-- what is allowed: of the tree by its base, and of the history by the forest and the journal
+abbrev pub allowed : Base → Transactions → Journaled → Limits
+allowed base forest j = record {
+  file_size = base.tree.limits.file_size;
+  links = base.tree.limits.links;
+  depth = forest.limits.depth;
+  transactions = forest.limits.transactions;
+  calls = j.calls;
+}
+
 -- What a core keeps: its tree, its transactions, its locks and its lists are those of its history,
 -- whatever can be taken back has its places, and a place of no use is locked or was let go.
 pub record IsCoreAt (base : Base) (h : History) (asks : Asks) (last_txn last_number : ℕ) (cells : Cells) (forest : Transactions) (table : LockTable) (lists : Lists Logged) (j : Journaled) : Type 0 where
@@ -140,6 +153,10 @@ pub record IsCoreAt (base : Base) (h : History) (asks : Asks) (last_txn last_num
   -- only live transactions wait
   pub waiting : (t : ℕ) → is_some (finite.get asks t) ≡ true → IsLive posix_calls base.last_txn h t
   pub accounted : IsAccounted (is_locked table) (is_let_go table) cells
+  -- no limit is above the greatest
+  pub within : are_within (allowed base forest j) greatest_limits ≡ true
+  -- where nothing has happened no place is of no use
+  pub bare : h ≡ [] → HasNoUselessPlace cells
 
 -- a state, the parts of its core and its journal are such
 abbrev pub IsCoreOf : State → Parts → Journaled → Type 0

@@ -1,8 +1,9 @@
 // Checkpoints.
-ghost use Rattle.std.specs.Prelude.{◌≡◌, None, IfErr};
+ghost use Rattle.std.specs.Prelude.{◌≡◌, None, OnOk, IfErr};
 ghost use Rattle.ft_core.specs.declared.fault.Fault.TheVariants.{Live as LiveFault};
 ghost use Rattle.ft_core.specs.declared.request.Request.TheVariants.{Checkpoint};
 ghost use Rattle.ft_core.specs.declared.request.Answer.TheVariants.{Cleared};
+ghost use Rattle.ft_core.specs.Living.{NoneIsLive};
 ghost use Rattle.ft_core.specs.States.{after_checkpoint};
 ghost use Rattle.ft_core.specs.Steps.{IsStep, exact_rule, refusal_of, refused_with, answer_with};
 
@@ -29,6 +30,7 @@ impl Core {
     /// Refuses what `checkpoint` refuses.
     pub fn may_checkpoint(&self) -> Result<(), Fault>
         ensures refused { refusal_of self.now.state Checkpoint ≡ refused_with result }
+        ensures none_live { OnOk result (NoneIsLive self.now.state) }
         ensures live { IfErr result (λ fault. fault ≡ LiveFault) }
     {
         if self.has_live() {

@@ -1,5 +1,5 @@
 // The core: nested transactions over one tree.
-ghost use Rattle.std.specs.Prelude.{◌≡◌, ◌<◌, ◌≤◌, ◌+◌, true, cond, Some, None, Option, MatchBool, IfOk, IfErr, OnOk, OnErr};
+ghost use Rattle.std.specs.Prelude.{◌≡◌, ◌<◌, ◌≤◌, ◌+◌, [], true, cond, Some, None, Option, MatchBool, IfOk, IfErr, OnOk, OnErr};
 ghost use Rattle.ft_body.specs.declared.TheConstants.{LARGEST_SIZE};
 ghost use Rattle.ft_tree.specs.Tidy.{tidy};
 ghost use Rattle.ft_forest.specs.declared.TheConstants.{LAST_NUMBER as last_number};
@@ -17,6 +17,7 @@ ghost use Rattle.ft_core.specs.States.{first_state, limits_of, fate_in, fate_of,
 ghost use Rattle.ft_core.specs.Journals.{IsBaseTree};
 ghost use Rattle.ft_core.specs.Living.{SomeIsLive, NoneIsLive};
 ghost use Rattle.ft_core.specs.Promises.{IsHeadline};
+ghost use Rattle.ft_core.specs.Sweeps.{HasNoUselessPlace};
 ghost use Rattle.ft_core.specs.Steps.{IsStep, exact_rule, fault_of_fate, answer_with, refusal_of, refused_with, begin_request};
 ghost use Rattle.ft_core.specs.Opens.{AreAsBefore, IsOpenFor, add_refusal};
 ghost use Rattle.ft_forest.specs.Transactions.{last_in, HasBegun};
@@ -139,6 +140,7 @@ impl Core {
     /// What the core allows. It never changes.
     pub fn limits(&self) -> Limits
         ensures are { result ≡ limits_of self.now.state }
+        ensures within { are_within result greatest_limits ≡ true }
         ensures size { result.file_size ≤ LARGEST_SIZE }
     {
         let TreeLimits { file_size, links } = self.parts.tree.limits();
@@ -207,7 +209,7 @@ impl Core {
     }
 
     /// The tree. Tidied it is what a plain tree holds after the standing calls alone, each with the
-    /// reply that it got.
+    /// reply that it got. Where nothing has happened since the base no place in it is of no use.
     pub fn tree(&self) -> &Tree
         ensures stored { result.now ≡ self.now.cells }
         ensures headline { IsHeadline self.now.state result.now }
@@ -215,6 +217,7 @@ impl Core {
         ensures base { IsBaseTree result.now self.now.state.last_stamp }
         ensures last { self.now.state.last_stamp ≤ last_number }
         ensures plain_sound { IsSoundTree (tidy result.now) }
+        ensures bare { self.now.state.events ≡ [] → HasNoUselessPlace result.now }
     {
         &self.parts.tree
     }

@@ -2,7 +2,8 @@
 // fault comes where.
 use crate::fakes::{FakeSource, Held, Row};
 use ft_copy::{Stopped, Trouble};
-use ft_load::load;
+use ft_core::Limits;
+use ft_load::{load, needs_of};
 use std::alloc::Global;
 use std::cell::Cell;
 use std::test::Fail;
@@ -43,7 +44,7 @@ fn load_in(
         skipped,
         turns: &turns,
     };
-    let (_, loaded) = load(alloc, &source, text);
+    let (_, loaded) = load(alloc, Limits::default(), &source, text);
     loaded
 }
 
@@ -126,6 +127,42 @@ fn limits_of_files(rt: HostRuntime) -> Result<(), Fail> {
             "at {links} and {size}"
         );
     }
+    Ok(())
+}
+
+// Whether the script of a file of so many bytes begins so, where as much may be needed.
+fn begins_with(alloc: Global, size: usize, most: Limits, line: &str) -> Result<bool, Fail> {
+    let bytes = vec![in alloc; b'x'; size]?;
+    let rows = [(b"/f".as_slice(), Held::File(0, 1, bytes.as_slice()))];
+    let turns = Cell::new(ALL);
+    let source = FakeSource {
+        alloc,
+        rows: rows.as_slice(),
+        skipped: b"".as_slice(),
+        turns: &turns,
+    };
+    let Ok(needs) = needs_of(alloc, most, &source) else {
+        return Ok(false);
+    };
+    let (text, loaded) = load(alloc, needs, &source, Vec::new(alloc));
+    Ok(loaded.is_ok() && text.as_slice().starts_with(line.as_bytes()))
+}
+
+#[test]
+fn what_a_script_needs(rt: HostRuntime) -> Result<(), Fail> {
+    let alloc = rt.alloc();
+    let most = Limits::greatest();
+    for (size, line) in [
+        (1_048_576, "begin\n1 open"),
+        (1_048_577, "# needs --largest-file 1048577\nbegin\n1 open"),
+        (3_145_728, "# needs --largest-file 3M\nbegin\n1 open"),
+    ] {
+        assert!(rt; begins_with(alloc, size, most, line)?, "at {size}");
+    }
+    let mut less = most;
+    less.file_size = 3_145_727;
+    assert!(rt; !begins_with(alloc, 3_145_728, less, "")?);
+    assert!(rt; begins_with(alloc, 3_145_727, less, "# needs --largest-file 3145727\n")?);
     Ok(())
 }
 

@@ -1,6 +1,7 @@
 // What no clause says: that a save comes to its end, and what is left where it does not.
 use crate::fakes::{FakeTarget, Held, Row};
 use crate::of_load::{SCRIPT, TREE};
+use ft_cells::TreeLimits;
 use ft_copy::Trouble;
 use ft_core::Core;
 use ft_save::{SaveFault, save};
@@ -31,7 +32,7 @@ const CALLS: u64 = 9;
 fn is_saved(alloc: Global, replies: &[u8], rows: &[Row<'_>]) -> bool {
     let mut reader = replies;
     let mut target = FakeTarget::new(alloc, ALL);
-    save(alloc, &mut reader, &mut target).is_ok() && target.holds(rows)
+    save(alloc, TreeLimits::default(), &mut reader, &mut target).is_ok() && target.holds(rows)
 }
 
 #[test]
@@ -44,7 +45,7 @@ fn last_tree_is_saved(rt: HostRuntime) -> Result<(), Fail> {
 fn stopped_by(alloc: Global, replies: &[u8], turns: u64) -> Option<SaveFault> {
     let mut reader = replies;
     let mut target = FakeTarget::new(alloc, turns);
-    let fault = save(alloc, &mut reader, &mut target).err()?;
+    let fault = save(alloc, TreeLimits::default(), &mut reader, &mut target).err()?;
     target.is_empty().then_some(fault)
 }
 
@@ -127,6 +128,32 @@ fn names_that_lead_elsewhere(rt: HostRuntime) -> Result<(), Fail> {
     Ok(())
 }
 
+// Whether a report of a file of so many bytes is saved, where a file may have as many as this.
+fn is_saved_within(alloc: Global, size: usize, file_size: u64) -> Result<bool, Fail> {
+    let bytes = vec![in alloc; b'x'; size]?;
+    let head = format!(in alloc; "tree 3\ndir 1\nedge 1 f 2\nfile 2 {size} ")?;
+    let mut replies = Vec::from_slice(alloc, head.as_bytes())?;
+    replies.extend_from_slice(bytes.as_slice())?;
+    replies.push(b'\n')?;
+    let limits = TreeLimits {
+        file_size,
+        ..TreeLimits::default()
+    };
+    let mut target = FakeTarget::new(alloc, ALL);
+    let saved = save(alloc, limits, &mut replies.as_slice(), &mut target);
+    let rows = [(b"/f".as_slice(), Held::File(0, 1, bytes.as_slice()))];
+    Ok(saved.is_ok() && target.holds(rows.as_slice()))
+}
+
+#[test]
+fn files_within_limits(rt: HostRuntime) -> Result<(), Fail> {
+    let alloc = rt.alloc();
+    assert!(rt; is_saved_within(alloc, 1_048_577, 1_048_577)?);
+    assert!(rt; !is_saved_within(alloc, 1_048_577, 1_048_576)?);
+    assert!(rt; is_saved_within(alloc, 2, 2)? && !is_saved_within(alloc, 3, 2)?);
+    Ok(())
+}
+
 // Whether a save leaves nothing at each call that fails, and else is made.
 fn leaves_nothing_at_each_call(alloc: Global) -> bool {
     for turns in 0..CALLS {
@@ -135,7 +162,9 @@ fn leaves_nothing_at_each_call(alloc: Global) -> bool {
         }
     }
     let mut target = FakeTarget::new(alloc, CALLS);
-    save(alloc, &mut REPLIES.as_bytes(), &mut target).is_ok() && target.holds(SAVED)
+    let mut replies = REPLIES.as_bytes();
+    let saved = save(alloc, TreeLimits::default(), &mut replies, &mut target);
+    saved.is_ok() && target.holds(SAVED)
 }
 
 #[test]

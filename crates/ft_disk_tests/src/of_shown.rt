@@ -2,6 +2,8 @@
 use crate::fakes::{FakeClock, FakeSource, FakeTarget, Row};
 use crate::of_load::{TREE, WITH_SPECIAL};
 use crate::of_save::REPLIES;
+use ft_cells::TreeLimits;
+use ft_core::Limits;
 use ft_shown::ShownTarget;
 use ft_status::{load_status, save_status};
 use std::alloc::Global;
@@ -41,7 +43,15 @@ fn load_shown(alloc: Global, rows: &[Row<'_>], step: u64, seen: &mut Seen) -> u8
     };
     let script = Vec::new(alloc);
     let screen = Some(&mut seen.screen);
-    let (_, status) = load_status(&clock, alloc, &source, screen, script, &mut seen.errors);
+    let (_, status) = load_status(
+        &clock,
+        alloc,
+        Limits::default(),
+        &source,
+        screen,
+        script,
+        &mut seen.errors,
+    );
     status
 }
 
@@ -51,7 +61,13 @@ fn save_shown(alloc: Global, turns: u64, step: u64, seen: &mut Seen) -> u8 {
     let target = FakeTarget::new(alloc, turns);
     let screen = Some(&mut seen.screen);
     let mut shown = ShownTarget::new(&clock, alloc, target, screen);
-    save_status(alloc, &mut REPLIES.as_bytes(), &mut shown, &mut seen.errors)
+    save_status(
+        alloc,
+        TreeLimits::default(),
+        &mut REPLIES.as_bytes(),
+        &mut shown,
+        &mut seen.errors,
+    )
 }
 
 // Whether a load shows this.

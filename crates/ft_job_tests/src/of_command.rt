@@ -21,12 +21,21 @@ fn is_play_by(alloc: Global, words: &[&str], wanted: Rule) -> bool {
     matches!(choose(alloc, words), Choice::Play { rule, after: None, .. } if rule == wanted)
 }
 
+// The limits that they ask for, over the default ones.
+fn limits_of(alloc: Global, words: &[&str]) -> Option<Limits> {
+    let asked = match choose(alloc, words) {
+        Choice::Play { limits, .. }
+        | Choice::Load { limits, .. }
+        | Choice::Save { limits, .. }
+        | Choice::Jobs { limits, .. } => limits,
+        _ => return None,
+    };
+    Some(asked.over(Limits::default()))
+}
+
 // Whether they ask for a script on a core of these limits.
 fn is_play_within(alloc: Global, words: &[&str], wanted: Limits) -> bool {
-    match choose(alloc, words) {
-        Choice::Play { limits, .. } => limits.over(Limits::default()) == wanted,
-        _ => false,
-    }
+    limits_of(alloc, words) == Some(wanted)
 }
 
 fn is_play(alloc: Global, words: &[&str]) -> bool {
@@ -55,7 +64,12 @@ fn is_jobs(alloc: Global, words: &[&str], plan: &str, most: u64, hushed: bool) -
 // Whether they ask for a script of this directory, to skip and to be quiet or not.
 fn is_load(alloc: Global, words: &[&str], folder: &str, asked: (bool, bool)) -> bool {
     match choose(alloc, words) {
-        Choice::Load { dir, skip, quiet } => dir.as_str() == folder && (skip, quiet) == asked,
+        Choice::Load {
+            dir,
+            skip,
+            quiet,
+            limits: _,
+        } => dir.as_str() == folder && (skip, quiet) == asked,
         _ => false,
     }
 }
@@ -63,7 +77,11 @@ fn is_load(alloc: Global, words: &[&str], folder: &str, asked: (bool, bool)) -> 
 // Whether they ask for this directory to be made, and to be as quiet.
 fn is_save(alloc: Global, words: &[&str], folder: &str, hushed: bool) -> bool {
     match choose(alloc, words) {
-        Choice::Save { dir, quiet } => dir.as_str() == folder && quiet == hushed,
+        Choice::Save {
+            dir,
+            quiet,
+            limits: _,
+        } => dir.as_str() == folder && quiet == hushed,
         _ => false,
     }
 }
@@ -72,6 +90,7 @@ fn is_save(alloc: Global, words: &[&str], folder: &str, hushed: bool) -> bool {
 fn first_file(alloc: Global, words: &[&str]) -> Option<String> {
     match choose(alloc, words) {
         Choice::Play {
+            strict: _,
             rule: _,
             after,
             limits: _,
@@ -183,6 +202,21 @@ fn choices_of_limits(rt: HostRuntime) -> Result<(), Fail> {
 }
 
 #[test]
+fn limits_of_other_commands(rt: HostRuntime) -> Result<(), Fail> {
+    let alloc = rt.alloc();
+    let mut wanted = Limits::default();
+    wanted.file_size = 5 << 20;
+    wanted.calls = 7;
+    let flags = ["--largest-file", "5M", "--most-calls=7"];
+    for command in ["load", "save", "jobs"] {
+        let words = [command, "d", flags[0], flags[1], flags[2]];
+        assert_eq!(rt; limits_of(alloc, &words), Some(wanted), "at {command}");
+    }
+    assert!(rt; is_dot(alloc, &["dot", "--largest-file", "5M", "--deepest", "none"]));
+    Ok(())
+}
+
+#[test]
 fn bad_limits_are_usage_errors(rt: HostRuntime) -> Result<(), Fail> {
     let alloc = rt.alloc();
     let text = "invalid value '3T' for '--largest-file <N>'";
@@ -196,5 +230,8 @@ fn bad_limits_are_usage_errors(rt: HostRuntime) -> Result<(), Fail> {
     );
     assert!(rt; is_usage(alloc, &["play", "--most-calls="], "--most-calls"));
     assert!(rt; is_usage(alloc, &["play", "--most-transactions", "2K"], "'2K'"));
+    assert!(rt; is_usage(alloc, &["load", "d", "--largest-file", "3T"], text));
+    assert!(rt; is_usage(alloc, &["save", "d", "--largest-file", "3T"], text));
+    assert!(rt; is_usage(alloc, &["dot", "--largest-file", "3T"], text));
     Ok(())
 }

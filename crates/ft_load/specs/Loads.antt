@@ -10,33 +10,37 @@ use Rattle.ft_copy.specs.Told.{Told}
 use Rattle.ft_copy.specs.Walks.{Enters, Standing, nothing}
 use Rattle.ft_copy.specs.Runs.{Visit, WalksTo, asked_of}
 use Rattle.ft_copy.specs.Stops.{IsCause, IsReached, Reached, asked_before, asked_then, path_at}
-use Rattle.ft_load.specs.Scripts.{BreaksOff, fd_of, next_of, script_text}
+use Rattle.ft_core.specs.Limits.{of_tree}
+use Rattle.ft_core.specs.declared.limits.Limits.{Limits}
+use Rattle.ft_load.specs.Scripts.{BreaksOff, IsWithinCalls, fd_of, next_of, script_text}
 
 -- What was visited is what the source told, from the root on, each place in its turn, until none
--- was left; and the script of just that was written.
-pub record Loads (tells : Told → Type 0) (held held_after : Option (List ℕ)) : Type 0 where
+-- was left; and the script of just that was written. A core with these limits grants as many calls,
+-- and its files may be as large.
+pub record Loads (limits : Limits) (tells : Told → Type 0) (held held_after : Option (List ℕ)) : Type 0 where
   pub begun : Standing
   pub visits : List Visit
   pub done : Standing
   pub root : Enters tells [] ROOT nothing begun
-  pub walk : WalksTo tells begun visits done
+  pub walk : WalksTo (of_tree limits) tells begun visits done
   pub all : done.left ≡ []
-  pub wrote : Appends held held_after (script_text (Start ∷ flat_map asked_of visits ++ Finish ∷ []))
+  pub few : IsWithinCalls limits (next_of (Start ∷ flat_map asked_of visits ++ Finish ∷ []) 2)
+  pub wrote : Appends held held_after (script_text limits (Start ∷ flat_map asked_of visits ++ Finish ∷ []))
 
 -- The first of what is still to be written is not written whole.
-abbrev pub BreaksOffAt : Trouble → List Asked → ℕ → ℕ → Option (List ℕ) → Option (List ℕ) → Type 0
-BreaksOffAt trouble [] next fd held held_after = ⊥
-BreaksOffAt trouble (first ∷ more) next fd held held_after = BreaksOff trouble first next fd held held_after
+abbrev pub BreaksOffAt : Limits → Trouble → List Asked → ℕ → ℕ → Option (List ℕ) → Option (List ℕ) → Type 0
+BreaksOffAt limits trouble [] next fd held held_after = ⊥
+BreaksOffAt limits trouble (first ∷ more) next fd held held_after = BreaksOff limits trouble first next fd held held_after
 
 -- A load came so far as the source told, and no further: of the script up to there a beginning was
 -- written, whole lines and a part of the next one at most.
-pub record StopsLoad (tells : Told → Type 0) (stopped : Stopped) (held held_after : Option (List ℕ)) : Type 0 where
+pub record StopsLoad (limits : Limits) (tells : Told → Type 0) (stopped : Stopped) (held held_after : Option (List ℕ)) : Type 0 where
   pub reached : Reached
-  pub told : IsReached tells reached
+  pub told : IsReached (of_tree limits) tells reached
   pub path : stopped.path ≡ path_at reached
   pub done : List Asked
   pub rest : List Asked
   pub asked : asked_before reached ++ asked_then reached ≡ done ++ rest
   pub middle : Option (List ℕ)
-  pub wrote : Appends held middle (script_text done)
-  pub ended : (Keeps middle held_after × IsCause tells stopped.trouble reached) ⊎ BreaksOffAt stopped.trouble rest (next_of done 2) (fd_of done 2 0) middle held_after
+  pub wrote : Appends held middle (script_text limits done)
+  pub ended : (Keeps middle held_after × IsCause (of_tree limits) tells stopped.trouble reached) ⊎ BreaksOffAt limits stopped.trouble rest (next_of done 2) (fd_of done 2 0) middle held_after

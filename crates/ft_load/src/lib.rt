@@ -1,7 +1,9 @@
 //! A tree of directories as a script of one transaction.
 #![tactic(auto)]
 
+mod counting;
 mod loading;
 mod script;
 
+pub use counting::needs_of;
 pub use loading::load;

@@ -3,12 +3,15 @@ ghost use Rattle.std.specs.Prelude.{IfErr, OnOk};
 ghost use Rattle.ft_load.specs.Loads.{Loads, StopsLoad};
 
 use crate::script::Script;
+use ft_cells::TreeLimits;
 use ft_copy::{Source, Stopped, copy};
+use ft_core::Limits;
 use std::alloc::Global;
 use std::io::Write;
 
 /// Writes a script of one transaction that makes what a source tells of. It is for a core that is
-/// new.
+/// new and has these limits; where they are above the default ones, the first line of the script says
+/// so. A file that is larger is refused, and so are more calls.
 ///
 /// The transaction is number 1. Each directory is made before what stands in it, the names of a
 /// directory in the order of their bytes. A file is opened where it is met first, written in the
@@ -16,16 +19,26 @@ use std::io::Write;
 ///
 /// The writer is handed back. Where something fails, a part of the script was written, and its
 /// transaction does not commit, unless only the last line feed is missing.
-pub fn load<S: Source, W: Write>(alloc: Global, source: &S, writer: W) -> (W, Result<(), Stopped>)
-    ensures ok { OnOk result.1 (Loads (S.tells source.now) (W.contents writer) (W.contents result.0)) }
-    ensures stopped { IfErr result.1 (λ stopped. StopsLoad (S.tells source.now) stopped (W.contents writer) (W.contents result.0)) }
+pub fn load<S: Source, W: Write>(
+    alloc: Global,
+    limits: Limits,
+    source: &S,
+    writer: W,
+) -> (W, Result<(), Stopped>)
+    ensures ok { OnOk result.1 (Loads limits (S.tells source.now) (W.contents writer) (W.contents result.0)) }
+    ensures stopped { IfErr result.1 (λ stopped. StopsLoad limits (S.tells source.now) stopped (W.contents writer) (W.contents result.0)) }
 {
     let mut script = Script {
         alloc,
+        limits,
         writer,
         next: 2,
         fd: 0,
     };
-    let copied = copy(alloc, source, &mut script);
+    let allowed = TreeLimits {
+        file_size: limits.file_size,
+        links: limits.links,
+    };
+    let copied = copy(alloc, allowed, source, &mut script);
     (script.writer, copied)
 }

@@ -1,13 +1,13 @@
 // A script as a target.
 ghost use Rattle.std.specs.Prelude.{◌≡◌, ◌⊎◌, ◌<◌, suc, true, IfErr, IfOk, IsTrue, OnOk};
-ghost use Rattle.ft_core.specs.declared.TheConstants.{DEFAULT_CALLS};
 ghost use Rattle.ft_path.specs.Name.{has_nul};
 ghost use Rattle.ft_load.specs.Scripts.{AsksFor, FailsToAsk, FailsToSay, Says};
 
 use ft_calls::Call;
 use ft_cells::AccessMode;
 use ft_copy::{Target, Trouble};
-use ft_core::DEFAULT_CALLS;
+use ft_core::Limits;
+use ft_needs::NeedsLine;
 use ft_path::{FilePath, PathFault};
 use ft_script::write_out;
 use ft_words::CallText;
@@ -19,6 +19,8 @@ use std::io::Write;
 #[derive(Drop)]
 pub(crate) struct Script<W> {
     pub(crate) alloc: Global,
+    // those of the core that it needs
+    pub(crate) limits: Limits,
     pub(crate) writer: W,
     // the stamp of the next call
     pub(crate) next: u64,
@@ -27,18 +29,22 @@ pub(crate) struct Script<W> {
 }
 
 impl<W: Write> Script<W> {
-    /// Writes a call. More calls than a core grants are refused.
+    /// Writes a call. More calls than the limits allow are refused.
     fn ask(&mut self, call: &Call) -> Result<(), Trouble>
-        ensures call { OnOk result (AsksFor call.now self.old.next (W.contents self.old.writer) self.new.next (W.contents self.new.writer)) }
-        ensures err { IfErr result (λ trouble. FailsToAsk trouble call.now self.old.next (W.contents self.old.writer) (W.contents self.new.writer)) }
+        ensures call { OnOk result (AsksFor self.old.limits call.now self.old.next (W.contents self.old.writer) self.new.next (W.contents self.new.writer)) }
+        ensures err { IfErr result (λ trouble. FailsToAsk self.old.limits trouble call.now self.old.next (W.contents self.old.writer) (W.contents self.new.writer)) }
         ensures fd { self.new.fd ≡ self.old.fd }
+        ensures limits { self.new.limits ≡ self.old.limits }
     {
-        if self.next > DEFAULT_CALLS + 1 {
+        let Some(next) = self.next.checked_add(1) else {
+            return Err(Trouble::Full);
+        };
+        if next.saturating_sub(2) > self.limits.calls {
             return Err(Trouble::Full);
         }
         let line = format!(in self.alloc; "1 {}\n", CallText(call))?;
         self.say(line.as_str())?;
-        self.next += 1;
+        self.next = next;
         Ok(())
     }
 
@@ -48,6 +54,7 @@ impl<W: Write> Script<W> {
         ensures err { IfErr result (λ trouble. FailsToSay trouble text.now (W.contents self.old.writer) (W.contents self.new.writer)) }
         ensures next { self.new.next ≡ self.old.next }
         ensures fd { self.new.fd ≡ self.old.fd }
+        ensures limits { self.new.limits ≡ self.old.limits }
     {
         match write_out(&mut self.writer, text.as_bytes()) {
             Ok(()) => Ok(()),
@@ -57,14 +64,16 @@ impl<W: Write> Script<W> {
 }
 
 impl<W: Write> Target for Script<W> {
+    ghost use Rattle.std.specs.Prelude.{◌≡◌};
     ghost use Rattle.ft_load.specs.Scripts.{BreaksOff, Scripts};
 
-    ghost does = { λ old asked new. Scripts asked old.next old.fd (W.contents old.writer) new.next new.fd (W.contents new.writer) };
+    ghost does = { λ old asked new. Scripts old.limits asked old.next old.fd (W.contents old.writer) new.next new.fd (W.contents new.writer) × (new.limits ≡ old.limits) };
 
-    ghost fails = { λ old asked trouble new. BreaksOff trouble asked old.next old.fd (W.contents old.writer) (W.contents new.writer) };
+    ghost fails = { λ old asked trouble new. BreaksOff old.limits trouble asked old.next old.fd (W.contents old.writer) (W.contents new.writer) };
 
     fn start(&mut self) -> Result<(), Trouble> {
-        self.say("begin\n")
+        let line = format!(in self.alloc; "{}begin\n", NeedsLine(&self.limits))?;
+        self.say(line.as_str())
     }
 
     fn folder(&mut self, path: &[u8]) -> Result<(), Trouble> {

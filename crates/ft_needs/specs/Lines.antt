@@ -4,7 +4,7 @@ use Rattle.std.specs.Option.{unwrap_or}
 use Rattle.std.specs.Fmt.{decimal}
 use Rattle.std.specs.Str.{bytes_eq}
 use Rattle.std.specs.Str.Lines.{strip_carriage_return}
-use Rattle.ft_words.specs.Spelling.{words_of}
+use Rattle.ft_words.specs.Spelling.{lines_of, words_of}
 use Rattle.ft_core.specs.declared.limits.Limits.{Limits}
 use Rattle.ft_core.specs.Limits.{default_limits, greatest_limits}
 use Rattle.ft_needs.specs.Values.{limit_of, size_of}
@@ -36,6 +36,15 @@ flags_of (first ∷ second ∷ flags) = if bytes_eq first (codes "#") then (if b
 -- the kind needs nothing.
 abbrev pub raised_by : Limits → List ℕ → Limits
 raised_by limits line = unwrap_or (option_and_then (λ flags. with_flags flags limits) (flags_of (words_of (strip_carriage_return line)))) limits
+
+-- the same of the first of lines
+abbrev pub raised_by_first : Limits → List (List ℕ) → Limits
+raised_by_first limits [] = limits
+raised_by_first limits (line ∷ lines) = raised_by limits line
+
+-- at least these limits, and what a script says on its first line that it needs
+abbrev pub raised_for : Limits → List ℕ → Limits
+raised_for limits script = raised_by_first limits (lines_of script)
 
 -- ---- how it is written
 

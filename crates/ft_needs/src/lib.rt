@@ -2,8 +2,10 @@
 //! ones it needs.
 #![tactic(auto)]
 
+mod front;
 mod line;
 mod values;
 
-pub use line::{NeedsLine, raised_by};
+pub use front::{LONGEST_NEEDS, limits_for};
+pub use line::{NeedsLine, raised_by, raised_for};
 pub use values::{limit_of, size_of};

@@ -1,10 +1,10 @@
 // The line on which a script says which limits it needs.
 ghost use Rattle.std.specs.Prelude.{◌≡◌, Some};
-ghost use Rattle.ft_needs.specs.Lines.{flag_text, flags_text, needs_text, raised_by, size_text, with_flag, with_flags};
+ghost use Rattle.ft_needs.specs.Lines.{flag_text, flags_text, needs_text, raised_by, raised_for, size_text, with_flag, with_flags};
 
 use crate::values::{limit_of, size_of};
 use ft_core::Limits;
-use ft_words::Words;
+use ft_words::{Lines, Words};
 use std::fmt;
 
 /// The limits that are at least these, and at least what a line says that its script needs: `# needs`
@@ -18,6 +18,17 @@ pub fn raised_by(limits: Limits, line: &[u8]) -> Limits
         return limits;
     }
     with_flags(words, limits).unwrap_or(limits)
+}
+
+/// The limits that are at least these, and at least what a script says on its first line that it
+/// needs.
+pub fn raised_for(limits: Limits, script: &[u8]) -> Limits
+    ensures { result ≡ raised_for limits script.now }
+{
+    match Lines::of(script).next() {
+        Some(line) => raised_by(limits, line),
+        None => limits,
+    }
 }
 
 // At least what flags with their values ask for.

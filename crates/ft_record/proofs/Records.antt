@@ -1,5 +1,5 @@
 -- What a step does to what is recorded.
-use Rattle.std.proofs.Common.{◌≡◌, ◌≤◌, ◌<◌, ◌+◌, ◌-◌, ℕ, suc, List, [], ◌∷◌, ◌++◌, drop, Option, Some, None, Result, Ok, Err, MatchOption, IsErrAnd, inl, length, length-append, arith, add-one, refl, sym, ap, subst, ◌∙◌}
+use Rattle.std.proofs.Common.{◌≡◌, ◌≤◌, ◌<◌, ◌+◌, ◌-◌, ℕ, suc, List, [], ◌∷◌, ◌++◌, drop, Option, Some, None, is_some, Result, Ok, Err, MatchOption, IsErrAnd, inl, length, length-append, arith, add-one, refl, sym, ap, subst, ◌∙◌}
 use Rattle.std.specs.Prelude.{nat_lt}
 use Rattle.std.specs.FinMap as finite
 use Rattle.std.proofs.lemmas.Bool.{lt-ltb}
@@ -26,7 +26,7 @@ use Rattle.ft_core.specs.declared.request.FullOutcome.TheVariants as full
 use Rattle.ft_core.specs.FullOutcomes.{IsToldInFull, full_answer}
 use Rattle.ft_moss.specs.declared.rule.Rule.{Rule}
 use Rattle.ft_core.specs.declared.request.Answer.{Answer}
-use Rattle.ft_core.specs.declared.request.Answer.TheVariants.{Txn, Granted, Dropped, Committed, Aborted, Undone, Cleared, Refused}
+use Rattle.ft_core.specs.declared.request.Answer.TheVariants.{Txn, Granted, Waits, Dropped, Committed, Aborted, Undone, Cleared, Refused}
 use Rattle.ft_core.specs.Histories.{as_happening, told, granted}
 use Rattle.ft_forest.specs.declared.TheConstants.{LAST_NUMBER}
 use Rattle.ft_core.specs.Journals.{IsBaseTree}
@@ -41,7 +41,7 @@ use Rattle.ft_core.proofs.Begins.{live-parent, live-fault}
 use Rattle.ft_core.proofs.Joining.{sound_values}
 use Rattle.ft_core.proofs.Legally.{legal-step}
 use Rattle.ft_core.proofs.Told.{told-push}
-use Rattle.ft_record.specs.Recording.{Recording, with_none_kept}
+use Rattle.ft_record.specs.Recording.{Recording, HasReplyTwice, with_outcome, with_none_kept}
 use Rattle.ft_record.specs.Recent.{Remembered, IsRecent, events_kept}
 use Rattle.ft_record.specs.Recorded.{IsRecorded}
 use Rattle.ft_record.proofs.Places.{sound, events-begin, events-call, events-commit, events-abort, events-undo, nothing-kept}
@@ -128,16 +128,19 @@ recent-dropped s s' t (Ok done) r gone h step =
     recent-same s s' r r gone h (ap (λ (q : State). q.base) is) (ap (λ (q : State). q.events) is) (subst IsLegalAt (sym is) h.legal) refl refl
 recent-dropped s s' t (Err f) r gone h step = recent-refused s s' (request.Drop t) f r gone h step r refl refl
 
--- a call that waits
-pub recent-waits : (s s' : State) (t : ℕ) (call : Call) (w : FullOutcome) (blockers : _) → w ≡ full.Waits blockers → (was : Recording) (gone : ℕ) → IsRecent s was gone → IsStep exact_rule s (request.Ask t call) (full_answer w) s' → (now : Recording) → now.events ≡ was.events → now.spare ≡ was.spare → IsRecent s' now gone
-recent-waits s s' t call w blockers is was gone h step now events spare =
-    let waits = (allowed (refusal_of s (request.Ask t call)) (full_answer (full.Waits blockers)) (λ f. s' ≡ s) (subst (λ x. IsStep exact_rule s (request.Ask t call) (full_answer x) s') is step) (λ f e. cc)).1 in
-    recent-same s s' was now gone h (ap (λ (q : State). q.base) waits.2) (ap (λ (q : State). q.events) waits.2) (subst IsLegalAt (sym waits.2) h.legal) events spare
+-- who is not refused has an answer to the call
+asked-now : (s s' : State) (t : ℕ) (call : Call) (w : FullOutcome) → IsStep exact_rule s (request.Ask t call) (full_answer w) s' → IsAsked exact_rule s t call (full_answer w) s'
+asked-now s s' t call (full.Granted k made reply kept accesses) step = (allowed (refusal_of s (request.Ask t call)) (Granted k reply) (λ f. s' ≡ s) step (λ f e. cc)).1
+asked-now s s' t call (full.Waits blockers) step = (allowed (refusal_of s (request.Ask t call)) (Waits blockers) (λ f. s' ≡ s) step (λ f e. cc)).1
 
-pub recent-waits-on : (s s' : State) (t : ℕ) (w : FullOutcome) (blockers : _) → w ≡ full.Waits blockers → (was : Recording) (gone : ℕ) → IsRecent s was gone → IsStep exact_rule s (request.Retry t) (full_answer w) s' → (now : Recording) → now.events ≡ was.events → now.spare ≡ was.spare → IsRecent s' now gone
-recent-waits-on s s' t w blockers is was gone h step now events spare =
-    let waits = (allowed (refusal_of s (request.Retry t)) (full_answer (full.Waits blockers)) (λ f. s' ≡ s) (subst (λ x. IsStep exact_rule s (request.Retry t) (full_answer x) s') is step) (λ f e. cc)).1.2 in
-    recent-same s s' was now gone h (ap (λ (q : State). q.base) waits.2) (ap (λ (q : State). q.events) waits.2) (subst IsLegalAt (sym waits.2) h.legal) events spare
+asked-again : (s s' : State) (t : ℕ) (w : FullOutcome) → IsStep exact_rule s (request.Retry t) (full_answer w) s' → (call : Call) × (finite.get s.asks t ≡ Some call) × IsAsked exact_rule s t call (full_answer w) s'
+asked-again s s' t (full.Granted k made reply kept accesses) step = (allowed (refusal_of s (request.Retry t)) (Granted k reply) (λ f. s' ≡ s) step (λ f e. cc)).1
+asked-again s s' t (full.Waits blockers) step = (allowed (refusal_of s (request.Retry t)) (Waits blockers) (λ f. s' ≡ s) step (λ f e. cc)).1
+
+-- the reply of a call that was made in full is there a second time
+pub has-reply : (s : State) (call : Call) (w : FullOutcome) → IsToldInFull s call w → HasReplyTwice w
+has-reply s call (full.Granted k made reply kept accesses) told = ap is_some told.1
+has-reply s call (full.Waits blockers) told = tt
 
 -- from a base on
 pub recent-at : (rule : Rule) (limits : HistoryLimits) (b : Base) (s : State) → s ≡ at_base rule limits b → (r : Recording) → r.events ≡ [] → IsLegalAt s → IsRecent s r 0
@@ -184,32 +187,36 @@ module _ (W : CallLaws) (K : LockLaws) (s : State) where
       recent-new s s' r gone e was (ap (λ (q : State). q.base) is.3) (ap (λ (q : State). q.events) is.3) legal
       (events-call W was.legal.started was.legal.legal (granted (next_stamp s) t call (reply_of s call) (accesses_now s call))) r' (events ∙ ap (λ x. r.events ++ x ∷ []) same) spare
 
-  -- a call that was made, with all that was told of it
-  pub recent-made : (t k : ℕ) (call made : Call) (reply kept : Reply) (o : Option Reply) (accesses : _) (w : FullOutcome) → w ≡ full.Granted k made reply o accesses → o ≡ Some kept → (s' : State) (r : Recording) (gone : ℕ) → IsRecent s r gone
-      → IsLegalAt s' → IsAsked exact_rule s t call (Granted k reply) s' → IsToldInFull s call w
-      → (r' : Recording) → r'.events ≡ r.events ++ CallEvent k t made kept accesses.items ∷ [] → r'.spare ≡ r.spare + 1 → IsRecent s' r' gone
-  recent-made t k call made reply kept o accesses w is some s' r gone was legal asked told r' events spare =
-      let about : IsToldInFull s call (full.Granted k made reply o accesses) = subst (IsToldInFull s call) is told in
-      recent-granted t k call reply s' r gone was legal asked made about.0 kept (one (sym some ∙ about.1)) accesses.items about.2 r' events spare
+  -- a call that was asked for is told, if it was made
+  recent-made : (t : ℕ) (call : Call) (w : FullOutcome) (s' : State) (r : Recording) (gone : ℕ) → IsRecent s r gone → IsLegalAt s' → IsAsked exact_rule s t call (full_answer w) s' → IsToldInFull s call w
+      → (ready : Recording) → ready ≡ record r { room = ready.room } → (r' : Recording) → r' ≡ with_outcome ready t w → IsRecent s' r' gone
+  recent-made t call (full.Granted k made reply None accesses) s' r gone was legal asked told ready same r' is = absurd (never told.1)
+    where
+      never : {x : Reply} → None ≡ Some x → ⊥
+      never e = cc
+  recent-made t call (full.Granted k made reply (Some kept) accesses) s' r gone was legal asked told ready same r' is =
+      recent-granted t k call reply s' r gone was legal asked made told.0 kept (one told.1) accesses.items told.2 r'
+      (ap (λ (q : Recording). q.events) is ∙ ap (λ (q : Recording). q.events ++ CallEvent k t made kept accesses.items ∷ []) same)
+      (ap (λ (q : Recording). q.spare) is ∙ ap (λ (q : Recording). q.spare + 1) same)
     where
       one : {x y : Reply} → Some x ≡ Some y → x ≡ y
       one e = cc
+  recent-made t call (full.Waits blockers) s' r gone was legal asked told ready same r' is =
+      recent-same s s' r r' gone was (ap (λ (q : State). q.base) asked.2) (ap (λ (q : State). q.events) asked.2) legal (ap (λ (q : Recording). q.events) (is ∙ same)) (ap (λ (q : Recording). q.spare) (is ∙ same))
 
-  pub recent-in-full : (t k : ℕ) (call made : Call) (reply kept : Reply) (o : Option Reply) (accesses : _) (w : FullOutcome) → w ≡ full.Granted k made reply o accesses → o ≡ Some kept → (s' : State) (r : Recording) (gone : ℕ) → IsRecent s r gone
-      → IsStep exact_rule s (request.Ask t call) (full_answer w) s' → IsToldInFull s call w
-      → (r' : Recording) → r'.events ≡ r.events ++ CallEvent k t made kept accesses.items ∷ [] → r'.spare ≡ r.spare + 1 → IsRecent s' r' gone
-  recent-in-full t k call made reply kept o accesses w is some s' r gone was step told r' events spare =
-      let asked = (allowed (refusal_of s (request.Ask t call)) (Granted k reply) (λ f. s' ≡ s) (subst (λ x. IsStep exact_rule s (request.Ask t call) (full_answer x) s') is step) (λ f e. cc)).1 in
-      recent-made t k call made reply kept o accesses w is some s' r gone was (stepped s' (request.Ask t call) (full_answer w) r gone was step) asked told r' events spare
+  -- one that is asked for now
+  pub recent-asked : (t : ℕ) (call : Call) (w : FullOutcome) (s' : State) (r : Recording) (gone : ℕ) → IsRecent s r gone → IsStep exact_rule s (request.Ask t call) (full_answer w) s' → IsToldInFull s call w
+      → (ready : Recording) → ready ≡ record r { room = ready.room } → (r' : Recording) → r' ≡ with_outcome ready t w → IsRecent s' r' gone
+  recent-asked t call w s' r gone was step told ready same r' is =
+      recent-made t call w s' r gone was (stepped s' (request.Ask t call) (full_answer w) r gone was step) (asked-now s s' t call w step) told ready same r' is
 
-  -- a call that was waited for
-  pub recent-retried : (t k : ℕ) (made : Call) (reply kept : Reply) (o : Option Reply) (accesses : _) (w : FullOutcome) → w ≡ full.Granted k made reply o accesses → o ≡ Some kept → (s' : State) (r : Recording) (gone : ℕ) → IsRecent s r gone
-      → IsStep exact_rule s (request.Retry t) (full_answer w) s' → (call : Call) × (finite.get s.asks t ≡ Some call) × IsToldInFull s call w
-      → (r' : Recording) → r'.events ≡ r.events ++ CallEvent k t made kept accesses.items ∷ [] → r'.spare ≡ r.spare + 1 → IsRecent s' r' gone
-  recent-retried t k made reply kept o accesses w is some s' r gone was step told r' events spare =
-      let asked = (allowed (refusal_of s (request.Retry t)) (Granted k reply) (λ f. s' ≡ s) (subst (λ x. IsStep exact_rule s (request.Retry t) (full_answer x) s') is step) (λ f e. cc)).1 in
-      let same : told.0 ≡ asked.0 = only (sym told.1 ∙ asked.1) in
-      recent-made t k asked.0 made reply kept o accesses w is some s' r gone was (stepped s' (request.Retry t) (full_answer w) r gone was step) asked.2 (subst (λ x. IsToldInFull s x w) same told.2) r' events spare
+  -- one that was waited for
+  pub recent-retried : (t : ℕ) (w : FullOutcome) (s' : State) (r : Recording) (gone : ℕ) → IsRecent s r gone → IsStep exact_rule s (request.Retry t) (full_answer w) s' → (call : Call) × (finite.get s.asks t ≡ Some call) × IsToldInFull s call w
+      → (ready : Recording) → ready ≡ record r { room = ready.room } → (r' : Recording) → r' ≡ with_outcome ready t w → IsRecent s' r' gone
+  recent-retried t w s' r gone was step told ready same r' is =
+      let asked = asked-again s s' t w step in
+      let one : told.0 ≡ asked.0 = only (sym told.1 ∙ asked.1) in
+      recent-made t asked.0 w s' r gone was (stepped s' (request.Retry t) (full_answer w) r gone was step) asked.2 (subst (λ x. IsToldInFull s x w) one told.2) ready same r' is
     where
       only : {x y : Call} → Some x ≡ Some y → x ≡ y
       only e = cc
@@ -283,4 +290,5 @@ still-recorded r r' base was same forgotten = record {
   tree = was.tree ∙ ap (λ (b : Base). b.tree) (sym same);
   base_is = subst (λ (b : Base). IsBaseTree base b.last_stamp) (sym same) was.base_is;
   last = subst (λ (b : Base). b.last_stamp ≤ LAST_NUMBER) (sym same) was.last;
+  bare = was.bare;
 }

@@ -11,10 +11,9 @@ ghost use Rattle.ft_core.specs.Steps.{IsStep, exact_rule, answer_with, outcome_a
 ghost use Rattle.ft_core.specs.Sweeps.{HasNoUselessPlace, EachUselessIsLocked};
 
 use crate::record::Record;
-use ft_base::Sequence;
 use ft_calls::Call;
 use ft_core::laws::reached;
-use ft_core::{Core, Event, Fault, FullOutcome, Outcome, TxnId};
+use ft_core::{Core, Event, Fault, Outcome, TxnId};
 use std::marker::Model;
 use std::snapshot::Snapshot;
 
@@ -134,28 +133,8 @@ impl Recent {
     {
         self.core.may_ask(txn)?;
         self.past.reserve()?;
-        match self.core.ask_in_full(txn, call)? {
-            FullOutcome::Granted {
-                stamp,
-                call,
-                reply,
-                kept,
-                accesses,
-            } => {
-                let Some(kept) = kept else {
-                    unreachable!();
-                };
-                self.past.add(Event::Call {
-                    stamp,
-                    txn,
-                    call,
-                    reply: kept,
-                    accesses: Sequence::from(accesses),
-                });
-                Ok(Outcome::Granted { stamp, reply })
-            }
-            FullOutcome::Waits { blockers } => Ok(Outcome::Waits { blockers }),
-        }
+        let outcome = self.core.ask_in_full(txn, call)?;
+        Ok(self.past.add_outcome(txn, outcome))
     }
 
     /// Makes a copy of a call, as `ask` makes the call.
@@ -176,28 +155,8 @@ impl Recent {
     {
         self.core.may_retry(txn)?;
         self.past.reserve()?;
-        match self.core.retry_in_full(txn)? {
-            FullOutcome::Granted {
-                stamp,
-                call,
-                reply,
-                kept,
-                accesses,
-            } => {
-                let Some(kept) = kept else {
-                    unreachable!();
-                };
-                self.past.add(Event::Call {
-                    stamp,
-                    txn,
-                    call,
-                    reply: kept,
-                    accesses: Sequence::from(accesses),
-                });
-                Ok(Outcome::Granted { stamp, reply })
-            }
-            FullOutcome::Waits { blockers } => Ok(Outcome::Waits { blockers }),
-        }
+        let outcome = self.core.retry_in_full(txn)?;
+        Ok(self.past.add_outcome(txn, outcome))
     }
 
     /// Forgets the call that a transaction waits for, as `Core::drop_ask` does.

@@ -1,9 +1,10 @@
 // A list of events, with places for those that are not to want memory.
 ghost use Rattle.std.specs.Prelude.{◌≡◌, ◌<◌, ◌≤◌, ◌+◌, [], OnOk, OnErr};
-ghost use Rattle.ft_record.specs.Recording.{nothing_recorded, with_new, with_told, with_none_kept};
+ghost use Rattle.ft_core.specs.FullOutcomes.{outcome_of};
+ghost use Rattle.ft_record.specs.Recording.{HasReplyTwice, nothing_recorded, with_new, with_outcome, with_told, with_none_kept};
 
-use ft_base::Memory;
-use ft_core::Event;
+use ft_base::{Memory, Sequence};
+use ft_core::{Event, FullOutcome, Outcome, TxnId};
 use std::alloc::Global;
 use std::marker::Model;
 
@@ -75,6 +76,38 @@ impl Record {
     {
         self.events.push_reserved(event);
         self.spare += 1;
+    }
+
+    /// Tells of a call that was asked for, if it was made, in a new place, and answers what became
+    /// of it.
+    pub(crate) fn add_outcome(&mut self, txn: TxnId, outcome: FullOutcome) -> Outcome
+        requires room { 2 ≤ self.old.room }
+        requires twice { HasReplyTwice outcome }
+        ensures told { self.new ≡ with_outcome self.old txn outcome }
+        ensures outcome { result ≡ outcome_of outcome }
+    {
+        match outcome {
+            FullOutcome::Granted {
+                stamp,
+                call,
+                reply,
+                kept,
+                accesses,
+            } => {
+                let Some(kept) = kept else {
+                    unreachable!();
+                };
+                self.add(Event::Call {
+                    stamp,
+                    txn,
+                    call,
+                    reply: kept,
+                    accesses: Sequence::from(accesses),
+                });
+                Outcome::Granted { stamp, reply }
+            }
+            FullOutcome::Waits { blockers } => Outcome::Waits { blockers },
+        }
     }
 
     /// Tells of the end of a transaction or of an undo, in a place that was kept.

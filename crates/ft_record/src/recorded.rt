@@ -117,7 +117,8 @@ impl Recorded {
 
     /// What the core allows. It never changes.
     pub fn limits(&self) -> Limits
-        ensures { result ≡ limits_of self.now.state }
+        ensures are { result ≡ limits_of self.now.state }
+        ensures within { are_within result greatest_limits ≡ true }
     {
         self.core().limits()
     }
@@ -228,9 +229,10 @@ impl Recorded {
     pub fn checkpoint(&mut self) -> Result<(), Fault>
         ensures { IsStep exact_rule self.old.state Checkpoint (answer_with (λ done. Cleared) result) self.new.state }
     {
-        let core = self.recent.core();
-        core.may_checkpoint()?;
-        let base = core.tree().copy()?;
+        self.recent.core().may_checkpoint()?;
+        // (what is of no use is not copied)
+        self.recent.sweep();
+        let base = self.recent.core().tree().copy()?;
         self.recent.checkpoint()?;
         self.base = base;
         Ok(())
@@ -257,11 +259,12 @@ impl Recorded {
     }
 
     /// The tree of the base: the root alone, until a checkpoint. No number above the base's last
-    /// stamp stands in it, and that is no greater than `LAST_NUMBER`.
+    /// stamp stands in it, and that is no greater than `LAST_NUMBER`. No place in it is of no use.
     pub fn base(&self) -> &Tree
         ensures tree { tidy result.now ≡ self.now.state.base.tree }
         ensures base { IsBaseTree result.now self.now.state.base.last_stamp }
         ensures last { self.now.state.base.last_stamp ≤ last_number }
+        ensures bare { HasNoUselessPlace result.now }
     {
         &self.base
     }

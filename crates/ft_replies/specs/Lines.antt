@@ -31,9 +31,13 @@ IsReportText s Tree text = text ≡ tree_text (rows_of (tree_of s))
 IsReportText s Locks text = (locks : List LockLine) × AreLockLines s locks × (text ≡ locks_text locks)
 IsReportText s Waits text = (edges : List Edge) × (verdict : Verdict) × AreEdgesOf s edges × IsVerdict edges verdict × (text ≡ waits_text edges verdict)
 
--- the text of the report and a line feed, or `refused Memory` and a line feed in its place
+-- the text of the report and a line feed
+abbrev pub IsWholeReport : State → Report → List ℕ → Type 0
+IsWholeReport s report text = (told : List ℕ) × IsReportText s report told × (text ≡ told ++ 10 ∷ [])
+
+-- that, or `refused Memory` and a line feed in its place
 abbrev pub IsReport : State → Report → List ℕ → Type 0
-IsReport s report text = ((told : List ℕ) × IsReportText s report told × (text ≡ told ++ 10 ∷ [])) ⊎ (text ≡ codes "refused Memory" ++ 10 ∷ [])
+IsReport s report text = IsWholeReport s report text ⊎ (text ≡ codes "refused Memory" ++ 10 ∷ [])
 
 -- What is written for a line that is carried out, and the state then: nothing for a silent line;
 -- and, each with a line feed, `bad line` for a bad one, the text of the answer of a legal step

@@ -11,6 +11,9 @@ use ft_base::Memory;
 use ft_core::{Answer, Core, Request};
 use std::alloc::Global;
 
+// The bytes of most replies.
+const SHORT_REPLY: usize = 32;
+
 /// Carries out one line of a script, without its line feed, and gives the text of its reply. What a
 /// commit or an abort has let go is swept, where it is not refused.
 ///
@@ -25,8 +28,10 @@ pub fn reply_to(alloc: Global, line: &[u8], core: &mut Core) -> Result<String, M
         Line::Bad => Ok(String::from_str(alloc, "bad line\n")?),
         Line::Report(report) => report_of(alloc, report, core),
         Line::Request(request) => {
+            let mut reply = String::with_capacity(alloc, SHORT_REPLY)?;
             let answer = carry_out(core, request);
-            Ok(format!(in alloc; "{}\n", AnswerText(&answer))?)
+            writeln!(reply, "{}", AnswerText(&answer))?;
+            Ok(reply)
         }
     }
 }

@@ -1,6 +1,6 @@
 // Reports of how things stand.
-ghost use Rattle.std.specs.Prelude.{◌≡◌, ◌++◌, ◌∷◌, [], IfOk, codes, string_bytes};
-ghost use Rattle.ft_replies.specs.Lines.{IsReport};
+ghost use Rattle.std.specs.Prelude.{IfOk, IfSome, string_bytes};
+ghost use Rattle.ft_replies.specs.Lines.{IsReport, IsWholeReport};
 
 use crate::line::Report;
 use crate::lock_text::LocksText;
@@ -17,6 +17,18 @@ use std::alloc::Global;
 pub(crate) fn report_of(alloc: Global, report: Report, core: &Core) -> Result<String, Memory>
     ensures { IfOk result (λ text. IsReport core.now.state report (string_bytes text)) }
 {
+    match whole_report_of(alloc, report, core)? {
+        Some(text) => Ok(text),
+        None => Ok(String::from_str(alloc, "refused Memory\n")?),
+    }
+}
+
+/// A report, with its line feed. `None` where there is no memory for what it tells of.
+///
+/// Fails only for want of memory for its text.
+pub fn whole_report_of(alloc: Global, report: Report, core: &Core) -> Result<Option<String>, Memory>
+    ensures { IfOk result (λ told. IfSome told (λ text. IsWholeReport core.now.state report (string_bytes text))) }
+{
     match report {
         Report::Tree => tree_report(alloc, core),
         Report::Locks => locks_report(alloc, core),
@@ -25,28 +37,34 @@ pub(crate) fn report_of(alloc: Global, report: Report, core: &Core) -> Result<St
 }
 
 // What the tree holds.
-fn tree_report(alloc: Global, core: &Core) -> Result<String, Memory>
-    ensures { IfOk result (λ text. IsReport core.now.state Report.Tree (string_bytes text)) }
+fn tree_report(alloc: Global, core: &Core) -> Result<Option<String>, Memory>
+    ensures { IfOk result (λ told. IfSome told (λ text. IsWholeReport core.now.state Report.Tree (string_bytes text))) }
 {
     match core.tree().rows() {
-        Ok(rows) => Ok(format!(in alloc; "{}\n", TreeText(rows.as_slice()))?),
-        Err(Memory) => memory_report(alloc),
+        Ok(rows) => {
+            let text = format!(in alloc; "{}\n", TreeText(rows.as_slice()))?;
+            Ok(Some(text))
+        }
+        Err(Memory) => Ok(None),
     }
 }
 
 // Who has which lock.
-fn locks_report(alloc: Global, core: &Core) -> Result<String, Memory>
-    ensures { IfOk result (λ text. IsReport core.now.state Report.Locks (string_bytes text)) }
+fn locks_report(alloc: Global, core: &Core) -> Result<Option<String>, Memory>
+    ensures { IfOk result (λ told. IfSome told (λ text. IsWholeReport core.now.state Report.Locks (string_bytes text))) }
 {
     match core.lock_lines() {
-        Ok(locks) => Ok(format!(in alloc; "{}\n", LocksText(locks.as_slice()))?),
-        Err(_) => memory_report(alloc),
+        Ok(locks) => {
+            let text = format!(in alloc; "{}\n", LocksText(locks.as_slice()))?;
+            Ok(Some(text))
+        }
+        Err(_) => Ok(None),
     }
 }
 
 // Who waits for whom.
-fn waits_report(alloc: Global, core: &Core) -> Result<String, Memory>
-    ensures { IfOk result (λ text. IsReport core.now.state Report.Waits (string_bytes text)) }
+fn waits_report(alloc: Global, core: &Core) -> Result<Option<String>, Memory>
+    ensures { IfOk result (λ told. IfSome told (λ text. IsWholeReport core.now.state Report.Waits (string_bytes text))) }
 {
     match judged_edges(core) {
         Ok((edges, verdict)) => {
@@ -54,15 +72,9 @@ fn waits_report(alloc: Global, core: &Core) -> Result<String, Memory>
                 edges: edges.as_slice(),
                 verdict: &verdict,
             };
-            Ok(format!(in alloc; "{text}\n")?)
+            let text = format!(in alloc; "{text}\n")?;
+            Ok(Some(text))
         }
-        Err(Memory) => memory_report(alloc),
+        Err(Memory) => Ok(None),
     }
-}
-
-// That there was no memory for what a report tells of.
-fn memory_report(alloc: Global) -> Result<String, Memory>
-    ensures { IfOk result (λ text. string_bytes text ≡ codes "refused Memory" ++ 10 ∷ []) }
-{
-    Ok(String::from_str(alloc, "refused Memory\n")?)
 }

@@ -5,8 +5,9 @@
 //! holds, and `ft_run save DIR` makes a directory of the tree with which replies end.
 //!
 //! It ends with status 0, also after a help text, with 1 after a fault, of which a line
-//! `fault: NAME` tells on standard error, and with 2 where the command line asks for nothing that
-//! there is.
+//! `fault: NAME` tells on standard error, with 2 where the command line asks for nothing that there
+//! is, and with 3 where a line of a strict script did not do what it asks for, of which a line tells
+//! too.
 #![tactic(auto)]
 
 mod disk_source;
@@ -20,15 +21,18 @@ ghost use Rattle.ft_core.specs.States.{at_base};
 use crate::disk_source::DiskSource;
 use crate::disk_target::DiskTarget;
 use ft_after::core_after;
+use ft_cells::TreeLimits;
 use ft_command::{AskedLimits, Choice, choose};
 use ft_core::{Core, Limits, Rule};
 use ft_jobs::LONGEST_PLAN;
+use ft_load::needs_of;
+use ft_needs::{limits_for, raised_for};
 use ft_record::Recorded;
 use ft_script::{PlayFault, write_out};
 use ft_shown::ShownTarget;
 use ft_status::{
     after_failed, dot_status, failed, fault_line, jobs_status, load_status, play_status,
-    save_status,
+    play_strictly_status, save_status,
 };
 use std::fs::{File, Files};
 use std::io::{ErrorKind, IsTerminal, Read, Stderr};
@@ -43,13 +47,19 @@ fn main(rt: HostRuntime) -> ExitCode {
     };
     let status = match choice {
         Choice::Play {
+            strict,
             rule,
             after,
             limits,
-        } => run_script(&rt, rule, limits, after),
+        } => run_script(&rt, strict, rule, limits, after),
         Choice::Dot => dot_status(alloc, &mut rt.stdin(), &mut rt.stdout(), &mut rt.stderr()),
-        Choice::Load { dir, skip, quiet } => load_dir(&rt, dir.as_str(), skip, quiet),
-        Choice::Save { dir, quiet } => save_dir(&rt, dir.as_str(), quiet),
+        Choice::Load {
+            dir,
+            skip,
+            quiet,
+            limits,
+        } => load_dir(&rt, dir.as_str(), skip, quiet, limits),
+        Choice::Save { dir, quiet, limits } => save_dir(&rt, dir.as_str(), quiet, limits),
         Choice::Jobs {
             file,
             turns,
@@ -82,17 +92,41 @@ fn words_given(rt: &HostRuntime) -> io::Result<Vec<String>> {
     Ok(env::args(rt)?.skip(1).collect(rt.alloc())?)
 }
 
-// Runs the script on standard input.
-fn run_script(rt: &HostRuntime, rule: Rule, limits: AskedLimits, after: Option<String>) -> u8 {
-    match core_for(rt, rule, limits, after) {
-        Ok(core) => play_status(
-            rt.alloc(),
-            core,
-            &mut rt.stdin(),
-            &mut rt.stdout(),
-            &mut rt.stderr(),
-        ),
-        Err(status) => status,
+// Runs the script on standard input, which may say on its first line which limits it needs. Each of
+// its lines has to do what it asks for where it is strict.
+fn run_script(
+    rt: &HostRuntime,
+    strict: bool,
+    rule: Rule,
+    asked: AskedLimits,
+    after: Option<String>,
+) -> u8 {
+    let alloc = rt.alloc();
+    let mut input = rt.stdin();
+    let (needed, front) = match limits_for(alloc, Limits::default(), &mut input) {
+        Ok(begun) => begun,
+        Err(error) => return failed(&mut rt.stderr(), fault_line(fault_of(&error))),
+    };
+    let core = match core_for(rt, rule, asked, needed, after) {
+        Ok(core) => core,
+        Err(status) => return status,
+    };
+    let mut script = front.as_slice().chain(input);
+    let mut replies = rt.stdout();
+    let mut errors = rt.stderr();
+    if strict {
+        play_strictly_status(alloc, core, &mut script, &mut replies, &mut errors)
+    } else {
+        play_status(alloc, core, &mut script, &mut replies, &mut errors)
+    }
+}
+
+// The fault that a failed read is.
+fn fault_of(error: &io::Error) -> PlayFault {
+    match error.kind() {
+        ErrorKind::OutOfMemory => PlayFault::Memory,
+        ErrorKind::Interrupted => PlayFault::Turns,
+        _ => PlayFault::Read,
     }
 }
 
@@ -102,12 +136,12 @@ fn begun_jobs(
     rt: &HostRuntime,
     file: &str,
     rule: Rule,
-    limits: AskedLimits,
+    asked: AskedLimits,
     after: Option<String>,
 ) -> Result<(Recorded, Vec<u8>), u8>
     ensures { IfOk result (λ begun. NoneIsLive begun.0.state) }
 {
-    let Ok(core) = Recorded::of(core_for(rt, rule, limits, after)?) else {
+    let Ok(core) = Recorded::of(core_for(rt, rule, asked, Limits::default(), after)?) else {
         return Err(failed(&mut rt.stderr(), fault_line(PlayFault::Memory)));
     };
     match read_file(rt, file, LONGEST_PLAN as u64 + 1) {
@@ -130,14 +164,24 @@ fn misused(rt: &HostRuntime, text: String) -> u8 {
     2
 }
 
-// Writes a script of a directory to standard output. Where that is a terminal, it is not shown how
-// far it has come: the script tells.
-fn load_dir(rt: &HostRuntime, dir: &str, skip: bool, quiet: bool) -> u8 {
+// Writes a script of a directory to standard output, with what it needs on its first line: no more
+// than is asked for, or where nothing is, than a core can have that is played with flags. Where
+// standard output is a terminal, it is not shown how far it has come: the script tells.
+fn load_dir(rt: &HostRuntime, dir: &str, skip: bool, quiet: bool, asked: AskedLimits) -> u8 {
+    let alloc = rt.alloc();
     let source = DiskSource { rt, dir, skip };
+    let most = asked.over(Limits {
+        links: Limits::default().links,
+        ..Limits::greatest()
+    });
+    let Ok(needs) = needs_of(alloc, most, &source) else {
+        return failed(&mut rt.stderr(), fault_line(PlayFault::Memory));
+    };
     let screen = screen(rt, quiet || rt.stdout().is_terminal());
     let (_, status) = load_status(
         rt,
-        rt.alloc(),
+        alloc,
+        needs,
         &source,
         screen,
         rt.stdout(),
@@ -146,31 +190,47 @@ fn load_dir(rt: &HostRuntime, dir: &str, skip: bool, quiet: bool) -> u8 {
     status
 }
 
-// Makes a directory of the tree with which standard input ends.
-fn save_dir(rt: &HostRuntime, dir: &str, quiet: bool) -> u8 {
+// Makes a directory of the tree with which standard input ends, whose files are no larger than is
+// asked for.
+fn save_dir(rt: &HostRuntime, dir: &str, quiet: bool, asked: AskedLimits) -> u8 {
     let alloc = rt.alloc();
+    let limits = asked.over(Limits::greatest());
+    let allowed = TreeLimits {
+        file_size: limits.file_size,
+        links: limits.links,
+    };
     let mut target = ShownTarget::new(rt, alloc, DiskTarget::new(rt, dir), screen(rt, quiet));
-    save_status(alloc, &mut rt.stdin(), &mut target, &mut rt.stderr())
+    save_status(
+        alloc,
+        allowed,
+        &mut rt.stdin(),
+        &mut target,
+        &mut rt.stderr(),
+    )
 }
 
-// A core that grants calls by this rule and has the limits that are asked for, on which the script
-// in a file was played first, if there is one. Where that could not be, it was told, and the status
-// to end with is answered.
+// A core that grants calls by this rule, on which the script in a file was played first, if there
+// is one. It has the limits that are asked for, and else those that are needed or, where they are
+// greater, those that this script needs. Where that could not be, it was told, and the status to
+// end with is answered.
 fn core_for(
     rt: &HostRuntime,
     rule: Rule,
-    limits: AskedLimits,
+    asked: AskedLimits,
+    needed: Limits,
     after: Option<String>,
 ) -> Result<Core, u8>
     ensures none_live { IfOk result (λ core. NoneIsLive core.state) }
     ensures base { IfOk result (λ core. core.state ≡ at_base core.state.rule core.state.limits core.state.base) }
 {
     let alloc = rt.alloc();
-    let limits = limits.over(Limits::default());
     let begun = match after {
-        None => core_after(alloc, rule, limits, None),
+        None => core_after(alloc, rule, asked.over(needed), None),
         Some(file) => match read_file(rt, file.as_str(), u64::MAX) {
-            Ok(script) => core_after(alloc, rule, limits, Some(script.as_slice())),
+            Ok(script) => {
+                let limits = asked.over(raised_for(needed, script.as_slice()));
+                core_after(alloc, rule, limits, Some(script.as_slice()))
+            }
             Err(fault) => return Err(failed(&mut rt.stderr(), fault_line(fault))),
         },
     };
@@ -195,7 +255,6 @@ fn read_file(rt: &HostRuntime, file: &str, most: u64) -> Result<Vec<u8>, PlayFau
     let mut bytes = Vec::new(rt.alloc());
     match File::open(rt, file).and_then(|file| file.take(most).read_to_end(&mut bytes)) {
         Ok(_) => Ok(bytes),
-        Err(error) if error.kind() == ErrorKind::OutOfMemory => Err(PlayFault::Memory),
-        Err(_) => Err(PlayFault::Read),
+        Err(error) => Err(fault_of(&error)),
     }
 }

@@ -1,6 +1,7 @@
 -- What a save makes.
 use Rattle.std.specs.Prelude.{◌≡◌, ◌⊎◌, ℕ, List, Option, None, Some}
 use Rattle.std.specs.Io.KnownBytes.{Consumes, IsAtEnd}
+use Rattle.ft_cells.specs.declared.limits.TreeLimits.{TreeLimits}
 use Rattle.ft_copy.specs.declared.trouble.Trouble.{Trouble}
 use Rattle.ft_copy.specs.Asked.{Asked}
 use Rattle.ft_copy.specs.Runs.{Copies, GivesUp}
@@ -18,8 +19,8 @@ abbrev pub IsLast : Option (List ℕ) → Option (List ℕ) → List Row → Typ
 IsLast left left_after rows = (bytes : List ℕ) × Consumes left left_after bytes × IsAtEnd left_after × (tree_told bytes ≡ Some rows)
 
 -- The same, and the tree that they tell of was copied.
-abbrev pub Saves : {T : Type 0} → Option (List ℕ) → Option (List ℕ) → (T → Asked → T → Type 0) → T → T → Type 0
-Saves left left_after does old new = (rows : List Row) × IsLast left left_after rows × Copies (Tells rows) does old new
+abbrev pub Saves : {T : Type 0} → TreeLimits → Option (List ℕ) → Option (List ℕ) → (T → Asked → T → Type 0) → T → T → Type 0
+Saves limits left left_after does old new = (rows : List Row) × IsLast left left_after rows × Copies limits (Tells rows) does old new
 
 -- ---- faults
 
@@ -37,12 +38,12 @@ FindsNone (Replies fault) left left_after = IsUnread fault left left_after
 FindsNone NoTree left left_after = HasNoTree left left_after
 FindsNone (Stopped stopped) left left_after = ⊥
 
-module _ {T : Type 0} (does : T → Asked → T → Type 0) (fails : T → Asked → Trouble → T → Type 0) where
+module _ {T : Type 0} (limits : TreeLimits) (does : T → Asked → T → Type 0) (fails : T → Asked → Trouble → T → Type 0) where
   -- The tree that rows tell of was not copied: there was no memory for it, or the copy stopped.
   abbrev pub StopsRows : SaveFault → List Row → T → T → Type 0
   StopsRows (Replies fault) rows old new = (fault ≡ Memory) × (new ≡ old)
   StopsRows NoTree rows old new = ⊥
-  StopsRows (Stopped stopped) rows old new = StopsCopy (Tells rows) does fails stopped old new
+  StopsRows (Stopped stopped) rows old new = StopsCopy limits (Tells rows) does fails stopped old new
 
   -- Nothing was saved: no report was found, and the target was asked for nothing; or the tree that
   -- it tells of was not copied.
@@ -50,6 +51,7 @@ module _ {T : Type 0} (does : T → Asked → T → Type 0) (fails : T → Asked
   StopsSave fault left left_after old new =
       (FindsNone fault left left_after × (new ≡ old)) ⊎ ((rows : List Row) × IsLast left left_after rows × StopsRows fault rows old new)
 
+module _ {T : Type 0} (does : T → Asked → T → Type 0) (fails : T → Asked → Trouble → T → Type 0) where
   -- The target was asked for nothing; or it did some things, has not finished, and has given up.
   abbrev pub IsLeft : T → T → Type 0
   IsLeft old new = (new ≡ old) ⊎ GivesUp does fails old new

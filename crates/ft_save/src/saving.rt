@@ -9,6 +9,7 @@ use crate::reading::tree_told;
 use crate::reported::Reported;
 use crate::row::Row;
 use ft_base::Memory;
+use ft_cells::TreeLimits;
 use ft_copy::{Stopped, Target, copy};
 use ft_dot::read_all;
 use ft_script::PlayFault;
@@ -32,18 +33,20 @@ pub enum SaveFault {
 
 /// Reads replies to their end, and makes the tree that the report tells of with which they end:
 /// directories, files with their bytes, and further names as links. Descriptors, and files that
-/// have no name, are left out. A report behind which anything stands is not taken.
+/// have no name, are left out. A report behind which anything stands is not taken, and no file that
+/// is larger than these limits allow.
 pub fn save<R: Read, T: Target>(
     alloc: Global,
+    limits: TreeLimits,
     reader: &mut R,
     target: &mut T,
 ) -> Result<(), SaveFault>
-    ensures ok { OnOk result (Saves (R.remaining reader.old) (R.remaining reader.new) T.does target.old target.new) }
+    ensures ok { OnOk result (Saves limits (R.remaining reader.old) (R.remaining reader.new) T.does target.old target.new) }
     ensures err { OnErr result (IsLeft T.does T.fails target.old target.new) }
-    ensures fault { IfErr result (λ fault. StopsSave T.does T.fails fault (R.remaining reader.old) (R.remaining reader.new) target.old target.new) }
+    ensures fault { IfErr result (λ fault. StopsSave limits T.does T.fails fault (R.remaining reader.old) (R.remaining reader.new) target.old target.new) }
 {
     let rows = last_rows(alloc, reader)?;
-    copy_rows(alloc, rows, target)
+    copy_rows(alloc, limits, rows, target)
 }
 
 // Reads replies to their end, and finds the rows of the report with which they end.
@@ -58,14 +61,19 @@ fn last_rows<R: Read>(alloc: Global, reader: &mut R) -> Result<Vec<Row>, SaveFau
 }
 
 // Copies the tree that rows tell of.
-fn copy_rows<T: Target>(alloc: Global, rows: Vec<Row>, target: &mut T) -> Result<(), SaveFault>
-    ensures ok { OnOk result (Copies (Tells rows.items) T.does target.old target.new) }
+fn copy_rows<T: Target>(
+    alloc: Global,
+    limits: TreeLimits,
+    rows: Vec<Row>,
+    target: &mut T,
+) -> Result<(), SaveFault>
+    ensures ok { OnOk result (Copies limits (Tells rows.items) T.does target.old target.new) }
     ensures err { OnErr result (IsLeft T.does T.fails target.old target.new) }
-    ensures fault { IfErr result (λ fault. StopsRows T.does T.fails fault rows.items target.old target.new) }
+    ensures fault { IfErr result (λ fault. StopsRows limits T.does T.fails fault rows.items target.old target.new) }
 {
     let index = index_of(alloc, rows)?;
     let source = Reported { index: &index };
-    copy(alloc, &source, target)?;
+    copy(alloc, limits, &source, target)?;
     Ok(())
 }
 

@@ -4,7 +4,7 @@ use Rattle.std.specs.Prelude.{◌==◌}
 use Rattle.std.specs.List.{list_any, flat_map, AllByRecursion}
 use Rattle.std.proofs.lemmas.Grind.{flat_map-append}
 use Rattle.ft_words.specs.Spelling.{IsFreeOf, lines_of}
-use Rattle.ft_script.specs.Runs.{Fits, ended, Cuts}
+use Rattle.ft_script.specs.Cutting.{Fits, ended, Cuts}
 use Rattle.ft_words.proofs.Bytes.{neither}
 use Rattle.ft_words.proofs.LineCuts.{lines_of_cut, lines_of_last}
 
@@ -31,24 +31,19 @@ lines_of_cuts bytes lines begun h = ap lines_of h.whole ∙ lines_of_ended lines
 pub cuts_none : (bytes : List ℕ) → Cuts bytes [] bytes
 cuts_none bytes = record { whole = refl; each = tt; fits = tt }
 
--- more bytes come, and are cut together with the line that had begun
-pub cuts_later : (bytes : List ℕ) (lines : List (List ℕ)) (begun more : List ℕ) (others : List (List ℕ)) (rest : List ℕ) → Cuts bytes lines begun → Cuts (begun ++ more) others rest → Cuts (bytes ++ more) (lines ++ others) rest
-cuts_later bytes lines begun more others rest h k = record {
-  whole = ap (λ bs. bs ++ more) h.whole ∙ append_assoc (flat_map ended lines) begun more ∙ ap (λ bs. flat_map ended lines ++ bs) k.whole
-      ∙ sym (append_assoc (flat_map ended lines) (flat_map ended others) rest) ∙ ap (λ bs. bs ++ rest) (sym (flat_map-append ended lines others));
-  each = each-append (IsFreeOf 10) lines others h.each k.each;
-  fits = each-append Fits lines others h.fits k.fits;
-}
+-- more bytes come
+pub cuts_read : (bytes : List ℕ) (lines : List (List ℕ)) (rest more : List ℕ) → Cuts bytes lines rest → Cuts (bytes ++ more) lines (rest ++ more)
+cuts_read bytes lines rest more h = record { whole = ap (λ bs. bs ++ more) h.whole ∙ append_assoc (flat_map ended lines) rest more; each = h.each; fits = h.fits }
 
 -- one more line ends
-pub cuts_more : (bytes : List ℕ) (lines : List (List ℕ)) (begun piece behind : List ℕ) → Cuts bytes lines (begun ++ (piece ++ 10 ∷ behind)) → IsFreeOf 10 (begun ++ piece) → Fits (begun ++ piece) → Cuts bytes (lines ++ (begun ++ piece) ∷ []) behind
-cuts_more bytes lines begun piece behind h free fits = record {
-  whole = h.whole ∙ ap (λ bs. flat_map ended lines ++ bs) (sym (append_assoc begun piece (10 ∷ behind)) ∙ sym (append_assoc (begun ++ piece) (10 ∷ []) behind))
-      ∙ sym (append_assoc (flat_map ended lines) (ended (begun ++ piece)) behind)
-      ∙ ap (λ bs. (flat_map ended lines ++ bs) ++ behind) (sym (append-nil (ended (begun ++ piece))))
-      ∙ ap (λ bs. bs ++ behind) (sym (flat_map-append ended lines ((begun ++ piece) ∷ [])));
-  each = each-append (IsFreeOf 10) lines ((begun ++ piece) ∷ []) h.each (free, tt);
-  fits = each-append Fits lines ((begun ++ piece) ∷ []) h.fits (fits, tt);
+pub cuts_line : (bytes : List ℕ) (lines : List (List ℕ)) (line behind : List ℕ) → Cuts bytes lines (line ++ 10 ∷ behind) → IsFreeOf 10 line → Fits line → Cuts bytes (lines ++ line ∷ []) behind
+cuts_line bytes lines line behind h free fits = record {
+  whole = h.whole ∙ ap (λ bs. flat_map ended lines ++ bs) (sym (append_assoc line (10 ∷ []) behind))
+      ∙ sym (append_assoc (flat_map ended lines) (ended line) behind)
+      ∙ ap (λ bs. (flat_map ended lines ++ bs) ++ behind) (sym (append-nil (ended line)))
+      ∙ ap (λ bs. bs ++ behind) (sym (flat_map-append ended lines (line ∷ [])));
+  each = each-append (IsFreeOf 10) lines (line ∷ []) h.each (free, tt);
+  fits = each-append Fits lines (line ∷ []) h.fits (fits, tt);
 }
 
 -- all lines, where the last one may lack its line feed

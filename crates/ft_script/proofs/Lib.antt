@@ -1,3 +1,4 @@
 pub mod Cutting
+pub mod Reading
 pub mod Running
 pub mod Stopping

@@ -1,12 +1,10 @@
 -- How runs are put together, and what was written for them.
-use Rattle.std.proofs.Common.{◌≡◌, ℕ, List, [], ◌∷◌, ◌++◌, length, false, Option, None, Some, refl, sym, ap, ◌∙◌, subst, append_assoc, append-nil}
+use Rattle.std.proofs.Common.{◌≡◌, ℕ, List, [], ◌∷◌, ◌++◌, length, true, false, Option, None, Some, refl, sym, ap, ◌∙◌, subst, append_assoc, append-nil}
 use Rattle.std.proofs.lemmas.Bool.{false≢true}
 use Rattle.std.specs.Prelude.{◌==◌}
 use Rattle.std.specs.Io.KnownBytes.{Appends, Consumes, Keeps}
 use Rattle.ft_core.specs.States.{State}
-use Rattle.ft_replies.specs.Requests.{meaning_of}
-use Rattle.ft_replies.specs.Lines.{GivesText}
-use Rattle.ft_script.specs.Runs.{IsTextOfRun, Plays, WritesPart}
+use Rattle.ft_script.specs.Runs.{Answers, IsTextOfRun, Plays, WritesPart}
 
 -- ---- what a writer holds
 
@@ -49,27 +47,26 @@ keeps_trans (Some x) (Some y) (Some z) h k = k ∙ h
 
 -- ---- the text of a run
 
-run_one : (old new : State) (bytes text : List ℕ) → GivesText old (meaning_of bytes) text new → IsTextOfRun old (bytes ∷ []) text new
-run_one old new bytes text h = (new, text, [], h, (refl, refl), sym (append-nil text))
+module _ (answers : Answers) where
+  run_one : (old new : State) (bytes text : List ℕ) → answers true old bytes text new → IsTextOfRun answers old (bytes ∷ []) text new
+  run_one old new bytes text h = (new, text, [], h, (refl, refl), sym (append-nil text))
 
-run_more : (old mid new : State) (lines others : List (List ℕ)) (text more : List ℕ) → IsTextOfRun old lines text mid → IsTextOfRun mid others more new → IsTextOfRun old (lines ++ others) (text ++ more) new
-run_more old mid new [] others text more h k =
-    subst (λ t. IsTextOfRun old others (t ++ more) new) (sym h.0) (subst (λ s. IsTextOfRun s others more new) h.1 k)
-run_more old mid new (l ∷ lines) others text more h k =
-    (h.0, h.1, h.2 ++ more, h.3, run_more h.0 mid new lines others h.2 more h.4 k, ap (λ t. t ++ more) h.5 ∙ append_assoc h.1 h.2 more)
+  run_more : (old mid new : State) (lines others : List (List ℕ)) (text more : List ℕ) → IsTextOfRun answers old lines text mid → IsTextOfRun answers mid others more new → IsTextOfRun answers old (lines ++ others) (text ++ more) new
+  run_more old mid new [] others text more h k =
+      subst (λ t. IsTextOfRun answers old others (t ++ more) new) (sym h.0) (subst (λ s. IsTextOfRun answers s others more new) h.1 k)
+  run_more old mid new (l ∷ lines) others text more h k =
+      (h.0, h.1, h.2 ++ more, h.3, run_more h.0 mid new lines others h.2 more h.4 k, ap (λ t. t ++ more) h.5 ∙ append_assoc h.1 h.2 more)
 
-pub plays_none : (a b : Option (List ℕ)) (old : State) → Keeps a b → Plays [] a b old old
-plays_none a b old h = record { text = []; run = (refl, refl); wrote = appends_none a b h }
+  pub plays_none : (a b : Option (List ℕ)) (old : State) → Keeps a b → Plays answers [] a b old old
+  plays_none a b old h = record { text = []; run = (refl, refl); wrote = appends_none a b h }
 
-pub plays_one : (bytes text : List ℕ) (a b : Option (List ℕ)) (old new : State) → GivesText old (meaning_of bytes) text new → Appends a b text → Plays (bytes ∷ []) a b old new
-plays_one bytes text a b old new h wrote = record { text = text; run = run_one old new bytes text h; wrote = wrote }
-
-pub plays_more : (lines others : List (List ℕ)) (a b c : Option (List ℕ)) (old mid new : State) → Plays lines a b old mid → Plays others b c mid new → Plays (lines ++ others) a c old new
-plays_more lines others a b c old mid new h k = record {
-  text = h.text ++ k.text;
-  run = run_more old mid new lines others h.text k.text h.run k.run;
-  wrote = appends_more a b c h.text k.text h.wrote k.wrote;
-}
+  -- one more line is answered, and the run goes on
+  pub plays_more : (lines : List (List ℕ)) (bytes text : List ℕ) (a b c : Option (List ℕ)) (old mid new : State) → Plays answers lines a b old mid → answers true mid bytes text new → Appends b c text → Plays answers (lines ++ bytes ∷ []) a c old new
+  plays_more lines bytes text a b c old mid new h answered wrote = record {
+    text = h.text ++ text;
+    run = run_more old mid new lines (bytes ∷ []) h.text text h.run (run_one mid new bytes text answered);
+    wrote = appends_more a b c h.text text h.wrote wrote;
+  }
 
 -- some bytes are left, and the writer takes none of them
 pub part_left : (bytes front rest : List ℕ) (a b c : Option (List ℕ)) → bytes ≡ front ++ rest → Appends a b front → Appends b c [] → false ≡ (length rest == 0) → WritesPart a c bytes

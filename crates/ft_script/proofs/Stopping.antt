@@ -1,171 +1,211 @@
--- How a script ends, early or at its end.
-use Rattle.std.proofs.Common.{◌≡◌, ◌⊎◌, ℕ, ◌+◌, ◌<◌, List, [], ◌∷◌, ◌++◌, length, Option, Result, Ok, Err, IsErr, IfErr, OnErr, inl, inr, refl, sym, ap, ◌∙◌, subst, append_assoc, append-nil, length-append, arith, true, false}
-use Rattle.std.proofs.lemmas.Bool.{false≢true, eqb-true, eq-eqb}
-use Rattle.std.specs.Prelude.{◌==◌}
+-- How a script is run, and ends, early or at its end.
+use Rattle.std.proofs.Common.{◌≡◌, ◌⊎◌, ℕ, ◌+◌, ◌<◌, Bool, true, false, List, [], ◌∷◌, ◌++◌, length, Option, inl, inr, refl, sym, ◌∙◌, subst, append-nil, length-append, arith, Result, Ok, Err}
 use Rattle.std.specs.List.{AllByRecursion}
-use Rattle.std.specs.Result.{IsErrAnd}
-use Rattle.std.specs.Io.KnownBytes.{Consumes, IsAtEnd, Keeps}
+use Rattle.std.specs.Io.KnownBytes.{Appends, Consumes, IsAtEnd}
 use Rattle.ft_core.specs.States.{State}
 use Rattle.ft_script.specs.declared.playing.PlayFault.{PlayFault}
 use Rattle.ft_script.specs.declared.playing.PlayFault.TheVariants.{Memory, Read, Write, TooLong, Turns}
-use Rattle.ft_script.specs.declared.playing.TheConstants.{LONGEST_LINE}
-use Rattle.ft_words.specs.Spelling.{IsFreeOf}
+use Rattle.ft_script.specs.declared.strictly.FailedLine.{FailedLine}
+use Rattle.ft_script.specs.declared.strictly.StrictFault.TheVariants.{Line}
+use Rattle.ft_words.specs.Spelling.{lines_of}
+use Rattle.ft_strict.specs.Strict.{AnswersStrictly}
+use Rattle.ft_script.specs.Cutting.{Cuts, Fits, IsNext}
+use Rattle.ft_script.specs.Reading.{GivesLine, GivesNone, StopsCutting, StopsReading}
 use Rattle.ft_replies.specs.Requests.{meaning_of}
 use Rattle.ft_replies.specs.Lines.{GivesText}
-use Rattle.ft_script.specs.Runs.{Fits, Plays, PlaysAll, Cuts, BeginsTooLong, IsNext, StopsLine, StopsIn, Stopped, StopsAt, TakesAll, WritesPart}
-use Rattle.ft_script.proofs.Cutting.{cuts_none, cuts_later, all_ended, all_but_last_ended, fits_more, free-append}
-use Rattle.ft_script.proofs.Running.{keeps_refl, plays_none, plays_more, consumes_none, consumes_kept, consumes_more}
+use Rattle.ft_script.specs.Runs.{Answers, AnswersFreely, FailsLine, Plays, PlaysAll, StopsAt, StopsIn, StopsLine, StopsStrictly, WritesPart}
+use Rattle.ft_script.proofs.Cutting.{cuts_none, cuts_read, cuts_line, all_ended, all_but_last_ended, fits_more}
+use Rattle.ft_script.proofs.Running.{keeps_refl, plays_none, plays_more, consumes_none, consumes_more}
 
--- a fault that is passed on as it is
-pub passed_on : {T : Type 0} (r : Result T PlayFault) (Q : PlayFault → Type 0) (fault : PlayFault) → IsErr r × IsErrAnd r (λ e. e ≡ fault) → Q fault → IfErr r Q
-passed_on (Ok x) Q fault h q = tt
-passed_on (Err e) Q fault h q = subst Q (sym h.1) q
+-- The lines were cut from the bytes: up to what is not cut; or all of them, where the script is
+-- over.
+abbrev AreCut : Bool → Type 0 → List ℕ → List (List ℕ) → List ℕ → Type 0
+AreCut false ends bytes lines uncut = Cuts bytes lines uncut
+AreCut true ends bytes lines uncut = ends × (lines_of bytes ≡ lines) × AllByRecursion Fits lines
 
--- the line that has begun gets too long, here
-pub too_long : (begun piece behind : List ℕ) → IsFreeOf 10 begun → IsFreeOf 10 piece → LONGEST_LINE < length begun + length piece → BeginsTooLong (begun ++ (piece ++ behind))
-too_long begun piece behind h k long =
-    (begun ++ piece, behind, sym (append_assoc begun piece behind), free-append 10 begun piece h k, subst (λ n. LONGEST_LINE < n) (sym (length-append begun piece)) long)
+-- So many lines were cut from what was read, and taken.
+pub record Taken (answers : Answers) (over : Bool) (left left_now : Option (List ℕ)) (uncut : List ℕ) (count : ℕ) (held held_now : Option (List ℕ)) (old now : State) : Type 0 where
+  pub bytes : List ℕ
+  pub lines : List (List ℕ)
+  pub read : Consumes left left_now bytes
+  pub cut : AreCut over (IsAtEnd left_now) bytes lines uncut
+  pub counted : count ≡ length lines
+  pub plays : Plays answers lines held held_now old now
 
--- ---- a fault, by what became of the line at which it came
-
-stops_in : (fault : PlayFault) (ends : Type 0) (rest bytes : List ℕ) (a b : Option (List ℕ)) (old new : State) → IsNext ends rest bytes → StopsLine fault bytes a b old new → StopsIn fault ends rest a b old new
-stops_in Memory ends rest bytes a b old new next h = inr (bytes, next, h)
-stops_in Write ends rest bytes a b old new next h = (bytes, next, h)
-stops_in Read ends rest bytes a b old new next h = absurd h
-stops_in TooLong ends rest bytes a b old new next h = absurd h
-stops_in Turns ends rest bytes a b old new next h = absurd h
-
--- a line that has its line feed is the next one, whether the script ends or not
-ends_or_not : (ends : Type 0) (rest bytes : List ℕ) → IsNext ⊥ rest bytes → IsNext ends rest bytes
-ends_or_not ends rest bytes h = record { free = h.free; fits = h.fits; ended = either h.ended }
-  where
-    either : (((behind : List ℕ) × (rest ≡ bytes ++ 10 ∷ behind)) ⊎ (⊥ × (rest ≡ bytes))) → ((behind : List ℕ) × (rest ≡ bytes ++ 10 ∷ behind)) ⊎ (ends × (rest ≡ bytes))
-    either (inl k) = inl k
-    either (inr k) = absurd k.0
-
-in_or_not : (fault : PlayFault) (ends : Type 0) (rest : List ℕ) (a b : Option (List ℕ)) (old new : State) → StopsIn fault ⊥ rest a b old new → StopsIn fault ends rest a b old new
-in_or_not Memory ends rest a b old new (inl h) = inl h
-in_or_not Memory ends rest a b old new (inr h) = inr (h.0, ends_or_not ends rest h.0 h.1, h.2)
-in_or_not Write ends rest a b old new h = (h.0, ends_or_not ends rest h.0 h.1, h.2)
-in_or_not Read ends rest a b old new h = h
-in_or_not TooLong ends rest a b old new h = h
-in_or_not Turns ends rest a b old new h = h
-
-module _ (bytes : List ℕ) (lines : List (List ℕ)) (rest : List ℕ) (a b : Option (List ℕ)) (old mid : State) (cuts : Cuts bytes lines rest) (plays : Plays lines a b old mid) where
-  stopped_so_far : (fault : PlayFault) (ends : Type 0) (c : Option (List ℕ)) (new : State) → StopsIn fault ends rest b c mid new → Stopped fault ends bytes a c old new
-  stopped_so_far fault ends c new h = record { lines = lines; rest = rest; cuts = cuts; held = b; state = mid; taken = plays; stopped = h }
-
-  -- the line that has begun can't be lengthened
-  pub stopped_at_piece : (fault : PlayFault) (ends : Type 0) → (fault ≡ TooLong) ⊎ (fault ≡ Memory) → (fault ≡ TooLong → BeginsTooLong rest) → Stopped fault ends bytes a b old mid
-  stopped_at_piece fault ends (inl is) long = subst (λ f. Stopped f ends bytes a b old mid) (sym is) (stopped_so_far TooLong ends b mid (long is, (keeps_refl b, refl)))
-  stopped_at_piece fault ends (inr is) long = subst (λ f. Stopped f ends bytes a b old mid) (sym is) (stopped_so_far Memory ends b mid (inl (keeps_refl b, refl)))
-
-  pub stopped_at_last_piece : {T : Type 0} (r : Result T PlayFault) (ends : Type 0) → IfErr r (λ fault. (fault ≡ TooLong) ⊎ (fault ≡ Memory)) → (r ≡ Err TooLong → BeginsTooLong rest) → IfErr r (λ fault. Stopped fault ends bytes a b old mid)
-  stopped_at_last_piece (Ok x) ends cause long = tt
-  stopped_at_last_piece (Err fault) ends cause long = stopped_at_piece fault ends cause (λ is. long (ap Err is))
-
-  -- a line, or its reply, meets a fault
-  pub stopped_at_line : (fault : PlayFault) (ends : Type 0) (line : List ℕ) (c : Option (List ℕ)) (new : State) → IsNext ends rest line → StopsLine fault line b c mid new → Stopped fault ends bytes a c old new
-  stopped_at_line fault ends line c new next h = stopped_so_far fault ends c new (stops_in fault ends rest line b c mid new next h)
-
--- a fault in later bytes
-stopped_later : (fault : PlayFault) (ends : Type 0) (bytes : List ℕ) (lines : List (List ℕ)) (begun more : List ℕ) (a b c : Option (List ℕ)) (old mid new : State)
-    → Cuts bytes lines begun → Plays lines a b old mid → Stopped fault ⊥ (begun ++ more) b c mid new → Stopped fault ends (bytes ++ more) a c old new
-stopped_later fault ends bytes lines begun more a b c old mid new cuts h k = record {
-  lines = lines ++ k.lines;
-  rest = k.rest;
-  cuts = cuts_later bytes lines begun more k.lines k.rest cuts k.cuts;
-  held = k.held;
-  state = k.state;
-  taken = plays_more lines k.lines a b k.held old mid k.state h k.taken;
-  stopped = in_or_not fault ends k.rest k.held c k.state new k.stopped;
+pub taken_none : (answers : Answers) (left held : Option (List ℕ)) (old : State) (over : Bool) (uncut : List ℕ) (count : ℕ) → over ≡ false → uncut ≡ [] → count ≡ 0 → Taken answers over left left uncut count held held old old
+taken_none answers left held old over uncut count on none zero = record {
+  bytes = [];
+  lines = [];
+  read = consumes_none left;
+  cut = subst (λ (b : Bool). AreCut b (IsAtEnd left) [] [] uncut) (sym on) (subst (λ (rest : List ℕ). Cuts [] [] rest) (sym none) (cuts_none []));
+  counted = zero;
+  plays = plays_none answers held held old (keeps_refl held);
 }
 
+-- a script that is over gives no line, and no fault
+pub found_not_over : {A : Type 0} (over : Bool) (r : Result Bool PlayFault) (found : Bool) → (over ≡ true → (r ≡ Ok false) × A) → r ≡ Ok found → found ≡ true → over ≡ false
+found_not_over false r found h is some = refl
+found_not_over true r found h is some = let no = sym (h refl).0 ∙ is in cc
+
+pub stopped_not_over : {A : Type 0} (over : Bool) (r : Result Bool PlayFault) (fault : PlayFault) → (over ≡ true → (r ≡ Ok false) × A) → r ≡ Err fault → over ≡ false
+stopped_not_over false r fault h is = refl
+stopped_not_over true r fault h is = let no = sym (h refl).0 ∙ is in cc
+
 -- there was no memory before the first read
-pub stops_at_first : {T : Type 0} (r : Result T PlayFault) (left a : Option (List ℕ)) (old : State) → IsErr r × IsErrAnd r (λ e. e ≡ Memory) → IfErr r (λ fault. StopsAt fault left left a a old old)
-stops_at_first r left a old is =
-    let stopped : Stopped Memory (IsAtEnd left) [] a a old old = record { lines = []; rest = []; cuts = cuts_none []; held = a; state = old; taken = plays_none a a old (keeps_refl a); stopped = inl (keeps_refl a, refl) } in
-    passed_on r (λ fault. StopsAt fault left left a a old old) Memory is ([], consumes_none left, stopped)
+pub stops_at_first : (answers : Answers) (left held : Option (List ℕ)) (old : State) → StopsAt answers Memory left left held held old old
+stops_at_first answers left held old =
+    ([], consumes_none left, record { lines = []; rest = []; cuts = cuts_none []; held = held; state = old; taken = plays_none answers held held old (keeps_refl held); stopped = inl (keeps_refl held, refl) })
 
--- nothing has been read
-pub takes_none : (a b : Option (List ℕ)) (old : State) → Keeps a b → TakesAll [] [] a b old old
-takes_none a b old h = ([], cuts_none [], refl, omega arith, plays_none a b old h)
+-- nothing is left of a script that is over
+pub ends_over : (answers : Answers) (left left_now : Option (List ℕ)) (uncut : List ℕ) (count : ℕ) (held held_now : Option (List ℕ)) (old now : State) → Taken answers true left left_now uncut count held held_now old now → PlaysAll answers left left_now held held_now old now
+ends_over answers left left_now uncut count held held_now old now taken = (
+  taken.bytes,
+  taken.read,
+  taken.cut.0,
+  subst (AllByRecursion Fits) (sym taken.cut.1) taken.cut.2,
+  subst (λ lines. Plays answers lines held held_now old now) (sym taken.cut.1) taken.plays,
+)
 
--- more bytes were read, and taken
-pub takes_more : (bytes begun more rest : List ℕ) (a b c : Option (List ℕ)) (old mid new : State) → TakesAll bytes begun a b old mid → TakesAll (begun ++ more) rest b c mid new → TakesAll (bytes ++ more) rest a c old new
-takes_more bytes begun more rest a b c old mid new h k =
-    (h.0 ++ k.0, cuts_later bytes h.0 begun more k.0 rest h.1 k.1, k.2, k.3, plays_more h.0 k.0 a b c old mid new h.4 k.4)
+-- a fault, by what became of the line at which it came
+stops_in : (answers : Answers) (fault : PlayFault) (ends : Type 0) (rest bytes : List ℕ) (a b : Option (List ℕ)) (old new : State) → IsNext ends rest bytes → StopsLine answers fault bytes a b old new → StopsIn answers fault ends rest a b old new
+stops_in answers Memory ends rest bytes a b old new next h = inr (bytes, next, h)
+stops_in answers Write ends rest bytes a b old new next h = (bytes, next, h)
+stops_in answers Read ends rest bytes a b old new next h = absurd h
+stops_in answers TooLong ends rest bytes a b old new next h = absurd h
+stops_in answers Turns ends rest bytes a b old new next h = absurd h
 
-module _ (left left_now left_after : Option (List ℕ)) (bytes begun : List ℕ) (a b c : Option (List ℕ)) (old mid new : State) (read : Consumes left left_now bytes) (taken : TakesAll bytes begun a b old mid) where
-  -- a read fails, or none is left
-  pub stops_at_read : (fault : PlayFault) → Keeps left_now left_after → (fault ≡ Read) ⊎ (fault ≡ Turns) → StopsAt fault left left_after a b old mid
-  stops_at_read fault kept cause = (bytes, consumes_kept left left_now left_after bytes read kept, by_cause cause)
-    where
-      at : (f : PlayFault) → StopsIn f (IsAtEnd left_after) begun b b mid mid → Stopped f (IsAtEnd left_after) bytes a b old mid
-      at f h = record { lines = taken.0; rest = begun; cuts = taken.1; held = b; state = mid; taken = taken.4; stopped = h }
+-- a fault, by why no line could be cut
+stops_uncut : (answers : Answers) (fault : PlayFault) (ends : Type 0) (rest : List ℕ) (a : Option (List ℕ)) (old : State) → StopsCutting fault rest → StopsIn answers fault ends rest a a old old
+stops_uncut answers Memory ends rest a old h = inl (keeps_refl a, refl)
+stops_uncut answers Write ends rest a old h = absurd h
+stops_uncut answers Read ends rest a old h = (h, (keeps_refl a, refl))
+stops_uncut answers TooLong ends rest a old h = (h, (keeps_refl a, refl))
+stops_uncut answers Turns ends rest a old h = (h, (keeps_refl a, refl))
 
-      by_cause : (fault ≡ Read) ⊎ (fault ≡ Turns) → Stopped fault (IsAtEnd left_after) bytes a b old mid
-      by_cause (inl is) = subst (λ f. Stopped f (IsAtEnd left_after) bytes a b old mid) (sym is) (at Read (taken.2, (keeps_refl b, refl)))
-      by_cause (inr is) = subst (λ f. Stopped f (IsAtEnd left_after) bytes a b old mid) (sym is) (at Turns (taken.2, (keeps_refl b, refl)))
+module _ (answers : Answers) (over_now : Bool) (left left_now left_after : Option (List ℕ)) (uncut : List ℕ) (count : ℕ) (held held_now : Option (List ℕ)) (old now : State) (taken : Taken answers over_now left left_now uncut count held held_now old now) (on : over_now ≡ false) where
+  cut : Cuts taken.bytes taken.lines uncut
+  cut = subst (λ (b : Bool). AreCut b (IsAtEnd left_now) taken.bytes taken.lines uncut) on taken.cut
 
-  -- the bytes of a read meet a fault
-  pub stops_at_bytes : (fault : PlayFault) (more : List ℕ) → Consumes left_now left_after more → Stopped fault ⊥ (begun ++ more) b c mid new → StopsAt fault left left_after a c old new
-  stops_at_bytes fault more later h =
-      (bytes ++ more, consumes_more left left_now left_after bytes more read later, stopped_later fault (IsAtEnd left_after) bytes taken.0 begun more a b c old mid new taken.1 taken.4 h)
-
-  -- the script ends
-  pub plays_all : begun ≡ [] → Consumes left_now left_after [] → IsAtEnd left_after → PlaysAll left left_after a b old mid
-  plays_all none last end =
-      let cuts = subst (Cuts bytes taken.0) none taken.1 in
-      let whole = sym (all_ended bytes taken.0 cuts) in (
-        bytes,
-        subst (Consumes left left_after) (append-nil bytes) (consumes_more left left_now left_after bytes [] read last),
-        end,
-        subst (AllByRecursion Fits) whole cuts.fits,
-        subst (λ ls. Plays ls a b old mid) whole taken.4,
-      )
-
-  -- the script ends with a line that has no line feed
-  pub plays_last : 0 < length begun → Consumes left_now left_after [] → IsAtEnd left_after → Plays (begun ∷ []) b c mid new → PlaysAll left left_after a c old new
-  plays_last some last end h =
-      let whole = sym (all_but_last_ended bytes taken.0 begun taken.1 taken.2 some) in (
-        bytes,
-        subst (Consumes left left_after) (append-nil bytes) (consumes_more left left_now left_after bytes [] read last),
-        end,
-        subst (AllByRecursion Fits) whole (fits_more taken.0 begun taken.1.fits taken.3),
-        subst (λ ls. Plays ls a c old new) whole (plays_more taken.0 (begun ∷ []) a b c old mid new taken.4 h),
-      )
-
-  -- such a line, or its reply, meets a fault
-  pub stops_at_last : (fault : PlayFault) → Consumes left_now left_after [] → IsAtEnd left_after → StopsLine fault begun b c mid new → StopsAt fault left left_after a c old new
-  stops_at_last fault last end h = (
-    bytes,
-    subst (Consumes left left_after) (append-nil bytes) (consumes_more left left_now left_after bytes [] read last),
-    stopped_at_line bytes taken.0 begun a b old mid taken.1 taken.4 fault (IsAtEnd left_after) begun c new (record { free = taken.2; fits = taken.3; ended = inr (end, refl) }) h,
+  -- no line can be cut any more
+  pub stops_at_read : (fault : PlayFault) → StopsReading fault left_now left_after uncut → StopsAt answers fault left left_after held held_now old now
+  stops_at_read fault stops = (
+    taken.bytes ++ stops.0,
+    consumes_more left left_now left_after taken.bytes stops.0 taken.read stops.1,
+    record {
+      lines = taken.lines;
+      rest = uncut ++ stops.0;
+      cuts = cuts_read taken.bytes taken.lines uncut stops.0 cut;
+      held = held_now;
+      state = now;
+      taken = taken.plays;
+      stopped = stops_uncut answers fault (IsAtEnd left_after) (uncut ++ stops.0) held_now now stops.2;
+    },
   )
 
--- ---- what is left at the end
+  -- the script ends
+  pub ends_here : GivesNone left_now left_after uncut → PlaysAll answers left left_after held held_now old now
+  ends_here none =
+      let cuts = subst (Cuts taken.bytes taken.lines) none.2 cut in
+      let whole = sym (all_ended taken.bytes taken.lines cuts) in (
+        taken.bytes,
+        subst (Consumes left left_after) (append-nil taken.bytes) (consumes_more left left_now left_after taken.bytes [] taken.read none.0),
+        none.1,
+        subst (AllByRecursion Fits) whole cuts.fits,
+        subst (λ lines. Plays answers lines held held_now old now) whole taken.plays,
+      )
 
-pub none_left : (n : ℕ) (xs : List ℕ) → n ≡ length xs → true ≡ (n == 0) → xs ≡ []
-none_left n [] h k = refl
-none_left n (x ∷ xs) h k = absurd (let none : n ≡ 0 = eqb-true n 0 (sym k) in omega arith)
+  module _ (uncut_after line : List ℕ) (over : Bool) (held_after : Option (List ℕ)) (new : State) (given : GivesLine left_now left_after uncut uncut_after line over) where
+    read : Consumes left left_after (taken.bytes ++ given.read)
+    read = consumes_more left left_now left_after taken.bytes given.read taken.read given.consumes
 
-pub some_left : (n : ℕ) (xs : List ℕ) → n ≡ length xs → false ≡ (n == 0) → 0 < length xs
-some_left n [] h k = absurd (false≢true (k ∙ eq-eqb n 0 h))
-some_left n (x ∷ xs) h k = omega arith
+    cuts : Cuts (taken.bytes ++ given.read) taken.lines (uncut ++ given.read)
+    cuts = cuts_read taken.bytes taken.lines uncut given.read cut
 
--- what is said of a fault, by what is said of it elsewhere
-pub by_fault : {T : Type 0} {P Q : PlayFault → Type 0} (r : Result T PlayFault) → IfErr r P → ((fault : PlayFault) → P fault → Q fault) → IfErr r Q
-by_fault (Ok x) h f = tt
-by_fault (Err fault) h f = f fault h
+    next : IsNext (IsAtEnd left_after) (uncut ++ given.read) line
+    next = record { free = given.free; fits = given.fits; ended = either given.ended }
+      where
+        either : ((over ≡ false) × (uncut ++ given.read ≡ line ++ 10 ∷ uncut_after)) ⊎ ((over ≡ true) × IsAtEnd left_after × (uncut ++ given.read ≡ line) × (0 < length line))
+            → ((behind : List ℕ) × (uncut ++ given.read ≡ line ++ 10 ∷ behind)) ⊎ (IsAtEnd left_after × (uncut ++ given.read ≡ line))
+        either (inl h) = inl (uncut_after, h.1)
+        either (inr h) = inr (h.1, h.2)
+
+    -- the line, or its reply, meets a fault
+    pub stops_at_line : (fault : PlayFault) → StopsLine answers fault line held_now held_after now new → StopsAt answers fault left left_after held held_after old new
+    stops_at_line fault stops = (
+      taken.bytes ++ given.read,
+      read,
+      record {
+        lines = taken.lines;
+        rest = uncut ++ given.read;
+        cuts = cuts;
+        held = held_now;
+        state = now;
+        taken = taken.plays;
+        stopped = stops_in answers fault (IsAtEnd left_after) (uncut ++ given.read) line held_now held_after now new next stops;
+      },
+    )
+
+    cut_now : AreCut over (IsAtEnd left_after) (taken.bytes ++ given.read) (taken.lines ++ line ∷ []) uncut_after
+    cut_now = either given.ended
+      where
+        either : ((over ≡ false) × (uncut ++ given.read ≡ line ++ 10 ∷ uncut_after)) ⊎ ((over ≡ true) × IsAtEnd left_after × (uncut ++ given.read ≡ line) × (0 < length line))
+            → AreCut over (IsAtEnd left_after) (taken.bytes ++ given.read) (taken.lines ++ line ∷ []) uncut_after
+        either (inl h) =
+            subst (λ (b : Bool). AreCut b (IsAtEnd left_after) (taken.bytes ++ given.read) (taken.lines ++ line ∷ []) uncut_after) (sym h.0)
+            (cuts_line (taken.bytes ++ given.read) taken.lines line uncut_after (subst (Cuts (taken.bytes ++ given.read) taken.lines) h.1 cuts) given.free given.fits)
+        either (inr h) =
+            let last = subst (Cuts (taken.bytes ++ given.read) taken.lines) h.2 cuts in
+            subst (λ (b : Bool). AreCut b (IsAtEnd left_after) (taken.bytes ++ given.read) (taken.lines ++ line ∷ []) uncut_after) (sym h.0)
+            (h.1, all_but_last_ended (taken.bytes ++ given.read) taken.lines line last given.free h.3, fits_more taken.lines line last.fits given.fits)
+
+    -- the line is answered, and the run goes on
+    pub goes_on : (text : List ℕ) (count_after : ℕ) → count_after ≡ count + 1 → answers true now line text new → Appends held_now held_after text → Taken answers over left left_after uncut_after count_after held held_after old new
+    goes_on text count_after one_more answered wrote = record {
+      bytes = taken.bytes ++ given.read;
+      lines = taken.lines ++ line ∷ [];
+      read = read;
+      cut = cut_now;
+      counted = omega (arith, one_more, taken.counted, length-append taken.lines (line ∷ []));
+      plays = plays_more answers taken.lines line text held held_now held_after old now new taken.plays answered wrote;
+    }
+
+module _ (over_now : Bool) (left left_now left_after : Option (List ℕ)) (uncut : List ℕ) (count : ℕ) (held held_now : Option (List ℕ)) (old now : State) (taken : Taken AnswersStrictly over_now left left_now uncut count held held_now old now) (on : over_now ≡ false)
+    (uncut_after line : List ℕ) (over : Bool) (held_after : Option (List ℕ)) (new : State) (given : GivesLine left_now left_after uncut uncut_after line over) where
+  -- the line is answered, and the run does not go on
+  pub fails_at_line : (failed : FailedLine) → FailsLine failed count line held_now held_after now new → StopsStrictly (Line failed) left left_after held held_after old new
+  fails_at_line failed fails = (
+    taken.bytes ++ given.read,
+    read AnswersStrictly over_now left left_now left_after uncut count held held_now old now taken on uncut_after line over held_after new given,
+    record {
+      lines = taken.lines;
+      rest = uncut ++ given.read;
+      cuts = cuts AnswersStrictly over_now left left_now left_after uncut count held held_now old now taken on uncut_after line over held_after new given;
+      held = held_now;
+      state = now;
+      taken = taken.plays;
+      stopped = (
+        line,
+        next AnswersStrictly over_now left left_now left_after uncut count held held_now old now taken on uncut_after line over held_after new given,
+        subst (λ n. FailsLine failed n line held_now held_after now new) taken.counted fails,
+      );
+    },
+  )
+
+-- the script ends, or has ended
+pub ends : {A : Type 0} (answers : Answers) (over_now : Bool) (left left_now left_after : Option (List ℕ)) (uncut : List ℕ) (count : ℕ) (held held_now : Option (List ℕ)) (old now : State) → Taken answers over_now left left_now uncut count held held_now old now
+    → (over_now ≡ true → A × (left_after ≡ left_now)) → (over_now ≡ false → GivesNone left_now left_after uncut) → PlaysAll answers left left_after held held_now old now
+ends answers true left left_now left_after uncut count held held_now old now taken over none =
+    subst (λ l. PlaysAll answers left l held held_now old now) (sym (over refl).1) (ends_over answers left left_now uncut count held held_now old now taken)
+ends answers false left left_now left_after uncut count held held_now old now taken over none =
+    ends_here answers false left left_now left_after uncut count held held_now old now taken refl (none refl)
+
+-- ---- what became of a line
 
 -- there was no memory for a line or its reply
-pub no_memory : {T : Type 0} (r : Result T PlayFault) (bytes : List ℕ) (a : Option (List ℕ)) (old new : State) → IsErr r × IsErrAnd r (λ e. e ≡ Memory) → (new ≡ old) ⊎ ((text : List ℕ) × GivesText old (meaning_of bytes) text new)
-    → IfErr r (λ fault. StopsLine fault bytes a a old new)
-no_memory r bytes a old new is h = passed_on r (λ fault. StopsLine fault bytes a a old new) Memory is (keeps_refl a, h)
+pub wants_memory : (bytes : List ℕ) (a : Option (List ℕ)) (old new : State) → (new ≡ old) ⊎ ((text : List ℕ) × GivesText old (meaning_of bytes) text new) → StopsLine AnswersFreely Memory bytes a a old new
+wants_memory bytes a old new (inl h) = (keeps_refl a, inl h)
+wants_memory bytes a old new (inr h) = (keeps_refl a, inr (true, h.0, (refl, h.1)))
 
 -- the reply was not written, or a part of it
-pub part_written : {T : Type 0} (r : Result T PlayFault) (bytes text given : List ℕ) (a b : Option (List ℕ)) (old new : State) → given ≡ text → GivesText old (meaning_of bytes) text new → OnErr r (WritesPart a b given) → IfErr r (λ fault. fault ≡ Write)
-    → IfErr r (λ fault. StopsLine fault bytes a b old new)
-part_written (Ok x) bytes text given a b old new is gives part cause = tt
-part_written (Err fault) bytes text given a b old new is gives part cause = subst (λ f. StopsLine f bytes a b old new) (sym cause) (text, gives, subst (WritesPart a b) is part)
+pub part_written : (answers : Answers) (on : Bool) (fault : PlayFault) (bytes text : List ℕ) (a b : Option (List ℕ)) (old new : State) → answers on old bytes text new → WritesPart a b text → fault ≡ Write → StopsLine answers fault bytes a b old new
+part_written answers on fault bytes text a b old new answered part is = subst (λ f. StopsLine answers f bytes a b old new) (sym is) (on, text, answered, part)

@@ -2,8 +2,11 @@
 //! answered.
 #![tactic(auto)]
 
+mod lines;
 mod playing;
+mod strictly;
 mod writing;
 
 pub use playing::{LONGEST_LINE, MOST_READS, PlayFault, play};
+pub use strictly::{FailedLine, StrictFault, play_strictly};
 pub use writing::write_out;

@@ -7,6 +7,7 @@ ghost use Rattle.ft_core.specs.declared.request.Answer.TheVariants.{Txn, Dropped
 ghost use Rattle.ft_core.specs.Journals.{IsBaseTree};
 ghost use Rattle.ft_core.specs.States.{StoredState, at_base};
 ghost use Rattle.ft_core.specs.Steps.{IsStep, exact_rule, answer_with, outcome_answer};
+ghost use Rattle.ft_core.specs.Sweeps.{HasNoUselessPlace};
 ghost use Rattle.ft_shared.specs.Behind.{IsAborted, IsUndone};
 ghost use Rattle.ft_shared.specs.Sharing.{events_kept};
 
@@ -38,12 +39,13 @@ pub trait Shareable {
     fn events(&self) -> &[Event]
         ensures { result.now ≡ events_kept (forgotten self.now) (stored self.now).state };
 
-    /// The tree of the base.
+    /// The tree of the base, in which no place is of no use.
     fn base(&self) -> &Tree
         requires { knows_base self.now }
         ensures tree { tidy result.now ≡ (stored self.now).state.base.tree }
         ensures base { IsBaseTree result.now (stored self.now).state.base.last_stamp }
-        ensures last { (stored self.now).state.base.last_stamp ≤ last_number };
+        ensures last { (stored self.now).state.base.last_stamp ≤ last_number }
+        ensures bare { HasNoUselessPlace result.now };
 
     /// Forgets what has happened, if it ever forgets, and answers whether it does. Takes no memory.
     fn forget(&mut self) -> bool
@@ -95,6 +97,7 @@ pub trait Shareable {
     fn undo_call(&mut self, txn: TxnId) -> Result<u64, Fault>
         ensures step { IsUndone (stored self.old).state txn (answer_with Undone result) (stored self.new).state }
         ensures forgotten { forgotten self.new ≡ forgotten self.old };
+
     /// Drops places of the tree that are of no use any more, as `Core::sweep` does.
     fn sweep(&mut self) -> u64
         ensures state { (stored self.new).state ≡ (stored self.old).state }

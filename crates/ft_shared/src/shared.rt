@@ -42,8 +42,8 @@ pub const MOST_PAUSE: u64 = 5;
 /// say: each says that the answer is a legal one of some core that goes on from there
 /// (`InCoreFrom`). No clause says that a call returns.
 ///
-/// There is no checkpoint here: once 100,000 transactions were begun, or 1,000,000 calls granted,
-/// since the base, it is `Full` for good, until `into_core` gives the core back.
+/// There is no checkpoint here: once as many transactions were begun, or calls granted, since the
+/// base as the limits of the core allow, it is `Full` for good, until `into_core` gives it back.
 pub struct Shared<J: Sharing = Brand, C: Shareable = Recorded> {
     behind: Mutex<Behind<J, C>>,
     // For copies of calls, which are made before the lock is got.

@@ -1,5 +1,6 @@
 -- The line that tells of a fault, with its line feed.
-use Rattle.std.specs.Prelude.{◌⊎◌, ℕ, List, [], ◌∷◌, ◌++◌, Option, codes}
+use Rattle.std.specs.Prelude.{◌⊎◌, ℕ, List, [], ◌∷◌, ◌++◌, take, Option, codes, string_bytes}
+use Rattle.std.specs.Str.Lines.{strip_carriage_return}
 use Rattle.std.specs.Fmt.{decimal}
 use Rattle.ft_after.specs.declared.fault.AfterFault.{AfterFault}
 use Rattle.ft_after.specs.declared.fault.AfterFault.TheVariants as after
@@ -9,6 +10,7 @@ use Rattle.ft_copy.specs.declared.trouble.Trouble.TheVariants as troubles
 use Rattle.ft_plan.specs.declared.fault.JobFault.TheVariants as jobs
 use Rattle.ft_script.specs.declared.playing.PlayFault.{PlayFault}
 use Rattle.ft_script.specs.declared.playing.PlayFault.TheVariants.{Memory, Read, Write, TooLong, Turns}
+use Rattle.ft_script.specs.declared.strictly.FailedLine.{FailedLine}
 use Rattle.ft_script.specs.Runs.{WritesFront}
 use Rattle.ft_outcome.specs.declared.running.RunFault.{RunFault}
 use Rattle.ft_outcome.specs.declared.running.RunFault.TheVariants as run
@@ -31,6 +33,16 @@ run_fault_line (run.Jobs jobs.BadPlan) = codes "fault: BadPlan" ++ 10 ∷ []
 run_fault_line (run.Jobs jobs.Mismatch) = codes "fault: Mismatch" ++ 10 ∷ []
 run_fault_line (run.Jobs jobs.Thread) = codes "fault: Thread" ++ 10 ∷ []
 run_fault_line run.Write = fault_line Write
+
+-- a line of a strict script as it is shown: without the one carriage return at its end, and at
+-- most 200 bytes of it
+abbrev pub shown_of : List ℕ → List ℕ
+shown_of bytes = take 200 (strip_carriage_return bytes)
+
+-- the same of a line of a strict script that did not do what it asks for: its number, the line, and
+-- its reply, which has a line feed
+abbrev pub strict_line : FailedLine → List ℕ
+strict_line failed = codes "fault: Strict " ++ decimal failed.number ++ codes ": " ++ shown_of failed.line.items ++ codes " = " ++ string_bytes failed.reply
 
 -- the same of a script that was not played first
 abbrev pub after_line : AfterFault → List ℕ

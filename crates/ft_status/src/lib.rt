@@ -4,8 +4,10 @@
 
 mod faults;
 mod status;
+mod strictly;
 
 pub use faults::{fault_line, run_fault_line};
 pub use status::{
     after_failed, dot_status, failed, jobs_status, load_status, play_status, save_status,
 };
+pub use strictly::play_strictly_status;

@@ -4,7 +4,7 @@ ghost use Rattle.std.specs.Io.KnownBytes.{Keeps};
 ghost use Rattle.ft_dot.specs.Drawn.{Draws, StopsDrawing};
 ghost use Rattle.ft_outcome.specs.Runs.{RunsPlan, StopsPlan};
 ghost use Rattle.ft_status.specs.FaultLines.{TellsLine, after_line, fault_line, run_fault_line, save_line, stopped_line};
-ghost use Rattle.ft_script.specs.Runs.{PlaysAll, StopsAt, WritesFront};
+ghost use Rattle.ft_script.specs.Runs.{AnswersFreely, PlaysAll, StopsAt, WritesFront};
 ghost use Rattle.ft_core.specs.Living.{NoneIsLive};
 ghost use Rattle.ft_core.specs.States.{State};
 ghost use Rattle.ft_load.specs.Loads.{Loads, StopsLoad};
@@ -12,8 +12,9 @@ ghost use Rattle.ft_save.specs.Saves.{IsLeft, Saves, StopsSave};
 
 use crate::faults::{fault_line, run_fault_line, trouble_name};
 use ft_after::AfterFault;
+use ft_cells::TreeLimits;
 use ft_copy::{Source, Stopped, Target};
-use ft_core::Core;
+use ft_core::{Core, Limits};
 use ft_dot::draw;
 use ft_load::load;
 use ft_outcome::{RunFault, run_plan};
@@ -39,9 +40,9 @@ pub fn play_status<R: Read, W: Write, E: Write>(
 ) -> u8
     ensures status { (result ≡ 0) ⊎ (result ≡ 1) }
     ensures quiet { result ≡ 0 → Keeps (E.contents errors.old) (E.contents errors.new) }
-    ensures ok { result ≡ 0 → (new : State) × PlaysAll (R.remaining reader.old) (R.remaining reader.new)
+    ensures ok { result ≡ 0 → (new : State) × PlaysAll AnswersFreely (R.remaining reader.old) (R.remaining reader.new)
         (W.contents writer.old) (W.contents writer.new) core.state new }
-    ensures fault { result ≡ 1 → (fault : PlayFault) × (new : State) × StopsAt fault (R.remaining reader.old) (R.remaining reader.new)
+    ensures fault { result ≡ 1 → (fault : PlayFault) × (new : State) × StopsAt AnswersFreely fault (R.remaining reader.old) (R.remaining reader.new)
         (W.contents writer.old) (W.contents writer.new) core.state new
         × WritesFront (E.contents errors.old) (E.contents errors.new) (fault_line fault) }
 {
@@ -129,12 +130,13 @@ pub fn after_failed<E: Write>(alloc: Global, errors: &mut E, fault: AfterFault) 
     }
 }
 
-/// Writes a script of what a source tells, and answers the writer and the status to end with: 0, or
-/// 1 after a fault, of which a line tells on `errors`, with the path where it came. How far it has
-/// come is shown on a screen meanwhile, if there is one.
+/// Writes a script of what a source tells, for a core with these limits, and answers the writer and
+/// the status to end with: 0, or 1 after a fault, of which a line tells on `errors`, with the path
+/// where it came. How far it has come is shown on a screen meanwhile, if there is one.
 pub fn load_status<R: Clock, S: Source, V: Write + Drop, W: Write, E: Write>(
     rt: &R,
     alloc: Global,
+    limits: Limits,
     source: &S,
     screen: Option<V>,
     writer: W,
@@ -142,12 +144,12 @@ pub fn load_status<R: Clock, S: Source, V: Write + Drop, W: Write, E: Write>(
 ) -> (W, u8)
     ensures status { (result.1 ≡ 0) ⊎ (result.1 ≡ 1) }
     ensures quiet { result.1 ≡ 0 → Keeps (E.contents errors.old) (E.contents errors.new) }
-    ensures ok { result.1 ≡ 0 → Loads (S.tells source.now) (W.contents writer) (W.contents result.0) }
-    ensures fault { result.1 ≡ 1 → (stopped : Stopped) × StopsLoad (S.tells source.now) stopped (W.contents writer) (W.contents result.0)
+    ensures ok { result.1 ≡ 0 → Loads limits (S.tells source.now) (W.contents writer) (W.contents result.0) }
+    ensures fault { result.1 ≡ 1 → (stopped : Stopped) × StopsLoad limits (S.tells source.now) stopped (W.contents writer) (W.contents result.0)
         × TellsLine (E.contents errors.old) (E.contents errors.new) (stopped_line stopped) }
 {
     let shown = ShownSource::new(rt, alloc, source, screen);
-    let (writer, loaded) = load(alloc, &shown, writer);
+    let (writer, loaded) = load(alloc, limits, &shown, writer);
     shown.done();
     let status = match loaded {
         Ok(()) => 0,
@@ -156,22 +158,24 @@ pub fn load_status<R: Clock, S: Source, V: Write + Drop, W: Write, E: Write>(
     (writer, status)
 }
 
-/// Makes the tree with which replies end, and answers the status to end with: 0, or 1 after a
-/// fault, of which a line tells on `errors`, with the path where it came.
+/// Makes the tree with which replies end, if its files are within these limits, and answers the
+/// status to end with: 0, or 1 after a fault, of which a line tells on `errors`, with the path where
+/// it came.
 pub fn save_status<R: Read, T: Target, E: Write>(
     alloc: Global,
+    limits: TreeLimits,
     reader: &mut R,
     target: &mut T,
     errors: &mut E,
 ) -> u8
     ensures status { (result ≡ 0) ⊎ (result ≡ 1) }
     ensures quiet { result ≡ 0 → Keeps (E.contents errors.old) (E.contents errors.new) }
-    ensures ok { result ≡ 0 → Saves (R.remaining reader.old) (R.remaining reader.new) T.does target.old target.new }
+    ensures ok { result ≡ 0 → Saves limits (R.remaining reader.old) (R.remaining reader.new) T.does target.old target.new }
     ensures left { result ≡ 1 → IsLeft T.does T.fails target.old target.new }
-    ensures fault { result ≡ 1 → (fault : SaveFault) × StopsSave T.does T.fails fault (R.remaining reader.old) (R.remaining reader.new) target.old target.new
+    ensures fault { result ≡ 1 → (fault : SaveFault) × StopsSave limits T.does T.fails fault (R.remaining reader.old) (R.remaining reader.new) target.old target.new
         × TellsLine (E.contents errors.old) (E.contents errors.new) (save_line fault) }
 {
-    match save(alloc, reader, target) {
+    match save(alloc, limits, reader, target) {
         Ok(()) => 0,
         Err(fault) => save_failed(alloc, errors, &fault),
     }

@@ -20,7 +20,3 @@ is_met accesses c = at_place (accesses_cell (map as_place accesses)) c
 -- What is of no use after this was so before, and no call came upon a cell of its place.
 abbrev pub DropsMet : List Access → Cells → Cells → Type 0
 DropsMet accesses old new = (c : Cell) → is_useless new c ≡ true → (is_useless old c ≡ true) × (is_met accesses c ≡ false)
-
--- What is of no use after this was so before.
-abbrev pub LeavesNone : Cells → Cells → Type 0
-LeavesNone old new = (c : Cell) → is_useless new c ≡ true → is_useless old c ≡ true

@@ -1,9 +1,11 @@
 -- The replay of a list of calls on the plain tree, and what is answered then. Each call is made
 -- as POSIX says (`exec`).
-use Rattle.std.specs.Prelude.{◌≤◌, ℕ, List, [], ◌∷◌}
+use Rattle.std.specs.Prelude.{◌≡◌, ◌≤◌, ℕ, false, List, [], ◌∷◌}
+use Rattle.ft_cells.specs.declared.cell.Cell.{Cell}
 use Rattle.ft_cells.specs.Cells.{Cells}
 use Rattle.ft_cells.specs.Plain.{PlainTree}
 use Rattle.ft_tree.specs.Sound.{AreSoundCells, IsFree}
+use Rattle.ft_tree.specs.Sweep.{is_useless}
 use Rattle.ft_posix.specs.declared.call.Call.{Call}
 use Rattle.ft_posix.specs.declared.call.Reply.{Reply}
 use Rattle.ft_posix.specs.declared.stamped.StampedCall.{StampedCall}
@@ -25,7 +27,9 @@ abbrev pub reply_on : PlainTree → Call → Reply
 reply_on p call = (exec p READING call).1
 
 -- The cells are sound, and nothing in them has a number from 2^63 on: the numbers with which a
--- reader asks number nothing in them.
+-- reader asks number nothing in them. Each place that is stored is of use (POSIX.1-2017, System
+-- Interfaces, unlink, rmdir and close).
 pub record IsReadable (cells : Cells) : Type 0 where
   pub sound : AreSoundCells cells
   pub free : (k : ℕ) → READING ≤ k → IsFree cells k
+  pub bare : (c : Cell) → is_useless cells c ≡ false

@@ -3,7 +3,7 @@ ghost use Rattle.std.specs.Prelude.{◌≡◌, ◌<◌, ℕ, None, false, OnOk, 
 ghost use Rattle.ft_tree.specs.Sound.{AreSoundCells, IsFree};
 ghost use Rattle.ft_tree.specs.Tidy.{tidy};
 ghost use Rattle.ft_posix.specs.Exec.{exec};
-ghost use Rattle.ft_view.specs.Cleared.{DropsMet, LeavesNone};
+ghost use Rattle.ft_view.specs.Cleared.{DropsMet};
 ghost use Rattle.ft_view.specs.Replay.{IsReadable};
 ghost use Rattle.ft_view.specs.declared.TheConstants.{READING};
 
@@ -49,7 +49,6 @@ pub(crate) fn make(alloc: Global, tree: &mut Tree, stamp: u64, call: &Call) -> R
     requires below { stamp < READING }
     requires free { IsFree tree.old stamp }
     ensures made { OnOk result (tidy tree.new ≡ (exec (tidy tree.old) stamp call.now).0) }
-    ensures none_left { LeavesNone tree.old tree.new }
     ensures readable { IsReadable tree.new }
     ensures refused { OnErr result (tree.new ≡ tree.old) }
 {

@@ -4,6 +4,7 @@ use Rattle.std.proofs.lemmas.Bool.{false≢true, eqb-true, eq-eqb}
 use Rattle.std.proofs.lemmas.List.{take_all}
 use Rattle.std.specs.Prelude.{◌==◌}
 use Rattle.std.specs.List.{list_any, onto_first}
+use Rattle.ft_words.specs.Calls.{only_word, last_word}
 use Rattle.ft_words.specs.Spelling.{IsFreeOf, words_of, stripped}
 
 -- a test that isn't true is false
@@ -82,3 +83,25 @@ behind text k = rw add-one (from_place text (suc k))
 pub front_gone : (whole front text : List ℕ) (k : ℕ) → whole ≡ front ++ text → whole ≡ (front ++ take k text) ++ take (length text - k) (drop k text)
 front_gone whole front text k h =
     h ∙ ap (λ t. front ++ t) (sym (take-append-drop k text)) ∙ sym (append_assoc front (take k text) (drop k text)) ∙ ap (λ t. (front ++ take k text) ++ t) (sym (from_place text k))
+
+-- ---- a word that is left alone
+
+two_words : (word : List ℕ) (words : List (List ℕ)) → 0 < length words → None ≡ only_word (word ∷ words)
+two_words word [] some = absurd (omega arith)
+two_words word (w ∷ ws) some = refl
+
+pub alone : (text : List ℕ) → IsFreeOf 32 text → Some text ≡ only_word (words_of text)
+alone text free = ap only_word (sym (words_of_free text free))
+
+pub not_alone : (text : List ℕ) (k : ℕ) → IsFreeOf 32 (take k text) → (get_or text k 0 == 32) ≡ true → k < length text → None ≡ only_word (words_of text)
+not_alone text k free is fits =
+    two_words (take k text) (words_of (drop (suc k) text)) (words_some (drop (suc k) text))
+    ∙ ap only_word (sym (ap words_of (around 32 text k is fits) ∙ words_of_cut (take k text) (drop (suc k) text) free))
+
+last_is_only : (words : List (List ℕ)) → 0 < length words → only_word words ≡ last_word words
+last_is_only [] some = absurd (omega arith)
+last_is_only (w ∷ ws) some = refl
+
+-- a text has a last word
+pub last_of_text : (text : List ℕ) → only_word (words_of text) ≡ last_word (words_of text)
+last_of_text text = last_is_only (words_of text) (words_some text)

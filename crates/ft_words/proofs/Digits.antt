@@ -1,43 +1,71 @@
 -- What the digits of a word say of the number that it stands for.
-use Rattle.std.proofs.Common.{◌≡◌, ℕ, ◌<◌, ◌≤◌, ◌^◌, Bool, true, false, cond, List, length, nat_lt, Some, None, Result, Ok, Err, refl, sym, ap, ◌∙◌, arith, rules, IsUtf8}
+use Rattle.std.proofs.Common.{◌≡◌, ℕ, ◌+◌, ◌*◌, ◌^◌, ◌<◌, ◌≤◌, Bool, true, false, cond, ◌&&◌, List, [], ◌∷◌, length, drop, get_or, nat_lt, Option, Some, None, refl, sym, ap, ◌∙◌, arith}
 use Rattle.std.proofs.lemmas.Bool.Decides.{nat_tests}
-use Rattle.std.proofs.lemmas.Fmt.{IsAscii-from_digits}
-use Rattle.std.proofs.lemmas.Str.{IsUtf8-from_ascii}
-use Rattle.std.proofs.lemmas.Str.Parse.{IsNumeralModel, numerals_by_value, parse_digits}
-use Rattle.std.specs.Char.{is_ascii_digit}
+use Rattle.std.proofs.lemmas.List.{at_drop_more, at_drop_all}
+use Rattle.std.specs.Prelude.{◌==◌}
+use Rattle.std.specs.Char.{is_ascii_digit, digit_value}
 use Rattle.std.specs.List.{list_all}
-use Rattle.std.specs.Result.{OkIff, result_ok}
-use Rattle.std.specs.Str.Parse.{digits_value, ParsesUnsigned}
+use Rattle.std.specs.Str.Parse.{digits_value, digits_value_after}
 use Rattle.ft_words.specs.Spelling.{is_number, number_of}
 
--- a text of digits, and the number that it writes
-own : IsNumeralModel (λ ds. list_all is_ascii_digit ds ≡ true) (digits_value 10)
-own = numerals_by_value _ (search rules)
+-- the digits behind a place go on with a number, and are digits where all of the word are
+pub record GoesOn (word : List ℕ) (number place : ℕ) : Type 0 where
+  pub value : digits_value_after 10 number (drop place word) ≡ digits_value 10 word
+  pub digits : list_all is_ascii_digit (drop place word) ≡ list_all is_ascii_digit word
+  pub small : number < 2 ^ 64
+
+-- the number with a digit behind it, where the byte is one
+abbrev pub with_digit : ℕ → ℕ → Option ℕ
+with_digit number byte = cond (is_ascii_digit byte && nat_lt (number * 10 + digit_value byte) (2 ^ 64)) (Some (number * 10 + digit_value byte)) None
 
 unread : (b : Bool) (n : ℕ) → b ≡ false → None ≡ cond b (Some n) None
 unread b n h = ap (λ c. cond c (Some n) None) (sym h)
 
-was_read : (b : Bool) (n : ℕ) → b ≡ true → Some n ≡ cond b (Some n) None
-was_read b n h = ap (λ c. cond c (Some n) None) (sym h)
+was_read : (b : Bool) (n m : ℕ) → b ≡ true → n ≡ m → Some m ≡ cond b (Some n) None
+was_read b n m h e = ap Some (sym e) ∙ ap (λ c. cond c (Some n) None) (sym h)
 
-pub too_long : (word : List ℕ) → 20 < length word → None ≡ number_of word
-too_long word h = unread (is_number word) _ (grind (arith, nat_tests))
+-- more digits make no number smaller
+value_grows : (n : ℕ) (ds : List ℕ) → n ≤ digits_value_after 10 n ds
+value_grows n [] = omega arith
+value_grows n (d ∷ ds) = let more = value_grows (n * 10 + digit_value d) ds in omega (arith, more)
 
-pub no_digits : (word : List ℕ) → list_all is_ascii_digit word ≡ false → None ≡ number_of word
-no_digits word h = unread (is_number word) _ (grind (arith, nat_tests))
+not_number : (word rest : List ℕ) (number byte : ℕ) → digits_value_after 10 (number * 10 + digit_value byte) rest ≡ digits_value 10 word → (is_ascii_digit byte && list_all is_ascii_digit rest) ≡ list_all is_ascii_digit word → (is_ascii_digit byte && nat_lt (number * 10 + digit_value byte) (2 ^ 64)) ≡ false → is_number word ≡ false
+not_number word rest number byte value digits none =
+    let more = value_grows (number * 10 + digit_value byte) rest in
+    grind (arith, nat_tests)
 
-pub is_text : (word : List ℕ) → list_all is_ascii_digit word ≡ true → IsUtf8 word
-is_text word h = IsUtf8-from_ascii word (IsAscii-from_digits word (own.to word h))
+pub starts : (word : List ℕ) → GoesOn word 0 0
+starts word = record { value = refl; digits = refl; small = omega arith }
 
--- what the parse of a short text of digits gives is its number
-pub parsed : {E : Type 0} (word : List ℕ) (r : Result ℕ E) → length word ≤ 20 → list_all is_ascii_digit word ≡ true → ParsesUnsigned 64 10 word r → result_ok r ≡ number_of word
-parsed {E} word r short digits h = by_result r (parse_digits own 64 word r h digits)
-  where
-    by_result : (q : Result ℕ E) → OkIff q ((0 < length word) × (digits_value 10 word < 2 ^ 64)) (digits_value 10 word) → result_ok q ≡ number_of word
-    by_result (Ok n) k = ap Some k.1 ∙ was_read (is_number word) _ (let some : 0 < length word = k.0.0 in let small : digits_value 10 word < 2 ^ 64 = k.0.1 in grind (arith, nat_tests))
-    by_result (Err e) k = unread (is_number word) _ (big (nat_lt 0 (length word)) refl (nat_lt (digits_value 10 word) (2 ^ 64)) refl k)
-      where
-        big : (a : Bool) → nat_lt 0 (length word) ≡ a → (b : Bool) → nat_lt (digits_value 10 word) (2 ^ 64) ≡ b → (((0 < length word) × (digits_value 10 word < 2 ^ 64)) → ⊥) → is_number word ≡ false
-        big false p b q never = grind (arith, nat_tests)
-        big true p false q never = grind (arith, nat_tests)
-        big true p true q never = absurd (never (grind (arith, nat_tests), grind (arith, nat_tests)))
+some_was : (b : Bool) (m v : ℕ) → Some m ≡ cond b (Some v) None → (b ≡ true) × (m ≡ v)
+some_was true m v e = (refl, cc)
+some_was false m v e = cc
+
+none_was : (b : Bool) (v : ℕ) → None ≡ cond b (Some v) None → b ≡ false
+none_was true v e = cc
+none_was false v e = refl
+
+pub steps : (word : List ℕ) (number place more : ℕ) → place < length word → Some more ≡ with_digit number (get_or word place 0) → GoesOn word number place → GoesOn word more (place + 1)
+steps word number place more below is so_far =
+    let byte = get_or word place 0 in
+    let was = some_was _ more (number * 10 + digit_value byte) is in
+    let digit : is_ascii_digit byte ≡ true = (let test = was.0 in grind (arith, nat_tests)) in
+    let fits : number * 10 + digit_value byte < 2 ^ 64 = (let test = was.0 in grind (arith, nat_tests)) in
+    record {
+      value = ap (λ n. digits_value_after 10 n (drop (place + 1) word)) was.1 ∙ sym (at_drop_more (digits_value_after 10 number) word place 0 (omega arith)) ∙ so_far.value;
+      digits = sym (ap (λ b. b && list_all is_ascii_digit (drop (place + 1) word)) digit) ∙ sym (at_drop_more (list_all is_ascii_digit) word place 0 (omega arith)) ∙ so_far.digits;
+      small = omega (arith, was.1);
+    }
+
+pub stops : (word : List ℕ) (number place : ℕ) → place < length word → None ≡ with_digit number (get_or word place 0) → GoesOn word number place → None ≡ number_of word
+stops word number place below none so_far =
+    let value = sym (at_drop_more (digits_value_after 10 number) word place 0 below) ∙ so_far.value in
+    let digits = sym (at_drop_more (list_all is_ascii_digit) word place 0 below) ∙ so_far.digits in
+    unread (is_number word) _ (not_number word (drop (place + 1) word) number (get_or word place 0) value digits (none_was _ _ none))
+
+pub ends : (word : List ℕ) (number place : ℕ) → false ≡ (length word == 0) → length word ≤ 20 → length word ≤ place → GoesOn word number place → Some number ≡ number_of word
+ends word number place some short all so_far =
+    let value : number ≡ digits_value 10 word = sym (at_drop_all (digits_value_after 10 number) word place all) ∙ so_far.value in
+    let digits : true ≡ list_all is_ascii_digit word = sym (at_drop_all (list_all is_ascii_digit) word place all) ∙ so_far.digits in
+    let small = so_far.small in
+    was_read (is_number word) _ number (grind (arith, nat_tests)) (sym value)

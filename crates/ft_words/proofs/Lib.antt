@@ -1,5 +1,5 @@
 pub mod Bytes
-pub mod Coding
 pub mod Digits
 pub mod LineCuts
+pub mod PercentCoding
 pub mod Reading

@@ -6,6 +6,7 @@ mod arguments;
 mod call_text;
 mod calls;
 mod coded;
+mod coding;
 mod flags;
 mod lines;
 mod numbers;

@@ -1,22 +1,32 @@
 // Numbers.
-ghost use Rattle.std.specs.Prelude.{◌≡◌, if◌then◌else◌, Some, None};
-ghost use Rattle.std.specs.Char.{is_ascii_digit};
-ghost use Rattle.std.specs.List.{list_all};
+ghost use Rattle.std.specs.Prelude.{◌≡◌, ◌+◌, ◌*◌, ◌^◌, ◌&&◌, nat_lt, if◌then◌else◌, Some, None};
+ghost use Rattle.std.specs.Char.{is_ascii_digit, digit_value};
 ghost use Rattle.ft_words.specs.Spelling.{number_of, integer_of, not_negative, negative};
-
-use std::str;
 
 /// The number that a word of 1 to 20 digits stands for, where it is below 2^64.
 pub fn number_of(word: &[u8]) -> Option<u64>
     ensures { result ≡ number_of word.now }
 {
-    if word.len() > 20 || !are_digits(word) {
+    if word.is_empty() || word.len() > 20 {
         return None;
     }
-    match str::from_utf8(word) {
-        Ok(digits) => digits.parse().ok(),
-        Err(_) => None,
+    let mut number = 0;
+    for byte in word {
+        number = with_digit(number, *byte)?;
     }
+    Some(number)
+}
+
+// The number with this digit behind its own, where the byte is a digit and the number then below
+// 2^64.
+fn with_digit(number: u64, byte: u8) -> Option<u64>
+    ensures { result ≡ (if is_ascii_digit byte && nat_lt (number * 10 + digit_value byte) (2 ^ 64)
+        then Some (number * 10 + digit_value byte) else None) }
+{
+    if !byte.is_ascii_digit() {
+        return None;
+    }
+    number.checked_mul(10)?.checked_add(u64::from(byte - b'0'))
 }
 
 /// The integer that such a word stands for, with `-` before it where it is negative.
@@ -41,11 +51,4 @@ fn negative(number: u64) -> Option<i64>
     ensures { result ≡ negative number }
 {
     0_i64.checked_sub_unsigned(number)
-}
-
-// Whether each byte is a decimal digit.
-fn are_digits(word: &[u8]) -> bool
-    ensures { result ≡ list_all is_ascii_digit word.now }
-{
-    word.iter().all(|byte| byte.is_ascii_digit())
 }

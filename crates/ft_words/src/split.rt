@@ -15,3 +15,16 @@ pub fn split_once(byte: u8, text: &[u8]) -> Option<(&[u8], &[u8])>
         Some(at) => Some((&text[..at], &text[at + 1..])),
     }
 }
+
+/// The same, of a byte that is likely to be near.
+pub(crate) fn split_near(byte: u8, text: &[u8]) -> Option<(&[u8], &[u8])>
+    ensures { MatchOption result (IsFreeOf byte text.now)
+        (λ parts. IsFreeOf byte parts.0.now × (text.now ≡ parts.0.now ++ byte ∷ parts.1.now)) }
+{
+    for (at, other) in text.iter().enumerate() {
+        if *other == byte {
+            return Some((&text[..at], &text[at + 1..]));
+        }
+    }
+    None
+}

@@ -2,15 +2,12 @@
 ghost use Rattle.std.specs.Prelude.{Some};
 ghost use Rattle.ft_words.specs.Texts.{reply_text, coded, data_text, listing, listed};
 
+use crate::coding::{CODED_PIECE, PIECE, put_coded};
 use ft_calls::Reply;
 use ft_path::Name;
 use ft_tree::Kind;
-use percent_encoding::{AsciiSet, CONTROLS, ascii_set, percent_encode};
+use percent_encoding::ascii_str;
 use std::fmt;
-
-/// The bytes that are percent-coded in printed names, beside those from 128 on: 0 to 32, `%` and
-/// 127.
-const CODED: AsciiSet = ascii_set!(CONTROLS.add(b' ').add(b'%'));
 
 /// What a call replied.
 #[derive(Clone, Copy)]
@@ -49,10 +46,16 @@ pub struct Coded<'a>(pub &'a [u8]);
 impl fmt::Display for Coded<'_> {
     ghost output = { λ bytes. Some (coded bytes.0.now) };
 
-    #[tactic(auto, using(crate::proofs::Coding::percent_encode_coded))]
     fn fmt<W: fmt::Write>(&self, f: &mut fmt::Formatter<W>) -> fmt::Result {
-        let bytes = percent_encode(self.0, CODED);
-        write!(f, "{bytes}")
+        let mut place = [0; CODED_PIECE];
+        let mut rest = self.0;
+        while !rest.is_empty() {
+            let (piece, behind) = rest.split_at(rest.len().min(PIECE));
+            let end = put_coded(piece, &mut place);
+            f.write_str(ascii_str(&place[..end]))?;
+            rest = behind;
+        }
+        Ok(())
     }
 }
 

@@ -3,7 +3,8 @@ ghost use Rattle.std.specs.Prelude.{◌≡◌, ◌≢◌, ℕ, List, option_copi
 ghost use Rattle.ft_words.specs.Calls.{only_word, last_word};
 ghost use Rattle.ft_words.specs.Spelling.{words_of, words_of_line, words_left, stripped};
 
-use crate::split::split_once;
+use crate::split::split_near;
+use bstr::ByteSlice;
 use std::marker::Model;
 
 /// The words of a text, which are separated by single spaces.
@@ -55,23 +56,17 @@ impl<'a> Words<'a> {
     pub fn only(self) -> Option<&'a [u8]>
         ensures { option_copied result ≡ only_word self.entry }
     {
-        let mut words = self;
-        let word = words.next()?;
-        match words.next() {
-            None => Some(word),
-            Some(_) => None,
-        }
+        alone(self.rest?)
     }
 
     /// The same, or an empty word where none is left.
+    #[tactic(auto, using(crate::proofs::Bytes::last_of_text))]
     pub fn last(self) -> Option<&'a [u8]>
         ensures { option_copied result ≡ last_word self.entry }
     {
-        let mut words = self;
-        let word = words.next().unwrap_or(&[]);
-        match words.next() {
-            None => Some(word),
-            Some(_) => None,
+        match self.rest {
+            None => Some(&[]),
+            Some(text) => alone(text),
         }
     }
 }
@@ -88,7 +83,7 @@ impl<'a> Iterator for Words<'a> {
     #[tactic(auto, using(crate::proofs::Bytes::words_of_cut, crate::proofs::Bytes::words_of_free))]
     fn next(&mut self) -> Option<&'a [u8]> {
         let text = self.rest?;
-        match split_once(b' ', text) {
+        match split_near(b' ', text) {
             None => {
                 self.rest = None;
                 Some(text)
@@ -98,5 +93,15 @@ impl<'a> Iterator for Words<'a> {
                 Some(word)
             }
         }
+    }
+}
+
+// A text that is one word, which has no space.
+fn alone(text: &[u8]) -> Option<&[u8]>
+    ensures { option_copied result ≡ only_word (words_of text.now) }
+{
+    match text.find_byte(b' ') {
+        None => Some(text),
+        Some(_) => None,
     }
 }

@@ -7,4 +7,7 @@ pub returns-in-Some : goal.returns-in-Some
 returns-in-Some c =
     let found = found_of c.args.found.now in
     let quiet = flag_read found (codes "quiet") c.get_flag-quiet.result c.get_flag-quiet.ensures.none c.get_flag-quiet.ensures.value c.get_flag-quiet.ensures.other in
-    (rows_of found, refl, c.in-Some.ensures, quiet)
+    (rows_of found, refl, c.in-Some.ensures, quiet, c.in-Ok.ensures.ok)
+
+pub returns-in-Err : goal.returns-in-Err
+returns-in-Err c = c.misused.ensures (codes "save") c.in-Err.ensures.err

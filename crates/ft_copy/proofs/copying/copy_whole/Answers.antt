@@ -19,7 +19,7 @@ returns-in_err-visit_all-clause-err g c =
     let new = c.visit_all.new.target in
     let entered = subst (λ (s : Standing). Enters tells [] ROOT s next) (λ i. record { left = c.new.ensures.items i; firsts = c.new-2.ensures i }) c.in_default.ensures.ok.1 in
     at_fault c.from_residual.result c.from_residual.ensures.1
-    (λ e is. stops_amid tells does fails e next c.args.target.now begun new entered c.in_default.ensures.ok.0 (subst (λ s. StopsVisiting tells does fails s next begun new) (sym is) c.in_err-visit_all.ensures.err))
+    (λ e is. stops_amid c.args.limits tells does fails e next c.args.target.now begun new entered c.in_default.ensures.ok.0 (subst (λ s. StopsVisiting c.args.limits tells does fails s next begun new) (sym is) c.in_err-visit_all.ensures.err))
 
 pub returns-in-Ok-clause-ok : goal.returns-in-Ok-clause-ok
 returns-in-Ok-clause-ok g c =
@@ -49,5 +49,5 @@ returns-clause-err g c =
     let all = c.in_ok-visit_all.ensures.ok in
     let next = standing c.begin.new.walk in
     let entered = subst (λ (s : Standing). Enters tells [] ROOT s next) (λ i. record { left = c.new.ensures.items i; firsts = c.new-2.ensures i }) begun.1 in
-    stops_last tells g.T.Target.does g.T.Target.fails c.at_root-in-Err-finish.result c.in-Err-finish.trouble next all.1 all.0 c.args.target.now c.begin.new.target c.visit_all.new.target c.finish.new.self
+    stops_last c.args.limits tells g.T.Target.does g.T.Target.fails c.at_root-in-Err-finish.result c.in-Err-finish.trouble next all.1 all.0 c.args.target.now c.begin.new.target c.visit_all.new.target c.finish.new.self
     c.at_root-in-Err-finish.ensures.trouble c.at_root-in-Err-finish.ensures.path entered begun.0 all.2 all.3 all.4 c.in-Err-finish.ensures.err

@@ -19,8 +19,8 @@ loop-turns-preserved g c =
     let next = standing c.visit.new.walk in
     let visited = c.in-Ok.ensures.ok in (
       so_far.0 ++ visited.0 ∷ [],
-      walks_more tells (standing c.args.walk.now) now next so_far.0 (visited.0 ∷ []) so_far.1
-          (walks_one tells now next c.pop.new.self.items c.in-Some.place visited.0 c.in-Some.ensures.items visited.1),
+      walks_more c.args.limits tells (standing c.args.walk.now) now next so_far.0 (visited.0 ∷ []) so_far.1
+          (walks_one c.args.limits tells now next c.pop.new.self.items c.in-Some.place visited.0 c.in-Some.ensures.items visited.1),
       subst (λ l. DoesAll does c.args.target.now l c.visit.new.target) (sym (visits_more so_far.0 visited.0))
           (does_more does c.args.target.now c.loop-turns.target c.visit.new.target (flat_map asked_of so_far.0) (asked_of visited.0) so_far.2 visited.2),
       omega (arith, so_far.3, length-append so_far.0 (visited.0 ∷ []), c.loop-turns-test.true),

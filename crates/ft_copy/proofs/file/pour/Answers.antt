@@ -48,6 +48,7 @@ returns-then-count-eq0-clause-ok g c =
             (consumed_more (left c.args.file.now) (left c.loop-room.file) (left c.read_piece.new.file) (concat so_far.0) [] so_far.1 last),
         end,
       ),
+      omega (arith, so_far.3),
       so_far.2,
     )
 
@@ -62,8 +63,8 @@ returns-then-count-left-clause-err g c =
       left c.read_piece.new.file,
       subst (Consumes (left c.args.file.now) (left c.read_piece.new.file)) (sym (concat_more so_far.0 piece))
           (consumed_more (left c.args.file.now) (left c.loop-room.file) (left c.read_piece.new.file) (concat so_far.0) piece so_far.1 c.in_ok-count.ensures.bytes),
-      stops_pieces g.T.Target.does g.T.Target.fails (EndsReading TooLarge pieces) TooLarge so_far.0 piece c.args.target.now target target so_far.2
-          (stops_nothing g.T.Target.does g.T.Target.fails (EndsReading TooLarge pieces) TooLarge (Piece piece ∷ []) target
+      stops_pieces g.T.Target.does g.T.Target.fails (EndsReading c.args.most TooLarge pieces) TooLarge so_far.0 piece c.args.target.now target target so_far.2
+          (stops_nothing g.T.Target.does g.T.Target.fails (EndsReading c.args.most TooLarge pieces) TooLarge (Piece piece ∷ []) target
           (inr (inr (refl, omega (arith, so_far.3, length_pieces so_far.0 piece, length-take-le c.in_ok-count.count c.read_piece.new.piece c.in_ok-count.ensures.bound.0, c.if-count-left.true))))),
     )
 
@@ -83,15 +84,15 @@ returns-in_err-piece-clause-err g c =
       left c.read_piece.new.file,
       subst (Consumes (left c.args.file.now) (left c.read_piece.new.file)) (sym (concat_more so_far.0 piece))
           (consumed_more (left c.args.file.now) (left c.loop-room.file) (left c.read_piece.new.file) (concat so_far.0) piece so_far.1 c.in_ok-count.ensures.bytes),
-      stops_pieces does fails (EndsReading t pieces) t so_far.0 piece c.args.target.now target new so_far.2
-          (stops_first does fails (EndsReading t pieces) t (Piece piece) [] target new (subst (λ e. fails target (Piece piece) e new) (sym is) c.in_err-piece.ensures.err)),
+      stops_pieces does fails (EndsReading c.args.most t pieces) t so_far.0 piece c.args.target.now target new so_far.2
+          (stops_first does fails (EndsReading c.args.most t pieces) t (Piece piece) [] target new (subst (λ e. fails target (Piece piece) e new) (sym is) c.in_err-piece.ensures.err)),
     ))
 
 pub returns-in_err-room-clause-err : goal.returns-in_err-room-clause-err
 returns-in_err-room-clause-err g c =
     let left = g.R.Read.remaining c.args.file.now in
     at_fault c.from_residual.result c.from_residual.ensures.1
-    (λ t is. ([], left, consumed_none left, stops_nothing g.T.Target.does g.T.Target.fails (EndsReading t []) t [] c.args.target.now (inl is)))
+    (λ t is. ([], left, consumed_none left, stops_nothing g.T.Target.does g.T.Target.fails (EndsReading c.args.most t []) t [] c.args.target.now (inl is)))
 
 pub returns-in_err-count-clause-err : goal.returns-in_err-count-clause-err
 returns-in_err-count-clause-err g c =
@@ -102,5 +103,5 @@ returns-in_err-count-clause-err g c =
       so_far.0,
       g.R.Read.remaining c.loop-room.file,
       so_far.1,
-      stops_all g.T.Target.does g.T.Target.fails (EndsReading t so_far.0) t (map Piece so_far.0) c.args.target.now target so_far.2 (unread t _ so_far.0 is c.in_err-count.ensures.cause),
+      stops_all g.T.Target.does g.T.Target.fails (EndsReading c.args.most t so_far.0) t (map Piece so_far.0) c.args.target.now target so_far.2 (unread c.args.most t _ so_far.0 is c.in_err-count.ensures.cause),
     ))

@@ -9,8 +9,8 @@ on_err (Ok x) q = tt
 on_err (Err e) q = q
 
 -- the request was carried out, and its answer has a text
-pub returns-in_err-format-in-Request-clause-err : goal.returns-in_err-format-in-Request-clause-err
-returns-in_err-format-in-Request-clause-err c =
+pub returns-in_err-writeln-in-Request-clause-err : goal.returns-in_err-writeln-in-Request-clause-err
+returns-in_err-writeln-in-Request-clause-err c =
     let text = text_of c.carry_out-answer.result ++ 10 ∷ [] in
     let is = sym c.in-Request.is ∙ c.in_ok-meaning_of.ensures in
     on_err _ (inr (text, subst (λ (m : Line). GivesText c.args.core.now.state m text c.carry_out-answer.new.core.state) is (c.carry_out-answer.result, c.carry_out-answer.ensures, refl)))

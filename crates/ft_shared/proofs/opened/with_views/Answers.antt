@@ -5,7 +5,7 @@ use Rattle.ft_shared.proofs.Readable.{readable}
 use Rattle.ft_shared.proofs.opened.with_views.Goals as goal
 
 pub blank-requires : goal.blank-requires
-blank-requires g c = readable c.base.result.now (g.C.Shareable.stored c.args.core).state.base.last_stamp c.base.ensures.base c.base.ensures.last
+blank-requires g c = readable c.base.result.now (g.C.Shareable.stored c.args.core).state.base.last_stamp c.base.ensures.base c.base.ensures.last c.base.ensures.bare
 
 pub invariant_of-result : goal.invariant_of-result
 invariant_of-result g c =

@@ -1,12 +1,15 @@
-use Rattle.std.proofs.Common.{ℕ, List, sym, ◌∙◌, subst, arith}
-use Rattle.std.specs.Str.Parse.{ParsesUnsigned}
-use Rattle.ft_words.proofs.Digits.{is_text, parsed}
+use Rattle.std.proofs.Common.{arith, ◌∙◌}
+use Rattle.ft_words.proofs.Digits.{starts, steps, stops, ends}
 use Rattle.ft_words.proofs.numbers.number_of.Goals as goal
 
-pub returns-in-Err : goal.returns-in-Err
-returns-in-Err c = absurd (c.in-Err.ensures.cases.0 (is_text c.args.word.now (sym c.if-not-are_digits.ensures)))
+pub loop-byte-init : goal.loop-byte-init
+loop-byte-init c = starts c.args.word.now
 
-pub returns-in-Ok : goal.returns-in-Ok
-returns-in-Ok c =
-    let value = subst (λ (bs : List ℕ). ParsesUnsigned 64 10 bs c.parse.result) c.in-Ok.ensures.cases.0 c.parse.ensures.value.0 in
-    c.ok.ensures.value ∙ parsed c.args.word.now c.parse.result (omega arith) (sym c.if-not-are_digits.ensures) value
+pub loop-byte-preserved : goal.loop-byte-preserved
+loop-byte-preserved c = steps c.args.word.now _ _ _ (omega arith) c.in_ok-number.ensures c.loop-byte.invariant
+
+pub returns-in_err-number : goal.returns-in_err-number
+returns-in_err-number c = c.from_residual.ensures ∙ stops c.args.word.now _ _ (omega arith) c.in_err-number.ensures c.loop-byte.invariant
+
+pub returns : goal.returns
+returns c = ends c.args.word.now _ c.loop-byte.byte-index c.if-is_empty.ensures (omega arith) (omega arith) c.loop-byte.invariant

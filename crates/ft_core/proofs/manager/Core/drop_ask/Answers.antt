@@ -10,4 +10,4 @@ invariant_of-self c =
     let i = c.self.inside in
     let asks = finite.remove i.journal.asks c.args.txn in
     subst (λ (j : Journaled). IsCoreOf (state_of i.parts.forest j) i.parts j) (sym c.drop_ask.ensures)
-    (core-asks c.self.invariant asks (dropped c.self.invariant c.args.txn) (record i.journal { asks = asks }) refl refl)
+    (core-asks c.self.invariant asks (dropped c.self.invariant c.args.txn) (record i.journal { asks = asks }) refl refl refl)

@@ -1,8 +1,9 @@
-use Rattle.std.proofs.Common.{◌≤◌, subst}
+use Rattle.std.proofs.Common.{◌≤◌, ap, subst, ◌∙◌}
 use Rattle.ft_posix.proofs.PlainSound.{plain_soundness}
 use Rattle.ft_forest.specs.declared.TheConstants.{LAST_NUMBER}
 use Rattle.ft_core.specs.Journals.{IsBaseTree}
 use Rattle.ft_core.specs.Promises.{IsHeadline}
+use Rattle.ft_core.specs.Histories.{told}
 use Rattle.ft_core.specs.States.{State}
 use Rattle.ft_core.proofs.Gathered.{state-is}
 use Rattle.ft_core.proofs.Known.{call_laws}
@@ -25,3 +26,6 @@ returns-clause-base c =
 
 pub returns-clause-last : goal.returns-clause-last
 returns-clause-last c = subst (λ (s : State). s.last_stamp ≤ LAST_NUMBER) (state-is c.self.view_is) c.self.invariant.kept.started.within
+
+pub returns-clause-bare : goal.returns-clause-bare
+returns-clause-bare c = λ none. c.self.invariant.bare (ap told (ap (λ (s : State). s.events) (state-is c.self.view_is) ∙ none))

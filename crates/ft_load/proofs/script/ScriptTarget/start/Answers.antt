@@ -1,0 +1,23 @@
+use Rattle.std.proofs.Common.{◌≡◌, ℕ, List, [], ◌∷◌, ◌++◌, codes, append_assoc, inl, subst, sym, ◌∙◌}
+use Rattle.std.proofs.lemmas.Result.{on_ok_weaker}
+use Rattle.std.specs.Io.KnownBytes.{Appends}
+use Rattle.ft_copy.proofs.Stopping.{if_err}
+use Rattle.ft_needs.specs.Lines.{needs_text}
+use Rattle.ft_script.specs.Runs.{WritesPart}
+use Rattle.ft_load.proofs.script.ScriptTarget.start.Goals as goal
+
+pub returns-clause-ok : goal.returns-clause-ok
+returns-clause-ok g c =
+    let needs = needs_text c.args.self.now.limits in
+    let text : c.as_str.result.now ≡ needs ++ codes "begin" ++ 10 ∷ [] = c.as_str.ensures.value ∙ c.in_ok-line.ensures.ok ∙ sym (append_assoc needs (codes "begin") (10 ∷ [])) in
+    let old = g.W.Write.contents c.args.self.now.writer in
+    let new = g.W.Write.contents c.say.new.self.writer in
+    on_ok_weaker c.say.result (λ said. ((subst (λ (t : List ℕ). Appends old new t) text said, c.say.ensures.next, c.say.ensures.fd, inl c.say.ensures.next), c.say.ensures.limits)) c.say.ensures.text
+
+pub returns-clause-err : goal.returns-clause-err
+returns-clause-err g c =
+    let needs = needs_text c.args.self.now.limits in
+    let text : c.as_str.result.now ≡ needs ++ codes "begin" ++ 10 ∷ [] = c.as_str.ensures.value ∙ c.in_ok-line.ensures.ok ∙ sym (append_assoc needs (codes "begin") (10 ∷ [])) in
+    let old = g.W.Write.contents c.args.self.now.writer in
+    let new = g.W.Write.contents c.say.new.self.writer in
+    if_err c.say.result (λ trouble failed. inl (failed.0, subst (λ (t : List ℕ). WritesPart old new t) text failed.1)) c.say.ensures.err

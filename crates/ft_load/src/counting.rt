@@ -1,0 +1,134 @@
+// What a script of a tree of directories needs of its core.
+ghost use Rattle.std.specs.Prelude.{◌≡◌, ◌≤◌, IfOk, min};
+ghost use Rattle.ft_core.specs.Limits.{default_limits};
+
+use ft_base::Memory;
+use ft_cells::TreeLimits;
+use ft_copy::{Found, Listed, PIECE, Source, Target, Trouble, copy};
+use ft_core::Limits;
+use std::alloc::Global;
+use std::cell::Cell;
+
+/// The limits that a core needs on which a script of what a source tells is to be played: the
+/// default ones, or where that is not enough, those for as large files and as many calls, but no
+/// more than `most`.
+///
+/// No file is read for it: its size is what the source tells. Where the source can't tell something,
+/// or tells of what is not allowed, what was told before counts. Fails only for want of memory.
+pub fn needs_of<S: Source>(alloc: Global, most: Limits, source: &S) -> Result<Limits, Memory>
+    ensures size { IfOk result (λ limits. limits.file_size ≤ most.file_size) }
+    ensures calls { IfOk result (λ limits. limits.calls ≤ most.calls) }
+    ensures least { IfOk result (λ limits. (min default_limits.file_size most.file_size ≤ limits.file_size) × (min default_limits.calls most.calls ≤ limits.calls)) }
+    ensures others { IfOk result (λ limits. limits ≡ record most { file_size = limits.file_size; calls = limits.calls }) }
+{
+    let counted = CountedSource {
+        source,
+        size: Cell::new(0),
+        largest: Cell::new(0),
+        pieces: Cell::new(0),
+    };
+    let mut calls = CallCount { count: 0 };
+    let allowed = TreeLimits {
+        file_size: most.file_size,
+        links: most.links,
+    };
+    if let Err(stopped) = copy(alloc, allowed, &counted, &mut calls) {
+        if stopped.trouble == Trouble::Memory {
+            return Err(Memory);
+        }
+    }
+    let least = Limits::default();
+    let all_calls = calls.count.saturating_add(counted.pieces.get());
+    Ok(Limits {
+        file_size: least
+            .file_size
+            .max(counted.largest.get())
+            .min(most.file_size),
+        calls: least.calls.max(all_calls).min(most.calls),
+        ..most
+    })
+}
+
+// A source whose files are looked at and not read.
+#[derive(Drop)]
+struct CountedSource<'a, S> {
+    source: &'a S,
+    // that of the file that was looked at last
+    size: Cell<u64>,
+    largest: Cell<u64>,
+    // in how many pieces the files are read
+    pieces: Cell<u64>,
+}
+
+impl<S: Source> Source for CountedSource<'_, S> {
+    type File = &'static [u8];
+
+    fn names(&self, path: &[u8], node: u64) -> Result<Vec<Listed>, Trouble> {
+        self.source.names(path, node)
+    }
+
+    fn look(&self, path: &[u8], node: u64) -> Result<Found, Trouble> {
+        let found = self.source.look(path, node)?;
+        if let Found::File(facts) = found {
+            self.size.set(facts.size);
+            self.largest.set(self.largest.get().max(facts.size));
+        }
+        Ok(found)
+    }
+
+    fn open(&self, _path: &[u8], _node: u64) -> Result<&'static [u8], Trouble> {
+        let pieces = self.size.get().div_ceil(PIECE as u64);
+        self.pieces.set(self.pieces.get().saturating_add(pieces));
+        Ok(b"".as_slice())
+    }
+
+    // (what is left out is told when the script is written)
+    fn omits(&self, _path: &[u8]) -> Result<bool, Trouble> {
+        Ok(true)
+    }
+}
+
+// How many calls a script makes beside those that write.
+#[derive(Drop)]
+struct CallCount {
+    count: u64,
+}
+
+impl CallCount {
+    fn add(&mut self) -> Result<(), Trouble> {
+        self.count = self.count.saturating_add(1);
+        Ok(())
+    }
+}
+
+impl Target for CallCount {
+    fn start(&mut self) -> Result<(), Trouble> {
+        Ok(())
+    }
+
+    fn folder(&mut self, _path: &[u8]) -> Result<(), Trouble> {
+        self.add()
+    }
+
+    fn open(&mut self, _path: &[u8]) -> Result<(), Trouble> {
+        self.add()
+    }
+
+    fn piece(&mut self, _bytes: &[u8]) -> Result<(), Trouble> {
+        Ok(())
+    }
+
+    fn close(&mut self) -> Result<(), Trouble> {
+        self.add()
+    }
+
+    fn link(&mut self, _first: &[u8], _path: &[u8]) -> Result<(), Trouble> {
+        self.add()
+    }
+
+    fn finish(&mut self) -> Result<(), Trouble> {
+        Ok(())
+    }
+
+    fn give_up(&mut self) {}
+}

@@ -1,0 +1,89 @@
+// Runs a strict script: each line has to do what it asks for.
+ghost use Rattle.std.specs.Prelude.{IfErr, OnOk};
+ghost use Rattle.ft_script.specs.Runs.{PlaysAll, StopsStrictly};
+ghost use Rattle.ft_strict.specs.Strict.{AnswersStrictly};
+
+use crate::lines::ScriptLines;
+use crate::playing::PlayFault;
+use crate::writing::write_out;
+use ft_base::Memory;
+use ft_core::Core;
+use ft_strict::strict_reply_to;
+use std::alloc::Global;
+use std::io::{Read, Write};
+
+/// A line that did not do what it asks for.
+#[derive(Debug, PartialEq, Eq, Drop)]
+pub struct FailedLine {
+    /// Its number, from 1.
+    pub number: u64,
+    /// Its bytes, without its line feed.
+    pub line: Vec<u8>,
+    /// Its reply, with its line feed.
+    pub reply: String,
+}
+
+/// Why `play_strictly` ended early.
+#[derive(Debug, PartialEq, Eq, Drop)]
+pub enum StrictFault {
+    /// As `play` ends early. There was no memory for a request or for what a report tells of, too.
+    Play(PlayFault),
+    /// A line did not do what it asks for.
+    Line(FailedLine),
+}
+
+impl From<PlayFault> for StrictFault {
+    ghost use Rattle.std.specs.Prelude.{◌≡◌};
+    ghost use Rattle.ft_script.specs.declared.strictly.StrictFault.TheVariants.{Play};
+
+    ghost from_gives = { λ fault made. made ≡ Play fault };
+
+    fn from(fault: PlayFault) -> StrictFault {
+        StrictFault::Play(fault)
+    }
+}
+
+impl From<Memory> for StrictFault {
+    ghost use Rattle.std.specs.Prelude.{◌≡◌};
+    ghost use Rattle.ft_script.specs.declared.playing.PlayFault.TheVariants.{Memory};
+    ghost use Rattle.ft_script.specs.declared.strictly.StrictFault.TheVariants.{Play};
+
+    ghost from_gives = { λ _ made. made ≡ Play Memory };
+
+    fn from(_error: Memory) -> StrictFault {
+        StrictFault::Play(PlayFault::Memory)
+    }
+}
+
+/// Runs a strict script as `play` runs a script, but up to the first line that does not do what it
+/// asks for: its reply is written, it is the fault, and no later line is taken.
+///
+/// A line that asks for nothing that there is, a request that is refused, fails or waits, and a
+/// `tree` while a transaction is live, which is refused as `Live`, do not do what they ask for. The
+/// run goes on all the same behind a request or a report that `try ` stands before. Where there is
+/// no memory for a request, or for what a report tells of, that is the fault.
+pub fn play_strictly<R: Read, W: Write>(
+    alloc: Global,
+    reader: &mut R,
+    writer: &mut W,
+    core: &mut Core,
+) -> Result<(), StrictFault>
+    ensures ok { OnOk result (PlaysAll AnswersStrictly (R.remaining reader.old) (R.remaining reader.new)
+        (W.contents writer.old) (W.contents writer.new) core.old.state core.new.state) }
+    ensures fault { IfErr result (λ fault. StopsStrictly fault (R.remaining reader.old)
+        (R.remaining reader.new) (W.contents writer.old) (W.contents writer.new) core.old.state core.new.state) }
+{
+    let mut lines = ScriptLines::new(alloc)?;
+    while lines.advance(reader)? {
+        let reply = strict_reply_to(alloc, lines.line(), core)?;
+        write_out(writer, reply.text.as_bytes())?;
+        if !reply.goes_on {
+            return Err(StrictFault::Line(FailedLine {
+                number: lines.count(),
+                line: lines.into_line(),
+                reply: reply.text,
+            }));
+        }
+    }
+    Ok(())
+}

@@ -1,0 +1,2 @@
+pub mod Wells
+pub mod Strict

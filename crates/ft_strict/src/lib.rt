@@ -1,0 +1,9 @@
+//! One line of a strict script, which has to do what it asks for.
+#![tactic(auto)]
+
+mod line;
+mod replying;
+mod well;
+
+pub use replying::{StrictReply, strict_reply_to};
+pub use well::{is_well, try_carry_out};

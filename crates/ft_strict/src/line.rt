@@ -1,0 +1,57 @@
+// What a line of a strict script means.
+ghost use Rattle.std.specs.Prelude.{◌≡◌, IfOk, option_copied};
+ghost use Rattle.ft_strict.specs.Strict.{is_asking, may_fail, strict_meaning_of, tried};
+
+use ft_base::Memory;
+use ft_replies::{Line, meaning_of};
+use std::alloc::Global;
+
+/// A line of a strict script.
+#[derive(Debug, PartialEq, Eq, Drop)]
+pub(crate) struct StrictLine {
+    /// What it asks for.
+    pub meaning: Line,
+    /// Whether the run goes on where it does not do that.
+    pub may_fail: bool,
+}
+
+/// What a line of a strict script means. Behind `try ` a request or a report has to stand.
+///
+/// Fails only for want of memory.
+pub(crate) fn strict_line_of(alloc: Global, line: &[u8]) -> Result<StrictLine, Memory>
+    ensures meaning { IfOk result (λ strict. strict.meaning ≡ strict_meaning_of line.now) }
+    ensures may_fail { IfOk result (λ strict. strict.may_fail ≡ may_fail line.now) }
+{
+    let Some(tried) = tried(line) else {
+        let meaning = meaning_of(alloc, line)?;
+        return Ok(StrictLine {
+            meaning,
+            may_fail: false,
+        });
+    };
+    let meaning = meaning_of(alloc, tried)?;
+    if !is_asking(&meaning) {
+        return Ok(StrictLine {
+            meaning: Line::Bad,
+            may_fail: false,
+        });
+    }
+    Ok(StrictLine {
+        meaning,
+        may_fail: true,
+    })
+}
+
+// What stands behind `try `, where a line begins so.
+fn tried(line: &[u8]) -> Option<&[u8]>
+    ensures { option_copied result ≡ tried line.now }
+{
+    line.strip_prefix(b"try ".as_slice())
+}
+
+// Whether a line asks for something that there is.
+fn is_asking(line: &Line) -> bool
+    ensures { result ≡ is_asking line.now }
+{
+    matches!(line, Line::Request(_) | Line::Report(_))
+}

@@ -1,0 +1,80 @@
+// One line of a strict script, carried out.
+ghost use Rattle.std.specs.Prelude.{◌≡◌, ◌⊎◌, ℕ, Bool, List, string_bytes, IfOk, OnErr};
+ghost use Rattle.ft_strict.specs.Strict.{AnswersStrictly, Does, Tells};
+
+use crate::line::strict_line_of;
+use crate::well::{is_well, try_carry_out};
+use ft_base::Memory;
+use ft_core::{Core, Request};
+use ft_replies::{AnswerText, Line, Report, whole_report_of};
+use std::alloc::Global;
+
+/// The reply to a line of a strict script.
+#[derive(Debug, PartialEq, Eq, Drop)]
+pub struct StrictReply {
+    /// Its text, with its line feeds.
+    pub text: String,
+    /// Whether the run goes on behind it.
+    pub goes_on: bool,
+}
+
+/// Carries out one line of a strict script, without its line feed, and gives the text of its reply,
+/// as `reply_to` does; but a `tree` while a transaction is live is refused as `Live`. The run goes
+/// on where the line does what it asks for, or stands behind `try `.
+///
+/// Fails only for want of memory, also for a request or for what a report tells of: then the line
+/// was not carried out, or the memory was wanted for the text of its reply.
+pub fn strict_reply_to(alloc: Global, line: &[u8], core: &mut Core) -> Result<StrictReply, Memory>
+    ensures ok { IfOk result (λ reply. AnswersStrictly reply.goes_on core.old.state line.now (string_bytes reply.text) core.new.state) }
+    ensures err { OnErr result ((core.new.state ≡ core.old.state)
+        ⊎ ((on : Bool) × (text : List ℕ) × AnswersStrictly on core.old.state line.now text core.new.state)) }
+{
+    let line = strict_line_of(alloc, line)?;
+    let (text, well) = reply_to_meaning(alloc, line.meaning, core)?;
+    Ok(StrictReply {
+        text,
+        goes_on: well || line.may_fail,
+    })
+}
+
+// Carries out what a line asks for, and gives the text of its reply, and whether it did that.
+fn reply_to_meaning(alloc: Global, line: Line, core: &mut Core) -> Result<(String, bool), Memory>
+    ensures ok { IfOk result (λ reply. Does reply.1 core.old.state line (string_bytes reply.0) core.new.state) }
+    ensures err { OnErr result ((core.new.state ≡ core.old.state)
+        ⊎ ((well : Bool) × (text : List ℕ) × Does well core.old.state line text core.new.state)) }
+{
+    match line {
+        Line::Silent => Ok((String::new(alloc), true)),
+        Line::Bad => Ok((String::from_str(alloc, "bad line\n")?, false)),
+        Line::Report(report) => reply_to_report(alloc, report, core),
+        Line::Request(request) => reply_to_request(alloc, request, core),
+    }
+}
+
+// Carries out a request.
+fn reply_to_request(
+    alloc: Global,
+    request: Request,
+    core: &mut Core,
+) -> Result<(String, bool), Memory>
+    ensures ok { IfOk result (λ reply. Does reply.1 core.old.state (Line.Request request) (string_bytes reply.0) core.new.state) }
+    ensures err { OnErr result ((core.new.state ≡ core.old.state)
+        ⊎ ((well : Bool) × (text : List ℕ) × Does well core.old.state (Line.Request request) text core.new.state)) }
+{
+    let answer = try_carry_out(core, request)?;
+    let text = format!(in alloc; "{}\n", AnswerText(&answer))?;
+    Ok((text, is_well(&answer)))
+}
+
+// A report, and whether it is told: a tree is not while a transaction is live.
+fn reply_to_report(alloc: Global, report: Report, core: &Core) -> Result<(String, bool), Memory>
+    ensures { IfOk result (λ reply. Tells reply.1 core.now.state report (string_bytes reply.0)) }
+{
+    if report == Report::Tree && core.has_live() {
+        return Ok((String::from_str(alloc, "refused Live\n")?, false));
+    }
+    match whole_report_of(alloc, report, core)? {
+        Some(text) => Ok((text, true)),
+        None => Err(Memory),
+    }
+}

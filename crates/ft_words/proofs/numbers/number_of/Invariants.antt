@@ -1,0 +1,6 @@
+use Rattle.ft_words.proofs.Digits.{GoesOn}
+use Rattle.ft_words.proofs.numbers.number_of.Given as goal
+
+-- the digits left go on with the number so far
+abbrev pub invariant-loop-byte : goal.invariant-loop-byte
+invariant-loop-byte l = GoesOn l.fn.word l.number l.byte-index
