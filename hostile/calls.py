@@ -3,11 +3,12 @@ import collections
 
 LARGEST_OFFSET = 2**63 - 1
 MOST_BYTES = 1_048_576
+MOST_FOLLOWED = 40
 
-# What a call is made with: a path that leads, mostly, to a file (E), to a directory (G), to
-# either (P), to nothing (M), or to any of these (Q); a descriptor (F), a count (N), an offset
-# or a length (I), data (D), how a file is opened (O), and from where an offset counts (W).
-# Beside it how often the call is chosen.
+# What a call is made with: a path that leads, mostly, to a file (E), to a directory (G), to a
+# link (L), to any of the three (P), to nothing (M), or to any of these (Q); a link's target (T);
+# a descriptor (F), a count (N), an offset or a length (I), data (D), how a file is opened (O), and
+# from where an offset counts (W). Beside it how often the call is chosen.
 VERBS = {
     "mkdir": ("M", 12),
     "rmdir": ("G", 6),
@@ -22,12 +23,21 @@ VERBS = {
     "ftruncate": ("FI", 4),
     "stat": ("P", 7),
     "fstat": ("F", 5),
+    "lstat": ("P", 5),
     "link": ("EM", 8),
+    "symlink": ("TM", 16),
+    "readlink": ("L", 5),
     "unlink": ("E", 8),
     "rename": ("PQ", 16),
     "list": ("G", 4),
 }
-PATHS = "EGPMQ"
+PATHS = "EGLPMQ"
+
+# How often a circle is followed once more.
+TIMES = [0, 1, MOST_FOLLOWED - 2, MOST_FOLLOWED - 1, MOST_FOLLOWED]
+
+# What paths of a kind are known to lead to.
+KINDS = {"E": "file", "G": "dir", "L": "link"}
 
 NAMES = [b"a", b"b", b"c", b"a", b"b", b"c", b"%", b"\xc3\xa9 x"]
 
@@ -49,6 +59,27 @@ ODD_PATHS = [
     b"/a/.." * 300 + b"/b",
     b"/../a" * 40,
     b"/a/b/../../a/./b/../c",
+    b"/a" * 40,
+    b"/a" * 41,
+    b"/b" * 20 + b"/c" * 20,
+]
+
+# Targets of links that lead up, to where the link stands, to many names, or nowhere.
+ODD_TARGETS = [
+    b"",
+    b".",
+    b".",
+    b".",
+    b"..",
+    b"/",
+    b"../a",
+    b"./b/.",
+    b"a/..",
+    b"b/" * 19 + b"b",
+    b"n" * 255,
+    b"n" * 256,
+    b"/" * 4095,
+    b"/" * 4096,
 ]
 
 SMALL_OFFSETS = [0, 0, 1, 2, 3, 7, 100, 4095, 4096, 4097, -1, -2, -100]
@@ -104,14 +135,25 @@ def coded(data):
     return "".join(map(CODES.__getitem__, data))
 
 
+# What each of these calls makes; a further name is of what the first path leads to.
+MADE = {"mkdir": "dir", "open": "file", "symlink": "link", "link": None}
+
+
 class Paths:
-    """Paths without dots that were made: where each leads, as far as that is known."""
+    """Paths without dots that were made: where each leads, as far as that is known.
+
+    A circle is a link that leads to its own directory.
+    """
 
     def __init__(self):
         self.kinds = {}
+        self.made_circles = []
 
     def that_are(self, kind):
         return [path for path, known in self.kinds.items() if known == kind]
+
+    def circles(self):
+        return [path for path in self.made_circles if self.kinds.get(path) == "link"]
 
     def learn(self, call, reply):
         """Takes note of what a call has made, removed or not found."""
@@ -119,14 +161,20 @@ class Paths:
         if not paths or b"" in paths:
             return
         if not reply.startswith("ok"):
-            if reply == "ENOENT" and len(paths) == 1:
+            if reply == "ENOENT" and len(paths) == 1 and not self.may_follow(call, paths[0]):
                 self.kinds.pop(paths[0], None)
-        elif call.verb in ("mkdir", "open", "link"):
-            self.kinds[paths[-1]] = "dir" if call.verb == "mkdir" else "file"
+        elif call.verb in MADE:
+            self.kinds[paths[-1]] = MADE[call.verb] or self.kinds.get(paths[0], "file")
+            if call.arguments[0] == b".":
+                self.made_circles.append(paths[-1])
         elif call.verb in ("rmdir", "unlink"):
             self.kinds.pop(paths[0], None)
         elif call.verb == "rename":
             self.move(*paths)
+
+    def may_follow(self, call, path):
+        """Whether a call may have followed a link that is there, and leads nowhere."""
+        return self.kinds.get(path) == "link" and call.verb not in ("lstat", "readlink")
 
     def move(self, old, new):
         """What stood at or below the old path stands there below the new one."""
@@ -175,6 +223,7 @@ class Chooser:
             "D": self.data,
             "O": self.flags,
             "W": lambda: one(["set", "cur", "end"]),
+            "T": self.target,
         }
         return choices[kind]()
 
@@ -198,24 +247,43 @@ class Chooser:
         chance = self.random.random()
         if chance < 0.04:
             return self.random.choice(ODD_PATHS)
-        path = self.base(kind if chance < 0.85 else self.random.choice("EGM"))
-        for change in [self.deeper, self.dotted, self.slashed, self.relative]:
+        path = self.base(kind if chance < 0.85 else self.random.choice("EGLM"))
+        for change in [self.deeper, self.through, self.dotted, self.slashed, self.relative]:
             if self.random.random() < 0.06:
                 path = change(path)
         return path
 
+    def target(self):
+        """What a link holds: a path, or some of its last names."""
+        if self.random.random() < 0.25:
+            return self.random.choice(ODD_TARGETS)
+        path = self.base(self.random.choice("EGGLM"))
+        if self.random.random() < 0.5:
+            path = path.split(b"/", self.random.choice([1, 1, 2]))[-1]
+        return self.slashed(path) if self.random.random() < 0.1 else path
+
     def base(self, kind):
         """A path of a kind, as far as that is known."""
         if kind in "PQ":
-            kind = self.random.choice("EG" if kind == "P" else "EGM")
-        directories = self.known.that_are("dir")
+            kind = self.random.choice("EGL" if kind == "P" else "EGLM")
         if kind == "M":
-            return self.deeper(self.random.choice([b""] + directories))
-        there = self.known.that_are("file") if kind == "E" else directories
+            return self.deeper(self.random.choice([b""] + self.known.that_are("dir")))
+        there = self.known.that_are(KINDS[kind])
+        if kind != "L" and self.random.random() < 0.1:
+            there = self.known.that_are("link")
         return self.random.choice(there or [b"/a", b"/b/c"])
 
     def deeper(self, path):
         return path + b"/" + self.random.choice(NAMES)
+
+    def through(self, path):
+        """The last name of a path behind a link, or behind a circle, which is followed often."""
+        link = self.random.choice(self.known.that_are("link") or [b""])
+        circles = self.known.circles()
+        if circles and self.random.random() < 0.5:
+            circle = self.random.choice(circles)
+            link = circle + circle[circle.rfind(b"/") :] * self.random.choice(TIMES)
+        return link + path[path.rfind(b"/") :]
 
     def dotted(self, path):
         """With a name, or two, that lead back or nowhere, in the path or behind it."""

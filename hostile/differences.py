@@ -8,12 +8,15 @@ import collections
 import calls
 import system
 
+# What a walk may come to beside ENOENT and ENOTDIR: a loop of links, and a target's text.
+WALK = "ENOENT,ENOTDIR,ELOOP,ENAMETOOLONG"
+
 LONGEST_PATH = 4095
 LONGEST_NAME = 255
 
-# A call as both have answered it, without the stamp. kinds are what its paths lead to (dir,
-# file, or the name of an error), start is the offset that it counts from, and met is what the
-# system was asked otherwise.
+# A call as both have answered it, without the stamp. kinds are what its own paths lead to (dir,
+# file, which a link is too, or the name of an error), start is the offset that it counts from, and
+# met is what the system was asked otherwise.
 Step = collections.namedtuple("Step", "call stamp ours theirs kinds start met")
 
 # What the rule is of, its source, and whether a step is so.
@@ -89,7 +92,18 @@ def makes_with_slash(step):
     flags, path = step.call.arguments
     exists = "EEXIST" if "x" in flags else "EISDIR"
     wanted = exists if step.kinds == ["dir"] else step.kinds[0]
-    return "c" in flags and has_slash(path) and step.ours == wanted
+    is_slashed = has_slash(path) or step.met == system.LED_TO_SLASH
+    return "c" in flags and is_slashed and step.ours == wanted
+
+
+def was_followed(step):
+    """Whether a slash stands behind the name of a link, so that only here it is followed."""
+    return step.met == system.FOLLOWED
+
+
+def old_comes_first(step):
+    """Whether an answer is of the old path: a fault, or that a link leads to a dot or dot-dot."""
+    return step.kinds[0] == step.ours or (step.ours == "EBUSY" and was_followed(step))
 
 
 def opens_to_cut_without_writing(step):
@@ -130,17 +144,17 @@ RULES = [
     Rule(
         "rmdir of the root, of a last . or .. comes before all look-up",
         UNDEFINED_ORDER,
-        of("rmdir", "EBUSY,EINVAL,ENOTEMPTY", "ENOENT,ENOTDIR", last_names_come_first),
+        of("rmdir", "EBUSY,EINVAL,ENOTEMPTY", WALK, last_names_come_first),
     ),
     Rule(
         "rename of the root or of a last . or .. comes before all look-up",
         UNDEFINED_ORDER,
-        of("rename", "EBUSY,EINVAL", "ENOENT,ENOTDIR", last_names_come_first),
+        of("rename", "EBUSY,EINVAL", WALK, last_names_come_first),
     ),
     Rule(
         "rename looks the old path up to its end before the new one",
         UNDEFINED_ORDER,
-        of("rename", "ENOENT,ENOTDIR", "ENOENT,ENOTDIR", lambda step: step.kinds[0] == step.ours),
+        of("rename", f"EBUSY,{WALK}", f"EBUSY,{WALK}", old_comes_first),
     ),
     Rule(
         "rename of a directory to a file below it: the kinds come first",
@@ -155,12 +169,12 @@ RULES = [
     Rule(
         "link of a directory: that comes before the look-up of the new path",
         UNDEFINED_ORDER,
-        of("link", "EPERM", "EEXIST,ENOENT,ENOTDIR", lambda step: step.kinds[0] == "dir"),
+        of("link", "EPERM", f"EEXIST,{WALK}", lambda step: step.kinds[0] == "dir"),
     ),
     Rule(
         "truncate to more than a file may have comes before all look-up",
         UNDEFINED_ORDER,
-        of("truncate", "EFBIG", "ENOENT,ENOTDIR,EISDIR", is_too_long),
+        of("truncate", "EFBIG", f"EISDIR,{WALK}", is_too_long),
     ),
     Rule(
         "the descriptor comes before the offset or length",
@@ -208,14 +222,14 @@ RULES = [
         of("mkdir", "ENOTDIR", "EEXIST", lambda step: step.kinds == ["ENOTDIR"]),
     ),
     Rule(
-        "link to a file's name with a slash behind it",
-        "link(): [ENOTDIR]; 4.13 Pathname Resolution",
-        of("link", "ENOTDIR", "EEXIST", lambda step: step.kinds == ["file", "ENOTDIR"]),
+        "link and symlink to a file's name with a slash behind it",
+        "link(), symlink(): [ENOTDIR]; 4.13 Pathname Resolution",
+        of("link symlink", "ENOTDIR", "EEXIST", lambda step: step.kinds[-1] == "ENOTDIR"),
     ),
     Rule(
         "open that may make a file, of a name with a slash behind it",
         "open(): [ENOENT] or [ENOTDIR]; [EEXIST] where it has to make it",
-        of("open", "ENOENT,ENOTDIR,EEXIST", "EISDIR", makes_with_slash),
+        of("open", f"EEXIST,{WALK}", "EISDIR", makes_with_slash),
     ),
     Rule(
         "open that cuts and is not for writing (the system is asked without cutting)",
@@ -236,6 +250,16 @@ RULES = [
         "pwrite with append writes at its offset (the system is asked without append)",
         "pwrite(): writes at the offset, whether or not O_APPEND is set",
         asked_otherwise(system.PLACED_WRITE_APPENDS),
+    ),
+    Rule(
+        "rmdir of a link's name with a slash behind it that leads to a dot or dot-dot",
+        "rmdir(): [EBUSY], the directory is in use",
+        of("rmdir", "EBUSY", "EINVAL,ENOTEMPTY", was_followed),
+    ),
+    Rule(
+        "a slash behind a link's name follows it (the system is asked of what it leads to)",
+        "4.13 Pathname Resolution: a last link is not followed where no slash is behind it",
+        asked_otherwise(system.FOLLOWED),
     ),
     Rule(
         "write with append goes to the end from any offset (the system is asked from 0)",

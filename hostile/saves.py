@@ -3,7 +3,8 @@ import os
 import sys
 import tempfile
 
-# Directories in one another, an empty one, a file of two names, and one of more than one piece.
+# Directories in one another, an empty one, a file of two names, one of more than one piece, and
+# symbolic links: to a directory, of two names, and to nothing.
 ROWS = [
     b"dir 1",
     b"dir 2",
@@ -15,8 +16,13 @@ ROWS = [
     b"edge 2 b 3",
     b"edge 2 large 6",
     b"edge 3 again 5",
+    b"edge 1 0 7",
+    b"edge 3 up 7",
+    b"edge 2 none 8",
     b"file 5 7 a%20name",
     b"file 6 100000 " + b"x" * 100_000,
+    b"link 7 a",
+    b"link 8 /no%20where",
 ]
 REPORT = b"tree %d\n" % len(ROWS) + b"".join(row + b"\n" for row in ROWS)
 

@@ -10,7 +10,7 @@ REPORTS = [b"tree", b"locks", b"waits"]
 # The first line of each reply that there is: docs/SCRIPT.md, "Requests" and "Replies".
 REPLY = re.compile(
     rb"(txn \d+|ok|undone \d+|waits( \d+)+|bad line|refused [A-Za-z]+|(tree|locks|edges) \d+"
-    rb"|\d+ ok( (\d+( \S+)*|(file|dir) \d+ \d+ \d+))?|\d+ E[A-Z]+)\n"
+    rb"|\d+ ok( (\d+( \S+)*|(file|dir|link) \d+ \d+ \d+))?|\d+ E[A-Z]+)\n"
 )
 
 # How many lines a reply has behind its first one, which tells N of them.

@@ -6,6 +6,7 @@ import resource
 import stat
 
 import calls
+import links
 
 # The root's number, and the numbers of the flags that open takes.
 ROOT = 1
@@ -19,6 +20,13 @@ OPENED_DIRECTORY = "directory is opened for reading"
 PLACED_WRITE_APPENDS = "pwrite with append"
 APPEND_PAST_LARGEST = "append from past the largest offset"
 DIRECTORY_INFO = "links and size of a directory"
+FOLLOWED = "a slash behind a link"
+
+# What it was not asked otherwise, but that has come of a link.
+LED_TO_SLASH = "a slash behind a target"
+
+# The calls that follow a last link.
+FOLLOWING = ["open", "truncate", "stat", "list"]
 
 
 def enter(folder):
@@ -48,19 +56,18 @@ class System:
     def ask(self, call, stamp):
         """Makes a call: the reply without its stamp, and what was asked otherwise."""
         self.stamp = stamp
-        self.met = None
+        asked = links.asked_of(call)
+        self.met = None if asked == call else FOLLOWED
         try:
-            reply = getattr(self, call.verb)(*call.arguments)
+            reply = getattr(self, asked.verb)(*asked.arguments)
         except OSError as error:
             reply = errno.errorcode[error.errno]
         return reply, self.met
 
-    def kind_at(self, path):
-        """What a path leads to: dir, file, or the name of the error."""
-        try:
-            return kind_of(os.stat(path))
-        except OSError as error:
-            return errno.errorcode[error.errno]
+    def kinds_of(self, call):
+        """What the call's own paths lead to: dir, file (a link too), or the name of the error."""
+        look = os.stat if call.verb in FOLLOWING else os.lstat
+        return [kind_by(look, path) for path in call.paths()]
 
     def start_of(self, call):
         """The offset that a call counts from: its own, its descriptor's, or the file's end."""
@@ -91,9 +98,9 @@ class System:
         if "t" in flags and access == "r":
             self.met = CUT_WITHOUT_WRITING
             flags = "r"
-        is_new = self.kind_at(path) == "ENOENT"
+        is_new = kind_by(os.stat, path) == "ENOENT"
         asked = ACCESS[access] | sum(FLAGS[flag] for flag in flags[len(access) :])
-        number = os.open(path, asked, 0o666)
+        number = self.opened(path, asked)
         info = os.fstat(number)
         if self.met or stat.S_ISDIR(info.st_mode):
             self.met = self.met or OPENED_DIRECTORY
@@ -103,6 +110,13 @@ class System:
             self.numbers[info.st_ino] = self.stamp
         self.files[self.stamp] = OpenFile(number, os.open(path, os.O_RDONLY), access, flags)
         return f"ok {self.stamp}"
+
+    def opened(self, path, asked):
+        try:
+            return os.open(path, asked, 0o666)
+        except OSError:
+            self.met = self.met or (LED_TO_SLASH if links.lead_to_slash(path) else None)
+            raise
 
     def close(self, descriptor):
         os.close(self.system_descriptor(descriptor))
@@ -162,6 +176,9 @@ class System:
     def stat(self, path):
         return self.info(os.stat(path))
 
+    def lstat(self, path):
+        return self.info(os.lstat(path))
+
     def fstat(self, descriptor):
         return self.info(os.fstat(self.system_descriptor(descriptor)))
 
@@ -170,11 +187,20 @@ class System:
         if stat.S_ISDIR(info.st_mode):
             self.met = DIRECTORY_INFO
             return f"ok dir {number} 1 0"
-        return f"ok file {number} {info.st_nlink} {info.st_size}"
+        kind = "link" if stat.S_ISLNK(info.st_mode) else "file"
+        return f"ok {kind} {number} {info.st_nlink} {info.st_size}"
 
     def link(self, old, new):
         os.link(old, new)
         return "ok"
+
+    def symlink(self, target, path):
+        os.symlink(target, path)
+        self.numbers[os.lstat(path).st_ino] = self.stamp
+        return "ok"
+
+    def readlink(self, path):
+        return bytes_reply(os.readlink(path))
 
     def unlink(self, path):
         os.unlink(path)
@@ -193,12 +219,12 @@ class System:
         directories, edges, files = self.everything()
         rows = [f"dir {number}" for number in sorted(directories)]
         rows += [f"edge {above} {calls.coded(name)} {own}" for above, name, own in sorted(edges)]
-        rows += [file_row(number, files[number]) for number in sorted(files)]
+        rows += [files[number] for number in sorted(files)]
         rows += [self.descriptor_row(descriptor) for descriptor in sorted(self.files)]
         return [f"tree {len(rows)}"] + rows
 
     def everything(self):
-        """The directories, the entries, and the files with their bytes, each by number."""
+        """The directories, the entries, and the rows of files and links by number."""
         directories, edges, files = [], [], {}
         left = [b"/"]
         while left:
@@ -206,14 +232,15 @@ class System:
             directory = self.numbers[os.stat(path).st_ino]
             directories.append(directory)
             for entry in entries_of(path):
-                number = self.numbers[entry.stat().st_ino]
+                number = self.numbers[entry.stat(follow_symlinks=False).st_ino]
                 edges.append((directory, entry.name, number))
-                if entry.is_dir():
+                if entry.is_dir(follow_symlinks=False):
                     left.append(entry.path)
                 else:
-                    files[number] = contents_of(os.open(entry.path, os.O_RDONLY))
+                    files[number] = row_of(number, entry)
         for file in self.files.values():
-            files[self.number_of(file)] = contents_of(os.dup(file.witness))
+            number = self.number_of(file)
+            files[number] = file_row(number, contents_of(os.dup(file.witness)))
         return directories, edges, files
 
     def number_of(self, file):
@@ -239,13 +266,26 @@ def kind_of(info):
     return "dir" if stat.S_ISDIR(info.st_mode) else "file"
 
 
+def kind_by(look, path):
+    try:
+        return kind_of(look(path))
+    except OSError as error:
+        return errno.errorcode[error.errno]
+
+
 def entries_of(path):
     with os.scandir(path) as entries:
         return sorted(entries, key=lambda entry: entry.name)
 
 
 def coded_name(entry):
-    return calls.coded(entry.name) + ("/" if entry.is_dir() else "")
+    return calls.coded(entry.name) + ("@" if entry.is_symlink() else "/" * entry.is_dir())
+
+
+def row_of(number, entry):
+    if entry.is_symlink():
+        return f"link {number} {calls.coded(os.readlink(entry.path))}"
+    return file_row(number, contents_of(os.open(entry.path, os.O_RDONLY)))
 
 
 def contents_of(number):

@@ -14,7 +14,7 @@ use ft_base::Memory;
 use ft_looks::Look;
 use ft_path::Errno;
 use ft_posix::{Edit, Edits, Stop, Told, Whence};
-use ft_tree::{OpenFile, TreeLimits};
+use ft_tree::{Form, OpenFile, TreeLimits};
 
 /// Writes at the offset, which becomes the end of what was written.
 pub(crate) fn write<'c>(
@@ -393,7 +393,7 @@ pub(crate) fn fstat(look: &mut Look<'_>, fd: u64) -> Result<Told, Stop>
     ensures { Comes look.old (with_open fd any_open fstat_open) look.new (intended [] result) }
 {
     match look.open_file(fd)? {
-        Some(description) => file_info(look, description.file),
+        Some(description) => file_info(look, Form::Regular, description.file),
         None => Err(Stop::Errno(Errno::EBADF)),
     }
 }

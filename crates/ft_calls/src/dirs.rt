@@ -1,9 +1,8 @@
 // What the calls on directories come to.
-ghost use Rattle.std.specs.Prelude.{◌≡◌, [], Ok, Some};
+ghost use Rattle.std.specs.Prelude.{true, false, ◌≡◌, [], Ok, Some};
 ghost use Rattle.ft_path.specs.FilePath.{parts_of};
-ghost use Rattle.ft_cells.specs.Entries.{entry_in};
 ghost use Rattle.ft_cells.specs.declared.node.Node.TheVariants.{Dir as DirNode};
-ghost use Rattle.ft_tree.specs.Walk.{Named, seen_at};
+ghost use Rattle.ft_cells.specs.declared.node.Spot.TheVariants.{Named};
 ghost use Rattle.ft_posix.specs.Outcomes.{from_parts};
 ghost use Rattle.ft_posix.specs.Dirs.{make_dir, remove_parts, remove_dir, last_fault, list_dir};
 ghost use Rattle.ft_posix.specs.Comes.{Comes};
@@ -12,7 +11,7 @@ ghost use Rattle.ft_posix.specs.Intended.{intended};
 use ft_looks::{Look, text_parts};
 use ft_path::{Errno, FilePath, LastName, Parts};
 use ft_posix::{Edit, Edits, Stop, Told};
-use ft_tree::{EntryRef, Node, Spot};
+use ft_tree::{Entry, Node, Spot};
 use std::alloc::Global;
 
 /// Makes a directory, which gets the stamp as its number.
@@ -24,10 +23,10 @@ pub(crate) fn mkdir(
     path: &FilePath,
 ) -> Result<Told, Stop>
     requires { edits.old ≡ [] }
-    ensures { Comes look.old (from_parts (parts_of path.now) (make_dir stamp)) look.new (intended edits.new result) }
+    ensures { Comes look.old (from_parts false (parts_of path.now) (make_dir stamp)) look.new (intended edits.new result) }
 {
     let parts = text_parts(alloc, path)?;
-    let spot = look.walk(&parts)?;
+    let spot = look.walk(alloc, false, &parts)?;
     make_dir(look, edits, stamp, spot)
 }
 
@@ -36,19 +35,27 @@ fn make_dir(
     look: &mut Look<'_>,
     edits: &mut Edits<'_>,
     stamp: u64,
-    spot: Spot<'_>,
+    spot: Spot,
 ) -> Result<Told, Stop>
     requires { edits.old ≡ [] }
-    ensures { Comes look.old (make_dir stamp (seen_at spot.entry)) look.new (intended edits.new result) }
+    ensures { Comes look.old (make_dir stamp spot) look.new (intended edits.new result) }
 {
-    let Spot::Named { entry, node: None } = spot else {
+    let Spot::Named {
+        entry,
+        node: None,
+        ..
+    } = spot
+    else {
         return Err(Stop::Errno(Errno::EEXIST));
     };
     edits.push(Edit::Parent {
         dir: stamp,
         to: Some(entry.dir),
     })?;
-    edits.push_entry(entry, Some(Node::Dir(stamp)))?;
+    edits.push(Edit::Entry {
+        entry,
+        to: Some(Node::Dir(stamp)),
+    })?;
     Ok(Told::Done)
 }
 
@@ -63,18 +70,23 @@ pub(crate) fn rmdir(
     ensures { Comes look.old (remove_parts (parts_of path.now)) look.new (intended edits.new result) }
 {
     let parts = text_parts(alloc, path)?;
-    remove_parts(look, edits, &parts)
+    remove_parts(alloc, look, edits, &parts)
 }
 
 /// Removes the directory that a path's components lead to.
-fn remove_parts(look: &mut Look<'_>, edits: &mut Edits<'_>, parts: &Parts) -> Result<Told, Stop>
+fn remove_parts(
+    alloc: Global,
+    look: &mut Look<'_>,
+    edits: &mut Edits<'_>,
+    parts: &Parts,
+) -> Result<Told, Stop>
     requires { edits.old ≡ [] }
     ensures { Comes look.old (remove_parts (Ok parts.now)) look.new (intended edits.new result) }
 {
     if let Some(errno) = last_fault(parts.last()) {
         return Err(Stop::Errno(errno));
     }
-    let spot = look.walk(parts)?;
+    let spot = look.walk(alloc, false, parts)?;
     remove_dir(look, edits, spot)
 }
 
@@ -91,21 +103,17 @@ fn last_fault(last: LastName) -> Option<Errno>
 }
 
 /// Removes the directory at which a walk ended.
-fn remove_dir(look: &mut Look<'_>, edits: &mut Edits<'_>, spot: Spot<'_>) -> Result<Told, Stop>
+fn remove_dir(look: &mut Look<'_>, edits: &mut Edits<'_>, spot: Spot) -> Result<Told, Stop>
     requires { edits.old ≡ [] }
-    ensures { Comes look.old (remove_dir (seen_at spot.entry)) look.new (intended edits.new result) }
+    ensures { Comes look.old (remove_dir spot) look.new (intended edits.new result) }
 {
-    match spot {
-        Spot::Itself(_) => Err(Stop::Errno(Errno::EBUSY)),
-        Spot::Named { node: None, .. } => Err(Stop::Errno(Errno::ENOENT)),
-        Spot::Named {
-            node: Some(Node::File(_)),
-            ..
-        } => Err(Stop::Errno(Errno::ENOTDIR)),
-        Spot::Named {
-            entry,
-            node: Some(Node::Dir(number)),
-        } => remove_bare(look, edits, entry, number),
+    let Spot::Named { entry, node, .. } = spot else {
+        return Err(Stop::Errno(Errno::EBUSY));
+    };
+    match node {
+        None => Err(Stop::Errno(Errno::ENOENT)),
+        Some(Node::File(..)) => Err(Stop::Errno(Errno::ENOTDIR)),
+        Some(Node::Dir(number)) => remove_bare(look, edits, entry, number),
     }
 }
 
@@ -113,11 +121,11 @@ fn remove_dir(look: &mut Look<'_>, edits: &mut Edits<'_>, spot: Spot<'_>) -> Res
 fn remove_bare(
     look: &mut Look<'_>,
     edits: &mut Edits<'_>,
-    entry: EntryRef<'_>,
+    entry: Entry,
     number: u64,
 ) -> Result<Told, Stop>
     requires { edits.old ≡ [] }
-    ensures { Comes look.old (remove_dir (Named (entry_in entry.entry) (Some (DirNode number)))) look.new (intended edits.new result) }
+    ensures { Comes look.old (remove_dir (Named entry (Some (DirNode number)) false)) look.new (intended edits.new result) }
 {
     if !look.is_empty_dir(number)? {
         return Err(Stop::Errno(Errno::ENOTEMPTY));
@@ -126,27 +134,27 @@ fn remove_bare(
         dir: number,
         to: None,
     })?;
-    edits.push_entry(entry, None)?;
+    edits.push(Edit::Entry { entry, to: None })?;
     Ok(Told::Done)
 }
 
 /// Lists the names of a directory.
 pub(crate) fn list(alloc: Global, look: &mut Look<'_>, path: &FilePath) -> Result<Told, Stop>
-    ensures { Comes look.old (from_parts (parts_of path.now) list_dir) look.new (intended [] result) }
+    ensures { Comes look.old (from_parts true (parts_of path.now) list_dir) look.new (intended [] result) }
 {
     let parts = text_parts(alloc, path)?;
-    let spot = look.walk(&parts)?;
+    let spot = look.walk(alloc, true, &parts)?;
     list_dir(look, spot)
 }
 
 /// Lists the directory at which a walk ended.
-fn list_dir(look: &mut Look<'_>, spot: Spot<'_>) -> Result<Told, Stop>
-    ensures { Comes look.old (list_dir (seen_at spot.entry)) look.new (intended [] result) }
+fn list_dir(look: &mut Look<'_>, spot: Spot) -> Result<Told, Stop>
+    ensures { Comes look.old (list_dir spot) look.new (intended [] result) }
 {
     match spot {
         Spot::Named { node: None, .. } => Err(Stop::Errno(Errno::ENOENT)),
         Spot::Named {
-            node: Some(Node::File(_)),
+            node: Some(Node::File(..)),
             ..
         } => Err(Stop::Errno(Errno::ENOTDIR)),
         Spot::Named {

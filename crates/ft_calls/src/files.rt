@@ -1,10 +1,9 @@
 // What open, truncate and stat come to.
-ghost use Rattle.std.specs.Prelude.{◌≡◌, ◌≤◌, [], Ok, None};
+ghost use Rattle.std.specs.Prelude.{true, ◌≡◌, ◌≤◌, [], Ok, None};
 ghost use Rattle.ft_body.specs.declared.TheConstants.{LARGEST_SIZE};
 ghost use Rattle.ft_path.specs.FilePath.{parts_of};
-ghost use Rattle.ft_cells.specs.Entries.{entry_in};
 ghost use Rattle.ft_cells.specs.Looks.{Answer};
-ghost use Rattle.ft_tree.specs.Walk.{Named, seen_at};
+ghost use Rattle.ft_cells.specs.declared.node.Spot.TheVariants.{Named};
 ghost use Rattle.ft_posix.specs.Outcomes.{from_parts};
 ghost use Rattle.ft_posix.specs.Files.{open_node, open_spot, open_parts, cut_file, truncate_spot, truncate_parts, file_info, stat_spot};
 ghost use Rattle.ft_posix.specs.Comes.{Comes};
@@ -14,7 +13,7 @@ use crate::offsets::to_size;
 use ft_looks::{Look, text_parts};
 use ft_path::{Errno, FilePath, Parts};
 use ft_posix::{Edit, Edits, OpenFlags, Stop, Told};
-use ft_tree::{EntryRef, HintedFile, Kind, Node, Spot};
+use ft_tree::{Entry, Form, HintedFile, Kind, Node, Spot};
 use std::alloc::Global;
 
 /// Opens a file, and makes it where that is asked. What is new gets the stamp as its number.
@@ -30,11 +29,12 @@ pub(crate) fn open(
     ensures { Comes look.old (open_parts stamp flags (parts_of path.now)) look.new (intended edits.new result) }
 {
     let parts = text_parts(alloc, path)?;
-    open_parts(look, edits, stamp, flags, &parts)
+    open_parts(alloc, look, edits, stamp, flags, &parts)
 }
 
 /// Opens the file that a path's components lead to.
 fn open_parts(
+    alloc: Global,
     look: &mut Look<'_>,
     edits: &mut Edits<'_>,
     stamp: u64,
@@ -47,8 +47,8 @@ fn open_parts(
     if flags.trunc && !flags.access.can_write() {
         return Err(Stop::Errno(Errno::EINVAL));
     }
-    let spot = look.walk(parts)?;
-    open_spot(look, edits, stamp, flags, parts.trailing, spot)
+    let spot = look.walk(alloc, !flags.is_exclusive(), parts)?;
+    open_spot(look, edits, stamp, flags, spot)
 }
 
 /// Opens the file at which a walk ended.
@@ -57,22 +57,21 @@ fn open_spot(
     edits: &mut Edits<'_>,
     stamp: u64,
     flags: OpenFlags,
-    trailing: bool,
-    spot: Spot<'_>,
+    spot: Spot,
 ) -> Result<Told, Stop>
     requires { edits.old ≡ [] }
-    ensures { Comes look.old (Answer (open_spot stamp flags trailing (seen_at spot.entry))) look.new (intended edits.new result) }
+    ensures { Comes look.old (Answer (open_spot stamp flags spot)) look.new (intended edits.new result) }
 {
-    match spot {
-        Spot::Named { entry, node: None } => open_missing(
-            look, edits, stamp, flags, trailing, entry,
-        ),
-        Spot::Named {
-            node: Some(node),
-            ..
-        } if !flags.is_exclusive() => open_node(look, edits, stamp, flags, node),
-        Spot::Itself(_) if !flags.is_exclusive() => Err(Stop::Errno(Errno::EISDIR)),
-        Spot::Named { node: Some(_), .. } | Spot::Itself(_) => Err(Stop::Errno(Errno::EEXIST)),
+    let Spot::Named { entry, node, slash } = spot else {
+        if flags.is_exclusive() {
+            return Err(Stop::Errno(Errno::EEXIST));
+        }
+        return Err(Stop::Errno(Errno::EISDIR));
+    };
+    match node {
+        None => open_missing(look, edits, stamp, flags, slash, entry),
+        Some(_) if flags.is_exclusive() => Err(Stop::Errno(Errno::EEXIST)),
+        Some(node) => open_node(look, edits, stamp, flags, node),
     }
 }
 
@@ -82,13 +81,13 @@ fn open_missing(
     edits: &mut Edits<'_>,
     stamp: u64,
     flags: OpenFlags,
-    trailing: bool,
-    entry: EntryRef<'_>,
+    slash: bool,
+    entry: Entry,
 ) -> Result<Told, Stop>
     requires { edits.old ≡ [] }
-    ensures { Comes look.old (Answer (open_spot stamp flags trailing (Named (entry_in entry.entry) None))) look.new (intended edits.new result) }
+    ensures { Comes look.old (Answer (open_spot stamp flags (Named entry None slash))) look.new (intended edits.new result) }
 {
-    if !flags.create || trailing {
+    if !flags.create || slash {
         return Err(Stop::Errno(Errno::ENOENT));
     }
     edits.push(Edit::Links { file: stamp, to: 1 })?;
@@ -100,7 +99,10 @@ fn open_missing(
         fd: stamp,
         to: Some(flags.description(stamp)),
     })?;
-    edits.push_entry(entry, Some(Node::File(stamp)))?;
+    edits.push(Edit::Entry {
+        entry,
+        to: Some(Node::File(Form::Regular, stamp)),
+    })?;
     Ok(Told::Number(stamp))
 }
 
@@ -115,8 +117,10 @@ fn open_node(
     requires { edits.old ≡ [] }
     ensures { Comes look.old (Answer (open_node stamp flags node)) look.new (intended edits.new result) }
 {
-    let Node::File(file) = node else {
-        return Err(Stop::Errno(Errno::EISDIR));
+    let file = match node {
+        Node::File(Form::Regular, file) => file,
+        Node::File(Form::Link, _) => return Err(Stop::Errno(Errno::ELOOP)),
+        Node::Dir(_) => return Err(Stop::Errno(Errno::EISDIR)),
     };
     edits.push(Edit::Open {
         fd: stamp,
@@ -145,11 +149,12 @@ pub(crate) fn truncate(
 {
     let parts = text_parts(alloc, path)?;
     let size = to_size(look.limits(), length)?;
-    truncate_to(look, edits, size, &parts)
+    truncate_to(alloc, look, edits, size, &parts)
 }
 
 /// Cuts the file that a path's components lead to.
 fn truncate_to(
+    alloc: Global,
     look: &mut Look<'_>,
     edits: &mut Edits<'_>,
     size: u64,
@@ -157,9 +162,9 @@ fn truncate_to(
 ) -> Result<Told, Stop>
     requires size { size ≤ LARGEST_SIZE }
     requires none { edits.old ≡ [] }
-    ensures { Comes look.old (from_parts (Ok parts.now) (truncate_spot size)) look.new (intended edits.new result) }
+    ensures { Comes look.old (from_parts true (Ok parts.now) (truncate_spot size)) look.new (intended edits.new result) }
 {
-    let spot = look.walk(parts)?;
+    let spot = look.walk(alloc, true, parts)?;
     truncate_spot(look, edits, size, spot)
 }
 
@@ -168,18 +173,22 @@ fn truncate_spot(
     look: &mut Look<'_>,
     edits: &mut Edits<'_>,
     size: u64,
-    spot: Spot<'_>,
+    spot: Spot,
 ) -> Result<Told, Stop>
     requires size { size ≤ LARGEST_SIZE }
     requires none { edits.old ≡ [] }
-    ensures { Comes look.old (truncate_spot size (seen_at spot.entry)) look.new (intended edits.new result) }
+    ensures { Comes look.old (truncate_spot size spot) look.new (intended edits.new result) }
 {
     match spot {
         Spot::Named { node: None, .. } => Err(Stop::Errno(Errno::ENOENT)),
         Spot::Named {
-            node: Some(Node::File(file)),
+            node: Some(Node::File(Form::Regular, file)),
             ..
         } => cut_file(look, edits, file, size),
+        Spot::Named {
+            node: Some(Node::File(Form::Link, _)),
+            ..
+        } => Err(Stop::Errno(Errno::ELOOP)),
         _ => Err(Stop::Errno(Errno::EISDIR)),
     }
 }
@@ -203,25 +212,30 @@ pub(crate) fn cut_file(
     Ok(Told::Done)
 }
 
-/// Tells what a path leads to.
-pub(crate) fn stat(alloc: Global, look: &mut Look<'_>, path: &FilePath) -> Result<Told, Stop>
-    ensures { Comes look.old (from_parts (parts_of path.now) stat_spot) look.new (intended [] result) }
+/// Tells what a path leads to, through a last symbolic link where that is to be followed.
+pub(crate) fn stat(
+    alloc: Global,
+    look: &mut Look<'_>,
+    follow: bool,
+    path: &FilePath,
+) -> Result<Told, Stop>
+    ensures { Comes look.old (from_parts follow (parts_of path.now) stat_spot) look.new (intended [] result) }
 {
     let parts = text_parts(alloc, path)?;
-    let spot = look.walk(&parts)?;
+    let spot = look.walk(alloc, follow, &parts)?;
     stat_spot(look, spot)
 }
 
 /// Tells at what a walk ended.
-fn stat_spot(look: &mut Look<'_>, spot: Spot<'_>) -> Result<Told, Stop>
-    ensures { Comes look.old (stat_spot (seen_at spot.entry)) look.new (intended [] result) }
+fn stat_spot(look: &mut Look<'_>, spot: Spot) -> Result<Told, Stop>
+    ensures { Comes look.old (stat_spot spot) look.new (intended [] result) }
 {
     match spot {
         Spot::Named { node: None, .. } => Err(Stop::Errno(Errno::ENOENT)),
         Spot::Named {
-            node: Some(Node::File(file)),
+            node: Some(Node::File(form, file)),
             ..
-        } => file_info(look, file),
+        } => file_info(look, form, file),
         Spot::Named {
             node: Some(Node::Dir(number)),
             ..
@@ -235,14 +249,14 @@ fn stat_spot(look: &mut Look<'_>, spot: Spot<'_>) -> Result<Told, Stop>
     }
 }
 
-/// Tells what a file is.
-pub(crate) fn file_info(look: &mut Look<'_>, file: u64) -> Result<Told, Stop>
-    ensures { Comes look.old (file_info file) look.new (intended [] result) }
+/// Tells what a file or a symbolic link is.
+pub(crate) fn file_info(look: &mut Look<'_>, form: Form, file: u64) -> Result<Told, Stop>
+    ensures { Comes look.old (file_info form file) look.new (intended [] result) }
 {
     let links = look.links(file)?;
     let size = look.size(file)?;
     Ok(Told::Info {
-        kind: Kind::File,
+        kind: Node::File(form, file).kind(),
         number: file,
         links,
         size,

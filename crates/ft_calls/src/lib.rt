@@ -1,4 +1,4 @@
-//! The seventeen calls, carried out as far as a look at the tree: what a call accesses, what it is
+//! The twenty calls, carried out as far as a look at the tree: what a call accesses, what it is
 //! to set, and what it answers, found out before anything is changed.
 //!
 //! What each call does is said by `ft_posix`.
@@ -10,6 +10,7 @@ mod files;
 mod links;
 mod offsets;
 mod preparing;
+mod symlinks;
 
 pub use ft_posix::{
     Access, Call, Edit, Edits, Intent, LAST_OFFSET, Mode, OpenFlags, Reply, StampedCall, Told,

@@ -1,11 +1,9 @@
 // What link, unlink and rename come to.
-ghost use Rattle.std.specs.Prelude.{◌≡◌, [], ◌++◌, Ok, OnOk};
+ghost use Rattle.std.specs.Prelude.{false, ◌≡◌, [], ◌++◌, Ok, OnOk};
 ghost use Rattle.ft_path.specs.FilePath.{parts_of};
-ghost use Rattle.ft_cells.specs.Entries.{entry_in};
 ghost use Rattle.ft_cells.specs.declared.node.Node.TheVariants.{Dir as DirNode};
 ghost use Rattle.ft_cells.specs.Cells.{Cells, stored_dirs};
 ghost use Rattle.ft_cells.specs.Looks.{Answer};
-ghost use Rattle.ft_tree.specs.Walk.{seen_at};
 ghost use Rattle.ft_posix.specs.Outcomes.{from_parts};
 ghost use Rattle.ft_posix.specs.Links.{link_new, link_old, link_parts, unlink_spot, rename_fault, renamed, with_parent, unless_below, replace_file, replace_dir, rename_file, rename_dir, rename_old, rename_parts};
 ghost use Rattle.ft_posix.specs.declared.intent.Told.TheVariants.{Done};
@@ -16,7 +14,7 @@ use ft_base::Memory;
 use ft_looks::{Look, text_parts};
 use ft_path::{Errno, FilePath, LastName, Parts};
 use ft_posix::{Edit, Edits, Stop, Told};
-use ft_tree::{EntryRef, Node, Spot, TreeLimits};
+use ft_tree::{Entry, Form, Node, Spot, TreeLimits};
 use std::alloc::Global;
 
 /// Removes an entry of a file.
@@ -27,33 +25,33 @@ pub(crate) fn unlink(
     path: &FilePath,
 ) -> Result<Told, Stop>
     requires { edits.old ≡ [] }
-    ensures { Comes look.old (from_parts (parts_of path.now) unlink_spot) look.new (intended edits.new result) }
+    ensures { Comes look.old (from_parts false (parts_of path.now) unlink_spot) look.new (intended edits.new result) }
 {
     let parts = text_parts(alloc, path)?;
-    let spot = look.walk(&parts)?;
+    let spot = look.walk(alloc, false, &parts)?;
     unlink_spot(look, edits, spot)
 }
 
 /// Removes the entry of a file at which a walk ended.
-fn unlink_spot(look: &mut Look<'_>, edits: &mut Edits<'_>, spot: Spot<'_>) -> Result<Told, Stop>
+fn unlink_spot(look: &mut Look<'_>, edits: &mut Edits<'_>, spot: Spot) -> Result<Told, Stop>
     requires { edits.old ≡ [] }
-    ensures { Comes look.old (unlink_spot (seen_at spot.entry)) look.new (intended edits.new result) }
+    ensures { Comes look.old (unlink_spot spot) look.new (intended edits.new result) }
 {
-    match spot {
-        Spot::Named { node: None, .. } => Err(Stop::Errno(Errno::ENOENT)),
-        Spot::Named {
-            entry,
-            node: Some(Node::File(file)),
-        } => {
+    let Spot::Named { entry, node, .. } = spot else {
+        return Err(Stop::Errno(Errno::EPERM));
+    };
+    match node {
+        None => Err(Stop::Errno(Errno::ENOENT)),
+        Some(Node::Dir(_)) => Err(Stop::Errno(Errno::EPERM)),
+        Some(Node::File(_, file)) => {
             let links = look.links(file)?;
             edits.push(Edit::Links {
                 file,
                 to: links.saturating_sub(1),
             })?;
-            edits.push_entry(entry, None)?;
+            edits.push(Edit::Entry { entry, to: None })?;
             Ok(Told::Done)
         }
-        _ => Err(Stop::Errno(Errno::EPERM)),
     }
 }
 
@@ -71,11 +69,12 @@ pub(crate) fn link(
     let from = text_parts(alloc, old)?;
     let to = text_parts(alloc, new)?;
     let limits = look.limits();
-    link_parts(look, edits, limits, &from, &to)
+    link_parts(alloc, look, edits, limits, &from, &to)
 }
 
 /// Links the file that a path's components lead to, where those of another lead.
 fn link_parts(
+    alloc: Global,
     look: &mut Look<'_>,
     edits: &mut Edits<'_>,
     limits: TreeLimits,
@@ -85,44 +84,47 @@ fn link_parts(
     requires { edits.old ≡ [] }
     ensures { Comes look.old (link_parts limits (Ok old.now) (Ok new.now)) look.new (intended edits.new result) }
 {
-    let spot = look.walk(old)?;
-    link_old(look, edits, limits, new, spot)
+    let spot = look.walk(alloc, false, old)?;
+    link_old(alloc, look, edits, limits, new, spot)
 }
 
 /// Links the file at which a walk ended.
 fn link_old(
+    alloc: Global,
     look: &mut Look<'_>,
     edits: &mut Edits<'_>,
     limits: TreeLimits,
     new: &Parts,
-    spot: Spot<'_>,
+    spot: Spot,
 ) -> Result<Told, Stop>
     requires { edits.old ≡ [] }
-    ensures { Comes look.old (link_old limits new.now (seen_at spot.entry)) look.new (intended edits.new result) }
+    ensures { Comes look.old (link_old limits new.now spot) look.new (intended edits.new result) }
 {
     match spot {
         Spot::Named { node: None, .. } => Err(Stop::Errno(Errno::ENOENT)),
         Spot::Named {
-            node: Some(Node::File(file)),
+            node: Some(Node::File(form, file)),
             ..
-        } => link_file(look, edits, limits, file, new),
+        } => link_file(alloc, look, edits, limits, form, file, new),
         _ => Err(Stop::Errno(Errno::EPERM)),
     }
 }
 
 /// Links a file where a path's components lead.
 fn link_file(
+    alloc: Global,
     look: &mut Look<'_>,
     edits: &mut Edits<'_>,
     limits: TreeLimits,
+    form: Form,
     file: u64,
     new: &Parts,
 ) -> Result<Told, Stop>
     requires { edits.old ≡ [] }
-    ensures { Comes look.old (from_parts (Ok new.now) (link_new limits file new.now.trailing)) look.new (intended edits.new result) }
+    ensures { Comes look.old (from_parts false (Ok new.now) (link_new limits form file)) look.new (intended edits.new result) }
 {
-    let spot = look.walk(new)?;
-    link_new(look, edits, limits, file, new.trailing, spot)
+    let spot = look.walk(alloc, false, new)?;
+    link_new(look, edits, limits, form, file, spot)
 }
 
 /// Links a file where a walk ended, unless it has as many links as the tree allows.
@@ -130,24 +132,32 @@ fn link_new(
     look: &mut Look<'_>,
     edits: &mut Edits<'_>,
     limits: TreeLimits,
+    form: Form,
     file: u64,
-    trailing: bool,
-    spot: Spot<'_>,
+    spot: Spot,
 ) -> Result<Told, Stop>
     requires { edits.old ≡ [] }
-    ensures { Comes look.old (link_new limits file trailing (seen_at spot.entry)) look.new (intended edits.new result) }
+    ensures { Comes look.old (link_new limits form file spot) look.new (intended edits.new result) }
 {
-    let Spot::Named { entry, node: None } = spot else {
+    let Spot::Named {
+        entry,
+        node: None,
+        slash,
+    } = spot
+    else {
         return Err(Stop::Errno(Errno::EEXIST));
     };
-    if trailing {
+    if slash {
         return Err(Stop::Errno(Errno::ENOENT));
     }
     let links = look.links(file)?;
     if links >= limits.links {
         return Err(Stop::Errno(Errno::EMLINK));
     }
-    edits.push_entry(entry, Some(Node::File(file)))?;
+    edits.push(Edit::Entry {
+        entry,
+        to: Some(Node::File(form, file)),
+    })?;
     edits.push(Edit::Links {
         file,
         to: links + 1,
@@ -168,11 +178,12 @@ pub(crate) fn rename(
 {
     let from = text_parts(alloc, old)?;
     let to = text_parts(alloc, new)?;
-    rename_parts(look, edits, &from, &to)
+    rename_parts(alloc, look, edits, &from, &to)
 }
 
 /// Moves what a path's components lead to, to where those of another lead.
 fn rename_parts(
+    alloc: Global,
     look: &mut Look<'_>,
     edits: &mut Edits<'_>,
     old: &Parts,
@@ -184,8 +195,8 @@ fn rename_parts(
     if let Some(errno) = rename_fault(old.last(), new.last()) {
         return Err(Stop::Errno(errno));
     }
-    let spot = look.walk(old)?;
-    rename_old(look, edits, new, spot)
+    let moved = look.walk(alloc, false, old)?;
+    rename_old(alloc, look, edits, new, moved)
 }
 
 /// What is wrong with the last components of two paths, before anything is looked up.
@@ -203,66 +214,72 @@ fn rename_fault(old: LastName, new: LastName) -> Option<Errno>
 
 /// Moves the entry at which a walk ended, to where a path's components lead.
 fn rename_old(
+    alloc: Global,
     look: &mut Look<'_>,
     edits: &mut Edits<'_>,
     new: &Parts,
-    spot: Spot<'_>,
+    spot: Spot,
 ) -> Result<Told, Stop>
     requires { edits.old ≡ [] }
-    ensures { Comes look.old (rename_old (stored_dirs look.old.cells) new.now (seen_at spot.entry)) look.new (intended edits.new result) }
+    ensures { Comes look.old (rename_old (stored_dirs look.old.cells) new.now spot) look.new (intended edits.new result) }
 {
-    match spot {
-        Spot::Itself(_) => Err(Stop::Errno(Errno::EBUSY)),
-        Spot::Named { node: None, .. } => Err(Stop::Errno(Errno::ENOENT)),
-        Spot::Named {
-            entry,
-            node: Some(Node::File(file)),
-        } => rename_file_to(look, edits, entry, file, new),
-        Spot::Named {
-            entry,
-            node: Some(Node::Dir(number)),
-        } => rename_dir_to(look, edits, entry, number, new),
+    let Spot::Named { entry, node, .. } = spot else {
+        return Err(Stop::Errno(Errno::EBUSY));
+    };
+    match node {
+        None => Err(Stop::Errno(Errno::ENOENT)),
+        Some(Node::File(form, file)) => rename_file_to(alloc, look, edits, entry, form, file, new),
+        Some(Node::Dir(number)) => rename_dir_to(alloc, look, edits, entry, number, new),
     }
 }
 
 /// Moves the entry of a file to where a path's components lead.
 fn rename_file_to(
+    alloc: Global,
     look: &mut Look<'_>,
     edits: &mut Edits<'_>,
-    old: EntryRef<'_>,
+    old: Entry,
+    form: Form,
     file: u64,
     new: &Parts,
 ) -> Result<Told, Stop>
     requires { edits.old ≡ [] }
-    ensures { Comes look.old (from_parts (Ok new.now) (rename_file (entry_in old.entry) file new.now.trailing)) look.new (intended edits.new result) }
+    ensures { Comes look.old (from_parts false (Ok new.now) (rename_file old form file)) look.new (intended edits.new result) }
 {
-    let spot = look.walk(new)?;
-    rename_file(look, edits, old, file, new.trailing, spot)
+    let spot = look.walk(alloc, false, new)?;
+    rename_file(look, edits, old, form, file, spot)
 }
 
 /// Moves the entry of a file to where a walk ended.
 fn rename_file(
     look: &mut Look<'_>,
     edits: &mut Edits<'_>,
-    old: EntryRef<'_>,
+    old: Entry,
+    form: Form,
     file: u64,
-    trailing: bool,
-    spot: Spot<'_>,
+    spot: Spot,
 ) -> Result<Told, Stop>
     requires { edits.old ≡ [] }
-    ensures { Comes look.old (rename_file (entry_in old.entry) file trailing (seen_at spot.entry)) look.new (intended edits.new result) }
+    ensures { Comes look.old (rename_file old form file spot) look.new (intended edits.new result) }
 {
-    let Spot::Named { entry: new, node } = spot else {
+    let Spot::Named {
+        entry: new,
+        node,
+        slash,
+    } = spot
+    else {
         return Err(Stop::Errno(Errno::EBUSY));
     };
     match node {
-        None if trailing => Err(Stop::Errno(Errno::ENOTDIR)),
+        None if slash => Err(Stop::Errno(Errno::ENOTDIR)),
         None => {
-            renamed(edits, old, Node::File(file), new)?;
+            renamed(edits, old, Node::File(form, file), new)?;
             Ok(Told::Done)
         }
-        Some(Node::File(replaced)) if replaced == file => Ok(Told::Done),
-        Some(Node::File(replaced)) => replace_file(look, edits, old, file, new, replaced),
+        Some(Node::File(_, replaced)) if replaced == file => Ok(Told::Done),
+        Some(Node::File(_, replaced)) => {
+            replace_file(look, edits, old, Node::File(form, file), new, replaced)
+        },
         Some(Node::Dir(_)) => Err(Stop::Errno(Errno::EISDIR)),
     }
 }
@@ -271,16 +288,16 @@ fn rename_file(
 fn replace_file(
     look: &mut Look<'_>,
     edits: &mut Edits<'_>,
-    old: EntryRef<'_>,
-    file: u64,
-    new: EntryRef<'_>,
+    old: Entry,
+    moved: Node,
+    new: Entry,
     replaced: u64,
 ) -> Result<Told, Stop>
     requires { edits.old ≡ [] }
-    ensures { Comes look.old (replace_file (entry_in old.entry) file (entry_in new.entry) replaced) look.new (intended edits.new result) }
+    ensures { Comes look.old (replace_file old moved new replaced) look.new (intended edits.new result) }
 {
     let links = look.links(replaced)?;
-    renamed(edits, old, Node::File(file), new)?;
+    renamed(edits, old, moved, new)?;
     edits.push(Edit::Links {
         file: replaced,
         to: links.saturating_sub(1),
@@ -290,16 +307,17 @@ fn replace_file(
 
 /// Moves the entry of a directory to where a path's components lead.
 fn rename_dir_to(
+    alloc: Global,
     look: &mut Look<'_>,
     edits: &mut Edits<'_>,
-    old: EntryRef<'_>,
+    old: Entry,
     number: u64,
     new: &Parts,
 ) -> Result<Told, Stop>
     requires { edits.old ≡ [] }
-    ensures { Comes look.old (from_parts (Ok new.now) (rename_dir (stored_dirs look.old.cells) (entry_in old.entry) number)) look.new (intended edits.new result) }
+    ensures { Comes look.old (from_parts false (Ok new.now) (rename_dir (stored_dirs look.old.cells) old number)) look.new (intended edits.new result) }
 {
-    let spot = look.walk(new)?;
+    let spot = look.walk(alloc, false, new)?;
     rename_dir(look, edits, old, number, spot)
 }
 
@@ -307,21 +325,26 @@ fn rename_dir_to(
 fn rename_dir(
     look: &mut Look<'_>,
     edits: &mut Edits<'_>,
-    old: EntryRef<'_>,
+    old: Entry,
     number: u64,
-    spot: Spot<'_>,
+    spot: Spot,
 ) -> Result<Told, Stop>
     requires { edits.old ≡ [] }
-    ensures { Comes look.old (rename_dir (stored_dirs look.old.cells) (entry_in old.entry) number (seen_at spot.entry)) look.new (intended edits.new result) }
+    ensures { Comes look.old (rename_dir (stored_dirs look.old.cells) old number spot) look.new (intended edits.new result) }
 {
-    let Spot::Named { entry: new, node } = spot else {
+    let Spot::Named {
+        entry: new,
+        node,
+        ..
+    } = spot
+    else {
         return Err(Stop::Errno(Errno::EBUSY));
     };
     match node {
         None => move_dir(look, edits, old, number, new),
         Some(Node::Dir(replaced)) if replaced == number => Ok(Told::Done),
         Some(Node::Dir(replaced)) => replace_dir(look, edits, old, number, new, replaced),
-        Some(Node::File(_)) => Err(Stop::Errno(Errno::ENOTDIR)),
+        Some(Node::File(..)) => Err(Stop::Errno(Errno::ENOTDIR)),
     }
 }
 
@@ -330,18 +353,19 @@ fn rename_dir(
 fn move_dir(
     look: &mut Look<'_>,
     edits: &mut Edits<'_>,
-    old: EntryRef<'_>,
+    old: Entry,
     number: u64,
-    new: EntryRef<'_>,
+    new: Entry,
 ) -> Result<Told, Stop>
     requires { edits.old ≡ [] }
-    ensures { Comes look.old (unless_below (stored_dirs look.old.cells) number new.entry.dir (Answer (renamed (entry_in old.entry) (DirNode number) (entry_in new.entry) (with_parent number old.entry.dir new.entry.dir)))) look.new (intended edits.new result) }
+    ensures { Comes look.old (unless_below (stored_dirs look.old.cells) number new.dir (Answer (renamed old (DirNode number) new (with_parent number old.dir new.dir)))) look.new (intended edits.new result) }
 {
     if look.climb(number, new.dir)? {
         return Err(Stop::Errno(Errno::EINVAL));
     }
+    let (dir, into) = (old.dir, new.dir);
     renamed(edits, old, Node::Dir(number), new)?;
-    with_parent(edits, number, old.dir, new.dir)?;
+    with_parent(edits, number, dir, into)?;
     Ok(Told::Done)
 }
 
@@ -350,13 +374,13 @@ fn move_dir(
 fn replace_dir(
     look: &mut Look<'_>,
     edits: &mut Edits<'_>,
-    old: EntryRef<'_>,
+    old: Entry,
     number: u64,
-    new: EntryRef<'_>,
+    new: Entry,
     replaced: u64,
 ) -> Result<Told, Stop>
     requires { edits.old ≡ [] }
-    ensures { Comes look.old (unless_below (stored_dirs look.old.cells) number new.entry.dir (replace_dir (entry_in old.entry) number (entry_in new.entry) replaced)) look.new (intended edits.new result) }
+    ensures { Comes look.old (unless_below (stored_dirs look.old.cells) number new.dir (replace_dir old number new replaced)) look.new (intended edits.new result) }
 {
     if look.climb(number, new.dir)? {
         return Err(Stop::Errno(Errno::EINVAL));
@@ -368,38 +392,40 @@ fn replace_dir(
 fn replace_empty(
     look: &mut Look<'_>,
     edits: &mut Edits<'_>,
-    old: EntryRef<'_>,
+    old: Entry,
     number: u64,
-    new: EntryRef<'_>,
+    new: Entry,
     replaced: u64,
 ) -> Result<Told, Stop>
     requires { edits.old ≡ [] }
-    ensures { Comes look.old (replace_dir (entry_in old.entry) number (entry_in new.entry) replaced) look.new (intended edits.new result) }
+    ensures { Comes look.old (replace_dir old number new replaced) look.new (intended edits.new result) }
 {
     if !look.is_empty_dir(replaced)? {
         return Err(Stop::Errno(Errno::ENOTEMPTY));
     }
+    let (dir, into) = (old.dir, new.dir);
     renamed(edits, old, Node::Dir(number), new)?;
     edits.push(Edit::Parent {
         dir: replaced,
         to: None,
     })?;
-    with_parent(edits, number, old.dir, new.dir)?;
+    with_parent(edits, number, dir, into)?;
     Ok(Told::Done)
 }
 
 /// The new entry names what the old one named, and that one is gone.
-fn renamed(
-    edits: &mut Edits<'_>,
-    old: EntryRef<'_>,
-    node: Node,
-    new: EntryRef<'_>,
-) -> Result<(), Memory>
+fn renamed(edits: &mut Edits<'_>, old: Entry, node: Node, new: Entry) -> Result<(), Memory>
     requires { edits.old ≡ [] }
-    ensures { (cells : Cells) → OnOk result (outcome_of cells (record { told = Done; edits = edits.new }) ≡ renamed (entry_in old.entry) node (entry_in new.entry) []) }
+    ensures { (cells : Cells) → OnOk result (outcome_of cells (record { told = Done; edits = edits.new }) ≡ renamed old node new []) }
 {
-    edits.push_entry(new, Some(node))?;
-    edits.push_entry(old, None)?;
+    edits.push(Edit::Entry {
+        entry: new,
+        to: Some(node),
+    })?;
+    edits.push(Edit::Entry {
+        entry: old,
+        to: None,
+    })?;
     Ok(())
 }
 

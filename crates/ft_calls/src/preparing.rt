@@ -1,6 +1,6 @@
 // What a call touches and comes to, found out in one go.
 ghost use Rattle.std.specs.Prelude.{◌≡◌, [], IfOk, OnOk};
-ghost use Rattle.ft_cells.specs.Cells.{stored_dirs};
+ghost use Rattle.ft_cells.specs.Cells.{bytes_of, stored_dirs};
 ghost use Rattle.ft_tree.specs.Sound.{AreSoundCells};
 ghost use Rattle.ft_posix.specs.Edits.{CanEditAll, Apart};
 ghost use Rattle.ft_posix.specs.Steps.{steps};
@@ -14,6 +14,7 @@ use crate::descriptors::{close, fstat, ftruncate, lseek, pread, pwrite, read, wr
 use crate::dirs::{list, mkdir, rmdir};
 use crate::files::{open, stat, truncate};
 use crate::links::{link, rename, unlink};
+use crate::symlinks::{readlink, symlink};
 use ft_base::Memory;
 use ft_looks::Look;
 use ft_posix::{Access, Call, Edits, Intent, OpenFlags, Stop, Told};
@@ -35,6 +36,7 @@ pub fn prepare<'c>(
     stamp: u64,
     call: &'c Call,
 ) -> Result<Prepared<'c>, Memory>
+    requires fresh { bytes_of tree.now stamp ≡ [] }
     ensures accesses { IfOk result (λ call_made. call_made.accesses.items ≡ accesses_of tree.now stamp call.now) }
     ensures outcome { IfOk result (λ call_made. outcome_of tree.now call_made.intent ≡ outcome tree.now stamp call.now) }
     ensures places { AreSoundCells tree.now → IfOk result (λ call_made. CanEditAll tree.now call_made.intent.edits) }
@@ -56,7 +58,8 @@ fn tell_or_fail<'c>(
     stamp: u64,
     call: &'c Call,
 ) -> Result<Told, Memory>
-    requires { edits.old ≡ [] }
+    requires none { edits.old ≡ [] }
+    requires fresh { bytes_of look.old.cells stamp ≡ [] }
     ensures outcome { IfOk result (λ told. outcome_of look.old.cells (record { told = told; edits = edits.new }) ≡ outcome look.old.cells stamp call.now) }
     ensures looks { OnOk result (look.new ≡ noted look.old (steps look.old.cells.limits (stored_dirs look.old.cells) stamp call.now)) }
 {
@@ -78,7 +81,8 @@ fn tell<'c>(
     stamp: u64,
     call: &'c Call,
 ) -> Result<Told, Stop>
-    requires { edits.old ≡ [] }
+    requires none { edits.old ≡ [] }
+    requires fresh { bytes_of look.old.cells stamp ≡ [] }
     ensures { Comes look.old (steps look.old.cells.limits (stored_dirs look.old.cells) stamp call.now) look.new (intended edits.new result) }
 {
     match call {
@@ -110,11 +114,14 @@ fn tell<'c>(
         Call::Lseek { fd, whence, off } => lseek(look, edits, *fd, *whence, *off),
         Call::Truncate { len, path } => truncate(alloc, look, edits, *len, path),
         Call::Ftruncate { fd, len } => ftruncate(look, edits, *fd, *len),
-        Call::Stat { path } => stat(alloc, look, path),
+        Call::Stat { path } => stat(alloc, look, true, path),
         Call::Fstat { fd } => fstat(look, *fd),
         Call::Link { old, new } => link(alloc, look, edits, old, new),
         Call::Unlink { path } => unlink(alloc, look, edits, path),
         Call::Rename { old, new } => rename(alloc, look, edits, old, new),
+        Call::Symlink { target, path } => symlink(alloc, look, edits, stamp, target, path),
+        Call::Readlink { path } => readlink(alloc, look, path),
+        Call::Lstat { path } => stat(alloc, look, false, path),
     }
 }
 
@@ -123,6 +130,7 @@ fn tell<'c>(
 ///
 /// The one refusal is want of memory.
 pub fn accesses(alloc: Global, tree: &Tree, stamp: u64, call: &Call) -> Result<Vec<Access>, Memory>
+    requires { bytes_of tree.now stamp ≡ [] }
     ensures { IfOk result (λ list. list.items ≡ accesses_of tree.now stamp call.now) }
 {
     let Prepared { accesses, intent } = prepare(alloc, tree, stamp, call)?;

@@ -7,7 +7,7 @@ use Rattle.std.specs.List.{find}
 use Rattle.std.specs.Option.{option_map}
 use Rattle.std.specs.FinMap as finite
 use Rattle.ft_cells.specs.declared.node.Node.{Node}
-use Rattle.ft_cells.specs.declared.node.Node.TheVariants.{Dir as DirNode, File as FileNode}
+use Rattle.ft_cells.specs.Nodes.{number_of}
 use Rattle.ft_cells.specs.declared.open_file.OpenFile.{OpenFile}
 use Rattle.ft_cells.specs.declared.limits.TreeLimits.{TreeLimits}
 use Rattle.ft_cells.specs.declared.cell.Cell.TheVariants.{Entry, Names, Parent, Links, Bytes, Fd}
@@ -23,34 +23,30 @@ NumberSet = finite.FinMap nat_cmp (Unit {0})
 pub record PlainTree : Type 0 where
   -- how large files may be, and how many links they may have
   pub limits : TreeLimits
-  -- what number each entry leads to
-  pub edges : finite.FinMap entry_cmp ℕ
+  -- what each entry leads to
+  pub edges : finite.FinMap entry_cmp Node
   -- the numbers that are directories
   pub dirs : NumberSet
-  -- the bytes of each file
+  -- the bytes of each file, and of each symbolic link its target
   pub files : finite.FinMap nat_cmp (List ℕ)
   -- the open file description of each descriptor
   pub opens : finite.FinMap nat_cmp OpenFile
 
 -- the directory whose edge leads to a number (Parent Directory)
 abbrev pub parent_in : PlainTree → ℕ → Option ℕ
-parent_in p i = option_map (λ e. e.0.dir) (find (λ e. e.1 == i) (finite.entries p.edges))
-
--- a number with its kind: a directory where it is one of `dirs`, and else a file
-abbrev pub node_in : PlainTree → ℕ → Node
-node_in p i = cond (finite.contains_key p.dirs i) (DirNode i) (FileNode i)
+parent_in p i = option_map (λ e. e.0.dir) (find (λ e. number_of e.1 == i) (finite.entries p.edges))
 
 -- all names of a directory, in the order of their bytes, with what they lead to
 abbrev pub names_in : PlainTree → ℕ → List (List ℕ × Node)
-names_in p d = map (λ e. (e.0.name, node_in p e.1)) (finite.entries (finite.retain_keys p.edges (λ e. e.dir == d)))
+names_in p d = map (λ e. (e.0.name, e.1)) (finite.entries (finite.retain_keys p.edges (λ e. e.dir == d)))
 
 -- how many edges lead to a number (Link Count)
 abbrev pub links_in : PlainTree → ℕ → ℕ
-links_in p i = length (filter (λ e. e.1 == i) (finite.entries p.edges))
+links_in p i = length (filter (λ e. number_of e.1 == i) (finite.entries p.edges))
 
--- what a plain tree shows for each cell; only a directory has a parent, and only a file has links
+-- what a plain tree shows for each cell; only a directory has a parent, and only what is none has links
 abbrev pub view_in : PlainTree → View
-view_in p (Entry entry) = option_map (node_in p) (finite.get p.edges entry)
+view_in p (Entry entry) = finite.get p.edges entry
 view_in p (Names d) = names_in p d
 view_in p (Parent d) = cond (finite.contains_key p.dirs d) (parent_in p d) None
 view_in p (Links i) = cond (finite.contains_key p.dirs i) 0 (links_in p i)

@@ -7,20 +7,19 @@ use Rattle.ft_cells.specs.declared.node.Node.{Node}
 use Rattle.ft_cells.specs.declared.row.TreeRow.{TreeRow}
 use Rattle.ft_cells.specs.declared.open_file.OpenFile.{OpenFile}
 use Rattle.ft_cells.specs.declared.row.TreeRow.TheVariants.{Dir as DirRow, Edge as EdgeRow, File as FileRow, Fd as FdRow}
-use Rattle.ft_cells.specs.Nodes.{number_of}
 use Rattle.ft_cells.specs.Plain.{PlainTree}
 
 -- a row for each directory
 abbrev pub dir_rows : List (ℕ × Unit {0}) → List TreeRow
 dir_rows dirs = map (λ e. DirRow e.0) dirs
 
--- a row for each edge, with the number that it leads to
-abbrev pub edge_rows : List (Entry × ℕ) → List TreeRow
+-- a row for each edge, with what it leads to
+abbrev pub edge_rows : List (Entry × Node) → List TreeRow
 edge_rows edges = map (λ e. EdgeRow e.0 e.1) edges
 
 -- the rows of the names of one directory
 abbrev pub named_rows : ℕ → List (List ℕ × Node) → List TreeRow
-named_rows d names = map (λ e. EdgeRow (entry_at d e.0) (number_of e.1)) names
+named_rows d names = map (λ e. EdgeRow (entry_at d e.0) e.1) names
 
 -- a row for each file, with its size and its bytes
 abbrev pub file_rows : List (ℕ × List ℕ) → List TreeRow

@@ -20,7 +20,7 @@ pub use cell::Cell;
 pub use entry::{Entry, EntryRef};
 pub use hint::{Hint, Hinted, seen_in, value_in, with_hint};
 pub use limits::TreeLimits;
-pub use node::{Found, Kind, Node, Spot};
+pub use node::{Form, Found, Kind, Node, Spot};
 pub use open_file::{AccessMode, OpenFile};
 pub use row::TreeRow;
 

@@ -1,5 +1,6 @@
 // The rows of a tree: what it holds, line by line.
 use crate::entry::Entry;
+use crate::node::Node;
 use crate::open_file::AccessMode;
 use ft_base::Sequence;
 
@@ -10,12 +11,13 @@ pub enum TreeRow {
     Dir {
         number: u64,
     },
-    /// An entry of a directory, and the number that it leads to.
+    /// An entry of a directory, and what it leads to.
     Edge {
         entry: Entry,
-        number: u64,
+        node: Node,
     },
-    /// A file that is there, one that an entry or a description names: its size and its bytes.
+    /// A file that is there, one that an entry or a description names: its size and its bytes. Of
+    /// a symbolic link these are its target.
     File {
         number: u64,
         size: u64,

@@ -388,7 +388,7 @@ fn skip_arg<'a>(alloc: Global) -> Arg<'a>
     Arg::new(alloc, "skip")
         .long("skip")
         .action(ArgAction::SetTrue)
-        .help("Leave out symbolic links, devices, FIFOs and sockets, and tell of each")
+        .help("Leave out devices, FIFOs and sockets, and tell of each")
 }
 
 // The flag that ends a run at the first line that does not do what it asks for.

@@ -4,7 +4,7 @@ use Rattle.std.proofs.lemmas.List.Folds.{list_any-append}
 use Rattle.std.specs.List.{concat, list_any, flat_map}
 use Rattle.std.specs.Io.KnownBytes.{Consumes}
 use Rattle.ft_copy.specs.Asked.{Asked, Piece, Close, DoesAll, IsUnfinished, is_finish}
-use Rattle.ft_copy.specs.Runs.{Visit, OfFolder, OfFile, OfFurther, OfNothing, asked_of, made}
+use Rattle.ft_copy.specs.Runs.{Visit, OfFolder, OfFile, OfFurther, OfNothing, OfSymlink, asked_of, made}
 
 -- ---- what was asked for
 
@@ -22,6 +22,7 @@ pub unfinished_visit : (visit : Visit) → IsUnfinished (asked_of visit)
 unfinished_visit (OfFolder path) = refl
 unfinished_visit (OfFile path pieces) = unfinished_made path pieces
 unfinished_visit (OfFurther first path) = refl
+unfinished_visit (OfSymlink to path) = refl
 unfinished_visit OfNothing = refl
 
 pub unfinished_visits : (visits : List Visit) → IsUnfinished (flat_map asked_of visits)

@@ -7,15 +7,16 @@ use Rattle.ft_cells.specs.declared.limits.TreeLimits.{TreeLimits}
 use Rattle.ft_copy.specs.declared.found.TheConstants.{ROOT}
 use Rattle.ft_copy.specs.declared.found.FileFacts.{FileFacts}
 use Rattle.ft_copy.specs.declared.found.Found.TheVariants as found
+use Rattle.ft_copy.specs.declared.found.MetLink.{MetLink}
 use Rattle.ft_copy.specs.declared.found.Place.{Place}
 use Rattle.ft_copy.specs.declared.trouble.Stopped.{Stopped}
 use Rattle.ft_copy.specs.declared.trouble.Trouble.{Trouble}
 use Rattle.ft_copy.specs.declared.trouble.Trouble.TheVariants.{Memory, Read}
-use Rattle.ft_copy.specs.Asked.{Asked, Start, Folder, Open, Piece, Link, Close, Finish, DoesAll, IsUnfinished, is_finish}
-use Rattle.ft_copy.specs.Told.{Told, Finds, Holds, Refuses}
+use Rattle.ft_copy.specs.Asked.{Asked, Start, Folder, Open, Piece, Link, Symlink, Close, Finish, DoesAll, IsUnfinished, is_finish}
+use Rattle.ft_copy.specs.Told.{Told, Finds, Holds, Leads, Refuses}
 use Rattle.ft_copy.specs.Walks.{Enters, Standing, nothing}
-use Rattle.ft_copy.specs.Runs.{GivesUp, Reaches, Visit, OfFolder, OfFile, OfFurther, OfNothing, WalksTo, asked_of, made}
-use Rattle.ft_copy.specs.Stops.{EndsReading, FailsAt, HasBegun, Hinders, IsCause, IsCauseAt, Reached, Root, Amid, Behind, Endless, RunsOut, Stops, StopsCopy, StopsIn, StopsNext, StopsPouring, StopsVisit, StopsVisiting, asked_before, asked_then}
+use Rattle.ft_copy.specs.Runs.{GivesUp, LinksTo, Reaches, Visit, OfFolder, OfFile, OfFurther, OfNothing, OfSymlink, WalksTo, asked_of, made}
+use Rattle.ft_copy.specs.Stops.{EndsReading, FailsAt, FailsToCopyLink, HasBegun, Hinders, IsCause, IsCauseAt, IsCauseAtLink, Reached, Root, Amid, AmidLinks, Behind, Endless, RunsOut, Stops, StopsCopy, StopsIn, StopsLink, StopsLinks, StopsNext, StopsPouring, StopsVisit, StopsVisiting, asked_before, asked_then}
 use Rattle.ft_copy.proofs.Doing.{does_more, pieces_more, unfinished_more, unfinished_visit, unfinished_visits}
 
 -- what stands at an error that a `?` hands on
@@ -43,6 +44,9 @@ unfinished_front front back h = or_parts (list_any is_finish front) (list_any is
 two_are_not_one : (last first : Asked) (done : List Asked) (next : Asked) (rest : List Asked) → last ∷ [] ≡ first ∷ (done ++ next ∷ rest) → ⊥
 two_are_not_one last first [] next rest is = cc
 two_are_not_one last first (d ∷ ds) next rest is = cc
+
+unfinished_both : (visits links : List Visit) → IsUnfinished (flat_map asked_of visits ++ flat_map asked_of links)
+unfinished_both visits links = unfinished_more (flat_map asked_of visits) (flat_map asked_of links) (unfinished_visits visits) (unfinished_visits links)
 
 -- all that was asked for, by what was done of it and what was left
 pub after_all : (before then done rest : List Asked) → then ≡ done ++ rest → before ++ then ≡ (before ++ done) ++ rest
@@ -120,7 +124,9 @@ module _ {T : Type 0} (limits : TreeLimits) (tells : Told → Type 0) (does : T 
       so_far : (reached : Reached) → DoesAll does old (asked_before reached) h.1 → StopsIn does fails (IsCause limits tells stopped.trouble reached) stopped.trouble (asked_then reached) h.1 new → Reaches does fails old new
       so_far Root did k = reaches_in does fails (IsCause limits tells stopped.trouble Root) stopped.trouble (Start ∷ []) old h.1 new [] refl refl did k
       so_far (Amid visits place visit) did k = reaches_in does fails (IsCauseAt limits tells stopped.trouble place visit) stopped.trouble (asked_of visit) old h.1 new (Start ∷ flat_map asked_of visits) (unfinished_visits visits) (unfinished_visit visit) did k
-      so_far (Behind visits) did k = reaches_last does fails stopped.trouble Finish old h.1 new (Start ∷ flat_map asked_of visits) (unfinished_visits visits) did k
+      so_far (AmidLinks visits links link visit) did k =
+          reaches_in does fails (IsCauseAtLink limits tells stopped.trouble link) stopped.trouble (asked_of visit) old h.1 new (Start ∷ flat_map asked_of visits ++ flat_map asked_of links) (unfinished_both visits links) (unfinished_visit visit) did k
+      so_far (Behind visits links) did k = reaches_last does fails stopped.trouble Finish old h.1 new (Start ∷ flat_map asked_of visits ++ flat_map asked_of links) (unfinished_both visits links) did k
       so_far (Endless visits) did k = reaches_in does fails (IsCause limits tells stopped.trouble (Endless visits)) stopped.trouble [] old h.1 new (Start ∷ flat_map asked_of visits) (unfinished_visits visits) refl did k
 
   pub gives_up : (stopped : Stopped) (old new : T) → StopsCopy limits tells does fails stopped old new → GivesUp does fails old new
@@ -198,6 +204,34 @@ module _ {T : Type 0} (limits : TreeLimits) (tells : Told → Type 0) (does : T 
         stops_first does fails (IsCauseAt limits tells trouble place visit) trouble (Link first place.path) [] old new (subst (λ p. fails old (Link first p) trouble new) is failed),
       )
 
+  -- ---- symbolic links
+
+  -- nothing was done at one
+  pub stops_at_link : (trouble : Trouble) (link : MetLink) (walk : Standing) (old : T) → IsCauseAtLink limits tells trouble link → StopsLink limits tells does fails trouble link walk old old
+  stops_at_link trouble link walk old h = (OfNothing, inl refl, stops_nothing does fails (IsCauseAtLink limits tells trouble link) trouble [] old h)
+
+  -- it could not be made
+  pub stops_copy_link : (trouble : Trouble) (link : MetLink) (walk : Standing) (path : List ℕ) (old new : T) → path ≡ link.place.path → FailsToCopyLink tells fails trouble path link.place.node old new
+      → StopsLink limits tells does fails trouble link walk old new
+  stops_copy_link trouble link walk path old new is (inl h) =
+      subst (λ t. StopsLink limits tells does fails trouble link walk old t) (sym h.0) (stops_at_link trouble link walk old (inr (inr (subst (λ p. tells (Refuses p link.place.node trouble)) is h.1))))
+  stops_copy_link trouble link walk path old new is (inr h) =
+      let visit = OfSymlink h.0 link.place.path in (
+        visit,
+        inr (inl (h.0, refl, subst (λ p. tells (Leads p link.place.node h.0)) is h.1)),
+        stops_first does fails (IsCauseAtLink limits tells trouble link) trouble (Symlink h.0 link.place.path) [] old new (subst (λ p. fails old (Symlink h.0 p) trouble new) is h.2),
+      )
+
+  -- a further name could not be given to it
+  pub stops_further_link : (trouble : Trouble) (link : MetLink) (walk : Standing) (first path : List ℕ) (old new : T) → path ≡ link.place.path
+      → walk.firsts link.facts.id ≡ Some first → fails old (Link first path) trouble new → StopsLink limits tells does fails trouble link walk old new
+  stops_further_link trouble link walk first path old new is met failed =
+      let visit = OfFurther first link.place.path in (
+        visit,
+        inr (inr (first, refl, met)),
+        stops_first does fails (IsCauseAtLink limits tells trouble link) trouble (Link first link.place.path) [] old new (subst (λ p. fails old (Link first p) trouble new) is failed),
+      )
+
   -- ---- the whole copy
 
   pub stops_root : (stopped : Stopped) (trouble : Trouble) (old new : T) → stopped.trouble ≡ trouble → stopped.path ≡ [] → StopsIn does fails (IsCause limits tells trouble Root) trouble (Start ∷ []) old new
@@ -214,15 +248,28 @@ module _ {T : Type 0} (limits : TreeLimits) (tells : Told → Type 0) (does : T 
       either (inr k) =
           (Endless h.0, h.2, (h.1, (begun, entered, h.3), k.3), k.1, (started, did, h.4), ([], [], h.2, refl, refl, inl (k.0, k.2)))
 
-  pub stops_last : (stopped : Stopped) (trouble : Trouble) (begun done : Standing) (visits : List Visit) (old started visited new : T) → stopped.trouble ≡ trouble → stopped.path ≡ [] → Enters tells [] ROOT nothing begun
-      → does old Start started → WalksTo limits tells begun visits done → done.left ≡ [] → DoesAll does started (flat_map asked_of visits) visited → fails visited Finish trouble new → Stops limits tells does fails stopped old new
-  stops_last stopped trouble begun done visits old started visited new is at entered did walk all made failed = (
-    Behind visits,
-    visited,
-    (done, (begun, entered, walk), all),
+  pub stops_linking : (stopped : Stopped) (begun walked : Standing) (visits : List Visit) (old started visited new : T) → Enters tells [] ROOT nothing begun → does old Start started
+      → WalksTo limits tells begun visits walked → walked.left ≡ [] → DoesAll does started (flat_map asked_of visits) visited → StopsLinks limits tells does fails stopped walked visited new
+      → Stops limits tells does fails stopped old new
+  stops_linking stopped begun walked visits old started visited new entered did walk all made h = (
+    AmidLinks visits h.0 h.5.0 h.5.4.0,
+    h.2,
+    (h.1, h.5.1, (walked, (begun, entered, walk), all, h.3), h.5.2, h.5.4.1),
+    h.5.3,
+    (started, did, does_more does started visited h.2 (flat_map asked_of visits) (flat_map asked_of h.0) made h.4),
+    h.5.4.2,
+  )
+
+  pub stops_last : (stopped : Stopped) (trouble : Trouble) (begun walked done : Standing) (visits links : List Visit) (old started visited linked new : T) → stopped.trouble ≡ trouble → stopped.path ≡ []
+      → Enters tells [] ROOT nothing begun → does old Start started → WalksTo limits tells begun visits walked → walked.left ≡ [] → LinksTo limits tells walked links done → done.links ≡ []
+      → DoesAll does started (flat_map asked_of visits) visited → DoesAll does visited (flat_map asked_of links) linked → fails linked Finish trouble new → Stops limits tells does fails stopped old new
+  stops_last stopped trouble begun walked done visits links old started visited linked new is at entered did walk all last all_links made made_links failed = (
+    Behind visits links,
+    linked,
+    (done, (walked, (begun, entered, walk), all, last), all_links),
     at,
-    (started, did, made),
-    stops_first does fails ⊥ stopped.trouble Finish [] visited new (subst (λ t. fails visited Finish t new) (sym is) failed),
+    (started, did, does_more does started visited linked (flat_map asked_of visits) (flat_map asked_of links) made made_links),
+    stops_first does fails ⊥ stopped.trouble Finish [] linked new (subst (λ t. fails linked Finish t new) (sym is) failed),
   )
 
   -- what is said of a file at a path that was not copied

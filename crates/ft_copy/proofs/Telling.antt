@@ -5,17 +5,18 @@ use Rattle.ft_cells.specs.declared.limits.TreeLimits.{TreeLimits}
 use Rattle.ft_copy.specs.declared.found.FileFacts.{FileFacts}
 use Rattle.ft_copy.specs.declared.found.Found.{Found}
 use Rattle.ft_copy.specs.declared.found.Found.TheVariants as found
+use Rattle.ft_copy.specs.declared.found.MetLink.{MetLink}
 use Rattle.ft_copy.specs.declared.found.Place.{Place}
 use Rattle.ft_copy.specs.declared.found.TheConstants.{ROOT}
 use Rattle.ft_copy.specs.declared.trouble.Stopped.{Stopped}
 use Rattle.ft_copy.specs.declared.trouble.Trouble.{Trouble}
 use Rattle.ft_copy.specs.declared.trouble.Trouble.TheVariants as trouble
 use Rattle.ft_copy.specs.Asked.{Asked}
-use Rattle.ft_copy.specs.Told.{Told, Lists, Finds, Holds, Omits, Keeps, Refuses}
+use Rattle.ft_copy.specs.Told.{Told, Lists, Finds, Holds, Leads, Omits, Keeps, Refuses}
 use Rattle.ft_copy.specs.Walks.{Enters, IsRead, Standing, nothing}
-use Rattle.ft_copy.specs.Stops.{FindsFile, HasBegun, HasBegunAs, HasWalked, Hinders, IsCause, IsCauseAt, IsReached, Reached, Root, Amid, Behind, Endless, Stops, StopsCopy, asked_then}
+use Rattle.ft_copy.specs.Stops.{FindsFile, HasBegun, HasBegunAs, HasBegunLink, HasLinked, HasWalked, Hinders, IsCause, IsCauseAt, IsCauseAtLink, IsReached, Reached, Root, Amid, AmidLinks, Behind, Endless, Stops, StopsCopy, asked_then}
 use Rattle.ft_copy.proofs.Stopping.{stops_since}
-use Rattle.ft_copy.specs.Runs.{Copies, IsFileVisit, IsFirstName, IsFurtherName, IsVisit, IsVisitOf, Visit, WalksTo}
+use Rattle.ft_copy.specs.Runs.{Copies, IsFileVisit, IsFirstLink, IsFirstName, IsFurtherName, IsLinkVisit, IsVisit, IsVisitOf, LinksTo, Visit, WalksTo}
 
 module _ (limits : TreeLimits) (P Q : Told → Type 0) (follows : (told : Told) → P told → Q told) where
   entered : (path : List ℕ) (node : ℕ) (old new : Standing) → Enters P path node old new → Enters Q path node old new
@@ -37,6 +38,7 @@ module _ (limits : TreeLimits) (P Q : Told → Type 0) (follows : (told : Told) 
   found_there : (place : Place) (there : Found) (old : Standing) (visit : Visit) (new : Standing) → IsVisitOf limits P place there old visit new → IsVisitOf limits Q place there old visit new
   found_there place found.Folder old visit new h = (h.0, entered place.path place.node old new h.1)
   found_there place (found.File facts) old visit new h = file place facts old visit new h
+  found_there place (found.Symlink facts) old visit new h = h
   found_there place found.Special old visit new h = (h.0, follows (Omits place.path) h.1, h.2)
 
   visited : (place : Place) (old : Standing) (visit : Visit) (new : Standing) → IsVisit limits P place old visit new → IsVisit limits Q place old visit new
@@ -44,16 +46,31 @@ module _ (limits : TreeLimits) (P Q : Told → Type 0) (follows : (told : Told) 
 
   walked : (old : Standing) (visits : List Visit) (new : Standing) → WalksTo limits P old visits new → WalksTo limits Q old visits new
   walked old [] new h = h
-  walked old (visit ∷ visits) new h = (h.0, h.1, h.2, h.3, visited h.1 (record { left = h.0; firsts = old.firsts }) visit h.2 h.4, walked h.2 visits new h.5)
+  walked old (visit ∷ visits) new h = (h.0, h.1, h.2, h.3, visited h.1 (record { left = h.0; links = old.links; firsts = old.firsts }) visit h.2 h.4, walked h.2 visits new h.5)
+
+  link_visited : (link : MetLink) (old : Standing) (visit : Visit) (new : Standing) → IsLinkVisit limits P link old visit new → IsLinkVisit limits Q link old visit new
+  link_visited link old visit new h = (h.0, either h.1)
+    where
+      either : IsFirstLink limits P link old visit new ⊎ IsFurtherName link.place link.facts old visit new → IsFirstLink limits Q link old visit new ⊎ IsFurtherName link.place link.facts old visit new
+      either (inl k) = inl (k.0, k.1, follows (Leads link.place.path link.place.node k.0) k.2, k.3)
+      either (inr k) = inr k
+
+  linked : (old : Standing) (visits : List Visit) (new : Standing) → LinksTo limits P old visits new → LinksTo limits Q old visits new
+  linked old [] new h = h
+  linked old (visit ∷ visits) new h = (h.0, h.1, h.2, h.3, link_visited h.0 (record { left = old.left; links = h.1; firsts = old.firsts }) visit h.2 h.4, linked h.2 visits new h.5)
 
   pub copies : {T : Type 0} (does : T → Asked → T → Type 0) (old new : T) → Copies limits P does old new → Copies limits Q does old new
   copies does old new h = record {
     begun = h.begun;
     visits = h.visits;
+    walked = h.walked;
+    links = h.links;
     done = h.done;
     root = entered [] ROOT nothing h.begun h.root;
-    walk = walked h.begun h.visits h.done h.walk;
+    walk = walked h.begun h.visits h.walked h.walk;
     all = h.all;
+    last = linked h.walked h.links h.done h.last;
+    all_links = h.all_links;
     did = h.did;
   }
 
@@ -80,30 +97,47 @@ module _ (limits : TreeLimits) (P Q : Told → Type 0) (follows : (told : Told) 
   cause_at why place visit (inl h) = inl (hinders why place visit h)
   cause_at why place visit (inr h) = inr (follows (Refuses place.path place.node why) h)
 
+  cause_at_link : (why : Trouble) (link : MetLink) → IsCauseAtLink limits P why link → IsCauseAtLink limits Q why link
+  cause_at_link why link (inl h) = inl h
+  cause_at_link why link (inr (inl h)) = inr (inl h)
+  cause_at_link why link (inr (inr h)) = inr (inr (follows (Refuses link.place.path link.place.node why) h))
+
   cause : (why : Trouble) (reached : Reached) → IsCause limits P why reached → IsCause limits Q why reached
   cause why Root (inl h) = inl h
   cause why Root (inr h) = inr (follows (Refuses [] ROOT why) h)
   cause why (Amid visits place visit) h = cause_at why place visit h
-  cause why (Behind visits) h = h
+  cause why (AmidLinks visits links link visit) h = cause_at_link why link h
+  cause why (Behind visits links) h = h
   cause why (Endless visits) h = h
 
   begun_as : (place : Place) (there : Found) (walk : Standing) (visit : Visit) → HasBegunAs P place there walk visit → HasBegunAs Q place there walk visit
   begun_as place found.Folder walk visit h = h
   begun_as place (found.File facts) walk visit (inl h) = inl (h.0, h.1, h.2, h.3, follows (Holds place.path place.node h.1) h.4, h.5)
   begun_as place (found.File facts) walk visit (inr h) = inr h
+  begun_as place (found.Symlink facts) walk visit h = h
   begun_as place found.Special walk visit h = h
 
   begun : (place : Place) (walk : Standing) (visit : Visit) → HasBegun P place walk visit → HasBegun Q place walk visit
   begun place walk visit (inl h) = inl h
   begun place walk visit (inr h) = inr (h.0, follows (Finds place.path place.node h.0) h.1, begun_as place h.0 walk visit h.2)
 
+  begun_link : (link : MetLink) (walk : Standing) (visit : Visit) → HasBegunLink P link walk visit → HasBegunLink Q link walk visit
+  begun_link link walk visit (inl h) = inl h
+  begun_link link walk visit (inr (inl h)) = inr (inl (h.0, h.1, follows (Leads link.place.path link.place.node h.0) h.2))
+  begun_link link walk visit (inr (inr h)) = inr (inr h)
+
   has_walked : (visits : List Visit) (now : Standing) → HasWalked limits P visits now → HasWalked limits Q visits now
   has_walked visits now h = (h.0, entered [] ROOT nothing h.0 h.1, walked h.0 visits now h.2)
 
+  has_linked : (visits links : List Visit) (now : Standing) → HasLinked limits P visits links now → HasLinked limits Q visits links now
+  has_linked visits links now h = (h.0, has_walked visits h.0 h.1, h.2, linked h.0 links now h.3)
+
   is_reached : (reached : Reached) → IsReached limits P reached → IsReached limits Q reached
   is_reached Root h = h
-  is_reached (Amid visits place visit) h = (h.0, h.1, has_walked visits h.0 h.2, h.3, begun place (record { left = h.1; firsts = h.0.firsts }) visit h.4)
-  is_reached (Behind visits) h = (h.0, has_walked visits h.0 h.1, h.2)
+  is_reached (Amid visits place visit) h = (h.0, h.1, has_walked visits h.0 h.2, h.3, begun place (record { left = h.1; links = h.0.links; firsts = h.0.firsts }) visit h.4)
+  is_reached (AmidLinks visits links link visit) h =
+      (h.0, h.1, has_linked visits links h.0 h.2, h.3, begun_link link (record { left = h.0.left; links = h.1; firsts = h.0.firsts }) visit h.4)
+  is_reached (Behind visits links) h = (h.0, has_linked visits links h.0 h.1, h.2)
   is_reached (Endless visits) h = (h.0, has_walked visits h.0 h.1, h.2)
 
   stops : {T : Type 0} (does : T → Asked → T → Type 0) (fails : T → Asked → Trouble → T → Type 0) (stopped : Stopped) (old new : T) → Stops limits P does fails stopped old new → Stops limits Q does fails stopped old new

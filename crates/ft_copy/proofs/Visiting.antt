@@ -4,11 +4,12 @@ use Rattle.ft_cells.specs.declared.limits.TreeLimits.{TreeLimits}
 use Rattle.ft_path.specs.declared.TheConstants.{LONGEST_PATH}
 use Rattle.ft_copy.specs.declared.found.FileFacts.{FileFacts}
 use Rattle.ft_copy.specs.declared.found.Found.TheVariants as found
+use Rattle.ft_copy.specs.declared.found.MetLink.{MetLink}
 use Rattle.ft_copy.specs.declared.found.Place.{Place}
-use Rattle.ft_copy.specs.Asked.{Asked, Close, Folder, Link, Open, Piece}
+use Rattle.ft_copy.specs.Asked.{Asked, Close, Folder, Link, Open, Piece, Symlink}
 use Rattle.ft_copy.specs.Told.{Told, Finds, Holds}
 use Rattle.ft_copy.specs.Walks.{Enters, Standing, is_dotted}
-use Rattle.ft_copy.specs.Runs.{CopiesFile, IsNoted, OfFile, OfFolder, OfFurther, Pours, Visits, VisitsFile}
+use Rattle.ft_copy.specs.Runs.{CopiesFile, CopiesLink, IsNoted, MakesLink, OfFile, OfFolder, OfFurther, OfSymlink, Pours, Visits, VisitsFile}
 use Rattle.ft_copy.proofs.Doing.{does_more, does_one}
 
 module _ {T : Type 0} (limits : TreeLimits) (tells : Told → Type 0) (does : T → Asked → T → Type 0) (old new : T) where
@@ -35,3 +36,14 @@ module _ {T : Type 0} (limits : TreeLimits) (tells : Told → Type 0) (does : T 
       → CopiesFile limits tells does path node old new
   copied opened poured path node left holds was_opened pours closed =
       (pours.0, (left, holds, pours.1), pours.2, (opened, was_opened, does_more does opened poured new (map Piece pours.0) (Close ∷ []) pours.3 (does_one does poured new Close closed)))
+
+  pub first_link : (link : MetLink) (walk next : Standing) (path : List ℕ) → path ≡ link.place.path → link.facts.links ≤ limits.links
+      → IsNoted link.facts link.place.path walk next → CopiesLink tells does path link.place.node old new → MakesLink limits tells does link walk next old new
+  first_link link walk next path is few noted made =
+      let copied = subst (λ p. CopiesLink tells does p link.place.node old new) is made in
+      (OfSymlink copied.0 link.place.path, (few, inl (copied.0, refl, copied.1, noted)), does_one does old new (Symlink copied.0 link.place.path) copied.2)
+
+  pub further_link : (link : MetLink) (walk : Standing) (first path : List ℕ) → path ≡ link.place.path → link.facts.links ≤ limits.links
+      → 1 < link.facts.links → walk.firsts link.facts.id ≡ Some first → does old (Link first path) new → MakesLink limits tells does link walk walk old new
+  further_link link walk first path is few more met linked =
+      (OfFurther first link.place.path, (few, inr (first, refl, more, met, refl)), does_one does old new (Link first link.place.path) (subst (λ p. does old (Link first p) new) is linked))

@@ -2,10 +2,11 @@
 use Rattle.std.proofs.Common.{◌≡◌, ℕ, List, [], ◌∷◌, ◌++◌, length, arith, refl, sym, ap, ◌∙◌, subst, append_assoc}
 use Rattle.ft_cells.specs.declared.limits.TreeLimits.{TreeLimits}
 use Rattle.ft_copy.specs.declared.found.Listed.{Listed}
+use Rattle.ft_copy.specs.declared.found.MetLink.{MetLink}
 use Rattle.ft_copy.specs.declared.found.Place.{Place}
 use Rattle.ft_copy.specs.Told.{Told}
 use Rattle.ft_copy.specs.Walks.{Standing, above, child}
-use Rattle.ft_copy.specs.Runs.{Visit, IsVisit, WalksTo}
+use Rattle.ft_copy.specs.Runs.{Visit, IsLinkVisit, IsVisit, LinksTo, WalksTo}
 
 -- the last name of a directory is the lowest on top
 pub above_last : (path : List ℕ) (names : List Listed) (listed : Listed) → above path (names ++ listed ∷ []) ≡ child path listed ∷ above path names
@@ -24,9 +25,17 @@ none_left n (p ∷ ps) sized empty = absurd (omega (arith, sized, empty))
 
 module _ (limits : TreeLimits) (tells : Told → Type 0) where
   pub walks_one : (old new : Standing) (rest : List Place) (place : Place) (visit : Visit) → old.left ≡ rest ++ place ∷ []
-      → IsVisit limits tells place (record { left = rest; firsts = old.firsts }) visit new → WalksTo limits tells old (visit ∷ []) new
+      → IsVisit limits tells place (record { left = rest; links = old.links; firsts = old.firsts }) visit new → WalksTo limits tells old (visit ∷ []) new
   walks_one old new rest place visit is h = (rest, place, new, is, h, refl)
 
   pub walks_more : (old middle new : Standing) (some others : List Visit) → WalksTo limits tells old some middle → WalksTo limits tells middle others new → WalksTo limits tells old (some ++ others) new
   walks_more old middle new [] others h k = subst (λ s. WalksTo limits tells s others new) h k
   walks_more old middle new (visit ∷ some) others h k = (h.0, h.1, h.2, h.3, h.4, walks_more h.2 middle new some others h.5 k)
+
+  pub links_one : (old new : Standing) (link : MetLink) (more : List MetLink) (visit : Visit) → old.links ≡ link ∷ more
+      → IsLinkVisit limits tells link (record { left = old.left; links = more; firsts = old.firsts }) visit new → LinksTo limits tells old (visit ∷ []) new
+  links_one old new link more visit is h = (link, more, new, is, h, refl)
+
+  pub links_more : (old middle new : Standing) (some others : List Visit) → LinksTo limits tells old some middle → LinksTo limits tells middle others new → LinksTo limits tells old (some ++ others) new
+  links_more old middle new [] others h k = subst (λ s. LinksTo limits tells s others new) h k
+  links_more old middle new (visit ∷ some) others h k = (h.0, h.1, h.2, h.3, h.4, links_more h.2 middle new some others h.5 k)

@@ -3,8 +3,8 @@ use Rattle.std.specs.Prelude.{◌≡◌, ℕ, Bool, true, false, List, [], ◌�
 use Rattle.std.specs.List.{list_any}
 
 -- One thing that a target is asked for: to start; for a directory; for a file that is open; for
--- bytes behind those of the open file; to close it; for a further name of a file; to finish; to
--- give up.
+-- bytes behind those of the open file; to close it; for a further name of a file or of a symbolic
+-- link; for a symbolic link that leads somewhere; to finish; to give up.
 pub data Asked : Type 0 where
   Start : Asked
   Folder : (path : List ℕ) → Asked
@@ -12,6 +12,7 @@ pub data Asked : Type 0 where
   Piece : (bytes : List ℕ) → Asked
   Close : Asked
   Link : (first : List ℕ) → (path : List ℕ) → Asked
+  Symlink : (to : List ℕ) → (path : List ℕ) → Asked
   Finish : Asked
   GiveUp : Asked
 
@@ -23,6 +24,7 @@ is_finish (Open path) = false
 is_finish (Piece bytes) = false
 is_finish Close = false
 is_finish (Link first path) = false
+is_finish (Symlink to path) = false
 is_finish Finish = true
 is_finish GiveUp = false
 

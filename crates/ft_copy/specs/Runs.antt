@@ -7,11 +7,12 @@ use Rattle.ft_copy.specs.declared.found.TheConstants.{ROOT}
 use Rattle.ft_copy.specs.declared.found.FileFacts.{FileFacts}
 use Rattle.ft_copy.specs.declared.found.Found.{Found}
 use Rattle.ft_copy.specs.declared.found.Found.TheVariants as found
+use Rattle.ft_copy.specs.declared.found.MetLink.{MetLink}
 use Rattle.ft_copy.specs.declared.found.Place.{Place}
 use Rattle.ft_copy.specs.declared.trouble.Trouble.{Trouble}
-use Rattle.ft_copy.specs.Told.{Told, Finds, Omits}
-use Rattle.ft_copy.specs.Asked.{Asked, Start, Folder, Open, Piece, Close, Link, Finish, GiveUp, DoesAll, IsUnfinished}
-use Rattle.ft_copy.specs.Walks.{Enters, IsRead, ArePieces, Standing, is_dotted, nothing, with_first}
+use Rattle.ft_copy.specs.Told.{Told, Finds, Leads, Omits}
+use Rattle.ft_copy.specs.Asked.{Asked, Start, Folder, Open, Piece, Close, Link, Symlink, Finish, GiveUp, DoesAll, IsUnfinished}
+use Rattle.ft_copy.specs.Walks.{Enters, IsRead, ArePieces, PutsOff, Standing, is_dotted, nothing, with_first}
 
 -- ---- visits
 
@@ -20,6 +21,7 @@ pub data Visit : Type 0 where
   OfFolder : (path : List ℕ) → Visit
   OfFile : (path : List ℕ) → (pieces : List (List ℕ)) → Visit
   OfFurther : (first : List ℕ) → (path : List ℕ) → Visit
+  OfSymlink : (to : List ℕ) → (path : List ℕ) → Visit
   OfNothing : Visit
 
 -- a file that is made of these pieces
@@ -31,15 +33,16 @@ abbrev pub asked_of : Visit → List Asked
 asked_of (OfFolder path) = Folder path ∷ []
 asked_of (OfFile path pieces) = made path pieces
 asked_of (OfFurther first path) = Link first path ∷ []
+asked_of (OfSymlink to path) = Symlink to path ∷ []
 asked_of OfNothing = []
 
--- a file is noted where it may be met again, and was not met yet
+-- a file or a symbolic link is noted where it may be met again, and was not met yet
 abbrev pub IsNoted : FileFacts → List ℕ → Standing → Standing → Type 0
 IsNoted facts path old new =
     ((facts.links ≤ 1) × (new ≡ old))
-    ⊎ ((1 < facts.links) × (old.firsts facts.id ≡ None) × (new ≡ record { left = old.left; firsts = with_first facts.id path old.firsts }))
+    ⊎ ((1 < facts.links) × (old.firsts facts.id ≡ None) × (new ≡ record { left = old.left; links = old.links; firsts = with_first facts.id path old.firsts }))
 
--- a file gets a further name where it is met again
+-- a file or a symbolic link gets a further name where it is met again
 abbrev pub IsFurtherName : Place → FileFacts → Standing → Visit → Standing → Type 0
 IsFurtherName place facts old visit new =
     (first : List ℕ) × (visit ≡ OfFurther first place.path) × (1 < facts.links) × (old.firsts facts.id ≡ Some first) × (new ≡ old)
@@ -56,10 +59,11 @@ module _ (limits : TreeLimits) (tells : Told → Type 0) where
   IsFileVisit place facts old visit new =
       (facts.links ≤ limits.links) × (facts.size ≤ limits.file_size) × (IsFirstName place facts old visit new ⊎ IsFurtherName place facts old visit new)
 
-  -- A visit of what was found.
+  -- A visit of what was found. A symbolic link is put off.
   abbrev pub IsVisitOf : Place → Found → Standing → Visit → Standing → Type 0
   IsVisitOf place found.Folder old visit new = (visit ≡ OfFolder place.path) × Enters tells place.path place.node old new
   IsVisitOf place (found.File facts) old visit new = IsFileVisit place facts old visit new
+  IsVisitOf place (found.Symlink facts) old visit new = (visit ≡ OfNothing) × PutsOff place facts old new
   IsVisitOf place found.Special old visit new = (visit ≡ OfNothing) × tells (Omits place.path) × (new ≡ old)
 
   -- A visit of a place. Its path does not lead elsewhere, and is not too long.
@@ -73,7 +77,24 @@ module _ (limits : TreeLimits) (tells : Told → Type 0) where
   WalksTo old [] new = new ≡ old
   WalksTo old (visit ∷ visits) new =
       (rest : List Place) × (place : Place) × (next : Standing) × (old.left ≡ rest ++ place ∷ [])
-      × IsVisit place (record { left = rest; firsts = old.firsts }) visit next × WalksTo next visits new
+      × IsVisit place (record { left = rest; links = old.links; firsts = old.firsts }) visit next × WalksTo next visits new
+
+  -- A symbolic link is made where it is met first, to lead where the source tells.
+  abbrev pub IsFirstLink : MetLink → Standing → Visit → Standing → Type 0
+  IsFirstLink link old visit new =
+      (to : List ℕ) × (visit ≡ OfSymlink to link.place.path) × tells (Leads link.place.path link.place.node to) × IsNoted link.facts link.place.path old new
+
+  -- A symbolic link that was met is made, or gets a further name. It has no more names than allowed.
+  abbrev pub IsLinkVisit : MetLink → Standing → Visit → Standing → Type 0
+  IsLinkVisit link old visit new =
+      (link.facts.links ≤ limits.links) × (IsFirstLink link old visit new ⊎ IsFurtherName link.place link.facts old visit new)
+
+  -- One after another of the symbolic links that were met, each time the first of those that are left.
+  abbrev pub LinksTo : Standing → List Visit → Standing → Type 0
+  LinksTo old [] new = new ≡ old
+  LinksTo old (visit ∷ visits) new =
+      (link : MetLink) × (more : List MetLink) × (next : Standing) × (old.links ≡ link ∷ more)
+      × IsLinkVisit link (record { left = old.left; links = more; firsts = old.firsts }) visit next × LinksTo next visits new
 
 module _ {T : Type 0} (does : T → Asked → T → Type 0) where
   -- the target put all that a reader had left behind the bytes of the open file: so many at most
@@ -84,6 +105,11 @@ module _ {T : Type 0} (tells : Told → Type 0) (does : T → Asked → T → Ty
   -- the target has started, and the root is entered
   abbrev pub Begins : Standing → Standing → T → T → Type 0
   Begins walk next old new = does old Start new × Enters tells [] ROOT walk next
+
+module _ {T : Type 0} (tells : Told → Type 0) (does : T → Asked → T → Type 0) where
+  -- the target made a symbolic link that leads where the source tells
+  abbrev pub CopiesLink : List ℕ → ℕ → T → T → Type 0
+  CopiesLink path node old new = (to : List ℕ) × tells (Leads path node to) × does old (Symlink to path) new
 
 module _ {T : Type 0} (limits : TreeLimits) (tells : Told → Type 0) (does : T → Asked → T → Type 0) where
   -- the target made a file of what can be read of it
@@ -99,21 +125,34 @@ module _ {T : Type 0} (limits : TreeLimits) (tells : Told → Type 0) (does : T 
   Visits place walk next old new = (visit : Visit) × IsVisit limits tells place walk visit next × DoesAll does old (asked_of visit) new
 
   -- all that was left was visited
-  abbrev pub VisitsAll : Standing → T → T → Type 0
-  VisitsAll walk old new =
-      (visits : List Visit) × (done : Standing) × WalksTo limits tells walk visits done × (done.left ≡ []) × DoesAll does old (flat_map asked_of visits) new
+  abbrev pub VisitsAll : Standing → Standing → T → T → Type 0
+  VisitsAll walk walked old new =
+      (visits : List Visit) × WalksTo limits tells walk visits walked × (walked.left ≡ []) × DoesAll does old (flat_map asked_of visits) new
+
+  -- a symbolic link was made, or got a further name
+  abbrev pub MakesLink : MetLink → Standing → Standing → T → T → Type 0
+  MakesLink link walk next old new = (visit : Visit) × IsLinkVisit limits tells link walk visit next × DoesAll does old (asked_of visit) new
+
+  -- all symbolic links that were met were made
+  abbrev pub MakesLinks : Standing → T → T → Type 0
+  MakesLinks walk old new =
+      (links : List Visit) × (done : Standing) × LinksTo limits tells walk links done × (done.links ≡ []) × DoesAll does old (flat_map asked_of links) new
 
   -- A whole tree was copied. What was visited is what the source told, from the root on, each
-  -- place in its turn, until none was left; and for just that the target was asked, between its
-  -- start and its finish.
+  -- place in its turn, until none was left, and then the symbolic links that were met, until none was
+  -- left; and for just that the target was asked, between its start and its finish.
   pub record Copies (old new : T) : Type 0 where
     pub begun : Standing
     pub visits : List Visit
+    pub walked : Standing
+    pub links : List Visit
     pub done : Standing
     pub root : Enters tells [] ROOT nothing begun
-    pub walk : WalksTo limits tells begun visits done
-    pub all : done.left ≡ []
-    pub did : DoesAll does old (Start ∷ flat_map asked_of visits ++ Finish ∷ []) new
+    pub walk : WalksTo limits tells begun visits walked
+    pub all : walked.left ≡ []
+    pub last : LinksTo limits tells walked links done
+    pub all_links : done.links ≡ []
+    pub did : DoesAll does old (Start ∷ flat_map asked_of visits ++ flat_map asked_of links ++ Finish ∷ []) new
 
 module _ {T : Type 0} (does : T → Asked → T → Type 0) (fails : T → Asked → Trouble → T → Type 0) where
   -- A target did some things, and then nothing more, or failed at one. It has not finished.

@@ -8,14 +8,15 @@ use Rattle.ft_copy.specs.declared.found.TheConstants.{ROOT}
 use Rattle.ft_copy.specs.declared.found.FileFacts.{FileFacts}
 use Rattle.ft_copy.specs.declared.found.Found.{Found}
 use Rattle.ft_copy.specs.declared.found.Found.TheVariants as found
+use Rattle.ft_copy.specs.declared.found.MetLink.{MetLink}
 use Rattle.ft_copy.specs.declared.found.Place.{Place}
 use Rattle.ft_copy.specs.declared.trouble.Stopped.{Stopped}
 use Rattle.ft_copy.specs.declared.trouble.Trouble.{Trouble}
 use Rattle.ft_copy.specs.declared.trouble.Trouble.TheVariants.{Memory, Read, Special, TooLarge, TooManyLinks, PathTooLong, BadName, Full}
-use Rattle.ft_copy.specs.Told.{Told, Finds, Holds, Keeps, Refuses}
-use Rattle.ft_copy.specs.Asked.{Asked, Start, Piece, Finish, GiveUp, DoesAll}
+use Rattle.ft_copy.specs.Told.{Told, Finds, Holds, Keeps, Leads, Refuses}
+use Rattle.ft_copy.specs.Asked.{Asked, Start, Piece, Symlink, Finish, GiveUp, DoesAll}
 use Rattle.ft_copy.specs.Walks.{Enters, Standing, is_dotted, nothing}
-use Rattle.ft_copy.specs.Runs.{Visit, OfFolder, OfFile, OfFurther, OfNothing, WalksTo, asked_of}
+use Rattle.ft_copy.specs.Runs.{Visit, OfFolder, OfFile, OfFurther, OfNothing, OfSymlink, LinksTo, WalksTo, asked_of}
 
 -- ---- what was asked for, up to where it stops
 
@@ -51,6 +52,7 @@ abbrev pub read_of : Visit → Option (List ℕ)
 read_of (OfFolder path) = None
 read_of (OfFile path pieces) = Some (concat pieces)
 read_of (OfFurther first path) = None
+read_of (OfSymlink to path) = None
 read_of OfNothing = None
 
 module _ (tells : Told → Type 0) where
@@ -60,7 +62,7 @@ module _ (tells : Told → Type 0) where
       (pieces : List (List ℕ)) × (opened : Option (List ℕ)) × (after : Option (List ℕ)) × (visit ≡ OfFile place.path pieces)
       × tells (Holds place.path place.node opened) × Consumes opened after (concat pieces)
 
-  -- a file that was met already is to get a further name
+  -- a file or a symbolic link that was met already is to get a further name
   abbrev pub IsLinking : Place → FileFacts → Standing → Visit → Type 0
   IsLinking place facts walk visit = (first : List ℕ) × (visit ≡ OfFurther first place.path) × (walk.firsts facts.id ≡ Some first)
 
@@ -68,11 +70,20 @@ module _ (tells : Told → Type 0) where
   abbrev pub HasBegunAs : Place → Found → Standing → Visit → Type 0
   HasBegunAs place found.Folder walk visit = visit ≡ OfFolder place.path
   HasBegunAs place (found.File facts) walk visit = IsReading place visit ⊎ IsLinking place facts walk visit
+  HasBegunAs place (found.Symlink facts) walk visit = ⊥
   HasBegunAs place found.Special walk visit = ⊥
 
   -- A visit has begun, or nothing was done at the place.
   abbrev pub HasBegun : Place → Standing → Visit → Type 0
   HasBegun place walk visit = (visit ≡ OfNothing) ⊎ ((found : Found) × tells (Finds place.path place.node found) × HasBegunAs place found walk visit)
+
+  -- a symbolic link is to be made that leads where the source tells
+  abbrev pub IsLeading : MetLink → Visit → Type 0
+  IsLeading link visit = (to : List ℕ) × (visit ≡ OfSymlink to link.place.path) × tells (Leads link.place.path link.place.node to)
+
+  -- A symbolic link that was met is to be made, or to get a further name; or nothing was done.
+  abbrev pub HasBegunLink : MetLink → Standing → Visit → Type 0
+  HasBegunLink link walk visit = (visit ≡ OfNothing) ⊎ IsLeading link visit ⊎ IsLinking link.place link.facts walk visit
 
   -- the source told of a file at the place, of which this holds
   abbrev pub FindsFile : Place → (FileFacts → Type 0) → Type 0
@@ -94,35 +105,45 @@ module _ (limits : TreeLimits) (tells : Told → Type 0) where
   abbrev pub IsCauseAt : Trouble → Place → Visit → Type 0
   IsCauseAt trouble place visit = Hinders trouble place visit ⊎ tells (Refuses place.path place.node trouble)
 
+  -- Why a symbolic link that was met is not made: it has too many names, or the source could not tell
+  -- of it.
+  abbrev pub IsCauseAtLink : Trouble → MetLink → Type 0
+  IsCauseAtLink trouble link =
+      (trouble ≡ Memory) ⊎ ((trouble ≡ TooManyLinks) × (limits.links < link.facts.links)) ⊎ tells (Refuses link.place.path link.place.node trouble)
+
 -- ---- a copy that is not made
 
--- How far a copy came: to the root; to a place behind these visits; to its end; or to more places
--- than a number counts.
+-- How far a copy came: to the root; to a place behind these visits; to a symbolic link behind these
+-- visits and links; to its end; or to more places than a number counts.
 pub data Reached : Type 0 where
   Root : Reached
   Amid : (visits : List Visit) → (place : Place) → (visit : Visit) → Reached
-  Behind : (visits : List Visit) → Reached
+  AmidLinks : (visits links : List Visit) → (link : MetLink) → (visit : Visit) → Reached
+  Behind : (visits links : List Visit) → Reached
   Endless : (visits : List Visit) → Reached
 
 -- what the target was asked for before, and has done
 abbrev pub asked_before : Reached → List Asked
 asked_before Root = []
 asked_before (Amid visits place visit) = Start ∷ flat_map asked_of visits
-asked_before (Behind visits) = Start ∷ flat_map asked_of visits
+asked_before (AmidLinks visits links link visit) = Start ∷ flat_map asked_of visits ++ flat_map asked_of links
+asked_before (Behind visits links) = Start ∷ flat_map asked_of visits ++ flat_map asked_of links
 asked_before (Endless visits) = Start ∷ flat_map asked_of visits
 
 -- what it was asked for then, up to where the copy stops
 abbrev pub asked_then : Reached → List Asked
 asked_then Root = Start ∷ []
 asked_then (Amid visits place visit) = asked_of visit
-asked_then (Behind visits) = Finish ∷ []
+asked_then (AmidLinks visits links link visit) = asked_of visit
+asked_then (Behind visits links) = Finish ∷ []
 asked_then (Endless visits) = []
 
 -- the path at which it stops
 abbrev pub path_at : Reached → List ℕ
 path_at Root = []
 path_at (Amid visits place visit) = place.path
-path_at (Behind visits) = []
+path_at (AmidLinks visits links link visit) = link.place.path
+path_at (Behind visits links) = []
 path_at (Endless visits) = []
 
 module _ (tells : Told → Type 0) where
@@ -135,20 +156,34 @@ module _ (limits : TreeLimits) (tells : Told → Type 0) where
   abbrev pub HasWalked : List Visit → Standing → Type 0
   HasWalked visits now = (begun : Standing) × Enters tells [] ROOT nothing begun × WalksTo limits tells begun visits now
 
+  -- The same until no place was left, and then these of the links that were met were made.
+  abbrev pub HasLinked : List Visit → List Visit → Standing → Type 0
+  HasLinked visits links now = (walked : Standing) × HasWalked visits walked × (walked.left ≡ []) × LinksTo limits tells walked links now
+
   -- So far the source told.
   abbrev pub IsReached : Reached → Type 0
   IsReached Root = Unit {0}
   IsReached (Amid visits place visit) =
-      (now : Standing) × (rest : List Place) × HasWalked visits now × (now.left ≡ rest ++ place ∷ []) × HasBegun tells place (record { left = rest; firsts = now.firsts }) visit
-  IsReached (Behind visits) = (now : Standing) × HasWalked visits now × (now.left ≡ [])
+      (now : Standing) × (rest : List Place) × HasWalked visits now × (now.left ≡ rest ++ place ∷ []) × HasBegun tells place (record { left = rest; links = now.links; firsts = now.firsts }) visit
+  IsReached (AmidLinks visits links link visit) =
+      (now : Standing) × (more : List MetLink) × HasLinked visits links now × (now.links ≡ link ∷ more)
+      × HasBegunLink tells link (record { left = now.left; links = more; firsts = now.firsts }) visit
+  IsReached (Behind visits links) = (now : Standing) × HasLinked visits links now × (now.links ≡ [])
   IsReached (Endless visits) = (now : Standing) × HasWalked visits now × (2 ^ 64 - 1 ≤ length visits)
 
   -- Why it went no further, where the target has not failed.
   abbrev pub IsCause : Trouble → Reached → Type 0
   IsCause trouble Root = IsCauseAtRoot tells trouble
   IsCause trouble (Amid visits place visit) = IsCauseAt limits tells trouble place visit
-  IsCause trouble (Behind visits) = ⊥
+  IsCause trouble (AmidLinks visits links link visit) = IsCauseAtLink limits tells trouble link
+  IsCause trouble (Behind visits links) = ⊥
   IsCause trouble (Endless visits) = trouble ≡ Full
+
+module _ {T : Type 0} (tells : Told → Type 0) (fails : T → Asked → Trouble → T → Type 0) where
+  -- The source could not tell where a symbolic link leads, or the target could not make it.
+  abbrev pub FailsToCopyLink : Trouble → List ℕ → ℕ → T → T → Type 0
+  FailsToCopyLink trouble path node old new =
+      ((new ≡ old) × tells (Refuses path node trouble)) ⊎ ((to : List ℕ) × tells (Leads path node to) × fails old (Symlink to path) trouble new)
 
 module _ {T : Type 0} (tells : Told → Type 0) (does : T → Asked → T → Type 0) (fails : T → Asked → Trouble → T → Type 0) where
   -- The target did not start, or the root could not be entered.
@@ -165,7 +200,7 @@ module _ {T : Type 0} (limits : TreeLimits) (tells : Told → Type 0) (does : T 
   abbrev pub StopsNext : Stopped → Standing → T → T → Type 0
   StopsNext stopped now old new =
       (rest : List Place) × (place : Place) × (now.left ≡ rest ++ place ∷ []) × (stopped.path ≡ place.path)
-      × StopsVisit stopped.trouble place (record { left = rest; firsts = now.firsts }) old new
+      × StopsVisit stopped.trouble place (record { left = rest; links = now.links; firsts = now.firsts }) old new
 
   -- There were more places than a number counts.
   abbrev pub RunsOut : Stopped → List Visit → T → T → Type 0
@@ -176,6 +211,18 @@ module _ {T : Type 0} (limits : TreeLimits) (tells : Told → Type 0) (does : T 
   StopsVisiting stopped walk old new =
       (visits : List Visit) × (now : Standing) × (middle : T) × WalksTo limits tells walk visits now × DoesAll does old (flat_map asked_of visits) middle
       × (StopsNext stopped now middle new ⊎ RunsOut stopped visits middle new)
+
+  -- A symbolic link was not made.
+  abbrev pub StopsLink : Trouble → MetLink → Standing → T → T → Type 0
+  StopsLink trouble link walk old new =
+      (visit : Visit) × HasBegunLink tells link walk visit × StopsIn does fails (IsCauseAtLink limits tells trouble link) trouble (asked_of visit) old new
+
+  -- Symbolic links that were met were made, until one was not.
+  abbrev pub StopsLinks : Stopped → Standing → T → T → Type 0
+  StopsLinks stopped walk old new =
+      (links : List Visit) × (now : Standing) × (middle : T) × LinksTo limits tells walk links now × DoesAll does old (flat_map asked_of links) middle
+      × ((link : MetLink) × (more : List MetLink) × (now.links ≡ link ∷ more) × (stopped.path ≡ link.place.path)
+      × StopsLink stopped.trouble link (record { left = now.left; links = more; firsts = now.firsts }) middle new)
 
   -- A copy came so far, and no further: all before it was done, and of what came then a beginning.
   abbrev pub Stops : Stopped → T → T → Type 0

@@ -8,8 +8,10 @@ use Rattle.std.specs.Cmp.Lexicographic.{slice_cmp}
 use Rattle.std.specs.Map.{lookup}
 use Rattle.std.specs.Io.KnownBytes.{Consumes, IsAtEnd}
 use Rattle.ft_copy.specs.declared.firsts.Firsts.{Firsts}
+use Rattle.ft_copy.specs.declared.found.FileFacts.{FileFacts}
 use Rattle.ft_copy.specs.declared.found.FileId.{FileId}
 use Rattle.ft_copy.specs.declared.found.Listed.{Listed}
+use Rattle.ft_copy.specs.declared.found.MetLink.{MetLink}
 use Rattle.ft_copy.specs.declared.found.Place.{Place}
 use Rattle.ft_copy.specs.declared.walk.Walk.{Walk}
 use Rattle.ft_copy.specs.Told.{Told, Lists, Holds}
@@ -34,18 +36,24 @@ firsts_of firsts id = lookup (same_file id) firsts.paths.entries
 
 -- ---- what is still to be visited
 
--- The places that are left, of which the last is visited next.
+-- The places that are left, of which the last is visited next; the symbolic links that were met, of
+-- which the first is made next; and the files and links that were met.
 pub record Standing : Type 0 where
   pub left : List Place
+  pub links : List MetLink
   pub firsts : FirstPaths
 
 -- where a walk stands
 abbrev pub standing : Walk → Standing
-standing walk = record { left = walk.left.items; firsts = firsts_of walk.firsts }
+standing walk = record { left = walk.left.items; links = walk.links.items; firsts = firsts_of walk.firsts }
 
--- nothing is left to be visited, and no file was met
+-- nothing is left to be visited, and no link and no file was met
 abbrev pub nothing : Standing
-nothing = record { left = []; firsts = λ _. None }
+nothing = record { left = []; links = []; firsts = λ _. None }
+
+-- a symbolic link is put off, behind those that were met before
+abbrev pub PutsOff : Place → FileFacts → Standing → Standing → Type 0
+PutsOff place facts old new = new ≡ record { left = old.left; links = old.links ++ record { place = place; facts = facts } ∷ []; firsts = old.firsts }
 
 -- where a name of a directory leads
 abbrev pub child : List ℕ → Listed → Place
@@ -73,7 +81,7 @@ module _ (tells : Told → Type 0) where
   abbrev pub Enters : List ℕ → ℕ → Standing → Standing → Type 0
   Enters path node old new =
       (told : List Listed) × (names : List Listed) × tells (Lists path node told) × IsPermutation told names × IsSorted name_order names
-      × (new ≡ record { left = old.left ++ above path names; firsts = old.firsts })
+      × (new ≡ record { left = old.left ++ above path names; links = old.links; firsts = old.firsts })
 
   -- the bytes of a file, in pieces
   abbrev pub IsRead : List ℕ → ℕ → List (List ℕ) → Type 0

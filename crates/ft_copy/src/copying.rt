@@ -9,19 +9,23 @@ ghost use Rattle.ft_copy.specs.Walks.{is_dotted, standing};
 use crate::file::copy_file;
 use crate::firsts::Firsts;
 use crate::found::{FileFacts, Found, Place, ROOT};
+use crate::linking::make_links;
 use crate::source::Source;
 use crate::target::Target;
 use crate::trouble::{Stopped, Trouble};
-use crate::walk::{Walk, enter};
+use crate::walk::{Walk, enter, put_off};
 use ft_base::Sequence;
 use ft_cells::TreeLimits;
 use ft_path::LONGEST_PATH;
 use std::alloc::Global;
+use std::collections::VecDeque;
 
 /// Copies what a source tells of to a target: each directory before what stands in it, the names of
 /// a directory in the order of their bytes, a file by its bytes where it is met first and as a link
-/// where it is met again. What a tree has no place for is refused, unless the source leaves it out,
-/// and so is a file that has more bytes or more names than these limits allow.
+/// where it is met again. Symbolic links are not followed, and come behind all else, so that the
+/// target is asked for nothing that stands behind one. What a tree has no place for is refused,
+/// unless the source leaves it out, and so is a file that has more bytes or more names than these
+/// limits allow.
 ///
 /// Where something fails, the target is asked to give up, and for nothing more.
 pub fn copy<S: Source, T: Target>(
@@ -56,12 +60,14 @@ fn copy_whole<S: Source, T: Target>(
     let mut walk = Walk {
         alloc,
         left: Vec::new(alloc),
+        links: VecDeque::new(alloc),
         firsts: Firsts::new(alloc),
     };
     if let Err(trouble) = begin(source, target, &mut walk) {
         return Err(at_root(alloc, trouble));
     }
     visit_all(limits, source, target, &mut walk)?;
+    make_links(limits, source, target, &mut walk)?;
     match target.finish() {
         Ok(()) => Ok(()),
         Err(trouble) => Err(at_root(alloc, trouble)),
@@ -95,7 +101,7 @@ fn visit_all<S: Source, T: Target>(
     target: &mut T,
     walk: &mut Walk,
 ) -> Result<(), Stopped>
-    ensures ok { OnOk result (VisitsAll limits (S.tells source.now) T.does (standing walk.old) target.old target.new) }
+    ensures ok { OnOk result (VisitsAll limits (S.tells source.now) T.does (standing walk.old) (standing walk.new) target.old target.new) }
     ensures err { IfErr result (λ stopped. StopsVisiting limits (S.tells source.now) T.does T.fails stopped (standing walk.old) target.old target.new) }
 {
     let mut turns = u64::MAX;
@@ -141,6 +147,7 @@ fn visit<S: Source, T: Target>(
             enter(source, walk, path, place.node)
         }
         Found::File(facts) => visit_file(limits, source, target, walk, place, &facts),
+        Found::Symlink(facts) => Ok(put_off(walk, place, facts)?),
         Found::Special => {
             if source.omits(path)? {
                 Ok(())

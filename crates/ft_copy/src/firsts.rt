@@ -1,4 +1,4 @@
-// The files with more than one name that were copied already.
+// The files and symbolic links with more than one name that were copied already.
 ghost use Rattle.std.specs.Prelude.{◌≡◌, None, OnOk};
 ghost use Rattle.std.specs.Option.{option_copied};
 ghost use Rattle.ft_copy.specs.Walks.{firsts_of, with_first};

@@ -12,13 +12,13 @@ pub struct FileId {
     pub number: u64,
 }
 
-/// What is known of a file before it is read.
+/// What is known of a file, or of a symbolic link, before it is read.
 #[derive(Clone, Copy, Debug, PartialEq, Eq)]
 pub struct FileFacts {
     pub id: FileId,
     /// How many names it has at most, also where some of them stand elsewhere.
     pub links: u64,
-    /// How many bytes it has.
+    /// How many bytes it has: for a symbolic link, those of where it leads.
     pub size: u64,
 }
 
@@ -29,7 +29,9 @@ pub enum Found {
     Folder,
     /// A file.
     File(FileFacts),
-    /// What a tree has no place for: a symbolic link, a device, a FIFO or a socket.
+    /// A symbolic link, which is not followed.
+    Symlink(FileFacts),
+    /// What a tree has no place for: a device, a FIFO or a socket.
     Special,
 }
 
@@ -47,4 +49,11 @@ pub struct Listed {
 pub struct Place {
     pub path: Sequence<u8>,
     pub node: u64,
+}
+
+/// A symbolic link that was met, and is made when all else is.
+#[derive(Debug, PartialEq, Eq, Drop)]
+pub struct MetLink {
+    pub place: Place,
+    pub facts: FileFacts,
 }

@@ -6,6 +6,7 @@ mod copying;
 mod file;
 mod firsts;
 mod found;
+mod linking;
 mod name;
 mod source;
 mod target;
@@ -14,7 +15,7 @@ mod walk;
 
 pub use copying::copy;
 pub use file::PIECE;
-pub use found::{FileFacts, FileId, Found, Listed, Place, ROOT};
+pub use found::{FileFacts, FileId, Found, Listed, MetLink, Place, ROOT};
 pub use name::name_of;
 pub use source::Source;
 pub use target::Target;

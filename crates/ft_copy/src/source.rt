@@ -3,12 +3,13 @@ ghost use Rattle.std.specs.Prelude.{IfErr, IfOk, IsFalse, IsTrue, ℕ};
 
 use crate::found::{Found, Listed};
 use crate::trouble::Trouble;
+use ft_base::Sequence;
 use std::io::Read;
 
 /// What tells of a tree of directories. A place in it is told by its path, and by the number that
 /// the source gave with its name.
 pub trait Source {
-    ghost use Rattle.ft_copy.specs.Told.{Told, Lists, Finds, Holds, Omits, Keeps, Refuses};
+    ghost use Rattle.ft_copy.specs.Told.{Told, Lists, Finds, Holds, Leads, Omits, Keeps, Refuses};
 
     /// A file that is open for reading.
     type File: Read + Drop;
@@ -29,6 +30,11 @@ pub trait Source {
     /// Opens a file.
     fn open(&self, path: &[u8], node: u64) -> Result<Self::File, Trouble>
         ensures ok { IfOk result (λ file. tells self.now (Holds path.now node (Self.File.remaining file))) }
+        ensures err { IfErr result (λ trouble. tells self.now (Refuses path.now node trouble)) };
+
+    /// Where a symbolic link leads, as it stands in the link.
+    fn read_link(&self, path: &[u8], node: u64) -> Result<Sequence<u8>, Trouble>
+        ensures ok { IfOk result (λ to. tells self.now (Leads path.now node to)) }
         ensures err { IfErr result (λ trouble. tells self.now (Refuses path.now node trouble)) };
 
     /// Whether what a tree has no place for is to be left out at this path.

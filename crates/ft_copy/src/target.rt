@@ -4,11 +4,11 @@ ghost use Rattle.std.specs.Prelude.{OnOk, IfErr};
 use crate::trouble::Trouble;
 
 /// What makes a tree of directories. It is asked for one thing after another: first to start, then
-/// for directories and files, each directory before what stands in it, and then to finish. Where
-/// something fails, it is asked to give up, and for nothing more.
+/// for directories and files, each directory before what stands in it, then for symbolic links, and
+/// then to finish. Where something fails, it is asked to give up, and for nothing more.
 pub trait Target {
     ghost use Rattle.ft_copy.specs.declared.trouble.Trouble.{Trouble};
-    ghost use Rattle.ft_copy.specs.Asked.{Asked, Start, Folder, Open, Piece, Close, Link, Finish, GiveUp};
+    ghost use Rattle.ft_copy.specs.Asked.{Asked, Start, Folder, Open, Piece, Close, Link, Symlink, Finish, GiveUp};
 
     /// From one state to the next, when it has done what it was asked for. By default that is not
     /// said.
@@ -42,10 +42,15 @@ pub trait Target {
         ensures ok { OnOk result (does self.old Close self.new) }
         ensures err { IfErr result (λ trouble. fails self.old Close trouble self.new) };
 
-    /// Gives a file that was made a further name.
+    /// Gives a file or a symbolic link that was made a further name.
     fn link(&mut self, first: &[u8], path: &[u8]) -> Result<(), Trouble>
         ensures ok { OnOk result (does self.old (Link first.now path.now) self.new) }
         ensures err { IfErr result (λ trouble. fails self.old (Link first.now path.now) trouble self.new) };
+
+    /// Makes a symbolic link that leads there, whatever stands there, or nothing.
+    fn symlink(&mut self, to: &[u8], path: &[u8]) -> Result<(), Trouble>
+        ensures ok { OnOk result (does self.old (Symlink to.now path.now) self.new) }
+        ensures err { IfErr result (λ trouble. fails self.old (Symlink to.now path.now) trouble self.new) };
 
     /// Ends the tree, which is whole.
     fn finish(&mut self) -> Result<(), Trouble>

@@ -15,13 +15,13 @@ pub enum Trouble {
     /// The target could not be written.
     #[error("Write")]
     Write,
-    /// There is a symbolic link, a device, a FIFO or a socket.
+    /// There is a device, a FIFO or a socket.
     #[error("Special")]
     Special,
     /// A file has more bytes than a file may have.
     #[error("TooLarge")]
     TooLarge,
-    /// A file has more names than a file may have.
+    /// A file or a symbolic link has more names than one may have.
     #[error("TooManyLinks")]
     TooManyLinks,
     /// A path has more bytes than a path may have.

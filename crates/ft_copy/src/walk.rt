@@ -1,21 +1,23 @@
 // The walk over a source: what is still to be visited.
 ghost use Rattle.std.specs.Prelude.{◌≡◌, ◌⊎◌, ◌++◌, OnOk, IfErr, IfOk};
 ghost use Rattle.ft_copy.specs.Told.{Refuses};
-ghost use Rattle.ft_copy.specs.Walks.{Enters, above, child, standing};
+ghost use Rattle.ft_copy.specs.Walks.{Enters, PutsOff, above, child, standing};
 
 use crate::firsts::Firsts;
-use crate::found::{Listed, Place};
+use crate::found::{FileFacts, Listed, MetLink, Place};
 use crate::source::Source;
 use crate::trouble::Trouble;
 use ft_base::Memory;
 use std::alloc::Global;
+use std::collections::VecDeque;
 
-/// What is still to be visited, the next at the end, and the files with more than one name that
-/// were copied already.
+/// What is still to be visited, the next at the end; the symbolic links that were met, the next at
+/// the front; and the files and links with more than one name that were copied already.
 #[derive(Drop)]
 pub(crate) struct Walk {
     pub(crate) alloc: Global,
     pub(crate) left: Vec<Place>,
+    pub(crate) links: VecDeque<MetLink>,
     pub(crate) firsts: Firsts,
 }
 
@@ -39,6 +41,7 @@ pub(crate) fn enter<S: Source>(
 // Puts the names of a directory on top, the first of them as the next.
 fn put_on_top(walk: &mut Walk, path: &[u8], names: Vec<Listed>) -> Result<(), Memory>
     ensures left { OnOk result (walk.new.left.items ≡ walk.old.left.items ++ above path.now names.items) }
+    ensures links { walk.new.links ≡ walk.old.links }
     ensures firsts { walk.new.firsts ≡ walk.old.firsts }
 {
     let mut names = names;
@@ -60,4 +63,19 @@ fn place_of(alloc: Global, path: &[u8], listed: &Listed) -> Result<Place, Memory
         path: bytes.into(),
         node: listed.node,
     })
+}
+
+/// Puts a symbolic link off until all else is made.
+pub(crate) fn put_off(walk: &mut Walk, place: &Place, facts: FileFacts) -> Result<(), Memory>
+    ensures { OnOk result (PutsOff place.now facts (standing walk.old) (standing walk.new)) }
+{
+    let path = Vec::from_slice(walk.alloc, place.path.as_slice())?;
+    walk.links.push_back(MetLink {
+        place: Place {
+            path: path.into(),
+            node: place.node,
+        },
+        facts,
+    })?;
+    Ok(())
 }

@@ -28,7 +28,7 @@ use Rattle.ft_history.specs.History.Fate.{Aborted}
 use Rattle.ft_history.specs.History.Event.{Abort as WasAborted}
 use Rattle.ft_history.specs.Core.{IsCore}
 use Rattle.ft_history.specs.Legal.{Legal}
-use Rattle.ft_history.specs.Logs.{put, passing, handed, emptied}
+use Rattle.ft_history.specs.Logs.{put, handed, emptied}
 use Rattle.ft_history.specs.Promises.{calls_below}
 use Rattle.ft_history.proofs.Fates.{fate_rules}
 use Rattle.ft_history.proofs.Methods.{abort_first, core_aborted, ended_list}
@@ -42,6 +42,7 @@ use Rattle.ft_core.specs.Kept.{Item, ArePlaced, AreLogged, AreLogs, IsCoreAt, Is
 use Rattle.ft_core.specs.Laws.{CallLaws, LockLaws}
 use Rattle.ft_core.specs.Taking.{taken_back, CanTakeBack}
 use Rattle.ft_core.proofs.Accounts.{still-accounted}
+use Rattle.ft_core.proofs.Counts.{fewer-pass}
 use Rattle.ft_core.proofs.Allowing.{still-within, happened}
 use Rattle.ft_core.proofs.Ends.{named, kept-ending, same-live, live-in, not-live-in, fate-live}
 use Rattle.ft_core.proofs.Joining.{start, values}
@@ -50,12 +51,6 @@ use Rattle.ft_core.proofs.Noted.{removed-same, removed-other, opened-other, open
 use Rattle.ft_core.proofs.Owned.{write_line, has-lock}
 use Rattle.ft_core.proofs.Reverting.{placed-stays}
 use Rattle.ft_core.proofs.Gathered.{parts}
-
-fewer-pass : {A : Type 0} (p : A → Bool) (xs : List A) → length (passing p xs) ≤ length xs
-fewer-pass p [] = omega arith
-fewer-pass p (x ∷ xs) = by_test (p x)
-    (λ k. let ih = fewer-pass p xs in let here = ap (λ b. length (cond b (x ∷ passing p xs) (passing p xs))) k in omega arith)
-    (λ k. let ih = fewer-pass p xs in let here = ap (λ b. length (cond b (x ∷ passing p xs) (passing p xs))) k in omega arith)
 
 module _ (W : CallLaws) (K : LockLaws) {base : Base} {h : History} {asks : Asks} {last_txn last_number : ℕ} {cells₀ : Cells} {forest₀ : Transactions} {table₀ : LockTable} {lists₀ : Lists Logged} {j₀ : Journaled} (core : IsCoreAt base h asks last_txn last_number cells₀ forest₀ table₀ lists₀ j₀) (t : ℕ) (live : IsLive posix_calls base.last_txn h t) where
   abbrev from : HistoryBase posix_calls
@@ -127,7 +122,7 @@ module _ (W : CallLaws) (K : LockLaws) {base : Base} {h : History} {asks : Asks}
     parents : (x : ℕ) → parent_in forest x ≡ parent posix_calls h x
     parents x = way.forest_is.parents x ∙ core.transactions.parents x
 
-    was-live : (x : ℕ) → state_in forest x ≡ Some LiveState → IsLive posix_calls base.last_txn h x
+    pub was-live : (x : ℕ) → state_in forest x ≡ Some LiveState → IsLive posix_calls base.last_txn h x
     was-live x e = elim (way.forest_is.states x) [
       | inl same ↦ live-of x (sym same ∙ e)
       | inr aborted ↦ absurd (other (sym aborted.2 ∙ e))
@@ -135,6 +130,12 @@ module _ (W : CallLaws) (K : LockLaws) {base : Base} {h : History} {asks : Asks}
       where
         other : Some AbortedState ≡ Some LiveState → ⊥
         other e = cc
+
+    pub below-is : (x : ℕ) → over_in forest t x ≡ true → over posix_calls h t x ≡ true
+    below-is x below = sym (over-is forest parents t x) ∙ below
+
+    pub below-back : (x : ℕ) → over posix_calls h t x ≡ true → over_in forest t x ≡ true
+    below-back x below = over-is forest parents t x ∙ below
 
     -- what the calls of a transaction wrote whose turn has not come is locked still
     still-locked : (x : ℕ) → state_in forest x ≡ Some LiveState → (e : Item) → In e (way.log x) → (c : Cell) → writes_cell e.done.accesses c ≡ true → is_locked table c ≡ true

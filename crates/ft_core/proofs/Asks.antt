@@ -8,6 +8,7 @@ use Rattle.ft_laws.proofs.Tests.{by_test}
 use Rattle.ft_posix.specs.declared.call.Call.{Call}
 use Rattle.ft_posix.specs.declared.call.Reply.{Reply}
 use Rattle.ft_posix.specs.declared.call.Access.{Access}
+use Rattle.ft_tree.specs.Sound.{IsFree}
 use Rattle.ft_posix.specs.Accesses.{accesses_of}
 use Rattle.ft_posix.specs.Stored.{outcome}
 use Rattle.ft_posix.specs.Posix.{as_place, posix_calls}
@@ -31,7 +32,7 @@ use Rattle.ft_core.specs.Steps.{IsAsked, exact_rule}
 use Rattle.ft_core.proofs.Cores.{dropped, core-asks, awaited}
 use Rattle.ft_core.proofs.Begins.{core-opened}
 use Rattle.ft_core.proofs.Grants.{core-granted}
-use Rattle.ft_core.proofs.Joining.{start, values, accesses-are, reply-is}
+use Rattle.ft_core.proofs.Joining.{start, values, free, accesses-are, reply-is}
 use Rattle.ft_core.proofs.Told.{told-push}
 
 -- below the limits there is a stamp more
@@ -53,6 +54,10 @@ module _ (W : CallLaws) (K : LockLaws) (p : Parts) (j : Journaled) (core : IsCor
       let stamped = core.kept.started.stamped in
       let count : j.last_stamp - j.base_stamp ≡ length (grants posix_calls (history s)) = omega arith in
       (λ i. nat_le j.calls (count i) || nat_le LAST_NUMBER j.last_stamp)
+
+  -- the stamp of the next call numbers nothing yet
+  pub next-free : (k : ℕ) → k ≡ next_stamp s → IsFree p.tree k
+  next-free k next = free W core.kept k (omega arith)
 
   pub touched-now : (call : Call) → accesses_of p.tree (next_stamp s) call ≡ accesses_now s call
   touched-now call = accesses-are W core.kept (next_stamp s) call

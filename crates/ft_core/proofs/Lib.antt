@@ -1,7 +1,7 @@
 pub mod Told
 mod PastWalks
 mod Gathered
-mod Counts
+pub mod Counts
 pub mod Joining
 pub mod Allowing
 mod Reporting
@@ -26,6 +26,7 @@ mod Children
 mod Surveys
 mod Alone
 mod Ended
+mod Tallies
 mod Families
 mod Written
 mod Sweeps

@@ -2,7 +2,7 @@
 -- Histories, Living, Steps, Promises, Reports, Sweeps and Reached. What follows from the events
 -- alone is said by ft_history at the calls of ft_posix, and not a second time here. (Rules of this
 -- project, where no source is given.)
-use Rattle.std.specs.Prelude.{ℕ, ◌+◌, Bool, not, ◌||◌, nat_le, nat_lt, List, [], ◌∷◌, ◌++◌, Option, Some, None, length, refl}
+use Rattle.std.specs.Prelude.{ℕ, ◌+◌, Bool, not, ◌||◌, ◌==◌, nat_le, nat_lt, List, [], ◌∷◌, ◌++◌, Option, Some, None, length, refl}
 use Rattle.std.specs.Ordering.{nat_cmp}
 use Rattle.std.specs.FinMap as finite
 use Rattle.std.specs.Coded.{Coded, code_by, coded×, coded_ℕ, coded_list}
@@ -20,7 +20,8 @@ use Rattle.ft_posix.specs.Exec.{exec}
 use Rattle.ft_posix.specs.RunLaws.{accesses_in, tree_after}
 use Rattle.ft_posix.specs.Posix.{posix_calls}
 use Rattle.ft_history.specs.History.Fate.{Live, Committed, Aborted}
-use Rattle.ft_history.specs.History.{Fate, fate, is_live, over, begun, live_children as live_children_of, grants, standing}
+use Rattle.ft_history.specs.Forest.{is_some_and}
+use Rattle.ft_history.specs.History.{Fate, fate, is_live, over, begun, live_children as live_children_of, owner_of, grants, standing}
 use Rattle.ft_history.specs.Logs.{passing}
 use Rattle.ft_history.specs.Promises.{calls_below}
 use Rattle.ft_moss.specs.declared.rule.Rule.{Rule}
@@ -234,6 +235,14 @@ after_abort s t = record s { events = s.events ++ Abort t ∷ []; asks = finite.
 -- how many standing calls were asked by t or below it
 abbrev pub count_standing : State → ℕ → ℕ
 count_standing s t = calls_below posix_calls (history s) t
+
+-- how many standing calls t owns (Moss: at a commit the parent inherits)
+abbrev pub count_owned : State → ℕ → ℕ
+count_owned s t = length (passing (λ c. is_some_and (owner_of posix_calls (history s) c.asker) (λ o. o == t)) (standing_calls s))
+
+-- how many live transactions are at or below t
+abbrev pub count_live : State → ℕ → ℕ
+count_live s t = length (passing (over posix_calls (history s) t) (live_transactions s))
 
 -- the tree as it stands is the base, and what has happened is forgotten; the
 -- last numbers, the rule and the limits stay

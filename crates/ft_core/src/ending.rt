@@ -1,5 +1,5 @@
 // How transactions end, and how a call is undone.
-ghost use Rattle.std.specs.Prelude.{◌≡◌, ℕ, Some, Ok, IfOk, IfErr};
+ghost use Rattle.std.specs.Prelude.{◌≡◌, ℕ, Some, Ok, IsOk, IfOk, IfErr};
 ghost use Rattle.ft_posix.specs.Posix.{posix_calls};
 ghost use Rattle.ft_history.specs.History.Fate.{Live};
 ghost use Rattle.ft_history.specs.Undoing.{undo_target};
@@ -7,13 +7,14 @@ ghost use Rattle.ft_history.specs.Undoing.Target.{Found};
 ghost use Rattle.ft_core.specs.declared.request.Request.TheVariants.{Commit, Abort, Undo};
 ghost use Rattle.ft_core.specs.declared.request.Answer.TheVariants.{Committed, Aborted, Undone};
 ghost use Rattle.ft_core.specs.Histories.{Granted};
-ghost use Rattle.ft_core.specs.States.{State as StateOf, history, fate_of, tree_of, after_abort, count_standing};
+ghost use Rattle.ft_core.specs.States.{State as StateOf, history, fate_of, tree_of, after_abort, count_standing, count_live, count_owned};
 ghost use Rattle.ft_core.specs.Promises.{IsJustMade, RanAlone};
 ghost use Rattle.ft_core.specs.Steps.{IsStep, exact_rule, answer_with, fault_of_target};
 
 use crate::fault::Fault;
 use crate::manager::Core;
 use crate::past::Turn;
+use crate::request::FullAbort;
 use ft_forest::TxnId;
 
 impl Core {
@@ -48,30 +49,59 @@ impl Core {
         // If it ran alone, the tree is that of its begin.
         ensures alone { (before : StateOf) → RanAlone before self.old.state txn → (result ≡ Ok (count_standing self.old.state txn)) × (tree_of self.new.state ≡ tree_of before) }
     {
+        Ok(self.abort_in_full(txn)?.calls)
+    }
+
+    /// Aborts a transaction as `abort` does, and answers besides how many transactions it ends.
+    pub fn abort_in_full(&mut self, txn: TxnId) -> Result<FullAbort, Fault>
+        ensures step { IsStep exact_rule self.old.state (Abort txn) (answer_with (λ abort. Aborted abort.calls) result) self.new.state }
+        ensures calls { IfOk result (λ abort. abort.calls ≡ count_standing self.old.state txn) }
+        ensures transactions { IfOk result (λ abort. abort.transactions ≡ count_live self.old.state txn) }
+
+        // If it ran alone, the tree is that of its begin.
+        ensures alone { (before : StateOf) → RanAlone before self.old.state txn → IsOk result × (tree_of self.new.state ≡ tree_of before) }
+    {
         self.check_live(txn)?;
         Ok(self.abort_live(txn))
     }
 
     /// Takes back what the live transactions at or below a live one have done, each before its
     /// parent, and ends them.
-    fn abort_live(&mut self, txn: TxnId) -> u64
+    fn abort_live(&mut self, txn: TxnId) -> FullAbort
         requires { fate_of self.old.state txn ≡ Some Live }
-        ensures count { result ≡ count_standing self.old.state txn }
+        ensures calls { result.calls ≡ count_standing self.old.state txn }
+        ensures transactions { result.transactions ≡ count_live self.old.state txn }
         ensures ended { self.new.state ≡ after_abort self.old.state txn }
         ensures alone { (before : StateOf) → RanAlone before self.old.state txn → tree_of (after_abort self.old.state txn) ≡ tree_of before }
     {
-        // (no more calls stand than stamps are given)
-        let mut count = 0;
+        // (no more calls stand than stamps are given, and each transaction has a number of its own)
+        let mut calls = 0;
+        let mut transactions = 0;
         let mut last = txn;
         while let Some(next) = self.parts.forest.abort_next(txn, last) {
-            count += self.parts.take_list(next);
+            calls += self.parts.take_list(next);
             self.parts.logs.close(next.0);
             self.parts.locks.release(next);
             self.journal.forget(next);
+            transactions += 1;
             last = next;
         }
         self.journal.tell(&Turn::Abort { txn });
-        count
+        FullAbort {
+            transactions,
+            calls,
+        }
+    }
+
+    /// How many standing calls a transaction owns: its own, and those that came to it when
+    /// subtransactions committed. They can be taken back until it has ended, and no longer if it
+    /// commits at the top level.
+    ///
+    /// Takes the time of so many.
+    pub fn count_owned(&self, txn: TxnId) -> u64
+        ensures { result ≡ count_owned self.now.state txn }
+    {
+        self.parts.logs.len(txn.0) as u64
     }
 
     /// Undoes the last of a transaction's own standing calls, and answers its stamp. It may be one

@@ -25,7 +25,7 @@ pub use ft_moss::Rule;
 pub use limits::Limits;
 pub use manager::Core;
 pub use reports::{LiveChild, Pending};
-pub use request::{Answer, Event, FullOutcome, Outcome, Request};
+pub use request::{Answer, Event, FullAbort, FullOutcome, Outcome, Request};
 
 /// How many calls may be granted since the base where nobody asks for more.
 pub const DEFAULT_CALLS: u64 = 1_000_000;

@@ -1,7 +1,7 @@
 // The parts of a core: the tree, and what is kept beside it.
 ghost use Rattle.std.specs.Prelude.{◌≡◌, ◌<◌, ◌≤◌, ◌^◌, ◌+◌, ◌∷◌, ℕ, List, [], Some, None, cond, true, false, length, take, map, IfOk, OnOk, OnErr};
 ghost use Rattle.ft_base.specs.Chains.{list_in};
-ghost use Rattle.ft_tree.specs.Sound.{AreSoundCells};
+ghost use Rattle.ft_tree.specs.Sound.{AreSoundCells, IsFree};
 ghost use Rattle.ft_posix.specs.Comes.{outcome_of};
 ghost use Rattle.ft_posix.specs.Edits.{CanEditAll, Apart};
 ghost use Rattle.ft_posix.specs.Stored.{put_all};
@@ -94,6 +94,7 @@ impl Parts {
         rule: Rule,
     ) -> Result<Tried, Memory>
         requires sound { AreSoundCells self.old.tree }
+        requires free { IsFree self.old.tree asker.stamp }
         requires locks { is_opened self.old.locks asker.txn ≡ true }
         requires log { is_open self.old.logs asker.txn ≡ true }
         requires alone { IsAloneIfChildless self.old.locks self.old.forest asker.txn }

@@ -92,6 +92,15 @@ impl FullOutcome {
     }
 }
 
+/// What an abort has ended.
+#[derive(Clone, Copy, Debug, PartialEq, Eq)]
+pub struct FullAbort {
+    /// How many transactions: all that were live at or below the one that was to be aborted.
+    pub transactions: u64,
+    /// How many standing calls were taken away.
+    pub calls: u64,
+}
+
 /// What has happened.
 #[derive(Debug, PartialEq, Eq, Drop)]
 pub enum Event {

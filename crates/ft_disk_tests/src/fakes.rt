@@ -1,5 +1,6 @@
 // A tree of directories in memory: one that is read, and one that is made. Each has so many turns:
 // a call takes one, and where none is left it fails.
+use ft_base::Sequence;
 use ft_copy::{FileFacts, FileId, Found, Listed, Source, Target, Trouble, name_of};
 use std::alloc::Global;
 use std::cell::Cell;
@@ -15,6 +16,8 @@ pub enum Held<'a> {
     Folder,
     /// A file: its number, how many names it has, and its bytes.
     File(u64, u64, &'a [u8]),
+    /// A symbolic link: its number, how many names it has, and where it leads.
+    Symlink(u64, u64, &'a [u8]),
     /// What a tree has no place for.
     Special,
 }
@@ -66,6 +69,15 @@ fn take_turn(turns: &Cell<u64>) -> Result<(), Trouble> {
     Ok(())
 }
 
+// What is known of a file, or of a symbolic link.
+fn facts_of(number: u64, links: u64, bytes: &[u8]) -> FileFacts {
+    FileFacts {
+        id: FileId { device: 1, number },
+        links,
+        size: bytes.len() as u64,
+    }
+}
+
 impl<'a> Source for FakeSource<'a> {
     type File = FakeFile<'a>;
 
@@ -85,11 +97,12 @@ impl<'a> Source for FakeSource<'a> {
         take_turn(self.turns)?;
         match held_at(self.rows, path) {
             Some(Held::Folder) => Ok(Found::Folder),
-            Some(Held::File(number, links, bytes)) => Ok(Found::File(FileFacts {
-                id: FileId { device: 1, number },
-                links,
-                size: bytes.len() as u64,
-            })),
+            Some(Held::File(number, links, bytes)) => {
+                Ok(Found::File(facts_of(number, links, bytes)))
+            }
+            Some(Held::Symlink(number, links, to)) => {
+                Ok(Found::Symlink(facts_of(number, links, to)))
+            }
             Some(Held::Special) => Ok(Found::Special),
             None => Err(Trouble::Read),
         }
@@ -102,6 +115,14 @@ impl<'a> Source for FakeSource<'a> {
                 bytes,
                 turns: self.turns,
             }),
+            _ => Err(Trouble::Read),
+        }
+    }
+
+    fn read_link(&self, path: &[u8], _node: u64) -> Result<Sequence<u8>, Trouble> {
+        take_turn(self.turns)?;
+        match held_at(self.rows, path) {
+            Some(Held::Symlink(_, _, to)) => Ok(Vec::from_slice(self.alloc, to)?.into()),
             _ => Err(Trouble::Read),
         }
     }
@@ -130,16 +151,24 @@ pub struct FakeTarget {
     turns: u64,
     // the root and what was made in it, each in its turn
     made: Vec<Made>,
-    // the bytes of each file
+    // the bytes of each file, and where each symbolic link leads
     files: Vec<Vec<u8>>,
     is_whole: bool,
 }
 
-// What was made at a path: a directory, or a name of the file of this number.
+// What was made at a path.
 #[derive(Drop)]
 struct Made {
     path: Vec<u8>,
-    file: Option<usize>,
+    what: What,
+}
+
+// A directory, or a name of the file or of the symbolic link of this number.
+#[derive(Clone, Copy, PartialEq, Eq)]
+enum What {
+    Folder,
+    File(usize),
+    Symlink(usize),
 }
 
 impl FakeTarget {
@@ -175,17 +204,21 @@ impl FakeTarget {
     // Whether what was made is this row.
     fn is_row(&self, made: &Made, row: &Row<'_>) -> bool {
         made.path.as_slice() == row.0
-            && match (made.file, row.1) {
-                (None, Held::Folder) => true,
-                (Some(file), Held::File(number, _, bytes)) => {
-                    file as u64 == number
-                        && self
-                            .files
-                            .get(file)
-                            .is_some_and(|held| held.as_slice() == bytes)
+            && match (made.what, row.1) {
+                (What::Folder, Held::Folder) => true,
+                (What::File(file), Held::File(number, _, bytes))
+                | (What::Symlink(file), Held::Symlink(number, _, bytes)) => {
+                    file as u64 == number && self.has_bytes(file, bytes)
                 }
                 _ => false,
             }
+    }
+
+    // Whether the file, or where the symbolic link leads, of this number is these bytes.
+    fn has_bytes(&self, file: usize, bytes: &[u8]) -> bool {
+        self.files
+            .get(file)
+            .is_some_and(|held| held.as_slice() == bytes)
     }
 
     // What was made at a path.
@@ -194,14 +227,14 @@ impl FakeTarget {
     }
 
     // Makes something in a directory, where its name is free, and takes a turn.
-    fn put(&mut self, path: &[u8], file: Option<usize>) -> Result<(), Trouble> {
-        let is_in_folder = self.made.iter().any(|made| made.file.is_none()
+    fn put(&mut self, path: &[u8], what: What) -> Result<(), Trouble> {
+        let is_in_folder = self.made.iter().any(|made| made.what == What::Folder
             && name_in(made.path.as_slice(), path).is_some());
         if !is_in_folder || self.at(path).is_some() {
             return Err(Trouble::BadTree);
         }
         let path = Vec::from_slice(self.alloc, path)?;
-        self.made.push(Made { path, file })?;
+        self.made.push(Made { path, what })?;
         self.take_turn()
     }
 
@@ -219,19 +252,19 @@ impl Target for FakeTarget {
     fn start(&mut self) -> Result<(), Trouble> {
         self.made.push(Made {
             path: Vec::new(self.alloc),
-            file: None,
+            what: What::Folder,
         })?;
         self.take_turn()
     }
 
     fn folder(&mut self, path: &[u8]) -> Result<(), Trouble> {
-        self.put(path, None)
+        self.put(path, What::Folder)
     }
 
     fn open(&mut self, path: &[u8]) -> Result<(), Trouble> {
         let file = self.files.len();
         self.files.push(Vec::new(self.alloc))?;
-        self.put(path, Some(file))
+        self.put(path, What::File(file))
     }
 
     fn piece(&mut self, bytes: &[u8]) -> Result<(), Trouble> {
@@ -248,12 +281,18 @@ impl Target for FakeTarget {
 
     fn link(&mut self, first: &[u8], path: &[u8]) -> Result<(), Trouble> {
         match self.at(first) {
-            Some(made) if made.file.is_some() => {
-                let file = made.file;
-                self.put(path, file)
+            Some(made) if made.what != What::Folder => {
+                let what = made.what;
+                self.put(path, what)
             }
             _ => Err(Trouble::BadTree),
         }
+    }
+
+    fn symlink(&mut self, to: &[u8], path: &[u8]) -> Result<(), Trouble> {
+        let file = self.files.len();
+        self.files.push(Vec::from_slice(self.alloc, to)?)?;
+        self.put(path, What::Symlink(file))
     }
 
     fn finish(&mut self) -> Result<(), Trouble> {

@@ -26,9 +26,28 @@ pub const TREE: &[Row<'static>] = &[
 pub const SCRIPT: &str =
     "begin\n1 open wcx /%25\n1 write 2 a%20b\n1 close 2\n1 mkdir /a\n1 mkdir /a/empty\n1 open wcx /a/nothing\n1 close 7\n1 open wcx /a-\n1 write 9 %00%FF\n1 close 9\n1 link /%25 /b%FF\ncommit 1\n";
 
-// How many calls a load of it takes: one for each directory with the root, one look at each path,
-// and for each file an open, its pieces and a read at its end.
+/// Symbolic links out of the tree, to themselves and to nowhere, one of two names, and one that would
+/// stand before the directory to which it leads. They come behind all else.
+pub const WITH_LINKS: &[Row<'static>] = &[
+    (b"/d", Held::Folder),
+    (b"/d/f", Held::File(0, 1, b"x")),
+    (b"/d-", Held::Folder),
+    (b"/0", Held::Symlink(1, 2, b"d")),
+    (b"/d/e", Held::Symlink(2, 1, b"/etc/pass wd")),
+    (b"/d/g", Held::Symlink(1, 2, b"d")),
+    (b"/d-/loop", Held::Symlink(3, 1, b"loop")),
+    (b"/e", Held::Symlink(4, 1, b"..//no\xffne%/")),
+];
+
+/// The script that makes it.
+pub const SCRIPT_WITH_LINKS: &str =
+    "begin\n1 mkdir /d\n1 open wcx /d/f\n1 write 3 x\n1 close 3\n1 mkdir /d-\n1 symlink d /0\n1 symlink /etc/pass%20wd /d/e\n1 link /0 /d/g\n1 symlink loop /d-/loop\n1 symlink ..//no%FFne%25/ /e\ncommit 1\n";
+
+// How many calls a load of each takes: one for each directory with the root, one look at each path,
+// for each file an open, its pieces and a read at its end, and one for each symbolic link.
 const CALLS: u64 = 17;
+
+const CALLS_WITH_LINKS: u64 = 18;
 
 // Loads a tree in so many turns, and puts its script behind a text.
 fn load_in(
@@ -78,6 +97,13 @@ fn directory_as_script(rt: HostRuntime) -> Result<(), Fail> {
     Ok(())
 }
 
+#[test]
+fn links_as_script(rt: HostRuntime) -> Result<(), Fail> {
+    let alloc = rt.alloc();
+    assert!(rt; is_loaded(alloc, (WITH_LINKS, b"".as_slice()), SCRIPT_WITH_LINKS));
+    Ok(())
+}
+
 /// What a tree has no place for, amid directories.
 pub const WITH_SPECIAL: &[Row<'static>] = &[
     (b"/dev", Held::Folder),
@@ -112,6 +138,22 @@ fn trouble_of(alloc: Global, links: u64, size: usize) -> Result<Option<Trouble>,
         Ok(()) => Ok(None),
         Err(stopped) => Ok(Some(stopped.trouble)),
     }
+}
+
+// Whether a symbolic link of so many names is loaded, or the fault that comes at it.
+fn trouble_of_link(alloc: Global, links: u64) -> Option<Trouble> {
+    let rows = [(b"/l".as_slice(), Held::Symlink(0, links, b"to"))];
+    let mut text = Vec::new(alloc);
+    let loaded = load_in(alloc, (rows.as_slice(), b"".as_slice()), ALL, &mut text);
+    Some(loaded.err()?.trouble)
+}
+
+#[test]
+fn limits_of_links(rt: HostRuntime) -> Result<(), Fail> {
+    let alloc = rt.alloc();
+    assert_eq!(rt; trouble_of_link(alloc, 1_000), None);
+    assert_eq!(rt; trouble_of_link(alloc, 1_001), Some(Trouble::TooManyLinks));
+    Ok(())
 }
 
 #[test]
@@ -203,11 +245,12 @@ fn longest_path(rt: HostRuntime) -> Result<(), Fail> {
     Ok(())
 }
 
-// Whether a load ends with a fault at each call that fails, and else as it should.
-fn faults_at_each_call(alloc: Global) -> bool {
-    for turns in 0..CALLS {
+// Whether a load that takes so many calls ends with a fault at each that fails, and else as it
+// should.
+fn faults_at_each_call(alloc: Global, rows: &[Row<'_>], calls: u64) -> bool {
+    for turns in 0..calls {
         let mut text = Vec::new(alloc);
-        match load_in(alloc, (TREE, b"".as_slice()), turns, &mut text) {
+        match load_in(alloc, (rows, b"".as_slice()), turns, &mut text) {
             Err(stopped) if stopped.trouble == Trouble::Read => {}
             _ => return false,
         }
@@ -216,11 +259,13 @@ fn faults_at_each_call(alloc: Global) -> bool {
         }
     }
     let mut text = Vec::new(alloc);
-    load_in(alloc, (TREE, b"".as_slice()), CALLS, &mut text).is_ok()
+    load_in(alloc, (rows, b"".as_slice()), calls, &mut text).is_ok()
 }
 
 #[test]
 fn source_that_fails(rt: HostRuntime) -> Result<(), Fail> {
-    assert!(rt; faults_at_each_call(rt.alloc()));
+    let alloc = rt.alloc();
+    assert!(rt; faults_at_each_call(alloc, TREE, CALLS));
+    assert!(rt; faults_at_each_call(alloc, WITH_LINKS, CALLS_WITH_LINKS));
     Ok(())
 }

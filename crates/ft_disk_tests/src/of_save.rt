@@ -1,6 +1,6 @@
 // What no clause says: that a save comes to its end, and what is left where it does not.
 use crate::fakes::{FakeTarget, Held, Row};
-use crate::of_load::{SCRIPT, TREE};
+use crate::of_load::{SCRIPT, SCRIPT_WITH_LINKS, TREE, WITH_LINKS};
 use ft_cells::TreeLimits;
 use ft_copy::Trouble;
 use ft_core::Core;
@@ -24,9 +24,15 @@ const SAVED: &[Row<'static>] = &[
     (b"/a/nothing", Held::File(1, 1, b"")),
 ];
 
-// How many calls a save of it makes: a start and a finish, one for each directory and each further
-// name, and for each file an open, its pieces and a close.
+// A report of symbolic links, of the tree that `of_load` has.
+const LINK_REPLIES: &str =
+    "tree 16\ndir 1\ndir 2\ndir 3\nedge 1 0 5\nedge 1 d 2\nedge 1 d- 3\nedge 1 e 8\nedge 2 e 6\nedge 2 f 4\nedge 2 g 5\nedge 3 loop 7\nfile 4 1 x\nlink 5 d\nlink 6 /etc/pass%20wd\nlink 7 loop\nlink 8 ..//no%FFne%25/\n";
+
+// How many calls a save of each makes: a start and a finish, one for each directory, each symbolic
+// link and each further name, and for each file an open, its pieces and a close.
 const CALLS: u64 = 9;
+
+const LINK_CALLS: u64 = 12;
 
 // Whether replies are saved as these rows.
 fn is_saved(alloc: Global, replies: &[u8], rows: &[Row<'_>]) -> bool {
@@ -38,6 +44,12 @@ fn is_saved(alloc: Global, replies: &[u8], rows: &[Row<'_>]) -> bool {
 #[test]
 fn last_tree_is_saved(rt: HostRuntime) -> Result<(), Fail> {
     assert!(rt; is_saved(rt.alloc(), REPLIES.as_bytes(), SAVED));
+    Ok(())
+}
+
+#[test]
+fn links_are_saved_last(rt: HostRuntime) -> Result<(), Fail> {
+    assert!(rt; is_saved(rt.alloc(), LINK_REPLIES.as_bytes(), WITH_LINKS));
     Ok(())
 }
 
@@ -114,6 +126,55 @@ fn rows_of_no_tree(rt: HostRuntime) -> Result<(), Fail> {
 }
 
 #[test]
+fn links_of_no_tree(rt: HostRuntime) -> Result<(), Fail> {
+    let alloc = rt.alloc();
+    for rows in [
+        // names in a link; one at the root; one that is a file or a directory too
+        "tree 5\ndir 1\nedge 1 l 2\nedge 2 f 3\nlink 2 /etc\nfile 3 0\n",
+        "tree 1\nlink 1 /etc\n",
+        "tree 2\ndir 1\nlink 1 /etc\n",
+        "tree 4\ndir 1\nedge 1 l 2\nlink 2 /etc\nfile 2 0\n",
+        "tree 4\ndir 1\ndir 2\nedge 1 l 2\nlink 2 /etc\n",
+        // a name twice: of a link, and of a directory in which there is a file
+        "tree 7\ndir 1\ndir 2\nedge 1 l 2\nedge 1 l 3\nedge 2 f 4\nlink 3 /etc\nfile 4 0\n",
+        "tree 7\ndir 1\ndir 3\nedge 1 l 3\nedge 1 l 2\nedge 3 f 4\nlink 2 /etc\nfile 4 0\n",
+    ] {
+        assert!(rt; is_bad_tree(alloc, rows), "of {rows}");
+    }
+    Ok(())
+}
+
+// The report of a symbolic link that leads where this is coded.
+fn report_of_link(alloc: Global, to: &str) -> Result<String, Fail> {
+    Ok(format!(in alloc; "tree 3\ndir 1\nedge 1 l 2\nlink 2{to}\n")?)
+}
+
+#[test]
+fn links_to_no_path(rt: HostRuntime) -> Result<(), Fail> {
+    let alloc = rt.alloc();
+    for to in ["", " ", " %00", " a%00b", " a b", " a "] {
+        let report = report_of_link(alloc, to)?;
+        assert!(rt; finds_none(alloc, report.as_str()), "to {to}");
+    }
+    Ok(())
+}
+
+#[test]
+fn longest_link(rt: HostRuntime) -> Result<(), Fail> {
+    let alloc = rt.alloc();
+    let mut to = String::new(alloc);
+    for _ in 0..4_095 {
+        to.push('/')?;
+    }
+    let rows = [(b"/l".as_slice(), Held::Symlink(0, 1, to.as_bytes()))];
+    let report = format!(in alloc; "tree 3\ndir 1\nedge 1 l 2\nlink 2 {to}\n")?;
+    assert!(rt; is_saved(alloc, report.as_bytes(), rows.as_slice()));
+    let longer = format!(in alloc; "tree 3\ndir 1\nedge 1 l 2\nlink 2 {to}/\n")?;
+    assert!(rt; finds_none(alloc, longer.as_str()));
+    Ok(())
+}
+
+#[test]
 fn names_that_lead_elsewhere(rt: HostRuntime) -> Result<(), Fail> {
     let alloc = rt.alloc();
     for name in [".", "..", "%2E%2E", "", "/", "a%2Fb", "/etc", "a%00"] {
@@ -154,28 +215,30 @@ fn files_within_limits(rt: HostRuntime) -> Result<(), Fail> {
     Ok(())
 }
 
-// Whether a save leaves nothing at each call that fails, and else is made.
-fn leaves_nothing_at_each_call(alloc: Global) -> bool {
-    for turns in 0..CALLS {
-        if !leaves_nothing(alloc, REPLIES.as_bytes(), turns, Trouble::Write) {
+// Whether a save that makes so many calls leaves nothing at each that fails, and else is made.
+fn leaves_nothing_at_each_call(alloc: Global, replies: &str, calls: u64, rows: &[Row<'_>]) -> bool {
+    for turns in 0..calls {
+        if !leaves_nothing(alloc, replies.as_bytes(), turns, Trouble::Write) {
             return false;
         }
     }
-    let mut target = FakeTarget::new(alloc, CALLS);
-    let mut replies = REPLIES.as_bytes();
-    let saved = save(alloc, TreeLimits::default(), &mut replies, &mut target);
-    saved.is_ok() && target.holds(SAVED)
+    let mut target = FakeTarget::new(alloc, calls);
+    let mut reader = replies.as_bytes();
+    let saved = save(alloc, TreeLimits::default(), &mut reader, &mut target);
+    saved.is_ok() && target.holds(rows)
 }
 
 #[test]
 fn target_that_fails(rt: HostRuntime) -> Result<(), Fail> {
-    assert!(rt; leaves_nothing_at_each_call(rt.alloc()));
+    let alloc = rt.alloc();
+    assert!(rt; leaves_nothing_at_each_call(alloc, REPLIES, CALLS, SAVED));
+    assert!(rt; leaves_nothing_at_each_call(alloc, LINK_REPLIES, LINK_CALLS, WITH_LINKS));
     Ok(())
 }
 
 // What is written when the script of a load is played, and then asked for the tree.
-fn replies_to_load(alloc: Global) -> Result<Vec<u8>, Fail> {
-    let script = format!(in alloc; "{SCRIPT}tree\n")?;
+fn replies_to_load(alloc: Global, script: &str) -> Result<Vec<u8>, Fail> {
+    let script = format!(in alloc; "{script}tree\n")?;
     let mut core = Core::new(alloc)?;
     let mut replies = Vec::new(alloc);
     play(alloc, &mut script.as_bytes(), &mut replies, &mut core)?;
@@ -184,7 +247,10 @@ fn replies_to_load(alloc: Global) -> Result<Vec<u8>, Fail> {
 
 #[test]
 fn loaded_tree_is_saved(rt: HostRuntime) -> Result<(), Fail> {
-    let replies = replies_to_load(rt.alloc())?;
-    assert!(rt; is_saved(rt.alloc(), replies.as_slice(), TREE));
+    let alloc = rt.alloc();
+    for (script, rows) in [(SCRIPT, TREE), (SCRIPT_WITH_LINKS, WITH_LINKS)] {
+        let replies = replies_to_load(alloc, script)?;
+        assert!(rt; is_saved(alloc, replies.as_slice(), rows));
+    }
     Ok(())
 }

@@ -20,7 +20,7 @@ fn tell_of_job(rt: &HostRuntime, core: &mut Core) -> Result<()> {
     let calls = run_job(rt.alloc(), core)?;
     println!(rt; "the first step failed, and {calls} calls were taken back")?;
     let rows = core.tree().rows()?;
-    println!(rt; "{}", TreeText(rows.as_slice()))?;
+    println!(rt; "{}", TreeText::of(rt.alloc(), rows.as_slice())?)?;
     Ok(())
 }
 

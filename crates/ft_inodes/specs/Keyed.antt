@@ -55,7 +55,7 @@ is_file n (Some (File m f)) = m == n
 -- a directory or file stands in a slot
 abbrev pub is_node : Node → Option Inode → Bool
 is_node (DirNode n) o = is_dir n o
-is_node (FileNode n) o = is_file n o
+is_node (FileNode form n) o = is_file n o
 
 -- the key of a number
 abbrev pub key_in : List (ℕ × ℕ) → ℕ → Option ℕ

@@ -26,7 +26,7 @@ no_inode = record { directories = map.empty; files = map.empty }
 -- a directory, or a file, has this number
 abbrev pub is_stored : InodeCells → Node → Bool
 is_stored c (Dir n) = map.contains_key c.directories n
-is_stored c (File n) = map.contains_key c.files n
+is_stored c (File form n) = map.contains_key c.files n
 
 -- the same with this directory under a number, whatever stood there
 abbrev pub with_directory : InodeCells → ℕ → DirCells → InodeCells

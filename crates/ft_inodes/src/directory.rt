@@ -192,7 +192,7 @@ fn push_places(
         if let Some(child) = place {
             rows.push(TreeRow::Edge {
                 entry: EntryRef { dir, name }.to_entry()?,
-                number: child.value().number(),
+                node: child.value(),
             })?;
         }
     }

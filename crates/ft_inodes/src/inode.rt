@@ -23,7 +23,7 @@ impl Inode {
     {
         match (self, node) {
             (Inode::Directory(own, _), Node::Dir(number)) => *own == number,
-            (Inode::File(own, _), Node::File(number)) => *own == number,
+            (Inode::File(own, _), Node::File(_, number)) => *own == number,
             _ => false,
         }
     }

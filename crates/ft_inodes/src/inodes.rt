@@ -15,7 +15,7 @@ use crate::file::File;
 use crate::inode::Inode;
 use crate::listed::{Directories, Files};
 use ft_base::Memory;
-use ft_cells::{Hint, Node};
+use ft_cells::{Form, Hint, Node};
 use slab::Slab;
 use std::alloc::{AllocError, Global};
 use std::collections::BTreeMap;
@@ -68,7 +68,9 @@ impl Inodes {
     {
         match node {
             Node::Dir(number) => key_of(&self.slab, &self.directories, Node::Dir(number), near),
-            Node::File(number) => key_of(&self.slab, &self.files, Node::File(number), near),
+            Node::File(form, number) => {
+                key_of(&self.slab, &self.files, Node::File(form, number), near)
+            }
         }
         .map(|key| Hint { key })
     }
@@ -90,7 +92,12 @@ impl Inodes {
     pub fn file(&self, number: u64, near: Hint) -> Option<&File>
         ensures { option_copied result ≡ map.get self.now.files number }
     {
-        let key = key_of(&self.slab, &self.files, Node::File(number), near)?;
+        let key = key_of(
+            &self.slab,
+            &self.files,
+            Node::File(Form::Regular, number),
+            near,
+        )?;
         self.slab.get(key)?.file()
     }
 
@@ -111,7 +118,12 @@ impl Inodes {
         ensures* writes_back { sem 𝓛 (LendsFile self.entry number result) }
         ensures value { option_copied_mut result ≡ map.get self.old.files number }
     {
-        let key = key_of(&self.slab, &self.files, Node::File(number), near)?;
+        let key = key_of(
+            &self.slab,
+            &self.files,
+            Node::File(Form::Regular, number),
+            near,
+        )?;
         let inode = self.slab.get_mut(key).unwrap();
         Some(inode.file_mut())
     }

@@ -4,7 +4,8 @@ use ft_core::{Fault, TxnId};
 use ft_jobs::{End, Plan, Report};
 use ft_outcome::OutcomeText;
 use ft_tree::TreeRow;
-use std::alloc::{AllocError, Global};
+use ft_words::TreeText;
+use std::alloc::Global;
 use std::test::Fail;
 
 const FIVE_JOBS: &[u8] =
@@ -35,12 +36,13 @@ fn reports(alloc: Global) -> Result<Vec<Report>, Memory> {
 }
 
 // Whether this is told of jobs without calls that leave the root alone.
-fn is_told(alloc: Global, plan: &Plan, reports: &[Report], told: &str) -> Result<bool, AllocError> {
+fn is_told(alloc: Global, plan: &Plan, reports: &[Report], told: &str) -> Result<bool, Memory> {
+    let tree = TreeText::of(alloc, &[TreeRow::Dir { number: 1 }])?;
     let text = OutcomeText {
         jobs: plan.jobs(),
         reports,
         history: &[],
-        rows: &[TreeRow::Dir { number: 1 }],
+        tree: &tree,
     };
     Ok(format!(in alloc; "{text}")?.as_str() == told)
 }

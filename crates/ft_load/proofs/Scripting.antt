@@ -14,7 +14,7 @@ use Rattle.ft_copy.proofs.Doing.{does_more}
 use Rattle.ft_core.specs.Limits.{of_tree}
 use Rattle.ft_core.specs.declared.limits.Limits.{Limits}
 use Rattle.ft_load.specs.Scripts.{BreaksOff, IsWithinCalls, Scripts, fd_after, fd_of, next_after, next_of, text_at, text_of}
-use Rattle.ft_load.specs.Loads.{BreaksOffAt, Loads, StopsLoad}
+use Rattle.ft_load.specs.Loads.{BreaksOffAt, Loads, StopsLoad, whole}
 use Rattle.ft_copy.proofs.Stopping.{after_all}
 
 -- what was kept is kept by what writes nothing
@@ -79,17 +79,21 @@ module _ {T : Type 0} (held : T → Option (List ℕ)) (next fd : T → ℕ) (li
   -- a copy to a script that begins is a load
   pub loads : (tells : Told → Type 0) (old new : T) → next old ≡ 2 → fd old ≡ 0 → Copies (of_tree (limits old)) tells scripts old new → Loads (limits old) tells (held old) (held new)
   loads tells old new two none h =
-      let asked = Start ∷ flat_map asked_of h.visits ++ Finish ∷ [] in
+      let asked = whole h.visits h.links in
       let wrote = all_text old new asked h.did in
       let at_two = subst (λ n. Appends (held old) (held new) (text_of (limits old) asked n (fd old))) two wrote in
       let first : IsWithinCalls (limits old) (next old) = omega (arith, two) in
       record {
         begun = h.begun;
         visits = h.visits;
+        walked = h.walked;
+        links = h.links;
         done = h.done;
         root = h.root;
         walk = h.walk;
         all = h.all;
+        last = h.last;
+        all_links = h.all_links;
         few = subst (IsWithinCalls (limits old)) (all_next old new asked h.did ∙ ap (next_of asked) two) (all_few old new asked first h.did);
         wrote = subst (λ f. Appends (held old) (held new) (text_of (limits old) asked 2 f)) none at_two;
       }

@@ -8,24 +8,33 @@ use Rattle.ft_copy.specs.declared.trouble.Trouble.{Trouble}
 use Rattle.ft_copy.specs.Asked.{Asked, Start, Finish}
 use Rattle.ft_copy.specs.Told.{Told}
 use Rattle.ft_copy.specs.Walks.{Enters, Standing, nothing}
-use Rattle.ft_copy.specs.Runs.{Visit, WalksTo, asked_of}
+use Rattle.ft_copy.specs.Runs.{LinksTo, Visit, WalksTo, asked_of}
 use Rattle.ft_copy.specs.Stops.{IsCause, IsReached, Reached, asked_before, asked_then, path_at}
 use Rattle.ft_core.specs.Limits.{of_tree}
 use Rattle.ft_core.specs.declared.limits.Limits.{Limits}
 use Rattle.ft_load.specs.Scripts.{BreaksOff, IsWithinCalls, fd_of, next_of, script_text}
 
+-- all that a script has whose visits and links are these
+abbrev pub whole : List Visit → List Visit → List Asked
+whole visits links = Start ∷ flat_map asked_of visits ++ flat_map asked_of links ++ Finish ∷ []
+
 -- What was visited is what the source told, from the root on, each place in its turn, until none
--- was left; and the script of just that was written. A core with these limits grants as many calls,
+-- was left, and then the symbolic links that were met, until none was left; and the script of just
+-- that was written. A core with these limits grants as many calls,
 -- and its files may be as large.
 pub record Loads (limits : Limits) (tells : Told → Type 0) (held held_after : Option (List ℕ)) : Type 0 where
   pub begun : Standing
   pub visits : List Visit
+  pub walked : Standing
+  pub links : List Visit
   pub done : Standing
   pub root : Enters tells [] ROOT nothing begun
-  pub walk : WalksTo (of_tree limits) tells begun visits done
-  pub all : done.left ≡ []
-  pub few : IsWithinCalls limits (next_of (Start ∷ flat_map asked_of visits ++ Finish ∷ []) 2)
-  pub wrote : Appends held held_after (script_text limits (Start ∷ flat_map asked_of visits ++ Finish ∷ []))
+  pub walk : WalksTo (of_tree limits) tells begun visits walked
+  pub all : walked.left ≡ []
+  pub last : LinksTo (of_tree limits) tells walked links done
+  pub all_links : done.links ≡ []
+  pub few : IsWithinCalls limits (next_of (whole visits links) 2)
+  pub wrote : Appends held held_after (script_text limits (whole visits links))
 
 -- The first of what is still to be written is not written whole.
 abbrev pub BreaksOffAt : Limits → Trouble → List Asked → ℕ → ℕ → Option (List ℕ) → Option (List ℕ) → Type 0

@@ -11,7 +11,7 @@ use Rattle.ft_needs.specs.Lines.{needs_text}
 use Rattle.ft_script.specs.Runs.{WritesPart}
 use Rattle.ft_copy.specs.declared.trouble.Trouble.{Trouble}
 use Rattle.ft_copy.specs.declared.trouble.Trouble.TheVariants.{Memory, Write, BadName, Full}
-use Rattle.ft_copy.specs.Asked.{Asked, Start, Folder, Open, Piece, Close, Link, Finish, GiveUp}
+use Rattle.ft_copy.specs.Asked.{Asked, Start, Folder, Open, Piece, Close, Link, Symlink, Finish, GiveUp}
 
 -- a call of transaction 1, on its line
 abbrev pub call_line : Call → List ℕ
@@ -26,6 +26,7 @@ text_at limits (Open path) next fd = call_line (calls.Open path WriteOnly true t
 text_at limits (Piece bytes) next fd = call_line (calls.Write fd bytes)
 text_at limits Close next fd = call_line (calls.Close fd)
 text_at limits (Link first path) next fd = call_line (calls.Link first path)
+text_at limits (Symlink to path) next fd = call_line (calls.Symlink to path)
 text_at limits Finish next fd = codes "commit 1" ++ 10 ∷ []
 text_at limits GiveUp next fd = []
 
@@ -37,6 +38,7 @@ next_after (Open path) next = suc next
 next_after (Piece bytes) next = suc next
 next_after Close next = suc next
 next_after (Link first path) next = suc next
+next_after (Symlink to path) next = suc next
 next_after Finish next = next
 next_after GiveUp next = next
 
@@ -48,6 +50,7 @@ fd_after (Open path) next fd = next
 fd_after (Piece bytes) next fd = fd
 fd_after Close next fd = fd
 fd_after (Link first path) next fd = fd
+fd_after (Symlink to path) next fd = fd
 fd_after Finish next fd = fd
 fd_after GiveUp next fd = fd
 
@@ -66,7 +69,7 @@ abbrev pub fd_of : List Asked → ℕ → ℕ → ℕ
 fd_of [] next fd = fd
 fd_of (first ∷ more) next fd = fd_of more (next_after first next) (fd_after first next fd)
 
--- a path in it has a null byte
+-- a path in it, or where a symbolic link leads, has a null byte
 abbrev pub has_nul_path : Asked → Bool
 has_nul_path Start = false
 has_nul_path (Folder path) = has_nul path
@@ -74,6 +77,7 @@ has_nul_path (Open path) = has_nul path
 has_nul_path (Piece bytes) = false
 has_nul_path Close = false
 has_nul_path (Link first path) = has_nul first || has_nul path
+has_nul_path (Symlink to path) = has_nul to || has_nul path
 has_nul_path Finish = false
 has_nul_path GiveUp = false
 
@@ -105,7 +109,8 @@ abbrev pub IsFull : Limits → ℕ → Type 0
 IsFull limits next = (suc limits.calls < next) ⊎ (2 ^ 64 ≤ suc next)
 
 -- A part of the text was written, and then the writer failed; or nothing was: there was no memory,
--- or there are as many calls as are granted, or a path has a null byte.
+-- or there are as many calls as are granted, or a path, or where a symbolic link leads, has a null
+-- byte.
 abbrev pub BreaksOff : Limits → Trouble → Asked → ℕ → ℕ → Option (List ℕ) → Option (List ℕ) → Type 0
 BreaksOff limits trouble asked next fd held held_now =
     ((trouble ≡ Write) × WritesPart held held_now (text_at limits asked next fd))

@@ -2,7 +2,7 @@
 ghost use Rattle.std.specs.Prelude.{◌≡◌, ◌≤◌, IfOk, min};
 ghost use Rattle.ft_core.specs.Limits.{default_limits};
 
-use ft_base::Memory;
+use ft_base::{Memory, Sequence};
 use ft_cells::TreeLimits;
 use ft_copy::{Found, Listed, PIECE, Source, Target, Trouble, copy};
 use ft_core::Limits;
@@ -22,6 +22,7 @@ pub fn needs_of<S: Source>(alloc: Global, most: Limits, source: &S) -> Result<Li
     ensures others { IfOk result (λ limits. limits ≡ record most { file_size = limits.file_size; calls = limits.calls }) }
 {
     let counted = CountedSource {
+        alloc,
         source,
         size: Cell::new(0),
         largest: Cell::new(0),
@@ -52,6 +53,7 @@ pub fn needs_of<S: Source>(alloc: Global, most: Limits, source: &S) -> Result<Li
 // A source whose files are looked at and not read.
 #[derive(Drop)]
 struct CountedSource<'a, S> {
+    alloc: Global,
     source: &'a S,
     // that of the file that was looked at last
     size: Cell<u64>,
@@ -80,6 +82,11 @@ impl<S: Source> Source for CountedSource<'_, S> {
         let pieces = self.size.get().div_ceil(PIECE as u64);
         self.pieces.set(self.pieces.get().saturating_add(pieces));
         Ok(b"".as_slice())
+    }
+
+    // (where it leads is asked when the script is written)
+    fn read_link(&self, _path: &[u8], _node: u64) -> Result<Sequence<u8>, Trouble> {
+        Ok(Sequence::new(self.alloc))
     }
 
     // (what is left out is told when the script is written)
@@ -123,6 +130,10 @@ impl Target for CallCount {
     }
 
     fn link(&mut self, _first: &[u8], _path: &[u8]) -> Result<(), Trouble> {
+        self.add()
+    }
+
+    fn symlink(&mut self, _to: &[u8], _path: &[u8]) -> Result<(), Trouble> {
         self.add()
     }
 

@@ -16,6 +16,7 @@ use std::io::Write;
 /// The transaction is number 1. Each directory is made before what stands in it, the names of a
 /// directory in the order of their bytes. A file is opened where it is met first, written in the
 /// pieces in which it was read, and closed; where it is met again it gets a further name by a link.
+/// Symbolic links come behind all else, and are not followed.
 ///
 /// The writer is handed back. Where something fails, a part of the script was written, and its
 /// transaction does not commit, unless only the last line feed is missing.

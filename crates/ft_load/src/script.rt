@@ -118,6 +118,14 @@ impl<W: Write> Target for Script<W> {
         self.ask(&call)
     }
 
+    fn symlink(&mut self, to: &[u8], path: &[u8]) -> Result<(), Trouble> {
+        let call = Call::Symlink {
+            target: path_of(self.alloc, to)?,
+            path: path_of(self.alloc, path)?,
+        };
+        self.ask(&call)
+    }
+
     fn finish(&mut self) -> Result<(), Trouble> {
         self.say("commit 1\n")
     }

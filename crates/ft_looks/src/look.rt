@@ -109,11 +109,11 @@ impl<'t> Look<'t> {
         self.cursor.hinted(file)
     }
 
-    /// Where a path's components lead.
-    pub fn walk<'a>(&mut self, parts: &'a Parts) -> Result<Spot<'a>, Stop>
-        ensures { Leads self.old (walk parts.now.names parts.now.trailing) self.new result }
+    /// Where a path's components lead, through a last symbolic link where that is to be followed.
+    pub fn walk(&mut self, alloc: Global, follow: bool, parts: &Parts) -> Result<Spot, Stop>
+        ensures { Leads self.old (walk follow parts.now.names parts.now.trailing) self.new result }
     {
-        match walk(self, parts.names.as_slice(), parts.trailing)? {
+        match walk(alloc, self, follow, parts.names.as_slice(), parts.trailing)? {
             Ok(spot) => Ok(spot),
             Err(errno) => Err(Stop::Errno(errno)),
         }
@@ -155,8 +155,6 @@ impl<'t> Reader for Look<'t> {
     ghost use Rattle.std.specs.Prelude.{refl};
     ghost use Rattle.ft_posix.specs.Looking.{noted_at};
 
-    type Want = Memory;
-
     ghost cells = { λ look. look.cells };
 
     ghost noted = { noted_at };
@@ -171,6 +169,11 @@ impl<'t> Reader for Look<'t> {
     fn parent(&mut self, dir: u64) -> Result<Option<u64>, Memory> {
         self.touched.read(Cell::Parent(dir))?;
         Ok(self.cursor.parent(dir))
+    }
+
+    fn target(&mut self, link: u64) -> Result<Vec<u8>, Memory> {
+        self.touched.read(Cell::Bytes(link))?;
+        self.cursor.target(link)
     }
 }
 

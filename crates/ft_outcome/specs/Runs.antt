@@ -7,6 +7,7 @@ use Rattle.ft_record.specs.Going.{GoesOn}
 use Rattle.ft_plan.specs.declared.fault.JobFault.TheVariants.{Memory, BadPlan, Mismatch, Thread}
 use Rattle.ft_plan.specs.declared.job.Job.{Job}
 use Rattle.ft_plan.specs.Plans.{IsPlanOf}
+use Rattle.ft_words.specs.Texts.{tree_text}
 use Rattle.ft_reports.specs.Reports.{AreReports}
 use Rattle.ft_jobs.specs.declared.running.JobsOutcome.{JobsOutcome}
 use Rattle.ft_script.specs.Runs.{WritesPart}
@@ -17,7 +18,7 @@ use Rattle.ft_outcome.specs.Texts.{outcome_text}
 -- the text of what came of jobs: of their reports, of the events of the core, and of the rows of
 -- the tree of its state
 abbrev pub text_of_outcome : List Job → JobsOutcome → List ℕ
-text_of_outcome jobs outcome = outcome_text jobs outcome.reports.items outcome.core.state.events (rows_of (tree_of outcome.core.state))
+text_of_outcome jobs outcome = outcome_text jobs outcome.reports.items outcome.core.state.events (tree_text (rows_of (tree_of outcome.core.state)))
 
 -- The bytes are the plan of some jobs, and the text is that of an outcome of them: they have run on
 -- a core that was in this state, and their reports are what happened.

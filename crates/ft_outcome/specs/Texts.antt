@@ -2,7 +2,6 @@
 use Rattle.std.specs.Prelude.{ℕ, Bool, true, false, List, [], ◌∷◌, ◌++◌, codes, Option, None, Some}
 use Rattle.std.specs.Fmt.{decimal}
 use Rattle.std.specs.List.{flat_map, count_by, zip}
-use Rattle.ft_cells.specs.declared.row.TreeRow.{TreeRow}
 use Rattle.ft_core.specs.declared.request.Event.{Event}
 use Rattle.ft_core.specs.declared.request.Event.TheVariants.{Call}
 use Rattle.ft_plan.specs.declared.job.Job.{Job}
@@ -11,7 +10,7 @@ use Rattle.ft_reports.specs.declared.report.End.TheVariants.{Committed, Aborted,
 use Rattle.ft_reports.specs.declared.report.Report.{Report}
 use Rattle.ft_replies.specs.Texts.{fault_name}
 use Rattle.ft_words.specs.CallTexts.{call_text}
-use Rattle.ft_words.specs.Texts.{reply_text, tree_text}
+use Rattle.ft_words.specs.Texts.{reply_text}
 
 -- ---- jobs
 
@@ -55,6 +54,6 @@ history_text events = codes "history " ++ decimal (count_by is_call events) ++ f
 
 -- ---- the whole
 
--- the jobs, the history, the tree
-abbrev pub outcome_text : List Job → List Report → List Event → List TreeRow → List ℕ
-outcome_text jobs reports events rows = jobs_text jobs reports ++ history_text events ++ 10 ∷ tree_text rows ++ 10 ∷ []
+-- the jobs, the history, and the text of the tree
+abbrev pub outcome_text : List Job → List Report → List Event → List ℕ → List ℕ
+outcome_text jobs reports events tree = jobs_text jobs reports ++ history_text events ++ 10 ∷ tree ++ 10 ∷ []

@@ -13,6 +13,7 @@ use ft_progress::run_shown;
 use ft_record::Recorded;
 use ft_script::write_out;
 use ft_shared::{Shared, Sharing};
+use ft_words::TreeText;
 use std::alloc::Global;
 use std::io::Write;
 use std::marker::Brand;
@@ -97,11 +98,12 @@ fn told(alloc: Global, jobs: &[Job], outcome: &JobsOutcome) -> Result<String, Me
     ensures { IfOk result (λ text. string_bytes text ≡ text_of_outcome jobs.now outcome.now) }
 {
     let rows = outcome.core.tree().rows()?;
+    let tree = TreeText::of(alloc, rows.as_slice())?;
     let text = OutcomeText {
         jobs,
         reports: outcome.reports.as_slice(),
         history: outcome.core.history(),
-        rows: rows.as_slice(),
+        tree: &tree,
     };
     Ok(format!(in alloc; "{text}")?)
 }

@@ -6,7 +6,6 @@ ghost use Rattle.ft_outcome.specs.Texts.{txn_text, end_text, job_text, jobs_text
 use ft_core::{Event, TxnId};
 use ft_jobs::{End, Job, Report};
 use ft_replies::fault_name;
-use ft_tree::TreeRow;
 use ft_words::{CallText, ReplyText, TreeText};
 use std::fmt;
 
@@ -21,11 +20,11 @@ pub struct OutcomeText<'a> {
     /// What has happened.
     pub history: &'a [Event],
     /// What the tree holds.
-    pub rows: &'a [TreeRow],
+    pub tree: &'a TreeText<'a>,
 }
 
 impl fmt::Display for OutcomeText<'_> {
-    ghost output = { λ text. Some (outcome_text text.jobs.now text.reports.now text.history.now text.rows.now) };
+    ghost output = { λ text. Some (outcome_text text.jobs.now text.reports.now text.history.now text.tree.now) };
 
     fn fmt<W: fmt::Write>(&self, f: &mut fmt::Formatter<W>) -> fmt::Result {
         let jobs = JobLines {
@@ -33,7 +32,7 @@ impl fmt::Display for OutcomeText<'_> {
             reports: self.reports,
         };
         let history = HistoryText(self.history);
-        write!(f, "{jobs}{history}\n{}\n", TreeText(self.rows))
+        write!(f, "{jobs}{history}\n{}\n", self.tree)
     }
 }
 

@@ -40,5 +40,5 @@ fn leads(
     wanted: Result<Found, Errno>,
 ) -> Result<bool, Fail> {
     let parts = FilePath::new(alloc, path)?.parts(alloc)?;
-    Ok(tree.lookup(&parts) == wanted)
+    Ok(tree.lookup(true, &parts)? == wanted)
 }

@@ -198,7 +198,9 @@ fn touches_two_cells(alloc: Global) -> Result<bool, Fail> {
     Ok(touches_two_cells_of(alloc, &tree, &call)?)
 }
 
-fn touches_two_cells_of(alloc: Global, tree: &Tree, call: &Call) -> Result<bool, Memory> {
+fn touches_two_cells_of(alloc: Global, tree: &Tree, call: &Call) -> Result<bool, Memory>
+    requires { IsFree tree.now 2 }
+{
     Ok(are_entry_and_parent(accesses(alloc, tree, 2, call)?.as_slice()))
 }
 

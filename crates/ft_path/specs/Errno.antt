@@ -1,7 +1,7 @@
 -- The names of the error numbers (POSIX.1-2017, System Interfaces, 2.3 Error Numbers).
 use Rattle.std.specs.Prelude.{ℕ, List, codes}
 use Rattle.ft_path.specs.declared.errno.Errno.{Errno}
-use Rattle.ft_path.specs.declared.errno.Errno.TheVariants.{ENOENT, ENOTDIR, EEXIST, EISDIR, ENOTEMPTY, EINVAL, EPERM, EBUSY, EMLINK, ENAMETOOLONG, EBADF, EFBIG, EOVERFLOW}
+use Rattle.ft_path.specs.declared.errno.Errno.TheVariants.{ENOENT, ENOTDIR, EEXIST, EISDIR, ENOTEMPTY, EINVAL, EPERM, EBUSY, EMLINK, ENAMETOOLONG, EBADF, EFBIG, EOVERFLOW, ELOOP}
 
 -- the bytes of its name, as `ENOENT`
 abbrev pub errno_name : Errno → List ℕ
@@ -18,3 +18,4 @@ errno_name ENAMETOOLONG = codes "ENAMETOOLONG"
 errno_name EBADF = codes "EBADF"
 errno_name EFBIG = codes "EFBIG"
 errno_name EOVERFLOW = codes "EOVERFLOW"
+errno_name ELOOP = codes "ELOOP"

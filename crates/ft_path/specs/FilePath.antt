@@ -3,18 +3,18 @@
 -- that two leading ones are too is a rule of this project, where POSIX leaves them open.
 -- What is wrong with a text is decided before anything is looked up (4.13 Pathname Resolution): a
 -- null pathname does not resolve, and there are the limits {PATH_MAX} and {NAME_MAX} (limits.h).
-use Rattle.std.specs.Prelude.{◌≡◌, ℕ, Bool, if◌then◌else◌, ◌==◌, ◌&&◌, ◌-◌, slice_get, nat_lt, nat_eq, List, [], ◌∷◌, length, filter, Result, Ok, Err, IsOk, Option, None, Some}
+use Rattle.std.specs.Prelude.{◌≡◌, ℕ, Bool, false, if◌then◌else◌, ◌==◌, ◌&&◌, ◌-◌, slice_get, nat_lt, nat_eq, List, [], ◌∷◌, length, filter, Result, Ok, Err, IsOk, Option, None, Some}
 use Rattle.std.specs.Borrow.{Bor}
 use Rattle.std.specs.List.{list_any, slice_split, ends_with}
 use Rattle.ft_path.specs.declared.TheConstants.{LONGEST_NAME, LONGEST_PATH}
 use Rattle.ft_path.specs.declared.errno.Errno.{Errno}
-use Rattle.ft_path.specs.declared.errno.Errno.TheVariants.{ENOENT, ENAMETOOLONG}
+use Rattle.ft_path.specs.declared.errno.Errno.TheVariants.{ENOENT, ENAMETOOLONG, EINVAL}
 use Rattle.ft_path.specs.declared.path.Parts.{Parts}
 use Rattle.ft_path.specs.declared.path.PartsFault.{PartsFault}
 use Rattle.ft_path.specs.declared.path.PartsFault.TheVariants.{Memory, Errno as TextFault}
 use Rattle.ft_path.specs.declared.path.LastName.{LastName}
 use Rattle.ft_path.specs.declared.path.LastName.TheVariants.{Absent, Dot, DotDot, Plain}
-use Rattle.ft_path.specs.Name.{slash, is_dot, is_dot_dot}
+use Rattle.ft_path.specs.Name.{slash, has_nul, is_dot, is_dot_dot}
 
 -- a piece between slashes counts when it is not empty
 abbrev pub is_component : List ℕ → Bool
@@ -48,6 +48,16 @@ parts_of bytes =
     else if nat_lt LONGEST_PATH (length bytes) then Err ENAMETOOLONG
     else if list_any is_long (components bytes) then Err ENAMETOOLONG
     else Ok (record { names = components bytes; trailing = has_trailing_slash bytes })
+
+-- the path begins with a slash: it is absolute (3.2 Absolute Pathname)
+abbrev pub begins_with_slash : List ℕ → Bool
+begins_with_slash [] = false
+begins_with_slash (byte ∷ bytes) = byte == slash
+
+-- the parts of what a symbolic link holds (3.381 Symbolic Link): those of a path. A null byte,
+-- which no call puts there, is EINVAL, a rule of this project.
+abbrev pub target_parts : List ℕ → Result Parts Errno
+target_parts bytes = if has_nul bytes then Err EINVAL else parts_of bytes
 
 -- what a last component is, if there is one
 abbrev pub last_name : Option (List ℕ) → LastName

@@ -34,6 +34,8 @@ pub enum Errno {
     EFBIG,
     /// Value too large to be stored in its type.
     EOVERFLOW,
+    /// Too many levels of symbolic links.
+    ELOOP,
 }
 
 impl Errno {
@@ -55,6 +57,7 @@ impl Errno {
             Errno::EBADF => "EBADF",
             Errno::EFBIG => "EFBIG",
             Errno::EOVERFLOW => "EOVERFLOW",
+            Errno::ELOOP => "ELOOP",
         }
     }
 }

@@ -15,7 +15,7 @@ mod slashes;
 pub use errno::Errno;
 pub use name::Name;
 pub use names::Names;
-pub use path::{FilePath, LastName, Parts, PartsFault, PathFault};
+pub use path::{FilePath, LastName, Parts, PartsFault, PathFault, begins_with_slash, target_parts};
 
 /// The most bytes that a name has: {NAME_MAX}.
 pub const LONGEST_NAME: usize = 255;

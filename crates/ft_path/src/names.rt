@@ -48,6 +48,16 @@ impl Names {
         self.items.push(name)?;
         Ok(())
     }
+
+    /// Puts copies of names behind the others.
+    pub fn push_copies(&mut self, names: &[Name]) -> Result<(), Memory>
+        ensures { OnOk result (self.new ≡ self.old ++ names.now) }
+    {
+        for name in names {
+            self.push(name.try_clone()?)?;
+        }
+        Ok(())
+    }
 }
 
 impl PartialEq for Names {

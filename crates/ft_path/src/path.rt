@@ -4,7 +4,7 @@ ghost use Rattle.std.specs.List.{list_any};
 ghost use Rattle.std.specs.Cmp.{partial_equiv_from_equiv};
 ghost use Rattle.std.specs.Cmp.Lexicographic.{pointwise, nat_list_eq_equiv};
 ghost use Rattle.ft_path.specs.Name.{has_nul, IsNulFree};
-ghost use Rattle.ft_path.specs.FilePath.{components, is_long, last_of, parts_of, IsAnswer};
+ghost use Rattle.ft_path.specs.FilePath.{components, is_long, last_of, parts_of, target_parts, begins_with_slash, IsAnswer};
 
 use crate::errno::Errno;
 use crate::name::Name;
@@ -138,16 +138,7 @@ impl FilePath {
     pub fn parts(&self, alloc: Global) -> Result<Parts, PartsFault>
         ensures { IsAnswer (parts_of self.now) result }
     {
-        let bytes = self.as_bytes();
-        if bytes.is_empty() {
-            return Err(PartsFault::Errno(Errno::ENOENT));
-        }
-        if bytes.len() > LONGEST_PATH || has_long_component(bytes) {
-            return Err(PartsFault::Errno(Errno::ENAMETOOLONG));
-        }
-        let names = component_names(alloc, bytes)?;
-        let trailing = !names.as_slice().is_empty() && bytes.ends_with(b"/".as_slice());
-        Ok(Parts { names, trailing })
+        text_parts(alloc, self.as_bytes())
     }
 
     /// Another path of the same bytes.
@@ -180,6 +171,42 @@ impl PartialEq for FilePath {
 
 impl Eq for FilePath {
     ghost laws = { nat_list_eq_equiv };
+}
+
+/// The parts of what a symbolic link holds: as those of a path. A null byte is refused with EINVAL.
+pub fn target_parts(alloc: Global, target: &[u8]) -> Result<Parts, PartsFault>
+    ensures { IsAnswer (target_parts target.now) result }
+{
+    if target.contains(&0) {
+        return Err(PartsFault::Errno(Errno::EINVAL));
+    }
+    text_parts(alloc, target)
+}
+
+/// Whether a path begins with a slash.
+pub fn begins_with_slash(path: &[u8]) -> bool
+    ensures { result ≡ begins_with_slash path.now }
+{
+    match path.first() {
+        Some(byte) => *byte == b'/',
+        None => false,
+    }
+}
+
+/// The parts of the text of a path.
+fn text_parts(alloc: Global, bytes: &[u8]) -> Result<Parts, PartsFault>
+    requires { IsNulFree bytes.now }
+    ensures { IsAnswer (parts_of bytes.now) result }
+{
+    if bytes.is_empty() {
+        return Err(PartsFault::Errno(Errno::ENOENT));
+    }
+    if bytes.len() > LONGEST_PATH || has_long_component(bytes) {
+        return Err(PartsFault::Errno(Errno::ENAMETOOLONG));
+    }
+    let names = component_names(alloc, bytes)?;
+    let trailing = !names.as_slice().is_empty() && bytes.ends_with(b"/".as_slice());
+    Ok(Parts { names, trailing })
 }
 
 /// Whether a component has more bytes than a name.

@@ -29,7 +29,7 @@ use Rattle.ft_posix.specs.Within.{IsWithin, AreWithin}
 use Rattle.ft_posix.proofs.Edited.{write-cell, same-on, same-edited}
 use Rattle.ft_posix.proofs.Named.{Named}
 use Rattle.ft_posix.proofs.Left.{named-file}
-use Rattle.ft_posix.proofs.Changes.{FileWrite, sets_bytes, closes, sets_open, AreFileWrites, Change, no_change, makes, removes, creates_file, links_file, unlinks, moves_file, replaces_file, moves_dir, replaces_dir, on_files, call-changes}
+use Rattle.ft_posix.proofs.Changes.{FileWrite, sets_bytes, closes, sets_open, AreFileWrites, Change, no_change, makes, removes, creates_file, creates_link, links_file, unlinks, moves_file, replaces_file, moves_dir, replaces_dir, on_files, call-changes}
 use Rattle.ft_posix.proofs.Places.{dir_place-hangs, file_place-set, dir_place-put_all, file_place-put_all}
 
 -- what a name leads to in a directory: that it leads somewhere is enough for a place
@@ -72,15 +72,19 @@ module _ (cells : Cells) (s : AreSoundCells cells) where
     places = (tt, (file_place-set cells k _, (tt, (at_hangs d hangs, tt))));
     apart = ((refl, (refl, (refl, tt))), ((refl, (refl, tt)), ((refl, tt), (tt, tt))));
   }
-  change-made k reads _ (links_file i d name named hangs empty) = record { places = (at_hangs d hangs, (tt, tt)); apart = ((refl, tt), (tt, tt)) }
-  change-made k reads _ (unlinks d name i is) = record { places = (tt, (at_entry d name (FileNode i) is, tt)); apart = ((refl, tt), (tt, tt)) }
-  change-made k reads _ (moves_file d name i e other is hangs empty) = record {
-    places = (at_hangs e hangs, (dir_place-put_all (sets (cell.Entry (entry_at e other)) (Some (FileNode i)) ∷ []) cells d (at_entry d name (FileNode i) is), tt));
-    apart = ((other_entry d name e other (λ same. none-some (FileNode i) (sym (sym is ∙ same ∙ empty))), tt), (tt, tt));
+  change-made k reads _ (creates_link target d name hangs empty) = record {
+    places = (tt, (file_place-set cells k _, (at_hangs d hangs, tt)));
+    apart = ((refl, (refl, tt)), ((refl, tt), (tt, tt)));
   }
-  change-made k reads _ (replaces_file d name i e other j is was apart) = record {
-    places = (at_entry e other (FileNode j) was, (dir_place-put_all (sets (cell.Entry (entry_at e other)) (Some (FileNode i)) ∷ []) cells d (at_entry d name (FileNode i) is), (tt, tt)));
-    apart = ((other_entry d name e other (λ same. apart (ap number_of (same_Some (FileNode i) (FileNode j) (sym is ∙ same ∙ was)))), (refl, tt)), ((refl, tt), (tt, tt)));
+  change-made k reads _ (links_file i d name named hangs empty) = record { places = (at_hangs d hangs, (tt, tt)); apart = ((refl, tt), (tt, tt)) }
+  change-made k reads _ (unlinks d name {form} i is) = record { places = (tt, (at_entry d name (FileNode form i) is, tt)); apart = ((refl, tt), (tt, tt)) }
+  change-made k reads _ (moves_file d name {form} i e other is hangs empty) = record {
+    places = (at_hangs e hangs, (dir_place-put_all (sets (cell.Entry (entry_at e other)) (Some (FileNode form i)) ∷ []) cells d (at_entry d name (FileNode form i) is), tt));
+    apart = ((other_entry d name e other (λ same. none-some (FileNode form i) (sym (sym is ∙ same ∙ empty))), tt), (tt, tt));
+  }
+  change-made k reads _ (replaces_file d name {form} i e other {kind} j is was apart) = record {
+    places = (at_entry e other (FileNode kind j) was, (dir_place-put_all (sets (cell.Entry (entry_at e other)) (Some (FileNode form i)) ∷ []) cells d (at_entry d name (FileNode form i) is), (tt, tt)));
+    apart = ((other_entry d name e other (λ same. apart (ap number_of (same_Some (FileNode form i) (FileNode kind j) (sym is ∙ same ∙ was)))), (refl, tt)), ((refl, tt), (tt, tt)));
   }
   change-made k reads _ (moves_dir d name i e other is hangs clear empty) = by_parent (d == e)
     where

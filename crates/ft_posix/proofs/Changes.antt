@@ -11,17 +11,21 @@ use Rattle.ft_path.specs.FilePath.{last_of, parts_of}
 use Rattle.ft_cells.specs.declared.limits.TreeLimits.{TreeLimits}
 use Rattle.ft_cells.specs.Entries.{entry_at}
 use Rattle.ft_cells.specs.declared.node.Node.{Node}
+use Rattle.ft_cells.specs.declared.node.Form.{Form}
+use Rattle.ft_cells.specs.declared.node.Form.TheVariants.{Regular, Link as LinkForm}
 use Rattle.ft_cells.specs.declared.node.Node.TheVariants.{Dir as DirNode, File as FileNode}
 use Rattle.ft_cells.specs.declared.open_file.OpenFile.{OpenFile}
 use Rattle.ft_cells.specs.Cells.{Cells, entry_of, names_of, parent_of, links_of, open_of, stored_dirs}
 use Rattle.ft_cells.specs.Modes.{can_write}
 use Rattle.ft_tree.specs.Views.{view_of}
 use Rattle.ft_cells.specs.Looks.{Looks, Answer, answer, answer-then, or_else}
-use Rattle.ft_tree.specs.Walk.{Spot, Named as AtName, Itself, walk}
+use Rattle.ft_cells.specs.declared.node.Spot.{Spot}
+use Rattle.ft_cells.specs.declared.node.Spot.TheVariants.{Named as AtName, Itself}
+use Rattle.ft_tree.specs.Walk.{walk}
 use Rattle.ft_tree.specs.Sound.{Hangs, AreSoundCells}
 use Rattle.ft_posix.specs.declared.TheConstants.{LAST_OFFSET}
 use Rattle.ft_posix.specs.declared.call.Call.{Call}
-use Rattle.ft_posix.specs.declared.call.Call.TheVariants.{Mkdir, Rmdir, List as ListDir, Open, Close, Read, Write as WriteCall, Pread, Pwrite, Lseek, Truncate, Ftruncate, Stat, Fstat, Link, Unlink, Rename}
+use Rattle.ft_posix.specs.declared.call.Call.TheVariants.{Mkdir, Rmdir, List as ListDir, Open, Close, Read, Write as WriteCall, Pread, Pwrite, Lseek, Truncate, Ftruncate, Stat, Fstat, Link, Unlink, Rename, Symlink, Readlink, Lstat}
 use Rattle.ft_posix.specs.declared.call.OpenFlags.{OpenFlags}
 use Rattle.ft_posix.specs.declared.call.Whence.{Whence}
 use Rattle.ft_posix.specs.declared.call.Reply.{Reply}
@@ -30,6 +34,7 @@ use Rattle.ft_cells.specs.declared.cell.Cell.TheVariants as cell
 use Rattle.ft_posix.specs.Outcomes.{Write, sets, Outcome, told, failed, from_parts, unless}
 use Rattle.ft_posix.specs.Dirs.{make_dir, remove_dir, if_empty, last_fault, remove_parts, list_dir}
 use Rattle.ft_posix.specs.Links.{linked, link_new, link_old, link_parts, unlinked, unlink_spot, climb, unless_below, rename_fault, renamed, with_parent, replace_file, if_bare, replace_dir, rename_file, rename_dir, rename_old, rename_parts}
+use Rattle.ft_posix.specs.Symlinks.{target_fault, makes_link, make_link, symlink_parts, read_link}
 use Rattle.ft_posix.specs.Files.{description, creates, opens, open_node, is_exclusive, open_spot, open_parts, to_size, cut_file, truncate_spot, truncate_parts, stat_spot}
 use Rattle.ft_posix.specs.Descriptors.{on_open, with_open, any_open, is_readable, is_writable, at_offset, close_open, read_open, not_negative, pread_at, pread_open, write_place, write_at, write_open, pwrite_at, pwrite_open, seek_from, moved, sought, seek_open, ftruncate_open, fstat_open}
 use Rattle.ft_posix.specs.Perform.{OnlyTells, IsList, is_read}
@@ -66,14 +71,16 @@ module _ (cells : Cells) where
     makes : (d : ℕ) (name : List ℕ) → Hangs (parent_of cells) d → entry_of cells d name ≡ None → Change k reads (made k d name)
     removes : (d : ℕ) (name : List ℕ) (i : ℕ) → entry_of cells d name ≡ Some (DirNode i) → names_of cells i ≡ [] → Change k reads (removed d name i)
     creates_file : (flags : OpenFlags) (d : ℕ) (name : List ℕ) → Hangs (parent_of cells) d → entry_of cells d name ≡ None → Change k reads (creates k flags (entry_at d name))
+    -- a symbolic link is made
+    creates_link : (target : List ℕ) (d : ℕ) (name : List ℕ) → Hangs (parent_of cells) d → entry_of cells d name ≡ None → Change k reads (makes_link k target (entry_at d name))
     -- file i gets another entry
-    links_file : (i : ℕ) (d : ℕ) (name : List ℕ) → Named cells i → Hangs (parent_of cells) d → entry_of cells d name ≡ None → Change k reads (linked i (entry_at d name) (links_of cells i))
+    links_file : {form : Form} (i : ℕ) (d : ℕ) (name : List ℕ) → Named cells i → Hangs (parent_of cells) d → entry_of cells d name ≡ None → Change k reads (linked form i (entry_at d name) (links_of cells i))
     -- or loses one
-    unlinks : (d : ℕ) (name : List ℕ) (i : ℕ) → entry_of cells d name ≡ Some (FileNode i) → Change k reads (unlinked (entry_at d name) i (links_of cells i))
+    unlinks : (d : ℕ) (name : List ℕ) {form : Form} (i : ℕ) → entry_of cells d name ≡ Some (FileNode form i) → Change k reads (unlinked (entry_at d name) i (links_of cells i))
     -- an entry is moved to another place: that of nothing, of a file, or of an empty directory
-    moves_file : (d : ℕ) (name : List ℕ) (i e : ℕ) (other : List ℕ) → entry_of cells d name ≡ Some (FileNode i) → Hangs (parent_of cells) e → entry_of cells e other ≡ None → Change k reads (renamed (entry_at d name) (FileNode i) (entry_at e other) [])
-    replaces_file : (d : ℕ) (name : List ℕ) (i e : ℕ) (other : List ℕ) (j : ℕ) → entry_of cells d name ≡ Some (FileNode i) → entry_of cells e other ≡ Some (FileNode j) → i ≢ j
-        → Change k reads (renamed (entry_at d name) (FileNode i) (entry_at e other) (sets (cell.Links j) (links_of cells j - 1) ∷ []))
+    moves_file : (d : ℕ) (name : List ℕ) {form : Form} (i e : ℕ) (other : List ℕ) → entry_of cells d name ≡ Some (FileNode form i) → Hangs (parent_of cells) e → entry_of cells e other ≡ None → Change k reads (renamed (entry_at d name) (FileNode form i) (entry_at e other) [])
+    replaces_file : (d : ℕ) (name : List ℕ) {form : Form} (i e : ℕ) (other : List ℕ) {kind : Form} (j : ℕ) → entry_of cells d name ≡ Some (FileNode form i) → entry_of cells e other ≡ Some (FileNode kind j) → i ≢ j
+        → Change k reads (renamed (entry_at d name) (FileNode form i) (entry_at e other) (sets (cell.Links j) (links_of cells j - 1) ∷ []))
     moves_dir : (d : ℕ) (name : List ℕ) (i e : ℕ) (other : List ℕ) → entry_of cells d name ≡ Some (DirNode i) → Hangs (parent_of cells) e → Avoids (parent_of cells) i e → entry_of cells e other ≡ None
         → Change k reads (renamed (entry_at d name) (DirNode i) (entry_at e other) (with_parent i d e))
     replaces_dir : (d : ℕ) (name : List ℕ) (i e : ℕ) (other : List ℕ) (j : ℕ) → entry_of cells d name ≡ Some (DirNode i) → entry_of cells e other ≡ Some (DirNode j) → i ≢ j → Avoids (parent_of cells) i e
@@ -101,16 +108,16 @@ module _ (cells : Cells) where
 
     -- mkdir makes a directory, or changes nothing
     make_dir-changes : (spot : Spot) → IsSpot cells spot → ComesTo (make_dir k spot)
-    make_dir-changes (AtName entry None) h = makes entry.dir entry.name h.0 (sym h.1)
-    make_dir-changes (AtName entry (Some x)) h = no_change _
+    make_dir-changes (AtName entry None slash) h = makes entry.dir entry.name h.0 (sym h.1)
+    make_dir-changes (AtName entry (Some x) slash) h = no_change _
     make_dir-changes (Itself d) h = no_change _
 
     -- rmdir removes an empty directory, or changes nothing
     remove_dir-changes : (spot : Spot) → IsSpot cells spot → ComesTo (remove_dir spot)
-    remove_dir-changes (AtName entry None) h = no_change _
-    remove_dir-changes (AtName entry (Some (FileNode i))) h = no_change _
+    remove_dir-changes (AtName entry None slash) h = no_change _
+    remove_dir-changes (AtName entry (Some (FileNode form i)) slash) h = no_change _
     remove_dir-changes (Itself d) h = no_change _
-    remove_dir-changes (AtName entry (Some (DirNode i))) h = by_names (names_of cells i) refl
+    remove_dir-changes (AtName entry (Some (DirNode i)) slash) h = by_names (names_of cells i) refl
       where
         by_names : (names : List (List ℕ × Node)) → names_of cells i ≡ names → Change k reads (if_empty entry i names)
         by_names [] is = removes entry.dir entry.name i (sym h.1) is
@@ -118,16 +125,16 @@ module _ (cells : Cells) where
 
     -- list changes nothing
     list_dir-changes : (spot : Spot) → IsSpot cells spot → ComesTo (list_dir spot)
-    list_dir-changes (AtName entry None) h = no_change _
-    list_dir-changes (AtName entry (Some (FileNode i))) h = no_change _
-    list_dir-changes (AtName entry (Some (DirNode i))) h = no_change _
+    list_dir-changes (AtName entry None slash) h = no_change _
+    list_dir-changes (AtName entry (Some (FileNode form i)) slash) h = no_change _
+    list_dir-changes (AtName entry (Some (DirNode i)) slash) h = no_change _
     list_dir-changes (Itself d) h = no_change _
 
     -- nor does stat
     stat_spot-changes : (spot : Spot) → IsSpot cells spot → ComesTo (stat_spot spot)
-    stat_spot-changes (AtName entry None) h = no_change _
-    stat_spot-changes (AtName entry (Some (FileNode i))) h = no_change _
-    stat_spot-changes (AtName entry (Some (DirNode i))) h = no_change _
+    stat_spot-changes (AtName entry None slash) h = no_change _
+    stat_spot-changes (AtName entry (Some (FileNode form i)) slash) h = no_change _
+    stat_spot-changes (AtName entry (Some (DirNode i)) slash) h = no_change _
     stat_spot-changes (Itself d) h = no_change _
 
     -- to open a file that is there sets a new description, and may cut the file
@@ -144,21 +151,22 @@ module _ (cells : Cells) where
 
     open_node-changes : (flags : OpenFlags) (d : ℕ) (name : List ℕ) (x : Node) → Some x ≡ entry_of cells d name → Change k reads (open_node k flags x)
     open_node-changes flags d name (DirNode i) is = no_change _
-    open_node-changes flags d name (FileNode i) is = opens-changes flags i (by_entry d name i (sym is))
+    open_node-changes flags d name (FileNode Regular i) is = opens-changes flags i (by_entry d name i (sym is))
+    open_node-changes flags d name (FileNode LinkForm i) is = no_change _
 
     -- open makes a file, opens one, or changes nothing
-    open_spot-changes : (flags : OpenFlags) (trailing : Bool) (spot : Spot) → IsSpot cells spot → Change k reads (open_spot k flags trailing spot)
-    open_spot-changes flags trailing (AtName entry None) h =
-        elim (flags.create && not trailing) as (λ b. Change k reads (cond b (creates k flags entry) (failed ENOENT))) [
+    open_spot-changes : (flags : OpenFlags) (spot : Spot) → IsSpot cells spot → Change k reads (open_spot k flags spot)
+    open_spot-changes flags (AtName entry None slash) h =
+        elim (flags.create && not slash) as (λ b. Change k reads (cond b (creates k flags entry) (failed ENOENT))) [
           | true ↦ creates_file flags entry.dir entry.name h.0 (sym h.1)
           | false ↦ no_change _
         ]
-    open_spot-changes flags trailing (AtName entry (Some x)) h =
+    open_spot-changes flags (AtName entry (Some x) slash) h =
         elim (is_exclusive flags) as (λ b. Change k reads (cond b (failed EEXIST) (open_node k flags x))) [
           | true ↦ no_change _
           | false ↦ open_node-changes flags entry.dir entry.name x h.1
         ]
-    open_spot-changes flags trailing (Itself d) h = elim (is_exclusive flags) as (λ b. Change k reads (cond b (failed EEXIST) (failed EISDIR))) [ true ↦ no_change _ | false ↦ no_change _ ]
+    open_spot-changes flags (Itself d) h = elim (is_exclusive flags) as (λ b. Change k reads (cond b (failed EEXIST) (failed EISDIR))) [ true ↦ no_change _ | false ↦ no_change _ ]
 
     -- a call on a descriptor comes to its change where that is open
     with_open-changes : (fd : ℕ) (fits : OpenFile → Bool) (go : OpenFile → Looks Outcome) → ((o : OpenFile) → open_of cells fd ≡ Some o → ComesTo (go o)) → ComesTo (with_open fd fits go)
@@ -207,24 +215,43 @@ module _ (cells : Cells) where
     cut_file-changes i size named = on_files Done _ (sets_bytes i _ named, tt) (tt, tt) (λ x. x) (λ x. absurd x)
 
     truncate_spot-changes : (size : ℕ) (spot : Spot) → IsSpot cells spot → ComesTo (truncate_spot size spot)
-    truncate_spot-changes size (AtName entry None) h = no_change _
-    truncate_spot-changes size (AtName entry (Some (DirNode i))) h = no_change _
-    truncate_spot-changes size (AtName entry (Some (FileNode i))) h = cut_file-changes i size (by_entry entry.dir entry.name i (sym h.1))
+    truncate_spot-changes size (AtName entry None slash) h = no_change _
+    truncate_spot-changes size (AtName entry (Some (DirNode i)) slash) h = no_change _
+    truncate_spot-changes size (AtName entry (Some (FileNode LinkForm i)) slash) h = no_change _
+    truncate_spot-changes size (AtName entry (Some (FileNode Regular i)) slash) h = cut_file-changes i size (by_entry entry.dir entry.name i (sym h.1))
     truncate_spot-changes size (Itself d) h = no_change _
 
+    -- symlink makes a link
+    make_link-changes : (target : List ℕ) (spot : Spot) → IsSpot cells spot → ComesTo (make_link k target spot)
+    make_link-changes target (AtName entry None slash) h =
+        elim slash as (λ b. Change k reads (cond b (failed ENOENT) (makes_link k target entry))) [
+          | true ↦ no_change _
+          | false ↦ creates_link target entry.dir entry.name h.0 (sym h.1)
+        ]
+    make_link-changes target (AtName entry (Some x) slash) h = no_change _
+    make_link-changes target (Itself d) h = no_change _
+
+    -- readlink changes nothing
+    read_link-changes : (spot : Spot) → IsSpot cells spot → ComesTo (read_link spot)
+    read_link-changes (AtName entry None slash) h = no_change _
+    read_link-changes (AtName entry (Some (DirNode i)) slash) h = no_change _
+    read_link-changes (AtName entry (Some (FileNode Regular i)) slash) h = no_change _
+    read_link-changes (AtName entry (Some (FileNode LinkForm i)) slash) h = no_change _
+    read_link-changes (Itself d) h = no_change _
+
     -- link gives a file another entry
-    link_new-changes : (limits : TreeLimits) (i : ℕ) → Named cells i → (trailing : Bool) (spot : Spot) → IsSpot cells spot → ComesTo (link_new limits i trailing spot)
-    link_new-changes limits i named trailing (AtName entry None) h =
-        either-changes trailing (Answer (failed ENOENT)) _ (no_change _)
-        (elim (nat_lt (links_of cells i) limits.links) as (λ b. Change k reads (cond b (linked i entry (links_of cells i)) (failed EMLINK))) [ true ↦ links_file i entry.dir entry.name named h.0 (sym h.1) | false ↦ no_change _ ])
-    link_new-changes limits i named trailing (AtName entry (Some x)) h = no_change _
-    link_new-changes limits i named trailing (Itself d) h = no_change _
+    link_new-changes : (limits : TreeLimits) (form : Form) (i : ℕ) → Named cells i → (spot : Spot) → IsSpot cells spot → ComesTo (link_new limits form i spot)
+    link_new-changes limits form i named (AtName entry None slash) h =
+        either-changes slash (Answer (failed ENOENT)) _ (no_change _)
+        (elim (nat_lt (links_of cells i) limits.links) as (λ b. Change k reads (cond b (linked form i entry (links_of cells i)) (failed EMLINK))) [ true ↦ links_file i entry.dir entry.name named h.0 (sym h.1) | false ↦ no_change _ ])
+    link_new-changes limits form i named (AtName entry (Some x) slash) h = no_change _
+    link_new-changes limits form i named (Itself d) h = no_change _
 
     -- unlink takes an entry of a file away
     unlink_spot-changes : (spot : Spot) → IsSpot cells spot → ComesTo (unlink_spot spot)
-    unlink_spot-changes (AtName entry None) h = no_change _
-    unlink_spot-changes (AtName entry (Some (DirNode i))) h = no_change _
-    unlink_spot-changes (AtName entry (Some (FileNode i))) h = unlinks entry.dir entry.name i (sym h.1)
+    unlink_spot-changes (AtName entry None slash) h = no_change _
+    unlink_spot-changes (AtName entry (Some (DirNode i)) slash) h = no_change _
+    unlink_spot-changes (AtName entry (Some (FileNode form i)) slash) h = unlinks entry.dir entry.name i (sym h.1)
     unlink_spot-changes (Itself d) h = no_change _
 
     -- what is renamed to itself stays, and else the new entry named another
@@ -236,16 +263,16 @@ module _ (cells : Cells) where
         by_number false is = each (λ same. false≢true (sym is ∙ eq-eqb i j same))
 
     -- rename moves the entry of a file
-    rename_file-changes : (d : ℕ) (name : List ℕ) (i : ℕ) → entry_of cells d name ≡ Some (FileNode i) → (trailing : Bool) (spot : Spot) → IsSpot cells spot → ComesTo (rename_file (entry_at d name) i trailing spot)
-    rename_file-changes d name i is trailing (AtName entry None) h =
-        elim trailing as (λ b. Change k reads (cond b (failed ENOTDIR) (renamed (entry_at d name) (FileNode i) entry []))) [
+    rename_file-changes : (d : ℕ) (name : List ℕ) (form : Form) (i : ℕ) → entry_of cells d name ≡ Some (FileNode form i) → (spot : Spot) → IsSpot cells spot → ComesTo (rename_file (entry_at d name) form i spot)
+    rename_file-changes d name form i is (AtName entry None slash) h =
+        elim slash as (λ b. Change k reads (cond b (failed ENOTDIR) (renamed (entry_at d name) (FileNode form i) entry []))) [
           | true ↦ no_change _
           | false ↦ moves_file d name i entry.dir entry.name is h.0 (sym h.1)
         ]
-    rename_file-changes d name i is trailing (AtName entry (Some (FileNode j))) h =
-        unless_same-changes i j (replace_file (entry_at d name) i entry j) (λ apart. replaces_file d name i entry.dir entry.name j is (sym h.1) apart)
-    rename_file-changes d name i is trailing (AtName entry (Some (DirNode j))) h = no_change _
-    rename_file-changes d name i is trailing (Itself e) h = no_change _
+    rename_file-changes d name form i is (AtName entry (Some (FileNode kind j)) slash) h =
+        unless_same-changes i j (replace_file (entry_at d name) (FileNode form i) entry j) (λ apart. replaces_file d name i entry.dir entry.name j is (sym h.1) apart)
+    rename_file-changes d name form i is (AtName entry (Some (DirNode j)) slash) h = no_change _
+    rename_file-changes d name form i is (Itself e) h = no_change _
 
     module _ (sound : AreSoundCells cells) where
       -- a failed walk changes nothing
@@ -254,41 +281,46 @@ module _ (cells : Cells) where
       spot-changes go each (Err e) h = no_change _
 
       -- a call that walks comes to its change where the walk ends
-      from_parts-changes : (go : Spot → Looks Outcome) → ((spot : Spot) → IsSpot cells spot → ComesTo (go spot)) → (parts : Result Parts Errno) → ComesTo (from_parts parts go)
-      from_parts-changes go each (Err e) = no_change _
-      from_parts-changes go each (Ok parts) =
-          subst (Change k reads) (sym (answer-then (walk parts.names parts.trailing) (or_else failed go) (view_of cells)))
-          (spot-changes go each _ (walk-ends cells sound.tree parts.names parts.trailing))
+      from_parts-changes : (follow : Bool) (go : Spot → Looks Outcome) → ((spot : Spot) → IsSpot cells spot → ComesTo (go spot)) → (parts : Result Parts Errno) → ComesTo (from_parts follow parts go)
+      from_parts-changes follow go each (Err e) = no_change _
+      from_parts-changes follow go each (Ok parts) =
+          subst (Change k reads) (sym (answer-then (walk follow parts.names parts.trailing) (or_else failed go) (view_of cells)))
+          (spot-changes go each _ (walk-ends cells sound.tree follow parts.names parts.trailing))
+
+      -- with the faults of the target
+      symlink_parts-changes : (target : List ℕ) (parts : Result Parts Errno) → ComesTo (symlink_parts k target parts)
+      symlink_parts-changes target (Err e) = no_change _
+      symlink_parts-changes target (Ok parts) = unless-changes (target_fault target) (from_parts false (Ok parts) (make_link k target)) (from_parts-changes false (make_link k target) (make_link-changes target) (Ok parts))
 
       -- with the faults of the last component
       remove_parts-changes : (parts : Result Parts Errno) → ComesTo (remove_parts parts)
       remove_parts-changes (Err e) = no_change _
-      remove_parts-changes (Ok parts) = unless-changes (last_fault (last_of parts.names)) (from_parts (Ok parts) remove_dir) (from_parts-changes remove_dir remove_dir-changes (Ok parts))
+      remove_parts-changes (Ok parts) = unless-changes (last_fault (last_of parts.names)) (from_parts false (Ok parts) remove_dir) (from_parts-changes false remove_dir remove_dir-changes (Ok parts))
 
       -- with the fault of the flags
       open_parts-changes : (flags : OpenFlags) (parts : Result Parts Errno) → ComesTo (open_parts k flags parts)
       open_parts-changes flags (Err e) = no_change _
       open_parts-changes flags (Ok parts) =
           either-changes (flags.trunc && not (can_write flags.access)) (Answer (failed EINVAL)) _ (no_change _)
-          (from_parts-changes (λ spot. Answer (open_spot k flags parts.trailing spot)) (open_spot-changes flags parts.trailing) (Ok parts))
+          (from_parts-changes (not (is_exclusive flags)) (λ spot. Answer (open_spot k flags spot)) (open_spot-changes flags) (Ok parts))
 
       -- with the faults of the length
       truncate_parts-changes : (limits : TreeLimits) (len : ℤ) (parts : Result Parts Errno) → ComesTo (truncate_parts limits len parts)
       truncate_parts-changes limits len (Err e) = no_change _
       truncate_parts-changes limits len (Ok parts) =
-          or_else-changes (λ size. from_parts (Ok parts) (truncate_spot size)) (to_size limits len) (λ size. from_parts-changes (truncate_spot size) (truncate_spot-changes size) (Ok parts))
+          or_else-changes (λ size. from_parts true (Ok parts) (truncate_spot size)) (to_size limits len) (λ size. from_parts-changes true (truncate_spot size) (truncate_spot-changes size) (Ok parts))
 
       -- link, with two paths
       link_old-changes : (limits : TreeLimits) (new : Parts) (spot : Spot) → IsSpot cells spot → ComesTo (link_old limits new spot)
-      link_old-changes limits new (AtName entry None) h = no_change _
-      link_old-changes limits new (AtName entry (Some (DirNode i))) h = no_change _
-      link_old-changes limits new (AtName entry (Some (FileNode i))) h = from_parts-changes (link_new limits i new.trailing) (link_new-changes limits i (by_entry entry.dir entry.name i (sym h.1)) new.trailing) (Ok new)
+      link_old-changes limits new (AtName entry None slash) h = no_change _
+      link_old-changes limits new (AtName entry (Some (DirNode i)) slash) h = no_change _
+      link_old-changes limits new (AtName entry (Some (FileNode form i)) slash) h = from_parts-changes false (link_new limits form i) (link_new-changes limits form i (by_entry entry.dir entry.name i (sym h.1))) (Ok new)
       link_old-changes limits new (Itself d) h = no_change _
 
       link_parts-changes : (limits : TreeLimits) (old new : Result Parts Errno) → ComesTo (link_parts limits old new)
       link_parts-changes limits (Err e) new = no_change _
       link_parts-changes limits (Ok old) (Err e) = no_change _
-      link_parts-changes limits (Ok old) (Ok new) = from_parts-changes (link_old limits new) (link_old-changes limits new) (Ok old)
+      link_parts-changes limits (Ok old) (Ok new) = from_parts-changes false (link_old limits new) (link_old-changes limits new) (Ok old)
 
       module _ (n : ℕ) (enough : IsEnough cells n) where
         -- a directory that is not the root goes only where it is not on the way up
@@ -302,10 +334,10 @@ module _ (cells : Cells) where
 
         -- rename moves the entry of a directory
         rename_dir-changes : (d : ℕ) (name : List ℕ) (i : ℕ) → entry_of cells d name ≡ Some (DirNode i) → (spot : Spot) → IsSpot cells spot → ComesTo (rename_dir n (entry_at d name) i spot)
-        rename_dir-changes d name i is (AtName entry None) h =
+        rename_dir-changes d name i is (AtName entry None slash) h =
             unless_below-changes i entry.dir (not_under (parent_of cells) sound.tree.top i d (sound.tree.leads d name i is)) h.0 _ (λ clear. moves_dir d name i entry.dir entry.name is h.0 clear (sym h.1))
-        rename_dir-changes d name i is (AtName entry (Some (FileNode j))) h = no_change _
-        rename_dir-changes d name i is (AtName entry (Some (DirNode j))) h =
+        rename_dir-changes d name i is (AtName entry (Some (FileNode kind j)) slash) h = no_change _
+        rename_dir-changes d name i is (AtName entry (Some (DirNode j)) slash) h =
             unless_same-changes i j (unless_below n i entry.dir (replace_dir (entry_at d name) i entry j))
             (λ apart. unless_below-changes i entry.dir (not_under (parent_of cells) sound.tree.top i d (sound.tree.leads d name i is)) h.0 (replace_dir (entry_at d name) i entry j) (λ clear. by_names apart clear (names_of cells j) refl))
           where
@@ -316,9 +348,9 @@ module _ (cells : Cells) where
 
         -- rename, with two paths
         rename_old-changes : (new : Parts) (spot : Spot) → IsSpot cells spot → ComesTo (rename_old n new spot)
-        rename_old-changes new (AtName entry None) h = no_change _
-        rename_old-changes new (AtName entry (Some (FileNode i))) h = from_parts-changes (rename_file entry i new.trailing) (rename_file-changes entry.dir entry.name i (sym h.1) new.trailing) (Ok new)
-        rename_old-changes new (AtName entry (Some (DirNode i))) h = from_parts-changes (rename_dir n entry i) (rename_dir-changes entry.dir entry.name i (sym h.1)) (Ok new)
+        rename_old-changes new (AtName entry None slash) h = no_change _
+        rename_old-changes new (AtName entry (Some (FileNode form i)) slash) h = from_parts-changes false (rename_file entry form i) (rename_file-changes entry.dir entry.name form i (sym h.1)) (Ok new)
+        rename_old-changes new (AtName entry (Some (DirNode i)) slash) h = from_parts-changes false (rename_dir n entry i) (rename_dir-changes entry.dir entry.name i (sym h.1)) (Ok new)
         rename_old-changes new (Itself d) h = no_change _
 
         -- with the faults of the last components
@@ -326,7 +358,7 @@ module _ (cells : Cells) where
         rename_parts-changes (Err e) new = no_change _
         rename_parts-changes (Ok old) (Err e) = no_change _
         rename_parts-changes (Ok old) (Ok new) =
-            unless-changes (rename_fault (last_of old.names) (last_of new.names)) (from_parts (Ok old) (rename_old n new)) (from_parts-changes (rename_old n new) (rename_old-changes new) (Ok old))
+            unless-changes (rename_fault (last_of old.names) (last_of new.names)) (from_parts false (Ok old) (rename_old n new)) (from_parts-changes false (rename_old n new) (rename_old-changes new) (Ok old))
 
 -- read moves its descriptor's offset
 read_open-changes : (cells : Cells) (k fd len : ℕ) (o : OpenFile) → open_of cells fd ≡ Some o → ComesTo cells k true (read_open fd len o)
@@ -334,10 +366,10 @@ read_open-changes cells k fd len o is = on_files _ _ (moves cells k true fd o is
 
 -- what each call changes on sound cells
 pub call-changes : (cells : Cells) → AreSoundCells cells → (k : ℕ) (call : Call) → Change cells k (is_read call) (outcome cells k call)
-call-changes cells sound k (Mkdir path) = from_parts-changes cells k false sound (make_dir k) (make_dir-changes cells k false) (parts_of path)
+call-changes cells sound k (Mkdir path) = from_parts-changes cells k false sound false (make_dir k) (make_dir-changes cells k false) (parts_of path)
 call-changes cells sound k (Rmdir path) = remove_parts-changes cells k false sound (parts_of path)
-call-changes cells sound k (ListDir path) = from_parts-changes cells k false sound list_dir (list_dir-changes cells k false) (parts_of path)
-call-changes cells sound k (Open path access create excl trunc append) = open_parts-changes cells k false sound _ (parts_of path)
+call-changes cells sound k (ListDir path) = from_parts-changes cells k false sound true list_dir (list_dir-changes cells k false) (parts_of path)
+call-changes cells sound k (Open path access create excl trunc append) = open_parts-changes cells k false sound (record { access = access; create = create; excl = excl; trunc = trunc; append = append }) (parts_of path)
 call-changes cells sound k (Close fd) =
     with_open-changes cells k false fd any_open (close_open fd) (λ o is. on_files Done _ (closes fd o is, tt) (tt, tt) (λ x. x) (λ x. absurd x))
 call-changes cells sound k (Read fd len) = with_open-changes cells k true fd is_readable (read_open fd len) (read_open-changes cells k fd len)
@@ -350,11 +382,14 @@ call-changes cells sound k (Lseek fd whence off) = with_open-changes cells k fal
 call-changes cells sound k (Truncate len path) = truncate_parts-changes cells k false sound cells.limits len (parts_of path)
 call-changes cells sound k (Ftruncate fd len) =
     with_open-changes cells k false fd is_writable (ftruncate_open cells.limits len) (λ o is. or_else-changes cells k false (cut_file o.file) (to_size cells.limits len) (λ size. cut_file-changes cells k false o.file size (by_open fd o is)))
-call-changes cells sound k (Stat path) = from_parts-changes cells k false sound stat_spot (stat_spot-changes cells k false) (parts_of path)
+call-changes cells sound k (Stat path) = from_parts-changes cells k false sound true stat_spot (stat_spot-changes cells k false) (parts_of path)
 call-changes cells sound k (Fstat fd) = with_open-changes cells k false fd any_open fstat_open (λ o is. no_change _)
 call-changes cells sound k (Link old new) = link_parts-changes cells k false sound cells.limits (parts_of old) (parts_of new)
-call-changes cells sound k (Unlink path) = from_parts-changes cells k false sound unlink_spot (unlink_spot-changes cells k false) (parts_of path)
+call-changes cells sound k (Unlink path) = from_parts-changes cells k false sound false unlink_spot (unlink_spot-changes cells k false) (parts_of path)
 call-changes cells sound k (Rename old new) = rename_parts-changes cells k false sound (stored_dirs cells) (stored-enough cells sound.tree) (parts_of old) (parts_of new)
+call-changes cells sound k (Symlink target path) = symlink_parts-changes cells k false sound target (parts_of path)
+call-changes cells sound k (Readlink path) = from_parts-changes cells k false sound false read_link (read_link-changes cells k false) (parts_of path)
+call-changes cells sound k (Lstat path) = from_parts-changes cells k false sound false stat_spot (stat_spot-changes cells k false) (parts_of path)
 
 -- what only tells is told without a change
 pub only_tells-none : (cells : Cells) (k : ℕ) (reads : Bool) (o : Outcome) → Change cells k reads o → OnlyTells o.reply → o.writes ≡ []
@@ -362,6 +397,7 @@ only_tells-none cells k reads _ (no_change reply) tells = refl
 only_tells-none cells k reads _ (makes d name hangs empty) tells = absurd tells
 only_tells-none cells k reads _ (removes d name i is bare) tells = absurd tells
 only_tells-none cells k reads _ (creates_file flags d name hangs empty) tells = absurd tells
+only_tells-none cells k reads _ (creates_link target d name hangs empty) tells = absurd tells
 only_tells-none cells k reads _ (links_file i d name named hangs empty) tells = absurd tells
 only_tells-none cells k reads _ (unlinks d name i is) tells = absurd tells
 only_tells-none cells k reads _ (moves_file d name i e other is hangs empty) tells = absurd tells
@@ -376,6 +412,7 @@ lists-none cells k _ (no_change reply) list = refl
 lists-none cells k _ (makes d name hangs empty) list = absurd list
 lists-none cells k _ (removes d name i is bare) list = absurd list
 lists-none cells k _ (creates_file flags d name hangs empty) list = absurd list
+lists-none cells k _ (creates_link target d name hangs empty) list = absurd list
 lists-none cells k _ (links_file i d name named hangs empty) list = absurd list
 lists-none cells k _ (unlinks d name i is) list = absurd list
 lists-none cells k _ (moves_file d name i e other is hangs empty) list = absurd list

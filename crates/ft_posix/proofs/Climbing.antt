@@ -17,7 +17,9 @@ use Rattle.ft_cells.specs.declared.cell.Cell.TheVariants.{Parent}
 use Rattle.ft_cells.specs.Cells.{Cells, entry_of, parent_of}
 use Rattle.ft_tree.specs.Views.{view_of}
 use Rattle.ft_cells.specs.Looks.{Shows, View, Looks, Answer, Look, then, or_else, answer, looked_at, answer-then}
-use Rattle.ft_tree.specs.Walk.{Spot, Named, Itself, walk}
+use Rattle.ft_cells.specs.declared.node.Spot.{Spot}
+use Rattle.ft_cells.specs.declared.node.Spot.TheVariants.{Named, Itself}
+use Rattle.ft_tree.specs.Walk.{walk}
 use Rattle.ft_tree.specs.Tidy.{tidy}
 use Rattle.ft_tree.specs.Sound.{Hangs, the_root, under, IsTree, AreSoundCells}
 use Rattle.ft_posix.specs.declared.call.Call.TheVariants.{Rename}
@@ -161,11 +163,11 @@ module _ (cells : Cells) where
     spot-alike go other each (Err e) h = (refl, refl)
 
     -- and behind a path
-    from_parts-alike : (go other : Spot → Looks Outcome) → ((spot : Spot) → IsSpot cells spot → Alike cells (go spot) (other spot)) → (parts : Result Parts Errno) → Alike cells (from_parts parts go) (from_parts parts other)
-    from_parts-alike go other each (Err e) = (refl, refl)
-    from_parts-alike go other each (Ok parts) =
-        then-alike (walk parts.names parts.trailing) (walk parts.names parts.trailing) (or_else failed go) (or_else failed other) (refl, refl)
-        (spot-alike go other each _ (walk-ends cells tree parts.names parts.trailing))
+    from_parts-alike : (follow : Bool) (go other : Spot → Looks Outcome) → ((spot : Spot) → IsSpot cells spot → Alike cells (go spot) (other spot)) → (parts : Result Parts Errno) → Alike cells (from_parts follow parts go) (from_parts follow parts other)
+    from_parts-alike follow go other each (Err e) = (refl, refl)
+    from_parts-alike follow go other each (Ok parts) =
+        then-alike (walk follow parts.names parts.trailing) (walk follow parts.names parts.trailing) (or_else failed go) (or_else failed other) (refl, refl)
+        (spot-alike go other each _ (walk-ends cells tree follow parts.names parts.trailing))
 
     -- A rename with one number of steps that is enough, and with another.
     module _ (m n : ℕ) (enough : IsEnough cells m) (more : IsEnough cells n) where
@@ -177,17 +179,17 @@ module _ (cells : Cells) where
 
       -- and so is what a directory comes to
       rename_dir-alike : (d : ℕ) (name : List ℕ) (i : ℕ) (spot : Spot) → IsSpot cells spot → Alike cells (rename_dir m (entry_at d name) i spot) (rename_dir n (entry_at d name) i spot)
-      rename_dir-alike d name i (Named entry None) h = unless_below-alike i entry.dir h.0 (Answer (renamed (entry_at d name) (DirNode i) entry (with_parent i d entry.dir)))
-      rename_dir-alike d name i (Named entry (Some (FileNode j))) h = (refl, refl)
-      rename_dir-alike d name i (Named entry (Some (DirNode j))) h =
+      rename_dir-alike d name i (Named entry None slash) h = unless_below-alike i entry.dir h.0 (Answer (renamed (entry_at d name) (DirNode i) entry (with_parent i d entry.dir)))
+      rename_dir-alike d name i (Named entry (Some (FileNode kind j)) slash) h = (refl, refl)
+      rename_dir-alike d name i (Named entry (Some (DirNode j)) slash) h =
           either-alike (i == j) (Answer (told Done)) (Answer (told Done)) _ _ (refl, refl) (unless_below-alike i entry.dir h.0 (replace_dir (entry_at d name) i entry j))
       rename_dir-alike d name i (Itself e) h = (refl, refl)
 
       -- whatever the old path names
       rename_old-alike : (new : Parts) (spot : Spot) → IsSpot cells spot → Alike cells (rename_old m new spot) (rename_old n new spot)
-      rename_old-alike new (Named entry None) h = (refl, refl)
-      rename_old-alike new (Named entry (Some (FileNode i))) h = (refl, refl)
-      rename_old-alike new (Named entry (Some (DirNode i))) h = from_parts-alike (rename_dir m entry i) (rename_dir n entry i) (rename_dir-alike entry.dir entry.name i) (Ok new)
+      rename_old-alike new (Named entry None slash) h = (refl, refl)
+      rename_old-alike new (Named entry (Some (FileNode form i)) slash) h = (refl, refl)
+      rename_old-alike new (Named entry (Some (DirNode i)) slash) h = from_parts-alike false (rename_dir m entry i) (rename_dir n entry i) (rename_dir-alike entry.dir entry.name i) (Ok new)
       rename_old-alike new (Itself d) h = (refl, refl)
 
       -- with the faults of both paths
@@ -195,8 +197,8 @@ module _ (cells : Cells) where
       rename_parts-alike (Err e) new = (refl, refl)
       rename_parts-alike (Ok old) (Err e) = (refl, refl)
       rename_parts-alike (Ok old) (Ok new) =
-          unless-alike (rename_fault (last_of old.names) (last_of new.names)) (from_parts (Ok old) (rename_old m new)) (from_parts (Ok old) (rename_old n new))
-          (from_parts-alike (rename_old m new) (rename_old n new) (rename_old-alike new) (Ok old))
+          unless-alike (rename_fault (last_of old.names) (last_of new.names)) (from_parts false (Ok old) (rename_old m new)) (from_parts false (Ok old) (rename_old n new))
+          (from_parts-alike false (rename_old m new) (rename_old n new) (rename_old-alike new) (Ok old))
 
 -- where two numbers are enough, a call does the same with either; all but rename do so with any two
 pub steps-alike : StepsAlike

@@ -1,5 +1,5 @@
 -- What each call comes upon.
-use Rattle.std.proofs.Common.{◌≡◌, ℕ, true, List, Some}
+use Rattle.std.proofs.Common.{◌≡◌, ℕ, true, false, List, Some}
 use Rattle.ft_laws.specs.Lists.{In}
 use Rattle.ft_laws.proofs.Lists.{Each-map, Each-from}
 use Rattle.ft_path.specs.FilePath.{parts_of}
@@ -9,9 +9,10 @@ use Rattle.ft_tree.specs.Views.{view_of}
 use Rattle.ft_cells.specs.Looks.{answer, looked_at}
 use Rattle.ft_tree.specs.Sound.{IsFree}
 use Rattle.ft_posix.specs.declared.call.Call.{Call}
-use Rattle.ft_posix.specs.declared.call.Call.TheVariants.{Mkdir, Rmdir, List as ListDir, Open, Close, Read, Write as WriteCall, Pread, Pwrite, Lseek, Truncate, Ftruncate, Stat, Fstat, Link, Unlink, Rename}
+use Rattle.ft_posix.specs.declared.call.Call.TheVariants.{Mkdir, Rmdir, List as ListDir, Open, Close, Read, Write as WriteCall, Pread, Pwrite, Lseek, Truncate, Ftruncate, Stat, Fstat, Link, Unlink, Rename, Symlink, Readlink, Lstat}
 use Rattle.ft_posix.specs.Dirs.{make_dir, list_dir}
 use Rattle.ft_posix.specs.Links.{unlink_spot}
+use Rattle.ft_posix.specs.Symlinks.{read_link}
 use Rattle.ft_posix.specs.Files.{stat_spot}
 use Rattle.ft_posix.specs.Descriptors.{any_open, is_readable, is_writable, close_open, read_open, pread_open, write_open, pwrite_open, seek_open, ftruncate_open, fstat_open}
 use Rattle.ft_posix.specs.Steps.{steps}
@@ -19,16 +20,16 @@ use Rattle.ft_posix.specs.Accesses.{written_cell}
 use Rattle.ft_posix.specs.Posix.{file_of, names_file}
 use Rattle.ft_posix.proofs.Upon.{Upon, EachCallUpon}
 use Rattle.ft_posix.proofs.WritesUpon.{IsUpon, upon-cell, upon-name, upon-lost}
-use Rattle.ft_posix.proofs.FilesUpon.{GoesUpon, from_parts-goes, make_dir-goes, remove_parts-goes, list_dir-goes, open_parts-goes, with_open-goes, close_open-goes, read_open-goes, pread_open-goes, write_open-goes, pwrite_open-goes, seek_open-goes, truncate_parts-goes, ftruncate_open-goes, stat_spot-goes, fstat_open-goes}
+use Rattle.ft_posix.proofs.FilesUpon.{GoesUpon, from_parts-goes, symlink_parts-goes, read_link-goes, make_dir-goes, remove_parts-goes, list_dir-goes, open_parts-goes, with_open-goes, close_open-goes, read_open-goes, pread_open-goes, write_open-goes, pwrite_open-goes, seek_open-goes, truncate_parts-goes, ftruncate_open-goes, stat_spot-goes, fstat_open-goes}
 use Rattle.ft_posix.proofs.LinksUpon.{link_parts-goes, unlink_spot-goes, rename_parts-goes}
 use Rattle.ft_posix.proofs.Free.{no_open}
 
 -- where all that a call looks at is seen, it comes upon its files
 call-goes : (cells : Cells) (k : ℕ) (seen : List Cell) → IsFree cells k → (n : ℕ) (call : Call) → GoesUpon cells k seen (steps cells.limits n k call)
-call-goes cells k seen free n (Mkdir path) = from_parts-goes cells k seen (make_dir k) (make_dir-goes cells k seen) (parts_of path)
+call-goes cells k seen free n (Mkdir path) = from_parts-goes cells k seen false (make_dir k) (make_dir-goes cells k seen) (parts_of path)
 call-goes cells k seen free n (Rmdir path) = remove_parts-goes cells k seen (parts_of path)
-call-goes cells k seen free n (ListDir path) = from_parts-goes cells k seen list_dir (list_dir-goes cells k seen) (parts_of path)
-call-goes cells k seen free n (Open path access create excl trunc append) = open_parts-goes cells k seen (no_open free) _ (parts_of path)
+call-goes cells k seen free n (ListDir path) = from_parts-goes cells k seen true list_dir (list_dir-goes cells k seen) (parts_of path)
+call-goes cells k seen free n (Open path access create excl trunc append) = open_parts-goes cells k seen (no_open free) (record { access = access; create = create; excl = excl; trunc = trunc; append = append }) (parts_of path)
 call-goes cells k seen free n (Close fd) = with_open-goes cells k seen fd any_open (close_open fd) (close_open-goes cells k seen fd)
 call-goes cells k seen free n (Read fd len) = with_open-goes cells k seen fd is_readable (read_open fd len) (read_open-goes cells k seen fd len)
 call-goes cells k seen free n (WriteCall fd bytes) = with_open-goes cells k seen fd is_writable (write_open cells.limits fd bytes) (write_open-goes cells k seen cells.limits fd bytes)
@@ -37,11 +38,14 @@ call-goes cells k seen free n (Pwrite fd off bytes) = with_open-goes cells k see
 call-goes cells k seen free n (Lseek fd whence off) = with_open-goes cells k seen fd any_open (seek_open fd whence off) (seek_open-goes cells k seen fd whence off)
 call-goes cells k seen free n (Truncate len path) = truncate_parts-goes cells k seen cells.limits len (parts_of path)
 call-goes cells k seen free n (Ftruncate fd len) = with_open-goes cells k seen fd is_writable (ftruncate_open cells.limits len) (ftruncate_open-goes cells k seen cells.limits len fd)
-call-goes cells k seen free n (Stat path) = from_parts-goes cells k seen stat_spot (stat_spot-goes cells k seen) (parts_of path)
+call-goes cells k seen free n (Stat path) = from_parts-goes cells k seen true stat_spot (stat_spot-goes cells k seen) (parts_of path)
 call-goes cells k seen free n (Fstat fd) = with_open-goes cells k seen fd any_open fstat_open (fstat_open-goes cells k seen fd)
 call-goes cells k seen free n (Link old new) = link_parts-goes cells k seen cells.limits (parts_of old) (parts_of new)
-call-goes cells k seen free n (Unlink path) = from_parts-goes cells k seen unlink_spot (unlink_spot-goes cells k seen) (parts_of path)
+call-goes cells k seen free n (Unlink path) = from_parts-goes cells k seen false unlink_spot (unlink_spot-goes cells k seen) (parts_of path)
 call-goes cells k seen free n (Rename old new) = rename_parts-goes cells k seen n (parts_of old) (parts_of new)
+call-goes cells k seen free n (Symlink target path) = symlink_parts-goes cells k seen target (parts_of path)
+call-goes cells k seen free n (Readlink path) = from_parts-goes cells k seen false read_link (read_link-goes cells k seen) (parts_of path)
+call-goes cells k seen free n (Lstat path) = from_parts-goes cells k seen false stat_spot (stat_spot-goes cells k seen) (parts_of path)
 
 -- each call comes upon the files that it looks at and writes, and lets go only names that may go
 pub call-upon : EachCallUpon

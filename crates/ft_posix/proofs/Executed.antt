@@ -19,13 +19,15 @@ use Rattle.ft_tree.specs.Tidy.{opens_from, tidy}
 use Rattle.ft_tree.specs.Sound.{IsNoDir, AreSoundCells, IsFree}
 use Rattle.ft_posix.specs.declared.call.OpenFlags.{OpenFlags}
 use Rattle.ft_posix.specs.Exec.{put_plain, put_all_plain, is_named_in, without_dead_files}
+use Rattle.ft_cells.specs.Nodes.{number_of}
+use Rattle.ft_posix.specs.Symlinks.{makes_link}
 use Rattle.ft_posix.specs.Files.{creates, description}
 use Rattle.ft_posix.specs.Laws.{TidyingLaw}
 use Rattle.ft_posix.specs.Links.{linked, unlinked, renamed, with_parent}
 use Rattle.ft_cells.specs.declared.cell.Cell.TheVariants as cell
 use Rattle.ft_posix.specs.Outcomes.{Write, sets, Outcome}
 use Rattle.ft_posix.specs.Stored.{put, put_all, after, outcome}
-use Rattle.ft_posix.proofs.Changes.{FileWrite, AreFileWrites, sets_bytes, closes, sets_open, Change, no_change, makes, removes, creates_file, links_file, unlinks, moves_file, replaces_file, moves_dir, replaces_dir, on_files, made, removed, call-changes}
+use Rattle.ft_posix.proofs.Changes.{FileWrite, AreFileWrites, sets_bytes, closes, sets_open, Change, no_change, makes, removes, creates_file, creates_link, links_file, unlinks, moves_file, replaces_file, moves_dir, replaces_dir, on_files, made, removed, call-changes}
 use Rattle.ft_posix.proofs.Conjunction.{first, second, both}
 use Rattle.ft_posix.proofs.Counting.{any-count}
 use Rattle.ft_posix.proofs.FileWrites.{parent-files, links-files, named-files}
@@ -75,7 +77,7 @@ any-open cells i = ap (list_any (λ (e : ℕ × OpenFile). e.1.file == i)) (entr
 -- a file of the cells is named in a plain tree with their edges and descriptions where it is there
 named-alike : (cells : Cells) → AreSoundCells cells → (p : PlainTree) → AreAlike (tidy cells) p → (i : ℕ) → contains_key (tidy cells).dirs i ≡ false → is_named_in p i ≡ has_file cells i
 named-alike cells sound p alike i none =
-    (λ x. list_any (λ e. e.1 == i) (entries (sym alike.edges x)) || list_any (λ (e : ℕ × OpenFile). e.1.file == i) (entries (sym alike.opens x)))
+    (λ x. list_any (λ e. number_of e.1 == i) (entries (sym alike.edges x)) || list_any (λ (e : ℕ × OpenFile). e.1.file == i) (entries (sym alike.opens x)))
     ∙ (λ x. (any-count (tidy cells).edges i ∙ ap (nat_lt 0) (sym (links-no_dir cells sound i none))) x || any-open cells i x)
 
 -- Files.
@@ -189,6 +191,30 @@ module _ (cells : Cells) (sound : AreSoundCells cells) where
         by_file true is there = refl
         by_file false is there = let other = other_than i k is in (own-files cells sound i).1 (was_there i other there) ∙ sym (body-put_links cells k 1 i other)
 
+  -- A symbolic link k that is made.
+  module _ (k : ℕ) (free : IsFree cells k) (target : List ℕ) (d : ℕ) (name : List ℕ) where
+    abbrev linking : List Write
+    linking = (makes_link k target (entry_at d name)).writes
+
+    was_there_linked : (i : ℕ) → i ≢ k → has_file (put_all cells linking) i ≡ true → has_file cells i ≡ true
+    was_there_linked i other there =
+        there-before (put_all cells linking) i (links-there i _ (ap (λ f. f i) (links-put_all linking cells) ∙ value-other (links_of cells) k 1 i other))
+        (λ f o is file. subst (λ j. has_file cells j ≡ true) file (open-there f o (sym (ap (λ g. g f) (open-put_all linking cells)) ∙ is))) there
+
+    linking-files : HasFiles (put_all cells linking) (put_all_plain (tidy cells) linking)
+    linking-files i = (
+      λ dir. get-bytes_set (tidy cells).files k target i ∙ by_dir (i == k) refl (dir-before (put_all cells linking) (dir_place-put_all linking cells 1 sound.root_is) (parent-put_all linking cells) i dir),
+      λ there. get-bytes_set (tidy cells).files k target i ∙ by_file (i == k) refl there ∙ sym (body-put_bytes (put_links cells k 1) k target i),
+    )
+      where
+        by_dir : (b : Bool) → (i == k) ≡ b → contains_key (tidy cells).dirs i ≡ true → cond b (Some target) (get (tidy cells).files i) ≡ None
+        by_dir true is dir = absurd (false≢true (sym (contains-no_dir cells sound k (above-not_root k free.above_root, (no_parent free))) ∙ ap (contains_key (tidy cells).dirs) (sym (eqb-true i k is)) ∙ dir))
+        by_dir false is dir = dir-unstored i dir
+
+        by_file : (b : Bool) → (i == k) ≡ b → has_file (put_all cells linking) i ≡ true → cond b (Some target) (get (tidy cells).files i) ≡ cond b (Some target) (body_in (put_links cells k 1) i)
+        by_file true is there = refl
+        by_file false is there = let other = other_than i k is in (own-files cells sound i).1 (was_there_linked i other there) ∙ sym (body-put_links cells k 1 i other)
+
   -- Files whose bytes are set, and descriptions.
   module _ (k : ℕ) where
     -- a number that is no file stays none
@@ -269,14 +295,15 @@ change-files cells sound k free reads _ new (no_change reply) = own-files cells 
 change-files cells sound k free reads _ new (makes d name hangs empty) = own-files (put_all cells (made k d name).writes) new
 change-files cells sound k free reads _ new (removes d name i is bare) = own-files (put_all cells (removed d name i).writes) new
 change-files cells sound k free reads _ new (creates_file flags d name hangs empty) = created-files cells sound k free flags d name
-change-files cells sound k free reads _ new (links_file i d name named hangs empty) =
-    let ws = (linked i (entry_at d name) (links_of cells i)).writes in kept-files cells sound ws new refl refl refl (same-no_dirs cells sound ws refl) (named-linked cells sound i (suc (links_of cells i)) named)
+change-files cells sound k free reads _ new (creates_link target d name hangs empty) = linking-files cells sound k free target d name
+change-files cells sound k free reads _ new (links_file {form} i d name named hangs empty) =
+    let ws = (linked form i (entry_at d name) (links_of cells i)).writes in kept-files cells sound ws new refl refl refl (same-no_dirs cells sound ws refl) (named-linked cells sound i (suc (links_of cells i)) named)
 change-files cells sound k free reads _ new (unlinks d name i is) =
     let ws = (unlinked (entry_at d name) i (links_of cells i)).writes in kept-files cells sound ws new refl refl refl (same-no_dirs cells sound ws refl) (named-linked cells sound i (links_of cells i - 1) (by_entry d name i is))
-change-files cells sound k free reads _ new (moves_file d name i e other is hangs empty) =
-    let ws = (renamed (entry_at d name) (FileNode i) (entry_at e other) []).writes in kept-files cells sound ws new refl refl refl (same-no_dirs cells sound ws refl) (λ n. links-there cells sound n _ refl)
-change-files cells sound k free reads _ new (replaces_file d name i e other j is was apart) =
-    let ws = (renamed (entry_at d name) (FileNode i) (entry_at e other) (sets (cell.Links j) (links_of cells j - 1) ∷ [])).writes in
+change-files cells sound k free reads _ new (moves_file d name {form} i e other is hangs empty) =
+    let ws = (renamed (entry_at d name) (FileNode form i) (entry_at e other) []).writes in kept-files cells sound ws new refl refl refl (same-no_dirs cells sound ws refl) (λ n. links-there cells sound n _ refl)
+change-files cells sound k free reads _ new (replaces_file d name {form} i e other j is was apart) =
+    let ws = (renamed (entry_at d name) (FileNode form i) (entry_at e other) (sets (cell.Links j) (links_of cells j - 1) ∷ [])).writes in
     kept-files cells sound ws new refl refl refl (same-no_dirs cells sound ws refl) (named-linked cells sound j (links_of cells j - 1) (by_entry e other j was))
 change-files cells sound k free reads _ new (moves_dir d name i e other is hangs clear empty) =
     let writes : List Write → List Write = λ more. (renamed (entry_at d name) (DirNode i) (entry_at e other) more).writes in

@@ -13,13 +13,17 @@ use Rattle.ft_cells.specs.Entries.{entry_at}
 use Rattle.ft_cells.specs.declared.cell.Cell.{Cell}
 use Rattle.ft_cells.specs.declared.cell.Cell.TheVariants.{Names, Bytes, Fd}
 use Rattle.ft_cells.specs.declared.node.Node.{Node}
+use Rattle.ft_cells.specs.declared.node.Form.{Form}
+use Rattle.ft_cells.specs.declared.node.Form.TheVariants.{Regular, Link as LinkForm}
 use Rattle.ft_cells.specs.declared.node.Node.TheVariants.{Dir as DirNode, File as FileNode}
 use Rattle.ft_cells.specs.declared.open_file.OpenFile.{OpenFile}
 use Rattle.ft_cells.specs.Cells.{Cells, entry_of, names_of, open_of}
 use Rattle.ft_cells.specs.Modes.{can_write}
 use Rattle.ft_tree.specs.Views.{view_of}
 use Rattle.ft_cells.specs.Looks.{Looks, Answer, Look, answer, looked_at, then, or_else}
-use Rattle.ft_tree.specs.Walk.{Spot, Named as AtName, Itself, walk}
+use Rattle.ft_cells.specs.declared.node.Spot.{Spot}
+use Rattle.ft_cells.specs.declared.node.Spot.TheVariants.{Named as AtName, Itself}
+use Rattle.ft_tree.specs.Walk.{walk}
 use Rattle.ft_posix.specs.declared.TheConstants.{LAST_OFFSET}
 use Rattle.ft_posix.specs.declared.call.OpenFlags.{OpenFlags}
 use Rattle.ft_posix.specs.declared.call.Whence.{Whence}
@@ -27,11 +31,12 @@ use Rattle.ft_posix.specs.declared.call.Whence.TheVariants.{Set, Cur, End}
 use Rattle.ft_posix.specs.declared.call.Reply.TheVariants.{Done, Number}
 use Rattle.ft_posix.specs.Outcomes.{Write, sets, Outcome, failed, told, from_parts, unless}
 use Rattle.ft_posix.specs.Dirs.{make_dir, if_empty, remove_dir, last_fault, remove_parts, list_dir}
+use Rattle.ft_posix.specs.Symlinks.{target_fault, makes_link, make_link, symlink_parts, read_link}
 use Rattle.ft_posix.specs.Files.{description, creates, opens, open_node, is_exclusive, open_spot, open_parts, to_size, cut_file, truncate_spot, truncate_parts, file_info, stat_spot}
 use Rattle.ft_posix.specs.Descriptors.{on_open, with_open, at_offset, close_open, read_open, not_negative, pread_at, pread_open, write_place, write_at, write_open, pwrite_at, pwrite_open, seek_from, moved, sought, seek_open, ftruncate_open, fstat_open}
 use Rattle.ft_posix.specs.Posix.{file_of}
 use Rattle.ft_posix.proofs.Upon.{Upon, sees_entry, sees_open}
-use Rattle.ft_posix.proofs.WalkedUpon.{AreSeen, MeetsNone, walk-meets, IsFound, EndsFound, walk-finds}
+use Rattle.ft_posix.proofs.WalkedUpon.{AreSeen, MeetsNone, IsSeenOf, seen-parts, IsFound, EndsFound, walk-finds}
 use Rattle.ft_posix.proofs.WritesUpon.{IsUpon, upon_parent, upon_links, upon_bytes, AreUpon, of_same, fills, opens_new, keeps_open, shuts}
 use Rattle.ft_path.specs.FilePath.{last_of}
 
@@ -95,31 +100,32 @@ module _ (cells : Cells) (k : ℕ) (seen : List Cell) where
   spot-goes go each (Err e) h = no_change
 
   -- a call by a path sees the entry to which that leads
-  pub from_parts-goes : (go : Spot → Looks Outcome) → ((spot : Spot) → IsFound cells seen spot → GoesUpon (go spot)) → (parts : Result Parts Errno) → GoesUpon (from_parts parts go)
-  from_parts-goes go each (Err e) = no_change
-  from_parts-goes go each (Ok parts) =
-      let way = walk parts.names parts.trailing in
-      then-goes way (or_else failed go) (meets_none way (walk-meets cells parts.names parts.trailing))
-      (λ all. spot-goes go each (answer way (view_of cells)) (walk-finds cells seen parts.names parts.trailing all))
+  pub from_parts-goes : (follow : Bool) (go : Spot → Looks Outcome) → ((spot : Spot) → IsFound cells seen spot → GoesUpon (go spot)) → (parts : Result Parts Errno) → GoesUpon (from_parts follow parts go)
+  from_parts-goes follow go each (Err e) = no_change
+  from_parts-goes follow go each (Ok parts) = λ all.
+      let way = walk follow parts.names parts.trailing in
+      let found = walk-finds cells seen follow parts.names parts.trailing (seen-parts cells seen way (or_else failed go) all).0 in
+      then-goes way (or_else failed go) (Each-map (IsSeenOf cells seen) IsMet (λ c f i is. inr (f i is)) (looked_at way (view_of cells)) found.0)
+      (λ _. spot-goes go each (answer way (view_of cells)) found.1) all
 
   -- a file that an entry names is come upon
-  pub by_entry : (d : ℕ) (name : List ℕ) (i : ℕ) → IsFound cells seen (AtName (entry_at d name) (Some (FileNode i))) → Upon cells k seen i
-  by_entry d name i h = inr (sees_entry d name i h.0 h.1)
+  pub by_entry : (d : ℕ) (name : List ℕ) {form : Form} (i : ℕ) (slash : Bool) → IsFound cells seen (AtName (entry_at d name) (Some (FileNode form i)) slash) → Upon cells k seen i
+  by_entry d name i slash h = inr (sees_entry d name i h.0 h.1)
 
   -- Directories, which are of no file.
 
   -- to make a directory sets an entry that led to nothing
   pub make_dir-goes : (spot : Spot) → IsFound cells seen spot → GoesUpon (make_dir k spot)
-  make_dir-goes (AtName entry None) h = λ all. (tt, (upon_parent k (Some entry.dir), (fills cells k seen _ entry.dir entry.name None (Some (DirNode k)) h.1 (λ i. refl) no_name, tt)))
-  make_dir-goes (AtName entry (Some x)) h = no_change
+  make_dir-goes (AtName entry None slash) h = λ all. (tt, (upon_parent k (Some entry.dir), (fills cells k seen _ entry.dir entry.name None (Some (DirNode k)) h.1 (λ i. refl) no_name, tt)))
+  make_dir-goes (AtName entry (Some x) slash) h = no_change
   make_dir-goes (Itself d) h = no_change
 
   -- to remove one empties an entry of a directory
   remove_dir-goes : (spot : Spot) → IsFound cells seen spot → GoesUpon (remove_dir spot)
-  remove_dir-goes (AtName entry None) h = no_change
-  remove_dir-goes (AtName entry (Some (FileNode i))) h = no_change
+  remove_dir-goes (AtName entry None slash) h = no_change
+  remove_dir-goes (AtName entry (Some (FileNode form i)) slash) h = no_change
   remove_dir-goes (Itself d) h = no_change
-  remove_dir-goes (AtName entry (Some (DirNode i))) h = λ all. ((of_none (Names i) refl, tt), by_names (names_of cells i))
+  remove_dir-goes (AtName entry (Some (DirNode i)) slash) h = λ all. ((of_none (Names i) refl, tt), by_names (names_of cells i))
     where
       by_names : (names : List (List ℕ × Node)) → AreUpon cells k seen (if_empty entry i names).writes
       by_names [] = (upon_parent i None, (fills cells k seen _ entry.dir entry.name (Some (DirNode i)) None h.1 (λ j. refl) no_name, tt))
@@ -127,27 +133,27 @@ module _ (cells : Cells) (k : ℕ) (seen : List Cell) where
 
   -- the names of a directory are of no file
   pub list_dir-goes : (spot : Spot) → IsFound cells seen spot → GoesUpon (list_dir spot)
-  list_dir-goes (AtName entry None) h = no_change
-  list_dir-goes (AtName entry (Some (FileNode i))) h = no_change
-  list_dir-goes (AtName entry (Some (DirNode i))) h = λ all. ((of_none (Names i) refl, tt), tt)
+  list_dir-goes (AtName entry None slash) h = no_change
+  list_dir-goes (AtName entry (Some (FileNode form i)) slash) h = no_change
+  list_dir-goes (AtName entry (Some (DirNode i)) slash) h = λ all. ((of_none (Names i) refl, tt), tt)
   list_dir-goes (Itself d) h = λ all. ((of_none (Names d) refl, tt), tt)
 
   -- with the faults of the last component
   pub remove_parts-goes : (parts : Result Parts Errno) → GoesUpon (remove_parts parts)
   remove_parts-goes (Err e) = no_change
-  remove_parts-goes (Ok parts) = unless-goes (last_fault (last_of parts.names)) (from_parts (Ok parts) remove_dir) (from_parts-goes remove_dir remove_dir-goes (Ok parts))
+  remove_parts-goes (Ok parts) = unless-goes (last_fault (last_of parts.names)) (from_parts false (Ok parts) remove_dir) (from_parts-goes false remove_dir remove_dir-goes (Ok parts))
 
   -- Files by their paths.
 
   -- the links and the bytes of a file are looked at
-  file_info-goes : (i : ℕ) → Upon cells k seen i → GoesUpon (file_info i)
-  file_info-goes i upon all = ((of_file i upon, (of_file i upon, tt)), tt)
+  file_info-goes : (form : Form) (i : ℕ) → Upon cells k seen i → GoesUpon (file_info form i)
+  file_info-goes form i upon all = ((of_file i upon, (of_file i upon, tt)), tt)
 
   -- those of the file to which the path leads
   pub stat_spot-goes : (spot : Spot) → IsFound cells seen spot → GoesUpon (stat_spot spot)
-  stat_spot-goes (AtName entry None) h = no_change
-  stat_spot-goes (AtName entry (Some (DirNode i))) h = no_change
-  stat_spot-goes (AtName entry (Some (FileNode i))) h = file_info-goes i (by_entry entry.dir entry.name i h)
+  stat_spot-goes (AtName entry None slash) h = no_change
+  stat_spot-goes (AtName entry (Some (DirNode i)) slash) h = no_change
+  stat_spot-goes (AtName entry (Some (FileNode form i)) slash) h = file_info-goes form i (by_entry entry.dir entry.name i slash h)
   stat_spot-goes (Itself d) h = no_change
 
   -- the bytes of a file are set
@@ -156,16 +162,17 @@ module _ (cells : Cells) (k : ℕ) (seen : List Cell) where
 
   -- those of the file to which the path leads
   truncate_spot-goes : (size : ℕ) (spot : Spot) → IsFound cells seen spot → GoesUpon (truncate_spot size spot)
-  truncate_spot-goes size (AtName entry None) h = no_change
-  truncate_spot-goes size (AtName entry (Some (DirNode i))) h = no_change
-  truncate_spot-goes size (AtName entry (Some (FileNode i))) h = cut_file-goes i size (by_entry entry.dir entry.name i h)
+  truncate_spot-goes size (AtName entry None slash) h = no_change
+  truncate_spot-goes size (AtName entry (Some (DirNode i)) slash) h = no_change
+  truncate_spot-goes size (AtName entry (Some (FileNode LinkForm i)) slash) h = no_change
+  truncate_spot-goes size (AtName entry (Some (FileNode Regular i)) slash) h = cut_file-goes i size (by_entry entry.dir entry.name i slash h)
   truncate_spot-goes size (Itself d) h = no_change
 
   -- with the faults of the length
   pub truncate_parts-goes : (limits : TreeLimits) (len : ℤ) (parts : Result Parts Errno) → GoesUpon (truncate_parts limits len parts)
   truncate_parts-goes limits len (Err e) = no_change
   truncate_parts-goes limits len (Ok parts) =
-      or_else-goes (λ size. from_parts (Ok parts) (truncate_spot size)) (to_size limits len) (λ size. from_parts-goes (truncate_spot size) (truncate_spot-goes size) (Ok parts))
+      or_else-goes (λ size. from_parts true (Ok parts) (truncate_spot size)) (to_size limits len) (λ size. from_parts-goes true (truncate_spot size) (truncate_spot-goes size) (Ok parts))
 
   -- the descriptor k was not open, and a file that is made has the number k
   module _ (none : open_of cells k ≡ None) where
@@ -174,7 +181,7 @@ module _ (cells : Cells) (k : ℕ) (seen : List Cell) where
     creates-upon flags d name empty =
         let all = (creates k flags (entry_at d name)).writes in
         let opened = opens_new cells k seen all k (description flags k) none (inl refl) in
-        let entered = fills cells k seen all d name None (Some (FileNode k)) empty (λ i. refl) (of_same (Upon cells k seen) k (inl refl)) in
+        let entered = fills cells k seen all d name None (Some (FileNode Regular k)) empty (λ i. refl) (of_same (Upon cells k seen) k (inl refl)) in
         (upon_links k 1 (inl refl), (upon_bytes k [] (inl refl), (opened, (entered, tt))))
 
     -- a file that is there is opened, and may be cut
@@ -186,30 +193,56 @@ module _ (cells : Cells) (k : ℕ) (seen : List Cell) where
         cut false = tt
 
     -- that to which the path leads
-    open_node-upon : (flags : OpenFlags) (d : ℕ) (name : List ℕ) (x : Node) → IsFound cells seen (AtName (entry_at d name) (Some x)) → AreUpon cells k seen (open_node k flags x).writes
-    open_node-upon flags d name (DirNode i) h = tt
-    open_node-upon flags d name (FileNode i) h = opens-upon flags i (by_entry d name i h)
+    open_node-upon : (flags : OpenFlags) (d : ℕ) (name : List ℕ) (x : Node) (slash : Bool) → IsFound cells seen (AtName (entry_at d name) (Some x) slash) → AreUpon cells k seen (open_node k flags x).writes
+    open_node-upon flags d name (DirNode i) slash h = tt
+    open_node-upon flags d name (FileNode LinkForm i) slash h = tt
+    open_node-upon flags d name (FileNode Regular i) slash h = opens-upon flags i (by_entry d name i slash h)
 
     -- it is made, or opened, or neither
-    open_spot-upon : (flags : OpenFlags) (trailing : Bool) (spot : Spot) → IsFound cells seen spot → AreUpon cells k seen (open_spot k flags trailing spot).writes
-    open_spot-upon flags trailing (AtName entry None) h =
-        elim (flags.create && not trailing) as (λ b. AreUpon cells k seen (cond b (creates k flags entry) (failed ENOENT)).writes) [
+    open_spot-upon : (flags : OpenFlags) (spot : Spot) → IsFound cells seen spot → AreUpon cells k seen (open_spot k flags spot).writes
+    open_spot-upon flags (AtName entry None slash) h =
+        elim (flags.create && not slash) as (λ b. AreUpon cells k seen (cond b (creates k flags entry) (failed ENOENT)).writes) [
           | true ↦ creates-upon flags entry.dir entry.name h.1
           | false ↦ tt
         ]
-    open_spot-upon flags trailing (AtName entry (Some x)) h =
+    open_spot-upon flags (AtName entry (Some x) slash) h =
         elim (is_exclusive flags) as (λ b. AreUpon cells k seen (cond b (failed EEXIST) (open_node k flags x)).writes) [
           | true ↦ tt
-          | false ↦ open_node-upon flags entry.dir entry.name x h
+          | false ↦ open_node-upon flags entry.dir entry.name x slash h
         ]
-    open_spot-upon flags trailing (Itself d) h = elim (is_exclusive flags) as (λ b. AreUpon cells k seen (cond b (failed EEXIST) (failed EISDIR)).writes) [ true ↦ tt | false ↦ tt ]
+    open_spot-upon flags (Itself d) h = elim (is_exclusive flags) as (λ b. AreUpon cells k seen (cond b (failed EEXIST) (failed EISDIR)).writes) [ true ↦ tt | false ↦ tt ]
 
     -- with the fault of the flags
     pub open_parts-goes : (flags : OpenFlags) (parts : Result Parts Errno) → GoesUpon (open_parts k flags parts)
     open_parts-goes flags (Err e) = no_change
     open_parts-goes flags (Ok parts) =
         either-goes (flags.trunc && not (can_write flags.access)) (Answer (failed EINVAL)) _ no_change
-        (from_parts-goes (λ spot. Answer (open_spot k flags parts.trailing spot)) (λ spot h all. (tt, open_spot-upon flags parts.trailing spot h)) (Ok parts))
+        (from_parts-goes (not (is_exclusive flags)) (λ spot. Answer (open_spot k flags spot)) (λ spot h all. (tt, open_spot-upon flags spot h)) (Ok parts))
+
+  -- Symbolic links.
+
+  -- one that is made is the call's own
+  make_link-goes : (target : List ℕ) (spot : Spot) → IsFound cells seen spot → GoesUpon (make_link k target spot)
+  make_link-goes target (AtName entry None slash) h = λ all. (tt, by_slash slash)
+    where
+      by_slash : (b : Bool) → AreUpon cells k seen (cond b (failed ENOENT) (makes_link k target entry)).writes
+      by_slash true = tt
+      by_slash false = (upon_links k 1 (inl refl), (upon_bytes k target (inl refl), (fills cells k seen _ entry.dir entry.name None (Some (FileNode LinkForm k)) h.1 (λ i. refl) (of_same (Upon cells k seen) k (inl refl)), tt)))
+  make_link-goes target (AtName entry (Some x) slash) h = no_change
+  make_link-goes target (Itself d) h = no_change
+
+  -- with the faults of the target
+  pub symlink_parts-goes : (target : List ℕ) (parts : Result Parts Errno) → GoesUpon (symlink_parts k target parts)
+  symlink_parts-goes target (Err e) = no_change
+  symlink_parts-goes target (Ok parts) = unless-goes (target_fault target) (from_parts false (Ok parts) (make_link k target)) (from_parts-goes false (make_link k target) (make_link-goes target) (Ok parts))
+
+  -- the target of the link to which the path leads is looked at
+  pub read_link-goes : (spot : Spot) → IsFound cells seen spot → GoesUpon (read_link spot)
+  read_link-goes (AtName entry None slash) h = no_change
+  read_link-goes (AtName entry (Some (DirNode i)) slash) h = no_change
+  read_link-goes (AtName entry (Some (FileNode Regular i)) slash) h = no_change
+  read_link-goes (AtName entry (Some (FileNode LinkForm i)) slash) h = λ all. ((of_file i (by_entry entry.dir entry.name i slash h), tt), tt)
+  read_link-goes (Itself d) h = no_change
 
   -- Descriptors.
 
@@ -296,4 +329,4 @@ module _ (cells : Cells) (k : ℕ) (seen : List Cell) where
 
   -- fstat looks at the links and the bytes
   pub fstat_open-goes : (fd : ℕ) (o : OpenFile) → IsOpen fd o → GoesUpon (fstat_open o)
-  fstat_open-goes fd o h = file_info-goes o.file (by_open fd o h)
+  fstat_open-goes fd o h = file_info-goes Regular o.file (by_open fd o h)

@@ -1,12 +1,10 @@
 -- What is hidden, the plain tree has not.
-use Rattle.std.proofs.Common.{◌≡◌, ℕ, Bool, true, false, cond, ◌||◌, List, Option, Some, None, is_some, eq-eqb, refl, sym, ap, ◌∙◌}
+use Rattle.std.proofs.Common.{◌≡◌, ℕ, Bool, true, false, cond, ◌||◌, List, Some, None, is_some, eq-eqb, refl, sym, ap, ◌∙◌}
 use Rattle.std.specs.Prelude.{◌==◌, nat_lt}
-use Rattle.std.specs.Option.{option_map}
 use Rattle.std.specs.FinMap.{get, empty, contains_key}
 use Rattle.std.proofs.lemmas.Bool.{false≢true}
 use Rattle.ft_cells.specs.Entries.{entry_at}
 use Rattle.ft_cells.specs.declared.cell.Cell.TheVariants.{Entry, Parent, Links, Bytes, Fd}
-use Rattle.ft_cells.specs.Nodes.{number_of}
 use Rattle.ft_cells.specs.Cells.{Cells, links_of, bytes_of, has_file, is_open}
 use Rattle.ft_cells.specs.Limits.{default_limits}
 use Rattle.ft_cells.specs.Plain.{PlainTree, view_in}
@@ -22,7 +20,7 @@ use Rattle.ft_posix.specs.RunLaws.{HidingLaw}
 module _ (hidden : ℕ → Bool) (r s : Cells) (rs : AreSoundCells r) (ss : AreSoundCells s) (h : Hides posix_calls hidden r s) where
   -- the entries and directories are the same
   edges : (d : ℕ) (name : List ℕ) → get (tidy s).edges (entry_at d name) ≡ get (tidy r).edges (entry_at d name)
-  edges d name = get-tidy s d name ∙ ap (option_map number_of) (sym (h.others (Some (Entry (entry_at d name))) refl)) ∙ sym (get-tidy r d name)
+  edges d name = get-tidy s d name ∙ sym (h.others (Some (Entry (entry_at d name))) refl) ∙ sym (get-tidy r d name)
 
   dirs : (d : ℕ) → contains_key (tidy s).dirs d ≡ contains_key (tidy r).dirs d
   dirs d = contains-parent s ss.root_is d ∙ ap (λ o. (d == 1) || is_some o) (sym (h.others (Some (Parent d)) refl)) ∙ sym (contains-parent r rs.root_is d)

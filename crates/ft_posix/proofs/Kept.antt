@@ -5,6 +5,7 @@ use Rattle.std.proofs.lemmas.Option.{same_Some}
 use Rattle.std.proofs.Math.Bool.{or-true}
 use Rattle.ft_cells.specs.Entries.{entry_at}
 use Rattle.ft_cells.specs.declared.node.Node.{Node}
+use Rattle.ft_cells.specs.declared.node.Form.TheVariants.{Regular, Link as LinkForm}
 use Rattle.ft_cells.specs.declared.node.Node.TheVariants.{Dir as DirNode, File as FileNode}
 use Rattle.ft_cells.specs.declared.open_file.OpenFile.{OpenFile}
 use Rattle.ft_cells.specs.Cells.{Cells, entry_of, parent_of, links_of, bytes_of, open_of, put_links, HasFilePlace}
@@ -15,6 +16,7 @@ use Rattle.ft_posix.specs.declared.call.OpenFlags.{OpenFlags}
 use Rattle.ft_posix.specs.Laws.{SoundnessLaw, FreshnessLaw}
 use Rattle.ft_cells.specs.declared.cell.Cell.TheVariants as cell
 use Rattle.ft_posix.specs.Outcomes.{Write, sets, Outcome}
+use Rattle.ft_posix.specs.Symlinks.{makes_link}
 use Rattle.ft_posix.specs.Files.{creates, description}
 use Rattle.ft_posix.specs.Stored.{put_all}
 use Rattle.ft_posix.proofs.Places.{file_place-put_all, file_place-set}
@@ -24,7 +26,7 @@ use Rattle.ft_posix.proofs.Counting.{count_edges}
 use Rattle.ft_posix.proofs.Made.{tree-made}
 use Rattle.ft_posix.proofs.Created.{tree-created}
 use Rattle.ft_posix.proofs.Named.{Named, by_open}
-use Rattle.ft_posix.proofs.Changes.{Change, no_change, makes, removes, creates_file, links_file, unlinks, moves_file, replaces_file, moves_dir, replaces_dir, on_files, made, AreFileWrites, call-changes}
+use Rattle.ft_posix.proofs.Changes.{Change, no_change, makes, removes, creates_file, creates_link, links_file, unlinks, moves_file, replaces_file, moves_dir, replaces_dir, on_files, made, AreFileWrites, call-changes}
 use Rattle.ft_posix.proofs.Left.{shown, shown-no_dir, IsFile, links-shown, links-counted, named-file, sound-after, named-not_free, free-after, entries-apart, node-apart, value-other, above-not_root, other_than}
 use Rattle.ft_posix.proofs.Relinked.{sound-linked, free-linked, sound-unlinked, free-unlinked, sound-file_moved, free-file_moved, sound-file_replaced, free-file_replaced}
 use Rattle.ft_posix.proofs.Rehung.{sound-removed, free-removed, sound-dir_moved, free-dir_moved, sound-dir_replaced, free-dir_replaced}
@@ -68,7 +70,7 @@ module _ (cells : Cells) (sound : AreSoundCells cells) (k : ℕ) (free : IsFree 
   not_root = above-not_root k free.above_root
 
   count-created : (i : ℕ) → links_in (tidy (put_all cells created_writes)) i ≡ cond (k == i) 1 0 + links_in (tidy cells) i
-  count-created = count-drawn cells (put_all cells created_writes) d name (FileNode k) (entry-put_all created_writes cells) empty
+  count-created = count-drawn cells (put_all cells created_writes) d name (FileNode Regular k) (entry-put_all created_writes cells) empty
 
   -- its own count is one
   count-own : links_in (tidy (put_all cells created_writes)) k ≡ 1
@@ -84,7 +86,7 @@ module _ (cells : Cells) (sound : AreSoundCells cells) (k : ℕ) (free : IsFree 
 
   place-created : HasFilePlace (put_all cells created_writes) k
   place-created =
-      file_place-put_all (sets (cell.Bytes k) [] ∷ sets (cell.Fd k) (Some (description flags k)) ∷ sets (cell.Entry (entry_at d name)) (Some (FileNode k)) ∷ []) (put_links cells k 1) k (file_place-set cells k (record { links = 1; bytes = bytes_of cells k }))
+      file_place-put_all (sets (cell.Bytes k) [] ∷ sets (cell.Fd k) (Some (description flags k)) ∷ sets (cell.Entry (entry_at d name)) (Some (FileNode Regular k)) ∷ []) (put_links cells k 1) k (file_place-set cells k (record { links = 1; bytes = bytes_of cells k }))
 
   -- each description is the new one, or an old one
   opens-created : (P : ℕ → Type 0) → P k → ((f : ℕ) (o : OpenFile) → open_of cells f ≡ Some o → P o.file) → (f : ℕ) (o : OpenFile) → with_value (open_of cells) k (Some (description flags k)) f ≡ Some o → P o.file
@@ -96,15 +98,46 @@ module _ (cells : Cells) (sound : AreSoundCells cells) (k : ℕ) (free : IsFree 
 
   sound-created : AreSoundCells (put_all cells created_writes)
   sound-created =
-      sound-after cells sound created_writes (tree-created (entry_of cells) (parent_of cells) sound.tree d name k empty (no_parent free) not_root hangs) links-created
+      sound-after cells sound created_writes (tree-created (entry_of cells) (parent_of cells) sound.tree d name Regular k empty (no_parent free) not_root hangs) links-created
       (opens-created (IsFile (put_all cells created_writes) (parent_of cells)) (place-created, (not_root, (no_parent free)))
       (λ f o h. let file = sound.opens f o h in (file_place-put_all created_writes cells o.file file.0, file.1)))
 
   free-created : (j : ℕ) → IsFree cells j → j ≢ k → IsFree (put_all cells created_writes) j
   free-created j too other =
       free-after cells created_writes j too.above_root (no_parent too) (value-other (links_of cells) k 1 j other ∙ (no_links too)) (value-other (bytes_of cells) k [] j other ∙ (no_bytes too))
-      (value-other (open_of cells) k (Some (description flags k)) j other ∙ (no_open too)) (entries-apart cells d name (Some (FileNode k)) j too (λ x. node-apart (FileNode k) x j other))
+      (value-other (open_of cells) k (Some (description flags k)) j other ∙ (no_open too)) (entries-apart cells d name (Some (FileNode Regular k)) j too (λ x. node-apart (FileNode Regular k) x j other))
       (opens-created (λ i. i ≢ j) (λ same. other (sym same)) (no_file too))
+
+-- It makes the symbolic link k.
+module _ (cells : Cells) (sound : AreSoundCells cells) (k : ℕ) (free : IsFree cells k) (target : List ℕ) (d : ℕ) (name : List ℕ) (hangs : Hangs (parent_of cells) d) (empty : entry_of cells d name ≡ None) where
+  abbrev linking_writes : List Write
+  linking_writes = (makes_link k target (entry_at d name)).writes
+
+  count-linking : (i : ℕ) → links_in (tidy (put_all cells linking_writes)) i ≡ cond (k == i) 1 0 + links_in (tidy cells) i
+  count-linking = count-drawn cells (put_all cells linking_writes) d name (FileNode LinkForm k) (entry-put_all linking_writes cells) empty
+
+  -- its own count is one
+  count-own_link : links_in (tidy (put_all cells linking_writes)) k ≡ 1
+  count-own_link = count-linking k ∙ (λ x. cond (eq-eqb k k refl x) 1 0 + (sym (links-counted cells sound k ((above-not_root k free.above_root), (no_parent free))) ∙ (no_links free)) x)
+
+  links-linking : (i : ℕ) → with_value (links_of cells) k 1 i ≡ shown (put_all cells linking_writes) (parent_of cells) i
+  links-linking i = by_number (i == k) refl
+    where
+      by_number : (b : Bool) → (i == k) ≡ b → cond b 1 (links_of cells i) ≡ shown (put_all cells linking_writes) (parent_of cells) i
+      by_number true at =
+          sym (ap (shown (put_all cells linking_writes) (parent_of cells)) (eqb-true i k at) ∙ shown-no_dir (put_all cells linking_writes) (parent_of cells) k ((above-not_root k free.above_root), (no_parent free)) ∙ count-own_link)
+      by_number false at = links-shown cells sound i ∙ ap (cond ((i == 1) || is_some (parent_of cells i)) 0) (sym (count-other k i _ _ (other_than i k at) (count-linking i)))
+
+  sound-linking : AreSoundCells (put_all cells linking_writes)
+  sound-linking =
+      sound-after cells sound linking_writes (tree-created (entry_of cells) (parent_of cells) sound.tree d name LinkForm k empty (no_parent free) (above-not_root k free.above_root) hangs) links-linking
+      (λ f o h. let file = sound.opens f o h in (file_place-put_all linking_writes cells o.file file.0, file.1))
+
+  free-linking : (j : ℕ) → IsFree cells j → j ≢ k → IsFree (put_all cells linking_writes) j
+  free-linking j too other =
+      free-after cells linking_writes j too.above_root (no_parent too) (value-other (links_of cells) k 1 j other ∙ (no_links too)) (value-other (bytes_of cells) k target j other ∙ (no_bytes too))
+      (no_open too) (entries-apart cells d name (Some (FileNode LinkForm k)) j too (λ x. node-apart (FileNode LinkForm k) x j other))
+      (no_file too)
 
 -- It sets the bytes of files that are named, and descriptions of them.
 module _ (cells : Cells) (k : ℕ) where
@@ -133,7 +166,8 @@ change-sound cells k reads sound free _ (no_change reply) = sound
 change-sound cells k reads sound free _ (makes d name hangs empty) = sound-made cells sound k free d name hangs empty
 change-sound cells k reads sound free _ (removes d name i is bare) = sound-removed cells sound d name i is bare
 change-sound cells k reads sound free _ (creates_file flags d name hangs empty) = sound-created cells sound k free flags d name hangs empty
-change-sound cells k reads sound free _ (links_file i d name named hangs empty) = sound-linked cells sound i d name named hangs empty
+change-sound cells k reads sound free _ (creates_link target d name hangs empty) = sound-linking cells sound k free target d name hangs empty
+change-sound cells k reads sound free _ (links_file {form} i d name named hangs empty) = sound-linked cells sound form i d name named hangs empty
 change-sound cells k reads sound free _ (unlinks d name i is) = sound-unlinked cells sound d name i is
 change-sound cells k reads sound free _ (moves_file d name i e other is hangs empty) = sound-file_moved cells sound d name i e other is hangs empty
 change-sound cells k reads sound free _ (replaces_file d name i e other j is was apart) = sound-file_replaced cells sound d name i e other j is was apart
@@ -150,7 +184,8 @@ change-free cells k reads sound free _ (no_change reply) j too other = too
 change-free cells k reads sound free _ (makes d name hangs empty) j too other = free-made cells sound k free d name hangs empty j too other
 change-free cells k reads sound free _ (removes d name i is bare) j too other = free-removed cells sound d name i is bare j too
 change-free cells k reads sound free _ (creates_file flags d name hangs empty) j too other = free-created cells sound k free flags d name hangs empty j too other
-change-free cells k reads sound free _ (links_file i d name named hangs empty) j too other = free-linked cells sound i d name named hangs empty j too
+change-free cells k reads sound free _ (creates_link target d name hangs empty) j too other = free-linking cells sound k free target d name hangs empty j too other
+change-free cells k reads sound free _ (links_file {form} i d name named hangs empty) j too other = free-linked cells sound form i d name named hangs empty j too
 change-free cells k reads sound free _ (unlinks d name i is) j too other = free-unlinked cells sound d name i is j too
 change-free cells k reads sound free _ (moves_file d name i e new is hangs empty) j too other = free-file_moved cells sound d name i e new is hangs empty j too
 change-free cells k reads sound free _ (replaces_file d name i e new n is was apart) j too other = free-file_replaced cells sound d name i e new n is was apart j too

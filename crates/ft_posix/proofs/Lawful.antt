@@ -3,7 +3,6 @@ use Rattle.std.proofs.Common.{◌≡◌, ℕ, Bool, true, false, cond, not, ◌&
 use Rattle.std.proofs.lemmas.Bool.{false≢true, or_cases, or_left, or_right, and_parts, false_from_ne_true}
 use Rattle.std.proofs.lemmas.Option.{none-some, same_Some}
 use Rattle.std.specs.Cmp.{both_ways}
-use Rattle.std.specs.Option.{option_map}
 use Rattle.std.specs.FinMap.{get, contains_key, retain_keys, get-retain_keys}
 use Rattle.std.proofs.lemmas.Map.Lookups.{exact_unsigned}
 use Rattle.ft_cells.specs.declared.entry.Entry.{Entry as DirEntry}
@@ -25,6 +24,7 @@ use Rattle.ft_laws.proofs.Hiding as hiding
 use Rattle.ft_laws.proofs.Forgetting as forgetting
 use Rattle.ft_cells.specs.Entries.{entry_at}
 use Rattle.ft_cells.specs.declared.node.Node.{Node}
+use Rattle.ft_cells.specs.declared.node.Form.{Form}
 use Rattle.ft_cells.specs.declared.node.Node.TheVariants.{Dir as DirNode, File as FileNode}
 use Rattle.ft_cells.specs.declared.cell.Cell.{Cell}
 use Rattle.ft_cells.specs.declared.cell.Cell.TheVariants.{Entry, Names, Parent, Links, Bytes, Fd}
@@ -302,7 +302,7 @@ module _ (hidden : ℕ → Bool) where
           values (Fd f) = sym (hides.others (Fd f) refl) ∙ same.values (Fd f)
 
       -- no entry names a hidden file
-      not_named : (i d : ℕ) (name : List ℕ) → hidden i ≡ true → entry_of p d name ≡ Some (FileNode i) → ⊥
+      not_named : (i d : ℕ) (name : List ℕ) {form : Form} → hidden i ≡ true → entry_of p d name ≡ Some (FileNode form i) → ⊥
       not_named i d name k is =
           false≢true (sym (hides.unnamed (Entry (entry_at d name)) i k) ∙ ap (λ o. node_names o i) (same-without.values (Entry (entry_at d name)) ∙ is) ∙ eq-eqb i i refl)
 
@@ -316,14 +316,13 @@ module _ (hidden : ℕ → Bool) where
       none_shown : (i : ℕ) → hidden i ≡ true → view_in (tidy p) (Links i) ≡ 0
       none_shown i k = by_dir (contains_key (tidy p).dirs i) refl
         where
-          by_entry : (e : DirEntry) → contains_key (tidy p).dirs i ≡ false → (o : Option Node) → entry_of p e.dir e.name ≡ o → option_map number_of o ≡ Some i → ⊥
-          by_entry e file None at h = none-some i h
-          by_entry e file (Some (DirNode j)) at h = false≢true (sym file ∙ contains-under p sound i e.dir (sound.tree.leads e.dir e.name i (at ∙ ap (λ n. Some (DirNode n)) (same_Some j i h))))
-          by_entry e file (Some (FileNode j)) at h = not_named i e.dir e.name k (at ∙ ap (λ n. Some (FileNode n)) (same_Some j i h))
+          by_entry : (e : DirEntry) → contains_key (tidy p).dirs i ≡ false → (x : Node) → entry_of p e.dir e.name ≡ Some x → number_of x ≡ i → ⊥
+          by_entry e file (DirNode j) at own = false≢true (sym file ∙ contains-under p sound i e.dir (sound.tree.leads e.dir e.name i (at ∙ ap (λ n. Some (DirNode n)) own)))
+          by_entry e file (FileNode kind j) at own = not_named i e.dir e.name k (at ∙ ap (λ n. Some (FileNode kind n)) own)
 
           by_dir : (b : Bool) → contains_key (tidy p).dirs i ≡ b → cond b 0 (links_in (tidy p) i) ≡ 0
           by_dir true is = refl
-          by_dir false is = count-none (tidy p).edges i (λ e h. by_entry e is (entry_of p e.dir e.name) refl (sym (get-tidy p e.dir e.name) ∙ h))
+          by_dir false is = count-none (tidy p).edges i (λ e x h own. by_entry e is x (sym (get-tidy p e.dir e.name) ∙ h) own)
 
       -- so what is left is sound
       pub sound-without : AreSoundCells (without s.limits p)

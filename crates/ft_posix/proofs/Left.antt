@@ -3,7 +3,6 @@ use Rattle.std.proofs.Common.{◌≡◌, ◌≢◌, ◌≤◌, ℕ, Bool, true, 
 use Rattle.std.specs.Prelude.{◌==◌}
 use Rattle.std.proofs.lemmas.Bool.{false≢true}
 use Rattle.std.proofs.lemmas.Option.{same_Some}
-use Rattle.std.specs.Option.{option_map}
 use Rattle.ft_cells.specs.Entries.{entry_at}
 use Rattle.ft_cells.specs.declared.node.Node.{Node}
 use Rattle.ft_cells.specs.declared.node.Node.TheVariants.{File as FileNode}
@@ -48,9 +47,9 @@ module _ (cells : Cells) (sound : AreSoundCells cells) where
   -- a file that is named is stored, and is no directory
   pub named-file : (i : ℕ) → Named cells i → IsFile cells (parent_of cells) i
   named-file _ (by_open f o is) = sound.opens f o is
-  named-file _ (by_entry d name i is) =
-      let no_dir = sound.tree.apart d name i is in
-      (file_place-linked cells i (λ none. count-some (tidy cells).edges (entry_at d name) i (get-tidy cells d name ∙ ap (option_map number_of) is) (sym (links-counted i no_dir) ∙ none)), no_dir)
+  named-file _ (by_entry d name {form} i is) =
+      let no_dir = sound.tree.apart d name form i is in
+      (file_place-linked cells i (λ none. count-some (tidy cells).edges (entry_at d name) (FileNode form i) (get-tidy cells d name ∙ is) (sym (links-counted i no_dir) ∙ none)), no_dir)
 
   -- what is left by writes is sound, if it is a tree with the links and files that belong to it
   pub sound-after : (ws : List Write) → IsTree (entry_after (entry_of cells) ws) (parent_after (parent_of cells) ws)
@@ -71,7 +70,7 @@ module _ (cells : Cells) (sound : AreSoundCells cells) where
 -- a number that is free is named by nothing
 pub named-not_free : (cells : Cells) (j : ℕ) → IsFree cells j → (i : ℕ) → Named cells i → i ≢ j
 named-not_free cells j free _ (by_open f o is) = (no_file free) f o is
-named-not_free cells j free _ (by_entry d name i is) = (no_entry free) d name (FileNode i) is
+named-not_free cells j free _ (by_entry d name {form} i is) = (no_entry free) d name (FileNode form i) is
 
 -- a number is free after writes, if no value that they leave names it
 pub free-after : (cells : Cells) (ws : List Write) (j : ℕ) → 2 ≤ j → parent_after (parent_of cells) ws j ≡ None → links_after (links_of cells) ws j ≡ 0 → bytes_after (bytes_of cells) ws j ≡ []

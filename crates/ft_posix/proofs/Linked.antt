@@ -3,6 +3,7 @@
 use Rattle.std.proofs.Common.{◌≡◌, ◌≢◌, ◌⊎◌, inl, inr, ℕ, Bool, true, false, cond, List, Option, Some, None, refl, sym, ap, ◌∙◌}
 use Rattle.std.proofs.lemmas.Option.{none-some}
 use Rattle.ft_cells.specs.declared.node.Node.{Node}
+use Rattle.ft_cells.specs.declared.node.Form.{Form}
 use Rattle.ft_cells.specs.declared.node.Node.TheVariants.{Dir as DirNode, File as FileNode}
 use Rattle.ft_tree.specs.Sound.{IsTree}
 use Rattle.ft_posix.proofs.Puts.{is_place, with_entry}
@@ -51,8 +52,8 @@ module _ (entry : ℕ → List ℕ → Option Node) (d : ℕ) (name : List ℕ) 
       by_case (inr old) = old.1
 
 -- the name leads to the file i
-module _ (entry : ℕ → List ℕ → Option Node) (parent : ℕ → Option ℕ) (t : IsTree entry parent) (d : ℕ) (name : List ℕ) (i : ℕ) (is : entry d name ≡ Some (FileNode i)) where
-  file_no_dir : (j : ℕ) → Some (DirNode j) ≡ Some (FileNode i) → ⊥
+module _ (entry : ℕ → List ℕ → Option Node) (parent : ℕ → Option ℕ) (t : IsTree entry parent) (d : ℕ) (name : List ℕ) {form : Form} (i : ℕ) (is : entry d name ≡ Some (FileNode form i)) where
+  file_no_dir : (j : ℕ) → Some (DirNode j) ≡ Some (FileNode form i) → ⊥
   file_no_dir j h = cc
 
   -- an entry that leads to a directory is left
@@ -64,7 +65,7 @@ module _ (entry : ℕ → List ℕ → Option Node) (parent : ℕ → Option ℕ
     top = t.top;
     starts = λ e other x h. t.starts e other x (entry-left entry d name e other x h);
     leads = λ e other j h. t.leads e other j (entry-left entry d name e other (DirNode j) h);
-    apart = λ e other j h. t.apart e other j (entry-left entry d name e other (FileNode j) h);
+    apart = λ e other kind j h. t.apart e other kind j (entry-left entry d name e other (FileNode kind j) h);
     stands = λ e p h. let s = t.stands e p h in (s.0, dir_left p s.0 e s.1);
     once = λ e m n j h g. t.once e m n j (entry-left entry d name e m (DirNode j) h) (entry-left entry d name e n (DirNode j) g);
     hangs = t.hangs;

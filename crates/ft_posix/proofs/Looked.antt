@@ -11,16 +11,23 @@ use Rattle.ft_cells.specs.declared.limits.TreeLimits.{TreeLimits}
 use Rattle.ft_cells.specs.Entries.{entry_at}
 use Rattle.ft_cells.specs.declared.cell.Cell.{Cell}
 use Rattle.ft_cells.specs.declared.cell.Cell.TheVariants.{Entry, Names, Parent, Links, Bytes, Fd}
+use Rattle.ft_cells.specs.declared.node.Form.{Form}
+use Rattle.ft_cells.specs.declared.node.Form.TheVariants.{Regular, Link as LinkForm}
 use Rattle.ft_cells.specs.declared.node.Node.TheVariants.{Dir as DirNode, File as FileNode}
 use Rattle.ft_cells.specs.declared.open_file.OpenFile.{OpenFile}
-use Rattle.ft_cells.specs.Cells.{Cells, open_of}
+use Rattle.ft_cells.specs.Cells.{Cells, parent_of, bytes_of, open_of}
 use Rattle.ft_cells.specs.Modes.{can_write}
 use Rattle.ft_tree.specs.Views.{view_of}
 use Rattle.ft_cells.specs.Looks.{Looks, Answer, Look, answer, looked_at, then, or_else}
-use Rattle.ft_tree.specs.Walk.{Spot, Named as AtName, Itself, up, passed, inner, reached, last, walk_from, walk}
-use Rattle.ft_tree.specs.Sound.{AreSoundCells}
+use Rattle.ft_cells.specs.declared.node.Spot.{Spot}
+use Rattle.ft_cells.specs.declared.node.Spot.TheVariants.{Named as AtName, Itself}
+use Rattle.ft_path.specs.FilePath.{target_parts}
+use Rattle.ft_tree.specs.declared.reader.Way.{Way}
+use Rattle.ft_tree.specs.declared.reader.TheConstants.{MOST_FOLLOWED}
+use Rattle.ft_tree.specs.Walk.{Leg, Ends, Meets, halted, leg_from, leg, way_of, onward, ended, walk_on, up, passed, inner, reached, last, walk}
+use Rattle.ft_tree.specs.Sound.{Hangs, the_root, AreSoundCells}
 use Rattle.ft_posix.specs.declared.call.Call.{Call}
-use Rattle.ft_posix.specs.declared.call.Call.TheVariants.{Mkdir, Rmdir, List as ListDir, Open, Close, Read, Write as WriteCall, Pread, Pwrite, Lseek, Truncate, Ftruncate, Stat, Fstat, Link, Unlink, Rename}
+use Rattle.ft_posix.specs.declared.call.Call.TheVariants.{Mkdir, Rmdir, List as ListDir, Open, Close, Read, Write as WriteCall, Pread, Pwrite, Lseek, Truncate, Ftruncate, Stat, Fstat, Link, Unlink, Rename, Symlink, Readlink, Lstat}
 use Rattle.ft_posix.specs.declared.call.OpenFlags.{OpenFlags}
 use Rattle.ft_posix.specs.declared.call.Whence.{Whence}
 use Rattle.ft_posix.specs.declared.call.Whence.TheVariants.{Set, Cur, End}
@@ -28,11 +35,12 @@ use Rattle.ft_posix.specs.declared.call.Reply.TheVariants.{Done}
 use Rattle.ft_posix.specs.Outcomes.{Outcome, failed, told, from_parts, unless}
 use Rattle.ft_posix.specs.Dirs.{make_dir, remove_dir, last_fault, remove_parts, list_dir}
 use Rattle.ft_posix.specs.Links.{link_new, link_old, link_parts, unlink_spot, climb, unless_below, rename_fault, replace_dir, rename_file, rename_dir, rename_old, rename_parts}
-use Rattle.ft_posix.specs.Files.{open_spot, open_parts, to_size, cut_file, truncate_spot, truncate_parts, stat_spot}
+use Rattle.ft_posix.specs.Symlinks.{target_fault, make_link, symlink_parts, read_link}
+use Rattle.ft_posix.specs.Files.{is_exclusive, open_spot, open_parts, to_size, cut_file, truncate_spot, truncate_parts, stat_spot}
 use Rattle.ft_posix.specs.Descriptors.{on_open, with_open, any_open, is_readable, is_writable, close_open, read_open, not_negative, pread_at, pread_open, write_place, write_at, write_open, pwrite_at, pwrite_open, seek_from, moved, sought, seek_open, ftruncate_open, fstat_open}
 use Rattle.ft_posix.specs.Steps.{steps}
 use Rattle.ft_posix.proofs.Named.{Named, by_entry, by_open}
-use Rattle.ft_posix.proofs.Walked.{IsSpot, EndsWell, walk-ends}
+use Rattle.ft_posix.proofs.Walked.{IsSpot, EndsWell, LegWell, start-hangs, leg-ends, walk-ends}
 
 module _ (cells : Cells) where
   -- the plain tree shows the cell as the stored cells do: of bytes it has those of files that are
@@ -82,20 +90,41 @@ module _ (cells : Cells) where
       either-shown (is_dot name) (Answer (Ok d)) _ tt
       (either-shown (is_dot_dot name) (then (up d) (λ p. Answer (Ok p))) (Look (Entry (entry_at d name)) (λ x. Answer (passed x))) (then-shown (up d) (λ p. Answer (Ok p)) (up-shown d) tt) (tt, tt))
 
-  last-shown : (d : ℕ) (name : List ℕ) (trailing : Bool) → LooksWell (last d name trailing)
-  last-shown d name trailing =
+  last-shown : (d : ℕ) (name : List ℕ) (follow slash : Bool) → LooksWell (last d name follow slash)
+  last-shown d name follow slash =
       either-shown (is_dot name) (Answer (Ok (Itself d))) _ tt
-      (either-shown (is_dot_dot name) (then (up d) (λ p. Answer (Ok (Itself p)))) (Look (Entry (entry_at d name)) (λ x. Answer (reached d name trailing x))) (then-shown (up d) (λ p. Answer (Ok (Itself p))) (up-shown d) tt) (tt, tt))
+      (either-shown (is_dot_dot name) (then (up d) (λ p. Answer (Ok (Itself p)))) (Look (Entry (entry_at d name)) (λ x. Answer (reached d name follow slash x))) (then-shown (up d) (λ p. Answer (Ok (Itself p))) (up-shown d) tt) (tt, tt))
 
-  walk_from-shown : (names : List (List ℕ)) (d : ℕ) (name : List ℕ) (trailing : Bool) → LooksWell (walk_from d name names trailing)
-  walk_from-shown [] d name trailing = last-shown d name trailing
-  walk_from-shown (m ∷ ms) d name trailing =
-      let go : ℕ → Looks (Result Spot Errno) = λ i. walk_from i m ms trailing in
-      then-shown (inner d name) (or_else Err go) (inner-shown d name) (or_else-shown Err go _ (λ i. walk_from-shown ms i m trailing))
+  leg_from-shown : (names : List (List ℕ)) (d : ℕ) (name : List ℕ) (follow slash : Bool) → LooksWell (leg_from d name names follow slash)
+  leg_from-shown [] d name follow slash =
+      then-shown (last d name follow slash) (or_else (halted d []) (λ spot. Answer (Ends (Ok spot)))) (last-shown d name follow slash) (or_else-shown (halted d []) (λ spot. Answer (Ends (Ok spot))) _ (λ spot. tt))
+  leg_from-shown (m ∷ ms) d name follow slash =
+      let go : ℕ → Looks Leg = λ i. leg_from i m ms follow slash in
+      then-shown (inner d name) (or_else (halted d (m ∷ ms)) go) (inner-shown d name) (or_else-shown (halted d (m ∷ ms)) go _ (λ i. leg_from-shown ms i m follow slash))
 
-  walk-shown : (names : List (List ℕ)) (trailing : Bool) → LooksWell (walk names trailing)
-  walk-shown [] trailing = tt
-  walk-shown (name ∷ names) trailing = walk_from-shown names 1 name trailing
+  leg-shown : (d : ℕ) (names : List (List ℕ)) (follow slash : Bool) → LooksWell (leg d names follow slash)
+  leg-shown d [] follow slash = tt
+  leg-shown d (name ∷ names) follow slash = leg_from-shown names d name follow slash
+
+  -- and at the bytes of links that entries name
+  module _ (sound : AreSoundCells cells) where
+    way-shown : (go : ℕ → List (List ℕ) → Bool → Looks (Result Spot Errno)) → ((i : ℕ) (names : List (List ℕ)) (slash : Bool) → Hangs (parent_of cells) i → LooksWell (go i names slash))
+        → (d : ℕ) (names : List (List ℕ)) (slash : Bool) (target : List ℕ) → Hangs (parent_of cells) d → (r : Result Parts Errno) → LooksWell (or_else Err (λ (way : Way). go way.start way.names way.slash) (way_of d names slash target r))
+    way-shown go each d names slash target h (Ok parts) = each _ _ _ (start-hangs cells d target h)
+    way-shown go each d names slash target h (Err e) = tt
+
+    onward-shown : (go : ℕ → List (List ℕ) → Bool → Looks (Result Spot Errno)) → ((i : ℕ) (names : List (List ℕ)) (slash : Bool) → Hangs (parent_of cells) i → LooksWell (go i names slash)) → (slash : Bool) (end : Leg) → LegWell cells end → LooksWell (onward go slash end)
+    onward-shown go each slash (Ends end) well = tt
+    onward-shown go each slash (Meets link dir names) well = (well.0, way-shown go each dir names slash (bytes_of cells link) well.1 (target_parts (bytes_of cells link)))
+
+    walk_on-shown : (left : ℕ) (follow : Bool) (d : ℕ) (names : List (List ℕ)) (slash : Bool) → Hangs (parent_of cells) d → LooksWell (walk_on left follow d names slash)
+    walk_on-shown zero follow d names slash h = then-shown (leg d names follow slash) (λ end. Answer (ended end)) (leg-shown d names follow slash) tt
+    walk_on-shown (suc left) follow d names slash h =
+        then-shown (leg d names follow slash) (onward (walk_on left follow) slash) (leg-shown d names follow slash)
+        (onward-shown (walk_on left follow) (λ i more after g. walk_on-shown left follow i more after g) slash (answer (leg d names follow slash) (view_of cells)) (leg-ends cells sound.tree d names follow slash h))
+
+    walk-shown : (follow : Bool) (names : List (List ℕ)) (slash : Bool) → LooksWell (walk follow names slash)
+    walk-shown follow names slash = walk_on-shown MOST_FOLLOWED follow 1 names slash the_root
 
   -- And a climb at parents.
 
@@ -110,55 +139,68 @@ module _ (cells : Cells) where
   -- A call looks at a file only that its path leads to, or its descriptor.
 
   remove_dir-shown : (spot : Spot) → IsSpot cells spot → LooksWell (remove_dir spot)
-  remove_dir-shown (AtName entry None) h = tt
-  remove_dir-shown (AtName entry (Some (DirNode i))) h = (tt, tt)
-  remove_dir-shown (AtName entry (Some (FileNode i))) h = tt
+  remove_dir-shown (AtName entry None slash) h = tt
+  remove_dir-shown (AtName entry (Some (DirNode i)) slash) h = (tt, tt)
+  remove_dir-shown (AtName entry (Some (FileNode form i)) slash) h = tt
   remove_dir-shown (Itself d) h = tt
 
   make_dir-shown : (k : ℕ) (spot : Spot) → IsSpot cells spot → LooksWell (make_dir k spot)
-  make_dir-shown k (AtName entry None) h = tt
-  make_dir-shown k (AtName entry (Some x)) h = tt
+  make_dir-shown k (AtName entry None slash) h = tt
+  make_dir-shown k (AtName entry (Some x) slash) h = tt
   make_dir-shown k (Itself d) h = tt
 
   list_dir-shown : (spot : Spot) → IsSpot cells spot → LooksWell (list_dir spot)
-  list_dir-shown (AtName entry None) h = tt
-  list_dir-shown (AtName entry (Some (DirNode i))) h = (tt, tt)
-  list_dir-shown (AtName entry (Some (FileNode i))) h = tt
+  list_dir-shown (AtName entry None slash) h = tt
+  list_dir-shown (AtName entry (Some (DirNode i)) slash) h = (tt, tt)
+  list_dir-shown (AtName entry (Some (FileNode form i)) slash) h = tt
   list_dir-shown (Itself d) h = (tt, tt)
 
   truncate_spot-shown : (size : ℕ) (spot : Spot) → IsSpot cells spot → LooksWell (truncate_spot size spot)
-  truncate_spot-shown size (AtName entry None) h = tt
-  truncate_spot-shown size (AtName entry (Some (DirNode i))) h = tt
-  truncate_spot-shown size (AtName entry (Some (FileNode i))) h = (by_entry entry.dir entry.name i (sym h.1), tt)
+  truncate_spot-shown size (AtName entry None slash) h = tt
+  truncate_spot-shown size (AtName entry (Some (DirNode i)) slash) h = tt
+  truncate_spot-shown size (AtName entry (Some (FileNode LinkForm i)) slash) h = tt
+  truncate_spot-shown size (AtName entry (Some (FileNode Regular i)) slash) h = (by_entry entry.dir entry.name i (sym h.1), tt)
   truncate_spot-shown size (Itself d) h = tt
 
   stat_spot-shown : (spot : Spot) → IsSpot cells spot → LooksWell (stat_spot spot)
-  stat_spot-shown (AtName entry None) h = tt
-  stat_spot-shown (AtName entry (Some (DirNode i))) h = tt
-  stat_spot-shown (AtName entry (Some (FileNode i))) h = (tt, (by_entry entry.dir entry.name i (sym h.1), tt))
+  stat_spot-shown (AtName entry None slash) h = tt
+  stat_spot-shown (AtName entry (Some (DirNode i)) slash) h = tt
+  stat_spot-shown (AtName entry (Some (FileNode form i)) slash) h = (tt, (by_entry entry.dir entry.name i (sym h.1), tt))
   stat_spot-shown (Itself d) h = tt
 
-  link_new-shown : (limits : TreeLimits) (i : ℕ) (trailing : Bool) (spot : Spot) → IsSpot cells spot → LooksWell (link_new limits i trailing spot)
-  link_new-shown limits i trailing (AtName entry None) h = either-shown trailing (Answer (failed ENOENT)) _ tt (tt, tt)
-  link_new-shown limits i trailing (AtName entry (Some x)) h = tt
-  link_new-shown limits i trailing (Itself d) h = tt
+  make_link-shown : (k : ℕ) (target : List ℕ) (spot : Spot) → IsSpot cells spot → LooksWell (make_link k target spot)
+  make_link-shown k target (AtName entry None slash) h = tt
+  make_link-shown k target (AtName entry (Some x) slash) h = tt
+  make_link-shown k target (Itself d) h = tt
+
+  read_link-shown : (spot : Spot) → IsSpot cells spot → LooksWell (read_link spot)
+  read_link-shown (AtName entry None slash) h = tt
+  read_link-shown (AtName entry (Some (DirNode i)) slash) h = tt
+  read_link-shown (AtName entry (Some (FileNode Regular i)) slash) h = tt
+  read_link-shown (AtName entry (Some (FileNode LinkForm i)) slash) h = (by_entry entry.dir entry.name i (sym h.1), tt)
+  read_link-shown (Itself d) h = tt
+
+  link_new-shown : (limits : TreeLimits) (form : Form) (i : ℕ) (spot : Spot) → IsSpot cells spot → LooksWell (link_new limits form i spot)
+  link_new-shown limits form i (AtName entry None slash) h = either-shown slash (Answer (failed ENOENT)) _ tt (tt, tt)
+  link_new-shown limits form i (AtName entry (Some x) slash) h = tt
+  link_new-shown limits form i (Itself d) h = tt
 
   unlink_spot-shown : (spot : Spot) → IsSpot cells spot → LooksWell (unlink_spot spot)
-  unlink_spot-shown (AtName entry None) h = tt
-  unlink_spot-shown (AtName entry (Some (DirNode i))) h = tt
-  unlink_spot-shown (AtName entry (Some (FileNode i))) h = (tt, tt)
+  unlink_spot-shown (AtName entry None slash) h = tt
+  unlink_spot-shown (AtName entry (Some (DirNode i)) slash) h = tt
+  unlink_spot-shown (AtName entry (Some (FileNode form i)) slash) h = (tt, tt)
   unlink_spot-shown (Itself d) h = tt
 
-  rename_file-shown : (d : ℕ) (name : List ℕ) (i : ℕ) (trailing : Bool) (spot : Spot) → IsSpot cells spot → LooksWell (rename_file (entry_at d name) i trailing spot)
-  rename_file-shown d name i trailing (AtName entry None) h = tt
-  rename_file-shown d name i trailing (AtName entry (Some (DirNode j))) h = tt
-  rename_file-shown d name i trailing (AtName entry (Some (FileNode j))) h = either-shown (i == j) (Answer (told Done)) _ tt (tt, tt)
-  rename_file-shown d name i trailing (Itself e) h = tt
+  rename_file-shown : (d : ℕ) (name : List ℕ) (form : Form) (i : ℕ) (spot : Spot) → IsSpot cells spot → LooksWell (rename_file (entry_at d name) form i spot)
+  rename_file-shown d name form i (AtName entry None slash) h = tt
+  rename_file-shown d name form i (AtName entry (Some (DirNode j)) slash) h = tt
+  rename_file-shown d name form i (AtName entry (Some (FileNode kind j)) slash) h = either-shown (i == j) (Answer (told Done)) _ tt (tt, tt)
+  rename_file-shown d name form i (Itself e) h = tt
 
   rename_dir-shown : (n d : ℕ) (name : List ℕ) (i : ℕ) (spot : Spot) → IsSpot cells spot → LooksWell (rename_dir n (entry_at d name) i spot)
-  rename_dir-shown n d name i (AtName entry None) h = unless_below-shown n i entry.dir _ tt
-  rename_dir-shown n d name i (AtName entry (Some (DirNode j))) h = either-shown (i == j) (Answer (told Done)) _ tt (unless_below-shown n i entry.dir (replace_dir (entry_at d name) i entry j) (tt, tt))
-  rename_dir-shown n d name i (AtName entry (Some (FileNode j))) h = tt
+  rename_dir-shown n d name i (AtName entry None slash) h = unless_below-shown n i entry.dir _ tt
+  rename_dir-shown n d name i (AtName entry (Some (DirNode j)) slash) h = either-shown (i == j) (Answer (told Done)) _ tt (unless_below-shown n i entry.dir (replace_dir (entry_at d name) i entry j) (tt, tt))
+  rename_dir-shown n d name i (AtName entry (Some (FileNode kind j)) slash) h = tt
   rename_dir-shown n d name i (Itself e) h = tt
 
   with_open-shown : (fd : ℕ) (fits : OpenFile → Bool) (go : OpenFile → Looks Outcome) → ((o : OpenFile) → Named cells o.file → LooksWell (go o)) → LooksWell (with_open fd fits go)
@@ -191,58 +233,62 @@ module _ (cells : Cells) where
     spot-shown go each (Ok spot) h = each spot h
     spot-shown go each (Err e) h = tt
 
-    from_parts-shown : (go : Spot → Looks Outcome) → ((spot : Spot) → IsSpot cells spot → LooksWell (go spot)) → (parts : Result Parts Errno) → LooksWell (from_parts parts go)
-    from_parts-shown go each (Err e) = tt
-    from_parts-shown go each (Ok parts) =
-        then-shown (walk parts.names parts.trailing) (or_else failed go) (walk-shown parts.names parts.trailing)
-        (spot-shown go each _ (walk-ends cells sound.tree parts.names parts.trailing))
+    from_parts-shown : (follow : Bool) (go : Spot → Looks Outcome) → ((spot : Spot) → IsSpot cells spot → LooksWell (go spot)) → (parts : Result Parts Errno) → LooksWell (from_parts follow parts go)
+    from_parts-shown follow go each (Err e) = tt
+    from_parts-shown follow go each (Ok parts) =
+        then-shown (walk follow parts.names parts.trailing) (or_else failed go) (walk-shown sound follow parts.names parts.trailing)
+        (spot-shown go each _ (walk-ends cells sound.tree follow parts.names parts.trailing))
+
+    symlink_parts-shown : (k : ℕ) (target : List ℕ) (parts : Result Parts Errno) → LooksWell (symlink_parts k target parts)
+    symlink_parts-shown k target (Err e) = tt
+    symlink_parts-shown k target (Ok parts) = unless-shown (target_fault target) (from_parts false (Ok parts) (make_link k target)) (from_parts-shown false (make_link k target) (make_link-shown k target) (Ok parts))
 
     remove_parts-shown : (parts : Result Parts Errno) → LooksWell (remove_parts parts)
     remove_parts-shown (Err e) = tt
-    remove_parts-shown (Ok parts) = unless-shown (last_fault (last_of parts.names)) (from_parts (Ok parts) remove_dir) (from_parts-shown remove_dir remove_dir-shown (Ok parts))
+    remove_parts-shown (Ok parts) = unless-shown (last_fault (last_of parts.names)) (from_parts false (Ok parts) remove_dir) (from_parts-shown false remove_dir remove_dir-shown (Ok parts))
 
     open_parts-shown : (k : ℕ) (flags : OpenFlags) (parts : Result Parts Errno) → LooksWell (open_parts k flags parts)
     open_parts-shown k flags (Err e) = tt
     open_parts-shown k flags (Ok parts) =
         either-shown (flags.trunc && not (can_write flags.access)) (Answer (failed EINVAL)) _ tt
-        (from_parts-shown (λ spot. Answer (open_spot k flags parts.trailing spot)) (λ spot h. tt) (Ok parts))
+        (from_parts-shown (not (is_exclusive flags)) (λ spot. Answer (open_spot k flags spot)) (λ spot h. tt) (Ok parts))
 
     truncate_parts-shown : (limits : TreeLimits) (len : ℤ) (parts : Result Parts Errno) → LooksWell (truncate_parts limits len parts)
     truncate_parts-shown limits len (Err e) = tt
     truncate_parts-shown limits len (Ok parts) =
-        or_else-shown failed (λ size. from_parts (Ok parts) (truncate_spot size)) (to_size limits len) (λ size. from_parts-shown (truncate_spot size) (truncate_spot-shown size) (Ok parts))
+        or_else-shown failed (λ size. from_parts true (Ok parts) (truncate_spot size)) (to_size limits len) (λ size. from_parts-shown true (truncate_spot size) (truncate_spot-shown size) (Ok parts))
 
     -- A path leads on from where another one led.
 
     link_old-shown : (limits : TreeLimits) (new : Parts) (spot : Spot) → IsSpot cells spot → LooksWell (link_old limits new spot)
-    link_old-shown limits new (AtName entry None) h = tt
-    link_old-shown limits new (AtName entry (Some (DirNode i))) h = tt
-    link_old-shown limits new (AtName entry (Some (FileNode i))) h = from_parts-shown (link_new limits i new.trailing) (link_new-shown limits i new.trailing) (Ok new)
+    link_old-shown limits new (AtName entry None slash) h = tt
+    link_old-shown limits new (AtName entry (Some (DirNode i)) slash) h = tt
+    link_old-shown limits new (AtName entry (Some (FileNode form i)) slash) h = from_parts-shown false (link_new limits form i) (link_new-shown limits form i) (Ok new)
     link_old-shown limits new (Itself d) h = tt
 
     link_parts-shown : (limits : TreeLimits) (old new : Result Parts Errno) → LooksWell (link_parts limits old new)
     link_parts-shown limits (Err e) new = tt
     link_parts-shown limits (Ok old) (Err e) = tt
-    link_parts-shown limits (Ok old) (Ok new) = from_parts-shown (link_old limits new) (link_old-shown limits new) (Ok old)
+    link_parts-shown limits (Ok old) (Ok new) = from_parts-shown false (link_old limits new) (link_old-shown limits new) (Ok old)
 
     rename_old-shown : (n : ℕ) (new : Parts) (spot : Spot) → IsSpot cells spot → LooksWell (rename_old n new spot)
-    rename_old-shown n new (AtName entry None) h = tt
-    rename_old-shown n new (AtName entry (Some (DirNode i))) h = from_parts-shown (rename_dir n entry i) (rename_dir-shown n entry.dir entry.name i) (Ok new)
-    rename_old-shown n new (AtName entry (Some (FileNode i))) h = from_parts-shown (rename_file entry i new.trailing) (rename_file-shown entry.dir entry.name i new.trailing) (Ok new)
+    rename_old-shown n new (AtName entry None slash) h = tt
+    rename_old-shown n new (AtName entry (Some (DirNode i)) slash) h = from_parts-shown false (rename_dir n entry i) (rename_dir-shown n entry.dir entry.name i) (Ok new)
+    rename_old-shown n new (AtName entry (Some (FileNode form i)) slash) h = from_parts-shown false (rename_file entry form i) (rename_file-shown entry.dir entry.name form i) (Ok new)
     rename_old-shown n new (Itself d) h = tt
 
     rename_parts-shown : (n : ℕ) (old new : Result Parts Errno) → LooksWell (rename_parts n old new)
     rename_parts-shown n (Err e) new = tt
     rename_parts-shown n (Ok old) (Err e) = tt
     rename_parts-shown n (Ok old) (Ok new) =
-        unless-shown (rename_fault (last_of old.names) (last_of new.names)) (from_parts (Ok old) (rename_old n new)) (from_parts-shown (rename_old n new) (rename_old-shown n new) (Ok old))
+        unless-shown (rename_fault (last_of old.names) (last_of new.names)) (from_parts false (Ok old) (rename_old n new)) (from_parts-shown false (rename_old n new) (rename_old-shown n new) (Ok old))
 
 -- on sound cells each cell that a call looks at is one that the plain tree shows alike
 pub call-looks : (limits : TreeLimits) (cells : Cells) → AreSoundCells cells → (n k : ℕ) (call : Call) → AllShown cells (looked_at (steps limits n k call) (view_of cells))
-call-looks limits cells sound n k (Mkdir path) = from_parts-shown cells sound (make_dir k) (make_dir-shown cells k) (parts_of path)
+call-looks limits cells sound n k (Mkdir path) = from_parts-shown cells sound false (make_dir k) (make_dir-shown cells k) (parts_of path)
 call-looks limits cells sound n k (Rmdir path) = remove_parts-shown cells sound (parts_of path)
-call-looks limits cells sound n k (ListDir path) = from_parts-shown cells sound list_dir (list_dir-shown cells) (parts_of path)
-call-looks limits cells sound n k (Open path access create excl trunc append) = open_parts-shown cells sound k _ (parts_of path)
+call-looks limits cells sound n k (ListDir path) = from_parts-shown cells sound true list_dir (list_dir-shown cells) (parts_of path)
+call-looks limits cells sound n k (Open path access create excl trunc append) = open_parts-shown cells sound k (record { access = access; create = create; excl = excl; trunc = trunc; append = append }) (parts_of path)
 call-looks limits cells sound n k (Close fd) = with_open-shown cells fd any_open (close_open fd) (λ o named. (tt, tt))
 call-looks limits cells sound n k (Read fd len) = with_open-shown cells fd is_readable (read_open fd len) (λ o named. (named, tt))
 call-looks limits cells sound n k (WriteCall fd bytes) = with_open-shown cells fd is_writable (write_open limits fd bytes) (write_open-shown cells limits fd bytes)
@@ -255,8 +301,11 @@ call-looks limits cells sound n k (Lseek fd whence off) =
 call-looks limits cells sound n k (Truncate len path) = truncate_parts-shown cells sound limits len (parts_of path)
 call-looks limits cells sound n k (Ftruncate fd len) =
     with_open-shown cells fd is_writable (ftruncate_open limits len) (λ o named. or_else-shown cells failed (cut_file o.file) (to_size limits len) (λ size. (named, tt)))
-call-looks limits cells sound n k (Stat path) = from_parts-shown cells sound stat_spot (stat_spot-shown cells) (parts_of path)
+call-looks limits cells sound n k (Stat path) = from_parts-shown cells sound true stat_spot (stat_spot-shown cells) (parts_of path)
 call-looks limits cells sound n k (Fstat fd) = with_open-shown cells fd any_open fstat_open (λ o named. (tt, (named, tt)))
 call-looks limits cells sound n k (Link old new) = link_parts-shown cells sound limits (parts_of old) (parts_of new)
-call-looks limits cells sound n k (Unlink path) = from_parts-shown cells sound unlink_spot (unlink_spot-shown cells) (parts_of path)
+call-looks limits cells sound n k (Unlink path) = from_parts-shown cells sound false unlink_spot (unlink_spot-shown cells) (parts_of path)
 call-looks limits cells sound n k (Rename old new) = rename_parts-shown cells sound n (parts_of old) (parts_of new)
+call-looks limits cells sound n k (Symlink target path) = symlink_parts-shown cells sound k target (parts_of path)
+call-looks limits cells sound n k (Readlink path) = from_parts-shown cells sound false read_link (read_link-shown cells) (parts_of path)
+call-looks limits cells sound n k (Lstat path) = from_parts-shown cells sound false stat_spot (stat_spot-shown cells) (parts_of path)

@@ -2,13 +2,13 @@
 use Rattle.std.proofs.Common.{◌≡◌, ℕ, Bool, true, false, cond, List, Option, Some, None, Result, Ok, Err, refl, sym, ap, subst, ◌∙◌}
 use Rattle.ft_path.specs.declared.errno.Errno.{Errno}
 use Rattle.ft_path.specs.declared.path.Parts.{Parts}
-use Rattle.ft_cells.specs.declared.node.Spot.{Spot as Seen}
 use Rattle.ft_path.specs.declared.errno.Errno.TheVariants.{EBADF, EINVAL}
 use Rattle.ft_cells.specs.declared.cell.Cell.TheVariants.{Fd}
 use Rattle.ft_cells.specs.declared.open_file.OpenFile.{OpenFile}
 use Rattle.ft_cells.specs.Looks.{Looks, Answer, answer, looked_at, all_noted, answer-then, then, or_else}
 use Rattle.ft_tree.specs.Views.{view_of}
-use Rattle.ft_tree.specs.Walk.{Spot, walk, seen_at, seen}
+use Rattle.ft_cells.specs.declared.node.Spot.{Spot}
+use Rattle.ft_tree.specs.Walk.{walk}
 use Rattle.ft_posix.specs.declared.intent.Intent.{Intent}
 use Rattle.ft_posix.specs.declared.intent.Stop.{Stop}
 use Rattle.ft_posix.specs.declared.intent.Stop.TheVariants.{Memory as NoMemory, Errno as Fails}
@@ -33,12 +33,12 @@ answer-on old s f x mid is looks =
     ap (λ (l : Looking). answer (f x) (view_of l.cells)) looks ∙ ap (λ y. answer (f y) (view_of old.cells)) is ∙ sym (answer-then s f (view_of old.cells))
 
 -- where a walk leads that notes each cell which it reads
-pub leads : (old new : Looking) (read names : List (List ℕ)) (trailing : Bool) → read ≡ names → (end told : Result Seen Errno) → end ≡ told
-    → seen end ≡ answer (walk read trailing) (view_of old.cells) → new ≡ all_noted noted_at old (looked_at (walk read trailing) (view_of old.cells))
-    → (seen told ≡ answer (walk names trailing) (view_of old.cells)) × (new ≡ noted old (walk names trailing))
-leads old new read names trailing same end told is led looks = (
-  ap seen (sym is) ∙ led ∙ ap (λ ns. answer (walk ns trailing) (view_of old.cells)) same,
-  looks ∙ all_noted-is old (looked_at (walk read trailing) (view_of old.cells)) ∙ ap (λ ns. noted old (walk ns trailing)) same,
+pub leads : (old new : Looking) (follow : Bool) (read names : List (List ℕ)) (trailing : Bool) → read ≡ names → (end told : Result Spot Errno) → end ≡ told
+    → end ≡ answer (walk follow read trailing) (view_of old.cells) → new ≡ all_noted noted_at old (looked_at (walk follow read trailing) (view_of old.cells))
+    → (told ≡ answer (walk follow names trailing) (view_of old.cells)) × (new ≡ noted old (walk follow names trailing))
+leads old new follow read names trailing same end told is led looks = (
+  sym is ∙ led ∙ ap (λ ns. answer (walk follow ns trailing) (view_of old.cells)) same,
+  looks ∙ all_noted-is old (looked_at (walk follow read trailing) (view_of old.cells)) ∙ ap (λ ns. noted old (walk follow ns trailing)) same,
 )
 
 -- to go on with what was found out
@@ -50,27 +50,27 @@ finds_then old s f x mid new (Err (Fails e)) is looks h = (h.0 ∙ answer-on old
 finds_then old s f x mid new (Err NoMemory) is looks h = tt
 
 -- a call on a path: its text is read, its names are walked
-module _ (old : Looking) (text : Result Parts Errno) (go : Spot → Looks Outcome) where
+module _ (old : Looking) (text : Result Parts Errno) (go : Spot → Looks Outcome) (follow : Bool) where
   -- a fault of the text is answered before anything is looked at
-  pub comes_faulty : (d : Stop) → Says text (Err d) → Comes old (from_parts text go) old (Err d)
-  comes_faulty (Fails e) is = (ap (λ t. answer (from_parts t go) (view_of old.cells)) is, ap (λ t. noted old (from_parts t go)) is)
+  pub comes_faulty : (d : Stop) → Says text (Err d) → Comes old (from_parts follow text go) old (Err d)
+  comes_faulty (Fails e) is = (ap (λ t. answer (from_parts follow t go) (view_of old.cells)) is, ap (λ t. noted old (from_parts follow t go)) is)
   comes_faulty NoMemory is = tt
 
   module _ (parts : Parts) (is : Says text (Ok parts)) (mid : Looking) where
     -- the walk fails, or wants memory
-    pub comes_lost : (d : Stop) → Leads old (walk parts.names parts.trailing) mid (Err d) → Comes old (from_parts text go) mid (Err d)
+    pub comes_lost : (d : Stop) → Leads old (walk follow parts.names parts.trailing) mid (Err d) → Comes old (from_parts follow text go) mid (Err d)
     comes_lost (Fails e) h =
-        let s = walk parts.names parts.trailing in (
-          answer-on old s (or_else failed go) (Err e) mid h.0 h.1 ∙ ap (λ t. answer (from_parts t go) (view_of old.cells)) is,
-          noted-then old s (or_else failed go) (Err e) mid h.0 h.1 ∙ ap (λ t. noted old (from_parts t go)) is,
+        let s = walk follow parts.names parts.trailing in (
+          answer-on old s (or_else failed go) (Err e) mid h.0 h.1 ∙ ap (λ t. answer (from_parts follow t go) (view_of old.cells)) is,
+          noted-then old s (or_else failed go) (Err e) mid h.0 h.1 ∙ ap (λ t. noted old (from_parts follow t go)) is,
         )
     comes_lost NoMemory h = tt
 
     -- the call goes on where the walk ends
-    pub comes_on : (spot : Seen) → Leads old (walk parts.names parts.trailing) mid (Ok spot) → (new : Looking) (r : Result Intent Stop) → Comes mid (go (seen_at spot)) new r → Comes old (from_parts text go) new r
+    pub comes_on : (spot : Spot) → Leads old (walk follow parts.names parts.trailing) mid (Ok spot) → (new : Looking) (r : Result Intent Stop) → Comes mid (go spot) new r → Comes old (from_parts follow text go) new r
     comes_on spot h new r comes =
-        subst (λ t. Comes old (from_parts t go) new r) is
-        (finds_then old (walk parts.names parts.trailing) (or_else failed go) (Ok (seen_at spot)) mid new r h.0 h.1 comes)
+        subst (λ t. Comes old (from_parts follow t go) new r) is
+        (finds_then old (walk follow parts.names parts.trailing) (or_else failed go) (Ok spot) mid new r h.0 h.1 comes)
 
 -- a call on a descriptor that is open for it
 pub comes_open : (old : Looking) (fd : ℕ) (fits : OpenFile → Bool) (go : OpenFile → Looks Outcome) (place : Option OpenFile) (o : OpenFile) (mid new : Looking) (r : Result Intent Stop)

@@ -6,6 +6,7 @@ use Rattle.std.proofs.lemmas.Option.{none-some, same_Some}
 use Rattle.std.specs.Cmp.{nat_eq_equiv}
 use Rattle.std.specs.Cmp.Lexicographic.{pointwise, same_text, nat_list_eq_equiv}
 use Rattle.ft_cells.specs.declared.node.Node.{Node}
+use Rattle.ft_cells.specs.declared.node.Form.{Form}
 use Rattle.ft_cells.specs.declared.node.Node.TheVariants.{Dir as DirNode, File as FileNode}
 use Rattle.ft_cells.specs.Nodes.{number_of}
 use Rattle.ft_tree.specs.Sound.{Hangs, the_root, under, IsNoDir, IsTree}
@@ -93,9 +94,9 @@ module _ (entry : ℕ → List ℕ → Option Node) (parent : ℕ → Option ℕ
   starts' e other x (inl own) = subst (Hangs parent') (sym own.0) (hangs_still d from)
   starts' e other x (inr old) = hangs_still e (t.starts e other x old)
 
-  apart' : (e : ℕ) (other : List ℕ) (i : ℕ) → ((e ≡ d) × (other ≡ name) × (FileNode i ≡ DirNode k)) ⊎ (entry e other ≡ Some (FileNode i)) → IsNoDir parent' i
-  apart' e other i (inl own) = let no = own.2 in cc
-  apart' e other i (inr old) = let no_dir = t.apart e other i old in (no_dir.0, ap (λ b. cond b (Some d) (parent i)) (ne_eqb i k (unnamed e other (FileNode i) old)) ∙ no_dir.1)
+  apart' : (e : ℕ) (other : List ℕ) (form : Form) (i : ℕ) → ((e ≡ d) × (other ≡ name) × (FileNode form i ≡ DirNode k)) ⊎ (entry e other ≡ Some (FileNode form i)) → IsNoDir parent' i
+  apart' e other form i (inl own) = let no = own.2 in cc
+  apart' e other form i (inr old) = let no_dir = t.apart e other form i old in (no_dir.0, ap (λ b. cond b (Some d) (parent i)) (ne_eqb i k (unnamed e other (FileNode form i) old)) ∙ no_dir.1)
 
   stands' : (e p : ℕ) → ((e ≡ k) × (p ≡ d)) ⊎ (parent e ≡ Some p) → (other : List ℕ) × (entry' p other ≡ Some (DirNode e))
   stands' e p (inl own) = (name, ap (λ x. entry' x name) own.1 ∙ new_entry ∙ ap (λ i. Some (DirNode i)) (sym own.0))
@@ -116,7 +117,7 @@ module _ (entry : ℕ → List ℕ → Option Node) (parent : ℕ → Option ℕ
     top = ap (λ b. cond b (Some d) (parent 1)) (ne_eqb 1 k (λ is. not_root (sym is))) ∙ t.top;
     starts = λ e other x h. starts' e other x (entries e other x h);
     leads = λ e other i h. leads' e other i (entries e other (DirNode i) h);
-    apart = λ e other i h. apart' e other i (entries e other (FileNode i) h);
+    apart = λ e other form i h. apart' e other form i (entries e other (FileNode form i) h);
     stands = λ e p h. stands' e p (parents e p h);
     once = λ e m n i h g. once' e m n i (entries e m (DirNode i) h) (entries e n (DirNode i) g);
     hangs = λ e p h. hangs' e p (parents e p h);

@@ -34,7 +34,7 @@ unnamed s k free (Entry entry) = by_node (entry_of s entry.dir entry.name) refl
     by_node : (o : Option Node) → entry_of s entry.dir entry.name ≡ o → node_names o k ≡ false
     by_node None is = refl
     by_node (Some (DirNode j)) is = refl
-    by_node (Some (FileNode j)) is = ne_eqb j k (no_entry free entry.dir entry.name (FileNode j) is)
+    by_node (Some (FileNode kind j)) is = ne_eqb j k (no_entry free entry.dir entry.name (FileNode kind j) is)
 unnamed s k free (Names d) = refl
 unnamed s k free (Parent d) = refl
 unnamed s k free (Links i) = refl

@@ -4,6 +4,7 @@ use Rattle.std.specs.Prelude.{◌==◌}
 use Rattle.std.proofs.lemmas.Bool.{false≢true}
 use Rattle.std.proofs.lemmas.Option.{none-some, same_Some}
 use Rattle.ft_cells.specs.declared.node.Node.{Node}
+use Rattle.ft_cells.specs.declared.node.Form.{Form}
 use Rattle.ft_cells.specs.declared.node.Node.TheVariants.{Dir as DirNode, File as FileNode}
 use Rattle.ft_tree.specs.Sound.{Hangs, the_root, under, IsNoDir, IsTree}
 use Rattle.ft_posix.proofs.Below.{Avoids, at_root, not_here}
@@ -14,12 +15,12 @@ use Rattle.ft_posix.proofs.Left.{value-other, other_than}
 use Rattle.ft_posix.proofs.Linked.{place-apart, entry-kept, entry-set, entry-cases, tree-unlinked}
 
 -- the name leads to the file i, and the directory e of the new place is in the tree
-pub tree-moved_file : (entry : ℕ → List ℕ → Option Node) (parent : ℕ → Option ℕ) → IsTree entry parent → (d : ℕ) (name : List ℕ) (i e : ℕ) (other : List ℕ) → entry d name ≡ Some (FileNode i) → entry e other ≡ None → Hangs parent e
-    → IsTree (with_entry (with_entry entry e other (Some (FileNode i))) d name None) parent
-tree-moved_file entry parent t d name i e other is empty from =
-    let no_dir = t.apart d name i is in
-    tree-unlinked (with_entry entry e other (Some (FileNode i))) parent (tree-created entry parent t e other i empty no_dir.1 no_dir.0 from) d name i
-    (entry-kept entry e other (Some (FileNode i)) d name (λ same. none-some (FileNode i) (sym empty ∙ sym same ∙ is)) ∙ is)
+pub tree-moved_file : (entry : ℕ → List ℕ → Option Node) (parent : ℕ → Option ℕ) → IsTree entry parent → (d : ℕ) (name : List ℕ) {form : Form} (i e : ℕ) (other : List ℕ) → entry d name ≡ Some (FileNode form i) → entry e other ≡ None → Hangs parent e
+    → IsTree (with_entry (with_entry entry e other (Some (FileNode form i))) d name None) parent
+tree-moved_file entry parent t d name {form} i e other is empty from =
+    let no_dir = t.apart d name form i is in
+    tree-unlinked (with_entry entry e other (Some (FileNode form i))) parent (tree-created entry parent t e other form i empty no_dir.1 no_dir.0 from) d name i
+    (entry-kept entry e other (Some (FileNode form i)) d name (λ same. none-some (FileNode form i) (sym empty ∙ sym same ∙ is)) ∙ is)
 
 -- the name leads to the directory i, which is not met on the way up from the directory e of the
 -- new place
@@ -121,9 +122,9 @@ module _ (entry : ℕ → List ℕ → Option Node) (parent : ℕ → Option ℕ
   leads' f m j (inl new) = ap parent' (sym (dir_inside i j new.2)) ∙ new_parent ∙ ap Some (sym new.0)
   leads' f m j (inr old) = value-other parent i (Some e) j (λ same. one_entry f m old.0 (old.1 ∙ ap (λ n. Some (DirNode n)) same)) ∙ t.leads f m j old.1
 
-  apart' : (f : ℕ) (m : List ℕ) (j : ℕ) → IsNew f m (FileNode j) ⊎ IsOld f m (FileNode j) → IsNoDir parent' j
-  apart' f m j (inl new) = let no = new.2 in cc
-  apart' f m j (inr old) = no_dir_still j (t.apart f m j old.1)
+  apart' : (f : ℕ) (m : List ℕ) (kind : Form) (j : ℕ) → IsNew f m (FileNode kind j) ⊎ IsOld f m (FileNode kind j) → IsNoDir parent' j
+  apart' f m kind j (inl new) = let no = new.2 in cc
+  apart' f m kind j (inr old) = no_dir_still j (t.apart f m kind j old.1)
 
   stands' : (f p : ℕ) → ((f ≡ i) × (p ≡ e)) ⊎ ((f ≢ i) × (parent f ≡ Some p)) → (m : List ℕ) × (entry' p m ≡ Some (DirNode f))
   stands' f p (inl new) = (other, ap (λ g. entry' g other) new.1 ∙ new_entry ∙ ap (λ n. Some (DirNode n)) (sym new.0))
@@ -144,7 +145,7 @@ module _ (entry : ℕ → List ℕ → Option Node) (parent : ℕ → Option ℕ
     top = value-other parent i (Some e) 1 (λ same. none-some d (sym t.top ∙ ap parent same ∙ t.leads d name i is)) ∙ t.top;
     starts = λ f m x h. starts' f m x (entries f m x h);
     leads = λ f m j h. leads' f m j (entries f m (DirNode j) h);
-    apart = λ f m j h. apart' f m j (entries f m (FileNode j) h);
+    apart = λ f m kind j h. apart' f m kind j (entries f m (FileNode kind j) h);
     stands = λ f p h. stands' f p (parents f p h);
     once = λ f m n j h g. once' f m n j (entries f m (DirNode j) h) (entries f n (DirNode j) g);
     hangs = λ f p h. hangs' f p (parents f p h);

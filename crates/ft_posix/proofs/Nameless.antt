@@ -20,7 +20,7 @@ named cells i (Entry entry) e = by_node (entry_of cells entry.dir entry.name) re
     by_node : (o : Option Node) → entry_of cells entry.dir entry.name ≡ o → node_names o i ≡ true → Named cells i
     by_node None is e = absurd (false≢true e)
     by_node (Some (DirNode j)) is e = absurd (false≢true e)
-    by_node (Some (FileNode j)) is e = subst (Named cells) (eqb-true j i e) (by_entry entry.dir entry.name j is)
+    by_node (Some (FileNode kind j)) is e = subst (Named cells) (eqb-true j i e) (by_entry entry.dir entry.name j is)
 named cells i (Names d) e = absurd (false≢true e)
 named cells i (Parent d) e = absurd (false≢true e)
 named cells i (Links j) e = absurd (false≢true e)

@@ -23,19 +23,19 @@ use Rattle.ft_posix.proofs.Listed.{entries-get}
 use Rattle.ft_posix.proofs.Tidied.{get-tidy, contains-parent}
 
 -- where the first edge to a number starts
-abbrev start_of : ℕ → List (DirEntry × ℕ) → Option ℕ
-start_of i es = option_map (λ e. e.0.dir) (list.find (λ e. e.1 == i) es)
+abbrev start_of : ℕ → List (DirEntry × Node) → Option ℕ
+start_of i es = option_map (λ e. e.0.dir) (list.find (λ e. number_of e.1 == i) es)
 
 -- where no edge leads to a number, none is found that does
-no_start : (i : ℕ) (q : DirEntry) (es : List (DirEntry × ℕ)) → start_of i es ≡ None → find entry_cmp q es ≡ Some i → ⊥
-no_start i q [] h g = false≢true (ap is_some g)
-no_start i q (e ∷ es) h g = by_number (e.1 == i) refl h (no_start i q es)
+no_start : (i : ℕ) (q : DirEntry) (y : Node) → number_of y ≡ i → (es : List (DirEntry × Node)) → start_of i es ≡ None → find entry_cmp q es ≡ Some y → ⊥
+no_start i q y own [] h g = false≢true (ap is_some g)
+no_start i q y own (e ∷ es) h g = by_number (number_of e.1 == i) refl h (no_start i q y own es)
   where
-    by_tie : (t : Bool) → (e.1 == i) ≡ false → cond t (Some e.1) (find entry_cmp q es) ≡ Some i → (find entry_cmp q es ≡ Some i → ⊥) → ⊥
-    by_tie true other g rest = false≢true (sym other ∙ eq-eqb e.1 i (same_Some e.1 i g))
+    by_tie : (t : Bool) → (number_of e.1 == i) ≡ false → cond t (Some e.1) (find entry_cmp q es) ≡ Some y → (find entry_cmp q es ≡ Some y → ⊥) → ⊥
+    by_tie true other g rest = false≢true (sym other ∙ eq-eqb (number_of e.1) i (ap number_of (same_Some e.1 y g) ∙ own))
     by_tie false other g rest = rest g
 
-    by_number : (b : Bool) → (e.1 == i) ≡ b → option_map (λ e. e.0.dir) (cond b (Some e) (list.find (λ e. e.1 == i) es)) ≡ None → (start_of i es ≡ None → find entry_cmp q es ≡ Some i → ⊥) → ⊥
+    by_number : (b : Bool) → (number_of e.1 == i) ≡ b → option_map (λ e. e.0.dir) (cond b (Some e) (list.find (λ e. number_of e.1 == i) es)) ≡ None → (start_of i es ≡ None → find entry_cmp q es ≡ Some y → ⊥) → ⊥
     by_number true is h rest = false≢true (sym (ap is_some h))
     by_number false is h rest = by_tie (eq_by_cmp entry_cmp q e.0) is g (rest h)
 
@@ -75,22 +75,21 @@ module _ (cells : Cells) (sound : AreSoundCells cells) where
       by_parent (Some d) is = absurd (false≢true (sym h ∙ contains-under i d is))
 
   -- an edge to a directory is an entry that leads to it
-  pub entry-edge : (d : ℕ) (name : List ℕ) (i : ℕ) → contains_key (tidy cells).dirs i ≡ true → get (tidy cells).edges (entry_at d name) ≡ Some i → entry_of cells d name ≡ Some (DirNode i)
-  entry-edge d name i dir h = by_entry (entry_of cells d name) refl (sym (get-tidy cells d name) ∙ h)
+  pub entry-edge : (d : ℕ) (name : List ℕ) (x : Node) → contains_key (tidy cells).dirs (number_of x) ≡ true → get (tidy cells).edges (entry_at d name) ≡ Some x → entry_of cells d name ≡ Some (DirNode (number_of x))
+  entry-edge d name x dir h = by_node x dir (sym (get-tidy cells d name) ∙ h)
     where
-      by_entry : (o : Option Node) → entry_of cells d name ≡ o → option_map number_of o ≡ Some i → entry_of cells d name ≡ Some (DirNode i)
-      by_entry None is h = absurd (false≢true (ap is_some h))
-      by_entry (Some (FileNode j)) is h = absurd (false≢true (sym (contains-no_dir j (sound.tree.apart d name j is)) ∙ ap (contains_key (tidy cells).dirs) (same_Some j i h) ∙ dir))
-      by_entry (Some (DirNode j)) is h = is ∙ ap (λ n. Some (DirNode n)) (same_Some j i h)
+      by_node : (x : Node) → contains_key (tidy cells).dirs (number_of x) ≡ true → entry_of cells d name ≡ Some x → entry_of cells d name ≡ Some (DirNode (number_of x))
+      by_node (FileNode kind j) dir is = absurd (false≢true (sym (contains-no_dir j (sound.tree.apart d name kind j is)) ∙ dir))
+      by_node (DirNode j) dir is = is
 
   -- the first edge to a directory, if there is one, starts in its parent
-  searched : (i : ℕ) → contains_key (tidy cells).dirs i ≡ true → (es : List (DirEntry × ℕ)) → AllByRecursion (λ e. get (tidy cells).edges e.0 ≡ Some e.1) es → (start_of i es ≡ None) ⊎ (start_of i es ≡ parent_of cells i)
+  searched : (i : ℕ) → contains_key (tidy cells).dirs i ≡ true → (es : List (DirEntry × Node)) → AllByRecursion (λ e. get (tidy cells).edges e.0 ≡ Some e.1) es → (start_of i es ≡ None) ⊎ (start_of i es ≡ parent_of cells i)
   searched i dir [] h = inl refl
-  searched i dir (e ∷ es) h = by_number (e.1 == i) refl (searched i dir es h.1)
+  searched i dir (e ∷ es) h = by_number (number_of e.1 == i) refl (searched i dir es h.1)
     where
-      by_number : (b : Bool) → (e.1 == i) ≡ b → (start_of i es ≡ None) ⊎ (start_of i es ≡ parent_of cells i)
-          → (option_map (λ e. e.0.dir) (cond b (Some e) (list.find (λ e. e.1 == i) es)) ≡ None) ⊎ (option_map (λ e. e.0.dir) (cond b (Some e) (list.find (λ e. e.1 == i) es)) ≡ parent_of cells i)
-      by_number true is rest = inr (sym (sound.tree.leads e.0.dir e.0.name i (entry-edge e.0.dir e.0.name i dir (h.0 ∙ ap Some (eqb-true e.1 i is)))))
+      by_number : (b : Bool) → (number_of e.1 == i) ≡ b → (start_of i es ≡ None) ⊎ (start_of i es ≡ parent_of cells i)
+          → (option_map (λ e. e.0.dir) (cond b (Some e) (list.find (λ e. number_of e.1 == i) es)) ≡ None) ⊎ (option_map (λ e. e.0.dir) (cond b (Some e) (list.find (λ e. number_of e.1 == i) es)) ≡ parent_of cells i)
+      by_number true is rest = (let own = eqb-true (number_of e.1) i is in inr (sym (sound.tree.leads e.0.dir e.0.name i (entry-edge e.0.dir e.0.name e.1 (ap (contains_key (tidy cells).dirs) own ∙ dir) h.0 ∙ ap (λ n. Some (DirNode n)) own))))
       by_number false is rest = rest
 
   -- the parent of a directory that is found is the one that is stored
@@ -101,7 +100,7 @@ module _ (cells : Cells) (sound : AreSoundCells cells) where
       by_parent none None is = none ∙ sym is
       by_parent none (Some d) is =
           let place = sound.tree.stands i d is in
-          absurd (no_start i (entry_at d place.0) (entries (tidy cells).edges) none (sym (get-entries (tidy cells).edges (entry_at d place.0)) ∙ get-tidy cells d place.0 ∙ ap (option_map number_of) place.1))
+          absurd (no_start i (entry_at d place.0) (DirNode i) refl (entries (tidy cells).edges) none (sym (get-entries (tidy cells).edges (entry_at d place.0)) ∙ get-tidy cells d place.0 ∙ place.1))
 
   -- a number that is no directory has none
   pub parent-shown : (i : ℕ) → cond (contains_key (tidy cells).dirs i) (parent_in (tidy cells) i) None ≡ parent_of cells i

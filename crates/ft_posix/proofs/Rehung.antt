@@ -1,12 +1,9 @@
 -- What is left where a directory is removed, or moved.
 use Rattle.std.proofs.Common.{◌≡◌, ◌≢◌, ℕ, Bool, true, false, cond, ◌||◌, List, [], ◌∷◌, Option, Some, None, is_some, refl, sym, ap, subst, eqb-true, ◌∙◌}
 use Rattle.std.specs.Prelude.{◌==◌}
-use Rattle.std.proofs.lemmas.Option.{none-some, same_Some}
+use Rattle.std.proofs.lemmas.Option.{none-some}
 use Rattle.std.proofs.Math.Bool.{or-true}
-use Rattle.std.specs.Option.{option_map}
-use Rattle.ft_cells.specs.declared.entry.Entry.{Entry as DirEntry}
 use Rattle.ft_cells.specs.Entries.{entry_at}
-use Rattle.ft_cells.specs.declared.node.Node.{Node}
 use Rattle.ft_cells.specs.declared.node.Node.TheVariants.{Dir as DirNode}
 use Rattle.ft_cells.specs.Nodes.{number_of}
 use Rattle.ft_cells.specs.Cells.{Cells, dir_of, entry_of, parent_of, links_of, bytes_of, open_of, names_of}
@@ -44,11 +41,7 @@ module _ (cells : Cells) (sound : AreSoundCells cells) (d : ℕ) (name : List �
   count-gone : links_in (tidy (put_all cells removed_writes)) i ≡ 0
   count-gone =
       count-none (tidy (put_all cells removed_writes)).edges i
-      (λ e h. by_entry_of e (with_entry (entry_of cells) d name None e.dir e.name) refl (sym (get-tidy (put_all cells removed_writes) e.dir e.name ∙ ap (λ f. option_map number_of (f e.dir e.name)) (entry-put_all removed_writes cells)) ∙ h))
-    where
-      by_entry_of : (e : DirEntry) (o : Option Node) → with_entry (entry_of cells) d name None e.dir e.name ≡ o → option_map number_of o ≡ Some i → ⊥
-      by_entry_of e None at h = none-some i h
-      by_entry_of e (Some x) at h = none_left (entry_of cells) (parent_of cells) sound.tree d name i is no_entry e.dir e.name x at (same_Some (number_of x) i h)
+      (λ e x h own. none_left (entry_of cells) (parent_of cells) sound.tree d name i is no_entry e.dir e.name x (sym (get-tidy (put_all cells removed_writes) e.dir e.name ∙ ap (λ f. f e.dir e.name) (entry-put_all removed_writes cells)) ∙ h) own)
 
   -- and the edges to others stay
   count-left : (j : ℕ) → j ≢ i → links_in (tidy (put_all cells removed_writes)) j ≡ links_in (tidy cells) j

@@ -6,6 +6,7 @@ use Rattle.std.proofs.lemmas.Option.{none-some, same_Some}
 use Rattle.std.specs.FinMap.{contains_key}
 use Rattle.ft_cells.specs.Entries.{entry_at}
 use Rattle.ft_cells.specs.declared.node.Node.{Node}
+use Rattle.ft_cells.specs.declared.node.Form.{Form}
 use Rattle.ft_cells.specs.declared.node.Node.TheVariants.{File as FileNode}
 use Rattle.ft_cells.specs.Nodes.{number_of}
 use Rattle.ft_cells.specs.Cells.{Cells, entry_of, parent_of, links_of, bytes_of, open_of, put_entry, HasDirPlace, HasFilePlace}
@@ -40,15 +41,15 @@ count-fewer : (i n m links : ℕ) → cond (i == i) 1 0 + n ≡ m → links ≡ 
 count-fewer i n m links sum same = let one = one_own i in omega arith
 
 -- A file that is named gets another entry.
-module _ (cells : Cells) (sound : AreSoundCells cells) (i : ℕ) (d : ℕ) (name : List ℕ) (named : Named cells i) (hangs : Hangs (parent_of cells) d) (empty : entry_of cells d name ≡ None) where
+module _ (cells : Cells) (sound : AreSoundCells cells) (form : Form) (i : ℕ) (d : ℕ) (name : List ℕ) (named : Named cells i) (hangs : Hangs (parent_of cells) d) (empty : entry_of cells d name ≡ None) where
   abbrev linked_writes : List Write
-  linked_writes = (linked i (entry_at d name) (links_of cells i)).writes
+  linked_writes = (linked form i (entry_at d name) (links_of cells i)).writes
 
   file : IsFile cells (parent_of cells) i
   file = named-file cells sound i named
 
   count-linked : (n : ℕ) → links_in (tidy (put_all cells linked_writes)) n ≡ cond (i == n) 1 0 + links_in (tidy cells) n
-  count-linked = count-drawn cells (put_all cells linked_writes) d name (FileNode i) (entry-put_all linked_writes cells) empty
+  count-linked = count-drawn cells (put_all cells linked_writes) d name (FileNode form i) (entry-put_all linked_writes cells) empty
 
   links-linked : (n : ℕ) → with_value (links_of cells) i (suc (links_of cells i)) n ≡ shown (put_all cells linked_writes) (parent_of cells) n
   links-linked n = by_number (n == i) refl
@@ -62,29 +63,29 @@ module _ (cells : Cells) (sound : AreSoundCells cells) (i : ℕ) (d : ℕ) (name
 
   pub sound-linked : AreSoundCells (put_all cells linked_writes)
   sound-linked =
-      sound-after cells sound linked_writes (tree-created (entry_of cells) (parent_of cells) sound.tree d name i empty file.1.1 file.1.0 hangs) links-linked
+      sound-after cells sound linked_writes (tree-created (entry_of cells) (parent_of cells) sound.tree d name form i empty file.1.1 file.1.0 hangs) links-linked
       (λ f o h. let x = sound.opens f o h in (file_place-put_all linked_writes cells o.file x.0, x.1))
 
   pub free-linked : (j : ℕ) → IsFree cells j → IsFree (put_all cells linked_writes) j
   free-linked j too =
       let other : j ≢ i = λ same. named-not_free cells j too i named (sym same) in
       free-after cells linked_writes j too.above_root (no_parent too) (value-other (links_of cells) i (suc (links_of cells i)) j other ∙ (no_links too)) (no_bytes too) (no_open too)
-      (entries-apart cells d name (Some (FileNode i)) j too (λ x. node-apart (FileNode i) x j other)) (no_file too)
+      (entries-apart cells d name (Some (FileNode form i)) j too (λ x. node-apart (FileNode form i) x j other)) (no_file too)
 
 -- A file loses one.
-module _ (cells : Cells) (sound : AreSoundCells cells) (d : ℕ) (name : List ℕ) (i : ℕ) (is : entry_of cells d name ≡ Some (FileNode i)) where
+module _ (cells : Cells) (sound : AreSoundCells cells) (d : ℕ) (name : List ℕ) {form : Form} (i : ℕ) (is : entry_of cells d name ≡ Some (FileNode form i)) where
   abbrev unlinked_writes : List Write
   unlinked_writes = (unlinked (entry_at d name) i (links_of cells i)).writes
 
   count-unlinked : (n : ℕ) → cond (i == n) 1 0 + links_in (tidy (put_all cells unlinked_writes)) n ≡ links_in (tidy cells) n
-  count-unlinked = count-erased cells (put_all cells unlinked_writes) d name (FileNode i) (entry-put_all unlinked_writes cells) is
+  count-unlinked = count-erased cells (put_all cells unlinked_writes) d name (FileNode form i) (entry-put_all unlinked_writes cells) is
 
   links-unlinked : (n : ℕ) → with_value (links_of cells) i (links_of cells i - 1) n ≡ shown (put_all cells unlinked_writes) (parent_of cells) n
   links-unlinked n = by_number (n == i) refl
     where
       by_number : (b : Bool) → (n == i) ≡ b → cond b (links_of cells i - 1) (links_of cells n) ≡ shown (put_all cells unlinked_writes) (parent_of cells) n
       by_number true at =
-          let no_dir = sound.tree.apart d name i is in
+          let no_dir = sound.tree.apart d name form i is in
           sym
           (ap (shown (put_all cells unlinked_writes) (parent_of cells)) (eqb-true n i at) ∙ shown-no_dir (put_all cells unlinked_writes) (parent_of cells) i no_dir
           ∙ count-fewer i _ _ (links_of cells i) (count-unlinked i) (links-counted cells sound i no_dir))
@@ -161,19 +162,19 @@ module _ (old new : Cells) (d : ℕ) (name : List ℕ) (x : Node) (e : ℕ) (oth
       (λ f o h. no_file too f o (ap (λ g. g f) (sym m.opens) ∙ h))
 
 -- so it is where a file is moved
-pub sound-moves_file : (old new : Cells) (d : ℕ) (name : List ℕ) (i e : ℕ) (other : List ℕ) → Moves old new d name (FileNode i) e other (parent_of old) → AreSoundCells old → Hangs (parent_of old) e → AreSoundCells new
-sound-moves_file old new d name i e other m sound hangs =
-    sound-moves old new d name (FileNode i) e other (parent_of old) m (λ n. refl) sound (tree-moved_file (entry_of old) (parent_of old) sound.tree d name i e other m.was m.empty hangs)
+pub sound-moves_file : (old new : Cells) (d : ℕ) (name : List ℕ) {form : Form} (i e : ℕ) (other : List ℕ) → Moves old new d name (FileNode form i) e other (parent_of old) → AreSoundCells old → Hangs (parent_of old) e → AreSoundCells new
+sound-moves_file old new d name {form} i e other m sound hangs =
+    sound-moves old new d name (FileNode form i) e other (parent_of old) m (λ n. refl) sound (tree-moved_file (entry_of old) (parent_of old) sound.tree d name i e other m.was m.empty hangs)
 
-pub free-moves_file : (old new : Cells) (d : ℕ) (name : List ℕ) (i e : ℕ) (other : List ℕ) → Moves old new d name (FileNode i) e other (parent_of old) → (j : ℕ) → IsFree old j → IsFree new j
-free-moves_file old new d name i e other m = free-moves old new d name (FileNode i) e other (parent_of old) m (λ n. refl)
+pub free-moves_file : (old new : Cells) (d : ℕ) (name : List ℕ) {form : Form} (i e : ℕ) (other : List ℕ) → Moves old new d name (FileNode form i) e other (parent_of old) → (j : ℕ) → IsFree old j → IsFree new j
+free-moves_file old new d name {form} i e other m = free-moves old new d name (FileNode form i) e other (parent_of old) m (λ n. refl)
 
 -- A file is moved to an empty place.
-module _ (cells : Cells) (sound : AreSoundCells cells) (d : ℕ) (name : List ℕ) (i e : ℕ) (other : List ℕ) (is : entry_of cells d name ≡ Some (FileNode i)) (hangs : Hangs (parent_of cells) e) (empty : entry_of cells e other ≡ None) where
+module _ (cells : Cells) (sound : AreSoundCells cells) (d : ℕ) (name : List ℕ) {form : Form} (i e : ℕ) (other : List ℕ) (is : entry_of cells d name ≡ Some (FileNode form i)) (hangs : Hangs (parent_of cells) e) (empty : entry_of cells e other ≡ None) where
   abbrev moved_writes : List Write
-  moved_writes = (renamed (entry_at d name) (FileNode i) (entry_at e other) []).writes
+  moved_writes = (renamed (entry_at d name) (FileNode form i) (entry_at e other) []).writes
 
-  file_moved : Moves cells (put_all cells moved_writes) d name (FileNode i) e other (parent_of cells)
+  file_moved : Moves cells (put_all cells moved_writes) d name (FileNode form i) e other (parent_of cells)
   file_moved = record {
     was = is;
     empty = empty;
@@ -208,9 +209,9 @@ module _ (cells gone : Cells) (d : ℕ) (name : List ℕ) (x : Node) (e : ℕ) (
   entries-left = ap (λ f. with_entry f d name None) (sym (ap (λ f. with_entry f e other (Some x)) emptied ∙ entry-twice (entry_of cells) e other None (Some x)))
 
 -- A file is moved to the place of another one.
-module _ (cells : Cells) (sound : AreSoundCells cells) (d : ℕ) (name : List ℕ) (i e : ℕ) (other : List ℕ) (j : ℕ) (is : entry_of cells d name ≡ Some (FileNode i)) (filled : entry_of cells e other ≡ Some (FileNode j)) (differ : i ≢ j) where
+module _ (cells : Cells) (sound : AreSoundCells cells) (d : ℕ) (name : List ℕ) {form : Form} (i e : ℕ) (other : List ℕ) {kind : Form} (j : ℕ) (is : entry_of cells d name ≡ Some (FileNode form i)) (filled : entry_of cells e other ≡ Some (FileNode kind j)) (differ : i ≢ j) where
   abbrev replaced_writes : List Write
-  replaced_writes = (renamed (entry_at d name) (FileNode i) (entry_at e other) (sets (cell.Links j) (links_of cells j - 1) ∷ [])).writes
+  replaced_writes = (renamed (entry_at d name) (FileNode form i) (entry_at e other) (sets (cell.Links j) (links_of cells j - 1) ∷ [])).writes
 
   abbrev gone_writes : List Write
   gone_writes = (unlinked (entry_at e other) j (links_of cells j)).writes
@@ -219,16 +220,16 @@ module _ (cells : Cells) (sound : AreSoundCells cells) (d : ℕ) (name : List �
   abbrev gone : Cells
   gone = put_all cells gone_writes
 
-  nodes_differ : FileNode i ≢ FileNode j
+  nodes_differ : FileNode form i ≢ FileNode kind j
   nodes_differ same = differ (ap number_of same)
 
-  file_replaced : Moves gone (put_all cells replaced_writes) d name (FileNode i) e other (parent_of gone)
+  file_replaced : Moves gone (put_all cells replaced_writes) d name (FileNode form i) e other (parent_of gone)
   file_replaced =
       let emptied = entry-put_all gone_writes cells in
       record {
-        was = was-left cells gone d name (FileNode i) e other (FileNode j) emptied is filled nodes_differ;
-        empty = empty-left cells gone d name (FileNode i) e other (FileNode j) emptied is filled nodes_differ;
-        entries = entry-put_all replaced_writes cells ∙ entries-left cells gone d name (FileNode i) e other (FileNode j) emptied is filled nodes_differ;
+        was = was-left cells gone d name (FileNode form i) e other (FileNode kind j) emptied is filled nodes_differ;
+        empty = empty-left cells gone d name (FileNode form i) e other (FileNode kind j) emptied is filled nodes_differ;
+        entries = entry-put_all replaced_writes cells ∙ entries-left cells gone d name (FileNode form i) e other (FileNode kind j) emptied is filled nodes_differ;
         parents = parent-put_all replaced_writes cells ∙ sym (parent-put_all gone_writes cells);
         links = links-put_all replaced_writes cells ∙ sym (links-put_all gone_writes cells);
         bytes = bytes-put_all replaced_writes cells ∙ sym (bytes-put_all gone_writes cells);
@@ -239,7 +240,7 @@ module _ (cells : Cells) (sound : AreSoundCells cells) (d : ℕ) (name : List �
 
   pub sound-file_replaced : AreSoundCells (put_all cells replaced_writes)
   sound-file_replaced =
-      let hangs = subst (λ (f : ℕ → Option ℕ). Hangs f e) (sym (parent-put_all gone_writes cells)) (sound.tree.starts e other (FileNode j) filled) in
+      let hangs = subst (λ (f : ℕ → Option ℕ). Hangs f e) (sym (parent-put_all gone_writes cells)) (sound.tree.starts e other (FileNode kind j) filled) in
       sound-moves_file gone (put_all cells replaced_writes) d name i e other file_replaced (sound-unlinked cells sound e other j filled) hangs
 
   pub free-file_replaced : (n : ℕ) → IsFree cells n → IsFree (put_all cells replaced_writes) n

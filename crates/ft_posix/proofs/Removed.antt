@@ -84,14 +84,14 @@ module _ (entry : ℕ → List ℕ → Option Node) (parent : ℕ → Option ℕ
   -- no entry that is left leads to it
   pub none_left : (e : ℕ) (other : List ℕ) (x : Node) → entry' e other ≡ Some x → number_of x ≢ i
   none_left e other (DirNode j) h same = let w = was_entry e other (DirNode j) h in false≢true (sym (leads_apart e other j w.0 w.1) ∙ eq-eqb j i same)
-  none_left e other (FileNode j) h same = none-some d (sym (ap parent (sym same) ∙ (t.apart e other j (was_entry e other (FileNode j) h).1).1) ∙ t.leads d name i is)
+  none_left e other (FileNode kind j) h same = none-some d (sym (ap parent (sym same) ∙ (t.apart e other kind j (was_entry e other (FileNode kind j) h).1).1) ∙ t.leads d name i is)
 
   pub tree-removed : IsTree entry' parent'
   tree-removed = record {
     top = elim (1 == i) as (λ b. cond b None (parent 1) ≡ None) [ true ↦ refl | false ↦ t.top ];
     starts = λ e other x h. let w = was_entry e other x h in hangs_left e (not_start e other x w.1) (t.starts e other x w.1);
     leads = λ e other j h. let w = was_entry e other (DirNode j) h in ap (λ b. cond b None (parent j)) (leads_apart e other j w.0 w.1) ∙ t.leads e other j w.1;
-    apart = λ e other j h. no_dir_left j (t.apart e other j (was_entry e other (FileNode j) h).1);
+    apart = λ e other kind j h. no_dir_left j (t.apart e other kind j (was_entry e other (FileNode kind j) h).1);
     stands = λ e p h. let w = was_parent e p h in let s = t.stands e p w.1 in (s.0, ap (λ b. cond b None (entry p s.0)) (place_apart e p s.0 w.0 s.1) ∙ s.1);
     once = λ e m n j h g. t.once e m n j (was_entry e m (DirNode j) h).1 (was_entry e n (DirNode j) g).1;
     hangs = λ e p h. let w = was_parent e p h in hangs_left e w.0 (t.hangs e p w.1);

@@ -11,19 +11,24 @@ use Rattle.ft_cells.specs.Entries.{entry_at}
 use Rattle.ft_cells.specs.declared.cell.Cell.{Cell}
 use Rattle.ft_cells.specs.declared.cell.Cell.TheVariants.{Entry, Names, Parent, Links, Bytes, Fd}
 use Rattle.ft_cells.specs.declared.node.Node.{Node}
+use Rattle.ft_cells.specs.declared.node.Form.{Form}
+use Rattle.ft_cells.specs.declared.node.Form.TheVariants.{Regular, Link as LinkForm}
 use Rattle.ft_cells.specs.declared.node.Node.TheVariants.{Dir as DirNode, File as FileNode}
 use Rattle.ft_cells.specs.declared.open_file.OpenFile.{OpenFile}
 use Rattle.ft_cells.specs.Looks.{Looks, Answer, Look, View, answer, then, or_else}
 use Rattle.ft_cells.specs.Modes.{can_write}
-use Rattle.ft_tree.specs.Walk.{Spot, Named, Itself, walk}
+use Rattle.ft_cells.specs.declared.node.Spot.{Spot}
+use Rattle.ft_cells.specs.declared.node.Spot.TheVariants.{Named, Itself}
+use Rattle.ft_tree.specs.Walk.{walk}
 use Rattle.ft_posix.specs.declared.TheConstants.{LAST_OFFSET}
 use Rattle.ft_posix.specs.declared.call.Call.{Call}
-use Rattle.ft_posix.specs.declared.call.Call.TheVariants.{Mkdir, Rmdir, List as ListDir, Open, Close, Read, Write as WriteCall, Pread, Pwrite, Lseek, Truncate, Ftruncate, Stat, Fstat, Link, Unlink, Rename}
+use Rattle.ft_posix.specs.declared.call.Call.TheVariants.{Mkdir, Rmdir, List as ListDir, Open, Close, Read, Write as WriteCall, Pread, Pwrite, Lseek, Truncate, Ftruncate, Stat, Fstat, Link, Unlink, Rename, Symlink, Readlink, Lstat}
 use Rattle.ft_posix.specs.declared.call.OpenFlags.{OpenFlags}
 use Rattle.ft_posix.specs.declared.call.Whence.{Whence}
 use Rattle.ft_posix.specs.Outcomes.{Write, Outcome, failed, from_parts, unless}
 use Rattle.ft_posix.specs.Accesses.{written_cell}
 use Rattle.ft_posix.specs.Dirs.{make_dir, if_empty, remove_dir, last_fault, remove_parts, list_dir}
+use Rattle.ft_posix.specs.Symlinks.{target_fault, make_link, symlink_parts, read_link}
 use Rattle.ft_posix.specs.Files.{open_node, is_exclusive, open_spot, open_parts, to_size, cut_file, truncate_spot, truncate_parts, stat_spot}
 use Rattle.ft_posix.specs.Descriptors.{on_open, with_open, any_open, is_readable, is_writable, close_open, read_open, not_negative, pread_at, pread_open, write_place, write_at, has_written, write_open, has_pwritten, pwrite_at, pwrite_open, seek_from, moved, sought, seek_open, ftruncate_open, fstat_open}
 use Rattle.ft_posix.specs.Links.{link_at, link_new, link_old, link_parts, unlink_spot, rename_fault, climb, unless_below, with_parent, replace_file, if_bare, replace_dir, rename_file, rename_dir, rename_old, rename_parts}
@@ -67,9 +72,9 @@ or_else-sets : {A : Type 0} (f : A → Looks Outcome) → ((x : A) → Sets (f x
 or_else-sets f h (Ok x) v = h x v
 or_else-sets f h (Err e) v = tt
 
-from_parts-sets : (r : Result Parts Errno) (go : Spot → Looks Outcome) → ((spot : Spot) → Sets (go spot)) → Sets (from_parts r go)
-from_parts-sets (Err e) go h v = tt
-from_parts-sets (Ok parts) go h v = then-sets (walk parts.names parts.trailing) (or_else failed go) (or_else-sets go h) v
+from_parts-sets : (follow : Bool) (r : Result Parts Errno) (go : Spot → Looks Outcome) → ((spot : Spot) → Sets (go spot)) → Sets (from_parts follow r go)
+from_parts-sets follow (Err e) go h v = tt
+from_parts-sets follow (Ok parts) go h v = then-sets (walk follow parts.names parts.trailing) (or_else failed go) (or_else-sets go h) v
 
 unless-sets : (o : Option Errno) (go : Looks Outcome) → Sets go → Sets (unless o go)
 unless-sets None go h v = h v
@@ -78,8 +83,8 @@ unless-sets (Some e) go h v = tt
 -- Directories.
 
 make_dir-sets : (stamp : ℕ) (spot : Spot) → Sets (make_dir stamp spot)
-make_dir-sets stamp (Named entry None) v = (tt, (tt, tt))
-make_dir-sets stamp (Named entry (Some x)) v = tt
+make_dir-sets stamp (Named entry None slash) v = (tt, (tt, tt))
+make_dir-sets stamp (Named entry (Some x) slash) v = tt
 make_dir-sets stamp (Itself dir) v = tt
 
 if_empty-sets : (dir : ℕ) (name : List ℕ) (number : ℕ) (names : List (List ℕ × Node)) → AreSettable (if_empty (entry_at dir name) number names).writes
@@ -87,52 +92,54 @@ if_empty-sets dir name number [] = (tt, (tt, tt))
 if_empty-sets dir name number (e ∷ es) = tt
 
 remove_dir-sets : (spot : Spot) → Sets (remove_dir spot)
-remove_dir-sets (Named entry None) v = tt
-remove_dir-sets (Named entry (Some (FileNode number))) v = tt
-remove_dir-sets (Named entry (Some (DirNode number))) v = if_empty-sets entry.dir entry.name number (v (Names number))
+remove_dir-sets (Named entry None slash) v = tt
+remove_dir-sets (Named entry (Some (FileNode form number)) slash) v = tt
+remove_dir-sets (Named entry (Some (DirNode number)) slash) v = if_empty-sets entry.dir entry.name number (v (Names number))
 remove_dir-sets (Itself dir) v = tt
 
 remove_parts-sets : (r : Result Parts Errno) → Sets (remove_parts r)
 remove_parts-sets (Err e) v = tt
-remove_parts-sets (Ok parts) v = unless-sets (last_fault (last_of parts.names)) (from_parts (Ok parts) remove_dir) (from_parts-sets (Ok parts) remove_dir remove_dir-sets) v
+remove_parts-sets (Ok parts) v = unless-sets (last_fault (last_of parts.names)) (from_parts false (Ok parts) remove_dir) (from_parts-sets false (Ok parts) remove_dir remove_dir-sets) v
 
 list_dir-sets : (spot : Spot) → Sets (list_dir spot)
-list_dir-sets (Named entry None) v = tt
-list_dir-sets (Named entry (Some (FileNode number))) v = tt
-list_dir-sets (Named entry (Some (DirNode number))) v = tt
+list_dir-sets (Named entry None slash) v = tt
+list_dir-sets (Named entry (Some (FileNode form number)) slash) v = tt
+list_dir-sets (Named entry (Some (DirNode number)) slash) v = tt
 list_dir-sets (Itself dir) v = tt
 
 -- Files.
 
 open_node-sets : (stamp : ℕ) (flags : OpenFlags) (x : Node) → AreSettable (open_node stamp flags x).writes
 open_node-sets stamp flags (DirNode file) = tt
-open_node-sets stamp flags (FileNode file) = (tt, one-list flags.trunc _ _ (tt, tt) tt)
+open_node-sets stamp flags (FileNode LinkForm file) = tt
+open_node-sets stamp flags (FileNode Regular file) = (tt, one-list flags.trunc _ _ (tt, tt) tt)
 
-open_spot-sets : (stamp : ℕ) (flags : OpenFlags) (trailing : Bool) (spot : Spot) → AreSettable (open_spot stamp flags trailing spot).writes
-open_spot-sets stamp flags trailing (Named entry None) = one-outcome (flags.create && not trailing) _ _ (tt, (tt, (tt, (tt, tt)))) tt
-open_spot-sets stamp flags trailing (Named entry (Some x)) = one-outcome (is_exclusive flags) _ _ tt (open_node-sets stamp flags x)
-open_spot-sets stamp flags trailing (Itself dir) = one-outcome (is_exclusive flags) _ _ tt tt
+open_spot-sets : (stamp : ℕ) (flags : OpenFlags) (spot : Spot) → AreSettable (open_spot stamp flags spot).writes
+open_spot-sets stamp flags (Named entry None slash) = one-outcome (flags.create && not slash) _ _ (tt, (tt, (tt, (tt, tt)))) tt
+open_spot-sets stamp flags (Named entry (Some x) slash) = one-outcome (is_exclusive flags) _ _ tt (open_node-sets stamp flags x)
+open_spot-sets stamp flags (Itself dir) = one-outcome (is_exclusive flags) _ _ tt tt
 
 open_parts-sets : (stamp : ℕ) (flags : OpenFlags) (r : Result Parts Errno) → Sets (open_parts stamp flags r)
 open_parts-sets stamp flags (Err e) v = tt
 open_parts-sets stamp flags (Ok parts) v =
-    let go : Spot → Looks Outcome = λ spot. Answer (open_spot stamp flags parts.trailing spot) in
-    one-of (flags.trunc && not (can_write flags.access)) _ (from_parts (Ok parts) go) (λ v. tt) (from_parts-sets (Ok parts) go (λ spot v. open_spot-sets stamp flags parts.trailing spot)) v
+    let go : Spot → Looks Outcome = λ spot. Answer (open_spot stamp flags spot) in
+    one-of (flags.trunc && not (can_write flags.access)) _ (from_parts (not (is_exclusive flags)) (Ok parts) go) (λ v. tt) (from_parts-sets (not (is_exclusive flags)) (Ok parts) go (λ spot v. open_spot-sets stamp flags spot)) v
 
 truncate_spot-sets : (size : ℕ) (spot : Spot) → Sets (truncate_spot size spot)
-truncate_spot-sets size (Named entry None) v = tt
-truncate_spot-sets size (Named entry (Some (DirNode file))) v = tt
-truncate_spot-sets size (Named entry (Some (FileNode file))) v = (tt, tt)
+truncate_spot-sets size (Named entry None slash) v = tt
+truncate_spot-sets size (Named entry (Some (DirNode file)) slash) v = tt
+truncate_spot-sets size (Named entry (Some (FileNode LinkForm file)) slash) v = tt
+truncate_spot-sets size (Named entry (Some (FileNode Regular file)) slash) v = (tt, tt)
 truncate_spot-sets size (Itself dir) v = tt
 
 truncate_parts-sets : (limits : TreeLimits) (len : ℤ) (r : Result Parts Errno) → Sets (truncate_parts limits len r)
 truncate_parts-sets limits len (Err e) v = tt
-truncate_parts-sets limits len (Ok parts) v = or_else-sets (λ size. from_parts (Ok parts) (truncate_spot size)) (λ size. from_parts-sets (Ok parts) (truncate_spot size) (truncate_spot-sets size)) (to_size limits len) v
+truncate_parts-sets limits len (Ok parts) v = or_else-sets (λ size. from_parts true (Ok parts) (truncate_spot size)) (λ size. from_parts-sets true (Ok parts) (truncate_spot size) (truncate_spot-sets size)) (to_size limits len) v
 
 stat_spot-sets : (spot : Spot) → Sets (stat_spot spot)
-stat_spot-sets (Named entry None) v = tt
-stat_spot-sets (Named entry (Some (DirNode file))) v = tt
-stat_spot-sets (Named entry (Some (FileNode file))) v = tt
+stat_spot-sets (Named entry None slash) v = tt
+stat_spot-sets (Named entry (Some (DirNode file)) slash) v = tt
+stat_spot-sets (Named entry (Some (FileNode form file)) slash) v = tt
 stat_spot-sets (Itself dir) v = tt
 
 -- Descriptors.
@@ -164,27 +171,27 @@ seek_open-sets fd whence off o = then-sets (seek_from whence o) (λ from. Answer
 
 -- Links.
 
-link_new-sets : (limits : TreeLimits) (file : ℕ) (trailing : Bool) (spot : Spot) → Sets (link_new limits file trailing spot)
-link_new-sets limits file trailing (Named entry None) v =
-    one-of trailing _ (Look (Links file) (λ links. Answer (link_at limits file entry links))) (λ v. tt) (λ v. one-outcome (nat_lt (v (Links file)) limits.links) _ _ (tt, (tt, tt)) tt) v
-link_new-sets limits file trailing (Named entry (Some x)) v = tt
-link_new-sets limits file trailing (Itself dir) v = tt
+link_new-sets : (limits : TreeLimits) (form : Form) (file : ℕ) (spot : Spot) → Sets (link_new limits form file spot)
+link_new-sets limits form file (Named entry None slash) v =
+    one-of slash _ (Look (Links file) (λ links. Answer (link_at limits form file entry links))) (λ v. tt) (λ v. one-outcome (nat_lt (v (Links file)) limits.links) _ _ (tt, (tt, tt)) tt) v
+link_new-sets limits form file (Named entry (Some x) slash) v = tt
+link_new-sets limits form file (Itself dir) v = tt
 
 link_old-sets : (limits : TreeLimits) (new : Parts) (spot : Spot) → Sets (link_old limits new spot)
-link_old-sets limits new (Named entry None) v = tt
-link_old-sets limits new (Named entry (Some (DirNode file))) v = tt
-link_old-sets limits new (Named entry (Some (FileNode file))) v = from_parts-sets (Ok new) (link_new limits file new.trailing) (link_new-sets limits file new.trailing) v
+link_old-sets limits new (Named entry None slash) v = tt
+link_old-sets limits new (Named entry (Some (DirNode file)) slash) v = tt
+link_old-sets limits new (Named entry (Some (FileNode form file)) slash) v = from_parts-sets false (Ok new) (link_new limits form file) (link_new-sets limits form file) v
 link_old-sets limits new (Itself dir) v = tt
 
 link_parts-sets : (limits : TreeLimits) (old new : Result Parts Errno) → Sets (link_parts limits old new)
 link_parts-sets limits (Err e) new v = tt
 link_parts-sets limits (Ok old) (Err e) v = tt
-link_parts-sets limits (Ok old) (Ok new) v = from_parts-sets (Ok old) (link_old limits new) (link_old-sets limits new) v
+link_parts-sets limits (Ok old) (Ok new) v = from_parts-sets false (Ok old) (link_old limits new) (link_old-sets limits new) v
 
 unlink_spot-sets : (spot : Spot) → Sets (unlink_spot spot)
-unlink_spot-sets (Named entry None) v = tt
-unlink_spot-sets (Named entry (Some (DirNode file))) v = tt
-unlink_spot-sets (Named entry (Some (FileNode file))) v = (tt, (tt, tt))
+unlink_spot-sets (Named entry None slash) v = tt
+unlink_spot-sets (Named entry (Some (DirNode file)) slash) v = tt
+unlink_spot-sets (Named entry (Some (FileNode form file)) slash) v = (tt, (tt, tt))
 unlink_spot-sets (Itself dir) v = tt
 
 with_parent-sets : (moved dir into : ℕ) → AreSettable (with_parent moved dir into)
@@ -193,43 +200,61 @@ with_parent-sets moved dir into = one-list (dir == into) _ _ tt (tt, tt)
 unless_below-sets : (most moved into : ℕ) (go : Looks Outcome) → Sets go → Sets (unless_below most moved into go)
 unless_below-sets most moved into go h = then-sets (climb most moved into) (λ met. cond met (Answer (failed _)) go) (λ met. one-of met _ go (λ v. tt) h)
 
-rename_file-sets : (dir : ℕ) (name : List ℕ) (moved : ℕ) (trailing : Bool) (spot : Spot) → Sets (rename_file (entry_at dir name) moved trailing spot)
-rename_file-sets dir name moved trailing (Named entry None) v = one-outcome trailing _ _ tt (tt, (tt, tt))
-rename_file-sets dir name moved trailing (Named entry (Some (FileNode replaced))) v =
-    one-of (moved == replaced) _ (replace_file (entry_at dir name) moved entry replaced) (λ v. tt) (λ v. (tt, (tt, (tt, tt)))) v
-rename_file-sets dir name moved trailing (Named entry (Some (DirNode replaced))) v = tt
-rename_file-sets dir name moved trailing (Itself into) v = tt
+rename_file-sets : (dir : ℕ) (name : List ℕ) (form : Form) (moved : ℕ) (spot : Spot) → Sets (rename_file (entry_at dir name) form moved spot)
+rename_file-sets dir name form moved (Named entry None slash) v = one-outcome slash _ _ tt (tt, (tt, tt))
+rename_file-sets dir name form moved (Named entry (Some (FileNode kind replaced)) slash) v =
+    one-of (moved == replaced) _ (replace_file (entry_at dir name) (FileNode form moved) entry replaced) (λ v. tt) (λ v. (tt, (tt, (tt, tt)))) v
+rename_file-sets dir name form moved (Named entry (Some (DirNode replaced)) slash) v = tt
+rename_file-sets dir name form moved (Itself into) v = tt
 
 if_bare-sets : (dir : ℕ) (name : List ℕ) (moved into : ℕ) (other : List ℕ) (replaced : ℕ) (names : List (List ℕ × Node)) → AreSettable (if_bare (entry_at dir name) moved (entry_at into other) replaced names).writes
 if_bare-sets dir name moved into other replaced [] = (tt, (tt, (tt, with_parent-sets moved dir into)))
 if_bare-sets dir name moved into other replaced (e ∷ es) = tt
 
 rename_dir-sets : (most dir : ℕ) (name : List ℕ) (moved : ℕ) (spot : Spot) → Sets (rename_dir most (entry_at dir name) moved spot)
-rename_dir-sets most dir name moved (Named entry None) v = unless_below-sets most moved entry.dir _ (λ v. (tt, (tt, with_parent-sets moved dir entry.dir))) v
-rename_dir-sets most dir name moved (Named entry (Some (FileNode replaced))) v = tt
-rename_dir-sets most dir name moved (Named entry (Some (DirNode replaced))) v =
+rename_dir-sets most dir name moved (Named entry None slash) v = unless_below-sets most moved entry.dir _ (λ v. (tt, (tt, with_parent-sets moved dir entry.dir))) v
+rename_dir-sets most dir name moved (Named entry (Some (FileNode kind replaced)) slash) v = tt
+rename_dir-sets most dir name moved (Named entry (Some (DirNode replaced)) slash) v =
     let go = replace_dir (entry_at dir name) moved entry replaced in
     one-of (moved == replaced) _ (unless_below most moved entry.dir go) (λ v. tt) (unless_below-sets most moved entry.dir go (λ v. if_bare-sets dir name moved entry.dir entry.name replaced (v (Names replaced)))) v
 rename_dir-sets most dir name moved (Itself into) v = tt
 
 rename_old-sets : (most : ℕ) (new : Parts) (spot : Spot) → Sets (rename_old most new spot)
-rename_old-sets most new (Named entry None) v = tt
-rename_old-sets most new (Named entry (Some (FileNode moved))) v = from_parts-sets (Ok new) (rename_file entry moved new.trailing) (rename_file-sets entry.dir entry.name moved new.trailing) v
-rename_old-sets most new (Named entry (Some (DirNode moved))) v = from_parts-sets (Ok new) (rename_dir most entry moved) (rename_dir-sets most entry.dir entry.name moved) v
+rename_old-sets most new (Named entry None slash) v = tt
+rename_old-sets most new (Named entry (Some (FileNode form moved)) slash) v = from_parts-sets false (Ok new) (rename_file entry form moved) (rename_file-sets entry.dir entry.name form moved) v
+rename_old-sets most new (Named entry (Some (DirNode moved)) slash) v = from_parts-sets false (Ok new) (rename_dir most entry moved) (rename_dir-sets most entry.dir entry.name moved) v
 rename_old-sets most new (Itself dir) v = tt
 
 rename_parts-sets : (most : ℕ) (old new : Result Parts Errno) → Sets (rename_parts most old new)
 rename_parts-sets most (Err e) new v = tt
 rename_parts-sets most (Ok old) (Err e) v = tt
-rename_parts-sets most (Ok old) (Ok new) v = unless-sets (rename_fault (last_of old.names) (last_of new.names)) (from_parts (Ok old) (rename_old most new)) (from_parts-sets (Ok old) (rename_old most new) (rename_old-sets most new)) v
+rename_parts-sets most (Ok old) (Ok new) v = unless-sets (rename_fault (last_of old.names) (last_of new.names)) (from_parts false (Ok old) (rename_old most new)) (from_parts-sets false (Ok old) (rename_old most new) (rename_old-sets most new)) v
+
+-- Symbolic links.
+
+make_link-sets : (stamp : ℕ) (target : List ℕ) (spot : Spot) → Sets (make_link stamp target spot)
+make_link-sets stamp target (Named entry None slash) v = one-outcome slash _ _ tt (tt, (tt, (tt, tt)))
+make_link-sets stamp target (Named entry (Some x) slash) v = tt
+make_link-sets stamp target (Itself dir) v = tt
+
+symlink_parts-sets : (stamp : ℕ) (target : List ℕ) (r : Result Parts Errno) → Sets (symlink_parts stamp target r)
+symlink_parts-sets stamp target (Err e) v = tt
+symlink_parts-sets stamp target (Ok parts) v = unless-sets (target_fault target) (from_parts false (Ok parts) (make_link stamp target)) (from_parts-sets false (Ok parts) (make_link stamp target) (make_link-sets stamp target)) v
+
+read_link-sets : (spot : Spot) → Sets (read_link spot)
+read_link-sets (Named entry None slash) v = tt
+read_link-sets (Named entry (Some (DirNode file)) slash) v = tt
+read_link-sets (Named entry (Some (FileNode Regular file)) slash) v = tt
+read_link-sets (Named entry (Some (FileNode LinkForm file)) slash) v = tt
+read_link-sets (Itself dir) v = tt
 
 -- All calls.
 
 call-sets : (limits : TreeLimits) (most stamp : ℕ) (call : Call) → Sets (steps limits most stamp call)
-call-sets limits most stamp (Mkdir path) = from_parts-sets (parts_of path) (make_dir stamp) (make_dir-sets stamp)
+call-sets limits most stamp (Mkdir path) = from_parts-sets false (parts_of path) (make_dir stamp) (make_dir-sets stamp)
 call-sets limits most stamp (Rmdir path) = remove_parts-sets (parts_of path)
-call-sets limits most stamp (ListDir path) = from_parts-sets (parts_of path) list_dir list_dir-sets
-call-sets limits most stamp (Open path access create excl trunc append) = open_parts-sets stamp _ (parts_of path)
+call-sets limits most stamp (ListDir path) = from_parts-sets true (parts_of path) list_dir list_dir-sets
+call-sets limits most stamp (Open path access create excl trunc append) = open_parts-sets stamp (record { access = access; create = create; excl = excl; trunc = trunc; append = append }) (parts_of path)
 call-sets limits most stamp (Close fd) = with_open-sets fd any_open (close_open fd) (λ o v. (tt, tt))
 call-sets limits most stamp (Read fd len) = with_open-sets fd is_readable (read_open fd len) (λ o v. (tt, tt))
 call-sets limits most stamp (WriteCall fd bytes) = with_open-sets fd is_writable (write_open limits fd bytes) (write_open-sets limits fd bytes)
@@ -238,11 +263,14 @@ call-sets limits most stamp (Pwrite fd off bytes) = with_open-sets fd is_writabl
 call-sets limits most stamp (Lseek fd whence off) = with_open-sets fd any_open (seek_open fd whence off) (seek_open-sets fd whence off)
 call-sets limits most stamp (Truncate len path) = truncate_parts-sets limits len (parts_of path)
 call-sets limits most stamp (Ftruncate fd len) = with_open-sets fd is_writable (ftruncate_open limits len) (λ o. or_else-sets (cut_file o.file) (λ size v. (tt, tt)) (to_size limits len))
-call-sets limits most stamp (Stat path) = from_parts-sets (parts_of path) stat_spot stat_spot-sets
+call-sets limits most stamp (Stat path) = from_parts-sets true (parts_of path) stat_spot stat_spot-sets
 call-sets limits most stamp (Fstat fd) = with_open-sets fd any_open fstat_open (λ o v. tt)
 call-sets limits most stamp (Link old new) = link_parts-sets limits (parts_of old) (parts_of new)
-call-sets limits most stamp (Unlink path) = from_parts-sets (parts_of path) unlink_spot unlink_spot-sets
+call-sets limits most stamp (Unlink path) = from_parts-sets false (parts_of path) unlink_spot unlink_spot-sets
 call-sets limits most stamp (Rename old new) = rename_parts-sets most (parts_of old) (parts_of new)
+call-sets limits most stamp (Symlink target path) = symlink_parts-sets stamp target (parts_of path)
+call-sets limits most stamp (Readlink path) = from_parts-sets false (parts_of path) read_link read_link-sets
+call-sets limits most stamp (Lstat path) = from_parts-sets false (parts_of path) stat_spot stat_spot-sets
 
 -- none of them is the names of a directory
 no-names : (ws : List Write) → AreSettable ws → (d : ℕ) → In (Names d) (map written_cell ws) → ⊥

@@ -1,26 +1,23 @@
 -- Sound cells and their plain tree show the same, beside the bytes of files that nothing names.
-use Rattle.std.proofs.Common.{◌≡◌, ℕ, Bool, true, false, cond, ◌||◌, List, [], ◌∷◌, map, Option, Some, None, unwrap_or, eqb-true, refl, sym, ap, subst, ◌∙◌}
+use Rattle.std.proofs.Common.{◌≡◌, ℕ, Bool, true, false, cond, ◌||◌, List, [], ◌∷◌, map, Some, None, unwrap_or, eqb-true, refl, sym, ap, subst, ◌∙◌}
 use Rattle.std.specs.Prelude.{T, ◌==◌, nat_lt}
 use Rattle.std.proofs.Math.Bool.{or-true}
 use Rattle.std.specs.declared.cmp.Ordering.TheVariants.{Equal}
 use Rattle.std.specs.Ordering.{nat_cmp, is_lt, ordering_then}
 use Rattle.std.specs.Cmp.{unsigned_tied, nat_cmp_total, tied_itself}
 use Rattle.std.specs.Cmp.Lexicographic.{slice_cmp}
-use Rattle.std.specs.List.{AllByRecursion}
-use Rattle.std.specs.Option.{option_map}
 use Rattle.std.specs.FinMap.{get, len, entries, entries_sorted, is_sorted, retain_keys, get-retain_keys, from_sorted, get-from_sorted, entries-from_sorted, same_map}
 use Rattle.std.specs.FinMap.Entries.{below_all}
 use Rattle.ft_cells.specs.Entries.{entry_at, entry_cmp, entry_cmp_exact, entry_cmp_total}
 use Rattle.ft_cells.specs.declared.entry.Entry.{Entry as DirEntry}
 use Rattle.ft_cells.specs.declared.node.Node.{Node}
-use Rattle.ft_cells.specs.declared.node.Node.TheVariants.{Dir as DirNode, File as FileNode}
+use Rattle.ft_cells.specs.declared.node.Node.TheVariants.{File as FileNode}
 use Rattle.ft_cells.specs.declared.cell.Cell.{Cell}
 use Rattle.ft_cells.specs.declared.cell.Cell.TheVariants.{Entry, Names, Parent, Links, Bytes, Fd}
-use Rattle.ft_cells.specs.Nodes.{number_of}
 use Rattle.ft_cells.specs.Cells.{Cells, dir_of, dir_entry, stored_dirs, entry_of, names_of, links_of, bytes_of, has_file}
 use Rattle.ft_tree.specs.Views.{view_of}
 use Rattle.ft_cells.specs.Looks.{Agree, answer, looked_at, answer-agree}
-use Rattle.ft_cells.specs.Plain.{node_in, names_in, view_in}
+use Rattle.ft_cells.specs.Plain.{names_in, view_in}
 use Rattle.ft_tree.specs.Tidy.{tidy}
 use Rattle.ft_tree.specs.Sound.{AreSoundCells}
 use Rattle.ft_posix.specs.declared.call.Call.{Call}
@@ -28,11 +25,11 @@ use Rattle.ft_posix.specs.Steps.{steps}
 use Rattle.ft_posix.specs.Stored.{outcome}
 use Rattle.ft_posix.proofs.Climbing.{stored-enough, dirs-enough, steps-alike}
 use Rattle.ft_posix.proofs.Conjunction.{first, second, both}
-use Rattle.ft_posix.proofs.Listed.{dir_names-entry, sorted_filled}
+use Rattle.ft_posix.proofs.Listed.{sorted_filled}
 use Rattle.ft_posix.proofs.Looked.{IsShown, AllShown, call-looks}
 use Rattle.ft_posix.proofs.Named.{Named, by_entry, by_open}
 use Rattle.ft_posix.proofs.Opens.{open-named}
-use Rattle.ft_posix.proofs.Parents.{contains-under, contains-no_dir, parent-shown}
+use Rattle.ft_posix.proofs.Parents.{contains-no_dir, parent-shown}
 use Rattle.ft_posix.proofs.PlainSound.{file-edge}
 use Rattle.ft_posix.proofs.Tidied.{edges_named, edges_named-find, dir_names-find, get-tidy, get-bytes, get-opens}
 
@@ -63,37 +60,25 @@ edges_of cells d =
     get-retain_keys (tidy cells).edges (λ e. e.dir == d) q (same_dir d q)
     ∙ ap (λ o. cond (q.dir == d) o None) (get-tidy cells q.dir q.name)
     ∙ by_number q.dir q.name (q.dir == d) refl
-    ∙ sym (get-from_sorted entry_cmp (edges_named d (names_of cells d)) q up ∙ edges_named-find d q.dir q.name (names_of cells d) ∙ (λ i. cond (unsigned_tied q.dir d i) (option_map number_of (dir_names-find q.name (dir_of cells d) i)) None))) in
+    ∙ sym (get-from_sorted entry_cmp (edges_named d (names_of cells d)) q up ∙ edges_named-find d q.dir q.name (names_of cells d) ∙ (λ i. cond (unsigned_tied q.dir d i) (dir_names-find q.name (dir_of cells d) i) None))) in
     ap entries same ∙ entries-from_sorted entry_cmp (edges_named d (names_of cells d)) up
   where
-    by_number : (e : ℕ) (name : List ℕ) (b : Bool) → (e == d) ≡ b → cond b (option_map number_of (entry_of cells e name)) None ≡ cond b (option_map number_of (dir_entry (dir_of cells d) name)) None
-    by_number e name true is = ap (λ x. option_map number_of (entry_of cells x name)) (eqb-true e d is)
+    by_number : (e : ℕ) (name : List ℕ) (b : Bool) → (e == d) ≡ b → cond b (entry_of cells e name) None ≡ cond b (dir_entry (dir_of cells d) name) None
+    by_number e name true is = ap (λ x. entry_of cells x name) (eqb-true e d is)
     by_number e name false is = refl
 
 module _ (cells : Cells) (sound : AreSoundCells cells) where
-  -- what an entry leads to is told by its number
-  node-in : (d : ℕ) (name : List ℕ) (x : Node) → entry_of cells d name ≡ Some x → node_in (tidy cells) (number_of x) ≡ x
-  node-in d name (FileNode i) is = ap (λ b. cond b (DirNode i) (FileNode i)) (contains-no_dir cells sound i (sound.tree.apart d name i is))
-  node-in d name (DirNode i) is = ap (λ b. cond b (DirNode i) (FileNode i)) (contains-under cells sound i d (sound.tree.leads d name i is))
+  -- a directory shows its names
+  each_named : (d : ℕ) (names : List (List ℕ × Node)) → map {B = List ℕ × Node} (λ e. (e.0.name, e.1)) (edges_named d names) ≡ names
+  each_named d [] = refl
+  each_named d (x ∷ names) = λ i. (x.0, x.1) ∷ each_named d names i
 
-  -- so each entry shows the same
-  entry-in : (d : ℕ) (name : List ℕ) (o : Option Node) → entry_of cells d name ≡ o → option_map (node_in (tidy cells)) (option_map number_of o) ≡ o
-  entry-in d name None is = refl
-  entry-in d name (Some x) is = ap Some (node-in d name x is)
-
-  -- and each name of a directory
-  each_named : (d : ℕ) (names : List (List ℕ × Node)) → AllByRecursion (λ e. entry_of cells d e.0 ≡ Some e.1) names
-      → map {B = List ℕ × Node} (λ e. (e.0.name, node_in (tidy cells) e.1)) (edges_named d names) ≡ names
-  each_named d [] h = refl
-  each_named d (x ∷ names) h = λ i. (x.0, node-in d x.0 x.1 h.0 i) ∷ each_named d names h.1 i
-
-  -- so a directory shows its names
   names-in : (d : ℕ) → names_in (tidy cells) d ≡ names_of cells d
-  names-in d = ap (map {B = List ℕ × Node} (λ (e : DirEntry × ℕ). (e.0.name, node_in (tidy cells) e.1))) (edges_of cells d) ∙ each_named d (names_of cells d) (dir_names-entry (dir_of cells d))
+  names-in d = ap (map {B = List ℕ × Node} (λ (e : DirEntry × Node). (e.0.name, e.1))) (edges_of cells d) ∙ each_named d (names_of cells d)
 
   -- a file that is named is there
   pub named-there : (i : ℕ) → Named cells i → has_file cells i ≡ true
-  named-there _ (by_entry d name i is) = file-edge cells sound (entry_at d name) i (contains-no_dir cells sound i (sound.tree.apart d name i is)) (get-tidy cells d name ∙ ap (option_map number_of) is)
+  named-there _ (by_entry d name {form} i is) = file-edge cells sound (entry_at d name) (FileNode form i) (contains-no_dir cells sound i (sound.tree.apart d name form i is)) (get-tidy cells d name ∙ is)
   named-there _ (by_open f o is) = ap (λ b. nat_lt 0 (links_of cells o.file) || b) (open-named cells f o is) ∙ or-true (nat_lt 0 (links_of cells o.file))
 
   -- and shows its bytes
@@ -102,7 +87,7 @@ module _ (cells : Cells) (sound : AreSoundCells cells) where
 
   -- each cell that is shown shows the same
   pub cell-shown : (c : Cell) → IsShown cells c → view_in (tidy cells) c ≡ view_of cells c
-  cell-shown (Entry entry) shown = ap (option_map (node_in (tidy cells))) (get-tidy cells entry.dir entry.name) ∙ entry-in entry.dir entry.name (entry_of cells entry.dir entry.name) refl
+  cell-shown (Entry entry) shown = get-tidy cells entry.dir entry.name
   cell-shown (Names d) shown = names-in d
   cell-shown (Parent d) shown = parent-shown cells sound d
   cell-shown (Links i) shown = sym (sound.links i)

@@ -1,12 +1,10 @@
 -- Sound values with their places are sound cells.
 use Rattle.std.proofs.Common.{◌≡◌, ℕ, ◌||◌, List, Option, is_some, refl, sym, ap, subst, ◌∙◌}
 use Rattle.std.specs.Prelude.{◌==◌}
-use Rattle.std.specs.Option.{option_map}
 use Rattle.std.specs.FinMap.{empty}
 use Rattle.ft_cells.specs.Entries.{entry_at}
 use Rattle.ft_cells.specs.declared.node.Node.{Node}
 use Rattle.ft_cells.specs.declared.cell.Cell.TheVariants.{Entry, Parent, Links, Fd}
-use Rattle.ft_cells.specs.Nodes.{number_of}
 use Rattle.ft_cells.specs.Cells.{Cells, entry_of, parent_of}
 use Rattle.ft_cells.specs.Limits.{default_limits}
 use Rattle.ft_cells.specs.Plain.{PlainTree, view_in}
@@ -27,7 +25,7 @@ placed s values places =
     let entries : entry_of w ≡ entry_of s = λ i d name. sym (same.values (Entry (entry_at d name))) i in
     let parents : parent_of w ≡ parent_of s = λ i d. sym (same.values (Parent d)) i in
     let one : frame w ≡ frame s = same_plain (frame w) (frame s) refl
-    (λ d name. get-tidy w d name ∙ ap (option_map number_of) (sym (same.values (Entry (entry_at d name)))) ∙ sym (get-tidy s d name))
+    (λ d name. get-tidy w d name ∙ sym (same.values (Entry (entry_at d name))) ∙ sym (get-tidy s d name))
     (λ d. contains-parent w ws.root_is d ∙ ap (λ o. (d == 1) || is_some o) (sym (same.values (Parent d))) ∙ sym (contains-parent s places.root d)) (λ i. refl) (λ f. refl) in
     record {
       root_is = places.root;

@@ -14,7 +14,6 @@ use Rattle.std.proofs.lemmas.Map.Lookups.{exact_unsigned}
 use Rattle.ft_cells.specs.Entries.{entry_at, entry_cmp, entry_cmp_total, entry_cmp_exact}
 use Rattle.ft_cells.specs.declared.entry.Entry.{Entry as DirEntry}
 use Rattle.ft_cells.specs.declared.node.Node.{Node}
-use Rattle.ft_cells.specs.Nodes.{number_of}
 use Rattle.ft_cells.specs.declared.open_file.OpenFile.{OpenFile}
 use Rattle.ft_cells.specs.Cells.{Cells, DirCells, FileCells, Opens, no_dir, no_file, dir_names, dir_entry, filled, entry_of, parent_of, links_of, bytes_of, body_in, open_of, is_there, has_dir, is_open, has_file, HasDirPlace, HasFilePlace}
 use Rattle.ft_cells.specs.Plain.{PlainTree}
@@ -33,7 +32,7 @@ tied_from Equal h = refl
 tied_from Greater h = absurd (false≢true h)
 
 -- none of two is the first
-or-none : (o : Option ℕ) → option_or o None ≡ o
+or-none : (o : Option Node) → option_or o None ≡ o
 or-none None = refl
 or-none (Some x) = refl
 
@@ -74,47 +73,42 @@ pub dir_names-find : (name : List ℕ) (x : DirCells) → find (slice_cmp nat_cm
 dir_names-find name x = filled-find name (entries x.entries) (entries_sorted x.entries) ∙ ap option_flatten (sym (get-entries x.entries name))
 
 -- the edges that the names of a directory make
-abbrev pub edges_named : ℕ → List (List ℕ × Node) → List (DirEntry × ℕ)
-edges_named d names = map (λ x. (entry_at d x.0, number_of x.1)) names
-
--- the number of what is chosen
-pub number-cond : (b : Bool) (x y : Option Node) → option_map number_of (cond b x y) ≡ cond b (option_map number_of x) (option_map number_of y)
-number-cond true x y = refl
-number-cond false x y = refl
+abbrev pub edges_named : ℕ → List (List ℕ × Node) → List (DirEntry × Node)
+edges_named d names = map (λ x. (entry_at d x.0, x.1)) names
 
 -- what is found among them
-pub edges_named-find : (e d : ℕ) (name : List ℕ) (names : List (List ℕ × Node)) → find entry_cmp (entry_at d name) (edges_named e names) ≡ cond (eq_by_cmp nat_cmp d e) (option_map number_of (find (slice_cmp nat_cmp) name names)) None
-edges_named-find e d name [] = elim (eq_by_cmp nat_cmp d e) as (λ b. ◌≡◌ {A = Option ℕ} None (cond b None None)) [ true ↦ refl | false ↦ refl ]
+pub edges_named-find : (e d : ℕ) (name : List ℕ) (names : List (List ℕ × Node)) → find entry_cmp (entry_at d name) (edges_named e names) ≡ cond (eq_by_cmp nat_cmp d e) (find (slice_cmp nat_cmp) name names) None
+edges_named-find e d name [] = elim (eq_by_cmp nat_cmp d e) as (λ b. ◌≡◌ {A = Option Node} None (cond b None None)) [ true ↦ refl | false ↦ refl ]
 edges_named-find e d name (x ∷ names) =
-    ap (cond (eq_by_cmp entry_cmp (entry_at d name) (entry_at e x.0)) (Some (number_of x.1))) (edges_named-find e d name names)
-    ∙ elim (nat_cmp d e) as (λ r. cond (is_eq (ordering_then r (slice_cmp nat_cmp name x.0))) (Some (number_of x.1)) (cond (is_eq r) (option_map number_of (find (slice_cmp nat_cmp) name names)) None)
-    ≡ cond (is_eq r) (option_map number_of (cond (eq_by_cmp (slice_cmp nat_cmp) name x.0) (Some x.1) (find (slice_cmp nat_cmp) name names))) None) [
+    ap (cond (eq_by_cmp entry_cmp (entry_at d name) (entry_at e x.0)) (Some x.1)) (edges_named-find e d name names)
+    ∙ elim (nat_cmp d e) as (λ r. cond (is_eq (ordering_then r (slice_cmp nat_cmp name x.0))) (Some x.1) (cond (is_eq r) (find (slice_cmp nat_cmp) name names) None)
+    ≡ cond (is_eq r) (cond (eq_by_cmp (slice_cmp nat_cmp) name x.0) (Some x.1) (find (slice_cmp nat_cmp) name names)) None) [
       | Less ↦ refl
-      | Equal ↦ sym (number-cond (eq_by_cmp (slice_cmp nat_cmp) name x.0) (Some x.1) (find (slice_cmp nat_cmp) name names))
+      | Equal ↦ refl
       | Greater ↦ refl
     ]
 
 -- what is found among the edges of all directories
-edges_from-find : (d : ℕ) (name : List ℕ) (es : List (ℕ × DirCells)) → T (is_sorted nat_cmp es) → find entry_cmp (entry_at d name) (edges_from es) ≡ option_map number_of (dir_entry (unwrap_or (find nat_cmp d es) no_dir) name)
-edges_from-find d name [] h = ap (option_map number_of) (sym (entry-no_dir name))
+edges_from-find : (d : ℕ) (name : List ℕ) (es : List (ℕ × DirCells)) → T (is_sorted nat_cmp es) → find entry_cmp (entry_at d name) (edges_from es) ≡ dir_entry (unwrap_or (find nat_cmp d es) no_dir) name
+edges_from-find d name [] h = sym (entry-no_dir name)
 edges_from-find d name (e ∷ es) h =
     find-append entry_cmp entry_cmp_total (entry_at d name) (edges_at e) (edges_from es)
-    ∙ (λ i. option_or ((edges_named-find e.0 d name (dir_names e.1) ∙ ap (λ x. cond (eq_by_cmp nat_cmp d e.0) (option_map number_of x) None) (dir_names-find name e.1)) i) (edges_from-find d name es (second _ _ h) i))
+    ∙ (λ i. option_or ((edges_named-find e.0 d name (dir_names e.1) ∙ ap (λ x. cond (eq_by_cmp nat_cmp d e.0) x None) (dir_names-find name e.1)) i) (edges_from-find d name es (second _ _ h) i))
     ∙ by_tie (eq_by_cmp nat_cmp d e.0) refl
   where
     by_tie : (b : Bool) → eq_by_cmp nat_cmp d e.0 ≡ b
-        → option_or (cond b (option_map number_of (dir_entry e.1 name)) None) (option_map number_of (dir_entry (unwrap_or (find nat_cmp d es) no_dir) name))
-        ≡ option_map number_of (dir_entry (unwrap_or (cond b (Some e.1) (find nat_cmp d es)) no_dir) name)
+        → option_or (cond b (dir_entry e.1 name) None) (dir_entry (unwrap_or (find nat_cmp d es) no_dir) name)
+        ≡ dir_entry (unwrap_or (cond b (Some e.1) (find nat_cmp d es)) no_dir) name
     by_tie true is =
-        ap (λ o. option_or (option_map number_of (dir_entry e.1 name)) (option_map number_of (dir_entry (unwrap_or o no_dir) name))) (gone nat_cmp nat_cmp_total d e.0 es (tied_from _ is) (first _ _ h))
-        ∙ ap (λ o. option_or (option_map number_of (dir_entry e.1 name)) (option_map number_of o)) (entry-no_dir name) ∙ or-none (option_map number_of (dir_entry e.1 name))
+        ap (λ o. option_or (dir_entry e.1 name) (dir_entry (unwrap_or o no_dir) name)) (gone nat_cmp nat_cmp_total d e.0 es (tied_from _ is) (first _ _ h))
+        ∙ ap (λ o. option_or (dir_entry e.1 name) o) (entry-no_dir name) ∙ or-none (dir_entry e.1 name)
     by_tie false is = refl
 
 -- an edge of the plain tree is an entry
-pub get-tidy : (cells : Cells) (d : ℕ) (name : List ℕ) → get (tidy cells).edges (entry_at d name) ≡ option_map number_of (entry_of cells d name)
+pub get-tidy : (cells : Cells) (d : ℕ) (name : List ℕ) → get (tidy cells).edges (entry_at d name) ≡ entry_of cells d name
 get-tidy cells d name =
     get-from_entries entry_cmp_total (edges_from (entries cells.directories)) (entry_at d name) ∙ edges_from-find d name (entries cells.directories) (entries_sorted cells.directories)
-    ∙ ap (λ o. option_map number_of (dir_entry (unwrap_or o no_dir) name)) (sym (get-entries cells.directories d))
+    ∙ ap (λ o. dir_entry (unwrap_or o no_dir) name) (sym (get-entries cells.directories d))
 
 -- The directories.
 

@@ -4,6 +4,7 @@ use Rattle.ft_laws.specs.Lists.{Each, In}
 use Rattle.ft_cells.specs.Entries.{entry_at}
 use Rattle.ft_cells.specs.declared.cell.Cell.{Cell}
 use Rattle.ft_cells.specs.declared.cell.Cell.TheVariants.{Entry, Links, Fd}
+use Rattle.ft_cells.specs.declared.node.Form.{Form}
 use Rattle.ft_cells.specs.declared.node.Node.TheVariants.{File as FileNode}
 use Rattle.ft_cells.specs.declared.open_file.OpenFile.{OpenFile}
 use Rattle.ft_cells.specs.Cells.{Cells, entry_of, open_of}
@@ -20,7 +21,7 @@ use Rattle.ft_posix.specs.Posix.{file_of, names_file}
 
 -- an entry or a description among those that are seen names file i
 pub data Sees (cells : Cells) (seen : List Cell) : ℕ → Type 0 where
-  sees_entry : (d : ℕ) (name : List ℕ) (i : ℕ) → In (Entry (entry_at d name)) seen → entry_of cells d name ≡ Some (FileNode i) → Sees cells seen i
+  sees_entry : (d : ℕ) (name : List ℕ) {form : Form} (i : ℕ) → In (Entry (entry_at d name)) seen → entry_of cells d name ≡ Some (FileNode form i) → Sees cells seen i
   sees_open : (f : ℕ) (o : OpenFile) → In (Fd f) seen → open_of cells f ≡ Some o → Sees cells seen o.file
 
 -- the call with stamp k comes upon file i: it makes it, or sees its name

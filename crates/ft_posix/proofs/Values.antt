@@ -1,11 +1,9 @@
 -- Only the values of the cells count.
 use Rattle.std.proofs.Common.{◌≡◌, ℕ, Bool, true, false, cond, ◌||◌, List, Option, Some, None, is_some, refl, sym, ap, subst, ◌∙◌}
 use Rattle.std.specs.Prelude.{◌==◌, nat_lt}
-use Rattle.std.specs.Option.{option_map}
 use Rattle.ft_cells.specs.Entries.{entry_at}
 use Rattle.ft_cells.specs.declared.node.Node.{Node}
 use Rattle.ft_cells.specs.declared.cell.Cell.TheVariants.{Entry, Parent, Links, Bytes, Fd}
-use Rattle.ft_cells.specs.Nodes.{number_of}
 use Rattle.ft_cells.specs.Cells.{Cells, entry_of, parent_of, body_in, has_file}
 use Rattle.ft_cells.specs.Plain.{view_in}
 use Rattle.ft_tree.specs.Sound.{IsTree, IsNoDir, AreSoundCells, KeepsValues}
@@ -33,7 +31,7 @@ module _ (old new : Cells) (sound : AreSoundCells old) (keeps : KeepsValues old 
 
   one_plain : tidy new ≡ tidy old
   one_plain = same_plain (tidy new) (tidy old) keeps.limits
-      (λ d name. get-tidy new d name ∙ ap (option_map number_of) (keeps.values (Entry (entry_at d name))) ∙ sym (get-tidy old d name))
+      (λ d name. get-tidy new d name ∙ keeps.values (Entry (entry_at d name)) ∙ sym (get-tidy old d name))
       (λ d. contains-parent new (keeps.places (Parent 1) sound.root_is) d ∙ ap (λ o. (d == 1) || is_some o) (keeps.values (Parent d)) ∙ sym (contains-parent old sound.root_is d))
       (λ i. get-files new i ∙ ap (λ b. cond b (body_in new i) None) (same_file i) ∙ same_bytes i ∙ sym (get-files old i))
       (λ f. get-opens new f ∙ keeps.values (Fd f) ∙ sym (get-opens old f))

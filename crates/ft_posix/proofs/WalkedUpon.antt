@@ -1,20 +1,33 @@
--- What a walk comes upon: it looks at entries and parents alone, and at the entry at which it ends.
-use Rattle.std.proofs.Common.{◌≡◌, ℕ, suc, zero, Bool, true, false, cond, List, [], ◌∷◌, Option, Some, None, unwrap_or, Result, Ok, Err, refl}
+-- What a walk comes upon: it looks at entries and parents, and at the links to which these entries
+-- lead; and at the entry at which it ends.
+use Rattle.std.proofs.Common.{◌≡◌, ℕ, suc, zero, Bool, true, false, cond, ◌||◌, List, [], ◌∷◌, Option, Some, None, unwrap_or, Result, Ok, Err, refl, sym, subst, ◌∙◌}
 use Rattle.std.specs.Prelude.{◌==◌}
+use Rattle.std.proofs.lemmas.Option.{none-some, same_Some}
 use Rattle.ft_laws.specs.Lists.{Each, In}
+use Rattle.ft_laws.proofs.Lists.{Each-map}
 use Rattle.ft_path.specs.Name.{is_dot, is_dot_dot}
+use Rattle.ft_path.specs.FilePath.{target_parts}
+use Rattle.ft_path.specs.declared.path.Parts.{Parts}
 use Rattle.ft_path.specs.declared.errno.Errno.{Errno}
 use Rattle.ft_cells.specs.Entries.{entry_at}
 use Rattle.ft_cells.specs.declared.cell.Cell.{Cell}
-use Rattle.ft_cells.specs.declared.cell.Cell.TheVariants.{Entry, Parent}
+use Rattle.ft_cells.specs.declared.cell.Cell.TheVariants.{Entry, Parent, Bytes}
 use Rattle.ft_cells.specs.declared.node.Node.{Node}
+use Rattle.ft_cells.specs.declared.node.Form.TheVariants.{Regular, Link as LinkForm}
 use Rattle.ft_cells.specs.declared.node.Node.TheVariants.{Dir as DirNode, File as FileNode}
-use Rattle.ft_cells.specs.Cells.{Cells, entry_of}
+use Rattle.ft_cells.specs.declared.node.Spot.{Spot}
+use Rattle.ft_cells.specs.declared.node.Spot.TheVariants.{Named as AtName, Itself}
+use Rattle.ft_cells.specs.Cells.{Cells, entry_of, bytes_of}
 use Rattle.ft_tree.specs.Views.{view_of}
-use Rattle.ft_cells.specs.Looks.{Looks, Answer, Look, answer, looked_at, then, or_else}
-use Rattle.ft_tree.specs.Walk.{Spot, Named as AtName, Itself, up, passed, inner, reached, last, walk_from, walk}
+use Rattle.ft_cells.specs.Looks.{Looks, Answer, Look, answer, looked_at, then, or_else, answer-then}
+use Rattle.ft_tree.specs.declared.reader.Halt.{Halt}
+use Rattle.ft_tree.specs.declared.reader.Halt.TheVariants.{Fault, Onto}
+use Rattle.ft_tree.specs.declared.reader.Way.{Way}
+use Rattle.ft_tree.specs.declared.reader.TheConstants.{MOST_FOLLOWED}
+use Rattle.ft_tree.specs.Walk.{Leg, Ends, Meets, up, passed, inner, reached, last, halted, leg_from, leg, way_of, onward, ended, walk_on, walk}
 use Rattle.ft_posix.specs.Links.{climb}
 use Rattle.ft_posix.specs.Posix.{file_of}
+use Rattle.ft_posix.proofs.Upon.{Sees, sees_entry}
 
 -- each of the cells is among those that are seen
 abbrev pub AreSeen : List Cell → List Cell → Type 0
@@ -45,30 +58,6 @@ module _ (cells : Cells) where
   up-meets : (d : ℕ) → MeetsNone (up d)
   up-meets d = either-meets (d == 1) (Answer 1) (Look (Parent d) (λ p. Answer (unwrap_or p 1))) tt (refl, tt)
 
-  -- a component looks at an entry, or at a parent
-  inner-meets : (d : ℕ) (name : List ℕ) → MeetsNone (inner d name)
-  inner-meets d name =
-      either-meets (is_dot name) (Answer (Ok d)) _ tt
-      (either-meets (is_dot_dot name) (then (up d) (λ p. Answer (Ok p))) (Look (Entry (entry_at d name)) (λ x. Answer (passed x))) (then-meets (up d) (λ p. Answer (Ok p)) (up-meets d) (λ p. tt)) (refl, tt))
-
-  -- and so does the last
-  last-meets : (d : ℕ) (name : List ℕ) (trailing : Bool) → MeetsNone (last d name trailing)
-  last-meets d name trailing =
-      either-meets (is_dot name) (Answer (Ok (Itself d))) _ tt
-      (either-meets (is_dot_dot name) (then (up d) (λ p. Answer (Ok (Itself p)))) (Look (Entry (entry_at d name)) (λ x. Answer (reached d name trailing x))) (then-meets (up d) (λ p. Answer (Ok (Itself p))) (up-meets d) (λ p. tt)) (refl, tt))
-
-  -- and so does each behind it
-  walk_from-meets : (names : List (List ℕ)) (d : ℕ) (name : List ℕ) (trailing : Bool) → MeetsNone (walk_from d name names trailing)
-  walk_from-meets [] d name trailing = last-meets d name trailing
-  walk_from-meets (m ∷ ms) d name trailing =
-      let go : ℕ → Looks (Result Spot Errno) = λ i. walk_from i m ms trailing in
-      then-meets (inner d name) (or_else Err go) (inner-meets d name) (or_else-meets Err go (λ i. walk_from-meets ms i m trailing))
-
-  -- a walk looks at no cell of a file
-  pub walk-meets : (names : List (List ℕ)) (trailing : Bool) → MeetsNone (walk names trailing)
-  walk-meets [] trailing = tt
-  walk-meets (name ∷ names) trailing = walk_from-meets names 1 name trailing
-
   -- nor does the way up from a directory
   pub climb-meets : (n i d : ℕ) → MeetsNone (climb n i d)
   climb-meets zero i d = tt
@@ -79,7 +68,7 @@ module _ (cells : Cells) where
   module _ (seen : List Cell) where
     -- a spot whose entry is seen, with what it leads to
     abbrev pub IsFound : Spot → Type 0
-    IsFound (AtName entry x) = In (Entry entry) seen × (entry_of cells entry.dir entry.name ≡ x)
+    IsFound (AtName entry x slash) = In (Entry entry) seen × (entry_of cells entry.dir entry.name ≡ x)
     IsFound (Itself d) = Unit {0}
 
     -- such a spot, or an error
@@ -87,47 +76,149 @@ module _ (cells : Cells) where
     EndsFound (Ok spot) = IsFound spot
     EndsFound (Err e) = Unit {0}
 
-    -- where all that is looked at is seen, such a spot is answered
-    abbrev pub Finds : Looks (Result Spot Errno) → Type 0
-    Finds s = AreSeen seen (looked_at s (view_of cells)) → EndsFound (answer s (view_of cells))
+    -- a cell of a file that is looked at is of one whose name is seen
+    abbrev pub IsSeenOf : Cell → Type 0
+    IsSeenOf c = (i : ℕ) → file_of c ≡ Some i → Sees cells seen i
+
+    of_none : (c : Cell) → file_of c ≡ None → IsSeenOf c
+    of_none c none i is = absurd (none-some i (sym none ∙ is))
+
+    of_link : (link : ℕ) → Sees cells seen link → IsSeenOf (Bytes link)
+    of_link link sees i is = subst (Sees cells seen) (same_Some link i is) sees
+
+    -- what is seen of two parts, one after the other, is seen of each
+    pub seen-parts : {A B : Type 0} (s : Looks A) (f : A → Looks B) → AreSeen seen (looked_at (then s f) (view_of cells)) → AreSeen seen (looked_at s (view_of cells)) × AreSeen seen (looked_at (f (answer s (view_of cells))) (view_of cells))
+    seen-parts (Answer x) f all = (tt, all)
+    seen-parts (Look c next) f all = let parts = seen-parts (next (view_of cells c)) f all.1 in ((all.0, parts.0), parts.1)
+
+    -- and what is of each is of both
+    of_parts : {A B : Type 0} (s : Looks A) (f : A → Looks B) → Each IsSeenOf (looked_at s (view_of cells)) → Each IsSeenOf (looked_at (f (answer s (view_of cells))) (view_of cells)) → Each IsSeenOf (looked_at (then s f) (view_of cells))
+    of_parts (Answer x) f p q = q
+    of_parts (Look c next) f p q = (p.0, of_parts (next (view_of cells c)) f p.1 q)
+
+    -- where all that is looked at is seen, the names of its files are seen, and so it is of the
+    -- answer
+    abbrev pub Finds : {A : Type 0} → (A → Type 0) → Looks A → Type 0
+    Finds P s = AreSeen seen (looked_at s (view_of cells)) → Each IsSeenOf (looked_at s (view_of cells)) × P (answer s (view_of cells))
 
     -- whichever of two is taken
-    either-finds : (b : Bool) (s t : Looks (Result Spot Errno)) → Finds s → Finds t → Finds (cond b s t)
-    either-finds true s t p q = p
-    either-finds false s t p q = q
+    either-finds : {A : Type 0} (P : A → Type 0) (b : Bool) (s t : Looks A) → Finds P s → Finds P t → Finds P (cond b s t)
+    either-finds P true s t p q = p
+    either-finds P false s t p q = q
 
     -- behind other looks
-    then-finds : {A : Type 0} (s : Looks A) (f : A → Looks (Result Spot Errno)) → ((x : A) → Finds (f x)) → Finds (then s f)
-    then-finds (Answer x) f each all = each x all
-    then-finds (Look c next) f each all = then-finds (next (view_of cells c)) f each all.1
+    then-finds : {A B : Type 0} (P : A → Type 0) (Q : B → Type 0) (s : Looks A) (f : A → Looks B) → Finds P s → ((x : A) → P x → Finds Q (f x)) → Finds Q (then s f)
+    then-finds P Q s f first each all =
+        let parts = seen-parts s f all in
+        let one = first parts.0 in
+        let two = each (answer s (view_of cells)) one.1 parts.1 in
+        (of_parts s f one.0 two.0, subst Q (sym (answer-then s f (view_of cells))) two.1)
 
-    -- an error ends it
-    or_else-finds : (go : ℕ → Looks (Result Spot Errno)) → ((i : ℕ) → Finds (go i)) → (r : Result ℕ Errno) → Finds (or_else Err go r)
-    or_else-finds go each (Ok i) = each i
-    or_else-finds go each (Err e) = λ all. tt
+    abbrev Any : {A : Type 0} → A → Type 0
+    Any x = Unit {0}
+
+    -- the way up looks at no file
+    up-finds : (d : ℕ) → Finds Any (up d)
+    up-finds d all = (Each-map (λ c. file_of c ≡ None) IsSeenOf of_none (looked_at (up d) (view_of cells)) (up-meets d), tt)
+
+    -- a link that is to be followed has a name that is seen
+    abbrev HaltSeen : Halt → Type 0
+    HaltSeen (Fault e) = Unit {0}
+    HaltSeen (Onto link) = Sees cells seen link
+
+    abbrev GoesSeen : Result ℕ Halt → Type 0
+    GoesSeen (Ok d) = Unit {0}
+    GoesSeen (Err halt) = HaltSeen halt
+
+    abbrev LastSeen : Result Spot Halt → Type 0
+    LastSeen (Ok spot) = IsFound spot
+    LastSeen (Err halt) = HaltSeen halt
+
+    abbrev LegSeen : Leg → Type 0
+    LegSeen (Ends end) = EndsFound end
+    LegSeen (Meets link dir names) = Sees cells seen link
+
+    halted-seen : (d : ℕ) (names : List (List ℕ)) (halt : Halt) → HaltSeen halt → LegSeen (halted d names halt)
+    halted-seen d names (Fault e) h = tt
+    halted-seen d names (Onto link) h = h
+
+    -- what an entry on the way leads to
+    passed-seen : (d : ℕ) (name : List ℕ) (x : Option Node) → In (Entry (entry_at d name)) seen → entry_of cells d name ≡ x → GoesSeen (passed x)
+    passed-seen d name None at is = tt
+    passed-seen d name (Some (DirNode i)) at is = tt
+    passed-seen d name (Some (FileNode Regular i)) at is = tt
+    passed-seen d name (Some (FileNode LinkForm i)) at is = sees_entry d name i at is
+
+    -- a component looks at an entry, or at a parent
+    inner-finds : (d : ℕ) (name : List ℕ) → Finds GoesSeen (inner d name)
+    inner-finds d name =
+        either-finds GoesSeen (is_dot name) (Answer (Ok d)) _ (λ all. (tt, tt))
+        (either-finds GoesSeen (is_dot_dot name) (then (up d) (λ p. Answer (Ok p))) (Look (Entry (entry_at d name)) (λ x. Answer (passed x)))
+        (then-finds Any GoesSeen (up d) (λ p. Answer (Ok p)) (up-finds d) (λ p h all. (tt, tt)))
+        (λ all. ((of_none (Entry (entry_at d name)) refl, tt), passed-seen d name (entry_of cells d name) all.0 refl)))
 
     -- what a last name leads to
-    reached-found : (d : ℕ) (name : List ℕ) (trailing : Bool) (x : Option Node) → In (Entry (entry_at d name)) seen → entry_of cells d name ≡ x → EndsFound (reached d name trailing x)
-    reached-found d name true None at is = (at, is)
-    reached-found d name true (Some (DirNode i)) at is = (at, is)
-    reached-found d name true (Some (FileNode i)) at is = tt
-    reached-found d name false x at is = (at, is)
+    reached-seen : (d : ℕ) (name : List ℕ) (follow slash : Bool) (x : Option Node) → In (Entry (entry_at d name)) seen → entry_of cells d name ≡ x → LastSeen (reached d name follow slash x)
+    reached-seen d name follow slash None at is = (at, is)
+    reached-seen d name follow slash (Some (DirNode i)) at is = (at, is)
+    reached-seen d name follow slash (Some (FileNode Regular i)) at is =
+        elim slash as (λ b. LastSeen (cond b (Err (Fault _)) (Ok (AtName (entry_at d name) (Some (FileNode Regular i)) slash)))) [ true ↦ tt | false ↦ (at, is) ]
+    reached-seen d name follow slash (Some (FileNode LinkForm i)) at is =
+        elim (follow || slash) as (λ b. LastSeen (cond b (Err (Onto i)) (Ok (AtName (entry_at d name) (Some (FileNode LinkForm i)) slash)))) [ true ↦ sees_entry d name i at is | false ↦ (at, is) ]
 
-    -- the last component is looked at
-    last-finds : (d : ℕ) (name : List ℕ) (trailing : Bool) → Finds (last d name trailing)
-    last-finds d name trailing =
-        either-finds (is_dot name) (Answer (Ok (Itself d))) _ (λ all. tt)
-        (either-finds (is_dot_dot name) (then (up d) (λ p. Answer (Ok (Itself p)))) (Look (Entry (entry_at d name)) (λ x. Answer (reached d name trailing x)))
-        (then-finds (up d) (λ p. Answer (Ok (Itself p))) (λ p all. tt)) (λ all. reached-found d name trailing (entry_of cells d name) all.0 refl))
+    -- and so does the last
+    last-finds : (d : ℕ) (name : List ℕ) (follow slash : Bool) → Finds LastSeen (last d name follow slash)
+    last-finds d name follow slash =
+        either-finds LastSeen (is_dot name) (Answer (Ok (Itself d))) _ (λ all. (tt, tt))
+        (either-finds LastSeen (is_dot_dot name) (then (up d) (λ p. Answer (Ok (Itself p)))) (Look (Entry (entry_at d name)) (λ x. Answer (reached d name follow slash x)))
+        (then-finds Any LastSeen (up d) (λ p. Answer (Ok (Itself p))) (up-finds d) (λ p h all. (tt, tt)))
+        (λ all. ((of_none (Entry (entry_at d name)) refl, tt), reached-seen d name follow slash (entry_of cells d name) all.0 refl)))
 
-    -- behind the other ones
-    walk_from-finds : (names : List (List ℕ)) (d : ℕ) (name : List ℕ) (trailing : Bool) → Finds (walk_from d name names trailing)
-    walk_from-finds [] d name trailing = last-finds d name trailing
-    walk_from-finds (m ∷ ms) d name trailing =
-        let go : ℕ → Looks (Result Spot Errno) = λ i. walk_from i m ms trailing in
-        then-finds (inner d name) (or_else Err go) (or_else-finds go (λ i. walk_from-finds ms i m trailing))
+    -- and so does each behind it
+    last_leg-finds : (d : ℕ) (r : Result Spot Halt) → LastSeen r → Finds LegSeen (or_else (halted d []) (λ spot. Answer (Ends (Ok spot))) r)
+    last_leg-finds d (Ok spot) h all = (tt, h)
+    last_leg-finds d (Err halt) h all = (tt, halted-seen d [] halt h)
 
-    -- a walk ends at an entry that it has looked at, at a directory, or with an error
-    pub walk-finds : (names : List (List ℕ)) (trailing : Bool) → Finds (walk names trailing)
-    walk-finds [] trailing = λ all. tt
-    walk-finds (name ∷ names) trailing = walk_from-finds names 1 name trailing
+    inner_leg-finds : (d : ℕ) (names : List (List ℕ)) (go : ℕ → Looks Leg) → ((i : ℕ) → Finds LegSeen (go i)) → (r : Result ℕ Halt) → GoesSeen r → Finds LegSeen (or_else (halted d names) go r)
+    inner_leg-finds d names go each (Ok i) h = each i
+    inner_leg-finds d names go each (Err halt) h = λ all. (tt, halted-seen d names halt h)
+
+    leg_from-finds : (names : List (List ℕ)) (d : ℕ) (name : List ℕ) (follow slash : Bool) → Finds LegSeen (leg_from d name names follow slash)
+    leg_from-finds [] d name follow slash =
+        then-finds LastSeen LegSeen (last d name follow slash) (or_else (halted d []) (λ spot. Answer (Ends (Ok spot)))) (last-finds d name follow slash) (last_leg-finds d)
+    leg_from-finds (m ∷ ms) d name follow slash =
+        let go : ℕ → Looks Leg = λ i. leg_from i m ms follow slash in
+        then-finds GoesSeen LegSeen (inner d name) (or_else (halted d (m ∷ ms)) go) (inner-finds d name) (inner_leg-finds d (m ∷ ms) go (λ i. leg_from-finds ms i m follow slash))
+
+    leg-finds : (d : ℕ) (names : List (List ℕ)) (follow slash : Bool) → Finds LegSeen (leg d names follow slash)
+    leg-finds d [] follow slash = λ all. (tt, tt)
+    leg-finds d (name ∷ names) follow slash = leg_from-finds names d name follow slash
+
+    -- a walk that may follow no link any more
+    ended-found : (end : Leg) → LegSeen end → EndsFound (ended end)
+    ended-found (Ends end) h = h
+    ended-found (Meets link dir names) h = tt
+
+    -- behind a link, which is looked at
+    way-finds : (go : ℕ → List (List ℕ) → Bool → Looks (Result Spot Errno)) → ((i : ℕ) (names : List (List ℕ)) (slash : Bool) → Finds EndsFound (go i names slash))
+        → (d : ℕ) (names : List (List ℕ)) (slash : Bool) (target : List ℕ) (r : Result Parts Errno) → Finds EndsFound (or_else Err (λ (way : Way). go way.start way.names way.slash) (way_of d names slash target r))
+    way-finds go each d names slash target (Ok parts) = each _ _ _
+    way-finds go each d names slash target (Err e) = λ all. (tt, tt)
+
+    onward-finds : (go : ℕ → List (List ℕ) → Bool → Looks (Result Spot Errno)) → ((i : ℕ) (names : List (List ℕ)) (slash : Bool) → Finds EndsFound (go i names slash)) → (slash : Bool) (end : Leg) → LegSeen end → Finds EndsFound (onward go slash end)
+    onward-finds go each slash (Ends end) h = λ all. (tt, h)
+    onward-finds go each slash (Meets link dir names) sees = λ all.
+        let rest = way-finds go each dir names slash (bytes_of cells link) (target_parts (bytes_of cells link)) all.1 in
+        ((of_link link sees, rest.0), rest.1)
+
+    -- so does a walk from a directory
+    walk_on-finds : (left : ℕ) (follow : Bool) (d : ℕ) (names : List (List ℕ)) (slash : Bool) → Finds EndsFound (walk_on left follow d names slash)
+    walk_on-finds zero follow d names slash = then-finds LegSeen EndsFound (leg d names follow slash) (λ end. Answer (ended end)) (leg-finds d names follow slash) (λ end h all. (tt, ended-found end h))
+    walk_on-finds (suc left) follow d names slash =
+        then-finds LegSeen EndsFound (leg d names follow slash) (onward (walk_on left follow) slash) (leg-finds d names follow slash)
+        (onward-finds (walk_on left follow) (λ i more after. walk_on-finds left follow i more after) slash)
+
+    -- a walk looks at no file but at links whose name is seen, and ends at an entry that it has
+    -- looked at, at a directory, or with an error
+    pub walk-finds : (follow : Bool) (names : List (List ℕ)) (slash : Bool) → Finds EndsFound (walk follow names slash)
+    walk-finds follow names slash = walk_on-finds MOST_FOLLOWED follow 1 names slash

@@ -9,6 +9,7 @@ use Rattle.ft_cells.specs.Entries.{entry_at}
 use Rattle.ft_cells.specs.declared.cell.Cell.{Cell}
 use Rattle.ft_cells.specs.declared.cell.Cell.TheVariants.{Entry, Names, Parent, Links, Bytes, Fd}
 use Rattle.ft_cells.specs.declared.node.Node.{Node}
+use Rattle.ft_cells.specs.declared.node.Form.{Form}
 use Rattle.ft_cells.specs.declared.node.Node.TheVariants.{File as FileNode}
 use Rattle.ft_cells.specs.declared.open_file.OpenFile.{OpenFile}
 use Rattle.ft_cells.specs.Cells.{Cells, entry_of, open_of}
@@ -89,12 +90,12 @@ module _ (cells : Cells) where
       by_place true is = let at = same_place d e name other is in absurd (differ (λ x. entry_of cells (at.0 x) (at.1 x)))
 
   -- a file that is moved is named by its new entry
-  pub moved-left : (d : ℕ) (name : List ℕ) (i e : ℕ) (other : List ℕ) (more : List Write) → is_place d name e other ≡ false → ((entry : ℕ → List ℕ → Option Node) → entry_after entry more ≡ entry)
-      → IsLeft cells (renamed (entry_at d name) (FileNode i) (entry_at e other) more).writes i
-  moved-left d name i e other more apart keeps =
-      let ws = (renamed (entry_at d name) (FileNode i) (entry_at e other) more).writes in
-      let moved : ℕ → List ℕ → Option Node = with_entry (with_entry (entry_of cells) e other (Some (FileNode i))) d name None in
-      let here : moved e other ≡ Some (FileNode i) = λ x. cond (apart x) None (cond (own_place e other x) (Some (FileNode i)) (entry_of cells e other)) in
+  pub moved-left : (d : ℕ) (name : List ℕ) (form : Form) (i e : ℕ) (other : List ℕ) (more : List Write) → is_place d name e other ≡ false → ((entry : ℕ → List ℕ → Option Node) → entry_after entry more ≡ entry)
+      → IsLeft cells (renamed (entry_at d name) (FileNode form i) (entry_at e other) more).writes i
+  moved-left d name form i e other more apart keeps =
+      let ws = (renamed (entry_at d name) (FileNode form i) (entry_at e other) more).writes in
+      let moved : ℕ → List ℕ → Option Node = with_entry (with_entry (entry_of cells) e other (Some (FileNode form i))) d name None in
+      let here : moved e other ≡ Some (FileNode form i) = λ x. cond (apart x) None (cond (own_place e other x) (Some (FileNode form i)) (entry_of cells e other)) in
       (Entry (entry_at e other), inl refl, ap (λ f. node_names (f e other) i) (entry-put_all ws cells ∙ keeps moved) ∙ ap (λ o. node_names o i) here ∙ eq-eqb i i refl)
 
 module _ (cells : Cells) (k : ℕ) (seen : List Cell) where
@@ -153,7 +154,7 @@ module _ (cells : Cells) (k : ℕ) (seen : List Cell) where
   fills all d name x to is none names = upon_entry d name to names (λ i was gone. absurd (false≢true (sym (none i) ∙ sym (ap (λ o. node_names o i) is) ∙ was)))
 
   -- an entry of a file that may go
-  pub frees : (all : List Write) (d : ℕ) (name : List ℕ) (j : ℕ) (to : Option Node) → entry_of cells d name ≡ Some (FileNode j) → MayGo all j → ((i : ℕ) → node_names to i ≡ true → Upon cells k seen i)
+  pub frees : (all : List Write) (d : ℕ) (name : List ℕ) {kind : Form} (j : ℕ) (to : Option Node) → entry_of cells d name ≡ Some (FileNode kind j) → MayGo all j → ((i : ℕ) → node_names to i ≡ true → Upon cells k seen i)
       → IsUpon all (sets (Entry (entry_at d name)) to)
   frees all d name j to is may names = upon_entry d name to names (λ i was gone. of_same (MayGo all) j may i (sym (ap (λ o. node_names o i) is) ∙ was))
 

@@ -4,12 +4,11 @@ use Rattle.std.specs.Prelude.{◌≡◌, List, map, Result, Ok, Err}
 use Rattle.ft_body.specs.declared.TheConstants.{LARGEST_SIZE}
 use Rattle.ft_body.specs.Bytes.{bytes_at, fitting, written, resized}
 use Rattle.ft_path.specs.declared.errno.Errno.{Errno}
-use Rattle.ft_cells.specs.declared.node.Spot.{Spot as Seen}
+use Rattle.ft_cells.specs.declared.node.Spot.{Spot}
 use Rattle.ft_cells.specs.Nodes.{with_kinds}
 use Rattle.ft_cells.specs.Cells.{Cells, bytes_of, names_of}
 use Rattle.ft_cells.specs.Looks.{Looks, answer}
 use Rattle.ft_tree.specs.Views.{view_of}
-use Rattle.ft_tree.specs.Walk.{Spot, seen_at}
 use Rattle.ft_posix.specs.declared.call.Reply.{Reply}
 use Rattle.ft_posix.specs.declared.call.Reply.TheVariants as reply
 use Rattle.ft_posix.specs.declared.intent.Edit.{Edit}
@@ -56,8 +55,8 @@ Comes old looks new (Err (Fails e)) = (failed e ≡ answer looks (view_of old.ce
 Comes old looks new (Err NoMemory) = Unit {0}
 
 -- where a walk ends, or its fault
-abbrev pub Leads : Looking → Looks (Result Spot Errno) → Looking → Result Seen Stop → Type 0
-Leads old looks new (Ok spot) = (Ok (seen_at spot) ≡ answer looks (view_of old.cells)) × (new ≡ noted old looks)
+abbrev pub Leads : Looking → Looks (Result Spot Errno) → Looking → Result Spot Stop → Type 0
+Leads old looks new (Ok spot) = (Ok spot ≡ answer looks (view_of old.cells)) × (new ≡ noted old looks)
 Leads old looks new (Err (Fails e)) = (Err e ≡ answer looks (view_of old.cells)) × (new ≡ noted old looks)
 Leads old looks new (Err NoMemory) = Unit {0}
 

@@ -7,6 +7,7 @@ use Rattle.ft_path.specs.declared.errno.Errno.TheVariants.{EINVAL, EBADF, EFBIG,
 use Rattle.ft_cells.specs.declared.cell.Cell.TheVariants.{Links, Bytes, Fd}
 use Rattle.ft_cells.specs.declared.open_file.OpenFile.{OpenFile}
 use Rattle.ft_cells.specs.declared.limits.TreeLimits.{TreeLimits}
+use Rattle.ft_cells.specs.declared.node.Form.TheVariants.{Regular}
 use Rattle.ft_cells.specs.Modes.{can_read, can_write}
 use Rattle.ft_cells.specs.Looks.{Looks, Answer, Look, then, or_else}
 use Rattle.ft_posix.specs.declared.TheConstants.{LAST_OFFSET}
@@ -150,4 +151,4 @@ ftruncate_open limits len description = or_else failed (cut_file description.fil
 
 -- what stat tells of a file
 abbrev pub fstat_open : OpenFile → Looks Outcome
-fstat_open description = file_info description.file
+fstat_open description = file_info Regular description.file

@@ -1,7 +1,7 @@
 -- What the calls on directories look at, and what they come to. The order of their errors is a
 -- rule of this project. XBD and XSH are the Base Definitions and the System Interfaces of
 -- POSIX.1-2017.
-use Rattle.std.specs.Prelude.{ℕ, List, [], ◌∷◌, Option, Some, None, Result, Ok, Err}
+use Rattle.std.specs.Prelude.{ℕ, false, List, [], ◌∷◌, Option, Some, None, Result, Ok, Err}
 use Rattle.ft_path.specs.FilePath.{last_of}
 use Rattle.ft_path.specs.declared.path.LastName.{LastName}
 use Rattle.ft_path.specs.declared.path.LastName.TheVariants.{Absent, Dot, DotDot, Plain}
@@ -14,16 +14,17 @@ use Rattle.ft_cells.specs.declared.node.Node.{Node}
 use Rattle.ft_cells.specs.declared.node.Node.TheVariants.{Dir as DirNode, File as FileNode}
 use Rattle.ft_cells.specs.Nodes.{with_kinds}
 use Rattle.ft_cells.specs.Looks.{Looks, Answer, Look}
-use Rattle.ft_tree.specs.Walk.{Spot, Named, Itself}
+use Rattle.ft_cells.specs.declared.node.Spot.{Spot}
+use Rattle.ft_cells.specs.declared.node.Spot.TheVariants.{Named, Itself}
 use Rattle.ft_posix.specs.declared.call.Reply.TheVariants.{Done, Names as NamesReply}
 use Rattle.ft_posix.specs.Outcomes.{sets, Outcome, failed, told, from_parts, unless}
 
 -- mkdir where the walk ended (XSH mkdir): a missing name becomes the directory whose number is
--- the call's stamp, and what is there, a directory itself included, is EEXIST. A slash behind a
+-- the call's stamp, and what is there, a directory itself or a symbolic link included, is EEXIST. A slash behind a
 -- missing name is no fault (XBD 4.13); behind a file's name it was ENOTDIR in the walk.
 abbrev pub make_dir : ℕ → Spot → Looks Outcome
-make_dir stamp (Named entry None) = Answer (record { reply = Done; writes = sets (Parent stamp) (Some entry.dir) ∷ sets (Entry entry) (Some (DirNode stamp)) ∷ [] })
-make_dir stamp (Named entry (Some x)) = Answer (failed EEXIST)
+make_dir stamp (Named entry None slash) = Answer (record { reply = Done; writes = sets (Parent stamp) (Some entry.dir) ∷ sets (Entry entry) (Some (DirNode stamp)) ∷ [] })
+make_dir stamp (Named entry (Some x) slash) = Answer (failed EEXIST)
 make_dir stamp (Itself dir) = Answer (failed EEXIST)
 
 -- rmdir of a directory with these names (XSH rmdir): where there is one it is ENOTEMPTY, for
@@ -32,12 +33,12 @@ abbrev pub if_empty : DirEntry → ℕ → List (List ℕ × Node) → Outcome
 if_empty entry number [] = record { reply = Done; writes = sets (Parent number) None ∷ sets (Entry entry) None ∷ [] }
 if_empty entry number (name ∷ names) = failed ENOTEMPTY
 
--- rmdir where the walk ended: a missing name is ENOENT, and a file ENOTDIR. A directory itself is
--- EBUSY, which no call reaches, since its last component was judged before.
+-- rmdir where the walk ended: a missing name is ENOENT, and a file ENOTDIR. A directory itself, to
+-- which only a link with a slash behind it leads, is EBUSY.
 abbrev pub remove_dir : Spot → Looks Outcome
-remove_dir (Named entry None) = Answer (failed ENOENT)
-remove_dir (Named entry (Some (FileNode number))) = Answer (failed ENOTDIR)
-remove_dir (Named entry (Some (DirNode number))) = Look (Names number) (λ names. Answer (if_empty entry number names))
+remove_dir (Named entry None slash) = Answer (failed ENOENT)
+remove_dir (Named entry (Some (FileNode form number)) slash) = Answer (failed ENOTDIR)
+remove_dir (Named entry (Some (DirNode number)) slash) = Look (Names number) (λ names. Answer (if_empty entry number names))
 remove_dir (Itself dir) = Answer (failed EBUSY)
 
 -- rmdir judges the last component before any look-up: none (the root) is EBUSY, `.` is EINVAL
@@ -52,16 +53,17 @@ last_fault Plain = None
 -- the removal
 abbrev pub remove_parts : Result Parts Errno → Looks Outcome
 remove_parts (Err e) = Answer (failed e)
-remove_parts (Ok parts) = unless (last_fault (last_of parts.names)) (from_parts (Ok parts) remove_dir)
+remove_parts (Ok parts) = unless (last_fault (last_of parts.names)) (from_parts false (Ok parts) remove_dir)
 
 -- list: all names of a directory at once with their kinds, in order, without `.` and `..`. It is
 -- no call of POSIX, which has opendir and readdir.
 abbrev pub list_names : ℕ → Looks Outcome
 list_names dir = Look (Names dir) (λ names. Answer (told (NamesReply (with_kinds names))))
 
--- list where the walk ended: a missing name is ENOENT, and a file ENOTDIR (XSH opendir)
+-- list where the walk ended, which follows links: a missing name is ENOENT, and a file ENOTDIR (XSH
+-- opendir)
 abbrev pub list_dir : Spot → Looks Outcome
-list_dir (Named entry None) = Answer (failed ENOENT)
-list_dir (Named entry (Some (FileNode number))) = Answer (failed ENOTDIR)
-list_dir (Named entry (Some (DirNode number))) = list_names number
+list_dir (Named entry None slash) = Answer (failed ENOENT)
+list_dir (Named entry (Some (FileNode form number)) slash) = Answer (failed ENOTDIR)
+list_dir (Named entry (Some (DirNode number)) slash) = list_names number
 list_dir (Itself dir) = list_names dir

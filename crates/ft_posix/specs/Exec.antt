@@ -19,8 +19,8 @@ use Rattle.ft_posix.specs.Outcomes.{Write}
 use Rattle.ft_posix.specs.Steps.{steps}
 
 -- an edge is drawn, or taken away
-abbrev pub set_edge : finite.FinMap entry_cmp ℕ → DirEntry → Option Node → finite.FinMap entry_cmp ℕ
-set_edge edges e (Some x) = finite.insert edges e (number_of x)
+abbrev pub set_edge : finite.FinMap entry_cmp Node → DirEntry → Option Node → finite.FinMap entry_cmp Node
+set_edge edges e (Some x) = finite.insert edges e x
 set_edge edges e None = finite.remove edges e
 
 -- a directory comes or goes with its parent, and the root never goes
@@ -53,7 +53,7 @@ put_all_plain p (w ∷ ws) = put_all_plain (put_plain p w) ws
 
 -- an edge or a description names the file
 abbrev pub is_named_in : PlainTree → ℕ → Bool
-is_named_in p i = list_any (λ e. e.1 == i) (finite.entries p.edges) || list_any (λ e. e.1.file == i) (finite.entries p.opens)
+is_named_in p i = list_any (λ e. number_of e.1 == i) (finite.entries p.edges) || list_any (λ e. e.1.file == i) (finite.entries p.opens)
 
 -- a file that neither names is gone (POSIX.1-2017, System Interfaces, unlink and close)
 abbrev pub without_dead_files : PlainTree → PlainTree

@@ -1,20 +1,24 @@
 -- What the calls on files look at, and what they come to. The order of their errors is a rule of
 -- this project.
-use Rattle.std.specs.Prelude.{ℕ, Bool, cond, not, ◌&&◌, nat_le, ℤ, pos, negsuc, length, [], ◌∷◌, Some, None, Result, Ok, Err}
+use Rattle.std.specs.Prelude.{ℕ, Bool, true, cond, not, ◌&&◌, nat_le, ℤ, pos, negsuc, length, [], ◌∷◌, Some, None, Result, Ok, Err}
 use Rattle.ft_body.specs.Bytes.{resized}
 use Rattle.ft_path.specs.declared.path.Parts.{Parts}
 use Rattle.ft_path.specs.declared.errno.Errno.{Errno}
-use Rattle.ft_path.specs.declared.errno.Errno.TheVariants.{ENOENT, EEXIST, EINVAL, EISDIR, EFBIG}
+use Rattle.ft_path.specs.declared.errno.Errno.TheVariants.{ENOENT, EEXIST, EINVAL, EISDIR, EFBIG, ELOOP}
 use Rattle.ft_cells.specs.declared.limits.TreeLimits.{TreeLimits}
 use Rattle.ft_cells.specs.declared.entry.Entry.{Entry as DirEntry}
 use Rattle.ft_cells.specs.declared.cell.Cell.TheVariants.{Entry, Links, Bytes, Fd}
-use Rattle.ft_cells.specs.declared.node.Kind.TheVariants.{Dir as DirKind, File as FileKind}
+use Rattle.ft_cells.specs.declared.node.Kind.TheVariants.{Dir as DirKind}
 use Rattle.ft_cells.specs.declared.node.Node.{Node}
 use Rattle.ft_cells.specs.declared.node.Node.TheVariants.{Dir as DirNode, File as FileNode}
+use Rattle.ft_cells.specs.declared.node.Form.{Form}
+use Rattle.ft_cells.specs.declared.node.Form.TheVariants.{Regular, Link as LinkForm}
+use Rattle.ft_cells.specs.Nodes.{kind_of_node}
 use Rattle.ft_cells.specs.declared.open_file.OpenFile.{OpenFile}
 use Rattle.ft_cells.specs.Modes.{can_write}
 use Rattle.ft_cells.specs.Looks.{Looks, Answer, Look, or_else}
-use Rattle.ft_tree.specs.Walk.{Spot, Named, Itself}
+use Rattle.ft_cells.specs.declared.node.Spot.{Spot}
+use Rattle.ft_cells.specs.declared.node.Spot.TheVariants.{Named, Itself}
 use Rattle.ft_posix.specs.declared.call.OpenFlags.{OpenFlags}
 use Rattle.ft_posix.specs.declared.call.Reply.TheVariants.{Done, Number, Info}
 use Rattle.ft_posix.specs.Outcomes.{sets, Outcome, failed, told, from_parts}
@@ -30,7 +34,7 @@ description flags file = record { file = file; access = flags.access; append = f
 abbrev pub creates : ℕ → OpenFlags → DirEntry → Outcome
 creates stamp flags entry = record {
   reply = Number stamp;
-  writes = sets (Links stamp) 1 ∷ sets (Bytes stamp) [] ∷ sets (Fd stamp) (Some (description flags stamp)) ∷ sets (Entry entry) (Some (FileNode stamp)) ∷ [];
+  writes = sets (Links stamp) 1 ∷ sets (Bytes stamp) [] ∷ sets (Fd stamp) (Some (description flags stamp)) ∷ sets (Entry entry) (Some (FileNode Regular stamp)) ∷ [];
 }
 
 -- a descriptor for an existing file, which is cut to nothing where that is asked (O_TRUNC)
@@ -40,10 +44,12 @@ opens stamp flags file = record {
   writes = sets (Fd stamp) (Some (description flags file)) ∷ cond flags.trunc (sets (Bytes file) [] ∷ []) [];
 }
 
--- a directory is EISDIR, in every mode: for reading a choice of this project
+-- a directory is EISDIR, in every mode: for reading a choice of this project. A link is ELOOP, which
+-- no call reaches, since the walk has followed it.
 abbrev pub open_node : ℕ → OpenFlags → Node → Outcome
 open_node stamp flags (DirNode file) = failed EISDIR
-open_node stamp flags (FileNode file) = opens stamp flags file
+open_node stamp flags (FileNode Regular file) = opens stamp flags file
+open_node stamp flags (FileNode LinkForm file) = failed ELOOP
 
 -- with create and excl together an existing name is refused (O_EXCL). excl alone has no effect, a
 -- choice of this project, since POSIX leaves it undefined without O_CREAT
@@ -52,17 +58,18 @@ is_exclusive flags = flags.create && flags.excl
 
 -- open where the walk ended: a missing name without create, or with a slash behind it, is ENOENT,
 -- an existing one with create and excl EEXIST, and a directory EISDIR
-abbrev pub open_spot : ℕ → OpenFlags → Bool → Spot → Outcome
-open_spot stamp flags trailing (Named entry None) = cond (flags.create && not trailing) (creates stamp flags entry) (failed ENOENT)
-open_spot stamp flags trailing (Named entry (Some x)) = cond (is_exclusive flags) (failed EEXIST) (open_node stamp flags x)
-open_spot stamp flags trailing (Itself dir) = cond (is_exclusive flags) (failed EEXIST) (failed EISDIR)
+abbrev pub open_spot : ℕ → OpenFlags → Spot → Outcome
+open_spot stamp flags (Named entry None slash) = cond (flags.create && not slash) (creates stamp flags entry) (failed ENOENT)
+open_spot stamp flags (Named entry (Some x) slash) = cond (is_exclusive flags) (failed EEXIST) (open_node stamp flags x)
+open_spot stamp flags (Itself dir) = cond (is_exclusive flags) (failed EEXIST) (failed EISDIR)
 
 -- open from the parts of its path on: the fault of the text, trunc without writing EINVAL (a
--- choice of this project, since POSIX leaves it undefined), and where the walk leads
+-- choice of this project, since POSIX leaves it undefined), and where the walk leads. It follows a
+-- last link, but with create and excl, which refuse any name that is there (XSH open, O_EXCL).
 abbrev pub open_parts : ℕ → OpenFlags → Result Parts Errno → Looks Outcome
 open_parts stamp flags (Err e) = Answer (failed e)
 open_parts stamp flags (Ok parts) =
-    cond (flags.trunc && not (can_write flags.access)) (Answer (failed EINVAL)) (from_parts (Ok parts) (λ spot. Answer (open_spot stamp flags parts.trailing spot)))
+    cond (flags.trunc && not (can_write flags.access)) (Answer (failed EINVAL)) (from_parts (not (is_exclusive flags)) (Ok parts) (λ spot. Answer (open_spot stamp flags spot)))
 
 -- truncate (POSIX.1-2017, System Interfaces, truncate)
 
@@ -79,32 +86,35 @@ to_size limits (negsuc n) = Err EINVAL
 abbrev pub cut_file : ℕ → ℕ → Looks Outcome
 cut_file file size = Look (Bytes file) (λ bytes. Answer (record { reply = Done; writes = sets (Bytes file) (resized bytes size) ∷ [] }))
 
--- truncate where the walk ended: a missing name is ENOENT, and a directory EISDIR
+-- truncate where the walk ended, which follows links: a missing name is ENOENT, and a directory
+-- EISDIR. A link is ELOOP, which no call reaches.
 abbrev pub truncate_spot : ℕ → Spot → Looks Outcome
-truncate_spot size (Named entry None) = Answer (failed ENOENT)
-truncate_spot size (Named entry (Some (DirNode file))) = Answer (failed EISDIR)
-truncate_spot size (Named entry (Some (FileNode file))) = cut_file file size
+truncate_spot size (Named entry None slash) = Answer (failed ENOENT)
+truncate_spot size (Named entry (Some (DirNode file)) slash) = Answer (failed EISDIR)
+truncate_spot size (Named entry (Some (FileNode Regular file)) slash) = cut_file file size
+truncate_spot size (Named entry (Some (FileNode LinkForm file)) slash) = Answer (failed ELOOP)
 truncate_spot size (Itself dir) = Answer (failed EISDIR)
 
 -- truncate from the parts of its path on: the fault of the text, that of the length, and where
 -- the walk leads
 abbrev pub truncate_parts : TreeLimits → ℤ → Result Parts Errno → Looks Outcome
 truncate_parts limits len (Err e) = Answer (failed e)
-truncate_parts limits len (Ok parts) = or_else failed (λ size. from_parts (Ok parts) (truncate_spot size)) (to_size limits len)
+truncate_parts limits len (Ok parts) = or_else failed (λ size. from_parts true (Ok parts) (truncate_spot size)) (to_size limits len)
 
--- stat (POSIX.1-2017, System Interfaces, stat)
+-- stat and lstat (POSIX.1-2017, System Interfaces, stat, lstat): stat follows a last link
 
 -- a directory: it has one link and size 0 (a choice of this project)
 abbrev pub dir_info : ℕ → Outcome
 dir_info file = told (Info DirKind file 1 0)
 
--- a file, with its links and its size
-abbrev pub file_info : ℕ → Looks Outcome
-file_info file = Look (Links file) (λ links. Look (Bytes file) (λ bytes. Answer (told (Info FileKind file links (length bytes)))))
+-- a file or a link, with its links and its size: the size of a link is that of its target (XSH
+-- lstat)
+abbrev pub file_info : Form → ℕ → Looks Outcome
+file_info form file = Look (Links file) (λ links. Look (Bytes file) (λ bytes. Answer (told (Info (kind_of_node (FileNode form file)) file links (length bytes)))))
 
--- stat where the walk ended: a missing name is ENOENT
+-- stat and lstat where the walk ended: a missing name is ENOENT
 abbrev pub stat_spot : Spot → Looks Outcome
-stat_spot (Named entry None) = Answer (failed ENOENT)
-stat_spot (Named entry (Some (DirNode file))) = Answer (dir_info file)
-stat_spot (Named entry (Some (FileNode file))) = file_info file
+stat_spot (Named entry None slash) = Answer (failed ENOENT)
+stat_spot (Named entry (Some (DirNode file)) slash) = Answer (dir_info file)
+stat_spot (Named entry (Some (FileNode form file)) slash) = file_info form file
 stat_spot (Itself dir) = Answer (dir_info dir)

@@ -3,6 +3,7 @@ pub mod Dirs
 pub mod Files
 pub mod Descriptors
 pub mod Links
+pub mod Symlinks
 pub mod Steps
 pub mod Exec
 pub mod Stored

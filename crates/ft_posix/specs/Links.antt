@@ -12,34 +12,37 @@ use Rattle.ft_cells.specs.declared.limits.TreeLimits.{TreeLimits}
 use Rattle.ft_cells.specs.declared.cell.Cell.TheVariants.{Entry, Names, Parent, Links}
 use Rattle.ft_cells.specs.declared.node.Node.{Node}
 use Rattle.ft_cells.specs.declared.node.Node.TheVariants.{Dir as DirNode, File as FileNode}
+use Rattle.ft_cells.specs.declared.node.Form.{Form}
 use Rattle.ft_cells.specs.Looks.{Looks, Answer, Look, then}
-use Rattle.ft_tree.specs.Walk.{Spot, Named, Itself}
+use Rattle.ft_cells.specs.declared.node.Spot.{Spot}
+use Rattle.ft_cells.specs.declared.node.Spot.TheVariants.{Named, Itself}
 use Rattle.ft_posix.specs.declared.call.Reply.TheVariants.{Done}
 use Rattle.ft_posix.specs.Outcomes.{Write, sets, Outcome, failed, told, from_parts, unless}
 
 -- link (POSIX.1-2017, System Interfaces, link)
 
 -- the file has the new entry, and one link more
-abbrev pub linked : ℕ → DirEntry → ℕ → Outcome
-linked file new links = record { reply = Done; writes = sets (Entry new) (Some (FileNode file)) ∷ sets (Links file) (suc links) ∷ [] }
+abbrev pub linked : Form → ℕ → DirEntry → ℕ → Outcome
+linked form file new links = record { reply = Done; writes = sets (Entry new) (Some (FileNode form file)) ∷ sets (Links file) (suc links) ∷ [] }
 
 -- a file with as many links as the tree allows has no room for another: EMLINK ({LINK_MAX})
-abbrev pub link_at : TreeLimits → ℕ → DirEntry → ℕ → Outcome
-link_at limits file new links = cond (nat_lt links limits.links) (linked file new links) (failed EMLINK)
+abbrev pub link_at : TreeLimits → Form → ℕ → DirEntry → ℕ → Outcome
+link_at limits form file new links = cond (nat_lt links limits.links) (linked form file new links) (failed EMLINK)
 
 -- where the walk of the new path ended: what is there is EEXIST, and a missing name with a slash
 -- behind it ENOENT. A file with a slash behind its name was ENOTDIR in the walk, where Linux
 -- answers EEXIST.
-abbrev pub link_new : TreeLimits → ℕ → Bool → Spot → Looks Outcome
-link_new limits file trailing (Named new None) = cond trailing (Answer (failed ENOENT)) (Look (Links file) (λ links. Answer (link_at limits file new links)))
-link_new limits file trailing (Named new (Some x)) = Answer (failed EEXIST)
-link_new limits file trailing (Itself dir) = Answer (failed EEXIST)
+abbrev pub link_new : TreeLimits → Form → ℕ → Spot → Looks Outcome
+link_new limits form file (Named new None slash) = cond slash (Answer (failed ENOENT)) (Look (Links file) (λ links. Answer (link_at limits form file new links)))
+link_new limits form file (Named new (Some x) slash) = Answer (failed EEXIST)
+link_new limits form file (Itself dir) = Answer (failed EEXIST)
 
--- where the walk of the old path ended: a missing name is ENOENT, and a directory EPERM
+-- where the walk of the old path ended: a missing name is ENOENT, and a directory EPERM. A link gets
+-- the new entry itself, which XSH link leaves open.
 abbrev pub link_old : TreeLimits → Parts → Spot → Looks Outcome
-link_old limits new (Named old None) = Answer (failed ENOENT)
-link_old limits new (Named old (Some (DirNode file))) = Answer (failed EPERM)
-link_old limits new (Named old (Some (FileNode file))) = from_parts (Ok new) (link_new limits file new.trailing)
+link_old limits new (Named old None slash) = Answer (failed ENOENT)
+link_old limits new (Named old (Some (DirNode file)) slash) = Answer (failed EPERM)
+link_old limits new (Named old (Some (FileNode form file)) slash) = from_parts false (Ok new) (link_new limits form file)
 link_old limits new (Itself dir) = Answer (failed EPERM)
 
 -- link from the parts of its paths on: the fault of the text of old, that of new, the walk of
@@ -47,7 +50,7 @@ link_old limits new (Itself dir) = Answer (failed EPERM)
 abbrev pub link_parts : TreeLimits → Result Parts Errno → Result Parts Errno → Looks Outcome
 link_parts limits (Err e) new = Answer (failed e)
 link_parts limits (Ok old) (Err e) = Answer (failed e)
-link_parts limits (Ok old) (Ok new) = from_parts (Ok old) (link_old limits new)
+link_parts limits (Ok old) (Ok new) = from_parts false (Ok old) (link_old limits new)
 
 -- unlink (POSIX.1-2017, System Interfaces, unlink)
 
@@ -58,9 +61,9 @@ unlinked entry file links = record { reply = Done; writes = sets (Links file) (l
 
 -- unlink where the walk ended: a missing name is ENOENT, and a directory EPERM
 abbrev pub unlink_spot : Spot → Looks Outcome
-unlink_spot (Named entry None) = Answer (failed ENOENT)
-unlink_spot (Named entry (Some (DirNode file))) = Answer (failed EPERM)
-unlink_spot (Named entry (Some (FileNode file))) = Look (Links file) (λ links. Answer (unlinked entry file links))
+unlink_spot (Named entry None slash) = Answer (failed ENOENT)
+unlink_spot (Named entry (Some (DirNode file)) slash) = Answer (failed EPERM)
+unlink_spot (Named entry (Some (FileNode form file)) slash) = Look (Links file) (λ links. Answer (unlinked entry file links))
 unlink_spot (Itself dir) = Answer (failed EPERM)
 
 -- rename (POSIX.1-2017, System Interfaces, rename)
@@ -103,8 +106,8 @@ abbrev pub with_parent : ℕ → ℕ → ℕ → List Write
 with_parent moved dir into = cond (dir == into) [] (sets (Parent moved) (Some into) ∷ [])
 
 -- the file that the new name led to has one link less
-abbrev pub replace_file : DirEntry → ℕ → DirEntry → ℕ → Looks Outcome
-replace_file old moved new replaced = Look (Links replaced) (λ links. Answer (renamed old (FileNode moved) new (sets (Links replaced) (links - 1) ∷ [])))
+abbrev pub replace_file : DirEntry → Node → DirEntry → ℕ → Looks Outcome
+replace_file old moved new replaced = Look (Links replaced) (λ links. Answer (renamed old moved new (sets (Links replaced) (links - 1) ∷ [])))
 
 -- the directory that the new name led to is gone where it has none of these names; else it is
 -- ENOTEMPTY, for which POSIX allows EEXIST too
@@ -116,27 +119,29 @@ if_bare old moved new replaced (name ∷ names) = failed ENOTEMPTY
 abbrev pub replace_dir : DirEntry → ℕ → DirEntry → ℕ → Looks Outcome
 replace_dir old moved new replaced = Look (Names replaced) (λ names. Answer (if_bare old moved new replaced names))
 
--- a file, to where the new path leads: a missing name with a slash behind it is ENOTDIR, and a
--- directory EISDIR; the same file is left as it is. The root and dots were refused before.
-abbrev pub rename_file : DirEntry → ℕ → Bool → Spot → Looks Outcome
-rename_file old moved trailing (Named new None) = Answer (cond trailing (failed ENOTDIR) (renamed old (FileNode moved) new []))
-rename_file old moved trailing (Named new (Some (FileNode replaced))) = cond (moved == replaced) (Answer (told Done)) (replace_file old moved new replaced)
-rename_file old moved trailing (Named new (Some (DirNode replaced))) = Answer (failed EISDIR)
-rename_file old moved trailing (Itself into) = Answer (failed EBUSY)
+-- a file or a link, to where the new path leads: a missing name with a slash behind it is ENOTDIR,
+-- and a directory EISDIR; the same file is left as it is. A directory itself, to which only a link
+-- with a slash behind it leads, is EBUSY, a choice of this project.
+abbrev pub rename_file : DirEntry → Form → ℕ → Spot → Looks Outcome
+rename_file old form moved (Named new None slash) = Answer (cond slash (failed ENOTDIR) (renamed old (FileNode form moved) new []))
+rename_file old form moved (Named new (Some (FileNode other replaced)) slash) = cond (moved == replaced) (Answer (told Done)) (replace_file old (FileNode form moved) new replaced)
+rename_file old form moved (Named new (Some (DirNode replaced)) slash) = Answer (failed EISDIR)
+rename_file old form moved (Itself into) = Answer (failed EBUSY)
 
 -- a directory, to where the new path leads: a file is ENOTDIR; the same directory is left as it
 -- is
 abbrev pub rename_dir : ℕ → DirEntry → ℕ → Spot → Looks Outcome
-rename_dir most old moved (Named new None) = unless_below most moved new.dir (Answer (renamed old (DirNode moved) new (with_parent moved old.dir new.dir)))
-rename_dir most old moved (Named new (Some (FileNode replaced))) = Answer (failed ENOTDIR)
-rename_dir most old moved (Named new (Some (DirNode replaced))) = cond (moved == replaced) (Answer (told Done)) (unless_below most moved new.dir (replace_dir old moved new replaced))
+rename_dir most old moved (Named new None slash) = unless_below most moved new.dir (Answer (renamed old (DirNode moved) new (with_parent moved old.dir new.dir)))
+rename_dir most old moved (Named new (Some (FileNode form replaced)) slash) = Answer (failed ENOTDIR)
+rename_dir most old moved (Named new (Some (DirNode replaced)) slash) = cond (moved == replaced) (Answer (told Done)) (unless_below most moved new.dir (replace_dir old moved new replaced))
 rename_dir most old moved (Itself into) = Answer (failed EBUSY)
 
--- where the walk of the old path ended: a missing name is ENOENT
+-- where the walk of the old path ended: a missing name is ENOENT. A link is moved itself (XSH
+-- rename).
 abbrev pub rename_old : ℕ → Parts → Spot → Looks Outcome
-rename_old most new (Named old None) = Answer (failed ENOENT)
-rename_old most new (Named old (Some (FileNode moved))) = from_parts (Ok new) (rename_file old moved new.trailing)
-rename_old most new (Named old (Some (DirNode moved))) = from_parts (Ok new) (rename_dir most old moved)
+rename_old most new (Named old None slash) = Answer (failed ENOENT)
+rename_old most new (Named old (Some (FileNode form moved)) slash) = from_parts false (Ok new) (rename_file old form moved)
+rename_old most new (Named old (Some (DirNode moved)) slash) = from_parts false (Ok new) (rename_dir most old moved)
 rename_old most new (Itself dir) = Answer (failed EBUSY)
 
 -- rename from the parts of its paths on: the fault of the text of old, that of new, the last
@@ -144,4 +149,4 @@ rename_old most new (Itself dir) = Answer (failed EBUSY)
 abbrev pub rename_parts : ℕ → Result Parts Errno → Result Parts Errno → Looks Outcome
 rename_parts most (Err e) new = Answer (failed e)
 rename_parts most (Ok old) (Err e) = Answer (failed e)
-rename_parts most (Ok old) (Ok new) = unless (rename_fault (last_of old.names) (last_of new.names)) (from_parts (Ok old) (rename_old most new))
+rename_parts most (Ok old) (Ok new) = unless (rename_fault (last_of old.names) (last_of new.names)) (from_parts false (Ok old) (rename_old most new))

@@ -1,13 +1,14 @@
 -- What a call comes to: a reply, and the cells that it writes with their new values.
 -- XBD and XSH are the Base Definitions and the System Interfaces of POSIX.1-2017.
-use Rattle.std.specs.Prelude.{List, [], Option, None, Some, Result, Ok, Err}
+use Rattle.std.specs.Prelude.{Bool, List, [], Option, None, Some, Result, Ok, Err}
 use Rattle.ft_path.specs.declared.path.Parts.{Parts}
 use Rattle.ft_path.specs.declared.errno.Errno.{Errno}
 use Rattle.ft_laws.specs.Effects.{Write as CellWrite}
 use Rattle.ft_cells.specs.declared.cell.Cell.{Cell}
 use Rattle.ft_tree.specs.Held.{Holds}
 use Rattle.ft_cells.specs.Looks.{Looks, Answer, then, or_else}
-use Rattle.ft_tree.specs.Walk.{Spot, walk}
+use Rattle.ft_cells.specs.declared.node.Spot.{Spot}
+use Rattle.ft_tree.specs.Walk.{walk}
 use Rattle.ft_posix.specs.declared.call.Reply.{Reply}
 use Rattle.ft_posix.specs.declared.call.Reply.TheVariants.{Failed}
 
@@ -33,12 +34,12 @@ failed e = record { reply = Failed e; writes = [] }
 abbrev pub told : Reply → Outcome
 told reply = record { reply = reply; writes = [] }
 
--- a call on a path goes on where the path's components lead (XBD 4.13). The fault of its text is
--- answered before anything is looked at, and a fault of the walk where it comes; the order is a
--- rule of this project.
-abbrev pub from_parts : Result Parts Errno → (Spot → Looks Outcome) → Looks Outcome
-from_parts (Err e) go = Answer (failed e)
-from_parts (Ok parts) go = then (walk parts.names parts.trailing) (or_else failed go)
+-- a call on a path goes on where the path's components lead (XBD 4.13), through a last one that is
+-- a symbolic link where the call follows it. The fault of its text is answered before anything is
+-- looked at, and a fault of the walk where it comes; the order is a rule of this project.
+abbrev pub from_parts : Bool → Result Parts Errno → (Spot → Looks Outcome) → Looks Outcome
+from_parts follow (Err e) go = Answer (failed e)
+from_parts follow (Ok parts) go = then (walk follow parts.names parts.trailing) (or_else failed go)
 
 -- the call goes on where there is no fault
 abbrev pub unless : Option Errno → Looks Outcome → Looks Outcome

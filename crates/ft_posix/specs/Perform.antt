@@ -1,7 +1,7 @@
 -- What replies tell.
 use Rattle.std.specs.Prelude.{Bool, true, false}
 use Rattle.ft_posix.specs.declared.call.Call.{Call}
-use Rattle.ft_posix.specs.declared.call.Call.TheVariants.{Mkdir, Rmdir, List as ListDir, Open, Close, Read, Write, Pread, Pwrite, Lseek, Truncate, Ftruncate, Stat, Fstat, Link, Unlink, Rename}
+use Rattle.ft_posix.specs.declared.call.Call.TheVariants.{Mkdir, Rmdir, List as ListDir, Open, Close, Read, Write, Pread, Pwrite, Lseek, Truncate, Ftruncate, Stat, Fstat, Link, Unlink, Rename, Symlink, Readlink, Lstat}
 use Rattle.ft_posix.specs.declared.call.Reply.{Reply}
 use Rattle.ft_posix.specs.declared.call.Reply.TheVariants.{Done, Names as NamesReply, Number, Bytes as BytesReply, Info, Failed}
 
@@ -43,3 +43,6 @@ is_read (Fstat fd) = false
 is_read (Link old new) = false
 is_read (Unlink path) = false
 is_read (Rename old new) = false
+is_read (Symlink target path) = false
+is_read (Readlink path) = false
+is_read (Lstat path) = false

@@ -58,7 +58,7 @@ file_of (Fd f) = None
 abbrev pub node_names : Option Node → ℕ → Bool
 node_names None i = false
 node_names (Some (DirNode j)) i = false
-node_names (Some (FileNode j)) i = j == i
+node_names (Some (FileNode form j)) i = j == i
 
 -- whether a description has this file open
 abbrev pub description_names : Option OpenFile → ℕ → Bool
@@ -83,7 +83,7 @@ does cells a = let o = outcome cells a.stamp a.call in record {
   reply = o.reply;
 }
 
--- the seventeen calls: cells, accesses, effects, soundness, freshness, files. A file that a call
+-- the twenty calls: cells, accesses, effects, soundness, freshness, files. A file that a call
 -- makes has its stamp for a number.
 abbrev pub posix : Effects
 posix = record {

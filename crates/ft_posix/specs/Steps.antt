@@ -1,13 +1,14 @@
 -- What each call looks at and what it comes to.
-use Rattle.std.specs.Prelude.{ℕ}
+use Rattle.std.specs.Prelude.{ℕ, true, false}
 use Rattle.ft_path.specs.FilePath.{parts_of}
 use Rattle.ft_cells.specs.Looks.{Looks}
 use Rattle.ft_cells.specs.declared.limits.TreeLimits.{TreeLimits}
 use Rattle.ft_posix.specs.declared.call.Call.{Call}
-use Rattle.ft_posix.specs.declared.call.Call.TheVariants.{Mkdir, Rmdir, List as ListDir, Open, Close, Read, Write, Pread, Pwrite, Lseek, Truncate, Ftruncate, Stat, Fstat, Link, Unlink, Rename}
+use Rattle.ft_posix.specs.declared.call.Call.TheVariants.{Mkdir, Rmdir, List as ListDir, Open, Close, Read, Write, Pread, Pwrite, Lseek, Truncate, Ftruncate, Stat, Fstat, Link, Unlink, Rename, Symlink, Readlink, Lstat}
 use Rattle.ft_posix.specs.Outcomes.{Outcome, from_parts}
 use Rattle.ft_posix.specs.Dirs.{make_dir, remove_parts, list_dir}
 use Rattle.ft_posix.specs.Links.{link_parts, unlink_spot, rename_parts}
+use Rattle.ft_posix.specs.Symlinks.{symlink_parts, read_link}
 use Rattle.ft_posix.specs.Files.{open_parts, truncate_parts, stat_spot}
 use Rattle.ft_posix.specs.Descriptors.{with_open, any_open, is_readable, is_writable, close_open, read_open, write_open, pread_open, pwrite_open, seek_open, ftruncate_open, fstat_open}
 
@@ -17,9 +18,9 @@ use Rattle.ft_posix.specs.Descriptors.{with_open, any_open, is_readable, is_writ
 -- tree any that is no less gives the same. A stamp would be no bound: a call that is made again
 -- in another order meets trees with larger numbers.
 abbrev pub steps : TreeLimits → ℕ → ℕ → Call → Looks Outcome
-steps limits most stamp (Mkdir path) = from_parts (parts_of path) (make_dir stamp)
+steps limits most stamp (Mkdir path) = from_parts false (parts_of path) (make_dir stamp)
 steps limits most stamp (Rmdir path) = remove_parts (parts_of path)
-steps limits most stamp (ListDir path) = from_parts (parts_of path) list_dir
+steps limits most stamp (ListDir path) = from_parts true (parts_of path) list_dir
 steps limits most stamp (Open path access create excl trunc append) =
     open_parts stamp (record { access = access; create = create; excl = excl; trunc = trunc; append = append }) (parts_of path)
 steps limits most stamp (Close fd) = with_open fd any_open (close_open fd)
@@ -30,8 +31,11 @@ steps limits most stamp (Pwrite fd off bytes) = with_open fd is_writable (pwrite
 steps limits most stamp (Lseek fd whence off) = with_open fd any_open (seek_open fd whence off)
 steps limits most stamp (Truncate len path) = truncate_parts limits len (parts_of path)
 steps limits most stamp (Ftruncate fd len) = with_open fd is_writable (ftruncate_open limits len)
-steps limits most stamp (Stat path) = from_parts (parts_of path) stat_spot
+steps limits most stamp (Stat path) = from_parts true (parts_of path) stat_spot
 steps limits most stamp (Fstat fd) = with_open fd any_open fstat_open
 steps limits most stamp (Link old new) = link_parts limits (parts_of old) (parts_of new)
-steps limits most stamp (Unlink path) = from_parts (parts_of path) unlink_spot
+steps limits most stamp (Unlink path) = from_parts false (parts_of path) unlink_spot
 steps limits most stamp (Rename old new) = rename_parts most (parts_of old) (parts_of new)
+steps limits most stamp (Symlink target path) = symlink_parts stamp target (parts_of path)
+steps limits most stamp (Readlink path) = from_parts false (parts_of path) read_link
+steps limits most stamp (Lstat path) = from_parts false (parts_of path) stat_spot

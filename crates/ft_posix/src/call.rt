@@ -9,17 +9,22 @@ use std::alloc::Global;
 ///
 /// A call on a path fails first with the fault of its text, ENOENT for an empty path and
 /// ENAMETOOLONG for one of more than 4,095 bytes or with a component of more than 255, and then
-/// with the fault of its look-up: ENOENT for a directory on the way that is missing, and ENOTDIR
-/// for a file on the way or before a trailing slash. The errors of each call are in the order in
-/// which they are tested.
+/// with the fault of its look-up: ENOENT for a directory on the way that is missing, ENOTDIR for a
+/// regular file on the way or before a trailing slash, and ELOOP for more than 40 symbolic links;
+/// the text of a target that is followed has the faults of a path's. The errors of each call are in
+/// the order in which they are tested.
+///
+/// A symbolic link on the way or before a trailing slash is followed. `List`, `Open`, `Truncate`
+/// and `Stat` follow one that is the last component too, but for an `Open` with `create` and
+/// `excl`; to the other calls it is a file like others.
 #[derive(Debug, PartialEq, Eq)]
 pub enum Call {
     /// Makes a directory without entries, whose number is the call's stamp, and answers `Done`
     /// (POSIX.1-2017, System Interfaces, mkdir).
     ///
     /// Fails with the fault of the text; that of the look-up; EEXIST where the path leads to a
-    /// directory or file, the root and a last `.` or `..` included. A slash behind a missing last
-    /// name is no fault.
+    /// directory, a file or a symbolic link, the root and a last `.` or `..` included. A slash
+    /// behind a missing last name is no fault.
     Mkdir {
         path: FilePath,
     },
@@ -28,8 +33,9 @@ pub enum Call {
     ///
     /// Fails with the fault of the text; EINVAL for a last `.`; ENOTEMPTY for a last `..`; EBUSY
     /// for the root, a path without components; the fault of the look-up; ENOENT where the last
-    /// name is missing; ENOTDIR where it is a file; ENOTEMPTY where the directory has an entry.
-    /// ENOTEMPTY for `..` and EBUSY for the root are choices of this project.
+    /// name is missing; ENOTDIR where it is a file; ENOTEMPTY where the directory has an entry;
+    /// EBUSY where a symbolic link before a trailing slash leads to the root, or by a last `.` or
+    /// `..`. ENOTEMPTY for `..` and EBUSY are choices of this project.
     Rmdir {
         path: FilePath,
     },
@@ -152,7 +158,7 @@ pub enum Call {
     /// Fails with the fault of the text of `old`, then of `new`; the fault of the look-up of `old`;
     /// ENOENT where it is missing; EPERM where it is a directory; the fault of the look-up of
     /// `new`; EEXIST where it leads to a directory or file; ENOENT where it is missing and a slash
-    /// stands behind it; EMLINK where the file has 1,000 links.
+    /// stands behind it; EMLINK where the file has as many links as the tree allows.
     Link {
         old: FilePath,
         new: FilePath,
@@ -174,11 +180,38 @@ pub enum Call {
     /// `old`; ENOENT where it is missing; the fault of the look-up of `new`; ENOTDIR where `old` is
     /// a file, `new` is missing and a slash stands behind it; EISDIR for a file in place of a
     /// directory, and ENOTDIR for a directory in place of a file; EINVAL for a directory that would
-    /// come to stand below itself; ENOTEMPTY in place of a directory that has an entry. EBUSY and
-    /// this order are choices of this project.
+    /// come to stand below itself; ENOTEMPTY in place of a directory that has an entry. EBUSY, also
+    /// for a symbolic link before a trailing slash that leads to the root or by a last `.` or `..`,
+    /// and this order are choices of this project.
     Rename {
         old: FilePath,
         new: FilePath,
+    },
+    /// Makes a symbolic link that holds a target, and answers `Done`. Its number is the call's
+    /// stamp. Nobody asks where the target leads (POSIX.1-2017, System Interfaces, symlink).
+    ///
+    /// Fails with the fault of the text of `path`; ENOENT for a target of no bytes, and ENAMETOOLONG
+    /// for one of more than 4,095; the fault of the look-up; EEXIST where the path leads to a
+    /// directory, a file or a symbolic link; ENOENT where the last name is missing and a slash
+    /// stands behind it. ENOENT for no bytes is a choice of this project.
+    Symlink {
+        target: FilePath,
+        path: FilePath,
+    },
+    /// Answers the target of a symbolic link, as `Bytes` (POSIX.1-2017, System Interfaces,
+    /// readlink).
+    ///
+    /// Fails with the fault of the text; that of the look-up; ENOENT where the last name is
+    /// missing; EINVAL for what is no symbolic link.
+    Readlink {
+        path: FilePath,
+    },
+    /// What a path leads to, as `Stat`, but of a last symbolic link itself: its size is that of its
+    /// target (POSIX.1-2017, System Interfaces, lstat).
+    ///
+    /// Fails as `Stat` does.
+    Lstat {
+        path: FilePath,
     },
 }
 
@@ -220,7 +253,10 @@ impl Drop for Call {
             | Call::Fstat { fd: _ }
             | Call::Link { old: _, new: _ }
             | Call::Unlink { path: _ }
-            | Call::Rename { old: _, new: _ } => {}
+            | Call::Rename { old: _, new: _ }
+            | Call::Symlink { target: _, path: _ }
+            | Call::Readlink { path: _ }
+            | Call::Lstat { path: _ } => {}
         }
     }
 }
@@ -286,11 +322,11 @@ pub enum Reply {
     Names(Sequence<(Name, Kind)>),
     /// A descriptor, an offset, or how many bytes were written.
     Number(u64),
-    /// The bytes that were read.
+    /// The bytes that were read, or the target of a symbolic link.
     Bytes(Sequence<u8>),
-    /// What a path leads to or a descriptor has open: a directory or a file, its number, its count
-    /// of links and its size in bytes. A directory has one link and size 0, a choice of this
-    /// project.
+    /// What a path leads to or a descriptor has open: a directory, a file or a symbolic link, its
+    /// number, its count of links and its size in bytes. A directory has one link and size 0, a
+    /// choice of this project.
     Info {
         kind: Kind,
         number: u64,

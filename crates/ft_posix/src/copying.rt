@@ -76,6 +76,16 @@ impl Call {
                 old: old.try_clone()?,
                 new: new.try_clone()?,
             },
+            Call::Symlink { target, path } => Call::Symlink {
+                target: target.try_clone()?,
+                path: path.try_clone()?,
+            },
+            Call::Readlink { path } => Call::Readlink {
+                path: path.try_clone()?,
+            },
+            Call::Lstat { path } => Call::Lstat {
+                path: path.try_clone()?,
+            },
         })
     }
 }

@@ -2,13 +2,12 @@
 ghost use Rattle.std.specs.Prelude.{◌≡◌, [], ◌∷◌, ◌++◌, OnOk, IfOk, IfSome, IfNone};
 ghost use Rattle.ft_body.specs.Bytes.{bytes_at};
 ghost use Rattle.ft_cells.specs.Cells.{bytes_of};
-ghost use Rattle.ft_cells.specs.Entries.{entry_in};
 ghost use Rattle.ft_posix.specs.Within.{IsWithin, AreWithin};
 
 use crate::call::Reply;
 use ft_base::{Few, Memory};
 use ft_path::Errno;
-use ft_tree::{Entry, EntryRef, HintedFile, Kind, Node, OpenFile, Tree};
+use ft_tree::{Entry, HintedFile, Kind, Node, OpenFile, Tree};
 use std::alloc::Global;
 use std::marker::Model;
 
@@ -132,14 +131,6 @@ impl<'c> Edits<'c> {
     {
         self.items.push(edit)?;
         Ok(())
-    }
-
-    /// The same, of what an entry leads to.
-    pub fn push_entry(&mut self, entry: EntryRef<'_>, to: Option<Node>) -> Result<(), Memory>
-        ensures { OnOk result (self.new ≡ self.old ++ Edit.Entry (entry_in entry.entry) to ∷ []) }
-    {
-        let entry = entry.to_entry()?;
-        self.push(Edit::Entry { entry, to })
     }
 }
 

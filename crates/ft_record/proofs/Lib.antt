@@ -1,4 +1,3 @@
-mod Counts
 pub mod Places
 pub mod Moving
 pub mod Records

@@ -42,6 +42,6 @@ with_outcome r t (full.Waits blockers) = r
 abbrev pub with_told : Recording → Event → Recording
 with_told r e = record { events = r.events ++ e ∷ []; spare = r.spare - 1; room = r.room }
 
--- no place is kept any more
-abbrev pub with_none_kept : Recording → Recording
-with_none_kept r = record { events = r.events; spare = 0; room = r.room + r.spare }
+-- so many places are not kept any more
+abbrev pub with_given_back : Recording → ℕ → Recording
+with_given_back r n = record { events = r.events; spare = r.spare - n; room = r.room + n }

@@ -9,11 +9,12 @@ ghost use Rattle.ft_core.specs.Living.{NoneIsLive};
 ghost use Rattle.ft_core.specs.Promises.{IsJustMade, RanAlone};
 ghost use Rattle.ft_core.specs.Steps.{IsStep, exact_rule, answer_with, outcome_answer};
 ghost use Rattle.ft_core.specs.Sweeps.{HasNoUselessPlace, EachUselessIsLocked};
+ghost use Rattle.ft_record.specs.Recent.{freed_by_commit};
 
 use crate::record::Record;
 use ft_calls::Call;
 use ft_core::laws::reached;
-use ft_core::{Core, Event, Fault, Outcome, TxnId};
+use ft_core::{Core, Event, Fault, FullAbort, Outcome, TxnId};
 use std::marker::Model;
 use std::snapshot::Snapshot;
 
@@ -172,10 +173,22 @@ impl Recent {
         ensures step { IsStep exact_rule self.old.core.state (Commit txn) (answer_with (λ done. Committed) result) self.new.core.state }
         ensures forgotten { self.new.forgotten ≡ self.old.forgotten }
     {
+        let freed = self.freed_by_commit(txn);
         self.core.commit(txn)?;
         self.past.tell(Event::Commit { txn });
-        self.give_places_back();
+        self.past.give_back(freed);
         Ok(())
+    }
+
+    /// How many calls cannot be taken back any more once a transaction has committed: at the top
+    /// level those that it owns, and below it none.
+    fn freed_by_commit(&self, txn: TxnId) -> u64
+        ensures { result ≡ freed_by_commit self.now.core.state txn }
+    {
+        match self.core.parent(txn) {
+            Some(_) => 0,
+            None => self.core.count_owned(txn),
+        }
     }
 
     /// Aborts a transaction with all that is live below it, as `Core::abort` does.
@@ -186,10 +199,15 @@ impl Recent {
         // If it ran alone, the tree is that of its begin.
         ensures alone { (before : StateOf) → RanAlone before self.old.core.state txn → (result ≡ Ok (count_standing self.old.core.state txn)) × (tree_of self.new.core.state ≡ tree_of before) }
     {
-        let count = self.core.abort(txn)?;
+        let FullAbort {
+            transactions,
+            calls,
+        } = self.core.abort_in_full(txn)?;
         self.past.tell(Event::Abort { txn });
-        self.give_places_back();
-        Ok(count)
+        // (those below it have ended without an event of their own)
+        self.past.give_back(transactions - 1);
+        self.past.give_back(calls);
+        Ok(calls)
     }
 
     /// Undoes the last of a transaction's own standing calls, as `Core::undo_call` does.
@@ -227,14 +245,5 @@ impl Recent {
         ensures none_left { NoneIsLive self.old.core.state → HasNoUselessPlace self.new.core.cells }
     {
         self.core.sweep()
-    }
-
-    /// Gives the places back that were kept for events, where no transaction is live any more.
-    fn give_places_back(&mut self)
-        ensures { self.new ≡ self.old }
-    {
-        if !self.core.has_live() {
-            self.past.keep_none();
-        }
     }
 }

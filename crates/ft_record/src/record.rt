@@ -1,7 +1,7 @@
 // A list of events, with places for those that are not to want memory.
 ghost use Rattle.std.specs.Prelude.{◌≡◌, ◌<◌, ◌≤◌, ◌+◌, [], OnOk, OnErr};
 ghost use Rattle.ft_core.specs.FullOutcomes.{outcome_of};
-ghost use Rattle.ft_record.specs.Recording.{HasReplyTwice, nothing_recorded, with_new, with_outcome, with_told, with_none_kept};
+ghost use Rattle.ft_record.specs.Recording.{HasReplyTwice, nothing_recorded, with_new, with_outcome, with_told, with_given_back};
 
 use ft_base::{Memory, Sequence};
 use ft_core::{Event, FullOutcome, Outcome, TxnId};
@@ -126,10 +126,11 @@ impl Record {
         self.events.clear();
     }
 
-    /// Gives the places back that were kept: nothing can end or be undone any more.
-    pub(crate) fn keep_none(&mut self)
-        ensures { self.new ≡ with_none_kept self.old }
+    /// Gives places back that were kept: so many events cannot come any more.
+    pub(crate) fn give_back(&mut self, count: u64)
+        requires { count ≤ self.old.spare }
+        ensures { self.new ≡ with_given_back self.old count }
     {
-        self.spare = 0;
+        self.spare -= count as usize;
     }
 }

@@ -76,6 +76,6 @@ fn told(alloc: Global, core: &Recorded) -> Result<String> {
     let locks = core.core().lock_lines()?;
     let rows = core.tree().rows()?;
     let locks = LocksText(locks.as_slice());
-    let rows = TreeText(rows.as_slice());
-    Ok(format!(in alloc; "{events} {asks}\n{waits}\n{locks}\n{rows}\n")?)
+    let tree = TreeText::of(alloc, rows.as_slice())?;
+    Ok(format!(in alloc; "{events} {asks}\n{waits}\n{locks}\n{tree}\n")?)
 }

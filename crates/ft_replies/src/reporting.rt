@@ -40,13 +40,14 @@ pub fn whole_report_of(alloc: Global, report: Report, core: &Core) -> Result<Opt
 fn tree_report(alloc: Global, core: &Core) -> Result<Option<String>, Memory>
     ensures { IfOk result (λ told. IfSome told (λ text. IsWholeReport core.now.state Report.Tree (string_bytes text))) }
 {
-    match core.tree().rows() {
-        Ok(rows) => {
-            let text = format!(in alloc; "{}\n", TreeText(rows.as_slice()))?;
-            Ok(Some(text))
-        }
-        Err(Memory) => Ok(None),
-    }
+    let Ok(rows) = core.tree().rows() else {
+        return Ok(None);
+    };
+    let Ok(tree) = TreeText::of(alloc, rows.as_slice()) else {
+        return Ok(None);
+    };
+    let text = format!(in alloc; "{tree}\n")?;
+    Ok(Some(text))
 }
 
 // Who has which lock.

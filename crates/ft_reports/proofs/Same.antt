@@ -49,7 +49,16 @@ same_calls =
                                     field text,
                                     (
                                       field_and text (field text),
-                                      tt,
+                                      (
+                                        field_and text (field text),
+                                        (
+                                          field text,
+                                          (
+                                            field text,
+                                            tt,
+                                          ),
+                                        ),
+                                      ),
                                     ),
                                   ),
                                 ),

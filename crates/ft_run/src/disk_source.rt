@@ -1,4 +1,5 @@
 // A directory on disk as a source.
+use ft_base::Sequence;
 use ft_copy::{FileFacts, FileId, Found, Listed, Source, Trouble, name_of};
 use ft_path::LONGEST_PATH;
 use ft_script::write_out;
@@ -59,6 +60,14 @@ impl Source for DiskSource<'_> {
         File::open(self.rt, place.as_str()).map_err(|error| trouble_of(place.as_str(), error))
     }
 
+    fn read_link(&self, path: &[u8], _node: u64) -> Result<Sequence<u8>, Trouble> {
+        let place = self.place(path)?;
+        match fs::read_link(self.rt, place.as_str()) {
+            Ok(to) => Ok(to.into_string().into_bytes().into()),
+            Err(error) => Err(trouble_of(place.as_str(), error)),
+        }
+    }
+
     fn omits(&self, path: &[u8]) -> Result<bool, Trouble> {
         if self.skip {
             let line = format!(in self.rt.alloc(); "left out: {}\n", Coded(path))?;
@@ -73,20 +82,25 @@ fn found(metadata: &Metadata) -> Found {
     if metadata.is_dir() {
         return Found::Folder;
     }
-    if !metadata.is_file() {
-        return Found::Special;
-    }
-    Found::File(FileFacts {
+    let facts = FileFacts {
         id: FileId {
             device: metadata.dev(),
             number: metadata.ino(),
         },
         links: metadata.nlink(),
         size: metadata.len(),
-    })
+    };
+    if metadata.is_file() {
+        Found::File(facts)
+    } else if metadata.is_symlink() {
+        Found::Symlink(facts)
+    } else {
+        Found::Special
+    }
 }
 
-// Why a read at a place failed. The kit's library gives names that are UTF-8 text alone.
+// Why a read at a place failed. The kit's library gives names, and where links lead, only where that
+// is UTF-8 text.
 fn trouble_of(place: &str, error: io::Error) -> Trouble {
     match error.kind() {
         ErrorKind::OutOfMemory => Trouble::Memory,

@@ -4,6 +4,7 @@ use ft_copy::{Target, Trouble};
 use ft_path::LONGEST_PATH;
 use std::fs::{File, OpenOptions};
 use std::io::{ErrorKind, Write};
+use std::os::unix::fs::symlink;
 use std::{fs, io, str};
 
 // How many names beside the directory are tried.
@@ -118,6 +119,14 @@ impl Target for DiskTarget<'_> {
             place.as_str(),
             error,
         ))
+    }
+
+    fn symlink(&mut self, to: &[u8], path: &[u8]) -> Result<(), Trouble> {
+        let Ok(to) = str::from_utf8(to) else {
+            return Err(Trouble::BadName);
+        };
+        let place = self.place(path)?;
+        symlink(self.rt, to, place.as_str()).map_err(|error| trouble_of(place.as_str(), error))
     }
 
     fn finish(&mut self) -> Result<(), Trouble> {

@@ -42,7 +42,8 @@ impl Removal {
     }
 
     // Empties the directory at the path, up to one in it that is not empty: then the path is that
-    // of this one, and the answer is false. None where that can't be done.
+    // of this one, and the answer is false. None where that can't be done. A symbolic link is
+    // removed, and never gone through.
     fn empty<F: Files>(&mut self, files: &F) -> Option<bool> {
         let mut listing = files.open_dir(text_of(self.path.as_slice())?).ok()?;
         for _ in 0..u64::MAX {
@@ -86,11 +87,19 @@ fn remove_names<F: Files>(files: &F, path: &mut Vec<u8>, names: &[u8]) -> Option
         path.extend_from_slice(name).ok()?;
         let place = text_of(path.as_slice())?;
         if files.remove_file(place).is_err() && files.remove_dir(place).is_err() {
-            return Some(false);
+            return is_folder(files, place).then_some(false);
         }
         path.truncate(length);
     }
     Some(true)
+}
+
+// Whether a directory stands at a path, and no symbolic link that leads to one.
+fn is_folder<F: Files>(files: &F, place: &str) -> bool {
+    match files.symlink_metadata(place) {
+        Ok(metadata) => metadata.is_dir(),
+        Err(_) => false,
+    }
 }
 
 // A path as text.

@@ -6,6 +6,7 @@ use Rattle.std.specs.Option.{unwrap_or}
 use Rattle.std.specs.Ordering.{nat_cmp, eq_by_cmp}
 use Rattle.std.specs.Cmp.{nat_cmp_total, unsigned_ties, eq_by_cmp_equiv}
 use Rattle.std.specs.FinMap as finite
+use Rattle.ft_cells.specs.declared.node.Form.{Form}
 use Rattle.ft_save.specs.declared.index.Edge.{Edge as IndexEdge}
 use Rattle.ft_save.specs.declared.index.Index.{Index}
 use Rattle.ft_save.specs.declared.row.Row.{Row}
@@ -48,11 +49,11 @@ module _ (index : Index) (rows : List Row) (h : Indexes index rows) where
     named = λ q. ap (λ (i : Index). finite.get i.named q) is ∙ h.named q;
   }
 
-  pub adds_file : (node : ℕ) (bytes : List ℕ) (middle new : Index) → middle.files ≡ finite.insert index.files node bytes → middle.own ≡ index.own → middle.edges ≡ index.edges → middle.named ≡ index.named
-      → CountsRow middle node new → Indexes new (File node bytes ∷ rows)
-  adds_file node bytes middle new files own edges named is = record {
+  pub adds_file : (node : ℕ) (form : Form) (bytes : List ℕ) (middle new : Index) → middle.files ≡ finite.insert index.files node (record { form = form; bytes = bytes }) → middle.own ≡ index.own → middle.edges ≡ index.edges → middle.named ≡ index.named
+      → CountsRow middle node new → Indexes new (File node form bytes ∷ rows)
+  adds_file node form bytes middle new files own edges named is = record {
     own = λ q. ap (λ (i : Index). finite.get i.own q) is ∙ counted middle.own (own_in rows) (λ k. ap (λ m. finite.get m k) own ∙ h.own k) node q;
-    files = λ q. ap (λ (i : Index). finite.get i.files q) is ∙ ap (λ m. finite.get m q) files ∙ get-put index.files node bytes q ∙ by_test (node == q) (Some bytes) _ _ (h.files q);
+    files = λ q. ap (λ (i : Index). finite.get i.files q) is ∙ ap (λ m. finite.get m q) files ∙ get-put index.files node (record { form = form; bytes = bytes }) q ∙ by_test (node == q) (Some (record { form = form; bytes = bytes })) _ _ (h.files q);
     names = λ q. ap (λ (i : Index). names_at i q) is ∙ ap (λ m. map listed (unwrap_or (finite.get m q) [])) edges ∙ h.names q;
     named = λ q. ap (λ (i : Index). finite.get i.named q) is ∙ ap (λ m. finite.get m q) named ∙ h.named q;
   }

@@ -1,5 +1,5 @@
 -- How the report of what the tree holds is read with which replies end.
-use Rattle.std.specs.Prelude.{◌==◌, ◌-◌, ℕ, Bool, false, zero, suc, List, [], ◌∷◌, codes, length, if◌then◌else◌, Option, None, Some, option_and_then, option_map}
+use Rattle.std.specs.Prelude.{◌==◌, ◌-◌, ◌&&◌, not, nat_lt, ℕ, Bool, false, zero, suc, List, [], ◌∷◌, codes, length, if◌then◌else◌, Option, None, Some, option_and_then, option_map}
 use Rattle.std.specs.List.{slice_get}
 use Rattle.std.specs.Option.{option_map_or}
 use Rattle.std.specs.Str.{bytes_eq}
@@ -9,6 +9,9 @@ use Rattle.ft_words.specs.Calls.{both, last_word, only, three}
 use Rattle.ft_dot.specs.Reading.{behind}
 use Rattle.ft_save.specs.declared.row.Row.{Row}
 use Rattle.ft_save.specs.declared.row.Row.TheVariants.{Folder, Edge, File, Descriptor}
+use Rattle.ft_cells.specs.declared.node.Form.TheVariants.{Regular, Link}
+use Rattle.ft_path.specs.declared.TheConstants.{LONGEST_PATH}
+use Rattle.ft_path.specs.Name.{has_nul}
 
 -- `tree N`
 abbrev pub count_of : List (List ℕ) → Option ℕ
@@ -26,11 +29,23 @@ edge_of words = option_map (λ e. Edge e.0 (percent_decode e.1) e.2) (three numb
 
 -- a file has as many bytes as are told
 abbrev pub sized : ℕ → ℕ → List ℕ → Option Row
-sized node size bytes = if length bytes == size then Some (File node bytes) else None
+sized node size bytes = if length bytes == size then Some (File node Regular bytes) else None
 
 -- `NODE SIZE DATA`, where the data may be absent with its space
 abbrev pub file_of : List (List ℕ) → Option Row
 file_of words = option_and_then (λ f. sized f.0 f.1 (percent_decode f.2)) (three number_of number_of last_word words)
+
+-- a symbolic link can lead there: it is a path of a tree, whatever names are in it
+abbrev pub is_target : List ℕ → Bool
+is_target bytes = not (length bytes == 0) && not (nat_lt LONGEST_PATH (length bytes)) && not (has_nul bytes)
+
+-- a symbolic link that can be
+abbrev pub linked : ℕ → List ℕ → Option Row
+linked node bytes = if is_target bytes then Some (File node Link bytes) else None
+
+-- `NODE TARGET`
+abbrev pub link_of : List (List ℕ) → Option Row
+link_of words = option_and_then (λ l. linked l.0 (percent_decode l.1)) (both number_of last_word words)
 
 -- `FD FILE ACCESS OFFSET`
 abbrev pub fd_of : List (List ℕ) → Option Row
@@ -42,7 +57,8 @@ row_by word words =
     if bytes_eq word (codes "dir") then folder_of words
     else (if bytes_eq word (codes "edge") then edge_of words
     else (if bytes_eq word (codes "file") then file_of words
-    else (if bytes_eq word (codes "fd") then fd_of words else None)))
+    else (if bytes_eq word (codes "link") then link_of words
+    else (if bytes_eq word (codes "fd") then fd_of words else None))))
 
 -- the row that a line tells, by its words
 abbrev pub row_of : List (List ℕ) → Option Row

@@ -1,8 +1,10 @@
 -- The tree that the rows of a report tell of.
-use Rattle.std.specs.Prelude.{◌≡◌, ◌⊎◌, ◌==◌, ℕ, Bool, true, false, not, List, [], ◌∷◌, ◌++◌, is_some, length, map, if◌then◌else◌, Option, None, Some}
+use Rattle.std.specs.Prelude.{◌≡◌, ◌⊎◌, ◌==◌, ℕ, Bool, true, false, not, List, [], ◌∷◌, ◌++◌, is_some, length, map, if◌then◌else◌, Option, None, Some, option_map}
 use Rattle.std.specs.Option.{option_map_or, unwrap_or}
 use Rattle.std.specs.FinMap as finite
 use Rattle.ft_cells.specs.declared.TheConstants.{DEFAULT_LINKS}
+use Rattle.ft_cells.specs.declared.node.Form.{Form}
+use Rattle.ft_cells.specs.declared.node.Form.TheVariants as forms
 use Rattle.ft_copy.specs.declared.found.TheConstants.{ROOT}
 use Rattle.ft_copy.specs.declared.found.FileFacts.{FileFacts}
 use Rattle.ft_copy.specs.declared.found.Found.{Found}
@@ -10,9 +12,10 @@ use Rattle.ft_copy.specs.declared.found.Found.TheVariants as found
 use Rattle.ft_copy.specs.declared.found.Listed.{Listed}
 use Rattle.ft_copy.specs.declared.trouble.Trouble.{Trouble}
 use Rattle.ft_copy.specs.declared.trouble.Trouble.TheVariants.{Memory, Read, BadName, BadTree}
-use Rattle.ft_copy.specs.Told.{Told, Lists, Finds, Holds, Omits, Keeps, Refuses, HasNoName}
+use Rattle.ft_copy.specs.Told.{Told, Lists, Finds, Holds, Leads, Omits, Keeps, Refuses, HasNoName}
 use Rattle.ft_save.specs.declared.row.Row.{Row}
 use Rattle.ft_save.specs.declared.row.Row.TheVariants.{Folder, Edge, File, Descriptor}
+use Rattle.ft_save.specs.declared.index.Content.{Content}
 use Rattle.ft_save.specs.declared.index.Edge.{Edge as IndexEdge}
 use Rattle.ft_save.specs.declared.index.Index.{Index}
 
@@ -23,27 +26,31 @@ abbrev pub own_in : List Row → ℕ → Option Bool
 own_in [] node = None
 own_in (Folder other ∷ rows) node = if other == node then Some (is_some (own_in rows node)) else own_in rows node
 own_in (Edge folder name other ∷ rows) node = own_in rows node
-own_in (File other bytes ∷ rows) node = if other == node then Some (is_some (own_in rows node)) else own_in rows node
+own_in (File other form bytes ∷ rows) node = if other == node then Some (is_some (own_in rows node)) else own_in rows node
 own_in (Descriptor ∷ rows) node = own_in rows node
 
 -- there is just one row of it, of a directory or a file
 abbrev pub has_one_row : List Row → ℕ → Bool
 has_one_row rows node = option_map_or not (own_in rows node) false
 
--- the bytes of a file, by the first row of it
-abbrev pub file_in : List Row → ℕ → Option (List ℕ)
+-- what a file holds, by the first row of it
+abbrev pub file_in : List Row → ℕ → Option Content
 file_in [] node = None
 file_in (Folder other ∷ rows) node = file_in rows node
 file_in (Edge folder name other ∷ rows) node = file_in rows node
-file_in (File other bytes ∷ rows) node = if other == node then Some bytes else file_in rows node
+file_in (File other form bytes ∷ rows) node = if other == node then Some (record { form = form; bytes = bytes }) else file_in rows node
 file_in (Descriptor ∷ rows) node = file_in rows node
+
+-- the bytes of a file: of a symbolic link, where it leads
+abbrev pub bytes_in : List Row → ℕ → Option (List ℕ)
+bytes_in rows node = option_map (λ (content : Content). content.bytes) (file_in rows node)
 
 -- the names in a directory, those of later rows first
 abbrev pub edges_in : List Row → ℕ → List Listed
 edges_in [] node = []
 edges_in (Folder other ∷ rows) node = edges_in rows node
 edges_in (Edge folder name other ∷ rows) node = if folder == node then edges_in rows node ++ record { name = name; node = other } ∷ [] else edges_in rows node
-edges_in (File other bytes ∷ rows) node = edges_in rows node
+edges_in (File other form bytes ∷ rows) node = edges_in rows node
 edges_in (Descriptor ∷ rows) node = edges_in rows node
 
 -- there are names in it
@@ -55,7 +62,7 @@ abbrev pub named_in : List Row → ℕ → Option Bool
 named_in [] node = None
 named_in (Folder other ∷ rows) node = named_in rows node
 named_in (Edge folder name other ∷ rows) node = if other == node then Some (is_some (named_in rows node)) else named_in rows node
-named_in (File other bytes ∷ rows) node = named_in rows node
+named_in (File other form bytes ∷ rows) node = named_in rows node
 named_in (Descriptor ∷ rows) node = named_in rows node
 
 -- there is more than one name
@@ -67,6 +74,11 @@ has_more rows node = unwrap_or (named_in rows node) false
 -- a file, with its number, its size, and how many names it has at most
 abbrev pub file_facts : ℕ → Bool → List ℕ → FileFacts
 file_facts node more bytes = record { id = record { device = 0; number = node }; links = if more then DEFAULT_LINKS else 1; size = length bytes }
+
+-- a file as it is found, by its form
+abbrev pub found_as : Form → FileFacts → Found
+found_as forms.Regular facts = found.File facts
+found_as forms.Link facts = found.Symlink facts
 
 -- the path of the root: no name leads there
 abbrev pub is_top : List ℕ → Bool
@@ -81,18 +93,24 @@ IsPlainFolder rows path node = (has_one_row rows node ≡ true) × (has_more row
 abbrev pub IsPlainFile : List Row → List ℕ → ℕ → Type 0
 IsPlainFile rows path node = (has_one_row rows node ≡ true) × (has_names rows node ≡ false) × (is_top path ≡ false)
 
--- What stands at a path, by its number: a plain file where there is a row of a file, or else a plain
--- directory.
+-- A plain file of this form, of which this is known.
+abbrev pub IsFile : List Row → List ℕ → ℕ → Form → FileFacts → Type 0
+IsFile rows path node form facts =
+    (bytes : List ℕ) × (file_in rows node ≡ Some (record { form = form; bytes = bytes })) × IsPlainFile rows path node × (facts ≡ file_facts node (has_more rows node) bytes)
+
+-- What stands at a path, by its number: a plain file where there is a row of a file, or of a symbolic
+-- link, or else a plain directory.
 abbrev pub IsFound : List Row → List ℕ → ℕ → Found → Type 0
 IsFound rows path node found.Folder = (file_in rows node ≡ None) × IsPlainFolder rows path node
-IsFound rows path node (found.File facts) = (bytes : List ℕ) × (file_in rows node ≡ Some bytes) × IsPlainFile rows path node × (facts ≡ file_facts node (has_more rows node) bytes)
+IsFound rows path node (found.File facts) = IsFile rows path node forms.Regular facts
+IsFound rows path node (found.Symlink facts) = IsFile rows path node forms.Link facts
 IsFound rows path node found.Special = ⊥
 
 -- a file with names in it or with no name that leads to it; or a directory that has more than one
 -- name, and the root where a name leads to it, or something else at the root
-abbrev pub IsMisplaced : Option (List ℕ) → List Row → List ℕ → ℕ → Type 0
+abbrev pub IsMisplaced : Option Content → List Row → List ℕ → ℕ → Type 0
 IsMisplaced None rows path node = (has_more rows node ≡ true) ⊎ ((node == ROOT) ≡ not (is_top path))
-IsMisplaced (Some bytes) rows path node = (has_names rows node ≡ true) ⊎ (is_top path ≡ true)
+IsMisplaced (Some content) rows path node = (has_names rows node ≡ true) ⊎ (is_top path ≡ true)
 
 -- neither a plain file nor a plain directory
 abbrev pub IsNothing : List Row → List ℕ → ℕ → Type 0
@@ -114,7 +132,8 @@ AreNames rows path node names = (names ≡ edges_in rows node) × (is_top path �
 abbrev pub Tells : List Row → Told → Type 0
 Tells rows (Lists path node names) = AreNames rows path node names
 Tells rows (Finds path node found) = IsFound rows path node found
-Tells rows (Holds path node bytes) = bytes ≡ file_in rows node
+Tells rows (Holds path node bytes) = bytes ≡ bytes_in rows node
+Tells rows (Leads path node to) = bytes_in rows node ≡ Some to
 Tells rows (Omits path) = ⊥
 Tells rows (Keeps path) = Unit {0}
 Tells rows (Refuses path node trouble) = IsRefused rows path node trouble

@@ -7,6 +7,7 @@ ghost use Rattle.ft_save.specs.Trees.{Indexes, PutsName};
 
 use crate::row::Row;
 use ft_base::{Memory, Sequence, Table};
+use ft_cells::Form;
 use std::alloc::Global;
 
 /// A name in a directory, which may be any bytes, and what it leads to.
@@ -14,6 +15,13 @@ use std::alloc::Global;
 pub(crate) struct Edge {
     pub(crate) name: Sequence<u8>,
     pub(crate) node: u64,
+}
+
+/// What a file holds: one that is a symbolic link, where it leads.
+#[derive(Drop)]
+pub(crate) struct Content {
+    pub(crate) form: Form,
+    pub(crate) bytes: Sequence<u8>,
 }
 
 /// The rows of a report, by the numbers that they tell of.
@@ -24,8 +32,8 @@ pub(crate) struct Index {
     pub(crate) own: Table<bool>,
     // the names in each directory
     pub(crate) edges: Table<Sequence<Edge>>,
-    // the bytes of each file
-    pub(crate) files: Table<Sequence<u8>>,
+    // what each file holds
+    pub(crate) files: Table<Content>,
     // what has a name, and whether it has more than one
     pub(crate) named: Table<bool>,
 }
@@ -85,8 +93,8 @@ fn add(index: &mut Index, row: Row) -> Result<(), Memory>
             index.named.insert(node, more)?;
             add_edge(index, folder, Edge { name, node })
         }
-        Row::File { node, bytes } => {
-            index.files.insert(node, bytes)?;
+        Row::File { node, form, bytes } => {
+            index.files.insert(node, Content { form, bytes })?;
             add_own(index, node)
         }
         Row::Descriptor => Ok(()),

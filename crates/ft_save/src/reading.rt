@@ -2,11 +2,13 @@
 ghost use Rattle.std.specs.Prelude.{◌≡◌, IfOk, Some, option_map};
 ghost use Rattle.percent_encoding.specs.Percent.{percent_decode};
 ghost use Rattle.ft_words.specs.Spelling.{number_of, words_of};
-ghost use Rattle.ft_words.specs.Calls.{last_word, only, three};
-ghost use Rattle.ft_save.specs.Reading.{count_of, edge_of, ends_a_line, fd_of, file_of, folder_of, last_tree, row_of, rows_of, tree_told};
+ghost use Rattle.ft_words.specs.Calls.{both, last_word, only, three};
+ghost use Rattle.ft_save.specs.Reading.{count_of, edge_of, ends_a_line, fd_of, file_of, folder_of, is_target, last_tree, link_of, row_of, rows_of, tree_told};
 
 use crate::row::Row;
 use ft_base::{Memory, Sequence};
+use ft_cells::Form;
+use ft_path::LONGEST_PATH;
 use ft_words::{Lines, Words, number_of};
 use percent_encoding::percent_decode;
 use std::alloc::Global;
@@ -98,6 +100,8 @@ fn row_in(alloc: Global, line: &[u8]) -> Result<Option<Row>, Memory>
         edge_in(alloc, words)
     } else if word == b"file".as_slice() {
         file_in(alloc, words)
+    } else if word == b"link".as_slice() {
+        link_in(alloc, words)
     } else if word == b"fd".as_slice() {
         Ok(fd_in(words))
     } else {
@@ -146,7 +150,11 @@ fn file_in(alloc: Global, words: Words<'_>) -> Result<Option<Row>, Memory>
     if bytes.len() as u64 != size {
         return Ok(None);
     }
-    Ok(Some(Row::File { node, bytes }))
+    Ok(Some(Row::File {
+        node,
+        form: Form::Regular,
+        bytes,
+    }))
 }
 
 // The same as words, the data as they are coded.
@@ -158,6 +166,41 @@ fn file_words<'a>(words: Words<'a>) -> Option<(u64, u64, &'a [u8])>
     let size = number_of(words.next()?)?;
     let data = words.last()?;
     Some((node, size, data))
+}
+
+// `NODE TARGET`
+fn link_in(alloc: Global, words: Words<'_>) -> Result<Option<Row>, Memory>
+    ensures { IfOk result (λ row. row ≡ link_of words.entry) }
+{
+    let Some((node, target)) = link_words(words) else {
+        return Ok(None);
+    };
+    let bytes = decoded(alloc, target)?;
+    if !is_target(bytes.as_slice()) {
+        return Ok(None);
+    }
+    Ok(Some(Row::File {
+        node,
+        form: Form::Link,
+        bytes,
+    }))
+}
+
+// The same as words, the target as it is coded.
+fn link_words<'a>(words: Words<'a>) -> Option<(u64, &'a [u8])>
+    ensures { option_map (λ l. (l.0, l.1.now)) result ≡ both number_of last_word words.entry }
+{
+    let mut words = words;
+    let node = number_of(words.next()?)?;
+    let target = words.last()?;
+    Some((node, target))
+}
+
+// Whether a symbolic link can lead there.
+fn is_target(bytes: &[u8]) -> bool
+    ensures { result ≡ is_target bytes.now }
+{
+    !bytes.is_empty() && bytes.len() <= LONGEST_PATH && !bytes.contains(&0)
 }
 
 // `FD FILE ACCESS OFFSET`

@@ -1,10 +1,11 @@
 // The tree of a report, as a source.
 ghost use Rattle.std.specs.Prelude.{◌≡◌, ◌⊎◌, map, IfErr, IfOk};
 ghost use Rattle.ft_copy.specs.Told.{HasNoName};
-ghost use Rattle.ft_save.specs.Trees.{listed};
+ghost use Rattle.ft_save.specs.Trees.{file_facts, found_as, listed};
 
-use crate::index::{Edge, Index};
-use ft_cells::DEFAULT_LINKS;
+use crate::index::{Content, Edge, Index};
+use ft_base::Sequence;
+use ft_cells::{DEFAULT_LINKS, Form};
 use ft_copy::{FileFacts, FileId, Found, Listed, ROOT, Source, Trouble, name_of};
 use std::alloc::Global;
 
@@ -40,18 +41,11 @@ impl<'a> Source for Reported<'a> {
             return Err(Trouble::BadTree);
         }
         let more = self.index.named.get(node).copied().unwrap_or(false);
-        if let Some(bytes) = self.index.files.get(node) {
+        if let Some(content) = self.index.files.get(node) {
             if path.is_empty() || self.index.has_names(node) {
                 return Err(Trouble::BadTree);
             }
-            return Ok(Found::File(FileFacts {
-                id: FileId {
-                    device: 0,
-                    number: node,
-                },
-                links: if more { DEFAULT_LINKS } else { 1 },
-                size: bytes.len() as u64,
-            }));
+            return Ok(found(node, more, content));
         }
         if more || path.is_empty() != (node == ROOT) {
             return Err(Trouble::BadTree);
@@ -61,13 +55,41 @@ impl<'a> Source for Reported<'a> {
 
     fn open(&self, _path: &[u8], node: u64) -> Result<&'a [u8], Trouble> {
         match self.index.files.get(node) {
-            Some(bytes) => Ok(bytes.as_slice()),
+            Some(content) => Ok(content.bytes.as_slice()),
+            None => Err(Trouble::Read),
+        }
+    }
+
+    fn read_link(&self, _path: &[u8], node: u64) -> Result<Sequence<u8>, Trouble> {
+        match self.index.files.get(node) {
+            Some(content) => {
+                let to = Vec::from_slice(self.index.alloc, content.bytes.as_slice())?;
+                Ok(to.into())
+            }
             None => Err(Trouble::Read),
         }
     }
 
     fn omits(&self, _path: &[u8]) -> Result<bool, Trouble> {
         Ok(false)
+    }
+}
+
+// A file as it is found, which may have more names than one.
+fn found(node: u64, more: bool, content: &Content) -> Found
+    ensures { result ≡ found_as content.now.form (file_facts node more content.now.bytes) }
+{
+    let facts = FileFacts {
+        id: FileId {
+            device: 0,
+            number: node,
+        },
+        links: if more { DEFAULT_LINKS } else { 1 },
+        size: content.bytes.len() as u64,
+    };
+    match content.form {
+        Form::Regular => Found::File(facts),
+        Form::Link => Found::Symlink(facts),
     }
 }
 

@@ -1,5 +1,6 @@
 // The rows of a report of what a tree holds.
 use ft_base::Sequence;
+use ft_cells::Form;
 
 /// One row of a report of what a tree holds.
 #[derive(Debug, PartialEq, Eq, Drop)]
@@ -14,9 +15,11 @@ pub enum Row {
         name: Sequence<u8>,
         node: u64,
     },
-    /// A file and its bytes.
+    /// A file of a form, regular or a symbolic link, and its bytes: those of a link say where it
+    /// leads.
     File {
         node: u64,
+        form: Form,
         bytes: Sequence<u8>,
     },
     /// A descriptor that is open.

@@ -32,8 +32,8 @@ pub enum SaveFault {
 }
 
 /// Reads replies to their end, and makes the tree that the report tells of with which they end:
-/// directories, files with their bytes, and further names as links. Descriptors, and files that
-/// have no name, are left out. A report behind which anything stands is not taken, and no file that
+/// directories, files with their bytes, further names as links, and behind all else the symbolic
+/// links. Descriptors, and files that have no name, are left out. A report behind which anything stands is not taken, and no file that
 /// is larger than these limits allow.
 pub fn save<R: Read, T: Target>(
     alloc: Global,

@@ -44,7 +44,7 @@ abbrev pub blockers_in : Last → List ℕ
 blockers_in (last.Answer answer) = blockers_answered answer
 blockers_in (last.Text text) = []
 
--- the bytes that a read has answered
+-- the bytes that a read, or a read of a target, has answered
 abbrev pub bytes_in : Last → Option (List ℕ)
 bytes_in (last.Answer answer) = bytes_answered answer
 bytes_in (last.Text text) = None

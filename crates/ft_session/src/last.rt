@@ -47,7 +47,7 @@ impl Last {
         }
     }
 
-    /// The bytes that a read has answered, if there is such an answer.
+    /// The bytes that a read, or a read of a target, has answered, if there is such an answer.
     pub fn bytes(&self) -> Option<&[u8]>
         ensures { option_map (λ bytes. bytes.now) result ≡ bytes_in self.now }
     {

@@ -285,9 +285,9 @@ impl<J: Sharing, C: Shareable> Shared<J, C> {
     /// on.
     ///
     /// It holds the lock while it replays the new calls, and while a reader that came before still
-    /// looks at the list before: a reader holds it up for one `stat`, `list` or `read_file`, and
-    /// takes no lock meanwhile. Refuses NoViews where the core has none, and then want of memory,
-    /// and then nothing more is published.
+    /// looks at the list before: a reader holds it up for one answer, and takes no lock meanwhile.
+    /// Refuses NoViews where the core has none, and then want of memory, and then nothing more is
+    /// published.
     pub fn publish<R: Wait>(&self, rt: &R) -> Result<(u64, Receipt<ViewsOf<J>>), Fault>
         ensures count { IfOk result (λ told. told.0 ≡ length told.1) }
         ensures committed { IfOk result (λ told. OfCoreFrom J.origin.from (λ state. told.1 ≡ committed_calls state)) }

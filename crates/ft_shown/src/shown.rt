@@ -2,6 +2,7 @@
 ghost use Rattle.std.specs.Prelude.{◌≡◌};
 
 use crate::tally::Tally;
+use ft_base::Sequence;
 use ft_copy::{Found, Listed, Source, Target, Trouble};
 use std::alloc::Global;
 use std::cell::RefCell;
@@ -46,7 +47,7 @@ impl<'a, R: Clock, S: Source, W: Write> ShownSource<'a, R, S, W> {
         if let Ok(mut tally) = self.tally.try_borrow_mut() {
             match found {
                 Found::Folder => tally.folder(),
-                Found::File(_) => tally.file(),
+                Found::File(_) | Found::Symlink(_) => tally.file(),
                 Found::Special => {}
             }
         }
@@ -70,6 +71,10 @@ impl<R: Clock, S: Source, W: Write> Source for ShownSource<'_, R, S, W> {
 
     fn open(&self, path: &[u8], node: u64) -> Result<S::File, Trouble> {
         self.source.open(path, node)
+    }
+
+    fn read_link(&self, path: &[u8], node: u64) -> Result<Sequence<u8>, Trouble> {
+        self.source.read_link(path, node)
     }
 
     // What is left out is told, and so the line makes place for it.
@@ -131,6 +136,11 @@ impl<R: Clock, T: Target, W: Write> Target for ShownTarget<'_, R, T, W> {
     fn link(&mut self, first: &[u8], path: &[u8]) -> Result<(), Trouble> {
         self.tally.file();
         self.target.link(first, path)
+    }
+
+    fn symlink(&mut self, to: &[u8], path: &[u8]) -> Result<(), Trouble> {
+        self.tally.file();
+        self.target.symlink(to, path)
     }
 
     fn finish(&mut self) -> Result<(), Trouble> {

@@ -39,7 +39,7 @@ impl<'a, R: Clock, W: Write> Tally<'a, R, W> {
         self.show();
     }
 
-    /// Counts a name of a file.
+    /// Counts a name of a file or of a symbolic link.
     pub(crate) fn file(&mut self) {
         self.files = self.files.saturating_add(1);
         self.show();

@@ -18,6 +18,8 @@ pub enum Line<'a> {
     /// To read and write, and made where it is not there.
     Open(u64, &'a [u8]),
     Unlink(u64, &'a [u8]),
+    /// Its target, and then its path.
+    Symlink(u64, &'a [u8], &'a [u8]),
     Rename(u64, &'a [u8], &'a [u8]),
     Close(u64, u64),
     Write(u64, u64, &'a [u8]),
@@ -49,6 +51,8 @@ pub enum Wanted<'a> {
     Bytes(u64, &'a [u8]),
     /// Of a file: its number, its links and its size.
     File(u64, [u64; 3]),
+    /// The same of a symbolic link.
+    Link(u64, [u64; 3]),
     Waits(u64),
     Dropped,
     Committed,
@@ -75,6 +79,11 @@ fn path_call(alloc: Global, line: Line) -> Result<(u64, Call), Fail> {
         Line::Unlink(txn, path) => {
             let path = FilePath::new(alloc, path)?;
             Ok((txn, Call::Unlink { path }))
+        }
+        Line::Symlink(txn, target, path) => {
+            let target = FilePath::new(alloc, target)?;
+            let path = FilePath::new(alloc, path)?;
+            Ok((txn, Call::Symlink { target, path }))
         }
         Line::Rename(txn, old, new) => {
             let old = FilePath::new(alloc, old)?;
@@ -139,6 +148,19 @@ fn are_names(names: &[(Name, Kind)], wanted: &[u8]) -> bool {
     all.copied().eq(wanted.iter().copied())
 }
 
+/// Whether a reply tells of such a thing, with this number, so many links and this size.
+fn is_info(reply: &Reply, wanted: Kind, numbers: [u64; 3]) -> bool {
+    match reply {
+        Reply::Info {
+            kind,
+            number,
+            links,
+            size,
+        } => *kind == wanted && [*number, *links, *size] == numbers,
+        _ => false,
+    }
+}
+
 /// Whether a reply is the one that is wanted, with this number: the stamp of a granted call.
 pub fn is_reply(stamp: u64, reply: &Reply, wanted: Wanted) -> bool {
     match (reply, wanted) {
@@ -158,15 +180,12 @@ pub fn is_reply(stamp: u64, reply: &Reply, wanted: Wanted) -> bool {
                 && are_names(names.as_slice(), wanted)
                 && names.as_slice().iter().all(|(_, kind)| *kind == Kind::Dir)
         }
-        (
-            Reply::Info {
-                kind: Kind::File,
-                number: file,
-                links,
-                size,
-            },
-            Wanted::File(number, wanted),
-        ) => stamp == number && [*file, *links, *size] == wanted,
+        (reply, Wanted::File(number, wanted)) => {
+            stamp == number && is_info(reply, Kind::File, wanted)
+        }
+        (reply, Wanted::Link(number, wanted)) => {
+            stamp == number && is_info(reply, Kind::Link, wanted)
+        }
         _ => false,
     }
 }

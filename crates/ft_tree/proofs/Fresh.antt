@@ -47,14 +47,14 @@ module _ (limits : TreeLimits) where
   fresh-edges : edges_from (entries (fresh_cells limits).directories) ≡ []
   fresh-edges =
       ap edges_from (entries-insert nat_cmp_total empty 1 no_dir ∙ ap (put nat_cmp 1 no_dir) (entries-empty nat_cmp DirCells))
-      ∙ ap (λ places. map (λ (x : List ℕ × Node). (entry_at 1 x.0, number_of x.1)) (filter_map filled places) ++ []) (entries-empty (slice_cmp nat_cmp) (Option Node))
+      ∙ ap (λ places. map (λ (x : List ℕ × Node). (entry_at 1 x.0, x.1)) (filter_map filled places) ++ []) (entries-empty (slice_cmp nat_cmp) (Option Node))
 
   -- the edges to a number, in a list of edges
-  abbrev edges_to : ℕ → List (DirEntry × ℕ) → ℕ
-  edges_to i es = length (filter (λ e. e.1 == i) (entries (from_entries {R = entry_cmp} es)))
+  abbrev edges_to : ℕ → List (DirEntry × Node) → ℕ
+  edges_to i es = length (filter (λ e. number_of e.1 == i) (entries (from_entries {R = entry_cmp} es)))
 
   fresh-edges_to : (i : ℕ) → edges_to i (edges_from (entries (fresh_cells limits).directories)) ≡ 0
-  fresh-edges_to i = ap (edges_to i) fresh-edges ∙ ap (λ es. length (filter (λ (e : DirEntry × ℕ). e.1 == i) es)) (entries-empty entry_cmp ℕ)
+  fresh-edges_to i = ap (edges_to i) fresh-edges ∙ ap (λ es. length (filter (λ (e : DirEntry × Node). number_of e.1 == i) es)) (entries-empty entry_cmp Node)
 
   fresh-links : (i : ℕ) → links_of (fresh_cells limits) i ≡ view_in (tidy (fresh_cells limits)) (Links i)
   fresh-links i =
@@ -75,7 +75,7 @@ module _ (limits : TreeLimits) where
       top = fresh-parent 1;
       starts = λ d name x h. absurd (no_value _ _ (fresh-entry d name) h);
       leads = λ d name i h. absurd (no_value _ _ (fresh-entry d name) h);
-      apart = λ d name i h. absurd (no_value _ _ (fresh-entry d name) h);
+      apart = λ d name form i h. absurd (no_value _ _ (fresh-entry d name) h);
       stands = λ d p h. absurd (no_value _ _ (fresh-parent d) h);
       once = λ d name other i h g. absurd (no_value _ _ (fresh-entry d name) h);
       hangs = λ d p h. absurd (no_value _ _ (fresh-parent d) h);

@@ -1,4 +1,5 @@
 pub mod Reading
+pub mod Following
 pub mod TidyRows
 pub mod Fresh
 pub mod Swept

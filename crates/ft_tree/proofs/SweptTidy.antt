@@ -13,7 +13,6 @@ use Rattle.ft_cells.specs.declared.node.Node.{Node}
 use Rattle.ft_cells.specs.declared.open_file.OpenFile.{OpenFile}
 use Rattle.ft_cells.specs.declared.cell.Cell.{Cell}
 use Rattle.ft_cells.specs.declared.cell.Cell.TheVariants.{Entry, Parent, Links, Fd}
-use Rattle.ft_cells.specs.Nodes.{number_of}
 use Rattle.ft_cells.specs.Cells.{Cells, DirCells, FileCells, Opens, no_dir, no_file, dir_of, dir_names, filled, is_there, has_file, is_open, without_dir_place, put_dir}
 use Rattle.ft_tree.specs.Held.{without_place}
 use Rattle.ft_cells.specs.declared.entry.Entry.{Entry as DirEntry}
@@ -27,7 +26,7 @@ use Rattle.ft_tree.proofs.Swept.{bare, not_there}
 
 -- The lists as they are gathered, entry by entry.
 
-abbrev edges_of : ℕ × DirCells → List (DirEntry × ℕ) → List (DirEntry × ℕ)
+abbrev edges_of : ℕ × DirCells → List (DirEntry × Node) → List (DirEntry × Node)
 edges_of e r = edges_at e ++ r
 
 edges-gather : (es : List (ℕ × DirCells)) → edges_from es ≡ gather nat_cmp_total exact_unsigned edges_of [] es
@@ -129,7 +128,7 @@ module _ (kept : Cell → Bool) (cells : Cells) where
       let away : is_there d x ≡ false = ap (λ o. option_map_or (is_there d) o false) (sym is) ∙ not_there kept cells d spare in
       let edges : edges_from (entries (remove cells.directories d)) ≡ edges_from (entries cells.directories) =
       edges-gather (entries (remove cells.directories d))
-      ∙ gather-remove nat_cmp_total exact_unsigned edges_of [] cells.directories d x (tied-itself nat_cmp_total d) is (λ r. ap (λ ns. map (λ (y : List ℕ × Node). (entry_at d y.0, number_of y.1)) ns ++ r) nameless)
+      ∙ gather-remove nat_cmp_total exact_unsigned edges_of [] cells.directories d x (tied-itself nat_cmp_total d) is (λ r. ap (λ ns. map (λ (y : List ℕ × Node). (entry_at d y.0, y.1)) ns ++ r) nameless)
       ∙ sym (edges-gather (entries cells.directories)) in
       let dirs : dirs_from (entries (remove cells.directories d)) ≡ dirs_from (entries cells.directories) =
       dirs-gather (entries (remove cells.directories d))
@@ -145,7 +144,7 @@ module _ (kept : Cell → Bool) (cells : Cells) where
       let edges : edges_from (entries (insert cells.directories d less)) ≡ edges_from (entries cells.directories) =
       edges-gather (entries (insert cells.directories d less))
       ∙ gather-insert nat_cmp_total exact_unsigned edges_of [] cells.directories d less (λ r.
-      ap (λ o. part nat_cmp_total exact_unsigned edges_of [] d o r) is ∙ ap (λ ns. map (λ (y : List ℕ × Node). (entry_at d y.0, number_of y.1)) ns ++ r) (sym (names-without x name place)))
+      ap (λ o. part nat_cmp_total exact_unsigned edges_of [] d o r) is ∙ ap (λ ns. map (λ (y : List ℕ × Node). (entry_at d y.0, y.1)) ns ++ r) (sym (names-without x name place)))
       ∙ sym (edges-gather (entries cells.directories)) in
       let dirs : dirs_from (entries (insert cells.directories d less)) ≡ dirs_from (entries cells.directories) =
       dirs-gather (entries (insert cells.directories d less))

@@ -15,7 +15,6 @@ use Rattle.ft_cells.specs.declared.node.Node.{Node}
 use Rattle.ft_cells.specs.declared.open_file.OpenFile.{OpenFile}
 use Rattle.ft_cells.specs.declared.row.TreeRow.TheVariants.{Edge as EdgeRow}
 use Rattle.std.specs.List.{filter_map}
-use Rattle.ft_cells.specs.Nodes.{number_of}
 use Rattle.ft_cells.specs.Cells.{Cells, DirCells, FileCells, Opens, dir_names, filled, is_there}
 use Rattle.ft_tree.specs.Tidy.{tidy, edges_at, edges_from, dirs_from, member, is_named, files_from, opens_from}
 use Rattle.ft_cells.specs.Rows.{dir_rows, edge_rows, named_rows, file_rows, open_rows, rows_of}
@@ -42,8 +41,8 @@ dirs_sorted (e ∷ es) h = by_test (is_there e.0 e.1) (dirs_sorted es (second _ 
 
 -- The edges.
 
-abbrev edges_at_named : ℕ → List (List ℕ × Node) → List (Entry × ℕ)
-edges_at_named d names = map (λ x. (entry_at d x.0, number_of x.1)) names
+abbrev edges_at_named : ℕ → List (List ℕ × Node) → List (Entry × Node)
+edges_at_named d names = map (λ x. (entry_at d x.0, x.1)) names
 
 -- from one directory to a later one
 later_edge : (k d : ℕ) (n m : List ℕ) → T (is_lt (nat_cmp k d)) → T (is_lt (entry_cmp (entry_at k n) (entry_at d m)))
@@ -67,7 +66,7 @@ below_named d n (x ∷ names) h = both _ _ (same_dir (nat_cmp d d) (tied_itself 
     same_dir r is h = subst (λ q. T (is_lt (ordering_then q (slice_cmp nat_cmp n x.0)))) (sym is) h
 
 -- and then those of later directories
-names_before : (d : ℕ) (names : List (List ℕ × Node)) (rest : List (Entry × ℕ)) → T (is_sorted (slice_cmp nat_cmp) names) → T (is_sorted entry_cmp rest) → ((n : List ℕ) → T (below_all entry_cmp (entry_at d n) rest)) → T (is_sorted entry_cmp (edges_at_named d names ++ rest))
+names_before : (d : ℕ) (names : List (List ℕ × Node)) (rest : List (Entry × Node)) → T (is_sorted (slice_cmp nat_cmp) names) → T (is_sorted entry_cmp rest) → ((n : List ℕ) → T (below_all entry_cmp (entry_at d n) rest)) → T (is_sorted entry_cmp (edges_at_named d names ++ rest))
 names_before d [] rest h up later = up
 names_before d (x ∷ names) rest h up later =
     both _ _ (below_append entry_cmp (entry_at d x.0) (edges_at_named d names) rest (below_named d x.0 names (first _ _ h)) (later x.0)) (names_before d names rest (second _ _ h) up later)
@@ -144,9 +143,9 @@ rows-tidy cells =
     sym (λ i. dir_rows (dirs i) ++ edge_rows (edges i) ++ file_rows (files i) ++ open_rows (opens i))
 
 -- the rows of one directory's edges are those of its names
-pub edge_rows-at : (e : ℕ × DirCells) (es : List (Entry × ℕ)) → edge_rows (edges_at e ++ es) ≡ named_rows e.0 (dir_names e.1) ++ edge_rows es
+pub edge_rows-at : (e : ℕ × DirCells) (es : List (Entry × Node)) → edge_rows (edges_at e ++ es) ≡ named_rows e.0 (dir_names e.1) ++ edge_rows es
 edge_rows-at e es = by_names (dir_names e.1)
   where
     by_names : (names : List (List ℕ × Node)) → edge_rows (edges_at_named e.0 names ++ es) ≡ named_rows e.0 names ++ edge_rows es
     by_names [] = refl
-    by_names (x ∷ names) = ap (λ rows. EdgeRow (entry_at e.0 x.0) (number_of x.1) ∷ rows) (by_names names)
+    by_names (x ∷ names) = ap (λ rows. EdgeRow (entry_at e.0 x.0) x.1 ∷ rows) (by_names names)

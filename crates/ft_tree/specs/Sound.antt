@@ -2,10 +2,11 @@
 -- descriptions that belong to it (POSIX.1-2017, Base Definitions, 3 and 4.13). That a directory
 -- has one edge is a rule of this project, since POSIX leaves hard links of directories open
 -- (System Interfaces, link, EPERM).
-use Rattle.std.specs.Prelude.{◌≡◌, ◌≢◌, ◌≤◌, ℕ, true, false, ◌||◌, List, [], Option, Some, None}
+use Rattle.std.specs.Prelude.{◌≡◌, ◌≢◌, ◌≤◌, ℕ, true, false, List, [], Option, Some, None}
 use Rattle.std.specs.FinMap as finite
 use Rattle.ft_cells.specs.declared.node.Node.{Node}
 use Rattle.ft_cells.specs.declared.node.Node.TheVariants.{Dir as DirNode, File as FileNode}
+use Rattle.ft_cells.specs.declared.node.Form.{Form}
 use Rattle.ft_cells.specs.declared.entry.Entry.{Entry as DirEntry}
 use Rattle.ft_cells.specs.declared.cell.Cell.{Cell}
 use Rattle.ft_cells.specs.declared.cell.Cell.TheVariants.{Entry, Names, Parent, Links, Bytes, Fd}
@@ -22,19 +23,24 @@ pub data Hangs (parent : ℕ → Option ℕ) : ℕ → Type 0 where
   the_root : Hangs parent 1
   under : (d p : ℕ) → parent d ≡ Some p → Hangs parent p → Hangs parent d
 
+-- a node is there: a directory is one, and a file has bytes
+abbrev pub Stands : PlainTree → Node → Type 0
+Stands p (DirNode i) = finite.contains_key p.dirs i ≡ true
+Stands p (FileNode form i) = finite.contains_key p.files i ≡ true
+
 -- A plain tree that is sound.
 pub record IsSoundTree (p : PlainTree) : Type 0 where
   -- the root is a directory, and no edge leads to it
   pub root : finite.contains_key p.dirs 1 ≡ true
-  pub top : (e : DirEntry) → finite.get p.edges e ≢ Some 1
-  -- an edge starts in a directory, and leads to a directory or a file
-  pub starts : (e : DirEntry) (i : ℕ) → finite.get p.edges e ≡ Some i → finite.contains_key p.dirs e.dir ≡ true
-  pub leads : (e : DirEntry) (i : ℕ) → finite.get p.edges e ≡ Some i → (finite.contains_key p.dirs i || finite.contains_key p.files i) ≡ true
+  pub top : (e : DirEntry) (x : Node) → finite.get p.edges e ≡ Some x → number_of x ≢ 1
+  -- an edge starts in a directory, and leads to a directory, or to a file
+  pub starts : (e : DirEntry) (x : Node) → finite.get p.edges e ≡ Some x → finite.contains_key p.dirs e.dir ≡ true
+  pub leads : (e : DirEntry) (x : Node) → finite.get p.edges e ≡ Some x → Stands p x
   -- no number is both
   pub apart : (i : ℕ) → finite.contains_key p.dirs i ≡ true → finite.contains_key p.files i ≡ false
   -- every directory but the root has exactly one edge
-  pub stands : (i : ℕ) → finite.contains_key p.dirs i ≡ true → i ≢ 1 → (e : DirEntry) × (finite.get p.edges e ≡ Some i)
-  pub once : (i : ℕ) → finite.contains_key p.dirs i ≡ true → (e f : DirEntry) → finite.get p.edges e ≡ Some i → finite.get p.edges f ≡ Some i → e ≡ f
+  pub stands : (i : ℕ) → finite.contains_key p.dirs i ≡ true → i ≢ 1 → (e : DirEntry) × (finite.get p.edges e ≡ Some (DirNode i))
+  pub once : (i : ℕ) → finite.contains_key p.dirs i ≡ true → (e f : DirEntry) → finite.get p.edges e ≡ Some (DirNode i) → finite.get p.edges f ≡ Some (DirNode i) → e ≡ f
   -- none is below itself
   pub hangs : (d : ℕ) → finite.contains_key p.dirs d ≡ true → Hangs (parent_in p) d
   -- every description names a file
@@ -52,7 +58,7 @@ pub record IsTree (entry : ℕ → List ℕ → Option Node) (parent : ℕ → O
   pub starts : (d : ℕ) (name : List ℕ) (x : Node) → entry d name ≡ Some x → Hangs parent d
   -- and leads to a directory whose parent has this entry, or to a file
   pub leads : (d : ℕ) (name : List ℕ) (i : ℕ) → entry d name ≡ Some (DirNode i) → parent i ≡ Some d
-  pub apart : (d : ℕ) (name : List ℕ) (i : ℕ) → entry d name ≡ Some (FileNode i) → IsNoDir parent i
+  pub apart : (d : ℕ) (name : List ℕ) (form : Form) (i : ℕ) → entry d name ≡ Some (FileNode form i) → IsNoDir parent i
   -- a directory stands in its parent, under one name
   pub stands : (d p : ℕ) → parent d ≡ Some p → (name : List ℕ) × (entry p name ≡ Some (DirNode d))
   pub once : (d : ℕ) (name other : List ℕ) (i : ℕ) → entry d name ≡ Some (DirNode i) → entry d other ≡ Some (DirNode i) → name ≡ other

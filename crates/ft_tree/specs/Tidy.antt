@@ -6,17 +6,17 @@ use Rattle.std.specs.Option.{option_map}
 use Rattle.std.specs.FinMap as finite
 use Rattle.ft_cells.specs.declared.entry.Entry.{Entry}
 use Rattle.ft_cells.specs.Entries.{entry_at}
-use Rattle.ft_cells.specs.Nodes.{number_of}
+use Rattle.ft_cells.specs.declared.node.Node.{Node}
 use Rattle.ft_cells.specs.declared.open_file.OpenFile.{OpenFile}
 use Rattle.ft_cells.specs.Cells.{Cells, DirCells, FileCells, Opens, dir_names, is_there, is_open}
 use Rattle.ft_cells.specs.Plain.{PlainTree}
 
 -- the entries of one stored directory, as edges
-abbrev pub edges_at : ℕ × DirCells → List (Entry × ℕ)
-edges_at e = map (λ x. (entry_at e.0 x.0, number_of x.1)) (dir_names e.1)
+abbrev pub edges_at : ℕ × DirCells → List (Entry × Node)
+edges_at e = map (λ x. (entry_at e.0 x.0, x.1)) (dir_names e.1)
 
 -- those of all of them
-abbrev pub edges_from : List (ℕ × DirCells) → List (Entry × ℕ)
+abbrev pub edges_from : List (ℕ × DirCells) → List (Entry × Node)
 edges_from [] = []
 edges_from (e ∷ es) = edges_at e ++ edges_from es
 

@@ -1,14 +1,14 @@
 // A tree that is read, one place after another.
-ghost use Rattle.std.specs.Prelude.{◌≡◌, ◌↔◌, [], IsTrue, refl};
+ghost use Rattle.std.specs.Prelude.{◌≡◌, ◌↔◌, [], IsTrue, IfOk, refl};
 ghost use Rattle.std.specs.Option.{option_copied};
-ghost use Rattle.ft_cells.specs.Cells.{entry_of, parent_of, links_of, names_of, body_in, open_of};
+ghost use Rattle.ft_cells.specs.Cells.{entry_of, parent_of, links_of, names_of, bytes_of, body_in, open_of};
 
 use crate::reader::Reader;
 use crate::tree::Tree;
+use ft_base::Memory;
 use ft_body::Body;
 use ft_cells::{Hint, Node, OpenFile};
 use ft_path::Name;
-use std::convert::Infallible;
 use std::marker::Model;
 
 /// A tree that is read, and where in it something was found last.
@@ -93,6 +93,16 @@ impl<'t> Cursor<'t> {
         self.tree.body_near(file, self.near)
     }
 
+    /// The target of a symbolic link: all its bytes.
+    pub fn target(&self, link: u64) -> Result<Vec<u8>, Memory>
+        ensures { IfOk result (λ target. target.items ≡ bytes_of self.now link) }
+    {
+        match self.body(link) {
+            Some(body) => body.read_at(0, body.len()),
+            None => Ok(Vec::new(self.tree.allocator())),
+        }
+    }
+
     /// A file's number, to read or write the file later from where something was found last.
     pub fn hinted(&self, file: u64) -> HintedFile
         ensures { result ≡ file }
@@ -146,19 +156,21 @@ impl HintedFile {
 
 /// A tree that is read, and no account kept of what is read.
 impl<'t> Reader for Cursor<'t> {
-    type Want = Infallible;
-
     ghost cells = { λ cursor. cursor };
 
     ghost noted = { λ cursor _. cursor };
 
     ghost stays = { λ _ _. refl };
 
-    fn entry(&mut self, dir: u64, name: &Name) -> Result<Option<Node>, Infallible> {
+    fn entry(&mut self, dir: u64, name: &Name) -> Result<Option<Node>, Memory> {
         Ok(Cursor::entry(self, dir, name))
     }
 
-    fn parent(&mut self, dir: u64) -> Result<Option<u64>, Infallible> {
+    fn parent(&mut self, dir: u64) -> Result<Option<u64>, Memory> {
         Ok(Cursor::parent(self, dir))
+    }
+
+    fn target(&mut self, link: u64) -> Result<Vec<u8>, Memory> {
+        Cursor::target(self, link)
     }
 }

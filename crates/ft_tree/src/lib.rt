@@ -15,8 +15,8 @@ mod tree;
 
 pub use cursor::{Cursor, HintedFile};
 pub use ft_cells::{
-    AccessMode, Cell, Entry, EntryRef, Found, Kind, Node, OpenFile, Spot, TreeLimits, TreeRow,
+    AccessMode, Cell, Entry, EntryRef, Form, Found, Kind, Node, OpenFile, Spot, TreeLimits, TreeRow,
 };
 pub use keeps::Keeps;
-pub use reader::{Reader, walk};
+pub use reader::{Halt, MOST_FOLLOWED, Reader, Way, walk};
 pub use tree::{ROOT, Tree};

@@ -24,7 +24,7 @@ use crate::reader::walk;
 use crate::rows::{push_dirs, push_edges, push_files, push_opens};
 use ft_base::Memory;
 use ft_body::{Body, BodyUndo};
-use ft_cells::{Cell, Entry, Found, Hint, Kind, Node, OpenFile, Spot, TreeLimits, TreeRow};
+use ft_cells::{Cell, Entry, Form, Found, Hint, Kind, Node, OpenFile, Spot, TreeLimits, TreeRow};
 use ft_descriptions::Descriptions;
 use ft_inodes::{Directory, File, Inodes};
 use ft_path::{Errno, Name, Parts};
@@ -285,7 +285,7 @@ impl Tree {
         ensures err { OnErr result (self.new ≡ self.old) }
         ensures place { HasFilePlace self.old file → IsOk result }
     {
-        let Some(near) = self.inodes.find(Node::File(file), self.near) else {
+        let Some(near) = self.inodes.find(Node::File(Form::Regular, file), self.near) else {
             self.near = self.inodes.add_file(file, File::new(self.alloc, links))?;
             return Ok(None);
         };
@@ -317,7 +317,9 @@ impl Tree {
         ensures nothing { fitting LARGEST_SIZE bytes.now offset ≡ [] → IsOk result }
     {
         let number = file.number;
-        self.near = self.inodes.hint_of(Node::File(number), self.hint_at(&file));
+        self.near = self
+            .inodes
+            .hint_of(Node::File(Form::Regular, number), self.hint_at(&file));
         match self.inodes.file_mut(number, self.near) {
             Some(stored) => stored.write_at(offset, bytes),
             None => unreachable!(),
@@ -338,7 +340,9 @@ impl Tree {
         ensures same { length (bytes_of self.old file) ≡ size → IsOk result }
     {
         let number = file.number;
-        self.near = self.inodes.hint_of(Node::File(number), self.hint_at(&file));
+        self.near = self
+            .inodes
+            .hint_of(Node::File(Form::Regular, number), self.hint_at(&file));
         match self.inodes.file_mut(number, self.near) {
             Some(stored) => stored.set_len(size),
             None => unreachable!(),
@@ -352,7 +356,9 @@ impl Tree {
         requires left { bytes_of self.old file ≡ undo.after }
         ensures { self.new ≡ put_bytes self.old file undo.before }
     {
-        self.near = self.inodes.hint_of(Node::File(file), self.near);
+        self.near = self
+            .inodes
+            .hint_of(Node::File(Form::Regular, file), self.near);
         match self.inodes.file_mut(file, self.near) {
             Some(stored) => stored.undo(undo),
             None => unreachable!(),
@@ -379,7 +385,7 @@ impl Tree {
             Some((_, near)) => near,
             None => self.near,
         };
-        self.near = self.hint_to(to.map(|open| Node::File(open.file)), near);
+        self.near = self.hint_to(to.map(|open| Node::File(Form::Regular, open.file)), near);
         self.opens.set(fd, to, self.near)
     }
 
@@ -519,20 +525,20 @@ impl Tree {
     }
 
     /// What a path leads to, with the refusals of `walk`. A missing last name is a place without
-    /// number; what a slash behind it means is for the call to judge.
-    pub fn lookup(&self, parts: &Parts) -> Result<Found, Errno>
-        ensures { result ≡ found (answer (walk parts.now.names parts.now.trailing) (view_of self.now)) }
+    /// number; what a slash behind it means is for the call to judge. Refuses want of memory, for a
+    /// long last name or for the target of a symbolic link that is followed.
+    pub fn lookup(&self, follow: bool, parts: &Parts) -> Result<Result<Found, Errno>, Memory>
+        ensures { IfOk result (λ end. end ≡ found (answer (walk follow parts.now.names parts.now.trailing) (view_of self.now))) }
     {
         let mut cursor = Cursor::new(self);
-        let Ok(end) = walk(&mut cursor, parts.names.as_slice(), parts.trailing);
-        match end {
-            Ok(Spot::Named { entry, node }) => Ok(Found::Place {
-                dir: entry.dir,
-                number: node.map(Node::number),
-            }),
-            Ok(Spot::Itself(number)) => Ok(Found::Whole { number }),
-            Err(errno) => Err(errno),
-        }
+        let names = parts.names.as_slice();
+        let end = walk(self.alloc, &mut cursor, follow, names, parts.trailing)?;
+        Ok(found(end))
+    }
+
+    /// The allocator that the tree was made with.
+    pub(crate) fn allocator(&self) -> Global {
+        self.alloc
     }
 
     /// What the tree holds: the directories by number, then the entries by directory and name, the
@@ -647,6 +653,20 @@ impl Tree {
         ensures { result ≡ has_file self.now number }
     {
         self.links(number) > 0 || self.opens.is_open(number)
+    }
+}
+
+/// What a path leads to, of the end of its walk.
+fn found(end: Result<Spot, Errno>) -> Result<Found, Errno>
+    ensures { result ≡ found end }
+{
+    match end {
+        Ok(Spot::Named { entry, node, .. }) => Ok(Found::Place {
+            dir: entry.dir,
+            number: node.map(Node::number),
+        }),
+        Ok(Spot::Itself(number)) => Ok(Found::Whole { number }),
+        Err(errno) => Err(errno),
     }
 }
 

@@ -1,5 +1,5 @@
 // What takes the calls of each transaction back.
-ghost use Rattle.std.specs.Prelude.{◌≡◌, ◌≢◌, [], true, false, Some, None, OnOk, OnErr, IfErr};
+ghost use Rattle.std.specs.Prelude.{◌≡◌, ◌≢◌, ◌<◌, ◌^◌, [], true, false, Some, None, length, OnOk, OnErr, IfErr};
 ghost use Rattle.std.specs.Option.{option_map};
 ghost use Rattle.ft_base.specs.Chains.{list_in};
 ghost use Rattle.ft_history.specs.Logs.{put, pushed, popped, handed};
@@ -25,8 +25,8 @@ pub struct Logged {
 /// The undo logs: for each open transaction a list of what takes its calls back, the newest first.
 ///
 /// A transaction is open from its begin to its end. Each call takes the time to find its
-/// transactions by a hash, however many are open and however long their lists are; only `close`
-/// takes the time of what it drops besides.
+/// transactions by a hash, however many are open and however long their lists are; only `len` and
+/// `close` take the time of the list besides.
 pub struct Logs {
     chains: Chains<Logged>,
 }
@@ -150,6 +150,14 @@ impl Logs {
         ensures { result ≡ option_map (λ logged. logged.stamp) (newest_of (list_in self.now txn)) }
     {
         Some(self.chains.first(txn)?.stamp)
+    }
+
+    /// How many calls are in a transaction's list; none where it is not open.
+    pub fn len(&self, txn: u64) -> usize
+        requires few { length (list_in self.now txn) < 2 ^ 64 }
+        ensures count { result ≡ length (list_in self.now txn) }
+    {
+        self.chains.values(txn).count()
     }
 
     /// Takes out what takes back the newest call in a transaction's list, where there is one. Takes

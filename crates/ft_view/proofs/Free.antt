@@ -61,7 +61,7 @@ free_number cells sound k above kind body closed = made_free cells k above paren
 
     entries : (d : ℕ) (name : List ℕ) (x : Node) → entry_of cells d name ≡ Some x → number_of x ≢ k
     entries d name (DirNode i) is e = absurd (cc (sym parent ∙ subst (λ (j : ℕ). parent_of cells j ≡ Some d) e (sound.tree.leads d name i is)))
-    entries d name (FileNode i) is e =
+    entries d name (FileNode form i) is e =
         let unnamed = nameless cells sound k file (Entry (record { dir = d; name = name })) in
         false≢true (sym unnamed ∙ subst (λ (o : Option Node). node_names o k ≡ true) (sym is) (eq-eqb i k e))
 

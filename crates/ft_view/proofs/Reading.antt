@@ -1,14 +1,17 @@
 -- What is read of a file through an Open that is not made.
-use Rattle.std.proofs.Common.{◌≡◌, ◌≢◌, ℕ, ◌+◌, Bool, false, List, [], ◌∷◌, Option, Some, None, Result, Ok, Err, ◌⊎◌, inl, inr, refl, sym, ap, ◌∙◌, subst, arith}
+use Rattle.std.proofs.Common.{◌≡◌, ◌≢◌, ℕ, ◌+◌, true, false, List, [], ◌∷◌, Option, Some, None, Result, Ok, Err, ◌⊎◌, inl, inr, refl, sym, ap, ◌∙◌, subst, arith}
 use Rattle.ft_body.specs.declared.TheConstants.{LARGEST_SIZE}
 use Rattle.ft_body.specs.Bytes.{bytes_at}
 use Rattle.ft_path.specs.declared.errno.Errno.{Errno}
-use Rattle.ft_path.specs.declared.errno.Errno.TheVariants.{ENOENT, EISDIR}
+use Rattle.ft_path.specs.declared.errno.Errno.TheVariants.{ENOENT, EISDIR, ELOOP}
 use Rattle.ft_path.specs.declared.path.Parts.{Parts}
 use Rattle.ft_path.specs.FilePath.{parts_of}
 use Rattle.ft_cells.specs.declared.cell.Cell.{Cell}
 use Rattle.ft_cells.specs.declared.cell.Cell.TheVariants as cell
+use Rattle.ft_cells.specs.declared.node.Form.TheVariants.{Regular, Link}
 use Rattle.ft_cells.specs.declared.node.Node.TheVariants.{Dir as DirNode, File as FileNode}
+use Rattle.ft_cells.specs.declared.node.Spot.{Spot}
+use Rattle.ft_cells.specs.declared.node.Spot.TheVariants.{Named, Itself}
 use Rattle.ft_cells.specs.declared.open_file.OpenFile.{OpenFile}
 use Rattle.ft_cells.specs.declared.open_file.AccessMode.TheVariants.{ReadOnly}
 use Rattle.ft_cells.specs.Cells.{Cells, bytes_of, put_open}
@@ -17,7 +20,7 @@ use Rattle.ft_tree.specs.Held.{Holds}
 use Rattle.ft_tree.specs.Sound.{AreSoundCells, IsFree}
 use Rattle.ft_tree.specs.Tidy.{tidy}
 use Rattle.ft_tree.specs.Views.{view_of}
-use Rattle.ft_tree.specs.Walk.{Spot, Named, Itself, walk}
+use Rattle.ft_tree.specs.Walk.{walk}
 use Rattle.ft_posix.specs.declared.call.OpenFlags.{OpenFlags}
 use Rattle.ft_posix.specs.declared.call.Call.TheVariants.{Read as ReadCall}
 use Rattle.ft_posix.specs.declared.call.Reply.{Reply}
@@ -46,18 +49,19 @@ flags = record { access = ReadOnly; create = false; excl = false; trunc = false;
 abbrev Opens : ℕ → Outcome → Type 0
 Opens fd o = ((e : Errno) × (o ≡ failed e)) ⊎ ((file : ℕ) × (o ≡ opens fd flags file))
 
-opens_at : (cells : Cells) (fd : ℕ) (trailing : Bool) (end : Result Spot Errno) → Opens fd (answer (or_else failed (λ spot. Answer (open_spot fd flags trailing spot)) end) (view_of cells))
-opens_at cells fd trailing (Err e) = inl (e, refl)
-opens_at cells fd trailing (Ok (Named entry None)) = inl (ENOENT, refl)
-opens_at cells fd trailing (Ok (Named entry (Some (DirNode dir)))) = inl (EISDIR, refl)
-opens_at cells fd trailing (Ok (Named entry (Some (FileNode file)))) = inr (file, refl)
-opens_at cells fd trailing (Ok (Itself dir)) = inl (EISDIR, refl)
+opens_at : (cells : Cells) (fd : ℕ) (end : Result Spot Errno) → Opens fd (answer (or_else failed (λ spot. Answer (open_spot fd flags spot)) end) (view_of cells))
+opens_at cells fd (Err e) = inl (e, refl)
+opens_at cells fd (Ok (Named entry None slash)) = inl (ENOENT, refl)
+opens_at cells fd (Ok (Named entry (Some (DirNode dir)) slash)) = inl (EISDIR, refl)
+opens_at cells fd (Ok (Named entry (Some (FileNode Regular file)) slash)) = inr (file, refl)
+opens_at cells fd (Ok (Named entry (Some (FileNode Link file)) slash)) = inl (ELOOP, refl)
+opens_at cells fd (Ok (Itself dir)) = inl (EISDIR, refl)
 
 opens_text : (cells : Cells) (fd : ℕ) (parts : Result Parts Errno) → Opens fd (answer (open_parts fd flags parts) (view_of cells))
 opens_text cells fd (Err e) = inl (e, refl)
 opens_text cells fd (Ok parts) =
-    subst (Opens fd) (sym (answer-then (walk parts.names parts.trailing) (or_else failed (λ spot. Answer (open_spot fd flags parts.trailing spot))) (view_of cells)))
-    (opens_at cells fd parts.trailing (answer (walk parts.names parts.trailing) (view_of cells)))
+    subst (Opens fd) (sym (answer-then (walk true parts.names parts.trailing) (or_else failed (λ spot. Answer (open_spot fd flags spot))) (view_of cells)))
+    (opens_at cells fd (answer (walk true parts.names parts.trailing) (view_of cells)))
 
 -- the file of a description that is written first
 abbrev opened_by : (c : Cell) → Holds c → Option ℕ

@@ -1,11 +1,11 @@
--- What a reader asks, and what a tree answers to it (POSIX.1-2017, System Interfaces, open and
--- read).
+-- What a reader asks, and what a tree answers to it (POSIX.1-2017, System Interfaces, lstat,
+-- open, read, readlink and stat).
 use Rattle.std.specs.Prelude.{ℕ, ◌+◌, false, List, ◌∷◌, Option, Some, None}
 use Rattle.ft_body.specs.declared.TheConstants.{LARGEST_SIZE}
 use Rattle.ft_cells.specs.declared.open_file.AccessMode.TheVariants.{ReadOnly}
 use Rattle.ft_cells.specs.Plain.{PlainTree}
 use Rattle.ft_posix.specs.declared.call.Call.{Call}
-use Rattle.ft_posix.specs.declared.call.Call.TheVariants.{Stat as StatCall, List as ListCall, Open as OpenCall, Read as ReadCall}
+use Rattle.ft_posix.specs.declared.call.Call.TheVariants.{Stat as StatCall, Lstat as LstatCall, Readlink as ReadlinkCall, List as ListCall, Open as OpenCall, Read as ReadCall}
 use Rattle.ft_posix.specs.declared.call.Reply.{Reply}
 use Rattle.ft_posix.specs.declared.call.Reply.TheVariants.{Number}
 use Rattle.ft_posix.specs.declared.intent.Edit.{Edit}
@@ -16,7 +16,7 @@ use Rattle.ft_posix.specs.declared.intent.Intent.{Intent}
 use Rattle.ft_posix.specs.Exec.{exec}
 use Rattle.ft_view.specs.declared.TheConstants.{READING}
 use Rattle.ft_view.specs.declared.answering.Question.{Question}
-use Rattle.ft_view.specs.declared.answering.Question.TheVariants.{Stat, List as ListDir, File}
+use Rattle.ft_view.specs.declared.answering.Question.TheVariants.{Stat, Lstat, Link, List as ListDir, File}
 use Rattle.ft_view.specs.Replay.{reply_on}
 
 -- the call that opens a file for reading, with no flag
@@ -36,6 +36,8 @@ contents_on p path = let opened = exec p READING (open_to_read path) in read_who
 -- what is answered to a question of a reader
 abbrev pub answer_on : PlainTree → Question → Reply
 answer_on p (Stat path) = reply_on p (StatCall path.now)
+answer_on p (Lstat path) = reply_on p (LstatCall path.now)
+answer_on p (Link path) = reply_on p (ReadlinkCall path.now)
 answer_on p (ListDir path) = reply_on p (ListCall path.now)
 answer_on p (File path) = contents_on p path.now
 

@@ -18,6 +18,10 @@ use std::alloc::Global;
 pub(crate) enum Question<'p> {
     /// What Stat answers.
     Stat(&'p FilePath),
+    /// What Lstat answers.
+    Lstat(&'p FilePath),
+    /// What Readlink answers.
+    Link(&'p FilePath),
     /// What List answers.
     List(&'p FilePath),
     /// What is read of a file.
@@ -33,6 +37,14 @@ pub(crate) fn answer(alloc: Global, tree: &Tree, question: &Question<'_>) -> Res
         Question::Stat(path) => {
             let path = path.try_clone()?;
             reply(alloc, tree, &Call::Stat { path })
+        }
+        Question::Lstat(path) => {
+            let path = path.try_clone()?;
+            reply(alloc, tree, &Call::Lstat { path })
+        }
+        Question::Link(path) => {
+            let path = path.try_clone()?;
+            reply(alloc, tree, &Call::Readlink { path })
         }
         Question::List(path) => {
             let path = path.try_clone()?;

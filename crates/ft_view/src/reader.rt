@@ -1,7 +1,7 @@
 // Readers of views.
 ghost use Rattle.std.specs.Prelude.{◌≡◌, ◌⊎◌, [], length, IfOk, OnOk, OnErr};
 ghost use mathlib.Core.List.{IsPrefix};
-ghost use Rattle.ft_posix.specs.declared.call.Call.TheVariants.{Stat, List};
+ghost use Rattle.ft_posix.specs.declared.call.Call.TheVariants.{Stat, Lstat, Readlink, List};
 ghost use Rattle.ft_view.specs.Replay.{replayed, reply_on};
 ghost use Rattle.ft_view.specs.Reading.{contents_on, answer_on};
 ghost use Rattle.ft_view.specs.Shown.{IsViewOf};
@@ -170,6 +170,28 @@ impl<J: Naming> Reader<J> {
         ensures refused { OnErr result (self.new ≡ self.old) }
     {
         self.ask(&Question::Stat(path))
+    }
+
+    /// The same of Lstat, which tells of a symbolic link itself.
+    pub fn lstat(&mut self, path: &FilePath) -> Result<(u64, Reply), ViewFault>
+        ensures before { IsPrefix self.old self.new }
+        ensures whole { OnOk result (J.shows self.new) }
+        ensures count { IfOk result (λ told. told.0 ≡ length self.new) }
+        ensures reply { IfOk result (λ told. told.1 ≡ reply_on (replayed J.opened.base self.new) (Lstat path.now)) }
+        ensures refused { OnErr result (self.new ≡ self.old) }
+    {
+        self.ask(&Question::Lstat(path))
+    }
+
+    /// The same of Readlink: the target of a symbolic link.
+    pub fn read_link(&mut self, path: &FilePath) -> Result<(u64, Reply), ViewFault>
+        ensures before { IsPrefix self.old self.new }
+        ensures whole { OnOk result (J.shows self.new) }
+        ensures count { IfOk result (λ told. told.0 ≡ length self.new) }
+        ensures reply { IfOk result (λ told. told.1 ≡ reply_on (replayed J.opened.base self.new) (Readlink path.now)) }
+        ensures refused { OnErr result (self.new ≡ self.old) }
+    {
+        self.ask(&Question::Link(path))
     }
 
     /// The same of List.

@@ -327,7 +327,7 @@ fn views_right_after_a_checkpoint(rt: HostRuntime) -> Result<(), Fail> {
     Ok(())
 }
 
-/// A file with two bytes is published and read.
+/// A file with two bytes is published and read, and a symbolic link to it.
 struct FileRead;
 
 impl Steps for FileRead {
@@ -342,13 +342,19 @@ impl Steps for FileRead {
             (Line::Begin, Wanted::Txn(1)),
             (Line::Open(1, b"/f".as_slice()), Wanted::Number(2, 2)),
             (Line::Write(1, 2, b"hi".as_slice()), Wanted::Number(3, 2)),
+            (Line::Symlink(1, b"f".as_slice(), b"/l".as_slice()), Wanted::Done(4)),
             (Line::Commit(1), Wanted::Committed),
         ];
         let path = FilePath::new(alloc, b"/f".as_slice())?;
+        let link = FilePath::new(alloc, b"/l".as_slice())?;
         let played = plays(alloc, &mut Through { rt, shared }, &script)?;
         let calls = published(rt, shared)?;
-        let read = is_told(&reader.read_file(&path), Wanted::Bytes(2, b"hi".as_slice()));
-        Ok(played && calls == 2 && read)
+        let hi = Wanted::Bytes(3, b"hi".as_slice());
+        let read = is_told(&reader.read_file(&path), hi) && is_told(&reader.read_file(&link), hi);
+        let followed = is_told(&reader.stat(&link), Wanted::File(3, [2, 1, 2]));
+        let itself = is_told(&reader.lstat(&link), Wanted::Link(3, [4, 1, 1]));
+        let target = is_told(&reader.read_link(&link), Wanted::Bytes(3, b"f".as_slice()));
+        Ok(played && calls == 3 && read && followed && itself && target)
     }
 }
 

@@ -1,5 +1,6 @@
 pub mod Bytes
 pub mod Digits
 pub mod LineCuts
+pub mod LinkRows
 pub mod PercentCoding
 pub mod Reading

@@ -39,3 +39,6 @@ call_text (calls.Fstat fd) = codes "fstat " ++ decimal fd
 call_text (calls.Link old new) = codes "link " ++ coded old ++ data_text new
 call_text (calls.Unlink path) = codes "unlink" ++ data_text path
 call_text (calls.Rename old new) = codes "rename " ++ coded old ++ data_text new
+call_text (calls.Symlink target path) = codes "symlink " ++ coded target ++ data_text path
+call_text (calls.Readlink path) = codes "readlink" ++ data_text path
+call_text (calls.Lstat path) = codes "lstat" ++ data_text path

@@ -122,13 +122,21 @@ descriptor_calls =
     ∷ row (codes "fstat") (only number_of) calls.Fstat
     ∷ []
 
+-- the calls on symbolic links
+abbrev pub link_calls : List CallRow
+link_calls =
+    row (codes "symlink") (both path_of (last path_of)) (λ a. calls.Symlink a.0 a.1)
+    ∷ row (codes "readlink") (last path_of) calls.Readlink
+    ∷ row (codes "lstat") (last path_of) calls.Lstat
+    ∷ []
+
 -- the call of a name in a table, by the words of its arguments
 abbrev pub read_by : List CallRow → List ℕ → List (List ℕ) → Option Call
 read_by rows name words = option_and_then (λ arguments. arguments words) (look_up rows name)
 
 -- the call that a name and the words of its arguments spell
 abbrev pub call_of : List ℕ → List (List ℕ) → Option Call
-call_of name words = read_by (path_calls ++ descriptor_calls) name words
+call_of name words = read_by (path_calls ++ descriptor_calls ++ link_calls) name words
 
 -- ---- how words are read
 

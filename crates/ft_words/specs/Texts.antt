@@ -1,11 +1,15 @@
 -- The texts of what calls reply, and of what a tree holds (docs/SCRIPT.md).
-use Rattle.std.specs.Prelude.{ℕ, ◌||◌, ◌==◌, Bool, true, false, nat_le, List, [], ◌∷◌, ◌++◌, length, codes, if◌then◌else◌}
+use Rattle.std.specs.Prelude.{ℕ, ◌||◌, ◌==◌, Bool, true, false, nat_le, List, [], ◌∷◌, ◌++◌, length, codes, if◌then◌else◌, Option, None, Some}
 use Rattle.std.specs.Fmt.{decimal}
-use Rattle.std.specs.List.{flat_map}
+use Rattle.std.specs.List.{filter_map, flat_map, list_any}
 use Rattle.percent_encoding.specs.Percent.{percent_encode_byte}
 use Rattle.ft_path.specs.Errno.{errno_name}
 use Rattle.ft_cells.specs.declared.node.Kind.{Kind}
-use Rattle.ft_cells.specs.declared.node.Kind.TheVariants.{Dir, File}
+use Rattle.ft_cells.specs.declared.node.Kind.TheVariants.{Dir, File, Link}
+use Rattle.ft_cells.specs.declared.node.Form.TheVariants as forms
+use Rattle.ft_cells.specs.declared.node.Node.{Node}
+use Rattle.ft_cells.specs.declared.node.Node.TheVariants as nodes
+use Rattle.ft_cells.specs.Nodes.{number_of}
 use Rattle.ft_cells.specs.declared.open_file.AccessMode.{AccessMode}
 use Rattle.ft_cells.specs.declared.open_file.AccessMode.TheVariants.{ReadOnly, WriteOnly, ReadWrite}
 use Rattle.ft_cells.specs.declared.row.TreeRow.{TreeRow}
@@ -22,10 +26,11 @@ is_coded b = nat_le b 32 || (b == 37) || nat_le 127 b
 abbrev pub coded : List ℕ → List ℕ
 coded bytes = flat_map (λ b. if is_coded b then percent_encode_byte b else b ∷ []) bytes
 
--- a name after a space, and a slash behind a directory's
+-- a name after a space; behind a directory's a slash, and behind a symbolic link's `@`
 abbrev pub listed : List ℕ → Kind → List ℕ
 listed name Dir = codes " " ++ coded name ++ codes "/"
 listed name File = codes " " ++ coded name
+listed name Link = codes " " ++ coded name ++ codes "@"
 
 -- all of some names
 abbrev pub listing : List (List ℕ × Kind) → List ℕ
@@ -36,10 +41,11 @@ abbrev pub data_text : List ℕ → List ℕ
 data_text [] = []
 data_text (first ∷ more) = codes " " ++ coded (first ∷ more)
 
--- a directory or a file, with a space behind
+-- a directory, a file or a symbolic link, with a space behind
 abbrev pub kind_text : Kind → List ℕ
 kind_text Dir = codes "dir "
 kind_text File = codes "file "
+kind_text Link = codes "link "
 
 -- what a call replied: `ok` with what it tells, or the name of the error
 abbrev pub reply_text : Reply → List ℕ
@@ -67,13 +73,40 @@ abbrev pub flag_text : Bool → List ℕ → List ℕ
 flag_text true letter = letter
 flag_text false letter = []
 
--- a row of a tree: a directory, an edge, a file with its size and bytes, or a descriptor
-abbrev pub row_text : TreeRow → List ℕ
-row_text (rows.Dir number) = codes "dir " ++ decimal number
-row_text (rows.Edge entry number) = codes "edge " ++ decimal entry.dir ++ codes " " ++ coded entry.name ++ codes " " ++ decimal number
-row_text (rows.File number size bytes) = codes "file " ++ decimal number ++ codes " " ++ decimal size ++ data_text bytes
-row_text (rows.Fd fd file access append offset) = codes "fd " ++ decimal fd ++ codes " " ++ decimal file ++ codes " " ++ access_text access ++ flag_text append (codes "a") ++ codes " " ++ decimal offset
+-- a symbolic link with its target, or another file with its size and bytes
+abbrev pub file_text : Bool → ℕ → ℕ → List ℕ → List ℕ
+file_text true number size bytes = codes "link " ++ decimal number ++ data_text bytes
+file_text false number size bytes = codes "file " ++ decimal number ++ codes " " ++ decimal size ++ data_text bytes
 
--- how many rows a tree has, and the rows
+-- a row of a tree: a directory, an edge, a file, or a descriptor. Which numbers are those of
+-- symbolic links the row itself does not say.
+abbrev pub row_text : (ℕ → Bool) → TreeRow → List ℕ
+row_text is_link (rows.Dir number) = codes "dir " ++ decimal number
+row_text is_link (rows.Edge entry node) = codes "edge " ++ decimal entry.dir ++ codes " " ++ coded entry.name ++ codes " " ++ decimal (number_of node)
+row_text is_link (rows.File number size bytes) = file_text (is_link number) number size bytes
+row_text is_link (rows.Fd fd file access append offset) = codes "fd " ++ decimal fd ++ codes " " ++ decimal file ++ codes " " ++ access_text access ++ flag_text append (codes "a") ++ codes " " ++ decimal offset
+
+-- how many rows there are, and the rows
+abbrev pub rows_text : (ℕ → Bool) → List TreeRow → List ℕ
+rows_text is_link rows = codes "tree " ++ decimal (length rows) ++ lines_text (row_text is_link) rows
+
+-- the number of a symbolic link
+abbrev pub link_of : Node → Option ℕ
+link_of (nodes.Dir dir) = None
+link_of (nodes.File forms.Regular file) = None
+link_of (nodes.File forms.Link file) = Some file
+
+-- that of the symbolic link to which an edge leads
+abbrev pub link_in : TreeRow → Option ℕ
+link_in (rows.Dir number) = None
+link_in (rows.Edge entry node) = link_of node
+link_in (rows.File number size bytes) = None
+link_in (rows.Fd fd file access append offset) = None
+
+-- an edge leads to a symbolic link of this number
+abbrev pub is_link : List TreeRow → ℕ → Bool
+is_link rows number = list_any (λ link. number == link) (filter_map link_in rows)
+
+-- what a tree holds
 abbrev pub tree_text : List TreeRow → List ℕ
-tree_text rows = codes "tree " ++ decimal (length rows) ++ lines_text row_text rows
+tree_text rows = rows_text (is_link rows) rows

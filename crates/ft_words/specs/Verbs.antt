@@ -32,6 +32,9 @@ verb_of (calls.Fstat fd) = OnDescriptor descriptor_verbs.Fstat
 verb_of (calls.Link old new) = OnPaths paths_verbs.Link
 verb_of (calls.Unlink path) = OnPath path_verbs.Unlink
 verb_of (calls.Rename old new) = OnPaths paths_verbs.Rename
+verb_of (calls.Symlink target path) = OnPaths paths_verbs.Symlink
+verb_of (calls.Readlink path) = OnPath path_verbs.Readlink
+verb_of (calls.Lstat path) = OnPath path_verbs.Lstat
 
 -- how that is spelled, both where it is read and where it is printed
 abbrev pub word : Verb → List ℕ
@@ -52,6 +55,9 @@ word (OnDescriptor descriptor_verbs.Fstat) = codes "fstat"
 word (OnPaths paths_verbs.Link) = codes "link"
 word (OnPath path_verbs.Unlink) = codes "unlink"
 word (OnPaths paths_verbs.Rename) = codes "rename"
+word (OnPaths paths_verbs.Symlink) = codes "symlink"
+word (OnPath path_verbs.Readlink) = codes "readlink"
+word (OnPath path_verbs.Lstat) = codes "lstat"
 
 -- some verbs as a table of words
 abbrev pub words_of : List Verb → List (List ℕ × Verb)
@@ -64,11 +70,14 @@ on_path path_verbs.Rmdir path = calls.Rmdir path
 on_path path_verbs.List path = calls.List path
 on_path path_verbs.Stat path = calls.Stat path
 on_path path_verbs.Unlink path = calls.Unlink path
+on_path path_verbs.Readlink path = calls.Readlink path
+on_path path_verbs.Lstat path = calls.Lstat path
 
 -- a call on two paths
 abbrev pub on_paths : PathsVerb → List ℕ → List ℕ → Call
-on_paths paths_verbs.Link old new = calls.Link old new
-on_paths paths_verbs.Rename old new = calls.Rename old new
+on_paths paths_verbs.Link first second = calls.Link first second
+on_paths paths_verbs.Rename first second = calls.Rename first second
+on_paths paths_verbs.Symlink first second = calls.Symlink first second
 
 -- a call on a descriptor, by the words of its arguments
 abbrev pub descriptor_call : DescriptorVerb → List (List ℕ) → Option Call

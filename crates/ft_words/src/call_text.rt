@@ -65,9 +65,14 @@ fn arguments(call: &Call) -> (Argument<'_>, Argument<'_>, Argument<'_>)
         | Call::Rmdir { path }
         | Call::List { path }
         | Call::Stat { path }
-        | Call::Unlink { path } => (Absent, Absent, Last(path.as_bytes())),
+        | Call::Unlink { path }
+        | Call::Readlink { path }
+        | Call::Lstat { path } => (Absent, Absent, Last(path.as_bytes())),
         Call::Link { old, new } | Call::Rename { old, new } => {
             (Absent, Path(old.as_bytes()), Last(new.as_bytes()))
+        }
+        Call::Symlink { target, path } => {
+            (Absent, Path(target.as_bytes()), Last(path.as_bytes()))
         }
         Call::Open {
             path,

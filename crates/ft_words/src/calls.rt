@@ -54,8 +54,8 @@ fn read_call(alloc: Global, verb: Verb, words: Words<'_>) -> Result<Call, Unread
             Ok(Call::Truncate { len, path })
         }
         Verb::OnPaths(verb) => {
-            let (old, new) = path_path(alloc, words)?;
-            Ok(verb.on(old, new))
+            let (first, second) = path_path(alloc, words)?;
+            Ok(verb.on(first, second))
         }
         Verb::OnDescriptor(verb) => read_descriptor_call(alloc, verb, words),
     }

@@ -34,6 +34,12 @@ impl fmt::Display for ReplyText<'_> {
                 links,
                 size,
             } => write!(f, "ok file {number} {links} {size}"),
+            Reply::Info {
+                kind: Kind::Link,
+                number,
+                links,
+                size,
+            } => write!(f, "ok link {number} {links} {size}"),
             Reply::Failed(errno) => errno.fmt(f),
         }
     }
@@ -101,6 +107,7 @@ impl fmt::Display for Listed<'_> {
         match self.1 {
             Kind::Dir => write!(f, " {name}/"),
             Kind::File => write!(f, " {name}"),
+            Kind::Link => write!(f, " {name}@"),
         }
     }
 }

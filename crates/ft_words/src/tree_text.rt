@@ -1,33 +1,91 @@
 // The text of what a tree holds.
-ghost use Rattle.std.specs.Prelude.{◌≡◌, ◌++◌, Some};
-ghost use Rattle.ft_words.specs.Texts.{tree_text, row_text, lines_text, access_text, flag_text};
+ghost use Rattle.std.specs.Prelude.{◌≡◌, ◌++◌, ℕ, List, Some, IfOk};
+ghost use Rattle.std.specs.FinMap as finite;
+ghost use Rattle.ft_words.specs.Texts.{tree_text, rows_text, row_text, lines_text, is_link, link_in, access_text, flag_text};
 
 use crate::text::{Coded, Data};
-use ft_tree::{AccessMode, Entry, TreeRow};
+use ft_base::{Memory, Table};
+use ft_tree::{AccessMode, Entry, Form, Node, TreeRow};
+use std::alloc::Global;
 use std::fmt;
+use std::marker::Model;
 
-/// The rows of a tree.
-#[derive(Clone, Copy)]
-pub struct TreeText<'a>(pub &'a [TreeRow]);
+/// What a tree holds, row by row. Clauses see its text.
+#[derive(Drop)]
+pub struct TreeText<'a> {
+    rows: &'a [TreeRow],
+    // The numbers of its symbolic links.
+    links: Table<()>,
+}
+
+impl<'a> Model for TreeText<'a> {
+    ghost Value = { List ℕ };
+
+    ghost view = { λ text. rows_text (finite.contains_key text.links) text.rows.now };
+}
+
+impl<'a> TreeText<'a> {
+    /// That of these rows. Takes memory only where there are symbolic links.
+    pub fn of(alloc: Global, rows: &'a [TreeRow]) -> Result<TreeText<'a>, Memory>
+        ensures { IfOk result (λ text. text ≡ tree_text rows.entry.now) }
+    {
+        let links = links_of(alloc, rows)?;
+        Ok(TreeText { rows, links })
+    }
+}
 
 impl fmt::Display for TreeText<'_> {
-    ghost output = { λ text. Some (tree_text text.0.now) };
+    ghost output = { λ text. Some text };
 
     fn fmt<W: fmt::Write>(&self, f: &mut fmt::Formatter<W>) -> fmt::Result {
-        write!(f, "tree {}{}", self.0.len(), RowLines(self.0))
+        let lines = RowLines {
+            rows: self.rows,
+            links: &self.links,
+        };
+        write!(f, "tree {}{lines}", self.rows.len())
+    }
+}
+
+// The numbers of the symbolic links to which edges lead.
+fn links_of(alloc: Global, rows: &[TreeRow]) -> Result<Table<()>, Memory>
+    ensures { IfOk result (λ links. (number : ℕ) → finite.contains_key links number ≡ is_link rows.now number) }
+{
+    let mut links = Table::new(alloc);
+    for row in rows {
+        if let Some(link) = link_in(row) {
+            links.insert(link, ())?;
+        }
+    }
+    Ok(links)
+}
+
+// That of the symbolic link to which an edge leads.
+fn link_in(row: &TreeRow) -> Option<u64>
+    ensures { result ≡ link_in row.now }
+{
+    match row {
+        TreeRow::Edge {
+            node: Node::File(Form::Link, number),
+            ..
+        } => Some(*number),
+        _ => None,
     }
 }
 
 // Rows, each after a line feed.
 #[derive(Clone, Copy)]
-struct RowLines<'a>(&'a [TreeRow]);
+struct RowLines<'a> {
+    rows: &'a [TreeRow],
+    links: &'a Table<()>,
+}
 
 impl fmt::Display for RowLines<'_> {
-    ghost output = { λ lines. Some (lines_text row_text lines.0.now) };
+    ghost output = { λ lines. Some (lines_text (row_text (finite.contains_key lines.links.now)) lines.rows.now) };
 
     fn fmt<W: fmt::Write>(&self, f: &mut fmt::Formatter<W>) -> fmt::Result {
-        for row in self.0 {
-            write!(f, "\n{}", RowText(row))?;
+        let links = self.links;
+        for row in self.rows {
+            write!(f, "\n{}", RowText { row, links })?;
         }
         Ok(())
     }
@@ -35,18 +93,24 @@ impl fmt::Display for RowLines<'_> {
 
 // One row.
 #[derive(Clone, Copy)]
-struct RowText<'a>(&'a TreeRow);
+struct RowText<'a> {
+    row: &'a TreeRow,
+    links: &'a Table<()>,
+}
 
 impl fmt::Display for RowText<'_> {
-    ghost output = { λ text. Some (row_text text.0.now) };
+    ghost output = { λ text. Some (row_text (finite.contains_key text.links.now) text.row.now) };
 
     fn fmt<W: fmt::Write>(&self, f: &mut fmt::Formatter<W>) -> fmt::Result {
-        match self.0 {
+        match self.row {
             TreeRow::Dir { number } => write!(f, "dir {number}"),
             TreeRow::Edge {
                 entry: Entry { dir, name },
-                number,
-            } => { write!(f, "edge {dir} {} {number}", Coded(name.as_bytes())) }
+                node,
+            } => write!(f, "edge {dir} {} {}", Coded(name.as_bytes()), node.number()),
+            TreeRow::File { number, bytes, .. } if self.links.contains(*number) => {
+                write!(f, "link {number}{}", Data(bytes.as_slice()))
+            }
             TreeRow::File {
                 number,
                 size,

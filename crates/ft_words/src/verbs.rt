@@ -26,12 +26,15 @@ pub(crate) enum PathVerb {
     List,
     Stat,
     Unlink,
+    Readlink,
+    Lstat,
 }
 
 #[derive(Clone, Copy)]
 pub(crate) enum PathsVerb {
     Link,
     Rename,
+    Symlink,
 }
 
 #[derive(Clone, Copy)]
@@ -47,7 +50,7 @@ pub(crate) enum DescriptorVerb {
 }
 
 /// Those of all calls.
-pub(crate) const VERBS: [Verb; 17] = [
+pub(crate) const VERBS: [Verb; 20] = [
     Verb::OnPath(PathVerb::Mkdir),
     Verb::OnPath(PathVerb::Rmdir),
     Verb::Open,
@@ -65,6 +68,9 @@ pub(crate) const VERBS: [Verb; 17] = [
     Verb::OnDescriptor(DescriptorVerb::Lseek),
     Verb::OnDescriptor(DescriptorVerb::Ftruncate),
     Verb::OnDescriptor(DescriptorVerb::Fstat),
+    Verb::OnPaths(PathsVerb::Symlink),
+    Verb::OnPath(PathVerb::Readlink),
+    Verb::OnPath(PathVerb::Lstat),
 ];
 
 /// Those of calls on a descriptor.
@@ -102,6 +108,9 @@ impl Verb {
             Call::Link { .. } => Verb::OnPaths(PathsVerb::Link),
             Call::Unlink { .. } => Verb::OnPath(PathVerb::Unlink),
             Call::Rename { .. } => Verb::OnPaths(PathsVerb::Rename),
+            Call::Symlink { .. } => Verb::OnPaths(PathsVerb::Symlink),
+            Call::Readlink { .. } => Verb::OnPath(PathVerb::Readlink),
+            Call::Lstat { .. } => Verb::OnPath(PathVerb::Lstat),
         }
     }
 
@@ -127,6 +136,9 @@ impl Verb {
             Verb::OnPaths(PathsVerb::Link) => "link",
             Verb::OnPath(PathVerb::Unlink) => "unlink",
             Verb::OnPaths(PathsVerb::Rename) => "rename",
+            Verb::OnPaths(PathsVerb::Symlink) => "symlink",
+            Verb::OnPath(PathVerb::Readlink) => "readlink",
+            Verb::OnPath(PathVerb::Lstat) => "lstat",
         }
     }
 }
@@ -142,18 +154,30 @@ impl PathVerb {
             PathVerb::List => Call::List { path },
             PathVerb::Stat => Call::Stat { path },
             PathVerb::Unlink => Call::Unlink { path },
+            PathVerb::Readlink => Call::Readlink { path },
+            PathVerb::Lstat => Call::Lstat { path },
         }
     }
 }
 
 impl PathsVerb {
     /// The call on these paths.
-    pub(crate) fn on(self, old: FilePath, new: FilePath) -> Call
-        ensures { result ≡ on_paths self old new }
+    pub(crate) fn on(self, first: FilePath, second: FilePath) -> Call
+        ensures { result ≡ on_paths self first second }
     {
         match self {
-            PathsVerb::Link => Call::Link { old, new },
-            PathsVerb::Rename => Call::Rename { old, new },
+            PathsVerb::Link => Call::Link {
+                old: first,
+                new: second,
+            },
+            PathsVerb::Rename => Call::Rename {
+                old: first,
+                new: second,
+            },
+            PathsVerb::Symlink => Call::Symlink {
+                target: first,
+                path: second,
+            },
         }
     }
 }

@@ -1,8 +1,10 @@
 -- A call and its cut are one and the same.
-use Rattle.std.proofs.Common.{◌≡◌, ◌<◌, ◌≤◌, ◌↔◌, ◌∙◌, ⊎_elim, ℕ, ℤ, pos, negsuc, cond, nat_le, List, [], ◌∷◌, length, take, Err, ap, sym, refl, arith, length-take, take_all, take-take}
+use Rattle.std.proofs.Common.{◌≡◌, ◌<◌, ◌≤◌, ◌↔◌, ◌∙◌, ⊎_elim, ℕ, ℤ, pos, negsuc, cond, nat_le, false, true, List, [], ◌∷◌, length, take, Option, Some, Result, Ok, Err, ap, sym, refl, arith, length-take, take_all, take-take}
 use Rattle.std.proofs.lemmas.Bool.{cases_lt}
 use Rattle.std.proofs.lemmas.Bool.Decides.{nat_tests}
+use Rattle.ft_path.specs.declared.errno.Errno.{Errno}
 use Rattle.ft_path.specs.declared.errno.Errno.TheVariants.{ENAMETOOLONG, EFBIG}
+use Rattle.ft_path.specs.declared.path.Parts.{Parts}
 use Rattle.ft_path.specs.FilePath.{parts_of}
 use Rattle.ft_body.specs.Bytes.{fitting, room_at}
 use Rattle.ft_cells.specs.declared.cell.Cell.TheVariants.{Bytes}
@@ -10,10 +12,11 @@ use Rattle.ft_cells.specs.declared.limits.TreeLimits.{TreeLimits}
 use Rattle.ft_cells.specs.declared.open_file.OpenFile.{OpenFile}
 use Rattle.ft_cells.specs.Looks.{Answer, Look, then}
 use Rattle.ft_posix.specs.declared.call.Call.{Call}
-use Rattle.ft_posix.specs.declared.call.Call.TheVariants.{Mkdir, Rmdir, List as ListDir, Open, Close, Read, Write, Pread, Pwrite, Lseek, Truncate, Ftruncate, Stat, Fstat, Link, Unlink, Rename}
-use Rattle.ft_posix.specs.Outcomes.{failed, from_parts}
+use Rattle.ft_posix.specs.declared.call.Call.TheVariants.{Mkdir, Rmdir, List as ListDir, Open, Close, Read, Write, Pread, Pwrite, Lseek, Truncate, Ftruncate, Stat, Fstat, Link, Unlink, Rename, Symlink, Readlink, Lstat}
+use Rattle.ft_posix.specs.Outcomes.{failed, from_parts, unless}
 use Rattle.ft_posix.specs.Dirs.{make_dir, remove_parts, list_dir}
 use Rattle.ft_posix.specs.Links.{link_parts, unlink_spot, rename_parts}
+use Rattle.ft_posix.specs.Symlinks.{target_fault, make_link, symlink_parts, read_link}
 use Rattle.ft_posix.specs.Files.{open_parts, truncate_parts, stat_spot}
 use Rattle.ft_posix.specs.Descriptors.{with_open, is_writable, write_place, write_open, has_written, pwrite_at, pwrite_open, has_pwritten}
 use Rattle.ft_posix.specs.Steps.{steps}
@@ -33,6 +36,20 @@ pub parts_of_cut : (path : List ℕ) → parts_of (cut_path path) ≡ parts_of p
 parts_of_cut path = ⊎_elim
     (λ (h : 4096 < length path). too_long (cut_path path) (omega (arith, length-take 4096 path)) ∙ sym (too_long path (omega arith)))
     (λ (h : length path ≤ 4096). ap parts_of (take_all 4096 path h)) (cases_lt 4096 (length path))
+
+-- ---- the target of a symbolic link
+
+long_target : (target : List ℕ) → 4095 < length target → target_fault target ≡ Some ENAMETOOLONG
+long_target target h = grind (arith, nat_tests)
+
+symlink_parts-cut : (stamp : ℕ) (target : List ℕ) (parts : Result Parts Errno) → symlink_parts stamp (cut_path target) parts ≡ symlink_parts stamp target parts
+symlink_parts-cut stamp target (Err e) = refl
+symlink_parts-cut stamp target (Ok parts) = ⊎_elim
+    (λ (h : 4096 < length target). ap (λ (o : Option Errno). unless o (from_parts false (Ok parts) (make_link stamp (cut_path target)))) (long_target (cut_path target) (omega (arith, length-take 4096 target)))
+    ∙ sym (ap (λ (o : Option Errno). unless o (from_parts false (Ok parts) (make_link stamp target))) (long_target target (omega arith))))
+    (λ (h : length target ≤ 4096). ap (λ t. symlink_parts stamp t (Ok parts)) (take_all 4096 target h)) (cases_lt 4096 (length target))
+
+-- ---- bytes
 
 -- what is kept of some bytes is as much as has room at a place, and not nothing
 record IsCut (limits : TreeLimits) (bytes kept : List ℕ) (at : ℕ) : Type 0 where
@@ -60,9 +77,9 @@ pwrite_open-cut limits (negsuc n) bytes d = refl
 
 -- a call looks at the same as its cut, and comes to the same
 pub steps_of_cut : (limits : TreeLimits) (most stamp : ℕ) (call : Call) → steps limits most stamp (cut_of limits call) ≡ steps limits most stamp call
-steps_of_cut limits most stamp (Mkdir path) = λ i. from_parts (parts_of_cut path i) (make_dir stamp)
+steps_of_cut limits most stamp (Mkdir path) = λ i. from_parts false (parts_of_cut path i) (make_dir stamp)
 steps_of_cut limits most stamp (Rmdir path) = λ i. remove_parts (parts_of_cut path i)
-steps_of_cut limits most stamp (ListDir path) = λ i. from_parts (parts_of_cut path i) list_dir
+steps_of_cut limits most stamp (ListDir path) = λ i. from_parts true (parts_of_cut path i) list_dir
 steps_of_cut limits most stamp (Open path access create excl trunc append) =
     λ i. open_parts stamp (record { access = access; create = create; excl = excl; trunc = trunc; append = append }) (parts_of_cut path i)
 steps_of_cut limits most stamp (Close fd) = refl
@@ -74,8 +91,11 @@ steps_of_cut limits most stamp (Pwrite fd off bytes) = λ i. with_open fd is_wri
 steps_of_cut limits most stamp (Lseek fd whence off) = refl
 steps_of_cut limits most stamp (Truncate len path) = λ i. truncate_parts limits len (parts_of_cut path i)
 steps_of_cut limits most stamp (Ftruncate fd len) = refl
-steps_of_cut limits most stamp (Stat path) = λ i. from_parts (parts_of_cut path i) stat_spot
+steps_of_cut limits most stamp (Stat path) = λ i. from_parts true (parts_of_cut path i) stat_spot
 steps_of_cut limits most stamp (Fstat fd) = refl
 steps_of_cut limits most stamp (Link old new) = λ i. link_parts limits (parts_of_cut old i) (parts_of_cut new i)
-steps_of_cut limits most stamp (Unlink path) = λ i. from_parts (parts_of_cut path i) unlink_spot
+steps_of_cut limits most stamp (Unlink path) = λ i. from_parts false (parts_of_cut path i) unlink_spot
 steps_of_cut limits most stamp (Rename old new) = λ i. rename_parts most (parts_of_cut old i) (parts_of_cut new i)
+steps_of_cut limits most stamp (Symlink target path) = (λ i. symlink_parts stamp (cut_path target) (parts_of_cut path i)) ∙ symlink_parts-cut stamp target (parts_of path)
+steps_of_cut limits most stamp (Readlink path) = λ i. from_parts false (parts_of_cut path i) read_link
+steps_of_cut limits most stamp (Lstat path) = λ i. from_parts false (parts_of_cut path i) stat_spot

@@ -5,7 +5,7 @@ use Rattle.ft_laws.specs.Lists as lists
 use Rattle.ft_cells.specs.Rows.{rows_of}
 use Rattle.ft_cells.specs.declared.limits.TreeLimits.{TreeLimits}
 use Rattle.ft_posix.specs.declared.call.Call.{Call}
-use Rattle.ft_posix.specs.declared.call.Call.TheVariants.{Mkdir, Rmdir, List as ListDir, Open, Close, Read, Write, Pread, Pwrite, Lseek, Truncate, Ftruncate, Stat, Fstat, Link, Unlink, Rename}
+use Rattle.ft_posix.specs.declared.call.Call.TheVariants.{Mkdir, Rmdir, List as ListDir, Open, Close, Read, Write, Pread, Pwrite, Lseek, Truncate, Ftruncate, Stat, Fstat, Link, Unlink, Rename, Symlink, Readlink, Lstat}
 use Rattle.ft_moss.specs.declared.line.LockLine.{LockLine}
 use Rattle.ft_waits.specs.declared.edge.Edge.{Edge}
 use Rattle.ft_waits.specs.declared.edge.EdgeKind.{EdgeKind}
@@ -47,6 +47,9 @@ left-left limits (Fstat fd) = refl
 left-left limits (Link old new) = λ i. Link (path-left old i) (path-left new i)
 left-left limits (Unlink path) = ap Unlink (path-left path)
 left-left limits (Rename old new) = λ i. Rename (path-left old i) (path-left new i)
+left-left limits (Symlink target path) = λ i. Symlink (path-left target i) (path-left path i)
+left-left limits (Readlink path) = ap Readlink (path-left path)
+left-left limits (Lstat path) = ap Lstat (path-left path)
 
 -- ---- reports
 

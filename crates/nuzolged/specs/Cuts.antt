@@ -6,7 +6,7 @@ use Rattle.ft_path.specs.declared.TheConstants.{LONGEST_PATH}
 use Rattle.ft_body.specs.Bytes.{room_at}
 use Rattle.ft_cells.specs.declared.limits.TreeLimits.{TreeLimits}
 use Rattle.ft_posix.specs.declared.call.Call.{Call}
-use Rattle.ft_posix.specs.declared.call.Call.TheVariants.{Mkdir, Rmdir, List as ListDir, Open, Close, Read, Write, Pread, Pwrite, Lseek, Truncate, Ftruncate, Stat, Fstat, Link, Unlink, Rename}
+use Rattle.ft_posix.specs.declared.call.Call.TheVariants.{Mkdir, Rmdir, List as ListDir, Open, Close, Read, Write, Pread, Pwrite, Lseek, Truncate, Ftruncate, Stat, Fstat, Link, Unlink, Rename, Symlink, Readlink, Lstat}
 use Rattle.ft_core.specs.declared.request.Event.{Event}
 use Rattle.ft_core.specs.declared.request.Event.TheVariants.{Begin, Call as CallEvent, Undo, Commit, Abort}
 use Rattle.ft_core.specs.declared.request.Answer.{Answer}
@@ -17,8 +17,8 @@ use Rattle.ft_core.specs.Steps.{IsStep, exact_rule}
 use Rattle.ft_replies.specs.declared.line.Report.{Report}
 use Rattle.ft_replies.specs.Lines.{IsReportText}
 
--- one byte more of a path than it may have: a longer one is ENAMETOOLONG, whatever stands behind
--- (POSIX.1-2017, System Interfaces, 2.3)
+-- one byte more of a path, or of the target of a symbolic link, than it may have: a longer one is
+-- ENAMETOOLONG, whatever stands behind (POSIX.1-2017, System Interfaces, 2.3 and symlink)
 abbrev pub cut_path : List ℕ → List ℕ
 cut_path path = take (LONGEST_PATH + 1) path
 
@@ -56,6 +56,9 @@ cut_of limits (Fstat fd) = Fstat fd
 cut_of limits (Link old new) = Link (cut_path old) (cut_path new)
 cut_of limits (Unlink path) = Unlink (cut_path path)
 cut_of limits (Rename old new) = Rename (cut_path old) (cut_path new)
+cut_of limits (Symlink target path) = Symlink (cut_path target) (cut_path path)
+cut_of limits (Readlink path) = Readlink (cut_path path)
+cut_of limits (Lstat path) = Lstat (cut_path path)
 
 -- ---- what a core keeps
 

@@ -34,10 +34,11 @@ closed = told 1200 0 0
 abbrev pub bad : Told
 bad = told 1201 0 0
 
--- 1 for a directory, 2 for a file
+-- 1 for a directory, 2 for a file, 3 for a symbolic link
 abbrev pub kind_number : Kind → ℕ
 kind_number kind.Dir = 1
 kind_number kind.File = 2
+kind_number kind.Link = 3
 
 -- the numbers of errors, as Linux has them (errno.h)
 abbrev pub errno_number : Errno → ℕ
@@ -53,6 +54,7 @@ errno_number errno.EFBIG = 27
 errno_number errno.EMLINK = 31
 errno_number errno.ENAMETOOLONG = 36
 errno_number errno.ENOTEMPTY = 39
+errno_number errno.ELOOP = 40
 errno_number errno.EOVERFLOW = 75
 
 -- the numbers of refusals stand behind those of errors

@@ -53,7 +53,7 @@ abbrev pub blocker_told : Option Session → ℕ → Told
 blocker_told None index = closed
 blocker_told (Some session) index = blocker_at session.last index
 
--- ---- the bytes of a read
+-- ---- the bytes of a read, or of a target
 
 -- how many there are; `bad` where the last answer has none
 abbrev pub bytes_count : Option (List ℕ) → Told

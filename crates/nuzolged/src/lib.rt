@@ -24,8 +24,8 @@ pub use limits::Limits;
 pub use lines::{nuz_reply, nuz_request};
 pub use parts::{nuz_blocker, nuz_bytes, nuz_name};
 pub use paths::{
-    nuz_link, nuz_list, nuz_mkdir, nuz_open, nuz_rename, nuz_rmdir, nuz_stat, nuz_truncate,
-    nuz_unlink,
+    nuz_link, nuz_list, nuz_lstat, nuz_mkdir, nuz_open, nuz_readlink, nuz_rename, nuz_rmdir,
+    nuz_stat, nuz_symlink, nuz_truncate, nuz_unlink,
 };
 pub use told::Told;
 pub use transactions::{

@@ -1,11 +1,14 @@
 // The calls on paths.
-ghost use Rattle.std.specs.Prelude.{◌≡◌, ◌||◌, MatchOption};
+ghost use Rattle.std.specs.Prelude.{◌≡◌, ◌||◌, MatchOption, None, cond};
 ghost use Rattle.ft_path.specs.Name.{has_nul};
 ghost use Rattle.ft_posix.specs.declared.call.Call.TheVariants as calls;
+ghost use Rattle.ft_session.specs.Buffers.{filled_by};
 ghost use Rattle.nuzolged.specs.Asked.{IsBad, IsCalled, access_of};
+ghost use Rattle.nuzolged.specs.Parts.{bytes_held};
 
-use crate::asking::{bad_argument, call, path_of, paths_of, turn_away};
+use crate::asking::{Unasked, bad_argument, call, path_of, paths_of, refuse, turn_away};
 use crate::handle::Handle;
+use crate::parts::nuz_bytes;
 use crate::told::Told;
 use ft_calls::Call;
 use ft_tree::AccessMode;
@@ -44,7 +47,7 @@ pub extern "C" fn nuz_list(alloc: Global, tree: &mut Handle, txn: u64, path: &[u
     }
 }
 
-/// What a path leads to.
+/// What a path leads to. A last symbolic link is followed.
 #[unsafe(no_mangle)]
 pub extern "C" fn nuz_stat(alloc: Global, tree: &mut Handle, txn: u64, path: &[u8]) -> Told
     ensures { IsCalled (has_nul path.now) tree.old.session txn (calls.Stat path.now) result tree.new.session }
@@ -113,6 +116,56 @@ pub extern "C" fn nuz_rename(
 {
     match paths_of(alloc, from, to) {
         Ok((old, new)) => call(alloc, tree, txn, Call::Rename { old, new }),
+        Err(why) => turn_away(alloc, tree, txn, why),
+    }
+}
+
+/// Makes a symbolic link, which holds a target.
+#[unsafe(no_mangle)]
+pub extern "C" fn nuz_symlink(
+    alloc: Global,
+    tree: &mut Handle,
+    txn: u64,
+    target: &[u8],
+    path: &[u8],
+) -> Told
+    ensures { IsCalled (has_nul target.now || has_nul path.now) tree.old.session txn (calls.Symlink target.now path.now) result tree.new.session }
+{
+    match paths_of(alloc, target, path) {
+        Ok((target, path)) => call(alloc, tree, txn, Call::Symlink { target, path }),
+        Err(why) => turn_away(alloc, tree, txn, why),
+    }
+}
+
+/// Reads the target of a symbolic link. How many bytes it has is told, and as many as a buffer has
+/// room for stand at its front.
+#[unsafe(no_mangle)]
+pub extern "C" fn nuz_readlink(
+    alloc: Global,
+    tree: &mut Handle,
+    txn: u64,
+    path: &[u8],
+    buffer: &mut [u8],
+) -> Told
+    ensures asked { IsCalled (has_nul path.now) tree.old.session txn (calls.Readlink path.now) result tree.new.session }
+    ensures bytes { buffer.new ≡ filled_by (cond (has_nul path.now) None (bytes_held tree.new.session)) buffer.old }
+{
+    let told = match path_of(alloc, path) {
+        Ok(path) => call(alloc, tree, txn, Call::Readlink { path }),
+        Err(Unasked::Memory) => refuse(alloc, tree, txn),
+        Err(Unasked::Bad) => return bad_argument(alloc, tree),
+    };
+    nuz_bytes(alloc, tree, buffer);
+    told
+}
+
+/// What a path leads to. A last symbolic link is told itself.
+#[unsafe(no_mangle)]
+pub extern "C" fn nuz_lstat(alloc: Global, tree: &mut Handle, txn: u64, path: &[u8]) -> Told
+    ensures { IsCalled (has_nul path.now) tree.old.session txn (calls.Lstat path.now) result tree.new.session }
+{
+    match path_of(alloc, path) {
+        Ok(path) => call(alloc, tree, txn, Call::Lstat { path }),
         Err(why) => turn_away(alloc, tree, txn, why),
     }
 }

@@ -27,11 +27,11 @@ pub struct Told {
     /// 0 where it is done; the error number of a call that failed; 1000 and the number of a
     /// refusal; or a code of its own: the call waits, the handle is closed, an argument is bad.
     pub code: u32,
-    /// What a name leads to: 1 a directory, 2 a file. Else 0.
+    /// What a name leads to: 1 a directory, 2 a file, 3 a symbolic link. Else 0.
     pub kind: u32,
     /// The stamp of a call that was granted, also of one that failed.
     pub stamp: u64,
-    /// A transaction, a descriptor, an offset, a count, or the number of a directory or file.
+    /// A transaction, a descriptor, an offset, a count, or the number of what a name leads to.
     pub number: u64,
     /// How many links that has.
     pub links: u64,
@@ -123,6 +123,7 @@ pub(crate) fn kind_number(kind: Kind) -> u32
     match kind {
         Kind::Dir => 1,
         Kind::File => 2,
+        Kind::Link => 3,
     }
 }
 
@@ -163,6 +164,7 @@ fn errno_number(errno: Errno) -> u32
         Errno::EMLINK => 31,
         Errno::ENAMETOOLONG => 36,
         Errno::ENOTEMPTY => 39,
+        Errno::ELOOP => 40,
         Errno::EOVERFLOW => 75,
     }
 }

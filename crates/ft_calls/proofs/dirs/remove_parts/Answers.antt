@@ -1,4 +1,4 @@
-use Rattle.std.proofs.Common.{◌≡◌, None, Ok, Err, refl, rules}
+use Rattle.std.proofs.Common.{false, ◌≡◌, None, Ok, Err, refl, rules}
 use Rattle.std.proofs.lemmas.Result.{err_from_is_err_and}
 use Rattle.ft_posix.specs.Dirs.{remove_dir, last_fault}
 use Rattle.ft_posix.specs.Outcomes.{from_parts}
@@ -12,10 +12,10 @@ returns-in_err-spot c =
     let fault = last_fault (last_of c.args.parts.now.names) in
     let clear : fault ≡ None = search rules in
     let p = err_from_is_err_and c.from_residual.result c.from_residual.ensures.1 in
-    rw (p.1, p.2) (comes_past c.args.look.now fault (from_parts (Ok c.args.parts.now) remove_dir) clear c.walk.new.self (Err c.in_err-spot.field-0.0) (comes_lost c.args.look.now (Ok c.args.parts.now) remove_dir c.args.parts.now refl c.walk.new.self c.in_err-spot.field-0.0 c.in_err-spot.ensures))
+    rw (p.1, p.2) (comes_past c.args.look.now fault (from_parts false (Ok c.args.parts.now) remove_dir) clear c.walk.new.self (Err c.in_err-spot.field-0.0) (comes_lost c.args.look.now (Ok c.args.parts.now) remove_dir false c.args.parts.now refl c.walk.new.self c.in_err-spot.field-0.0 c.in_err-spot.ensures))
 
 pub returns : goal.returns
 returns c =
     let fault = last_fault (last_of c.args.parts.now.names) in
     let clear : fault ≡ None = search rules in
-    (comes_past c.args.look.now fault (from_parts (Ok c.args.parts.now) remove_dir) clear c.remove_dir.new.look (intended c.remove_dir.new.edits c.remove_dir.result) (comes_on c.args.look.now (Ok c.args.parts.now) remove_dir c.args.parts.now refl c.walk.new.self c.in_ok-spot.spot c.in_ok-spot.ensures c.remove_dir.new.look (intended c.remove_dir.new.edits c.remove_dir.result) c.remove_dir.ensures))
+    (comes_past c.args.look.now fault (from_parts false (Ok c.args.parts.now) remove_dir) clear c.remove_dir.new.look (intended c.remove_dir.new.edits c.remove_dir.result) (comes_on c.args.look.now (Ok c.args.parts.now) remove_dir false c.args.parts.now refl c.walk.new.self c.in_ok-spot.spot c.in_ok-spot.ensures c.remove_dir.new.look (intended c.remove_dir.new.edits c.remove_dir.result) c.remove_dir.ensures))

@@ -9,8 +9,8 @@ use Rattle.ft_calls.proofs.files.stat.Goals as goal
 pub returns-in_err-spot : goal.returns-in_err-spot
 returns-in_err-spot c =
     let p = err_from_is_err_and c.from_residual-in_err-spot.result c.from_residual-in_err-spot.ensures.1 in
-    rw (p.1, p.2) (comes_lost c.args.look.now (parts_of c.args.path.now) stat_spot c.in_ok-parts.parts c.in_ok-parts.ensures c.walk.new.self c.in_err-spot.field-0.0 c.in_err-spot.ensures)
+    rw (p.1, p.2) (comes_lost c.args.look.now (parts_of c.args.path.now) stat_spot c.args.follow c.in_ok-parts.parts c.in_ok-parts.ensures c.walk.new.self c.in_err-spot.field-0.0 c.in_err-spot.ensures)
 
 pub returns : goal.returns
 returns c =
-    (comes_on c.args.look.now (parts_of c.args.path.now) stat_spot c.in_ok-parts.parts c.in_ok-parts.ensures c.walk.new.self c.in_ok-spot.spot c.in_ok-spot.ensures c.stat_spot.new.look (intended [] c.stat_spot.result) c.stat_spot.ensures)
+    (comes_on c.args.look.now (parts_of c.args.path.now) stat_spot c.args.follow c.in_ok-parts.parts c.in_ok-parts.ensures c.walk.new.self c.in_ok-spot.spot c.in_ok-spot.ensures c.stat_spot.new.look (intended [] c.stat_spot.result) c.stat_spot.ensures)

@@ -1,4 +1,4 @@
-use Rattle.std.proofs.Common.{Ok, refl}
+use Rattle.std.proofs.Common.{false, Ok, refl}
 use Rattle.std.proofs.lemmas.Result.{err_from_is_err_and}
 use Rattle.ft_posix.specs.Links.{link_old}
 use Rattle.ft_posix.specs.Intended.{intended}
@@ -8,8 +8,8 @@ use Rattle.ft_calls.proofs.links.link_parts.Goals as goal
 pub returns-in_err-spot : goal.returns-in_err-spot
 returns-in_err-spot c =
     let p = err_from_is_err_and c.from_residual.result c.from_residual.ensures.1 in
-    rw (p.1, p.2) (comes_lost c.args.look.now (Ok c.args.old.now) (link_old c.args.limits c.args.new.now) c.args.old.now refl c.walk.new.self _ c.in_err-spot.ensures)
+    rw (p.1, p.2) (comes_lost c.args.look.now (Ok c.args.old.now) (link_old c.args.limits c.args.new.now) false c.args.old.now refl c.walk.new.self _ c.in_err-spot.ensures)
 
 pub returns : goal.returns
 returns c =
-    comes_on c.args.look.now (Ok c.args.old.now) (link_old c.args.limits c.args.new.now) c.args.old.now refl c.walk.new.self c.in_ok-spot.spot c.in_ok-spot.ensures c.link_old.new.look (intended c.link_old.new.edits c.link_old.result) c.link_old.ensures
+    comes_on c.args.look.now (Ok c.args.old.now) (link_old c.args.limits c.args.new.now) false c.args.old.now refl c.walk.new.self c.in_ok-spot.spot c.in_ok-spot.ensures c.link_old.new.look (intended c.link_old.new.edits c.link_old.result) c.link_old.ensures

@@ -1,5 +1,4 @@
 use Rattle.std.proofs.Common.{[], Ok, refl}
-use Rattle.ft_cells.specs.Entries.{entry_in}
 use Rattle.ft_cells.specs.declared.node.Node.TheVariants.{Dir as DirNode}
 use Rattle.ft_cells.specs.Cells.{stored_dirs}
 use Rattle.ft_cells.specs.Looks.{Answer}
@@ -10,15 +9,15 @@ use Rattle.ft_calls.proofs.links.move_dir.Goals as goal
 
 pub returns-then-branch : goal.returns-then-branch
 returns-then-branch c =
-    let old = entry_in c.args.old in
-    let new = entry_in c.args.new in
+    let old = c.args.old in
+    let new = c.args.new in
     let go = Answer (renamed old (DirNode c.args.number) new (with_parent c.args.number old.dir new.dir)) in
     comes_met c.args.look.now (stored_dirs c.args.look.now.cells) c.args.number new.dir go c.climb.new.self c.in_ok-climb.field-0 c.in_ok-climb.ensures c.if-branch.true
 
 pub returns : goal.returns
 returns c =
-    let old = entry_in c.args.old in
-    let new = entry_in c.args.new in
+    let old = c.args.old in
+    let new = c.args.new in
     let parents = with_parent c.args.number old.dir new.dir in
     let go = Answer (renamed old (DirNode c.args.number) new parents) in
     let cells = c.climb.new.self.cells in

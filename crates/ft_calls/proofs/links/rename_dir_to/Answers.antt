@@ -1,9 +1,7 @@
-use Rattle.std.proofs.Common.{Ok, refl, ap, subst}
+use Rattle.std.proofs.Common.{false, Ok, refl, ap, subst}
 use Rattle.std.proofs.lemmas.Result.{err_from_is_err_and}
-use Rattle.ft_cells.specs.Entries.{entry_in}
 use Rattle.ft_cells.specs.Cells.{stored_dirs}
 use Rattle.ft_posix.specs.Links.{rename_dir}
-use Rattle.ft_tree.specs.Walk.{seen_at}
 use Rattle.ft_posix.specs.Looking.{Looking}
 use Rattle.ft_posix.specs.Comes.{Comes}
 use Rattle.ft_posix.specs.Intended.{intended}
@@ -13,9 +11,9 @@ use Rattle.ft_calls.proofs.links.rename_dir_to.Goals as goal
 pub returns-in_err-spot : goal.returns-in_err-spot
 returns-in_err-spot c =
     let p = err_from_is_err_and c.from_residual.result c.from_residual.ensures.1 in
-    rw (p.1, p.2) (comes_lost c.args.look.now (Ok c.args.new.now) (rename_dir (stored_dirs c.args.look.now.cells) (entry_in c.args.old) c.args.number) c.args.new.now refl c.walk.new.self _ c.in_err-spot.ensures)
+    rw (p.1, p.2) (comes_lost c.args.look.now (Ok c.args.new.now) (rename_dir (stored_dirs c.args.look.now.cells) c.args.old c.args.number) false c.args.new.now refl c.walk.new.self _ c.in_err-spot.ensures)
 
 pub returns : goal.returns
 returns c =
-    comes_on c.args.look.now (Ok c.args.new.now) (rename_dir (stored_dirs c.args.look.now.cells) (entry_in c.args.old) c.args.number) c.args.new.now refl c.walk.new.self c.in_ok-spot.spot c.in_ok-spot.ensures c.rename_dir.new.look (intended c.rename_dir.new.edits c.rename_dir.result)
-    (subst (λ n. Comes c.walk.new.self (rename_dir n (entry_in c.args.old) c.args.number (seen_at c.in_ok-spot.spot)) c.rename_dir.new.look (intended c.rename_dir.new.edits c.rename_dir.result)) (ap (λ (l : Looking). stored_dirs l.cells) c.in_ok-spot.ensures.1) c.rename_dir.ensures)
+    comes_on c.args.look.now (Ok c.args.new.now) (rename_dir (stored_dirs c.args.look.now.cells) c.args.old c.args.number) false c.args.new.now refl c.walk.new.self c.in_ok-spot.spot c.in_ok-spot.ensures c.rename_dir.new.look (intended c.rename_dir.new.edits c.rename_dir.result)
+    (subst (λ n. Comes c.walk.new.self (rename_dir n c.args.old c.args.number c.in_ok-spot.spot) c.rename_dir.new.look (intended c.rename_dir.new.edits c.rename_dir.result)) (ap (λ (l : Looking). stored_dirs l.cells) c.in_ok-spot.ensures.1) c.rename_dir.ensures)

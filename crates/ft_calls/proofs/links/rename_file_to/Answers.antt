@@ -1,5 +1,4 @@
-use Rattle.ft_cells.specs.Entries.{entry_in}
-use Rattle.std.proofs.Common.{Ok, refl}
+use Rattle.std.proofs.Common.{false, Ok, refl}
 use Rattle.std.proofs.lemmas.Result.{err_from_is_err_and}
 use Rattle.ft_posix.specs.Links.{rename_file}
 use Rattle.ft_posix.specs.Intended.{intended}
@@ -9,8 +8,8 @@ use Rattle.ft_calls.proofs.links.rename_file_to.Goals as goal
 pub returns-in_err-spot : goal.returns-in_err-spot
 returns-in_err-spot c =
     let p = err_from_is_err_and c.from_residual.result c.from_residual.ensures.1 in
-    rw (p.1, p.2) (comes_lost c.args.look.now (Ok c.args.new.now) (rename_file (entry_in c.args.old) c.args.file c.args.new.now.trailing) c.args.new.now refl c.walk.new.self _ c.in_err-spot.ensures)
+    rw (p.1, p.2) (comes_lost c.args.look.now (Ok c.args.new.now) (rename_file c.args.old c.args.form c.args.file) false c.args.new.now refl c.walk.new.self _ c.in_err-spot.ensures)
 
 pub returns : goal.returns
 returns c =
-    comes_on c.args.look.now (Ok c.args.new.now) (rename_file (entry_in c.args.old) c.args.file c.args.new.now.trailing) c.args.new.now refl c.walk.new.self c.in_ok-spot.spot c.in_ok-spot.ensures c.rename_file.new.look (intended c.rename_file.new.edits c.rename_file.result) c.rename_file.ensures
+    comes_on c.args.look.now (Ok c.args.new.now) (rename_file c.args.old c.args.form c.args.file) false c.args.new.now refl c.walk.new.self c.in_ok-spot.spot c.in_ok-spot.ensures c.rename_file.new.look (intended c.rename_file.new.edits c.rename_file.result) c.rename_file.ensures

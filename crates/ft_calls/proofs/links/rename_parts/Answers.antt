@@ -1,7 +1,6 @@
-use Rattle.std.proofs.Common.{◌≡◌, None, Ok, Err, refl, ap, subst, rules}
+use Rattle.std.proofs.Common.{false, ◌≡◌, None, Ok, Err, refl, ap, subst, rules}
 use Rattle.std.proofs.lemmas.Result.{err_from_is_err_and}
 use Rattle.ft_cells.specs.Cells.{stored_dirs}
-use Rattle.ft_tree.specs.Walk.{seen_at}
 use Rattle.ft_posix.specs.Outcomes.{from_parts}
 use Rattle.ft_path.specs.FilePath.{last_of}
 use Rattle.ft_posix.specs.Links.{rename_fault, rename_old}
@@ -11,13 +10,13 @@ use Rattle.ft_posix.specs.Intended.{intended}
 use Rattle.ft_posix.proofs.Looking.{comes_lost, comes_on, comes_past}
 use Rattle.ft_calls.proofs.links.rename_parts.Goals as goal
 
-pub returns-in_err-spot : goal.returns-in_err-spot
-returns-in_err-spot c =
+pub returns-in_err-moved : goal.returns-in_err-moved
+returns-in_err-moved c =
     let p = err_from_is_err_and c.from_residual.result c.from_residual.ensures.1 in
     let go = rename_old (stored_dirs c.args.look.now.cells) c.args.new.now in
     let fault = rename_fault (last_of c.args.old.now.names) (last_of c.args.new.now.names) in
     let clear : fault ≡ None = search rules in
-    rw (p.1, p.2) (comes_past c.args.look.now fault (from_parts (Ok c.args.old.now) go) clear c.walk.new.self (Err c.in_err-spot.field-0.0) (comes_lost c.args.look.now (Ok c.args.old.now) go c.args.old.now refl c.walk.new.self _ c.in_err-spot.ensures))
+    rw (p.1, p.2) (comes_past c.args.look.now fault (from_parts false (Ok c.args.old.now) go) clear c.walk.new.self (Err c.in_err-moved.field-0.0) (comes_lost c.args.look.now (Ok c.args.old.now) go false c.args.old.now refl c.walk.new.self _ c.in_err-moved.ensures))
 
 pub returns : goal.returns
 returns c =
@@ -26,6 +25,6 @@ returns c =
     let go = rename_old n c.args.new.now in
     let fault = rename_fault (last_of c.args.old.now.names) (last_of c.args.new.now.names) in
     let clear : fault ≡ None = search rules in
-    comes_past c.args.look.now fault (from_parts (Ok c.args.old.now) go) clear on.new.look (intended on.new.edits on.result)
-    (comes_on c.args.look.now (Ok c.args.old.now) go c.args.old.now refl c.walk.new.self c.in_ok-spot.spot c.in_ok-spot.ensures on.new.look (intended on.new.edits on.result)
-    (subst (λ k. Comes c.walk.new.self (rename_old k c.args.new.now (seen_at c.in_ok-spot.spot)) on.new.look (intended on.new.edits on.result)) (ap (λ (l : Looking). stored_dirs l.cells) c.in_ok-spot.ensures.1) on.ensures))
+    comes_past c.args.look.now fault (from_parts false (Ok c.args.old.now) go) clear on.new.look (intended on.new.edits on.result)
+    (comes_on c.args.look.now (Ok c.args.old.now) go false c.args.old.now refl c.walk.new.self c.in_ok-moved.moved c.in_ok-moved.ensures on.new.look (intended on.new.edits on.result)
+    (subst (λ k. Comes c.walk.new.self (rename_old k c.args.new.now c.in_ok-moved.moved) on.new.look (intended on.new.edits on.result)) (ap (λ (l : Looking). stored_dirs l.cells) c.in_ok-moved.ensures.1) on.ensures))

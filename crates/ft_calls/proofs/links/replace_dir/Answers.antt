@@ -1,4 +1,3 @@
-use Rattle.ft_cells.specs.Entries.{entry_in}
 use Rattle.ft_cells.specs.Cells.{stored_dirs}
 use Rattle.ft_posix.specs.Links.{replace_dir}
 use Rattle.ft_posix.specs.Intended.{intended}
@@ -7,14 +6,14 @@ use Rattle.ft_calls.proofs.links.replace_dir.Goals as goal
 
 pub returns-then-branch : goal.returns-then-branch
 returns-then-branch c =
-    let old = entry_in c.args.old in
-    let new = entry_in c.args.new in
+    let old = c.args.old in
+    let new = c.args.new in
     let go = replace_dir old c.args.number new c.args.replaced in
     comes_met c.args.look.now (stored_dirs c.args.look.now.cells) c.args.number new.dir go c.climb.new.self c.in_ok-climb.field-0 c.in_ok-climb.ensures c.if-branch.true
 
 pub returns : goal.returns
 returns c =
-    let old = entry_in c.args.old in
-    let new = entry_in c.args.new in
+    let old = c.args.old in
+    let new = c.args.new in
     let go = replace_dir old c.args.number new c.args.replaced in
     comes_unmet c.args.look.now (stored_dirs c.args.look.now.cells) c.args.number new.dir go c.climb.new.self c.in_ok-climb.field-0 c.in_ok-climb.ensures c.if-branch.false c.replace_empty.new.look (intended c.replace_empty.new.edits c.replace_empty.result) c.replace_empty.ensures

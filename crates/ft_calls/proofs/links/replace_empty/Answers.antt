@@ -1,5 +1,4 @@
 use Rattle.std.proofs.Common.{◌≡◌, true, None, [], ◌∷◌, ◌++◌, sym, ap, ◌∙◌, rules}
-use Rattle.ft_cells.specs.Entries.{entry_in}
 use Rattle.ft_cells.specs.declared.node.Node.TheVariants.{Dir as DirNode}
 use Rattle.ft_cells.specs.Cells.{names_of}
 use Rattle.ft_cells.specs.declared.cell.Cell.TheVariants as cell
@@ -13,8 +12,8 @@ use Rattle.ft_calls.proofs.links.replace_empty.Goals as goal
 
 pub returns : goal.returns
 returns c =
-    let old = entry_in c.args.old in
-    let new = entry_in c.args.new in
+    let old = c.args.old in
+    let new = c.args.new in
     let cells = c.args.look.now.cells in
     let gone = sets (cell.Parent c.args.replaced) None ∷ [] in
     let first = c.renamed.new.edits in

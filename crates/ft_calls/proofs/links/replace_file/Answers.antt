@@ -1,7 +1,5 @@
 use Rattle.std.proofs.Common.{◌≡◌, ◌-◌, ℕ, [], ◌∷◌, ◌++◌, ap, ◌∙◌, rules}
-use Rattle.ft_cells.specs.Entries.{entry_in}
 use Rattle.ft_cells.specs.declared.cell.Cell.TheVariants as cell
-use Rattle.ft_cells.specs.declared.node.Node.TheVariants.{File as FileNode}
 use Rattle.ft_cells.specs.Cells.{links_of}
 use Rattle.ft_posix.specs.Outcomes.{sets}
 use Rattle.ft_posix.specs.Links.{renamed}
@@ -12,8 +10,8 @@ use Rattle.ft_calls.proofs.links.replace_file.Goals as goal
 
 pub returns : goal.returns
 returns c =
-    let old = entry_in c.args.old in
-    let new = entry_in c.args.new in
+    let old = c.args.old in
+    let new = c.args.new in
     let cells = c.args.look.now.cells in
     let first = c.renamed.new.edits in
     let second = c.push.new.self in
@@ -21,4 +19,4 @@ returns c =
     let edits : writes_of cells second ≡ writes_of cells first ++ sets (cell.Links c.args.replaced) (links_of cells c.args.replaced - 1) ∷ [] =
     ap (writes_of cells) c.in_ok-push.ensures ∙ writes_of-append cells first (Links c.args.replaced c.saturating_sub.result ∷ [])
     ∙ ap (λ (n : ℕ). writes_of cells first ++ sets (cell.Links c.args.replaced) n ∷ []) left in
-    (comes-more cells first second (renamed old (FileNode c.args.file) new []) _ edits (c.in_ok-renamed.ensures cells), c.in_ok-links.ensures.1)
+    (comes-more cells first second (renamed old c.args.moved new []) _ edits (c.in_ok-renamed.ensures cells), c.in_ok-links.ensures.1)

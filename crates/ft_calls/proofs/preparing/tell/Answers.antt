@@ -31,22 +31,22 @@ passed z fits = sym (to_z-of_z w64 z fits)
 
 pub returns-in-Pread : goal.returns-in-Pread
 returns-in-Pread c =
-    told_alone c.args.look.now c.pread.new.look (steps c.args.look.now.cells.limits (stored_dirs c.args.look.now.cells) c.args.stamp c.args.call.now) c.args.edits.now c.pread.result c.requires
+    told_alone c.args.look.now c.pread.new.look (steps c.args.look.now.cells.limits (stored_dirs c.args.look.now.cells) c.args.stamp c.args.call.now) c.args.edits.now c.pread.result c.requires.none
     (named c.args.look.now c.args.stamp _ _ (c.in-Pread.is ∙ ap (λ z. Pread c.in-Pread.fd z c.in-Pread.len) (passed c.in-Pread.off (search rules))) c.pread.new.look (intended [] c.pread.result) c.pread.ensures)
 
 pub returns-in-Stat : goal.returns-in-Stat
 returns-in-Stat c =
-    told_alone c.args.look.now c.stat.new.look (steps c.args.look.now.cells.limits (stored_dirs c.args.look.now.cells) c.args.stamp c.args.call.now) c.args.edits.now c.stat.result c.requires
+    told_alone c.args.look.now c.stat.new.look (steps c.args.look.now.cells.limits (stored_dirs c.args.look.now.cells) c.args.stamp c.args.call.now) c.args.edits.now c.stat.result c.requires.none
     (named c.args.look.now c.args.stamp _ _ c.in-Stat.is c.stat.new.look (intended [] c.stat.result) c.stat.ensures)
 
 pub returns-in-Fstat : goal.returns-in-Fstat
 returns-in-Fstat c =
-    told_alone c.args.look.now c.fstat.new.look (steps c.args.look.now.cells.limits (stored_dirs c.args.look.now.cells) c.args.stamp c.args.call.now) c.args.edits.now c.fstat.result c.requires
+    told_alone c.args.look.now c.fstat.new.look (steps c.args.look.now.cells.limits (stored_dirs c.args.look.now.cells) c.args.stamp c.args.call.now) c.args.edits.now c.fstat.result c.requires.none
     (named c.args.look.now c.args.stamp _ _ c.in-Fstat.is c.fstat.new.look (intended [] c.fstat.result) c.fstat.ensures)
 
 pub returns-in-List : goal.returns-in-List
 returns-in-List c =
-    told_alone c.args.look.now c.list.new.look (steps c.args.look.now.cells.limits (stored_dirs c.args.look.now.cells) c.args.stamp c.args.call.now) c.args.edits.now c.list.result c.requires
+    told_alone c.args.look.now c.list.new.look (steps c.args.look.now.cells.limits (stored_dirs c.args.look.now.cells) c.args.stamp c.args.call.now) c.args.edits.now c.list.result c.requires.none
     (named c.args.look.now c.args.stamp _ _ c.in-List.is c.list.new.look (intended [] c.list.result) c.list.ensures)
 
 pub returns-in-Pwrite : goal.returns-in-Pwrite
@@ -66,3 +66,13 @@ returns-in-Ftruncate c =
 pub returns-in-Write : goal.returns-in-Write
 returns-in-Write c =
     named c.args.look.now c.args.stamp _ _ (c.in-Write.is ∙ ap (λ bytes. Write c.in-Write.fd bytes) (sym c.as_slice.ensures)) c.write.new.look (intended c.write.new.edits c.write.result) c.write.ensures
+
+pub returns-in-Readlink : goal.returns-in-Readlink
+returns-in-Readlink c =
+    told_alone c.args.look.now c.readlink.new.look (steps c.args.look.now.cells.limits (stored_dirs c.args.look.now.cells) c.args.stamp c.args.call.now) c.args.edits.now c.readlink.result c.requires.none
+    (named c.args.look.now c.args.stamp _ _ c.in-Readlink.is c.readlink.new.look (intended [] c.readlink.result) c.readlink.ensures)
+
+pub returns-in-Lstat : goal.returns-in-Lstat
+returns-in-Lstat c =
+    told_alone c.args.look.now c.stat-in-Lstat.new.look (steps c.args.look.now.cells.limits (stored_dirs c.args.look.now.cells) c.args.stamp c.args.call.now) c.args.edits.now c.stat-in-Lstat.result c.requires.none
+    (named c.args.look.now c.args.stamp _ _ c.in-Lstat.is c.stat-in-Lstat.new.look (intended [] c.stat-in-Lstat.result) c.stat-in-Lstat.ensures)

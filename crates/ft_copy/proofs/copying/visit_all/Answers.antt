@@ -1,8 +1,9 @@
-use Rattle.std.proofs.Common.{[], ◌∷◌, ◌++◌, inl, inr, length-append, refl, sym, subst, arith, rules}
+use Rattle.std.proofs.Common.{◌≡◌, List, [], ◌∷◌, ◌++◌, inl, inr, length-append, append-nil, refl, sym, subst, ◌∙◌, arith, rules}
 use Rattle.std.specs.List.{flat_map}
+use Rattle.ft_copy.specs.declared.found.Place.{Place}
 use Rattle.ft_copy.specs.Asked.{DoesAll}
-use Rattle.ft_copy.specs.Runs.{asked_of}
-use Rattle.ft_copy.specs.Walks.{standing}
+use Rattle.ft_copy.specs.Runs.{WalksTo, asked_of}
+use Rattle.ft_copy.specs.Walks.{firsts_of, standing}
 use Rattle.ft_copy.proofs.Doing.{does_more, visits_more}
 use Rattle.ft_copy.proofs.Walking.{none_left, walks_more, walks_one}
 use Rattle.ft_copy.proofs.copying.visit_all.Goals as goal
@@ -30,8 +31,14 @@ pub returns-in_default-clause-ok : goal.returns-in_default-clause-ok
 returns-in_default-clause-ok g c =
     let so_far = c.loop-turns.invariant in
     let left = c.loop-turns.walk.left in
+    let walk = c.loop-turns.walk in
     let empty = none_left left.len left.items left.ok.0 c.in_default.ensures.cases.0 in
-    (so_far.0, standing c.loop-turns.walk, so_far.1, empty, so_far.2)
+    let same : left.items ≡ c.pop.new.self.items = c.in_default.ensures.items ∙ append-nil c.pop.new.self.items in (
+      so_far.0,
+      subst (λ (l : List Place). WalksTo c.args.limits (g.S.Source.tells c.args.source.now) (standing c.args.walk.now) so_far.0 (record { left = l; links = walk.links.items; firsts = firsts_of walk.firsts })) same so_far.1,
+      sym same ∙ empty,
+      so_far.2,
+    )
 
 pub returns-in-Err-clause-err : goal.returns-in-Err-clause-err
 returns-in-Err-clause-err g c =

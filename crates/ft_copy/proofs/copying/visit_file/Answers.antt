@@ -24,9 +24,9 @@ returns-in_ok-insert-in-None-clause-ok g c =
     let firsts = firsts_of c.args.walk.now.firsts in
     let id = c.args.facts.now.id in
     let path_is = c.into.ensures ∙ c.in_ok-first-in-None.ensures.items ∙ c.as_slice-path.ensures in
-    let noted = ap (λ (f : FirstPaths). record { left = c.args.walk.now.left.items; firsts = f }) (c.in_ok-insert-in-None.ensures ∙ ap (λ (p : List ℕ). with_first id p firsts) path_is) in
+    let noted = ap (λ (f : FirstPaths). record { left = c.args.walk.now.left.items; links = c.args.walk.now.links.items; firsts = f }) (c.in_ok-insert-in-None.ensures ∙ ap (λ (p : List ℕ). with_first id p firsts) path_is) in
     on_ok_weaker c.copy_file-in-None.result (first_name c.args.limits (g.S.Source.tells c.args.source.now) g.T.Target.does c.args.target.now c.copy_file-in-None.new.target
-    c.args.place.now c.args.facts.now (standing c.args.walk.now) (standing (record { alloc = c.args.walk.now.alloc; left = c.args.walk.now.left; firsts = c.insert.new.self }))
+    c.args.place.now c.args.facts.now (standing c.args.walk.now) (standing (record { alloc = c.args.walk.now.alloc; left = c.args.walk.now.left; links = c.args.walk.now.links; firsts = c.insert.new.self }))
     c.as_slice-path.result.now c.as_slice-path.ensures c.if-facts-limits.false c.if-facts-limits-2.false (inr (omega (arith, c.if-facts-le1.false), sym c.in-None.ensures, noted)))
     c.copy_file-in-None.ensures.ok
 

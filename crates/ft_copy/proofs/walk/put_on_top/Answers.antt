@@ -11,6 +11,7 @@ loop-listed-preserved-in_ok-push c =
     record {
       left = c.loop-listed.invariant.left ∙ put_last left path c.loop-listed.names.items c.pop.new.self.items c.in-Some.listed c.in-Some.ensures.items
           ∙ ap (λ l. l ++ above path c.pop.new.self.items) (sym pushed);
+      links = c.loop-listed.invariant.links;
       firsts = c.loop-listed.invariant.firsts;
     }
 
@@ -22,5 +23,6 @@ loop-listed-preserved c =
     record {
       left = c.loop-listed.invariant.left ∙ put_last left path c.loop-listed.names.items c.pop.new.self.items c.in-Some.listed c.in-Some.ensures.items
           ∙ ap (λ l. l ++ above path c.pop.new.self.items) (sym pushed);
+      links = c.loop-listed.invariant.links;
       firsts = c.loop-listed.invariant.firsts;
     }

@@ -6,6 +6,7 @@ use Rattle.ft_copy.proofs.walk.put_on_top.Given as goal
 abbrev pub invariant-loop-listed : goal.invariant-loop-listed
 invariant-loop-listed l = record {
   left : l.initial.walk.left.items ++ above l.path l.initial.names.items ≡ l.walk.left.items ++ above l.path l.names.items;
+  links : l.walk.links ≡ l.initial.walk.links;
   firsts : l.walk.firsts ≡ l.initial.walk.firsts;
 }
 

@@ -24,5 +24,5 @@ pub returns-in_ok-insert-in-File : goal.returns-in_ok-insert-in-File
 returns-in_ok-insert-in-File c rows h =
     on_ok_weaker c.add_own-in-File.result
     (λ counts. subst (λ (row : Row). Indexes c.add_own-in-File.new.index (row ∷ rows)) (sym c.in-File.is)
-    (adds_file c.args.index.now rows h c.in-File.node c.in-File.bytes _ c.add_own-in-File.new.index c.in_ok-insert-in-File.ensures.ok refl refl refl counts))
+    (adds_file c.args.index.now rows h c.in-File.node c.in-File.form c.in-File.bytes _ c.add_own-in-File.new.index c.in_ok-insert-in-File.ensures.ok refl refl refl counts))
     c.add_own-in-File.ensures

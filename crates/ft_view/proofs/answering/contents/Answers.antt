@@ -1,13 +1,18 @@
-use Rattle.std.proofs.Common.{rules, ◌≡◌, ℕ, List, IfOk, subst, ap, ◌∙◌}
+use Rattle.std.proofs.Common.{rules, arith, ◌≡◌, ℕ, List, IfOk, subst, ap, ◌∙◌}
 use Rattle.ft_tree.specs.Tidy.{tidy}
 use Rattle.ft_posix.specs.declared.call.Reply.{Reply}
 use Rattle.ft_posix.specs.declared.intent.Told.{Told}
 use Rattle.ft_posix.specs.Comes.{reply_of}
 use Rattle.ft_posix.specs.Stored.{outcome}
+use Rattle.ft_posix.proofs.Free.{no_bytes}
 use Rattle.ft_view.specs.declared.TheConstants.{READING}
 use Rattle.ft_view.specs.Reading.{open_to_read, contents_on}
 use Rattle.ft_view.proofs.Reading.{contents_are}
 use Rattle.ft_view.proofs.answering.contents.Goals as goal
+
+-- the number is free, so nothing is stored of it
+pub prepare-requires : goal.prepare-requires
+prepare-requires c = record { fresh = no_bytes (c.requires.free READING (omega arith)) }
 
 pub returns : goal.returns
 returns c =

@@ -10,9 +10,14 @@ use Rattle.ft_posix.specs.Outcomes.{Outcome}
 use Rattle.ft_posix.specs.Stored.{after, put_all}
 use Rattle.ft_posix.proofs.Executed.{tidying}
 use Rattle.ft_posix.proofs.Kept.{soundness, freshness}
+use Rattle.ft_posix.proofs.Free.{no_bytes}
 use Rattle.ft_view.specs.Cleared.{DropsMet}
 use Rattle.ft_view.proofs.Useless.{left-by-call}
 use Rattle.ft_view.proofs.clearing.make.Goals as goal
+
+-- the number is free, so nothing is stored of it
+pub prepare-requires : goal.prepare-requires
+prepare-requires c = record { fresh = no_bytes c.requires.free }
 
 pub apply-requires : goal.apply-requires
 apply-requires c = record { places = c.in_ok-accesses.ensures.places c.requires.readable.sound; apart = c.in_ok-accesses.ensures.apart c.requires.readable.sound }

@@ -1,18 +1,9 @@
-use Rattle.std.proofs.Common.{None, Ok, ap, ◌∙◌}
-use Rattle.ft_core.specs.States.{State, tree_of}
-use Rattle.ft_core.specs.Steps.{exact_rule}
-use Rattle.ft_core.proofs.Ended.{step-abort, live-refused}
+use Rattle.std.proofs.Common.{Ok, ap}
+use Rattle.std.proofs.lemmas.Bool.{false≢true}
 use Rattle.ft_core.proofs.manager.Core.abort.Goals as goal
 
-pub returns-clause-step : goal.returns-clause-step
-returns-clause-step c =
-    step-abort exact_rule c.args.self.now.state c.abort_live.new.self.state c.args.txn c.abort_live.result c.in_ok-check_live.ensures.live c.abort_live.ensures.count c.abort_live.ensures.ended
-
 pub returns-clause-alone : goal.returns-clause-alone
-returns-clause-alone c = λ before alone. (
-  ap Ok c.abort_live.ensures.count,
-  ap (λ (s : State). tree_of s) c.abort_live.ensures.ended ∙ c.abort_live.ensures.alone before alone,
-)
+returns-clause-alone c = λ before alone. (ap Ok c.in_ok-abort_in_full.ensures.calls, (c.in_ok-abort_in_full.ensures.alone before alone).1)
 
-pub returns-in_err-check_live-clause-alone : goal.returns-in_err-check_live-clause-alone
-returns-in_err-check_live-clause-alone c = λ before alone. absurd (live-refused c.args.self.now.state c.args.txn c.in_err-check_live.field-0.0 alone.live (c.in_err-check_live.ensures.refused None))
+pub returns-in_err-abort_in_full-clause-alone : goal.returns-in_err-abort_in_full-clause-alone
+returns-in_err-abort_in_full-clause-alone c = λ before alone. absurd (false≢true (c.in_err-abort_in_full.ensures.alone before alone).0)

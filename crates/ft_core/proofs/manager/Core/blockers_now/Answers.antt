@@ -3,11 +3,15 @@ use Rattle.ft_posix.specs.Accesses.{accesses_of}
 use Rattle.ft_moss.specs.Locks.{AreBlockers}
 use Rattle.ft_moss.specs.Rules.{is_strict}
 use Rattle.ft_core.specs.Reports.{blockers_now}
-use Rattle.ft_core.proofs.Asks.{blocked}
+use Rattle.ft_posix.proofs.Free.{no_bytes}
+use Rattle.ft_core.proofs.Asks.{blocked, next-free}
 use Rattle.ft_core.proofs.Gathered.{state-is}
 use Rattle.ft_core.proofs.Known.{call_laws, lock_laws}
 use Rattle.ft_core.proofs.Surveys.{alone-there}
 use Rattle.ft_core.proofs.manager.Core.blockers_now.Goals as goal
+
+pub accesses-requires : goal.accesses-requires
+accesses-requires c = no_bytes (next-free call_laws lock_laws c.self.inside.parts c.self.inside.journal c.self.invariant c.next_stamp-stamp.result c.next_stamp-stamp.ensures)
 
 pub survey-requires-clause-no_holder : goal.survey-requires-clause-no_holder
 survey-requires-clause-no_holder c strict = c.self.invariant.no_holder (sym (ap is_strict c.rule-rule.ensures) ∙ strict)

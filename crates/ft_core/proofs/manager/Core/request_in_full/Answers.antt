@@ -7,7 +7,7 @@ use Rattle.ft_core.specs.Tries.{IsTried}
 use Rattle.ft_core.specs.FullOutcomes.{IsTwice}
 use Rattle.ft_posix.specs.declared.call.Call.{Call}
 use Rattle.ft_posix.specs.Accesses.{accesses_of}
-use Rattle.ft_core.proofs.Asks.{full-same, core-unmade, touched-now, tried-made, waits-for, core-waits, waits-on}
+use Rattle.ft_core.proofs.Asks.{full-same, next-free, core-unmade, touched-now, tried-made, waits-for, core-waits, waits-on}
 use Rattle.ft_core.proofs.Gathered.{state-is}
 use Rattle.ft_core.proofs.Known.{call_laws, lock_laws}
 use Rattle.ft_core.proofs.Surveys.{alone-there}
@@ -15,6 +15,9 @@ use Rattle.ft_core.proofs.manager.Core.request_in_full.Goals as goal
 
 one : {x y : Call} → Some x ≡ Some y → x ≡ y
 one e = cc
+
+pub try_call-requires-clause-free : goal.try_call-requires-clause-free
+try_call-requires-clause-free c = next-free call_laws lock_laws c.self.inside.parts c.self.inside.journal c.self.invariant c.next_stamp-stamp.result c.next_stamp-stamp.ensures
 
 pub try_call-requires-clause-alone : goal.try_call-requires-clause-alone
 try_call-requires-clause-alone c = alone-there call_laws lock_laws c.self.invariant c.args.txn

@@ -2,9 +2,14 @@ use Rattle.std.proofs.Common.{[], eqb-true, vec_len, ap, sym, subst, ◌∙◌}
 use Rattle.std.proofs.lemmas.List.{nil_from_length}
 use Rattle.ft_posix.specs.Outcomes.{Outcome}
 use Rattle.ft_posix.specs.Stored.{outcome}
+use Rattle.ft_posix.proofs.Free.{no_bytes}
 use Rattle.ft_moss.specs.Locks.{AreBlockers}
 use Rattle.ft_core.specs.Makes.{IsMadeOn}
 use Rattle.ft_core.proofs.parts.Parts.try_call.Goals as goal
+
+-- the stamp of the call is free, so nothing is stored of it
+pub prepare-requires : goal.prepare-requires
+prepare-requires c = record { fresh = no_bytes c.requires.free }
 
 pub returns-clause-tried : goal.returns-clause-tried
 returns-clause-tried c =

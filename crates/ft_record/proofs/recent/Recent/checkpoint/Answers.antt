@@ -18,5 +18,5 @@ pub invariant_of-self-2 : goal.invariant_of-self-2
 invariant_of-self-2 c =
     let i = c.self.inside in
     let s : State = i.core.state in
-    recent-at s.rule s.limits (base_now s) c.checkpoint.new.self.state (cleared-is s c.checkpoint.new.self.state c.in_ok-checkpoint.ensures.step) c.new.result (ap (λ (q : Recording). q.events) c.new.ensures)
+    recent-at s.rule s.limits (base_now s) c.checkpoint.new.self.state (cleared-is s c.checkpoint.new.self.state c.in_ok-checkpoint.ensures.step) c.new.result (ap (λ (q : Recording). q.events) c.new.ensures) (ap (λ (q : Recording). q.spare) c.new.ensures)
     (legal-step call_laws lock_laws s c.checkpoint.new.self.state request.Checkpoint Cleared c.self.invariant.legal c.in_ok-checkpoint.ensures.step)

@@ -1,4 +1,4 @@
-use Rattle.std.proofs.Common.{◌≡◌, ℕ, Ok, Err, refl, sym, ap, subst}
+use Rattle.std.proofs.Common.{◌≡◌, ℕ, Ok, Err, refl, sym, ap, subst, arith}
 use Rattle.ft_core.specs.declared.request.Request.TheVariants as request
 use Rattle.ft_core.proofs.Known.{call_laws, lock_laws}
 use Rattle.ft_record.specs.Recent.{Remembered, forgotten_by}
@@ -14,13 +14,13 @@ invariant_of-self c =
     recent-refused i.core.state c.undo_call.new.self.state (request.Undo c.args.txn) c.in_err-stamp.field-0.0 i.past (forgotten_by i.since) c.self.invariant c.in_err-stamp.ensures.step i.past refl refl
 
 pub tell-requires : goal.tell-requires
-tell-requires c = let i = c.self.inside in (recent-undone call_laws lock_laws i.core.state c.args.txn c.in_ok-stamp.stamp c.undo_call.new.self.state i.past (forgotten_by i.since) c.self.invariant c.in_ok-stamp.ensures.step).0
+tell-requires c = let i = c.self.inside in (recent-undone call_laws lock_laws i.core.state c.args.txn c.in_ok-stamp.stamp c.undo_call.new.self.state i.past (forgotten_by i.since) c.self.invariant c.in_ok-stamp.ensures.step).some
 
 pub invariant_of-self-2 : goal.invariant_of-self-2
 invariant_of-self-2 c =
     let i = c.self.inside in
-    (recent-undone call_laws lock_laws i.core.state c.args.txn c.in_ok-stamp.stamp c.undo_call.new.self.state i.past (forgotten_by i.since) c.self.invariant c.in_ok-stamp.ensures.step).1 c.tell.new.self
-    (ap (λ (q : Recording). q.events) c.tell.ensures) (ap (λ (q : Recording). q.spare) c.tell.ensures)
+    (recent-undone call_laws lock_laws i.core.state c.args.txn c.in_ok-stamp.stamp c.undo_call.new.self.state i.past (forgotten_by i.since) c.self.invariant c.in_ok-stamp.ensures.step).recent c.tell.new.self
+    (ap (λ (q : Recording). q.events) c.tell.ensures) (let spare = ap (λ (q : Recording). q.spare) c.tell.ensures in omega arith)
 
 never : {f : Fault} {k : ℕ} → Err f ≡ Ok k → ⊥
 never e = cc

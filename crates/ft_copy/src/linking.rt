@@ -1,0 +1,78 @@
+// The symbolic links of a tree, which are made when all else is.
+ghost use Rattle.std.specs.Prelude.{OnOk, IfErr};
+ghost use Rattle.ft_copy.specs.Runs.{CopiesLink, MakesLink, MakesLinks};
+ghost use Rattle.ft_copy.specs.Stops.{FailsToCopyLink, StopsLink, StopsLinks};
+ghost use Rattle.ft_copy.specs.Walks.{standing};
+
+use crate::found::MetLink;
+use crate::source::Source;
+use crate::target::Target;
+use crate::trouble::{Stopped, Trouble};
+use crate::walk::Walk;
+use ft_cells::TreeLimits;
+
+/// Makes the symbolic links that were met, one after another.
+pub(crate) fn make_links<S: Source, T: Target>(
+    limits: TreeLimits,
+    source: &S,
+    target: &mut T,
+    walk: &mut Walk,
+) -> Result<(), Stopped>
+    ensures ok { OnOk result (MakesLinks limits (S.tells source.now) T.does (standing walk.old) target.old target.new) }
+    ensures err { IfErr result (λ stopped. StopsLinks limits (S.tells source.now) T.does T.fails stopped (standing walk.old) target.old target.new) }
+{
+    while let Some(link) = walk.links.pop_front() {
+        match make_link(limits, source, target, walk, &link) {
+            Ok(()) => {}
+            Err(trouble) => {
+                return Err(Stopped {
+                    trouble,
+                    path: link.place.path,
+                });
+            }
+        }
+    }
+    Ok(())
+}
+
+// Makes a symbolic link where it is met first, and gives it a further name where it is met again.
+fn make_link<S: Source, T: Target>(
+    limits: TreeLimits,
+    source: &S,
+    target: &mut T,
+    walk: &mut Walk,
+    link: &MetLink,
+) -> Result<(), Trouble>
+    ensures ok { OnOk result (MakesLink limits (S.tells source.now) T.does link.now (standing walk.old) (standing walk.new) target.old target.new) }
+    ensures err { IfErr result (λ trouble. StopsLink limits (S.tells source.now) T.does T.fails trouble link.now (standing walk.old) target.old target.new) }
+{
+    let path = link.place.path.as_slice();
+    if link.facts.links > limits.links {
+        return Err(Trouble::TooManyLinks);
+    }
+    if link.facts.links <= 1 {
+        return copy_link(source, target, path, link.place.node);
+    }
+    match walk.firsts.get(link.facts.id) {
+        Some(first) => target.link(first.as_slice(), path),
+        None => {
+            let first = Vec::from_slice(walk.alloc, path)?;
+            walk.firsts.insert(link.facts.id, first.into())?;
+            copy_link(source, target, path, link.place.node)
+        }
+    }
+}
+
+// Copies where a symbolic link leads.
+fn copy_link<S: Source, T: Target>(
+    source: &S,
+    target: &mut T,
+    path: &[u8],
+    node: u64,
+) -> Result<(), Trouble>
+    ensures ok { OnOk result (CopiesLink (S.tells source.now) T.does path.now node target.old target.new) }
+    ensures err { IfErr result (λ trouble. FailsToCopyLink (S.tells source.now) T.fails trouble path.now node target.old target.new) }
+{
+    let to = source.read_link(path, node)?;
+    target.symlink(to.as_slice(), path)
+}
