@@ -23,8 +23,9 @@
  * a long write is best made in pieces.
  * The tree keeps all that it holds: no pointer into it is given out.
  *
- * The names of directories and files are bytes, of no encoding. A path is absolute or not, which is
- * the same here: there is no working directory but the root.
+ * The names of directories, files and symbolic links, and their targets, are bytes, of no encoding.
+ * A path is absolute or not, which is the same here: there is no working directory but the root. A
+ * target that is not absolute begins in the directory of its link.
  */
 #ifndef NUZOLGED_H
 #define NUZOLGED_H
@@ -51,10 +52,10 @@ typedef struct nuz_tree {
 /* What a request came to. Members that a function does not speak of are 0. */
 typedef struct nuz_answer {
     uint32_t code;   /* 0, an errno, or one of the codes below */
-    uint32_t kind;   /* NUZ_DIR or NUZ_FILE */
+    uint32_t kind;   /* NUZ_DIR, NUZ_FILE or NUZ_LINK */
     uint64_t stamp;  /* of a call that was granted: its place among all of them */
     uint64_t number; /* a transaction, a descriptor, an offset, a count, or the number of a file */
-    uint64_t links;  /* how many names a file has */
+    uint64_t links;  /* how many names a file or symbolic link has */
     uint64_t size;   /* how many bytes there are */
 } nuz_answer;
 
@@ -88,8 +89,8 @@ enum {
     NUZ_BAD = 1201
 };
 
-/* Kinds. */
-enum { NUZ_DIR = 1, NUZ_FILE = 2 };
+/* Kinds: a directory, a file, a symbolic link. */
+enum { NUZ_DIR = 1, NUZ_FILE = 2, NUZ_LINK = 3 };
 
 /* What a tree allows, from its opening to its end. Each limit may be anything up to the greatest. A
  * tree that is told nothing has the greatest, so that memory alone ends a job. */
@@ -214,7 +215,12 @@ nuz_answer nuz_checkpoint(nuz_tree *tree);
  * Each makes one call inside txn, and is what POSIX.1-2017 says of the function of that name.
  * Each answers NUZ_CLOSED; NUZ_BAD where a path has a null byte; the refusals NUZ_NO_TXN,
  * NUZ_ENDED, NUZ_FULL and NUZ_MEMORY, in this order; NUZ_WAITS; or was granted, with its stamp: 0,
- * or one of the errnos that it names. A path also gives ENOENT, ENOTDIR and ENAMETOOLONG. */
+ * or one of the errnos that it names. A path also gives ENOENT, ENOTDIR, ENAMETOOLONG and ELOOP.
+ *
+ * A symbolic link is followed where more of the path, or a slash, stands behind it. A last one is
+ * followed by nuz_stat, nuz_list, nuz_truncate and nuz_open (but with create and excl), and by no
+ * other call, for which it is what the path leads to. A path through more than 40 links, as where
+ * they lead to each other, is ELOOP. */
 
 /** Makes a directory. EEXIST. */
 nuz_answer nuz_mkdir(nuz_tree *tree, uint64_t txn, const uint8_t *path, size_t len);
@@ -225,10 +231,15 @@ nuz_answer nuz_rmdir(nuz_tree *tree, uint64_t txn, const uint8_t *path, size_t l
 /** The names of a directory, without . and ..: number is how many, and nuz_name tells each. */
 nuz_answer nuz_list(nuz_tree *tree, uint64_t txn, const uint8_t *path, size_t len);
 
-/** What a path leads to: kind, number, links and size. A directory has one link and size 0. */
+/** What a path leads to: kind, number, links and size. A directory has one link and size 0. A last
+ * symbolic link is followed: kind is never NUZ_LINK. */
 nuz_answer nuz_stat(nuz_tree *tree, uint64_t txn, const uint8_t *path, size_t len);
 
-/** Removes a name of a file. The file lives while a descriptor has it open. EPERM. */
+/** The same, but a last symbolic link is not followed: size is then how long its target is. */
+nuz_answer nuz_lstat(nuz_tree *tree, uint64_t txn, const uint8_t *path, size_t len);
+
+/** Removes a name of a file or symbolic link. A file lives while a descriptor has it open.
+ * EPERM. */
 nuz_answer nuz_unlink(nuz_tree *tree, uint64_t txn, const uint8_t *path, size_t len);
 
 /** Cuts a file to size bytes, or adds zeros up to them. EINVAL, EFBIG, EISDIR.
@@ -236,7 +247,7 @@ nuz_answer nuz_unlink(nuz_tree *tree, uint64_t txn, const uint8_t *path, size_t 
 nuz_answer nuz_truncate(nuz_tree *tree, uint64_t txn, const uint8_t *path, size_t len,
                         int64_t size);
 
-/** Gives a file a further name. EPERM, EEXIST, EMLINK.
+/** Gives a file or symbolic link a further name. EPERM, EEXIST, EMLINK.
  * @param from the name that there is
  * @param from_len how many bytes that has
  * @param to the further name
@@ -244,8 +255,8 @@ nuz_answer nuz_truncate(nuz_tree *tree, uint64_t txn, const uint8_t *path, size_
 nuz_answer nuz_link(nuz_tree *tree, uint64_t txn, const uint8_t *from, size_t from_len,
                     const uint8_t *to, size_t to_len);
 
-/** Gives a file or a directory another name, in place of what had that name. EINVAL, EBUSY, EISDIR,
- * ENOTEMPTY.
+/** Gives a file, a symbolic link or a directory another name, in place of what had that name.
+ * EINVAL, EBUSY, EISDIR, ENOTEMPTY.
  * @param from the old name
  * @param from_len how many bytes that has
  * @param to the new name
@@ -253,13 +264,34 @@ nuz_answer nuz_link(nuz_tree *tree, uint64_t txn, const uint8_t *from, size_t fr
 nuz_answer nuz_rename(nuz_tree *tree, uint64_t txn, const uint8_t *from, size_t from_len,
                       const uint8_t *to, size_t to_len);
 
+/** Makes a symbolic link, whose target stays as it is given: whether it leads to anything is seen
+ * when the link is followed. EEXIST; ENOENT too for a target of no bytes, ENAMETOOLONG for one of
+ * more than 4,095, and NUZ_BAD for one with a null byte.
+ * @param target where the link leads
+ * @param target_len how many bytes that has
+ * @param path the name of the link
+ * @param len how many bytes that has */
+nuz_answer nuz_symlink(nuz_tree *tree, uint64_t txn, const uint8_t *target, size_t target_len,
+                       const uint8_t *path, size_t len);
+
+/** Reads the target of a symbolic link: number is how many bytes it has, all of them, 1 to 4,095.
+ * As many as have room stand at the front of buffer: where number is more than room, the rest is
+ * missing, and nuz_bytes has all of it. The rest of buffer is untouched, with no null byte behind
+ * the target, and all of buffer where the answer is another. Where it waits, the target comes by
+ * nuz_retry and nuz_bytes. EINVAL for what is no symbolic link.
+ * @param buffer where the target goes
+ * @param room how many bytes it has room for */
+nuz_answer nuz_readlink(nuz_tree *tree, uint64_t txn, const uint8_t *path, size_t len,
+                        uint8_t *buffer, size_t room);
+
 /** Opens a file at offset 0: number is the descriptor. access is NUZ_READ_ONLY, NUZ_WRITE_ONLY or
  * NUZ_READ_WRITE, and NUZ_BAD is answered for another; the others are as O_CREAT, O_EXCL, O_TRUNC
  * and O_APPEND, and are 0 or 1. A descriptor is the tree's: any transaction may use it once that of
  * its open has committed. The caller closes it. EINVAL, EEXIST, EISDIR.
  * @param access NUZ_READ_ONLY, NUZ_WRITE_ONLY or NUZ_READ_WRITE
- * @param create makes the file where it is missing, as O_CREAT
- * @param excl with create: it has to be missing, as O_EXCL
+ * @param create makes the file where it is missing, as O_CREAT; also where a symbolic link leads to
+ * it
+ * @param excl with create: it has to be missing, as O_EXCL, and so has a symbolic link there
  * @param trunc cuts it to nothing, as O_TRUNC
  * @param append each write is at its end, as O_APPEND */
 nuz_answer nuz_open(nuz_tree *tree, uint64_t txn, const uint8_t *path, size_t len, uint32_t access,
@@ -324,8 +356,9 @@ nuz_answer nuz_name(nuz_tree *tree, size_t index, uint8_t *buffer, size_t room);
  * @param index which one, from 0 */
 nuz_answer nuz_blocker(nuz_tree *tree, size_t index);
 
-/** The bytes of a read: size is how many. As many of them as have room are copied to buffer, whose
- * rest is untouched. For a read that nuz_retry has made, and for one by nuz_request.
+/** The bytes of a read, or of the target that nuz_readlink has read: size is how many. As many of
+ * them as have room are copied to buffer, whose rest is untouched. For what nuz_retry has made, for
+ * what nuz_request has, and for a target that had no room.
  * @param buffer where they go
  * @param room how many bytes it has room for */
 nuz_answer nuz_bytes(nuz_tree *tree, uint8_t *buffer, size_t room);

@@ -126,6 +126,9 @@ static bool closed_handle_is_told(void) {
     CHECK(nuz_truncate(&t, 1, p, 2, 0).code == NUZ_CLOSED);
     CHECK(nuz_link(&t, 1, p, 2, p, 2).code == NUZ_CLOSED);
     CHECK(nuz_rename(&t, 1, p, 2, p, 2).code == NUZ_CLOSED);
+    CHECK(nuz_symlink(&t, 1, p, 2, p, 2).code == NUZ_CLOSED);
+    CHECK(nuz_readlink(&t, 1, p, 2, b, sizeof b).code == NUZ_CLOSED);
+    CHECK(nuz_lstat(&t, 1, p, 2).code == NUZ_CLOSED);
     CHECK(nuz_open(&t, 1, p, 2, 0, false, false, false, false).code == NUZ_CLOSED);
     CHECK(nuz_close(&t, 1, 1).code == NUZ_CLOSED && nuz_fstat(&t, 1, 1).code == NUZ_CLOSED);
     CHECK(nuz_ftruncate(&t, 1, 1, 0).code == NUZ_CLOSED);
@@ -483,6 +486,9 @@ static bool bad_arguments_are_told(void) {
     CHECK(nuz_link(&t, 1, p, 2, nul, 4).code == NUZ_BAD);
     CHECK(nuz_rename(&t, 1, nul, 4, p, 2).code == NUZ_BAD);
     CHECK(nuz_rename(&t, 1, p, 2, nul, 4).code == NUZ_BAD);
+    CHECK(nuz_symlink(&t, 1, nul, 4, p, 2).code == NUZ_BAD);
+    CHECK(nuz_symlink(&t, 1, p, 2, nul, 4).code == NUZ_BAD);
+    CHECK(nuz_lstat(&t, 1, nul, 4).code == NUZ_BAD);
     CHECK(nuz_open(&t, 1, nul, 4, 0, false, false, false, false).code == NUZ_BAD);
     CHECK(nuz_open(&t, 1, p, 2, 3, true, false, false, false).code == NUZ_BAD);
     CHECK(nuz_lseek(&t, 1, 1, 0, 3).code == NUZ_BAD);
@@ -490,6 +496,179 @@ static bool bad_arguments_are_told(void) {
     CHECK(bad.code == NUZ_BAD && bad.stamp == 0 && bad.number == 0);
     CHECK(nuz_mkdir(&t, 1, nul, 2).stamp == 2);
     CHECK(nuz_mkdir(&t, 1, nul, 0).code == ENOENT);
+    nuz_tree_close(&t);
+    return true;
+}
+
+/* ---- symbolic links */
+
+/* Makes a symbolic link. */
+static bool make_link(nuz_tree *tree, uint64_t txn, const char *target, const char *path) {
+    return nuz_symlink(tree, txn, NUZ_S(target), NUZ_S(path)).code == 0;
+}
+
+/* Whether a path is a symbolic link with this target. */
+static bool leads_to(nuz_tree *tree, uint64_t txn, const char *path, const char *target) {
+    uint8_t buffer[64];
+    nuz_answer got = nuz_readlink(tree, txn, NUZ_S(path), buffer, sizeof buffer);
+    return got.code == 0 && got.number == strlen(target)
+        && memcmp(buffer, target, got.number) == 0;
+}
+
+/* Opens the tree of a test: a directory, a file in it, and links to both and to nothing. */
+static bool opened_with_links(nuz_tree *t) {
+    return opened(t) && nuz_begin(t).number == 1 && nuz_mkdir(t, 1, NUZ_S("/d")).code == 0
+        && make_file(t, 1, "/d/f", "four") && make_link(t, 1, "/d", "/to_d")
+        && make_link(t, 1, "d/f", "/to_f") && make_link(t, 1, "none", "/to_none");
+}
+
+static bool symbolic_links_are_made_and_read(void) {
+    nuz_tree t = NUZ_TREE_INIT;
+    CHECK(opened(&t) && nuz_begin(&t).number == 1);
+    nuz_answer made = nuz_symlink(&t, 1, NUZ_S("any \xff bytes"), NUZ_S("/l"));
+    CHECK(made.code == 0 && made.stamp == 2 && made.number == 0 && made.kind == 0);
+    CHECK(leads_to(&t, 1, "/l", "any \xff bytes"));
+    nuz_answer told = nuz_lstat(&t, 1, NUZ_S("/l"));
+    CHECK(told.code == 0 && told.kind == NUZ_LINK && told.number == 2 && told.links == 1);
+    CHECK(told.size == 11 && nuz_list(&t, 1, NUZ_S("/")).number == 1);
+    CHECK(is_name(&t, 0, "l", NUZ_LINK));
+    CHECK(nuz_symlink(&t, 1, NUZ_S("x"), NUZ_S("/l")).code == EEXIST);
+    CHECK(nuz_symlink(&t, 1, NUZ_S("x"), NUZ_S("/")).code == EEXIST);
+    CHECK(nuz_symlink(&t, 1, NUZ_S(""), NUZ_S("/m")).code == ENOENT);
+    CHECK(nuz_symlink(&t, 1, NUZ_S("x"), NUZ_S("/none/m")).code == ENOENT);
+    CHECK(nuz_undo(&t, 1).code == 0 && leads_to(&t, 1, "/l", "any \xff bytes"));
+    CHECK(nuz_sub(&t, 1).number == 2 && make_link(&t, 2, "x", "/m"));
+    CHECK(nuz_unlink(&t, 2, NUZ_S("/l")).code == 0 && nuz_abort(&t, 2).number == 2);
+    CHECK(leads_to(&t, 1, "/l", "any \xff bytes"));
+    CHECK(nuz_lstat(&t, 1, NUZ_S("/m")).code == ENOENT);
+    nuz_tree_close(&t);
+    return true;
+}
+
+static bool targets_are_cut_to_the_room(void) {
+    nuz_tree t = NUZ_TREE_INIT;
+    uint8_t b[8] = "........";
+    CHECK(opened(&t) && nuz_begin(&t).number == 1 && make_link(&t, 1, "target", "/l"));
+    CHECK(nuz_readlink(&t, 1, NUZ_S("/l"), b, 0).number == 6 && memcmp(b, "........", 8) == 0);
+    CHECK(nuz_readlink(&t, 1, NUZ_S("/l"), b, 3).number == 6 && memcmp(b, "tar.....", 8) == 0);
+    CHECK(nuz_bytes(&t, b, sizeof b).size == 6 && memcmp(b, "target..", 8) == 0);
+    b[0] = '.';
+    CHECK(nuz_readlink(&t, 1, NUZ_S("/l"), b, 8).number == 6 && memcmp(b, "target..", 8) == 0);
+    nuz_tree_close(&t);
+    return true;
+}
+
+static bool only_symbolic_links_have_targets(void) {
+    nuz_tree t = NUZ_TREE_INIT;
+    uint8_t b[4] = "....";
+    CHECK(opened_with_links(&t));
+    CHECK(nuz_readlink(&t, 1, NUZ_S("/"), b, 4).code == EINVAL);
+    CHECK(nuz_readlink(&t, 1, NUZ_S("/d/f"), b, 4).code == EINVAL);
+    CHECK(nuz_readlink(&t, 1, NUZ_S("/none"), b, 4).code == ENOENT);
+    CHECK(nuz_readlink(&t, 1, NUZ_S("/d/f/g"), b, 4).code == ENOTDIR);
+    CHECK(nuz_readlink(&t, 1, NUZ_S("/to_d/"), b, 4).code == EINVAL);
+    CHECK(nuz_readlink(&t, 1, NUZ_S(""), b, 4).code == ENOENT);
+    CHECK(nuz_readlink(&t, 9, NUZ_S("/to_d"), b, 4).code == NUZ_NO_TXN);
+    CHECK(memcmp(b, "....", 4) == 0 && nuz_bytes(&t, b, 4).code == NUZ_BAD);
+    CHECK(leads_to(&t, 1, "/to_f", "d/f"));
+    CHECK(nuz_readlink(&t, 1, (const uint8_t *)"/\0", 2, b, 4).code == NUZ_BAD);
+    CHECK(memcmp(b, "....", 4) == 0 && nuz_bytes(&t, b, 4).size == 3);
+    nuz_tree_close(&t);
+    return true;
+}
+
+static bool symbolic_links_lead_on(void) {
+    nuz_tree t = NUZ_TREE_INIT;
+    CHECK(opened_with_links(&t));
+    nuz_answer dir = nuz_stat(&t, 1, NUZ_S("/d")), file = nuz_stat(&t, 1, NUZ_S("/d/f"));
+    CHECK(nuz_stat(&t, 1, NUZ_S("/to_d/f")).number == file.number);
+    CHECK(nuz_stat(&t, 1, NUZ_S("/to_d/../to_f")).number == file.number);
+    CHECK(make_link(&t, 1, "f", "/to_d/g") && leads_to(&t, 1, "/d/g", "f"));
+    CHECK(nuz_stat(&t, 1, NUZ_S("/d/g")).number == file.number);
+    CHECK(make_link(&t, 1, "../to_d/", "/d/up"));
+    CHECK(nuz_stat(&t, 1, NUZ_S("/d/up")).number == dir.number);
+    CHECK(nuz_stat(&t, 1, NUZ_S("/d/up/up/up/f")).number == file.number);
+    CHECK(nuz_mkdir(&t, 1, NUZ_S("/to_d/e")).code == 0);
+    CHECK(nuz_stat(&t, 1, NUZ_S("/d/e")).kind == NUZ_DIR);
+    CHECK(nuz_stat(&t, 1, NUZ_S("/to_none/x")).code == ENOENT);
+    CHECK(nuz_stat(&t, 1, NUZ_S("/to_f/x")).code == ENOTDIR);
+    nuz_tree_close(&t);
+    return true;
+}
+
+static bool last_link_is_followed(void) {
+    nuz_tree t = NUZ_TREE_INIT;
+    CHECK(opened_with_links(&t));
+    nuz_answer told = nuz_stat(&t, 1, NUZ_S("/to_f"));
+    CHECK(told.kind == NUZ_FILE && told.size == 4 && told.links == 1);
+    CHECK(nuz_stat(&t, 1, NUZ_S("/to_none")).code == ENOENT);
+    CHECK(nuz_list(&t, 1, NUZ_S("/to_d")).number == 1 && is_name(&t, 0, "f", NUZ_FILE));
+    CHECK(nuz_list(&t, 1, NUZ_S("/to_f")).code == ENOTDIR);
+    CHECK(nuz_truncate(&t, 1, NUZ_S("/to_f"), 2).code == 0);
+    CHECK(nuz_stat(&t, 1, NUZ_S("/d/f")).size == 2 && leads_to(&t, 1, "/to_f", "d/f"));
+    CHECK(nuz_truncate(&t, 1, NUZ_S("/to_d"), 2).code == EISDIR);
+    nuz_answer fd = nuz_open(&t, 1, NUZ_S("/to_f"), NUZ_READ_ONLY, true, false, false, false);
+    CHECK(fd.code == 0 && nuz_fstat(&t, 1, fd.number).number == told.number);
+    CHECK(nuz_open(&t, 1, NUZ_S("/to_f"), 0, true, true, false, false).code == EEXIST);
+    CHECK(nuz_open(&t, 1, NUZ_S("/to_none"), 0, true, true, false, false).code == EEXIST);
+    CHECK(nuz_open(&t, 1, NUZ_S("/to_none"), 0, false, false, false, false).code == ENOENT);
+    CHECK(make_file(&t, 1, "/to_none", "made") && nuz_stat(&t, 1, NUZ_S("/none")).size == 4);
+    CHECK(nuz_lstat(&t, 1, NUZ_S("/none")).kind == NUZ_FILE);
+    nuz_tree_close(&t);
+    return true;
+}
+
+static bool last_link_is_not_followed(void) {
+    nuz_tree t = NUZ_TREE_INIT;
+    CHECK(opened_with_links(&t));
+    CHECK(nuz_lstat(&t, 1, NUZ_S("/to_d")).kind == NUZ_LINK);
+    CHECK(nuz_lstat(&t, 1, NUZ_S("/to_d/")).kind == NUZ_DIR);
+    CHECK(nuz_lstat(&t, 1, NUZ_S("/to_f/")).code == ENOTDIR);
+    CHECK(nuz_lstat(&t, 1, NUZ_S("/d")).kind == NUZ_DIR);
+    CHECK(nuz_mkdir(&t, 1, NUZ_S("/to_none")).code == EEXIST);
+    CHECK(nuz_symlink(&t, 1, NUZ_S("x"), NUZ_S("/to_none")).code == EEXIST);
+    CHECK(nuz_rmdir(&t, 1, NUZ_S("/to_d")).code == ENOTDIR);
+    CHECK(nuz_link(&t, 1, NUZ_S("/to_none"), NUZ_S("/other")).code == 0);
+    CHECK(nuz_lstat(&t, 1, NUZ_S("/other")).links == 2 && leads_to(&t, 1, "/other", "none"));
+    CHECK(nuz_link(&t, 1, NUZ_S("/d/f"), NUZ_S("/to_none")).code == EEXIST);
+    CHECK(nuz_rename(&t, 1, NUZ_S("/to_f"), NUZ_S("/to_d")).code == 0);
+    CHECK(leads_to(&t, 1, "/to_d", "d/f") && nuz_lstat(&t, 1, NUZ_S("/to_f")).code == ENOENT);
+    CHECK(nuz_unlink(&t, 1, NUZ_S("/to_d")).code == 0);
+    CHECK(nuz_unlink(&t, 1, NUZ_S("/other")).code == 0);
+    CHECK(nuz_lstat(&t, 1, NUZ_S("/to_none")).links == 1);
+    CHECK(nuz_stat(&t, 1, NUZ_S("/d/f")).size == 4);
+    nuz_tree_close(&t);
+    return true;
+}
+
+/* Links of which each leads to the one before, the first to the root: how many there are. */
+static int make_chain(nuz_tree *t, int most) {
+    char target[16] = "/", path[16];
+    for (int i = 1; i <= most; i++) {
+        snprintf(path, sizeof path, "/%d", i);
+        if (!make_link(t, 1, target, path)) {
+            return i - 1;
+        }
+        memcpy(target, path, sizeof target);
+    }
+    return most;
+}
+
+static bool forty_links_are_followed(void) {
+    nuz_tree t = NUZ_TREE_INIT;
+    CHECK(opened(&t) && nuz_begin(&t).number == 1 && make_chain(&t, 41) == 41);
+    CHECK(nuz_stat(&t, 1, NUZ_S("/40")).number == 1 && nuz_stat(&t, 1, NUZ_S("/41")).code == ELOOP);
+    CHECK(nuz_lstat(&t, 1, NUZ_S("/41")).kind == NUZ_LINK);
+    CHECK(nuz_lstat(&t, 1, NUZ_S("/41/")).code == ELOOP);
+    CHECK(nuz_stat(&t, 1, NUZ_S("/20/20")).number == 1);
+    CHECK(nuz_stat(&t, 1, NUZ_S("/20/21")).code == ELOOP);
+    CHECK(nuz_mkdir(&t, 1, NUZ_S("/40/d")).code == 0);
+    CHECK(nuz_mkdir(&t, 1, NUZ_S("/41/e")).code == ELOOP);
+    CHECK(make_link(&t, 1, "b", "/a") && make_link(&t, 1, "a", "/b"));
+    CHECK(nuz_open(&t, 1, NUZ_S("/a"), 0, true, false, false, false).code == ELOOP);
+    CHECK(nuz_list(&t, 1, NUZ_S("/a")).code == ELOOP);
+    CHECK(nuz_truncate(&t, 1, NUZ_S("/a"), 0).code == ELOOP);
+    CHECK(nuz_unlink(&t, 1, NUZ_S("/a")).code == 0 && leads_to(&t, 1, "/b", "a"));
     nuz_tree_close(&t);
     return true;
 }
@@ -603,9 +782,14 @@ static bool paths_that_are_too_long_are_told(void) {
     CHECK(nuz_mkdir(&t, 1, path, 4096).code == ENAMETOOLONG);
     CHECK(nuz_mkdir(&t, 1, path, sizeof path).code == ENAMETOOLONG);
     CHECK(nuz_link(&t, 1, NUZ_S("/no"), path, sizeof path).code == ENAMETOOLONG);
+    CHECK(nuz_symlink(&t, 1, path, 4095, NUZ_S("/longest")).code == 0);
+    CHECK(nuz_lstat(&t, 1, NUZ_S("/longest")).size == 4095);
+    CHECK(nuz_symlink(&t, 1, path, 4096, NUZ_S("/longer")).code == ENAMETOOLONG);
+    CHECK(nuz_symlink(&t, 1, path, sizeof path, NUZ_S("/longer")).code == ENAMETOOLONG);
     path[sizeof path - 1] = '\0';
     CHECK(nuz_mkdir(&t, 1, path, sizeof path).code == NUZ_BAD);
     CHECK(nuz_rename(&t, 1, path, sizeof path, path, 1).code == NUZ_BAD);
+    CHECK(nuz_symlink(&t, 1, path, sizeof path, NUZ_S("/longer")).code == NUZ_BAD);
     nuz_tree_close(&t);
     return true;
 }
@@ -637,6 +821,8 @@ static bool error_numbers_are_those_of_the_system(void) {
     CHECK(nuz_rmdir(&t, 1, NUZ_S("/d")).code == ENOTEMPTY);
     CHECK(nuz_lseek(&t, 1, fd, 1, NUZ_SET).code == 0);
     CHECK(nuz_lseek(&t, 1, fd, INT64_MAX, NUZ_CUR).code == EOVERFLOW);
+    CHECK(nuz_symlink(&t, 1, NUZ_S("l"), NUZ_S("/l")).code == 0);
+    CHECK(nuz_stat(&t, 1, NUZ_S("/l")).code == ELOOP);
     uint32_t code = 0;
     for (unsigned i = 1; code == 0 && i <= 1000; i++) {
         char name[16];
@@ -709,6 +895,22 @@ static bool read_that_waits_gives_its_bytes(void) {
     return true;
 }
 
+static bool link_that_waits_gives_its_target(void) {
+    nuz_tree t = NUZ_TREE_INIT;
+    uint8_t b[8] = "........";
+    CHECK(opened_with_links(&t) && nuz_commit(&t, 1).code == 0);
+    CHECK(nuz_begin(&t).number == 2 && nuz_begin(&t).number == 3);
+    CHECK(nuz_unlink(&t, 2, NUZ_S("/to_f")).code == 0 && make_link(&t, 2, "other", "/to_f"));
+    CHECK(nuz_readlink(&t, 3, NUZ_S("/to_f"), b, sizeof b).code == NUZ_WAITS && b[0] == '.');
+    CHECK(nuz_stat(&t, 3, NUZ_S("/to_f")).code == NUZ_WAITS);
+    CHECK(nuz_lstat(&t, 3, NUZ_S("/to_d")).kind == NUZ_LINK);
+    CHECK(nuz_readlink(&t, 3, NUZ_S("/to_f"), b, sizeof b).code == NUZ_WAITS && b[0] == '.');
+    CHECK(nuz_commit(&t, 2).code == 0 && nuz_retry(&t, 3).number == 5);
+    CHECK(nuz_bytes(&t, b, sizeof b).size == 5 && memcmp(b, "other...", 8) == 0);
+    nuz_tree_close(&t);
+    return true;
+}
+
 static bool parents_are_in_the_way_under_moss(void) {
     nuz_tree t = NUZ_TREE_INIT;
     CHECK(opened(&t) && nuz_begin(&t).number == 1 && nuz_mkdir(&t, 1, NUZ_S("/a")).code == 0);
@@ -745,6 +947,22 @@ static bool lines_are_carried_out(void) {
     return true;
 }
 
+static bool lines_of_links_are_carried_out(void) {
+    nuz_tree t = NUZ_TREE_INIT;
+    uint8_t b[8] = "........";
+    CHECK(opened(&t) && nuz_begin(&t).number == 1);
+    CHECK(says(&t, "1 symlink two%20words /l", "2 ok\n"));
+    CHECK(says(&t, "1 readlink /l", "3 ok 9 two%20words\n"));
+    CHECK(nuz_bytes(&t, b, 3).size == 9 && memcmp(b, "two.....", 8) == 0);
+    CHECK(says(&t, "1 lstat /l", "4 ok link 2 1 9\n"));
+    CHECK(says(&t, "1 stat /l", "5 ENOENT\n") && says(&t, "1 list /", "6 ok 1 l@\n"));
+    CHECK(nuz_request(&t, NUZ_S("1 lstat /l")).kind == NUZ_LINK);
+    CHECK(says(&t, "tree", "tree 3\ndir 1\nedge 1 l 2\nlink 2 two%20words\n"));
+    CHECK(make_link(&t, 1, "loop", "/loop") && says(&t, "1 stat /loop", "9 ELOOP\n"));
+    nuz_tree_close(&t);
+    return true;
+}
+
 static bool reports_are_told(void) {
     nuz_tree t = NUZ_TREE_INIT;
     uint8_t b[12] = "............";
@@ -768,6 +986,8 @@ static bool are_refused(nuz_tree *t, uint64_t fd) {
     CHECK(nuz_mkdir(t, 1, NUZ_S("/d")).code == NUZ_MEMORY && nuz_blocker(t, 0).code == NUZ_BAD);
     CHECK(nuz_mkdir(t, 9, NUZ_S("/d")).code == NUZ_NO_TXN);
     CHECK(nuz_rename(t, 1, NUZ_S("/f"), NUZ_S("/g")).code == NUZ_MEMORY);
+    CHECK(nuz_symlink(t, 1, NUZ_S("f"), NUZ_S("/g")).code == NUZ_MEMORY);
+    CHECK(nuz_readlink(t, 9, NUZ_S("/f"), (uint8_t[1]){ 0 }, 1).code == NUZ_NO_TXN);
     CHECK(nuz_pwrite(t, 1, fd, NUZ_S("new"), 0).code == NUZ_MEMORY);
     CHECK(nuz_request(t, NUZ_S("tree")).code == NUZ_MEMORY);
     return true;
@@ -802,9 +1022,10 @@ static const char *const LINES[] = {
     "begin",           "1 mkdir /d",        "1 open rwc /d/f", "1 write 3 some%20bytes",
     "sub 1",           "2 rename /d/f /g",  "2 list /",        "2 link /g /d/h",
     "begin",           "3 stat /g",         "1 pread 3 0 99",  "1 ftruncate 3 5000",
-    "commit 2",        "1 pwrite 3 4096 x", "1 unlink /g",     "commit 1",
-    "retry 3",         "3 unlink /d/h",     "undo 3",          "3 truncate 4 /d/h",
-    "3 close 3",       "commit 3",
+    "commit 2",        "1 symlink h /d/l",  "1 readlink /d/l", "1 pwrite 3 4096 x",
+    "1 unlink /g",     "commit 1",          "retry 3",         "3 unlink /d/h",
+    "undo 3",          "3 lstat /d/l",      "3 truncate 4 /d/l", "3 close 3",
+    "commit 3",
 };
 
 /* Carries out the lines, and makes again, with memory, the first for which there was none: whether
@@ -849,7 +1070,8 @@ static bool request_is_made_again_after_want_of_memory(void) {
         has = has_run_out(&t, &sum);
         allocations_left = -1;
         CHECK(n == 0 || sum == wanted);
-        CHECK(says(&t, "tree", "tree 5\ndir 1\ndir 2\nedge 1 d 2\nedge 2 h 3\nfile 3 4 some\n"));
+        CHECK(says(&t, "tree", "tree 7\ndir 1\ndir 2\nedge 1 d 2\nedge 2 h 3\nedge 2 l 10\n"
+                               "file 3 4 some\nlink 10 h\n"));
         nuz_tree_close(&t);
     }
     CHECK(n > 10);
@@ -883,6 +1105,13 @@ static const struct {
     TEST(names_of_files_change),
     TEST(names_are_cut_to_the_room),
     TEST(bad_arguments_are_told),
+    TEST(symbolic_links_are_made_and_read),
+    TEST(targets_are_cut_to_the_room),
+    TEST(only_symbolic_links_have_targets),
+    TEST(symbolic_links_lead_on),
+    TEST(last_link_is_followed),
+    TEST(last_link_is_not_followed),
+    TEST(forty_links_are_followed),
     TEST(files_are_written_and_read),
     TEST(flags_of_open_are_kept_apart),
     TEST(bytes_without_room_are_not_copied),
@@ -893,8 +1122,10 @@ static const struct {
     TEST(blockers_are_told),
     TEST(call_that_waits_is_dropped),
     TEST(read_that_waits_gives_its_bytes),
+    TEST(link_that_waits_gives_its_target),
     TEST(parents_are_in_the_way_under_moss),
     TEST(lines_are_carried_out),
+    TEST(lines_of_links_are_carried_out),
     TEST(reports_are_told),
     TEST(want_of_memory_changes_nothing),
     TEST(checkpoint_takes_no_memory),

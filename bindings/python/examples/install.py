@@ -5,9 +5,9 @@
 A package is installed as a whole or not at all: where a file of it is there already, or can not be
 read, nothing of it is left, and the others stay. The folder is replaced at the end, at once, by one
 that has all of what was installed, or, where that fails, is as it was; so too where the power fails
-meanwhile. Modes and files with more names stay so; where a symbolic link or anything else is met
-that is neither a file nor a directory, nothing of that package, or of the folder, is installed. The
-status is 0 where each package was installed, and else 1.
+meanwhile. Modes, files with more names and symbolic links stay so; where anything else is met, as a
+pipe, nothing of that package, or of the folder, is installed. The status is 0 where each package
+was installed, and else 1.
 """
 from __future__ import annotations
 

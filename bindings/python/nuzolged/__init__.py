@@ -16,7 +16,8 @@ other. `Refused` says why a request is none that can be made now. `Waits` and `R
 `Error`s. Want of memory is a MemoryError, and a path with a null byte, a closed tree or a closed
 file a ValueError.
 
-A path is absolute or not, which is the same here: there is no working directory but the root.
+A path is absolute or not, which is the same here: there is no working directory but the root. A
+symbolic link with a relative target leads on from its own directory.
 """
 from ._disk import Modes, copy_in, copy_out
 from ._errors import Deadlock, Error, Refused, Waits

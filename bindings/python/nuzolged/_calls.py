@@ -1,6 +1,8 @@
 """The calls on paths."""
 from __future__ import annotations
 
+import ctypes
+import errno
 import os
 from typing import IO, TYPE_CHECKING, Any, BinaryIO, TextIO, overload
 
@@ -13,6 +15,13 @@ from ._told import Entry, Info, info_of
 if TYPE_CHECKING:
     from ._modes import BinaryMode, TextMode
     from ._transaction import Transaction
+
+
+#: The longest target of a symbolic link.
+_LONGEST_TARGET = 4095
+
+#: The errnos of a path that leads to nothing.
+_LEADS_NOWHERE = (errno.ENOENT, errno.ENOTDIR, errno.ELOOP, errno.ENAMETOOLONG)
 
 
 class Calls:
@@ -49,7 +58,7 @@ class Calls:
         try:
             self._on("nuz_mkdir", path)
         except FileExistsError:
-            if not exist_ok or not self.stat(path).is_dir:
+            if not exist_ok or not self.isdir(path):
                 raise
 
     def rmdir(self, path: AnyPath) -> None:
@@ -77,8 +86,8 @@ class Calls:
         names = self._on("nuz_list", path, parts=parts).names
         folder = os.fspath(path)
         if isinstance(folder, bytes):
-            return [Entry(self, folder, name, is_dir) for name, is_dir in names]
-        return [Entry(self, folder, os.fsdecode(name), is_dir) for name, is_dir in names]
+            return [Entry(self, folder, name, kind) for name, kind in names]
+        return [Entry(self, folder, os.fsdecode(name), kind) for name, kind in names]
 
     @overload
     def listdir(self, path: bytes | os.PathLike[bytes]) -> list[bytes]: ...
@@ -98,17 +107,81 @@ class Calls:
             return names
         return [os.fsdecode(name) for name in names]
 
-    def stat(self, path: AnyPath) -> Info:
+    def stat(self, path: AnyPath, *, follow_symlinks: bool = True) -> Info:
         """What a path leads to.
+
+        Args:
+            path: The path.
+            follow_symlinks: Whether a last symbolic link is followed.
 
         Raises:
             FileNotFoundError: It leads to nothing.
             NotADirectoryError: It goes on behind a file.
+            OSError: ELOOP where it leads through more than 40 symbolic links.
         """
-        return info_of(self._on("nuz_stat", path))
+        return info_of(self._on("nuz_stat" if follow_symlinks else "nuz_lstat", path))
+
+    def lstat(self, path: AnyPath) -> Info:
+        """What a path leads to, where a last symbolic link is not followed. Raises what `stat`
+        raises."""
+        return self.stat(path, follow_symlinks=False)
+
+    def isdir(self, path: AnyPath) -> bool:
+        """Whether a path leads to a directory."""
+        found = self._found(path)
+        return found is not None and found.is_dir
+
+    def isfile(self, path: AnyPath) -> bool:
+        """Whether a path leads to a file."""
+        found = self._found(path)
+        return found is not None and found.is_file
+
+    def _found(self, path: AnyPath, follow_symlinks: bool = True) -> Info | None:
+        """What a path leads to, if it leads to anything."""
+        try:
+            return self.stat(path, follow_symlinks=follow_symlinks)
+        except OSError as error:
+            if error.errno not in _LEADS_NOWHERE:
+                raise
+            return None
+
+    def symlink(self, target: AnyPath, path: AnyPath) -> None:
+        """Makes a symbolic link.
+
+        Args:
+            target: Where it leads: it stays as it is given, and need not lead to anything. A
+                relative one begins in the directory of the link.
+            path: Its path.
+
+        Raises:
+            FileExistsError: The path leads to something, or is a symbolic link.
+            FileNotFoundError: What is above it is missing, or the target is empty.
+            OSError: ENAMETOOLONG where the target has more than 4,095 bytes.
+        """
+        self._on_both("nuz_symlink", target, path)
+
+    @overload
+    def readlink(self, path: bytes | os.PathLike[bytes]) -> bytes: ...
+
+    @overload
+    def readlink(self, path: str | os.PathLike[str]) -> str: ...
+
+    @overload
+    def readlink(self, path: AnyPath) -> str | bytes: ...
+
+    def readlink(self, path: AnyPath) -> str | bytes:
+        """The target of a symbolic link. It is of bytes where the path is.
+
+        Raises:
+            OSError: EINVAL where it is no symbolic link.
+        """
+        room = ctypes.create_string_buffer(_LONGEST_TARGET)
+        size = self._on("nuz_readlink", path, room, _LONGEST_TARGET).number
+        target = room.raw[:size]
+        return target if isinstance(os.fspath(path), bytes) else os.fsdecode(target)
 
     def unlink(self, path: AnyPath) -> None:
-        """Removes a name of a file. The file lives while it has another, or is open.
+        """Removes a name of a file or symbolic link. A file lives while it has another, or is open.
 
         Raises:
             PermissionError: The path leads to a directory.
@@ -116,7 +189,7 @@ class Calls:
         self._on("nuz_unlink", path)
 
     def truncate(self, path: AnyPath, size: int) -> None:
-        """Cuts a file to `size` bytes, or adds zeros up to them.
+        """Cuts a file to `size` bytes, or adds zeros up to them. A last symbolic link is followed.
 
         Raises:
             OSError: EINVAL where the size is below 0, EFBIG where it is above the limit.
@@ -125,7 +198,7 @@ class Calls:
         self._on("nuz_truncate", path, _library.signed(size))
 
     def link(self, old: AnyPath, new: AnyPath) -> None:
-        """Gives a file a further name.
+        """Gives a file or symbolic link a further name.
 
         Raises:
             FileExistsError: The new path leads to something.
@@ -135,7 +208,8 @@ class Calls:
         self._on_both("nuz_link", old, new)
 
     def rename(self, old: AnyPath, new: AnyPath) -> None:
-        """Gives a file or a directory another name, in place of what had that name.
+        """Gives a file, a symbolic link or a directory another name, in place of what had that
+        name.
 
         Raises:
             OSError: ENOTEMPTY where the new path leads to a directory that is not empty, EINVAL

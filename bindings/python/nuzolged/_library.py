@@ -10,7 +10,7 @@ from typing import Iterator
 #: The file of the library.
 _NAME = "libnuzolged.so.0"
 
-DIR = 1
+DIR, FILE, LINK = 1, 2, 3
 READ_ONLY, WRITE_ONLY, READ_WRITE = 0, 1, 2
 PROFILE, MOSS = 0, 1
 
@@ -68,8 +68,8 @@ class Answer(ctypes.Structure):
     blockers: list[int] = []
     #: Where it waits for ever: the transactions that wait for each other.
     cycle: list[int] = []
-    #: The names of a list.
-    names: list[tuple[bytes, bool]] = []
+    #: The names of a list, each with the kind of what it is of.
+    names: list[tuple[bytes, int]] = []
     #: The reply to a line.
     text: bytes = b""
 
@@ -104,6 +104,9 @@ _FUNCTIONS: dict[str, tuple[type, ...]] = {
     "nuz_rmdir": (c_uint64, *_BYTES),
     "nuz_list": (c_uint64, *_BYTES),
     "nuz_stat": (c_uint64, *_BYTES),
+    "nuz_lstat": (c_uint64, *_BYTES),
+    "nuz_symlink": (c_uint64, *_BYTES, *_BYTES),
+    "nuz_readlink": (c_uint64, *_BYTES, *_BUFFER),
     "nuz_unlink": (c_uint64, *_BYTES),
     "nuz_truncate": (c_uint64, *_BYTES, c_int64),
     "nuz_link": (c_uint64, *_BYTES, *_BYTES),

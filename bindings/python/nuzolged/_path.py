@@ -94,17 +94,31 @@ class Path:
     def match(self, pattern: str) -> bool:
         return self._pure.match(pattern)
 
-    def stat(self) -> Info:
-        return self._calls.stat(self)
+    def stat(self, *, follow_symlinks: bool = True) -> Info:
+        return self._calls.stat(self, follow_symlinks=follow_symlinks)
 
-    def exists(self) -> bool:
-        return self._calls.exists(self)
+    def lstat(self) -> Info:
+        return self._calls.lstat(self)
+
+    def exists(self, *, follow_symlinks: bool = True) -> bool:
+        return self._calls.exists(self) if follow_symlinks else self._calls.lexists(self)
 
     def is_dir(self) -> bool:
         return self._calls.isdir(self)
 
     def is_file(self) -> bool:
         return self._calls.isfile(self)
+
+    def is_symlink(self) -> bool:
+        return self._calls.islink(self)
+
+    def readlink(self) -> Path:
+        """The target of a symbolic link, as a path."""
+        return self._with(PurePosixPath(self._calls.readlink(str(self._pure))))
+
+    def resolve(self) -> Path:
+        """The same as `Transaction.realpath`."""
+        return self._with(PurePosixPath(self._calls.realpath(self)))
 
     def samefile(self, other: AnyPath) -> bool:
         return self.stat().number == self._calls.stat(other).number
@@ -146,6 +160,10 @@ class Path:
 
     def replace(self, target: AnyPath) -> Path:
         return self.rename(target)
+
+    def symlink_to(self, target: AnyPath) -> None:
+        """Makes it a symbolic link that leads to `target`."""
+        self._calls.symlink(target, self)
 
     def hardlink_to(self, target: AnyPath) -> None:
         """Makes it a further name of the file `target`."""

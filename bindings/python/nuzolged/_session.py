@@ -15,7 +15,7 @@ import weakref
 from typing import Callable, Optional
 
 from ._errors import AnyPath, Deadlock, Waits, error_of
-from ._library import BAD, CLOSED, DIR, FULL, MEMORY, WAITS, Answer, Handle, Limits, library
+from ._library import BAD, CLOSED, FULL, MEMORY, WAITS, Answer, Handle, Limits, library
 
 #: A name has at most so many bytes.
 _LONGEST_NAME = 255
@@ -202,14 +202,14 @@ class Session:
         return [library.nuz_blocker(self._at, index).number for index in range(count)]
 
     def take_names(self, answer: Answer) -> None:
-        """Takes the names of a list, and which are of directories."""
+        """Takes the names of a list, and of what kind each is."""
         if answer.code:
             return
         names = []
         room = ctypes.create_string_buffer(_LONGEST_NAME)
         for index in range(answer.number):
             told = library.nuz_name(self._at, index, room, _LONGEST_NAME)
-            names.append((room.raw[: told.size], told.kind == DIR))
+            names.append((room.raw[: told.size], told.kind))
         answer.names = names
 
     def take_text(self, answer: Answer) -> None:

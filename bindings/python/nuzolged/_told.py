@@ -1,4 +1,4 @@
-"""What there is to tell of files and directories."""
+"""What there is to tell of files, directories and symbolic links."""
 from __future__ import annotations
 
 import os
@@ -13,20 +13,32 @@ if TYPE_CHECKING:
 
 Name = TypeVar("Name", str, bytes)
 
+#: What the text of a name says of it, but for a file.
+_OF_KIND = {_library.DIR: " of a directory", _library.LINK: " of a symbolic link"}
+
 
 class Info(NamedTuple):
-    """What there is to tell of a file or directory; by the names of `os.stat` too."""
+    """What there is to tell of a file, directory or symbolic link; also as `os.stat` names it."""
 
     is_dir: bool
     #: Its number in the tree, which no other has or has had.
     number: int
-    #: How many names a file has. A directory has one link.
+    #: How many names a file or symbolic link has. A directory has one link.
     links: int
+    #: How many bytes a file has, or the target of a symbolic link.
     size: int
+    #: Whether it is a symbolic link, of which only `lstat` tells.
+    is_link: bool = False
+
+    @property
+    def is_file(self) -> bool:
+        return not (self.is_dir or self.is_link)
 
     @property
     def st_mode(self) -> int:
         """The kind alone: a tree holds no permissions."""
+        if self.is_link:
+            return stat.S_IFLNK
         return stat.S_IFDIR if self.is_dir else stat.S_IFREG
 
     @property
@@ -43,35 +55,46 @@ class Info(NamedTuple):
 
 
 def info_of(answer: Answer) -> Info:
-    """What an answer tells of a file or directory."""
-    return Info(answer.kind == _library.DIR, answer.number, answer.links, answer.size)
+    """What an answer tells of what a path leads to."""
+    is_dir, is_link = answer.kind == _library.DIR, answer.kind == _library.LINK
+    return Info(is_dir, answer.number, answer.links, answer.size, is_link)
 
 
 class Entry(Generic[Name]):
     """A name of a directory, as `os.DirEntry` is one: `name`, `path`, and what it leads to."""
 
-    __slots__ = ("name", "path", "_calls", "_is_dir")
+    __slots__ = ("name", "path", "_calls", "_kind")
 
-    def __init__(self, calls: Calls, folder: Name, name: Name, is_dir: bool) -> None:
+    def __init__(self, calls: Calls, folder: Name, name: Name, kind: int) -> None:
         self.name: Name = name
         self.path: Name = os.path.join(folder, name)
         self._calls = calls
-        self._is_dir = is_dir
+        self._kind = kind
 
     def __repr__(self) -> str:
-        return f"<Entry {self.name!r}{' of a directory' if self._is_dir else ''}>"
+        return f"<Entry {self.name!r}{_OF_KIND.get(self._kind, '')}>"
 
     def __fspath__(self) -> Name:
         return self.path
 
-    def is_dir(self) -> bool:
-        """Whether it was a directory when the names were listed."""
-        return self._is_dir
+    def is_dir(self, *, follow_symlinks: bool = True) -> bool:
+        """Whether it was a directory when the names were listed, or a symbolic link that leads to
+        one now, where that is followed."""
+        if self.is_symlink() and follow_symlinks:
+            return self._calls.isdir(self.path)
+        return self._kind == _library.DIR
 
-    def is_file(self) -> bool:
-        """Whether it was a file when the names were listed."""
-        return not self._is_dir
+    def is_file(self, *, follow_symlinks: bool = True) -> bool:
+        """Whether it was a file when the names were listed, or a symbolic link that leads to one
+        now, where that is followed."""
+        if self.is_symlink() and follow_symlinks:
+            return self._calls.isfile(self.path)
+        return self._kind == _library.FILE
 
-    def stat(self) -> Info:
+    def is_symlink(self) -> bool:
+        """Whether it was a symbolic link when the names were listed."""
+        return self._kind == _library.LINK
+
+    def stat(self, *, follow_symlinks: bool = True) -> Info:
         """What it leads to now. Raises what `Transaction.stat` raises."""
-        return self._calls.stat(self.path)
+        return self._calls.stat(self.path, follow_symlinks=follow_symlinks)

@@ -13,7 +13,10 @@ from . import _file
 from ._calls import Calls
 from ._errors import AnyPath, os_error
 from ._path import Path
-from ._told import Info
+from ._told import Entry, Info
+
+#: How many symbolic links one path leads through at most.
+_MOST_FOLLOWED = 40
 
 #: What makes a part of a pattern one that other names fit.
 _MAGIC = frozenset("*?[")
@@ -30,21 +33,40 @@ class Whole(Calls):
         """Whether a path leads to anything."""
         return self._found(path) is not None
 
-    def isdir(self, path: AnyPath) -> bool:
-        """Whether a path leads to a directory."""
-        found = self._found(path)
-        return found is not None and found.is_dir
+    def lexists(self, path: AnyPath) -> bool:
+        """Whether a path leads to anything; also to a symbolic link that leads to nothing."""
+        return self._found(path, follow_symlinks=False) is not None
 
-    def isfile(self, path: AnyPath) -> bool:
-        """Whether a path leads to a file."""
-        found = self._found(path)
-        return found is not None and not found.is_dir
+    def islink(self, path: AnyPath) -> bool:
+        """Whether a path leads to a symbolic link."""
+        found = self._found(path, follow_symlinks=False)
+        return found is not None and found.is_link
 
-    def _found(self, path: AnyPath) -> Info | None:
-        try:
-            return self.stat(path)
-        except (FileNotFoundError, NotADirectoryError):
-            return None
+    def realpath(self, path: AnyPath) -> str:
+        """The path from the root to what a path leads to, with no symbolic link, `.` or `..` in it,
+        as `os.path.realpath` tells it. What is missing stays as it is.
+
+        Raises:
+            OSError: ELOOP where it leads through more than 40 symbolic links.
+        """
+        real, left, followed = "/", os.fsdecode(path).split("/")[::-1], 0
+        while left:
+            name = left.pop()
+            here = posixpath.normpath(posixpath.join(real, name))
+            target = self._target(here) if name not in ("", ".", "..") else None
+            if target is None:
+                real = here
+                continue
+            followed += 1
+            if followed > _MOST_FOLLOWED:
+                raise os_error(errno.ELOOP, path)
+            real = "/" if target.startswith("/") else real
+            left += target.split("/")[::-1]
+        return real
+
+    def _target(self, path: str) -> str | None:
+        """The target of a path that is a symbolic link."""
+        return self.readlink(path) if self.islink(path) else None
 
     def makedirs(self, path: AnyPath, exist_ok: bool = False) -> None:
         """Makes a directory, and those above it, where they are missing.
@@ -74,8 +96,9 @@ class Whole(Calls):
 
     def write_bytes(self, path: AnyPath, data: bytes) -> None:
         """Makes a file of these bytes, in place of those that it had."""
+        view = memoryview(data)
         with self._raw(path, "wb") as file:
-            file.write_all(data)
+            file.write_all(view)
 
     def write_text(
         self, path: AnyPath, text: str, encoding: str = "utf-8", errors: str = "strict"
@@ -95,26 +118,35 @@ class Whole(Calls):
         self.rename(old, new)
 
     def walk(
-        self, top: AnyPath = "/", topdown: bool = True
+        self, top: AnyPath = "/", topdown: bool = True, followlinks: bool = False
     ) -> Iterator[tuple[str, list[str], list[str]]]:
         """The directories at and below `top`, as `os.walk` tells them: the path of each, the names
         of directories in it, and those of files. Where it goes down, a name that is taken out of
-        the second list is passed over."""
+        the second list is passed over.
+
+        A symbolic link to a directory stands among the names of directories, and is gone into with
+        `followlinks` alone, where one that leads back up is gone into again and again.
+        """
         here = os.fsdecode(top)
         folders: list[str] = []
         files: list[str] = []
+        passed_over: set[str] = set()
         for entry in self.scandir(here):
             (folders if entry.is_dir() else files).append(entry.name)
+            if entry.is_symlink() and not followlinks:
+                passed_over.add(entry.name)
         if topdown:
             yield here, folders, files
         for name in folders:
-            yield from self.walk(os.path.join(here, name), topdown)
+            if name not in passed_over:
+                yield from self.walk(os.path.join(here, name), topdown, followlinks)
         if not topdown:
             yield here, folders, files
 
     def glob(self, pattern: AnyPath) -> list[str]:
         """The paths that fit a pattern, in order, as `glob.glob` tells them: `**` is any number of
-        directories, and a name that begins with a dot fits what begins with a dot alone."""
+        directories, none of them through a symbolic link, and a name that begins with a dot fits
+        what begins with a dot alone."""
         parts = [part for part in os.fsdecode(pattern).split("/") if part]
         top = "/" if os.fsdecode(pattern).startswith("/") else ""
         return sorted(set(self._fitting(top, parts)))
@@ -127,35 +159,53 @@ class Whole(Calls):
             yield from self._fitting_at_any_depth(folder, parts)
         elif not _MAGIC & set(parts[0]):
             path = os.path.join(folder, parts[0])
-            if self.isdir(path) if parts[1:] else self.exists(path):
+            if self.isdir(path) if parts[1:] else self.lexists(path):
                 yield from self._fitting(path, parts[1:])
         else:
             for entry in self.scandir(folder or "/"):
-                if _fits(entry.name, parts[0]) and (entry.is_dir() or not parts[1:]):
+                if _fits(entry.name, parts[0]) and (not parts[1:] or entry.is_dir()):
                     yield from self._fitting(os.path.join(folder, entry.name), parts[1:])
 
     def _fitting_at_any_depth(self, folder: str, parts: list[str]) -> Iterator[str]:
         yield from self._fitting(folder, parts[1:])
         for entry in self.scandir(folder or "/"):
             path = os.path.join(folder, entry.name)
-            if entry.is_dir() and _fits(entry.name, "*"):
+            if entry.is_dir(follow_symlinks=False) and _fits(entry.name, "*"):
                 yield from self._fitting_at_any_depth(path, parts)
             elif not parts[1:] and _fits(entry.name, "*"):
                 yield path
 
     def rmtree(self, path: AnyPath) -> None:
-        """Removes a directory with all below it."""
-        for folder, _, files in self.walk(path, topdown=False):
-            for name in files:
-                self.unlink(os.path.join(folder, name))
-            self.rmdir(folder)
+        """Removes a directory with all below it. Symbolic links are removed, and what they lead to
+        stays.
 
-    def copyfile(self, old: AnyPath, new: AnyPath) -> None:
+        Raises:
+            NotADirectoryError: The path leads to a file, or is a symbolic link.
+        """
+        if self.islink(path):
+            raise os_error(errno.ENOTDIR, path)
+        for entry in self.scandir(path):
+            if entry.is_dir(follow_symlinks=False):
+                self.rmtree(entry.path)
+            else:
+                self.unlink(entry.path)
+        self.rmdir(path)
+
+    def copyfile(self, old: AnyPath, new: AnyPath, *, follow_symlinks: bool = True) -> None:
         """Makes a file of the bytes of another, in place of those that it had.
+
+        Args:
+            old: The file.
+            new: The path of the copy. A symbolic link there is followed.
+            follow_symlinks: Whether the bytes of what a symbolic link leads to are copied; else
+                such a link is made.
 
         Raises:
             shutil.SameFileError: Both paths lead to the same file.
         """
+        if not follow_symlinks and self.islink(old):
+            self.symlink(self.readlink(old), new)
+            return
         found = self._found(new)
         if found and found.number == self.stat(old).number:
             raise shutil.SameFileError(f"{old!r} and {new!r} are the same file")
@@ -164,33 +214,50 @@ class Whole(Calls):
                 target.write_all(piece)
 
     def copytree(self, old: AnyPath, new: AnyPath, dirs_exist_ok: bool = False) -> None:
-        """Copies a directory with all below it. Files with several names below it stay such.
+        """Copies a directory with all below it. Files with several names below it stay such, and
+        symbolic links stay symbolic links, with the same targets.
 
         Args:
             old: The directory.
             new: The path of the copy.
-            dirs_exist_ok: Whether directories may be there already; files are replaced then.
+            dirs_exist_ok: Whether directories may be there already; files and symbolic links are
+                replaced then.
 
         Raises:
             OSError: EINVAL where the copy would be below the directory.
             FileExistsError: The copy is there already.
         """
         source, target = os.fsdecode(old), os.fsdecode(new)
-        if (_plain(target) + "/").startswith(_plain(source) + "/"):
+        if _below(self.realpath(target)).startswith(_below(self.realpath(source))):
             raise os_error(errno.EINVAL, old, new)
-        names: dict[int, str] = {}
-        for folder, _, files in self.walk(source):
-            to = os.path.join(target, os.path.relpath(folder, source)).rstrip("./") or "/"
-            self.makedirs(to, dirs_exist_ok)
-            for name in files:
-                self._copy_or_link(os.path.join(folder, name), os.path.join(to, name), names)
+        self._copy_folder(source, target, dirs_exist_ok, {})
 
-    def _copy_or_link(self, old: str, new: str, names: dict[int, str]) -> None:
-        first = names.setdefault(self.stat(old).number, new)
-        if first == new:
-            self.copyfile(old, new)
-        else:
+    def _copy_folder(self, old: str, new: str, exist_ok: bool, names: dict[int, str]) -> None:
+        entries = self.scandir(old)
+        self.makedirs(new, exist_ok)
+        for entry in entries:
+            to = os.path.join(new, entry.name)
+            if entry.is_dir(follow_symlinks=False):
+                self._copy_folder(entry.path, to, exist_ok, names)
+            else:
+                self._copy_or_link(entry, to, names)
+
+    def _copy_or_link(self, entry: Entry[str], new: str, names: dict[int, str]) -> None:
+        """Copies a file or symbolic link, or makes a further name of the copy."""
+        if entry.is_symlink() or self.islink(new):
+            self._make_room(new)
+        first = names.setdefault(entry.stat(follow_symlinks=False).number, new)
+        if first != new:
             self.link(first, new)
+        elif entry.is_symlink():
+            self.symlink(self.readlink(entry.path), new)
+        else:
+            self.copyfile(entry.path, new)
+
+    def _make_room(self, path: str) -> None:
+        """Removes a file or symbolic link, if there is one."""
+        if self.lexists(path):
+            self.unlink(path)
 
     def move(self, old: AnyPath, new: AnyPath) -> str:
         """Moves a file or a directory, into `new` where that is a directory, and answers its new
@@ -198,15 +265,15 @@ class Whole(Calls):
         target = os.fsdecode(new)
         if self.isdir(target):
             target = os.path.join(target, posixpath.basename(os.fsdecode(old).rstrip("/")))
-            if self.exists(target):
+            if self.lexists(target):
                 raise os_error(errno.EEXIST, target)
         self.rename(old, target)
         return target
 
 
-def _plain(path: str) -> str:
-    """A path with no `.`, `..` or further slashes."""
-    return posixpath.normpath("/" + path.lstrip("/")).rstrip("/")
+def _below(folder: str) -> str:
+    """What the paths at and below a folder begin with, if a slash stands behind each."""
+    return folder.rstrip("/") + "/"
 
 
 def _fits(name: str, pattern: str) -> bool:

@@ -73,18 +73,33 @@ class NuzolgedFileSystem(AbstractFileSystem):  # type: ignore[misc]
 
     @staticmethod
     def _told(path: str, info: Info) -> dict[str, Any]:
-        kind = "directory" if info.is_dir else "file"
-        told = {"name": path, "size": info.size, "type": kind}
+        kind = "link" if info.is_link else "directory" if info.is_dir else "file"
+        told = {"name": path, "size": info.size, "type": kind, "islink": info.is_link}
         return {**told, "ino": info.number, "nlink": info.links}
 
     def info(self, path: str, **_: Any) -> dict[str, Any]:
+        """What there is to tell of a path, of a last symbolic link itself: so what goes through
+        directories, as `walk`, `rm` and `copy`, never leaves them by one."""
         path = self._strip_protocol(path)
-        return self._told(path, self.at.stat(path))
+        told = self._told(path, self.at.lstat(path))
+        return {**told, "destination": self.at.readlink(path)} if told["islink"] else told
+
+    def exists(self, path: str, **_: Any) -> bool:
+        return self.at.exists(self._strip_protocol(path))
+
+    def isdir(self, path: str) -> bool:
+        return self.at.isdir(self._strip_protocol(path))
+
+    def isfile(self, path: str) -> bool:
+        return self.at.isfile(self._strip_protocol(path))
+
+    def islink(self, path: str) -> bool:
+        return self.at.islink(self._strip_protocol(path))
 
     def ls(self, path: str, detail: bool = True, **_: Any) -> list[Any]:
         path = self._strip_protocol(path)
         info = self.info(path)
-        if info["type"] == "file":
+        if not self.at.isdir(path):
             return [info] if detail else [path]
         names = [posixpath.join(path, name) for name in self.at.listdir(path)]
         return [self.info(name) for name in names] if detail else names
@@ -104,7 +119,7 @@ class NuzolgedFileSystem(AbstractFileSystem):  # type: ignore[misc]
 
     def _rm(self, path: str) -> None:
         path = self._strip_protocol(path)
-        if self.at.isdir(path):
+        if self.at.lstat(path).is_dir:
             self.at.rmdir(path)
         else:
             self.at.unlink(path)
@@ -114,10 +129,10 @@ class NuzolgedFileSystem(AbstractFileSystem):  # type: ignore[misc]
 
     def cp_file(self, path1: str, path2: str, **_: Any) -> None:
         old, new = self._strip_protocol(path1), self._strip_protocol(path2)
-        if self.at.isdir(old):
+        if self.at.lstat(old).is_dir:
             self.at.makedirs(new, exist_ok=True)
         else:
-            self.at.copyfile(old, new)
+            self.at.copyfile(old, new, follow_symlinks=False)
 
     def _open(self, path: str, mode: str = "rb", **_: Any) -> Any:
         return self.at.open(self._strip_protocol(path), mode)

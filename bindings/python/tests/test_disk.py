@@ -2,6 +2,7 @@
 import contextlib
 import errno
 import os
+import socket
 import stat
 import tempfile
 import threading
@@ -11,6 +12,11 @@ from pathlib import Path
 from unittest import mock
 
 from nuzolged import Limits, Tree, _disk, copy_in, copy_out
+
+
+def make_socket(path):
+    with contextlib.closing(socket.socket(socket.AF_UNIX)) as made:
+        made.bind(str(path))
 
 
 class DiskTest(unittest.TestCase):
@@ -88,13 +94,122 @@ class DiskTest(unittest.TestCase):
 
     def test_copy_in_of_what_no_tree_has(self):
         source = self.make()
-        for make in (lambda path: os.symlink("one", path), os.mkfifo):
+        for make in (make_socket, os.mkfifo):
             make(source / "a" / "other")
             with self.assertRaises(OSError) as error, self.job.begin() as step:
                 copy_in(step, source)
             self.assertEqual(error.exception.errno, errno.ENOTSUP)
             self.assertEqual(error.exception.filename, str(source / "a" / "other"))
             os.unlink(source / "a" / "other")
+
+    def make_links(self):
+        """The same with links: to a file, to directories, out of it, to nothing, to itself, and one
+        with two names."""
+        source = self.make()
+        secret = self.disk / "secret"
+        secret.mkdir()
+        (secret / "file").write_bytes(b"secret")
+        for path, target in {
+            "one": "a/one",
+            "a/up": "..",
+            "out": str(secret),
+            "a/to_nothing": "none/such",
+            "loop": "loop",
+            "bytes": b"\xff/\n",
+            "empty/two": "../a/b/two",
+        }.items():
+            os.symlink(target, source / path)
+        os.link(source / "one", source / "a" / "other_one", follow_symlinks=False)
+        return source
+
+    def links_of(self, folder):
+        """The links below a directory of the disk, with their targets."""
+        found = {}
+        for above, folders, files in os.walk(os.fsencode(folder)):
+            for path in (os.path.join(above, name) for name in folders + files):
+                if os.path.islink(path):
+                    found[os.path.relpath(path, os.fsencode(folder))] = os.readlink(path)
+        return found
+
+    def test_links_are_copied_as_they_are(self):
+        source, target = self.make_links(), self.disk / "target"
+        copy_in(self.job, source)
+        self.assertEqual(self.job.readlink("/one"), "a/one")
+        self.assertEqual(self.job.readlink(b"/bytes"), b"\xff/\n")
+        self.assertEqual(self.job.lstat("/a/other_one"), self.job.lstat("/one"))
+        self.assertEqual(self.job.lstat("/one").links, 2)
+        self.assertEqual(self.job.read_bytes("/one"), b"\0\xff\n")
+        self.assertFalse(self.job.exists("/out"))
+        copy_out(self.job, target, sync=True)
+        self.assertEqual(len(self.links_of(target)), 8)
+        self.assertEqual(self.links_of(target), self.links_of(source))
+        self.assertEqual(os.lstat(target / "one").st_ino, os.lstat(target / "a/other_one").st_ino)
+        self.assertEqual(os.listdir(self.disk / "secret"), ["file"])
+
+    def test_links_in_a_directory_that_nobody_writes(self):
+        source, target, modes = self.make_links(), self.disk / "target", {}
+        os.chmod(source / "empty", 0o500)
+        copy_in(self.job, source, modes=modes)
+        copy_out(self.job, target, modes=modes)
+        self.assertEqual(self.mode(target / "empty"), 0o500)
+        self.assertEqual(self.links_of(target), self.links_of(source))
+        for folder in (source, target):
+            os.chmod(folder / "empty", 0o700)
+
+    def test_nothing_is_written_through_a_link(self):
+        """A name is a link in the tree, and was a directory of the disk."""
+        victim, target = self.disk / "victim", self.disk / "target"
+        victim.mkdir(mode=0o755)
+        (victim / "file").write_bytes(b"mine")
+        (target / "etc").mkdir(parents=True)
+        self.job.symlink(victim, "/etc")
+        self.job.symlink(victim / "file", "/aaa")
+        self.job.symlink("etc/made", "/zzz")
+        self.job.mkdir("/b")
+        self.job.symlink("../etc", "/b/etc")
+        self.job.write_bytes("/b/file", b"of the tree")
+        copy_out(self.job, target, replace=True)
+        self.assertEqual(os.readlink(target / "etc"), str(victim))
+        self.assertEqual(os.listdir(victim), ["file"])
+        self.assertEqual((victim / "file").read_bytes(), b"mine")
+        self.assertEqual(self.mode(victim), 0o755)
+        self.assertEqual((target / "b" / "file").read_bytes(), b"of the tree")
+
+    def test_links_are_made_last(self):
+        self.job.symlink("b", "/a")
+        self.job.mkdir("/b")
+        self.job.write_bytes("/b/file", b"")
+        made = []
+
+        def symlink(target, path):
+            made.append((target, sorted(os.listdir(Path(path).parent / "b"))))
+
+        with mock.patch.object(_disk.os, "symlink", symlink):
+            copy_out(self.job, self.disk / "target")
+        self.assertEqual(made, [("b", ["file"])])
+
+    def test_copy_in_beside_links_of_the_tree(self):
+        source = self.disk / "source"
+        (source / "lib").mkdir(parents=True)
+        (source / "lib" / "one").write_bytes(b"one")
+        self.job.makedirs("/usr/lib")
+        self.job.symlink("usr/lib", "/lib")
+        copy_in(self.job, source)
+        self.assertEqual(self.job.read_bytes("/usr/lib/one"), b"one")
+        self.assertEqual(self.job.readlink("/lib"), "usr/lib")
+        for name in ("two", "three"):
+            os.symlink("one", source / "lib" / name)
+        self.job.symlink("elsewhere", "/usr/lib/two")
+        self.job.unlink("/usr/lib/one")
+        with self.assertRaises(FileExistsError) as exists, self.job.begin() as step:
+            copy_in(step, source)
+        self.assertEqual(exists.exception.filename, "/lib/two")
+        self.assertEqual(self.job.listdir("/lib"), ["two"])
+        (source / "lib" / "two").unlink()
+        (source / "lib" / "two").write_bytes(b"two")
+        with self.assertRaises(FileExistsError), self.job.begin() as step:
+            copy_in(step, source)
+        self.assertEqual(self.job.readlink("/lib/two"), "elsewhere")
 
     def test_copy_in_of_a_file_that_is_too_large(self):
         source = self.make()
@@ -116,13 +231,14 @@ class DiskTest(unittest.TestCase):
             return contextlib.nullcontext(entries)
 
         with mock.patch.object(_disk.os, "scandir", listed):
-            with self.assertRaises(OSError) as error:
-                copy_in(self.job, source)
-        self.assertEqual(error.exception.errno, errno.ENOTSUP)
+            copy_in(self.job, source)
+        self.assertEqual(self.job.readlink("/three"), str(secret))
+        self.assertEqual(self.job.lstat("/three").links, 1)
 
     def test_links_that_come_and_go_are_not_followed(self):
         source, secret, stop = self.disk / "source", self.disk / "secret", threading.Event()
         source.mkdir()
+        (source / "a").write_bytes(b"mine")
         secret.write_bytes(b"secret")
 
         def swap():
@@ -143,12 +259,10 @@ class DiskTest(unittest.TestCase):
             thread.join()
 
     def copy_of_a(self, source):
+        """What stands in the copy, or None where that is a link."""
         with Tree() as tree, tree.begin() as job:
-            try:
-                copy_in(job, source)
-                return job.read_bytes("/a")
-            except OSError:
-                return None
+            copy_in(job, source)
+            return None if job.islink("/a") else job.read_bytes("/a")
 
     def test_copy_out_is_whole_or_nothing(self):
         self.job.mkdir("/a")

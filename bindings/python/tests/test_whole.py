@@ -164,6 +164,29 @@ class Fsspec(WholeTest):
         self.assertEqual(fs.info("/t")["size"], 4)
         self.assertFalse(fs.exists("/z"))
 
+    def test_links(self):
+        from nuzolged.fsspec import NuzolgedFileSystem
+
+        fs = NuzolgedFileSystem(self.job, skip_instance_cache=True)
+        fs.makedirs("/x")
+        for path, target in {"to_a": "../a", "to_three": "../three", "loop": "loop"}.items():
+            self.job.symlink(target, f"/x/{path}")
+        told = fs.info("/x/to_a")
+        self.assertEqual((told["type"], told["islink"], told["destination"]), ("link", True, "../a"))
+        self.assertTrue(fs.isdir("/x/to_a") and fs.isfile("/x/to_three"))
+        self.assertFalse(fs.exists("/x/loop") or fs.islink("/three"))
+        self.assertTrue(fs.islink("/x/loop"))
+        self.assertEqual(fs.cat("/x/to_three"), b"three")
+        self.assertEqual(fs.ls("/x/to_a", detail=False), ["/x/to_a/b", "/x/to_a/two"])
+        self.assertEqual(fs.find("/x"), ["/x/loop", "/x/to_a", "/x/to_three"])
+        fs.copy("/x", "/v", recursive=True)
+        self.assertEqual(self.job.readlink("/v/to_a"), "../a")
+        fs.rm("/x", recursive=True)
+        fs.rm("/v/to_three")
+        self.assertEqual(self.job.listdir("/v"), ["loop", "to_a"])
+        self.assertEqual(self.job.listdir("/a"), ["b", "two"])
+        self.assertEqual(self.job.read_text("/three"), "three")
+
 
 @unittest.skipUnless(importlib.util.find_spec("pytest"), "pytest is not installed")
 class Pytest(unittest.TestCase):

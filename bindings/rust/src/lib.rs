@@ -27,7 +27,8 @@
 //! the traits of `std::io`. [`Error`] is what stands in the way of a request, and becomes an
 //! `io::Error` by `From`.
 //!
-//! A path is absolute or not, which is the same here: there is no working directory but the root.
+//! A path is absolute or not, which is the same here: there is no working directory but the root. A
+//! symbolic link with a relative target leads on from its own directory.
 //!
 //! # What the borrow checker rules out
 //!

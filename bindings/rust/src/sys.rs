@@ -54,6 +54,7 @@ pub const WAITS: u32 = 1100;
 pub const CLOSED: u32 = 1200;
 pub const BAD: u32 = 1201;
 pub const DIR: u32 = 1;
+pub const LINK: u32 = 3;
 
 extern "C" {
     fn nuz_tree_open_with(tree: &mut Handle, rule: u32, limits: Limits) -> u32;
@@ -117,6 +118,8 @@ functions! {
         nuz_list(txn => u64, path.as_ptr() => Bytes, path.len() => usize);
     stat(txn: u64, path: &[u8]) =
         nuz_stat(txn => u64, path.as_ptr() => Bytes, path.len() => usize);
+    lstat(txn: u64, path: &[u8]) =
+        nuz_lstat(txn => u64, path.as_ptr() => Bytes, path.len() => usize);
     unlink(txn: u64, path: &[u8]) =
         nuz_unlink(txn => u64, path.as_ptr() => Bytes, path.len() => usize);
     truncate(txn: u64, path: &[u8], size: i64) =
@@ -127,6 +130,12 @@ functions! {
     rename(txn: u64, from: &[u8], to: &[u8]) =
         nuz_rename(txn => u64, from.as_ptr() => Bytes, from.len() => usize,
                    to.as_ptr() => Bytes, to.len() => usize);
+    symlink(txn: u64, target: &[u8], path: &[u8]) =
+        nuz_symlink(txn => u64, target.as_ptr() => Bytes, target.len() => usize,
+                    path.as_ptr() => Bytes, path.len() => usize);
+    readlink(txn: u64, path: &[u8], buffer: &mut [u8]) =
+        nuz_readlink(txn => u64, path.as_ptr() => Bytes, path.len() => usize,
+                     buffer.as_mut_ptr() => Buffer, buffer.len() => usize);
 
     open_file(txn: u64, path: &[u8], access: u32, flags: Flags) =
         nuz_open(txn => u64, path.as_ptr() => Bytes, path.len() => usize, access => u32,

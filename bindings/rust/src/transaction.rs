@@ -30,26 +30,32 @@ pub struct Transaction<R: Reach> {
     left: Mutex<Vec<u64>>,
 }
 
+/// The longest target of a symbolic link.
+const LONGEST_TARGET: usize = 4095;
+
 /// What a name leads to.
 #[derive(Clone, Copy, Debug, PartialEq, Eq, Hash)]
+#[doc(alias = "FileType")]
 pub enum Kind {
     /// A directory.
     Dir,
     /// A file.
     File,
+    /// A symbolic link.
+    Symlink,
 }
 
-/// What there is to tell of a file or directory.
+/// What there is to tell of a file, a directory or a symbolic link.
 #[derive(Clone, Copy, Debug, PartialEq, Eq)]
 #[non_exhaustive]
 pub struct Metadata {
-    /// Which of the two it is.
+    /// Which of these it is.
     pub kind: Kind,
     /// Its number in the tree, which no other has or has had.
     pub number: u64,
-    /// How many names a file has. A directory has one link.
+    /// How many names a file or symbolic link has. A directory has one link.
     pub links: u64,
-    /// How many bytes a file has.
+    /// How many bytes a file has, or the target of a symbolic link.
     pub len: u64,
 }
 
@@ -59,7 +65,7 @@ pub struct Metadata {
 pub struct Entry {
     /// The name.
     pub name: OsString,
-    /// What it leads to.
+    /// What it is of. A symbolic link is not followed.
     pub kind: Kind,
 }
 
@@ -67,8 +73,24 @@ impl Kind {
     fn of(answer: Answer) -> Kind {
         match answer.kind {
             sys::DIR => Kind::Dir,
+            sys::LINK => Kind::Symlink,
             _ => Kind::File,
         }
+    }
+
+    /// Whether it is a directory.
+    pub fn is_dir(self) -> bool {
+        self == Kind::Dir
+    }
+
+    /// Whether it is a file.
+    pub fn is_file(self) -> bool {
+        self == Kind::File
+    }
+
+    /// Whether it is a symbolic link.
+    pub fn is_symlink(self) -> bool {
+        self == Kind::Symlink
     }
 }
 
@@ -88,14 +110,24 @@ impl Metadata {
         }
     }
 
+    /// What it is of.
+    pub fn file_type(&self) -> Kind {
+        self.kind
+    }
+
     /// Whether it is of a directory.
     pub fn is_dir(&self) -> bool {
-        self.kind == Kind::Dir
+        self.kind.is_dir()
     }
 
     /// Whether it is of a file.
     pub fn is_file(&self) -> bool {
-        self.kind == Kind::File
+        self.kind.is_file()
+    }
+
+    /// Whether it is of a symbolic link, of which only [`lstat`](Transaction::lstat) tells.
+    pub fn is_symlink(&self) -> bool {
+        self.kind.is_symlink()
     }
 }
 
@@ -105,14 +137,24 @@ impl Entry {
         &self.name
     }
 
-    /// Whether it leads to a directory.
-    pub fn is_dir(&self) -> bool {
-        self.kind == Kind::Dir
+    /// What the name is of. A symbolic link is not followed.
+    pub fn file_type(&self) -> Kind {
+        self.kind
     }
 
-    /// Whether it leads to a file.
+    /// Whether it is of a directory.
+    pub fn is_dir(&self) -> bool {
+        self.kind.is_dir()
+    }
+
+    /// Whether it is of a file.
     pub fn is_file(&self) -> bool {
-        self.kind == Kind::File
+        self.kind.is_file()
+    }
+
+    /// Whether it is of a symbolic link.
+    pub fn is_symlink(&self) -> bool {
+        self.kind.is_symlink()
     }
 }
 
@@ -289,7 +331,7 @@ impl<R: Reach> Transaction<R> {
     ///
     /// # Errors
     ///
-    /// EEXIST, or one of the path: ENOENT, ENOTDIR, ENAMETOOLONG. As of each call: `Waits`,
+    /// EEXIST, or one of the path: ENOENT, ENOTDIR, ENAMETOOLONG, ELOOP. As of each call: `Waits`,
     /// `Deadlock`, or refused as `Ended` or `Full`.
     #[doc(alias = "create_dir")]
     pub fn mkdir(&self, path: impl AsRef<Path>) -> Result<()> {
@@ -326,7 +368,7 @@ impl<R: Reach> Transaction<R> {
         listed.map_err(|error| error.about(&[path]))
     }
 
-    /// What a path leads to.
+    /// What a path leads to, through a last symbolic link too.
     ///
     /// # Errors
     ///
@@ -336,7 +378,60 @@ impl<R: Reach> Transaction<R> {
         Ok(Metadata::of(self.on(path.as_ref(), Handle::stat)?))
     }
 
-    /// Removes a name of a file. The file lives while it has another, or is open.
+    /// What a path leads to, where a last symbolic link is not followed.
+    ///
+    /// # Errors
+    ///
+    /// Those of the path.
+    #[doc(alias = "symlink_metadata")]
+    pub fn lstat(&self, path: impl AsRef<Path>) -> Result<Metadata> {
+        Ok(Metadata::of(self.on(path.as_ref(), Handle::lstat)?))
+    }
+
+    /// Makes a symbolic link. Its target stays as it is given, and need not lead to anything; a
+    /// relative one begins in the directory of the link.
+    ///
+    /// ```
+    /// # use nuzolged::{Result, Tree};
+    /// # fn main() -> Result<()> {
+    /// # let tree = Tree::new()?;
+    /// # let job = tree.begin()?;
+    /// job.create_dir_all("/lib")?;
+    /// job.write("/lib/one.so.1", "bytes")?;
+    /// job.symlink("one.so.1", "/lib/one.so")?;
+    /// assert_eq!(job.read("/lib/one.so")?, b"bytes");
+    /// # Ok(())
+    /// # }
+    /// ```
+    ///
+    /// # Errors
+    ///
+    /// EEXIST; ENOENT for an empty target, ENAMETOOLONG for one of more than 4,095 bytes; or one of
+    /// the path.
+    pub fn symlink(&self, target: impl AsRef<Path>, path: impl AsRef<Path>) -> Result<()> {
+        let both = [target.as_ref(), path.as_ref()];
+        self.on_both(both, |handle, txn, [target, path]| {
+            handle.symlink(txn, target, path)
+        })?;
+        Ok(())
+    }
+
+    /// The target of a symbolic link.
+    ///
+    /// # Errors
+    ///
+    /// EINVAL where it is none, or one of the path.
+    #[doc(alias = "readlink")]
+    pub fn read_link(&self, path: impl AsRef<Path>) -> Result<PathBuf> {
+        let mut target = vec![0; LONGEST_TARGET];
+        let told = self.on(path.as_ref(), |handle, txn, path| {
+            handle.readlink(txn, path, &mut target)
+        })?;
+        target.truncate(told.number as usize);
+        Ok(OsString::from_vec(target).into())
+    }
+
+    /// Removes a name of a file or symbolic link. A file lives while it has another, or is open.
     ///
     /// # Errors
     ///
@@ -347,7 +442,7 @@ impl<R: Reach> Transaction<R> {
         Ok(())
     }
 
-    /// Cuts a file to a length, or adds zeros up to it.
+    /// Cuts a file to a length, or adds zeros up to it. A last symbolic link is followed.
     ///
     /// # Errors
     ///
@@ -360,7 +455,7 @@ impl<R: Reach> Transaction<R> {
         Ok(())
     }
 
-    /// Gives a file a further name.
+    /// Gives a file or symbolic link a further name.
     ///
     /// # Errors
     ///
@@ -373,7 +468,7 @@ impl<R: Reach> Transaction<R> {
         Ok(())
     }
 
-    /// Gives a file or a directory another name, in place of what had that name.
+    /// Gives a file, a symbolic link or a directory another name, in place of what had that name.
     ///
     /// # Errors
     ///
@@ -385,7 +480,8 @@ impl<R: Reach> Transaction<R> {
         Ok(())
     }
 
-    /// Opens a file, which borrows this transaction.
+    /// Opens a file, which borrows this transaction. A last symbolic link is followed, but with
+    /// [`create_new`](OpenOptions::create_new).
     ///
     /// # Errors
     ///

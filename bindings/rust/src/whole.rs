@@ -5,13 +5,17 @@ use crate::error::{Error, Result};
 use crate::file::{File, OpenOptions};
 use crate::transaction::{Kind, Transaction};
 use crate::tree::Reach;
+use std::ffi::OsString;
 use std::io;
-use std::path::{Path, PathBuf};
+use std::path::{Component, Path, PathBuf};
 
 /// How many bytes of a whole file are read or written at once: the library makes a copy of them.
 const PIECE: usize = 1 << 26;
 
-/// A file or directory that a [`Walk`] has come to.
+/// How many symbolic links one path leads through at most.
+const MOST_FOLLOWED: usize = 40;
+
+/// A file, a directory or a symbolic link that a [`Walk`] has come to.
 #[derive(Clone, Debug, PartialEq, Eq)]
 #[non_exhaustive]
 pub struct Place {
@@ -47,14 +51,14 @@ impl<R: Reach> Iterator for Walk<'_, R> {
         let place = self.left.pop()?;
         let entered = match place.kind {
             Kind::Dir => self.enter(&place.path),
-            Kind::File => Ok(()),
+            Kind::File | Kind::Symlink => Ok(()),
         };
         Some(entered.map(|()| place))
     }
 }
 
 impl<R: Reach> Transaction<R> {
-    /// Whether a path leads to anything.
+    /// Whether a path leads to anything, through a last symbolic link too.
     ///
     /// # Errors
     ///
@@ -67,6 +71,39 @@ impl<R: Reach> Transaction<R> {
             Err(error) if error.raw_os_error() == Some(ENOTDIR) => Ok(false),
             Err(error) => Err(error),
         }
+    }
+
+    /// The path from the root to what a path leads to, with no symbolic link, `.` or `..` in it.
+    ///
+    /// # Errors
+    ///
+    /// Those of [`stat`](Transaction::stat).
+    #[doc(alias = "realpath")]
+    pub fn canonicalize(&self, path: impl AsRef<Path>) -> Result<PathBuf> {
+        const ELOOP: u32 = 40;
+        let path = path.as_ref();
+        self.stat(path)?;
+        let (mut whole, mut left) = (PathBuf::from("/"), parts_of(path));
+        let mut followed = 0;
+        while let Some(part) = left.pop() {
+            whole.push(&part);
+            if part == ".." {
+                whole.pop();
+                whole.pop();
+            } else if self.lstat(&whole)?.is_symlink() {
+                let target = self.read_link(&whole)?;
+                left.extend(parts_of(&target));
+                whole.pop();
+                if target.has_root() {
+                    whole = PathBuf::from("/");
+                }
+                followed += 1;
+            }
+            if followed > MOST_FOLLOWED {
+                return Err(Error::of(ELOOP).about(&[path]));
+            }
+        }
+        Ok(whole)
     }
 
     /// All bytes of a file.
@@ -150,13 +187,14 @@ impl<R: Reach> Transaction<R> {
                 self.mkdir(directory)?;
             }
         }
-        match self.stat(path)?.kind {
-            Kind::Dir => Ok(()),
-            Kind::File => self.mkdir(path),
+        if self.stat(path)?.is_dir() {
+            return Ok(());
         }
+        self.mkdir(path)
     }
 
-    /// Removes a directory with all below it.
+    /// Removes a directory with all below it, or, as `std::fs` does, a symbolic link. Links are
+    /// removed, and what they lead to stays.
     ///
     /// # Errors
     ///
@@ -165,18 +203,22 @@ impl<R: Reach> Transaction<R> {
     #[doc(alias = "rm -r")]
     pub fn remove_dir_all(&self, path: impl AsRef<Path>) -> Result<()> {
         let path = path.as_ref();
+        if self.lstat(path)?.is_symlink() {
+            return self.unlink(path);
+        }
         let below = self.walk(path)?.collect::<Result<Vec<_>>>()?;
         for place in below.iter().rev() {
             match place.kind {
                 Kind::Dir => self.rmdir(&place.path)?,
-                Kind::File => self.unlink(&place.path)?,
+                Kind::File | Kind::Symlink => self.unlink(&place.path)?,
             }
         }
         self.rmdir(path)
     }
 
     /// Goes through what is below a directory: each directory before what is in it, and names in
-    /// the order of their bytes. A directory is listed when it is come to.
+    /// the order of their bytes. A directory is listed when it is come to. Symbolic links below it
+    /// are told, and not followed.
     ///
     /// # Errors
     ///
@@ -187,6 +229,13 @@ impl<R: Reach> Transaction<R> {
         walk.enter(path.as_ref())?;
         Ok(walk)
     }
+}
+
+/// The parts of a path, the last one first.
+fn parts_of(path: &Path) -> Vec<OsString> {
+    let is_part = |part: &Component| matches!(part, Component::Normal(_) | Component::ParentDir);
+    let parts = path.components().filter(is_part).rev();
+    parts.map(|part| part.as_os_str().to_owned()).collect()
 }
 
 /// Writes all of these bytes at an offset, or tells what stood in the way of the rest.
