@@ -1,9 +1,8 @@
 -- How many places for events a legal history wants to be kept.
-use Rattle.std.proofs.Common.{◌≡◌, ◌≢◌, ◌<◌, ◌≤◌, ◌+◌, ℕ, Bool, true, false, not, cond, ◌&&◌, ◌||◌, ◌==◌, List, [], ◌∷◌, Option, Some, None, is_some, length, arith, refl, sym, ap, ◌∙◌, eq-eqb, ne_eqb}
-use Rattle.std.proofs.lemmas.Bool.{false≢true, and_parts, and_from}
+use Rattle.std.proofs.Common.{◌≡◌, ◌<◌, ◌≤◌, ◌+◌, ℕ, Bool, true, false, not, cond, ◌&&◌, ◌||◌, ◌==◌, List, [], ◌∷◌, Option, Some, None, is_some, length, arith, refl, sym, ap, ◌∙◌, eq-eqb, ne_eqb}
+use Rattle.std.proofs.lemmas.Bool.{and_parts, and_from}
 use Rattle.ft_laws.specs.Lists.{In}
 use Rattle.ft_laws.proofs.Lists.{Each-from, Each-at}
-use Rattle.ft_laws.proofs.Tests.{by_test, by_option}
 use Rattle.ft_posix.specs.Posix.{HasSoundValues, posix_calls}
 use Rattle.ft_history.specs.Forest.{is_some_and}
 use Rattle.ft_history.specs.History.{Base as HistoryBase, Fate, last_transaction, last_stamp, begun, over, parent, fate, is_live, IsLive, owner_of, grants, is_gone, is_undone, is_standing, standing, number}

@@ -34,13 +34,13 @@ use Rattle.ft_core.specs.Kept.{start_of}
 use Rattle.ft_core.specs.Laws.{CallLaws, LockLaws}
 use Rattle.ft_core.specs.Reached.{IsLegalAt}
 use Rattle.ft_core.specs.Limits.{HistoryLimits}
-use Rattle.ft_core.specs.States.{Base, State, history, next_txn, next_stamp, after_begin, reply_of, accesses_now, fate_of, has_live_child, live_children, has_most_calls, count_standing, count_live, at_base, after_checkpoint}
+use Rattle.ft_core.specs.States.{Base, State, history, next_txn, next_stamp, after_begin, reply_of, accesses_now, fate_of, has_live_child, live_children, has_most_calls, count_live, at_base, after_checkpoint}
 use Rattle.ft_core.specs.Steps.{IsStep, IsAnswered, MayWantMemory, IsAsked, IsUndone, exact_rule, answer_with, begin_request, refusal_of, fault_if, fault_of_fate, fault_of_ask, fault_of_target}
 use Rattle.ft_core.proofs.Begins.{live-parent, live-fault}
 use Rattle.ft_core.proofs.Joining.{sound_values}
 use Rattle.ft_core.proofs.Legally.{legal-step}
 use Rattle.ft_core.proofs.Told.{told-push}
-use Rattle.ft_record.specs.Recording.{Recording, HasReplyTwice, with_outcome, with_told, with_given_back}
+use Rattle.ft_record.specs.Recording.{Recording, HasReplyTwice, with_outcome}
 use Rattle.ft_record.specs.Recent.{Remembered, IsRecent, events_kept, freed_by_commit}
 use Rattle.ft_record.specs.Recorded.{IsRecorded}
 use Rattle.ft_record.proofs.Places.{sound, events-begin, events-call, events-commit, events-abort, some-below, events-undo}
