@@ -342,7 +342,10 @@ impl Steps for FileRead {
             (Line::Begin, Wanted::Txn(1)),
             (Line::Open(1, b"/f".as_slice()), Wanted::Number(2, 2)),
             (Line::Write(1, 2, b"hi".as_slice()), Wanted::Number(3, 2)),
-            (Line::Symlink(1, b"f".as_slice(), b"/l".as_slice()), Wanted::Done(4)),
+            (
+                Line::Symlink(1, b"f".as_slice(), b"/l".as_slice()),
+                Wanted::Done(4),
+            ),
             (Line::Commit(1), Wanted::Committed),
         ];
         let path = FilePath::new(alloc, b"/f".as_slice())?;
