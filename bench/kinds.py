@@ -38,6 +38,8 @@ KINDS = [
     call("`write` of 100 bytes at the end", lambda files, n: f"write {files.growing} {TEXT}"),
     call("`pwrite` of 100 bytes over others", lambda files, n: f"pwrite {files.small} 0 {TEXT}"),
     call("`pread` of 100 bytes", lambda files, n: f"pread {files.small} 0 100"),
+    call("`fchmod` of one file", lambda files, n: f"fchmod {files.small} {600 + n % 2}"),
+    call("`futime` of one file", lambda files, n: f"futime {files.small} {n} 0"),
     call(
         "`pread` of 1 MiB",
         lambda files, n: f"pread {files.large} 0 {LARGE}",

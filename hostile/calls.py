@@ -7,10 +7,11 @@ MOST_FOLLOWED = 40
 
 # What a call is made with: a path that leads, mostly, to a file (E), to a directory (G), to a
 # link (L), to any of the three (P), to nothing (M), or to any of these (Q); a link's target (T);
-# a descriptor (F), a count (N), an offset or a length (I), data (D), how a file is opened (O), and
-# from where an offset counts (W). Beside it how often the call is chosen.
+# a descriptor (F), a count (N), an offset or a length (I), data (D), how a file is opened (O),
+# from where an offset counts (W), a mode (A), which may be left out (B), an owner or a group (U),
+# and seconds (S) with nanoseconds (R). Beside it how often the call is chosen.
 VERBS = {
-    "mkdir": ("M", 12),
+    "mkdir": ("BM", 12),
     "rmdir": ("G", 6),
     "open": ("OQ", 16),
     "close": ("F", 4),
@@ -30,6 +31,14 @@ VERBS = {
     "unlink": ("E", 8),
     "rename": ("PQ", 16),
     "list": ("G", 4),
+    "chmod": ("AP", 7),
+    "fchmod": ("FA", 4),
+    "chown": ("UUP", 6),
+    "lchown": ("UUP", 4),
+    "fchown": ("FUU", 4),
+    "utime": ("SRP", 6),
+    "lutime": ("SRP", 3),
+    "futime": ("FSR", 4),
 }
 PATHS = "EGLPMQ"
 
@@ -99,15 +108,30 @@ LIMITS = [
 COUNTS = [0, 1, 2, 5, 100, 4096, 5000]
 LARGE_COUNTS = [MOST_BYTES, 2**63 - 1, 2**63, 2**64 - 1]
 
+MODES = ["0", "7", "755", "0755", "644", "00644", "0600", "111", "1777", "2775", "4755", "7777"]
+
+# An owner or a group that stays, and the last number that one may have.
+STAYS = "-"
+LAST_OWNER = 2**32 - 2
+OWNERS = [STAYS, STAYS, 0, 0, 1, 1000, 2**31, LAST_OWNER]
+
+# Far from now, so that no clock tells them; the very first and the very last second are left out,
+# of which Linux keeps no nanoseconds.
+SECONDS = [0, 1, -1, 1_000_000_000, -1_000_000_000, 2**32, 2 - 2**63, 2**63 - 2]
+NANOSECONDS = [0, 0, 1, 500_000_000, 999_999_999]
+MOST_NANOSECONDS = 999_999_999
+MORE_NANOSECONDS = [MOST_NANOSECONDS + 1, 2**32 - 1]
+
 # A descriptor that no call has opened.
 UNKNOWN = 10**15
 
 
 class Call(collections.namedtuple("Call", "verb arguments")):
-    """A call with its arguments, paths and data as bytes."""
+    """A call with its arguments, paths and data as bytes; one that is left out is None."""
 
     def words(self):
-        return " ".join([self.verb, *map(word, self.arguments)])
+        given = [argument for argument in self.arguments if argument is not None]
+        return " ".join([self.verb, *map(word, given)])
 
     def paths(self):
         kinds = VERBS[self.verb][0]
@@ -134,6 +158,9 @@ CODES = [
 def coded(data):
     return "".join(map(CODES.__getitem__, data))
 
+
+# The calls that look a last link up itself, and change nothing of where it stands.
+OF_LINKS = ["lstat", "readlink", "lchown", "lutime"]
 
 # What each of these calls makes; a further name is of what the first path leads to.
 MADE = {"mkdir": "dir", "open": "file", "symlink": "link", "link": None}
@@ -174,7 +201,7 @@ class Paths:
 
     def may_follow(self, call, path):
         """Whether a call may have followed a link that is there, and leads nowhere."""
-        return self.kinds.get(path) == "link" and call.verb not in ("lstat", "readlink")
+        return self.kinds.get(path) == "link" and call.verb not in OF_LINKS
 
     def move(self, old, new):
         """What stood at or below the old path stands there below the new one."""
@@ -224,6 +251,11 @@ class Chooser:
             "O": self.flags,
             "W": lambda: one(["set", "cur", "end"]),
             "T": self.target,
+            "A": lambda: one(MODES),
+            "B": lambda: one(MODES) if self.random.random() < 0.3 else None,
+            "U": lambda: one(OWNERS),
+            "S": lambda: one(SECONDS),
+            "R": self.nanoseconds,
         }
         return choices[kind]()
 
@@ -234,9 +266,14 @@ class Chooser:
 
     def flags(self):
         behind = [("c", 0.7), ("x", 0.2), ("t", 0.25), ("a", 0.25)]
-        return self.random.choice(["r", "w", "rw", "rw"]) + "".join(
+        flags = self.random.choice(["r", "w", "rw", "rw"]) + "".join(
             flag for flag, part in behind if self.random.random() < part
         )
+        return f"{flags}={self.random.choice(MODES)}" if self.random.random() < 0.3 else flags
+
+    def nanoseconds(self):
+        is_too_many = self.random.random() < 0.1
+        return self.random.choice(MORE_NANOSECONDS if is_too_many else NANOSECONDS)
 
     def data(self):
         byte = self.random.choice([b"a", b"z", b"\x00", b"%", b"\xff"])

@@ -130,6 +130,11 @@ def is_too_long(step):
     return not 0 <= step.call.arguments[0] <= calls.MOST_BYTES
 
 
+def has_too_many_nanoseconds(step):
+    """Whether a utime is of as many nanoseconds as a second has, or more."""
+    return step.call.arguments[1] > calls.MOST_NANOSECONDS
+
+
 def is_directory_to_file(step):
     """Whether a rename is of a directory to a file's name, with a slash behind it or without."""
     return step.kinds in (["dir", "file"], ["dir", "ENOTDIR"])
@@ -175,6 +180,11 @@ RULES = [
         "truncate to more than a file may have comes before all look-up",
         UNDEFINED_ORDER,
         of("truncate", "EFBIG", f"EISDIR,{WALK}", is_too_long),
+    ),
+    Rule(
+        "utime with as many nanoseconds as a second has comes before all look-up",
+        UNDEFINED_ORDER,
+        of("utime lutime", "EINVAL", WALK, has_too_many_nanoseconds),
     ),
     Rule(
         "the descriptor comes before the offset or length",
@@ -242,7 +252,7 @@ RULES = [
         opens_directory,
     ),
     Rule(
-        "stat of a directory tells 1 link and size 0 (only kind and number are compared)",
+        "stat of a directory tells 1 link and size 0 (these two are not compared)",
         "<sys/stat.h>: st_size is unspecified for them; their links are left out here",
         asked_otherwise(system.DIRECTORY_INFO),
     ),
@@ -265,6 +275,46 @@ RULES = [
         "write with append goes to the end from any offset (the system is asked from 0)",
         "write(): with O_APPEND the offset is set to the end of the file prior to each write",
         asked_otherwise(system.APPEND_PAST_LARGEST),
+    ),
+    Rule(
+        "utime of a directory, whose time is not kept",
+        "utimensat(): [EINVAL], a time that the file system does not support",
+        of("utime lutime", "EINVAL", "ok", lambda step: step.kinds == ["dir"]),
+    ),
+    Rule(
+        "lutime of a link, whose time is not kept",
+        "utimensat(): [EINVAL], a time that the file system does not support",
+        of("lutime", "EINVAL", "ok", lambda step: step.met == system.LINK_TIME),
+    ),
+    Rule(
+        "lchown of a link, whose owner and group are 0 (the system is not asked)",
+        "lchown(): [EINVAL], an owner or group that the implementation does not support",
+        of("lchown", "EINVAL", "ok", lambda step: step.met == system.LINK_OWNER),
+    ),
+    Rule(
+        "chown leaves the set-id bits (the system is asked to set them again)",
+        "chown(): implementation-defined where there are appropriate privileges",
+        asked_otherwise(system.SET_ID_LOST),
+    ),
+    Rule(
+        "what is made has just the set-id bits that are asked for, and group 0 (they are set then)",
+        "mkdir(), open(): other bits are implementation-defined; the group may be the process's",
+        asked_otherwise(system.MADE_OTHERWISE),
+    ),
+    Rule(
+        "open that may make a file, of another's in a sticky directory (asked without making)",
+        "4.5 File Access Permissions: a process with appropriate privileges may do so",
+        asked_otherwise(system.OTHERS_IN_STICKY),
+    ),
+    Rule(
+        "truncate to the size that a file has takes its time away",
+        "truncate(): marks the last data modification for update",
+        asked_otherwise(system.CUT_TO_ITS_SIZE),
+    ),
+    Rule(
+        "stat tells no time of a clock (none is read here)",
+        "4.9 File Times Update; a choice of this project",
+        asked_otherwise(system.TIME_OF_CLOCK),
     ),
 ]
 

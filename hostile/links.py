@@ -8,7 +8,7 @@ import calls
 # The paths of each call, counted from 0, that by Linux lead to a last link itself, also where a
 # slash is behind it.
 TO_LINKS = {
-    "mkdir": [0],
+    "mkdir": [1],
     "rmdir": [0],
     "link": [1],
     "symlink": [1],

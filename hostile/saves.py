@@ -4,7 +4,8 @@ import sys
 import tempfile
 
 # Directories in one another, an empty one, a file of two names, one of more than one piece, and
-# symbolic links: to a directory, of two names, and to nothing.
+# symbolic links: to a directory, of two names, and to nothing. Modes, by which nobody but the
+# superuser may take away what was begun, owners and times.
 ROWS = [
     b"dir 1",
     b"dir 2",
@@ -23,6 +24,12 @@ ROWS = [
     b"file 6 100000 " + b"x" * 100_000,
     b"link 7 a",
     b"link 8 /no%20where",
+    b"attributes 1 0555 0 0",
+    b"attributes 2 0500 1000 1000",
+    b"attributes 3 0000 0 0",
+    b"attributes 5 0400 0 1",
+    b"time 5 1 2",
+    b"time 6 4294967296 0",
 ]
 REPORT = b"tree %d\n" % len(ROWS) + b"".join(row + b"\n" for row in ROWS)
 

@@ -5,16 +5,18 @@ import re
 
 FOLDER = os.path.join(os.path.dirname(os.path.dirname(os.path.abspath(__file__))), "cases")
 
-REPORTS = [b"tree", b"locks", b"waits"]
+REPORTS = [b"tree", b"locks", b"attributes", b"waits"]
 
 # The first line of each reply that there is: docs/SCRIPT.md, "Requests" and "Replies".
 REPLY = re.compile(
-    rb"(txn \d+|ok|undone \d+|waits( \d+)+|bad line|refused [A-Za-z]+|(tree|locks|edges) \d+"
-    rb"|\d+ ok( (\d+( \S+)*|(file|dir|link) \d+ \d+ \d+))?|\d+ E[A-Z]+)\n"
+    rb"(txn \d+|ok|undone \d+|waits( \d+)+|bad line|refused [A-Za-z]+"
+    rb"|(tree|locks|attributes|edges) \d+|\d+ ok( \d+( \S+)*)?"
+    rb"|\d+ ok (file|dir|link) \d+ \d+ \d+( attributes [0-7]{4} \d+ \d+)?( time -?\d+ \d+)?"
+    rb"|\d+ E[A-Z]+)\n"
 )
 
 # How many lines a reply has behind its first one, which tells N of them.
-LINES_BEHIND = {b"tree": 0, b"locks": 0, b"edges": 1}
+LINES_BEHIND = {b"tree": 0, b"locks": 0, b"attributes": 0, b"edges": 1}
 
 
 class Case:

@@ -65,7 +65,7 @@ impl Growth {
 
     /// Makes a directory, and says whether it was made.
     fn makes(&mut self, path: FilePath) -> Result<bool, Failed> {
-        let call = Call::Mkdir { path };
+        let call = Call::Mkdir { path, mode: None };
         self.does(&call)
     }
 

@@ -17,6 +17,8 @@ pub enum Measure {
     Stat,
     /// A directory is made.
     Mkdir,
+    /// A directory gets another mode.
+    Chmod,
     /// A directory is asked for that is there.
     Refused,
     /// An open file's offset is set, for which nothing new is stored.
@@ -34,6 +36,7 @@ impl Measure {
             "text" => Some(Measure::Text),
             "stat" => Some(Measure::Stat),
             "mkdir" => Some(Measure::Mkdir),
+            "chmod" => Some(Measure::Chmod),
             "refused" => Some(Measure::Refused),
             "lseek" => Some(Measure::Lseek),
             "copy" => Some(Measure::Copy),
@@ -45,7 +48,7 @@ impl Measure {
     /// The path of one of the directories, or of a new one beside it.
     fn path(self, alloc: Global, place: Place, index: u64) -> Result<FilePath, Failed> {
         let level = match self {
-            Measure::Stat | Measure::Refused => Level::Third,
+            Measure::Stat | Measure::Chmod | Measure::Refused => Level::Third,
             _ => Level::Beside(index),
         };
         place.path(alloc, level)
@@ -55,7 +58,8 @@ impl Measure {
     fn take_at(self, growth: &mut Growth, fd: u64, path: FilePath) -> Result<bool, Failed> {
         let call = match self {
             Measure::Stat => Call::Stat { path },
-            _ => Call::Mkdir { path },
+            Measure::Chmod => Call::Chmod { mode: 0o700, path },
+            _ => Call::Mkdir { path, mode: None },
         };
         self.take(growth, fd, &call)
     }
@@ -63,8 +67,8 @@ impl Measure {
     fn take(self, growth: &mut Growth, fd: u64, call: &Call) -> Result<bool, Failed> {
         match self {
             Measure::Text => Ok(true),
-            Measure::Stat => Ok(growth.accesses(call)? == 3),
-            Measure::Mkdir => growth.does(call),
+            Measure::Stat => Ok(growth.accesses(call)? == 4),
+            Measure::Mkdir | Measure::Chmod => growth.does(call),
             Measure::Refused => Ok(!growth.does(call)?),
             Measure::Lseek => Ok(seek(growth, fd)? == 1),
             Measure::Copy => growth.does_on_copy(call, false),
@@ -93,6 +97,7 @@ fn open(alloc: Global, growth: &mut Growth) -> Result<u64, Failed> {
         excl: false,
         trunc: false,
         append: false,
+        mode: None,
     };
     number(growth, &call)
 }

@@ -58,7 +58,7 @@ impl Stage {
         match self {
             Stage::Call | Stage::Path | Stage::Empty => Ok(()),
             Stage::Ask | Stage::Crowd | Stage::Whole | Stage::Heap => {
-                ask(core, txn, Call::Mkdir { path })
+                ask(core, txn, Call::Mkdir { path, mode: None })
             }
             Stage::Look => ask(core, txn, Call::Stat { path }),
         }
@@ -83,7 +83,7 @@ fn fill(alloc: Global, core: &mut Core, txn: TxnId, size: u64) -> Result<(), Fai
 fn add(alloc: Global, core: &mut Core, txn: TxnId, place: Place) -> Result<(), Failed> {
     for level in place.new_levels() {
         let path = place.path(alloc, *level)?;
-        ask(core, txn, Call::Mkdir { path })?;
+        ask(core, txn, Call::Mkdir { path, mode: None })?;
     }
     Ok(())
 }

@@ -1,1 +1,3 @@
+mod More
+mod PathsJudged
 mod Targets

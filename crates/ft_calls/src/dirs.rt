@@ -1,44 +1,52 @@
 // What the calls on directories come to.
-ghost use Rattle.std.specs.Prelude.{true, false, ◌≡◌, [], Ok, Some};
+ghost use Rattle.std.specs.Prelude.{true, false, ◌≡◌, [], ◌∷◌, ◌++◌, Ok, Some, None, OnOk};
 ghost use Rattle.ft_path.specs.FilePath.{parts_of};
 ghost use Rattle.ft_cells.specs.declared.node.Node.TheVariants.{Dir as DirNode};
 ghost use Rattle.ft_cells.specs.declared.node.Spot.TheVariants.{Named};
-ghost use Rattle.ft_posix.specs.Outcomes.{from_parts};
+ghost use Rattle.ft_cells.specs.declared.cell.Cell.TheVariants.{Parent, DirAttributes};
+ghost use Rattle.ft_cells.specs.Cells.{Cells};
+ghost use Rattle.ft_posix.specs.Outcomes.{sets, from_parts, from_judged};
+ghost use Rattle.ft_posix.specs.Attributes.{mode_fault};
 ghost use Rattle.ft_posix.specs.Dirs.{make_dir, remove_parts, remove_dir, last_fault, list_dir};
-ghost use Rattle.ft_posix.specs.Comes.{Comes};
+ghost use Rattle.ft_posix.specs.Comes.{writes_of, Comes};
 ghost use Rattle.ft_posix.specs.Intended.{intended};
 
+use crate::judging::{find_spot, mode_fault};
+use crate::making::set_dir_mode;
+use ft_base::Memory;
 use ft_looks::{Look, text_parts};
 use ft_path::{Errno, FilePath, LastName, Parts};
 use ft_posix::{Edit, Edits, Stop, Told};
-use ft_tree::{Entry, Node, Spot};
+use ft_tree::{Entry, Node, Rare, Spot};
 use std::alloc::Global;
 
-/// Makes a directory, which gets the stamp as its number.
+/// Makes a directory, which gets the stamp as its number, with the mode that is given.
 pub(crate) fn mkdir(
     alloc: Global,
     look: &mut Look<'_>,
     edits: &mut Edits<'_>,
     stamp: u64,
+    mode: Option<u16>,
     path: &FilePath,
 ) -> Result<Told, Stop>
     requires { edits.old ≡ [] }
-    ensures { Comes look.old (from_parts false (parts_of path.now) (make_dir stamp)) look.new (intended edits.new result) }
+    ensures { Comes look.old (from_judged (mode_fault mode) false (parts_of path.now) (make_dir stamp mode)) look.new (intended edits.new result) }
 {
-    let parts = text_parts(alloc, path)?;
-    let spot = look.walk(alloc, false, &parts)?;
-    make_dir(look, edits, stamp, spot)
+    let spot = find_spot(alloc, look, false, path, mode_fault(mode))?;
+    make_dir(alloc, look, edits, stamp, mode, spot)
 }
 
 /// Makes a directory where a walk ended.
 fn make_dir(
+    alloc: Global,
     look: &mut Look<'_>,
     edits: &mut Edits<'_>,
     stamp: u64,
+    mode: Option<u16>,
     spot: Spot,
 ) -> Result<Told, Stop>
     requires { edits.old ≡ [] }
-    ensures { Comes look.old (make_dir stamp spot) look.new (intended edits.new result) }
+    ensures { Comes look.old (make_dir stamp mode spot) look.new (intended edits.new result) }
 {
     let Spot::Named {
         entry,
@@ -56,6 +64,7 @@ fn make_dir(
         entry,
         to: Some(Node::Dir(stamp)),
     })?;
+    set_dir_mode(alloc, edits, stamp, mode)?;
     Ok(Told::Done)
 }
 
@@ -130,12 +139,21 @@ fn remove_bare(
     if !look.is_empty_dir(number)? {
         return Err(Stop::Errno(Errno::ENOTEMPTY));
     }
-    edits.push(Edit::Parent {
-        dir: number,
-        to: None,
-    })?;
+    dir_gone(edits, number)?;
     edits.push(Edit::Entry { entry, to: None })?;
     Ok(Told::Done)
+}
+
+/// A directory is gone, with its attributes.
+pub(crate) fn dir_gone(edits: &mut Edits<'_>, dir: u64) -> Result<(), Memory>
+    ensures { (cells : Cells) → OnOk result (writes_of cells edits.new ≡ writes_of cells edits.old ++ sets (DirAttributes dir) None ∷ sets (Parent dir) None ∷ []) }
+{
+    edits.push(Edit::DirAttributes {
+        dir,
+        to: Rare::none(),
+    })?;
+    edits.push(Edit::Parent { dir, to: None })?;
+    Ok(())
 }
 
 /// Lists the names of a directory.

@@ -5,15 +5,19 @@ ghost use Rattle.ft_path.specs.FilePath.{parts_of};
 ghost use Rattle.ft_cells.specs.Looks.{Answer};
 ghost use Rattle.ft_cells.specs.declared.node.Spot.TheVariants.{Named};
 ghost use Rattle.ft_posix.specs.Outcomes.{from_parts};
-ghost use Rattle.ft_posix.specs.Files.{open_node, open_spot, open_parts, cut_file, truncate_spot, truncate_parts, file_info, stat_spot};
+ghost use Rattle.ft_posix.specs.Looking.{Finds};
+ghost use Rattle.ft_posix.specs.Files.{open_node, open_spot, open_fault, open_parts, cut_file, truncate_spot, truncate_parts, dir_info, attributes_at, file_info, stat_spot};
 ghost use Rattle.ft_posix.specs.Comes.{Comes};
 ghost use Rattle.ft_posix.specs.Intended.{intended};
 
+use crate::judging::{find_spot, mode_fault};
+use crate::making::set_file_mode;
 use crate::offsets::to_size;
+use ft_base::Memory;
 use ft_looks::{Look, text_parts};
 use ft_path::{Errno, FilePath, Parts};
 use ft_posix::{Edit, Edits, OpenFlags, Stop, Told};
-use ft_tree::{Entry, Form, HintedFile, Kind, Node, Spot};
+use ft_tree::{Attributes, Entry, Form, HintedFile, Kind, Node, Spot};
 use std::alloc::Global;
 
 /// Opens a file, and makes it where that is asked. What is new gets the stamp as its number.
@@ -28,31 +32,23 @@ pub(crate) fn open(
     requires { edits.old ≡ [] }
     ensures { Comes look.old (open_parts stamp flags (parts_of path.now)) look.new (intended edits.new result) }
 {
-    let parts = text_parts(alloc, path)?;
-    open_parts(alloc, look, edits, stamp, flags, &parts)
+    let spot = find_spot(alloc, look, !flags.is_exclusive(), path, open_fault(flags))?;
+    open_spot(alloc, look, edits, stamp, flags, spot)
 }
 
-/// Opens the file that a path's components lead to.
-fn open_parts(
-    alloc: Global,
-    look: &mut Look<'_>,
-    edits: &mut Edits<'_>,
-    stamp: u64,
-    flags: OpenFlags,
-    parts: &Parts,
-) -> Result<Told, Stop>
-    requires { edits.old ≡ [] }
-    ensures { Comes look.old (open_parts stamp flags (Ok parts.now)) look.new (intended edits.new result) }
+/// What is wrong with how a file is to be opened.
+fn open_fault(flags: OpenFlags) -> Option<Errno>
+    ensures { result ≡ open_fault flags }
 {
     if flags.trunc && !flags.access.can_write() {
-        return Err(Stop::Errno(Errno::EINVAL));
+        return Some(Errno::EINVAL);
     }
-    let spot = look.walk(alloc, !flags.is_exclusive(), parts)?;
-    open_spot(look, edits, stamp, flags, spot)
+    mode_fault(flags.mode)
 }
 
 /// Opens the file at which a walk ended.
 fn open_spot(
+    alloc: Global,
     look: &mut Look<'_>,
     edits: &mut Edits<'_>,
     stamp: u64,
@@ -69,14 +65,16 @@ fn open_spot(
         return Err(Stop::Errno(Errno::EISDIR));
     };
     match node {
-        None => open_missing(look, edits, stamp, flags, slash, entry),
+        None => open_missing(alloc, look, edits, stamp, flags, slash, entry),
         Some(_) if flags.is_exclusive() => Err(Stop::Errno(Errno::EEXIST)),
         Some(node) => open_node(look, edits, stamp, flags, node),
     }
 }
 
-/// Opens a file that is not there: it is made, empty, where that is asked.
+/// Opens a file that is not there: it is made, empty and with the mode that is given, where that is
+/// asked.
 fn open_missing(
+    alloc: Global,
     look: &mut Look<'_>,
     edits: &mut Edits<'_>,
     stamp: u64,
@@ -103,6 +101,7 @@ fn open_missing(
         entry,
         to: Some(Node::File(Form::Regular, stamp)),
     })?;
+    set_file_mode(alloc, edits, stamp, flags.mode)?;
     Ok(Told::Number(stamp))
 }
 
@@ -240,13 +239,23 @@ fn stat_spot(look: &mut Look<'_>, spot: Spot) -> Result<Told, Stop>
             node: Some(Node::Dir(number)),
             ..
         }
-        | Spot::Itself(number) => Ok(Told::Info {
-            kind: Kind::Dir,
-            number,
-            links: 1,
-            size: 0,
-        }),
+        | Spot::Itself(number) => dir_info(look, number),
     }
+}
+
+/// Tells what a directory is.
+fn dir_info(look: &mut Look<'_>, dir: u64) -> Result<Told, Stop>
+    ensures { Comes look.old (dir_info dir) look.new (intended [] result) }
+{
+    let attributes = look.dir_attributes(dir)?;
+    Ok(Told::Info {
+        kind: Kind::Dir,
+        number: dir,
+        links: 1,
+        size: 0,
+        attributes,
+        time: None,
+    })
 }
 
 /// Tells what a file or a symbolic link is.
@@ -254,11 +263,24 @@ pub(crate) fn file_info(look: &mut Look<'_>, form: Form, file: u64) -> Result<To
     ensures { Comes look.old (file_info form file) look.new (intended [] result) }
 {
     let links = look.links(file)?;
-    let size = look.size(file)?;
+    let (size, time) = look.size_and_time(file)?;
+    let attributes = attributes_at(look, form, file)?;
     Ok(Told::Info {
         kind: Node::File(form, file).kind(),
         number: file,
         links,
         size,
+        attributes,
+        time,
     })
+}
+
+/// The attributes that are kept of a file; a symbolic link has none of its own.
+fn attributes_at(look: &mut Look<'_>, form: Form, file: u64) -> Result<Option<Attributes>, Memory>
+    ensures { Finds look.old (attributes_at form file) look.new result }
+{
+    match form {
+        Form::Regular => look.file_attributes(file),
+        Form::Link => Ok(None),
+    }
 }

@@ -10,6 +10,7 @@ ghost use Rattle.ft_posix.specs.declared.intent.Told.TheVariants.{Done};
 ghost use Rattle.ft_posix.specs.Comes.{writes_of, outcome_of, Comes};
 ghost use Rattle.ft_posix.specs.Intended.{intended};
 
+use crate::dirs::dir_gone;
 use ft_base::Memory;
 use ft_looks::{Look, text_parts};
 use ft_path::{Errno, FilePath, LastName, Parts};
@@ -388,7 +389,7 @@ fn replace_dir(
     replace_empty(look, edits, old, number, new, replaced)
 }
 
-/// Moves the entry of a directory to that of an empty one, which is gone then.
+/// Moves the entry of a directory to that of an empty one, which is gone then, with its attributes.
 fn replace_empty(
     look: &mut Look<'_>,
     edits: &mut Edits<'_>,
@@ -405,10 +406,7 @@ fn replace_empty(
     }
     let (dir, into) = (old.dir, new.dir);
     renamed(edits, old, Node::Dir(number), new)?;
-    edits.push(Edit::Parent {
-        dir: replaced,
-        to: None,
-    })?;
+    dir_gone(edits, replaced)?;
     with_parent(edits, number, dir, into)?;
     Ok(Told::Done)
 }

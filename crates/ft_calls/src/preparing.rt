@@ -10,6 +10,7 @@ ghost use Rattle.ft_posix.specs.Looking.{noted};
 ghost use Rattle.ft_posix.specs.Comes.{Comes, outcome_of};
 ghost use Rattle.ft_posix.specs.Intended.{intended};
 
+use crate::attributes::{chmod, chown, fchmod, fchown, futime, lchown, lutime, utime};
 use crate::descriptors::{close, fstat, ftruncate, lseek, pread, pwrite, read, write};
 use crate::dirs::{list, mkdir, rmdir};
 use crate::files::{open, stat, truncate};
@@ -86,7 +87,7 @@ fn tell<'c>(
     ensures { Comes look.old (steps look.old.cells.limits (stored_dirs look.old.cells) stamp call.now) look.new (intended edits.new result) }
 {
     match call {
-        Call::Mkdir { path } => mkdir(alloc, look, edits, stamp, path),
+        Call::Mkdir { path, mode } => mkdir(alloc, look, edits, stamp, *mode, path),
         Call::Rmdir { path } => rmdir(alloc, look, edits, path),
         Call::List { path } => list(alloc, look, path),
         Call::Open {
@@ -96,6 +97,7 @@ fn tell<'c>(
             excl,
             trunc,
             append,
+            mode,
         } => {
             let flags = OpenFlags {
                 access: *access,
@@ -103,6 +105,7 @@ fn tell<'c>(
                 excl: *excl,
                 trunc: *trunc,
                 append: *append,
+                mode: *mode,
             };
             open(alloc, look, edits, stamp, path, flags)
         }
@@ -122,6 +125,14 @@ fn tell<'c>(
         Call::Symlink { target, path } => symlink(alloc, look, edits, stamp, target, path),
         Call::Readlink { path } => readlink(alloc, look, path),
         Call::Lstat { path } => stat(alloc, look, false, path),
+        Call::Chmod { mode, path } => chmod(alloc, look, edits, *mode, path),
+        Call::Fchmod { fd, mode } => fchmod(alloc, look, edits, *fd, *mode),
+        Call::Chown { owner, group, path } => chown(alloc, look, edits, *owner, *group, path),
+        Call::Lchown { owner, group, path } => lchown(alloc, look, edits, *owner, *group, path),
+        Call::Fchown { fd, owner, group } => fchown(alloc, look, edits, *fd, *owner, *group),
+        Call::Utime { time, path } => utime(alloc, look, edits, *time, path),
+        Call::Lutime { time, path } => lutime(alloc, look, edits, *time, path),
+        Call::Futime { fd, time } => futime(alloc, look, edits, *fd, *time),
     }
 }
 

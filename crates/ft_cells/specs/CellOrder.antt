@@ -11,9 +11,9 @@ use Rattle.std.specs.Cmp.Lexicographic.{slice_cmp, nat_list_cmp_total}
 use Rattle.std.proofs.lemmas.Map.Lookups.{CmpEqualImpliesEq, exact_unsigned, exact_bytes, exact_pairs}
 use Rattle.ft_cells.specs.Entries.{entry_at}
 use Rattle.ft_cells.specs.declared.cell.Cell.{Cell}
-use Rattle.ft_cells.specs.declared.cell.Cell.TheVariants.{Entry, Names, Parent, Links, Bytes, Fd}
+use Rattle.ft_cells.specs.declared.cell.Cell.TheVariants.{Entry, Names, Parent, Links, Bytes, Fd, DirAttributes, FileAttributes}
 
--- the kind of a cell: entries first, and descriptors last
+-- the kind of a cell: entries first, and attributes last
 abbrev pub cell_rank : Cell → ℕ
 cell_rank (Entry entry) = 0
 cell_rank (Names d) = 1
@@ -21,6 +21,8 @@ cell_rank (Parent d) = 2
 cell_rank (Links i) = 3
 cell_rank (Bytes i) = 4
 cell_rank (Fd f) = 5
+cell_rank (DirAttributes d) = 6
+cell_rank (FileAttributes i) = 7
 
 -- the number of a cell: that of its directory, its file or its descriptor
 abbrev pub cell_number : Cell → ℕ
@@ -30,6 +32,8 @@ cell_number (Parent d) = d
 cell_number (Links i) = i
 cell_number (Bytes i) = i
 cell_number (Fd f) = f
+cell_number (DirAttributes d) = d
+cell_number (FileAttributes i) = i
 
 -- the name of an entry; no other cell has one
 abbrev pub cell_name : Cell → List ℕ
@@ -39,6 +43,8 @@ cell_name (Parent d) = []
 cell_name (Links i) = []
 cell_name (Bytes i) = []
 cell_name (Fd f) = []
+cell_name (DirAttributes d) = []
+cell_name (FileAttributes i) = []
 
 -- by kind, then by number, and then by the bytes of the name
 abbrev pub cell_cmp : Cell → Cell → Ordering
@@ -66,7 +72,9 @@ cell_at (suc zero) n name = Names n
 cell_at (suc (suc zero)) n name = Parent n
 cell_at (suc (suc (suc zero))) n name = Links n
 cell_at (suc (suc (suc (suc zero)))) n name = Bytes n
-cell_at (suc (suc (suc (suc (suc rank))))) n name = Fd n
+cell_at (suc (suc (suc (suc (suc zero))))) n name = Fd n
+cell_at (suc (suc (suc (suc (suc (suc zero)))))) n name = DirAttributes n
+cell_at (suc (suc (suc (suc (suc (suc (suc rank))))))) n name = FileAttributes n
 
 cell_again : (x : Cell) → cell_at (cell_rank x) (cell_number x) (cell_name x) ≡ x
 cell_again (Entry entry) = refl
@@ -75,6 +83,8 @@ cell_again (Parent d) = refl
 cell_again (Links i) = refl
 cell_again (Bytes i) = refl
 cell_again (Fd f) = refl
+cell_again (DirAttributes d) = refl
+cell_again (FileAttributes i) = refl
 
 -- cells that do not differ in the order are one
 pub cell_cmp_exact : CmpEqualImpliesEq cell_cmp

@@ -1,6 +1,8 @@
 -- The stored cells of a tree, and how one of them is read and set (POSIX.1-2017, Base
 -- Definitions, 3: Directory Entry, Parent Directory, Link Count, Open File Description). That
 -- what is stored has places, which may be empty, is a rule of this project.
+-- Attributes are stored where they are not those that a directory or file has anyway, and a time
+-- where one was set: so most directories and files have none.
 use Rattle.std.specs.Prelude.{ℕ, Bool, false, cond, ◌==◌, ◌||◌, nat_lt, List, [], Option, Some, None, IsSome, is_some, unwrap_or, refl}
 use Rattle.std.specs.Ordering.{nat_cmp}
 use Rattle.std.specs.Cmp.Lexicographic.{slice_cmp}
@@ -11,33 +13,70 @@ use Rattle.std.specs.Coded.{Coded, code_by, coded×, coded_ℕ, coded_list, code
 use Rattle.ft_cells.specs.declared.node.Kind.{Kind}
 use Rattle.ft_cells.specs.declared.node.Kind.TheVariants.{Dir as DirKind, File as FileKind}
 use Rattle.ft_cells.specs.declared.node.Node.{Node}
+use Rattle.ft_cells.specs.declared.attributes.Attributes.{Attributes}
+use Rattle.ft_cells.specs.contracts.attributes.Attributes as attributes
+use Rattle.ft_cells.specs.declared.attributes.Timestamp.{Timestamp}
+use Rattle.ft_cells.specs.contracts.attributes.Timestamp as timestamp
 use Rattle.ft_cells.specs.declared.open_file.OpenFile.{OpenFile}
 use Rattle.ft_cells.specs.contracts.open_file.OpenFile as open_file
 use Rattle.ft_cells.specs.declared.limits.TreeLimits.{TreeLimits}
 use Rattle.ft_cells.specs.contracts.limits.TreeLimits as allowed
 use Rattle.ft_cells.specs.Nodes.{coded_node}
 
--- What is stored of one directory: the directory that has its entry, or none, and a place for
--- each of its names, which may be empty.
+-- What is stored of one directory: the directory that has its entry, or none, its attributes, and a
+-- place for each of its names, which may be empty.
 pub record DirCells : Type 0 where
   pub parent : Option ℕ
+  pub attributes : Option Attributes
   pub entries : map.FinMap (slice_cmp nat_cmp) (Option Node)
 
 -- how that is coded
 abbrev pub coded_dir_cells : Coded DirCells
 coded_dir_cells =
-    code_by (Option ℕ × map.FinMap (slice_cmp nat_cmp) (Option Node))
-    (coded× (coded_option coded_ℕ) (map.code (coded_list coded_ℕ) (coded_option coded_node)))
-    (λ d. (d.parent, d.entries)) (λ p. record { parent = p.0; entries = p.1 }) (λ _. refl)
+    code_by (Option ℕ × (Option Attributes × map.FinMap (slice_cmp nat_cmp) (Option Node)))
+    (coded× (coded_option coded_ℕ) (coded× (coded_option attributes.the_row.coded) (map.code (coded_list coded_ℕ) (coded_option coded_node))))
+    (λ d. (d.parent, (d.attributes, d.entries))) (λ p. record { parent = p.0; attributes = p.1.0; entries = p.1.1 }) (λ _. refl)
 
--- What is stored of one file: how many entries name it (Link Count), and its bytes.
+-- What a file holds: its bytes, and their time, where one was set (POSIX.1-2017, Base Definitions,
+-- 4.9 File Times Update: the last data modification). No clock is read, a rule of this project.
+pub record Contents : Type 0 where
+  pub bytes : List ℕ
+  pub time : Option Timestamp
+
+-- how that is coded
+abbrev pub coded_contents : Coded Contents
+coded_contents = code_by (List ℕ × Option Timestamp) (coded× (coded_list coded_ℕ) (coded_option timestamp.the_row.coded)) (λ c. (c.bytes, c.time)) (λ p. record { bytes = p.0; time = p.1 }) (λ _. refl)
+
+-- bytes without a time, as a write leaves them
+abbrev pub untimed : List ℕ → Contents
+untimed bytes = record { bytes = bytes; time = None }
+
+-- the same bytes with this time, or with none
+abbrev pub timed : Contents → Option Timestamp → Contents
+timed contents time = record { bytes = contents.bytes; time = time }
+
+-- no byte and no time
+abbrev pub no_contents : Contents
+no_contents = untimed []
+
+-- What a change of a file's contents found and left.
+pub record ContentsChange : Type 0 where
+  pub before : Contents
+  pub after : Contents
+
+-- What is stored of one file: how many entries name it (Link Count), its attributes, and what it
+-- holds.
 pub record FileCells : Type 0 where
   pub links : ℕ
-  pub bytes : List ℕ
+  pub attributes : Option Attributes
+  pub contents : Contents
 
 -- how that is coded
 abbrev pub coded_file_cells : Coded FileCells
-coded_file_cells = code_by (ℕ × List ℕ) (coded× coded_ℕ (coded_list coded_ℕ)) (λ f. (f.links, f.bytes)) (λ p. record { links = p.0; bytes = p.1 }) (λ _. refl)
+coded_file_cells =
+    code_by (ℕ × (Option Attributes × Contents))
+    (coded× coded_ℕ (coded× (coded_option attributes.the_row.coded) coded_contents))
+    (λ f. (f.links, (f.attributes, f.contents))) (λ p. record { links = p.0; attributes = p.1.0; contents = p.1.1 }) (λ _. refl)
 
 -- The open file descriptions, by descriptor: a place for each, which may be empty.
 abbrev pub Opens : Type 0
@@ -71,17 +110,17 @@ filled e = option_map (λ x. (e.0, x)) e.1
 abbrev pub dir_names : DirCells → List (List ℕ × Node)
 dir_names d = filter_map filled (map.entries d.entries)
 
--- a directory that is not stored reads as one with no parent and no entry
+-- a directory that is not stored reads as one with no parent, no attributes and no entry
 abbrev pub no_dir : DirCells
-no_dir = record { parent = None; entries = map.empty }
+no_dir = record { parent = None; attributes = None; entries = map.empty }
 
 -- what is stored of the directory of this number
 abbrev pub dir_of : Cells → ℕ → DirCells
 dir_of cells d = unwrap_or (map.get cells.directories d) no_dir
 
--- a file that is not stored reads as one with no entry and no byte
+-- a file that is not stored reads as one with no entry, no attributes and no byte
 abbrev pub no_file : FileCells
-no_file = record { links = 0; bytes = [] }
+no_file = record { links = 0; attributes = None; contents = no_contents }
 
 -- what is stored of the file of this number
 abbrev pub file_of : Cells → ℕ → FileCells
@@ -105,17 +144,33 @@ names_of cells d = dir_names (dir_of cells d)
 abbrev pub parent_of : Cells → ℕ → Option ℕ
 parent_of cells d = (dir_of cells d).parent
 
+-- the attributes that are kept of a directory
+abbrev pub dir_attributes_of : Cells → ℕ → Option Attributes
+dir_attributes_of cells d = (dir_of cells d).attributes
+
 -- how many entries name a file (Link Count)
 abbrev pub links_of : Cells → ℕ → ℕ
 links_of cells i = (file_of cells i).links
 
+-- the attributes that are kept of a file
+abbrev pub file_attributes_of : Cells → ℕ → Option Attributes
+file_attributes_of cells i = (file_of cells i).attributes
+
+-- what a file holds
+abbrev pub contents_of : Cells → ℕ → Contents
+contents_of cells i = (file_of cells i).contents
+
 -- the bytes of a file
 abbrev pub bytes_of : Cells → ℕ → List ℕ
-bytes_of cells i = (file_of cells i).bytes
+bytes_of cells i = (contents_of cells i).bytes
+
+-- the time of the bytes of a file, where one was set
+abbrev pub time_of : Cells → ℕ → Option Timestamp
+time_of cells i = (contents_of cells i).time
 
 -- the bytes of a file that is stored
 abbrev pub body_in : Cells → ℕ → Option (List ℕ)
-body_in cells i = option_map (λ (f : FileCells). f.bytes) (map.get cells.files i)
+body_in cells i = option_map (λ (f : FileCells). f.contents.bytes) (map.get cells.files i)
 
 -- the open file description of a descriptor, if it is open
 abbrev pub open_of : Cells → ℕ → Option OpenFile
@@ -147,11 +202,15 @@ HasOpenPlace cells f = IsSome (map.get cells.opens f)
 
 -- one directory with what a name leads to
 abbrev pub put_dir_entry : DirCells → List ℕ → Option Node → DirCells
-put_dir_entry d name to = record { parent = d.parent; entries = map.insert d.entries name to }
+put_dir_entry d name to = record { parent = d.parent; attributes = d.attributes; entries = map.insert d.entries name to }
 
 -- one directory with its parent
 abbrev pub put_dir_parent : DirCells → Option ℕ → DirCells
-put_dir_parent d parent = record { parent = parent; entries = d.entries }
+put_dir_parent d parent = record { parent = parent; attributes = d.attributes; entries = d.entries }
+
+-- one directory with the attributes that are kept of it
+abbrev pub put_kept_of_dir : DirCells → Option Attributes → DirCells
+put_kept_of_dir d to = record { parent = d.parent; attributes = to; entries = d.entries }
 
 -- with all that is stored of a directory
 abbrev pub put_dir : Cells → ℕ → DirCells → Cells
@@ -165,17 +224,25 @@ put_entry cells d name to = put_dir cells d (put_dir_entry (dir_of cells d) name
 abbrev pub put_parent : Cells → ℕ → Option ℕ → Cells
 put_parent cells d parent = put_dir cells d (put_dir_parent (dir_of cells d) parent)
 
+-- with the attributes that are kept of a directory, or with none
+abbrev pub put_dir_attributes : Cells → ℕ → Option Attributes → Cells
+put_dir_attributes cells d to = put_dir cells d (put_kept_of_dir (dir_of cells d) to)
+
 -- with all that is stored of a file
 abbrev pub put_file : Cells → ℕ → FileCells → Cells
 put_file cells i x = record cells { files = map.insert cells.files i x }
 
 -- with the count of a file's links
 abbrev pub put_links : Cells → ℕ → ℕ → Cells
-put_links cells i links = put_file cells i (record { links = links; bytes = bytes_of cells i })
+put_links cells i links = put_file cells i (record { links = links; attributes = file_attributes_of cells i; contents = contents_of cells i })
 
--- with the bytes of a file
-abbrev pub put_bytes : Cells → ℕ → List ℕ → Cells
-put_bytes cells i bytes = put_file cells i (record { links = links_of cells i; bytes = bytes })
+-- with the attributes that are kept of a file, or with none
+abbrev pub put_file_attributes : Cells → ℕ → Option Attributes → Cells
+put_file_attributes cells i to = put_file cells i (record { links = links_of cells i; attributes = to; contents = contents_of cells i })
+
+-- with what a file holds
+abbrev pub put_contents : Cells → ℕ → Contents → Cells
+put_contents cells i contents = put_file cells i (record { links = links_of cells i; attributes = file_attributes_of cells i; contents = contents })
 
 -- with the description of a descriptor, or that it is closed
 abbrev pub put_open : Cells → ℕ → Option OpenFile → Cells
@@ -183,7 +250,7 @@ put_open cells f to = record cells { opens = map.insert cells.opens f to }
 
 -- a directory without the place of an entry
 abbrev pub without_dir_place : DirCells → List ℕ → DirCells
-without_dir_place d name = record { parent = d.parent; entries = map.remove d.entries name }
+without_dir_place d name = record { parent = d.parent; attributes = d.attributes; entries = map.remove d.entries name }
 
 -- the root alone, without an entry: the tree at first (Root Directory)
 abbrev pub fresh_cells : TreeLimits → Cells

@@ -1,6 +1,7 @@
 pub mod Limits
 pub mod Nodes
 pub mod Modes
+pub mod Attributes
 pub mod Entries
 pub mod CellOrder
 pub mod Cells

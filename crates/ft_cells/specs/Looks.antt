@@ -4,19 +4,23 @@ use Rattle.std.specs.Prelude.{◌≡◌, ℕ, List, [], ◌∷◌, Option, Resul
 use Rattle.std.proofs.Common.{ap, ◌∙◌}
 use Rattle.ft_cells.specs.declared.node.Node.{Node}
 use Rattle.ft_cells.specs.declared.cell.Cell.{Cell}
-use Rattle.ft_cells.specs.declared.cell.Cell.TheVariants.{Entry, Names, Parent, Links, Bytes, Fd}
+use Rattle.ft_cells.specs.declared.cell.Cell.TheVariants.{Entry, Names, Parent, Links, Bytes, Fd, DirAttributes, FileAttributes}
 use Rattle.ft_cells.specs.declared.open_file.OpenFile.{OpenFile}
+use Rattle.ft_cells.specs.declared.attributes.Attributes.{Attributes}
+use Rattle.ft_cells.specs.Cells.{Contents}
 
 -- what a cell shows when it is looked at: an entry its node or none, names a list of names with
--- nodes, a parent a number or none, links a count, bytes a list, a descriptor its description or
--- none
+-- nodes, a parent a number or none, links a count, bytes a list with its time or none, a descriptor
+-- its description or none, and attributes those that are kept, or none
 abbrev pub Shows : Cell → Type 0
 Shows (Entry entry) = Option Node
 Shows (Names d) = List (List ℕ × Node)
 Shows (Parent d) = Option ℕ
 Shows (Links i) = ℕ
-Shows (Bytes i) = List ℕ
+Shows (Bytes i) = Contents
 Shows (Fd f) = Option OpenFile
+Shows (DirAttributes d) = Option Attributes
+Shows (FileAttributes i) = Option Attributes
 
 -- what each cell shows
 abbrev pub View : Type 0

@@ -1,23 +1,33 @@
 -- The plain tree: edges, directories, files and open file descriptions, with nothing kept beside
 -- them (POSIX.1-2017, Base Definitions, 3: Directory, Directory Entry, File, Open File
 -- Description; and 4.13).
-use Rattle.std.specs.Prelude.{ℕ, cond, ◌==◌, List, [], map, filter, length, Option, None, unwrap_or}
+use Rattle.std.specs.Prelude.{ℕ, cond, ◌==◌, List, map, filter, length, Option, None}
 use Rattle.std.specs.Ordering.{nat_cmp}
 use Rattle.std.specs.List.{find}
-use Rattle.std.specs.Option.{option_map}
+use Rattle.std.specs.Option.{option_flatten, option_map, option_map_or}
 use Rattle.std.specs.FinMap as finite
 use Rattle.ft_cells.specs.declared.node.Node.{Node}
 use Rattle.ft_cells.specs.Nodes.{number_of}
+use Rattle.ft_cells.specs.declared.attributes.Attributes.{Attributes}
 use Rattle.ft_cells.specs.declared.open_file.OpenFile.{OpenFile}
 use Rattle.ft_cells.specs.declared.limits.TreeLimits.{TreeLimits}
-use Rattle.ft_cells.specs.declared.cell.Cell.TheVariants.{Entry, Names, Parent, Links, Bytes, Fd}
+use Rattle.ft_cells.specs.declared.cell.Cell.TheVariants.{Entry, Names, Parent, Links, Bytes, Fd, DirAttributes, FileAttributes}
 use Rattle.ft_cells.specs.Entries.{entry_cmp}
+use Rattle.ft_cells.specs.Cells.{Contents, no_contents}
 use Rattle.ft_cells.specs.Looks.{View}
 
--- a set of numbers, as a map to nothing: std's finite set hides in which order its items stand,
--- which the rows of a tree tell
-abbrev pub NumberSet : Type 0
-NumberSet = finite.FinMap nat_cmp (Unit {0})
+-- A file: the attributes that are kept of it, and what it holds.
+pub record PlainFile : Type 0 where
+  pub attributes : Option Attributes
+  pub contents : Contents
+
+-- the directories by number, each with the attributes that are kept of it
+abbrev pub PlainDirs : Type 0
+PlainDirs = finite.FinMap nat_cmp (Option Attributes)
+
+-- the files by number; of a symbolic link the bytes are its target
+abbrev pub PlainFiles : Type 0
+PlainFiles = finite.FinMap nat_cmp PlainFile
 
 -- a tree with nothing kept beside what it is: no place, no parent and no count of links
 pub record PlainTree : Type 0 where
@@ -25,10 +35,10 @@ pub record PlainTree : Type 0 where
   pub limits : TreeLimits
   -- what each entry leads to
   pub edges : finite.FinMap entry_cmp Node
-  -- the numbers that are directories
-  pub dirs : NumberSet
-  -- the bytes of each file, and of each symbolic link its target
-  pub files : finite.FinMap nat_cmp (List ℕ)
+  -- the numbers that are directories, and their attributes
+  pub dirs : PlainDirs
+  -- each file and symbolic link
+  pub files : PlainFiles
   -- the open file description of each descriptor
   pub opens : finite.FinMap nat_cmp OpenFile
 
@@ -50,5 +60,7 @@ view_in p (Entry entry) = finite.get p.edges entry
 view_in p (Names d) = names_in p d
 view_in p (Parent d) = cond (finite.contains_key p.dirs d) (parent_in p d) None
 view_in p (Links i) = cond (finite.contains_key p.dirs i) 0 (links_in p i)
-view_in p (Bytes i) = unwrap_or (finite.get p.files i) []
+view_in p (Bytes i) = option_map_or (λ (f : PlainFile). f.contents) (finite.get p.files i) no_contents
 view_in p (Fd f) = finite.get p.opens f
+view_in p (DirAttributes d) = option_flatten (finite.get p.dirs d)
+view_in p (FileAttributes i) = option_map_or (λ (f : PlainFile). f.attributes) (finite.get p.files i) None

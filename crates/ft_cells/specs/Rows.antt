@@ -1,16 +1,19 @@
 -- What a tree holds, row by row. (A rule of this project.)
-use Rattle.std.specs.Prelude.{ℕ, List, ◌++◌, map, length}
+use Rattle.std.specs.Prelude.{ℕ, List, ◌++◌, map, length, Option}
+use Rattle.std.specs.List.{filter_map}
+use Rattle.std.specs.Option.{option_map}
 use Rattle.std.specs.FinMap as finite
 use Rattle.ft_cells.specs.Entries.{entry_at}
 use Rattle.ft_cells.specs.declared.entry.Entry.{Entry}
 use Rattle.ft_cells.specs.declared.node.Node.{Node}
 use Rattle.ft_cells.specs.declared.row.TreeRow.{TreeRow}
+use Rattle.ft_cells.specs.declared.attributes.Attributes.{Attributes}
 use Rattle.ft_cells.specs.declared.open_file.OpenFile.{OpenFile}
-use Rattle.ft_cells.specs.declared.row.TreeRow.TheVariants.{Dir as DirRow, Edge as EdgeRow, File as FileRow, Fd as FdRow}
-use Rattle.ft_cells.specs.Plain.{PlainTree}
+use Rattle.ft_cells.specs.declared.row.TreeRow.TheVariants.{Dir as DirRow, Edge as EdgeRow, File as FileRow, Attributes as AttributesRow, Time as TimeRow, Fd as FdRow}
+use Rattle.ft_cells.specs.Plain.{PlainFile, PlainTree}
 
 -- a row for each directory
-abbrev pub dir_rows : List (ℕ × Unit {0}) → List TreeRow
+abbrev pub dir_rows : List (ℕ × Option Attributes) → List TreeRow
 dir_rows dirs = map (λ e. DirRow e.0) dirs
 
 -- a row for each edge, with what it leads to
@@ -22,14 +25,42 @@ abbrev pub named_rows : ℕ → List (List ℕ × Node) → List TreeRow
 named_rows d names = map (λ e. EdgeRow (entry_at d e.0) e.1) names
 
 -- a row for each file, with its size and its bytes
-abbrev pub file_rows : List (ℕ × List ℕ) → List TreeRow
-file_rows files = map (λ e. FileRow e.0 (length e.1) e.1) files
+abbrev pub file_rows : List (ℕ × PlainFile) → List TreeRow
+file_rows files = map (λ e. FileRow e.0 (length e.1.contents.bytes) e.1.contents.bytes) files
+
+-- the row of attributes, where some are kept
+abbrev pub attributes_row : ℕ × Option Attributes → Option TreeRow
+attributes_row e = option_map (λ a. AttributesRow e.0 a) e.1
+
+-- the row of a file's attributes, where some are kept
+abbrev pub file_attributes_row : ℕ × PlainFile → Option TreeRow
+file_attributes_row e = attributes_row (e.0, e.1.attributes)
+
+-- the row of the time of a file's bytes, where one was set
+abbrev pub time_row : ℕ × PlainFile → Option TreeRow
+time_row e = option_map (λ time. TimeRow e.0 time) e.1.contents.time
+
+-- the rows of the attributes that are kept of directories
+abbrev pub dir_attributes_rows : List (ℕ × Option Attributes) → List TreeRow
+dir_attributes_rows dirs = filter_map attributes_row dirs
+
+-- the rows of those that are kept of files
+abbrev pub file_attributes_rows : List (ℕ × PlainFile) → List TreeRow
+file_attributes_rows files = filter_map file_attributes_row files
+
+-- the rows of times
+abbrev pub time_rows : List (ℕ × PlainFile) → List TreeRow
+time_rows files = filter_map time_row files
 
 -- a row for each descriptor, with its description
 abbrev pub open_rows : List (ℕ × OpenFile) → List TreeRow
 open_rows opens = map (λ e. FdRow e.0 e.1.file e.1.access e.1.append e.1.offset) opens
 
--- the directories by number, then the edges by directory and name, the files by number, and the
--- descriptions by descriptor
+-- the directories by number, then the edges by directory and name, the files by number, what is
+-- kept of attributes, of directories and then of files by number, the times of files by number, and
+-- the descriptions by descriptor
 abbrev pub rows_of : PlainTree → List TreeRow
-rows_of p = dir_rows (finite.entries p.dirs) ++ edge_rows (finite.entries p.edges) ++ file_rows (finite.entries p.files) ++ open_rows (finite.entries p.opens)
+rows_of p =
+    dir_rows (finite.entries p.dirs) ++ edge_rows (finite.entries p.edges) ++ file_rows (finite.entries p.files)
+    ++ dir_attributes_rows (finite.entries p.dirs) ++ file_attributes_rows (finite.entries p.files) ++ time_rows (finite.entries p.files)
+    ++ open_rows (finite.entries p.opens)

@@ -26,10 +26,14 @@ pub enum Cell {
     Parent(u64),
     /// How many entries name a file.
     Links(u64),
-    /// The bytes of a file.
+    /// The bytes of a file, and their time.
     Bytes(u64),
     /// The open file description of a descriptor.
     Fd(u64),
+    /// The mode and the owners of a directory.
+    DirAttributes(u64),
+    /// The mode and the owners of a file. A symbolic link has none of its own.
+    FileAttributes(u64),
 }
 
 impl Cell {
@@ -59,6 +63,8 @@ impl Cell {
             Cell::Links(_) => 3,
             Cell::Bytes(_) => 4,
             Cell::Fd(_) => 5,
+            Cell::DirAttributes(_) => 6,
+            Cell::FileAttributes(_) => 7,
         }
     }
 
@@ -72,7 +78,9 @@ impl Cell {
             | Cell::Parent(number)
             | Cell::Links(number)
             | Cell::Bytes(number)
-            | Cell::Fd(number) => *number,
+            | Cell::Fd(number)
+            | Cell::DirAttributes(number)
+            | Cell::FileAttributes(number) => *number,
         }
     }
 
@@ -147,6 +155,8 @@ impl Clone for Cell {
             Cell::Links(file) => Cell::Links(*file),
             Cell::Bytes(file) => Cell::Bytes(*file),
             Cell::Fd(fd) => Cell::Fd(*fd),
+            Cell::DirAttributes(dir) => Cell::DirAttributes(*dir),
+            Cell::FileAttributes(file) => Cell::FileAttributes(*file),
         })
     }
 }

@@ -8,20 +8,26 @@
 //! that store the cells and keep the tree.
 #![tactic(auto)]
 
+mod attributes;
 mod cell;
 mod entry;
 mod hint;
 mod limits;
 mod node;
 mod open_file;
+mod rare;
 mod row;
 
+pub use attributes::{
+    Attributes, DIRECTORY_MODE, FILE_MODE, LINK_MODE, MOST_MODE, MOST_NANOSECONDS, Timestamp,
+};
 pub use cell::Cell;
 pub use entry::{Entry, EntryRef};
 pub use hint::{Hint, Hinted, seen_in, value_in, with_hint};
 pub use limits::TreeLimits;
 pub use node::{Form, Found, Kind, Node, Spot};
 pub use open_file::{AccessMode, OpenFile};
+pub use rare::Rare;
 pub use row::TreeRow;
 
 /// How many bytes a file may have where nobody asks for more: a mebibyte, a rule of this project.

@@ -1,4 +1,5 @@
 // The rows of a tree: what it holds, line by line.
+use crate::attributes::{Attributes, Timestamp};
 use crate::entry::Entry;
 use crate::node::Node;
 use crate::open_file::AccessMode;
@@ -22,6 +23,17 @@ pub enum TreeRow {
         number: u64,
         size: u64,
         bytes: Sequence<u8>,
+    },
+    /// The mode and the owners of a directory or file that is there, where they are not those that
+    /// it has anyway.
+    Attributes {
+        number: u64,
+        attributes: Attributes,
+    },
+    /// The time of the bytes of a file that is there, where it has one.
+    Time {
+        file: u64,
+        time: Timestamp,
     },
     /// A descriptor that is open, and its open file description.
     Fd {

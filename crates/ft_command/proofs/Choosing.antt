@@ -31,8 +31,8 @@ choice_of_matches words m choice free rows h = go choice (subst (λ met. ReadCho
     go : (choice : Choice) → ReadChoice (subcommand_of program words) choice → ChoiceOf words choice
     go (Play strict rule after limits) h = (free, h)
     go Dot h = (free, h)
-    go (Load dir skip quiet limits) h = (free, h)
-    go (Save dir quiet limits) h = (free, h)
+    go (Load dir skip set_id quiet limits) h = (free, h)
+    go (Save dir set_id no_owners quiet limits) h = (free, h)
     go (Jobs file turns quiet rule after limits) h = (free, h)
     go (Help text) h = absurd h
     go (Usage text) h = inr (free, h)
@@ -41,8 +41,8 @@ choice_of_matches words m choice free rows h = go choice (subst (λ met. ReadCho
 pub choice_of_error : (words : List Text) (kind : ErrorKind) (choice : Choice) → (kind ≡ OutOfMemory) ⊎ IsAmong kind (fault_of program words) → ErrorChoice kind choice → ChoiceOf words choice
 choice_of_error words kind (Play strict rule after limits) among h = absurd h
 choice_of_error words kind Dot among h = absurd h
-choice_of_error words kind (Load dir skip quiet limits) among h = absurd h
-choice_of_error words kind (Save dir quiet limits) among h = absurd h
+choice_of_error words kind (Load dir skip set_id quiet limits) among h = absurd h
+choice_of_error words kind (Save dir set_id no_owners quiet limits) among h = absurd h
 choice_of_error words kind (Jobs file turns quiet rule after limits) among h = absurd h
 choice_of_error words kind (Help text) (inl is) h = cc
 choice_of_error words kind (Help text) (inr among) h = subst (λ k. IsAmong k (fault_of program words)) h among

@@ -40,6 +40,14 @@ dir_rule = record (new_rule (codes "dir")) { required = true; value_names = 1 }
 abbrev pub skip_rule : Rule
 skip_rule = record (new_rule (codes "skip")) { long = Some (codes "skip"); action = Some SetTrue }
 
+-- `--set-id`, where modes keep their bits S_ISUID and S_ISGID
+abbrev pub set_id_rule : Rule
+set_id_rule = record (new_rule (codes "set-id")) { long = Some (codes "set-id"); action = Some SetTrue }
+
+-- `--no-owners`, where no owner and no group is set
+abbrev pub no_owners_rule : Rule
+no_owners_rule = record (new_rule (codes "no-owners")) { long = Some (codes "no-owners"); action = Some SetTrue }
+
 -- `--after FILE`, where a script is played first
 abbrev pub after_rule : Rule
 after_rule = record (new_rule (codes "after")) { long = Some (codes "after"); value_names = 1 }
@@ -57,13 +65,13 @@ play = limited (with_rule (with_rule (with_rule (new_app (codes "play")) strict_
 abbrev pub dot : App
 dot = limited (new_app (codes "dot"))
 
--- `load`, which needs a directory and may have `--skip`
+-- `load`, which needs a directory and may have `--skip`, `--set-id` and `--quiet`
 abbrev pub load : App
-load = limited (with_rule (with_rule (with_rule (new_app (codes "load")) dir_rule) skip_rule) quiet_rule)
+load = limited (with_rule (with_rule (with_rule (with_rule (new_app (codes "load")) dir_rule) skip_rule) set_id_rule) quiet_rule)
 
--- `save`, which needs a directory
+-- `save`, which needs a directory and may have `--set-id`, `--no-owners` and `--quiet`
 abbrev pub save : App
-save = limited (with_rule (with_rule (new_app (codes "save")) dir_rule) quiet_rule)
+save = limited (with_rule (with_rule (with_rule (with_rule (new_app (codes "save")) dir_rule) set_id_rule) no_owners_rule) quiet_rule)
 
 -- `jobs`, which needs a file and may have `--turns N`, `--quiet`, `--moss` and `--after FILE`
 abbrev pub jobs : App
@@ -128,10 +136,12 @@ abbrev pub ReadChoice : Met → Choice → Type 0
 ReadChoice met (Play strict rule after limits) =
     (found : List Row) × (met ≡ Some (codes "play", found)) × IsFlag (one_of (codes "strict") found) strict × TellsRule found rule × TellsAfter found (option_map string_bytes after) × TellsLimits found limits
 ReadChoice met Dot = (found : List Row) × (met ≡ Some (codes "dot", found)) × ((limits : AskedLimits) × TellsLimits found limits)
-ReadChoice met (Load dir skip quiet limits) =
-    (found : List Row) × (met ≡ Some (codes "load", found)) × TellsDir found (string_bytes dir) × IsFlag (one_of (codes "skip") found) skip × IsFlag (one_of (codes "quiet") found) quiet × TellsLimits found limits
-ReadChoice met (Save dir quiet limits) =
-    (found : List Row) × (met ≡ Some (codes "save", found)) × TellsDir found (string_bytes dir) × IsFlag (one_of (codes "quiet") found) quiet × TellsLimits found limits
+ReadChoice met (Load dir skip set_id quiet limits) =
+    (found : List Row) × (met ≡ Some (codes "load", found)) × TellsDir found (string_bytes dir) × IsFlag (one_of (codes "skip") found) skip
+    × IsFlag (one_of (codes "set-id") found) set_id × IsFlag (one_of (codes "quiet") found) quiet × TellsLimits found limits
+ReadChoice met (Save dir set_id no_owners quiet limits) =
+    (found : List Row) × (met ≡ Some (codes "save", found)) × TellsDir found (string_bytes dir) × IsFlag (one_of (codes "set-id") found) set_id
+    × IsFlag (one_of (codes "no-owners") found) no_owners × IsFlag (one_of (codes "quiet") found) quiet × TellsLimits found limits
 ReadChoice met (Jobs file turns quiet rule after limits) =
     (found : List Row) × (met ≡ Some (codes "jobs", found)) × TellsJobs found (string_bytes file) turns quiet × TellsRule found rule × TellsAfter found (option_map string_bytes after) × TellsLimits found limits
 ReadChoice met (Help text) = ⊥
@@ -143,8 +153,8 @@ ReadChoice met Fault = Unit {0}
 abbrev pub ErrorChoice : ErrorKind → Choice → Type 0
 ErrorChoice kind (Play strict rule after limits) = ⊥
 ErrorChoice kind Dot = ⊥
-ErrorChoice kind (Load dir skip quiet limits) = ⊥
-ErrorChoice kind (Save dir quiet limits) = ⊥
+ErrorChoice kind (Load dir skip set_id quiet limits) = ⊥
+ErrorChoice kind (Save dir set_id no_owners quiet limits) = ⊥
 ErrorChoice kind (Jobs file turns quiet rule after limits) = ⊥
 ErrorChoice kind (Help text) = kind ≡ DisplayHelp
 ErrorChoice kind (Usage text) = (kind ≢ DisplayHelp) × (kind ≢ OutOfMemory)
@@ -160,8 +170,8 @@ IsCommand words choice = (fault_of program words ≡ []) × ReadChoice (subcomma
 abbrev pub ChoiceOf : List Text → Choice → Type 0
 ChoiceOf words (Play strict rule after limits) = IsCommand words (Play strict rule after limits)
 ChoiceOf words Dot = IsCommand words Dot
-ChoiceOf words (Load dir skip quiet limits) = IsCommand words (Load dir skip quiet limits)
-ChoiceOf words (Save dir quiet limits) = IsCommand words (Save dir quiet limits)
+ChoiceOf words (Load dir skip set_id quiet limits) = IsCommand words (Load dir skip set_id quiet limits)
+ChoiceOf words (Save dir set_id no_owners quiet limits) = IsCommand words (Save dir set_id no_owners quiet limits)
 ChoiceOf words (Jobs file turns quiet rule after limits) = IsCommand words (Jobs file turns quiet rule after limits)
 ChoiceOf words (Help text) = IsAmong DisplayHelp (fault_of program words)
 ChoiceOf words (Usage text) = ((kind : ErrorKind) × IsAmong kind (fault_of program words) × (kind ≢ DisplayHelp)) ⊎ IsCommand words (Usage text)

@@ -2,7 +2,7 @@
 ghost use Rattle.std.specs.Prelude.{◌≡◌, IfOk, IfSome, Some, codes, false, map, option_map, string_bytes};
 ghost use Rattle.clap.specs.Words.{Text, app_of, found_of, kind_of, one_of, rows_of, rule_of, subcommand_rows_of};
 ghost use Rattle.ft_command.specs.Limits.{IsBadLimit};
-ghost use Rattle.ft_command.specs.CommandLine.{ChoiceOf, ErrorChoice, HasNoGlobals, IsFlag, ReadChoice, TellsAfter, TellsDir, TellsJobs, TellsRule, after_rule, bare, dir_rule, dot, file_rule, jobs, load, moss_rule, play, program, quiet_rule, save, skip_rule, strict_rule, turns_rule, with_filters, with_folders};
+ghost use Rattle.ft_command.specs.CommandLine.{ChoiceOf, ErrorChoice, HasNoGlobals, IsFlag, ReadChoice, TellsAfter, TellsDir, TellsJobs, TellsRule, after_rule, bare, dir_rule, dot, file_rule, jobs, load, moss_rule, play, program, no_owners_rule, quiet_rule, save, set_id_rule, skip_rule, strict_rule, turns_rule, with_filters, with_folders};
 
 use crate::limits::{AskedLimits, Flag, asked_limits, with_limits};
 use clap::builder::ValueParser;
@@ -26,18 +26,24 @@ pub enum Choice {
     /// Draw the last report on who waits for whom.
     Dot,
     /// Write a script that makes what this directory holds. What a tree has no place for is left
-    /// out where it is to be skipped. How far it has come is not shown where it is to be quiet. No
-    /// more is written than these limits allow.
+    /// out where it is to be skipped, and modes have their bits S_ISUID and S_ISGID only where these
+    /// are asked for. How far it has come is not shown where it is to be quiet. No more is written
+    /// than these limits allow.
     Load {
         dir: String,
         skip: bool,
+        set_id: bool,
         quiet: bool,
         limits: AskedLimits,
     },
-    /// Make this directory of the tree with which replies end. How far it has come is not shown
-    /// where it is to be quiet. A file that is larger than these limits allow is refused.
+    /// Make this directory of the tree with which replies end. Modes have their bits S_ISUID and
+    /// S_ISGID only where these are asked for, and no owner and no group is set where that is not
+    /// wanted. How far it has come is not shown where it is to be quiet. A file that is larger than
+    /// these limits allow is refused.
     Save {
         dir: String,
+        set_id: bool,
+        no_owners: bool,
         quiet: bool,
         limits: AskedLimits,
     },
@@ -158,6 +164,7 @@ fn load_choice(alloc: Global, found: &ArgMatches) -> Choice
     ensures { ReadChoice (Some (codes "load", rows_of (found_of found.now))) result }
 {
     let skip = found.get_flag("skip");
+    let set_id = found.get_flag("set-id");
     let quiet = found.get_flag("quiet");
     let limits = match asked_limits(found) {
         Ok(limits) => limits,
@@ -167,6 +174,7 @@ fn load_choice(alloc: Global, found: &ArgMatches) -> Choice
         Some(dir) => Choice::Load {
             dir,
             skip,
+            set_id,
             quiet,
             limits,
         },
@@ -178,13 +186,21 @@ fn load_choice(alloc: Global, found: &ArgMatches) -> Choice
 fn save_choice(alloc: Global, found: &ArgMatches) -> Choice
     ensures { ReadChoice (Some (codes "save", rows_of (found_of found.now))) result }
 {
+    let set_id = found.get_flag("set-id");
+    let no_owners = found.get_flag("no-owners");
     let quiet = found.get_flag("quiet");
     let limits = match asked_limits(found) {
         Ok(limits) => limits,
         Err(flag) => return misused(alloc, found, flag),
     };
     match asked_dir(alloc, found) {
-        Some(dir) => Choice::Save { dir, quiet, limits },
+        Some(dir) => Choice::Save {
+            dir,
+            set_id,
+            no_owners,
+            quiet,
+            limits,
+        },
         None => Choice::Fault,
     }
 }
@@ -338,6 +354,7 @@ fn load_command<'a>(alloc: Global) -> Result<Command<'a>, AllocError>
         .about("Writes a script that makes what a directory holds")
         .arg(dir_arg(alloc))?
         .arg(skip_arg(alloc))?
+        .arg(set_id_arg(alloc))?
         .arg(quiet_arg(alloc))?;
     with_limits(alloc, command)
 }
@@ -350,6 +367,8 @@ fn save_command<'a>(alloc: Global) -> Result<Command<'a>, AllocError>
     let command = Command::new(alloc, "save")
         .about("Makes a directory of the tree with which replies end")
         .arg(dir_arg(alloc))?
+        .arg(set_id_arg(alloc))?
+        .arg(no_owners_arg(alloc))?
         .arg(quiet_arg(alloc))?;
     with_limits(alloc, command)
 }
@@ -389,6 +408,28 @@ fn skip_arg<'a>(alloc: Global) -> Arg<'a>
         .long("skip")
         .action(ArgAction::SetTrue)
         .help("Leave out devices, FIFOs and sockets, and tell of each")
+}
+
+// The flag that keeps the bits S_ISUID and S_ISGID.
+fn set_id_arg<'a>(alloc: Global) -> Arg<'a>
+    ensures rule { rule_of result ≡ set_id_rule }
+    ensures local { result.global ≡ false }
+{
+    Arg::new(alloc, "set-id")
+        .long("set-id")
+        .action(ArgAction::SetTrue)
+        .help("Keep the set-user-ID and set-group-ID bits of modes")
+}
+
+// The flag that sets no owner and no group.
+fn no_owners_arg<'a>(alloc: Global) -> Arg<'a>
+    ensures rule { rule_of result ≡ no_owners_rule }
+    ensures local { result.global ≡ false }
+{
+    Arg::new(alloc, "no-owners")
+        .long("no-owners")
+        .action(ArgAction::SetTrue)
+        .help("Set no owners and no groups, which else the superuser sets")
 }
 
 // The flag that ends a run at the first line that does not do what it asks for.

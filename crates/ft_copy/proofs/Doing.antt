@@ -3,6 +3,7 @@ use Rattle.std.proofs.Common.{◌≡◌, ◌+◌, ◌||◌, ℕ, List, [], ◌�
 use Rattle.std.proofs.lemmas.List.Folds.{list_any-append}
 use Rattle.std.specs.List.{concat, list_any, flat_map}
 use Rattle.std.specs.Io.KnownBytes.{Consumes}
+use Rattle.ft_copy.specs.declared.found.Given.{Given}
 use Rattle.ft_copy.specs.Asked.{Asked, Piece, Close, DoesAll, IsUnfinished, is_finish}
 use Rattle.ft_copy.specs.Runs.{Visit, OfFolder, OfFile, OfFurther, OfNothing, OfSymlink, asked_of, made}
 
@@ -15,12 +16,12 @@ pub unfinished_pieces : (pieces : List (List ℕ)) → IsUnfinished (map Piece p
 unfinished_pieces [] = refl
 unfinished_pieces (piece ∷ pieces) = unfinished_pieces pieces
 
-pub unfinished_made : (path : List ℕ) (pieces : List (List ℕ)) → IsUnfinished (made path pieces)
-unfinished_made path pieces = unfinished_more (map Piece pieces) (Close ∷ []) (unfinished_pieces pieces) refl
+pub unfinished_made : (path : List ℕ) (given : Given) (pieces : List (List ℕ)) → IsUnfinished (made path given pieces)
+unfinished_made path given pieces = unfinished_more (map Piece pieces) (Close given.time ∷ []) (unfinished_pieces pieces) refl
 
 pub unfinished_visit : (visit : Visit) → IsUnfinished (asked_of visit)
-unfinished_visit (OfFolder path) = refl
-unfinished_visit (OfFile path pieces) = unfinished_made path pieces
+unfinished_visit (OfFolder path attributes) = refl
+unfinished_visit (OfFile path given pieces) = unfinished_made path given pieces
 unfinished_visit (OfFurther first path) = refl
 unfinished_visit (OfSymlink to path) = refl
 unfinished_visit OfNothing = refl

@@ -3,12 +3,15 @@ use Rattle.std.proofs.Common.{◌≡◌, ◌⊎◌, ◌||◌, ℕ, Bool, true, f
 use Rattle.std.proofs.lemmas.List.Folds.{list_any-append}
 use Rattle.std.specs.List.{concat, list_any, flat_map}
 use Rattle.std.specs.Io.KnownBytes.{Consumes}
-use Rattle.ft_cells.specs.declared.limits.TreeLimits.{TreeLimits}
+use Rattle.ft_cells.specs.declared.attributes.Attributes.{Attributes}
 use Rattle.ft_copy.specs.declared.found.TheConstants.{ROOT}
-use Rattle.ft_copy.specs.declared.found.FileFacts.{FileFacts}
+use Rattle.ft_copy.specs.declared.found.FoundFile.{FoundFile}
+use Rattle.ft_copy.specs.declared.found.Given.{Given}
 use Rattle.ft_copy.specs.declared.found.Found.TheVariants as found
 use Rattle.ft_copy.specs.declared.found.MetLink.{MetLink}
 use Rattle.ft_copy.specs.declared.found.Place.{Place}
+use Rattle.ft_copy.specs.declared.limits.CopyLimits.{CopyLimits}
+use Rattle.ft_copy.specs.Kept.{kept_attributes, kept_given}
 use Rattle.ft_copy.specs.declared.trouble.Stopped.{Stopped}
 use Rattle.ft_copy.specs.declared.trouble.Trouble.{Trouble}
 use Rattle.ft_copy.specs.declared.trouble.Trouble.TheVariants.{Memory, Read}
@@ -16,7 +19,7 @@ use Rattle.ft_copy.specs.Asked.{Asked, Start, Folder, Open, Piece, Link, Symlink
 use Rattle.ft_copy.specs.Told.{Told, Finds, Holds, Leads, Refuses}
 use Rattle.ft_copy.specs.Walks.{Enters, Standing, nothing}
 use Rattle.ft_copy.specs.Runs.{GivesUp, LinksTo, Reaches, Visit, OfFolder, OfFile, OfFurther, OfNothing, OfSymlink, WalksTo, asked_of, made}
-use Rattle.ft_copy.specs.Stops.{EndsReading, FailsAt, FailsToCopyLink, HasBegun, Hinders, IsCause, IsCauseAt, IsCauseAtLink, Reached, Root, Amid, AmidLinks, Behind, Endless, RunsOut, Stops, StopsCopy, StopsIn, StopsLink, StopsLinks, StopsNext, StopsPouring, StopsVisit, StopsVisiting, asked_before, asked_then}
+use Rattle.ft_copy.specs.Stops.{EndsReading, FailsAt, FailsToCopyLink, HasBegun, Hinders, IsCause, IsCauseAt, IsCauseAtLink, IsCauseAtRoot, Reached, Root, Amid, AmidLinks, Behind, Endless, RunsOut, Stops, StopsCopy, StopsIn, StopsLink, StopsLinks, StopsNext, StopsPouring, StopsVisit, StopsVisiting, asked_before, asked_then}
 use Rattle.ft_copy.proofs.Doing.{does_more, pieces_more, unfinished_more, unfinished_visit, unfinished_visits}
 
 -- what stands at an error that a `?` hands on
@@ -51,6 +54,11 @@ unfinished_both visits links = unfinished_more (flat_map asked_of visits) (flat_
 -- all that was asked for, by what was done of it and what was left
 pub after_all : (before then done rest : List Asked) → then ≡ done ++ rest → before ++ then ≡ (before ++ done) ++ rest
 after_all before then done rest is = ap (λ l. before ++ l) is ∙ sym (append_assoc before done rest)
+
+-- the root could not be entered
+pub root_unread : (tells : Told → Type 0) (path : List ℕ) (trouble other : Trouble) → path ≡ [] → trouble ≡ other → (other ≡ Memory) ⊎ tells (Refuses path ROOT other) → IsCauseAtRoot tells trouble
+root_unread tells path trouble other at is (inl memory) = inl (is ∙ memory)
+root_unread tells path trouble other at is (inr refused) = inr (inr (subst (λ t. tells (Refuses [] ROOT t)) (sym is) (subst (λ p. tells (Refuses p ROOT other)) at refused)))
 
 module _ {T : Type 0} (does : T → Asked → T → Type 0) (fails : T → Asked → Trouble → T → Type 0) where
   -- nothing was done of it
@@ -116,7 +124,7 @@ module _ {T : Type 0} (does : T → Asked → T → Type 0) (fails : T → Asked
       by_parts [] (next ∷ rest) is h (inr failed) = (before, middle, free, did, inr (next, trouble, subst (λ t. fails t next trouble new) h failed))
       by_parts (first ∷ done) (next ∷ rest) is h (inr failed) = absurd (two_are_not_one last first done next rest is)
 
-module _ {T : Type 0} (limits : TreeLimits) (tells : Told → Type 0) (does : T → Asked → T → Type 0) (fails : T → Asked → Trouble → T → Type 0) where
+module _ {T : Type 0} (limits : CopyLimits) (tells : Told → Type 0) (does : T → Asked → T → Type 0) (fails : T → Asked → Trouble → T → Type 0) where
   -- a copy that stops has not finished
   pub reaches : (stopped : Stopped) (old new : T) → Stops limits tells does fails stopped old new → Reaches does fails old new
   reaches stopped old new h = so_far h.0 h.4 h.5
@@ -126,7 +134,7 @@ module _ {T : Type 0} (limits : TreeLimits) (tells : Told → Type 0) (does : T 
       so_far (Amid visits place visit) did k = reaches_in does fails (IsCauseAt limits tells stopped.trouble place visit) stopped.trouble (asked_of visit) old h.1 new (Start ∷ flat_map asked_of visits) (unfinished_visits visits) (unfinished_visit visit) did k
       so_far (AmidLinks visits links link visit) did k =
           reaches_in does fails (IsCauseAtLink limits tells stopped.trouble link) stopped.trouble (asked_of visit) old h.1 new (Start ∷ flat_map asked_of visits ++ flat_map asked_of links) (unfinished_both visits links) (unfinished_visit visit) did k
-      so_far (Behind visits links) did k = reaches_last does fails stopped.trouble Finish old h.1 new (Start ∷ flat_map asked_of visits ++ flat_map asked_of links) (unfinished_both visits links) did k
+      so_far (Behind visits links kept) did k = reaches_last does fails stopped.trouble (Finish kept) old h.1 new (Start ∷ flat_map asked_of visits ++ flat_map asked_of links) (unfinished_both visits links) did k
       so_far (Endless visits) did k = reaches_in does fails (IsCause limits tells stopped.trouble (Endless visits)) stopped.trouble [] old h.1 new (Start ∷ flat_map asked_of visits) (unfinished_visits visits) refl did k
 
   pub gives_up : (stopped : Stopped) (old new : T) → StopsCopy limits tells does fails stopped old new → GivesUp does fails old new
@@ -134,73 +142,79 @@ module _ {T : Type 0} (limits : TreeLimits) (tells : Told → Type 0) (does : T 
 
   -- ---- files
 
-  reading_hinders : (trouble : Trouble) (place : Place) (path : List ℕ) (pieces : List (List ℕ)) → EndsReading limits.file_size trouble pieces → IsCauseAt limits tells trouble place (OfFile path pieces)
-  reading_hinders trouble place path pieces (inl h) = inl (subst (λ t. Hinders limits tells t place (OfFile path pieces)) (sym h) tt)
-  reading_hinders trouble place path pieces (inr (inl h)) = inl (subst (λ t. Hinders limits tells t place (OfFile path pieces)) (sym h) refl)
-  reading_hinders trouble place path pieces (inr (inr h)) = inl (subst (λ t. Hinders limits tells t place (OfFile path pieces)) (sym h.0) (inr h.1))
+  reading_hinders : (trouble : Trouble) (place : Place) (path : List ℕ) (given : Given) (pieces : List (List ℕ)) → EndsReading limits.file_size trouble pieces → IsCauseAt limits tells trouble place (OfFile path given pieces)
+  reading_hinders trouble place path given pieces (inl h) = inl (subst (λ t. Hinders limits tells t place (OfFile path given pieces)) (sym h) tt)
+  reading_hinders trouble place path given pieces (inr (inl h)) = inl (subst (λ t. Hinders limits tells t place (OfFile path given pieces)) (sym h) refl)
+  reading_hinders trouble place path given pieces (inr (inr h)) = inl (subst (λ t. Hinders limits tells t place (OfFile path given pieces)) (sym h.0) (inr h.1))
 
-  module _ (place : Place) (facts : FileFacts) (walk : Standing) (told : tells (Finds place.path place.node (found.File facts))) (left : Option (List ℕ)) (holds : tells (Holds place.path place.node left)) where
-    has_begun : (pieces : List (List ℕ)) (after : Option (List ℕ)) → Consumes left after (concat pieces) → HasBegun tells place walk (OfFile place.path pieces)
-    has_begun pieces after gave = inr (found.File facts, told, inl (pieces, left, after, refl, holds, gave))
+  module _ (place : Place) (file : FoundFile) (given : Given) (is : given ≡ kept_given limits file.given) (walk : Standing) (told : tells (Finds place.path place.node (found.File file)))
+      (left : Option (List ℕ)) (holds : tells (Holds place.path place.node left)) where
+    has_begun : (pieces : List (List ℕ)) (after : Option (List ℕ)) → Consumes left after (concat pieces) → HasBegun limits tells place walk (OfFile place.path given pieces)
+    has_begun pieces after gave = inr (found.File file, told, inl (pieces, left, after, ap (λ (g : Given). OfFile place.path g pieces) is, holds, gave))
 
     -- a file could not be opened by the target
-    pub stops_open : (trouble : Trouble) (old new : T) → Consumes left left [] → fails old (Open place.path) trouble new → StopsVisit limits tells does fails trouble place walk old new
+    pub stops_open : (trouble : Trouble) (old new : T) → Consumes left left [] → fails old (Open place.path given.attributes) trouble new → StopsVisit limits tells does fails trouble place walk old new
     stops_open trouble old new none h =
-        (OfFile place.path [], has_begun [] left none, stops_first does fails (IsCauseAt limits tells trouble place (OfFile place.path [])) trouble (Open place.path) (Close ∷ []) old new h)
+        let visit = OfFile place.path given [] in
+        (visit, has_begun [] left none, stops_first does fails (IsCauseAt limits tells trouble place visit) trouble (Open place.path given.attributes) (Close given.time ∷ []) old new h)
 
     -- its pieces could not be read, or put into it
-    pub stops_pour : (trouble : Trouble) (old opened new : T) → does old (Open place.path) opened → StopsPouring does fails limits.file_size trouble left opened new → StopsVisit limits tells does fails trouble place walk old new
+    pub stops_pour : (trouble : Trouble) (old opened new : T) → does old (Open place.path given.attributes) opened → StopsPouring does fails limits.file_size trouble left opened new → StopsVisit limits tells does fails trouble place walk old new
     stops_pour trouble old opened new was_opened h =
-        let visit = OfFile place.path h.0 in
+        let visit = OfFile place.path given h.0 in
         let cause = IsCauseAt limits tells trouble place visit in
-        let poured = stops_since does fails (EndsReading limits.file_size trouble h.0) cause trouble (map Piece h.0) opened new (reading_hinders trouble place place.path h.0) h.3 in
-        let closes = stops_before does fails cause trouble (map Piece h.0) (Close ∷ []) opened new poured in
-        (visit, has_begun h.0 h.1 h.2, stops_after does fails cause trouble (Open place.path ∷ []) (map Piece h.0 ++ Close ∷ []) old opened new (opened, was_opened, refl) closes)
+        let poured = stops_since does fails (EndsReading limits.file_size trouble h.0) cause trouble (map Piece h.0) opened new (reading_hinders trouble place place.path given h.0) h.3 in
+        let closes = stops_before does fails cause trouble (map Piece h.0) (Close given.time ∷ []) opened new poured in
+        (visit, has_begun h.0 h.1 h.2, stops_after does fails cause trouble (Open place.path given.attributes ∷ []) (map Piece h.0 ++ Close given.time ∷ []) old opened new (opened, was_opened, refl) closes)
 
     -- it could not be closed
     pub stops_close : (trouble : Trouble) (old opened poured new : T) (pieces : List (List ℕ)) (after : Option (List ℕ)) → Consumes left after (concat pieces)
-        → does old (Open place.path) opened → DoesAll does opened (map Piece pieces) poured → fails poured Close trouble new → StopsVisit limits tells does fails trouble place walk old new
+        → does old (Open place.path given.attributes) opened → DoesAll does opened (map Piece pieces) poured → fails poured (Close given.time) trouble new → StopsVisit limits tells does fails trouble place walk old new
     stops_close trouble old opened poured new pieces after gave was_opened pours h =
-        let visit = OfFile place.path pieces in
-        let cause = IsCauseAt limits tells trouble place visit in
-        (visit, has_begun pieces after gave, stops_after does fails cause trouble (Open place.path ∷ map Piece pieces) (Close ∷ []) old poured new (opened, was_opened, pours) (stops_first does fails cause trouble Close [] poured new h))
+        let visit = OfFile place.path given pieces in
+        let cause = IsCauseAt limits tells trouble place visit in (
+          visit,
+          has_begun pieces after gave,
+          stops_after does fails cause trouble (Open place.path given.attributes ∷ map Piece pieces) (Close given.time ∷ []) old poured new (opened, was_opened, pours)
+              (stops_first does fails cause trouble (Close given.time) [] poured new h),
+        )
 
   -- nothing was done at a place
   pub stops_at : (trouble : Trouble) (place : Place) (walk : Standing) (old : T) → IsCauseAt limits tells trouble place OfNothing → StopsVisit limits tells does fails trouble place walk old old
   stops_at trouble place walk old h = (OfNothing, inl refl, stops_nothing does fails (IsCauseAt limits tells trouble place OfNothing) trouble [] old h)
 
   -- a directory was made, and could not be entered
-  pub stops_folder : (trouble : Trouble) (place : Place) (walk : Standing) (path : List ℕ) (old made : T) → path ≡ place.path → tells (Finds path place.node found.Folder) → does old (Folder path) made
-      → (trouble ≡ Memory) ⊎ tells (Refuses path place.node trouble) → StopsVisit limits tells does fails trouble place walk old made
-  stops_folder trouble place walk path old made is told did h =
-      let visit = OfFolder place.path in (
+  pub stops_folder : (trouble : Trouble) (place : Place) (attributes kept : Attributes) (walk : Standing) (path : List ℕ) (old made : T) → kept ≡ kept_attributes limits attributes → path ≡ place.path
+      → tells (Finds path place.node (found.Folder attributes)) → does old (Folder path kept) made → (trouble ≡ Memory) ⊎ tells (Refuses path place.node trouble) → StopsVisit limits tells does fails trouble place walk old made
+  stops_folder trouble place attributes kept walk path old made as_kept is told did h =
+      let visit = OfFolder place.path kept in (
         visit,
-        inr (found.Folder, subst (λ p. tells (Finds p place.node found.Folder)) is told, refl),
-        stops_after does fails (IsCauseAt limits tells trouble place visit) trouble (Folder place.path ∷ []) [] old made made (made, subst (λ p. does old (Folder p) made) is did, refl)
+        inr (found.Folder attributes, subst (λ p. tells (Finds p place.node (found.Folder attributes))) is told, ap (OfFolder place.path) as_kept),
+        stops_after does fails (IsCauseAt limits tells trouble place visit) trouble (Folder place.path kept ∷ []) [] old made made (made, subst (λ p. does old (Folder p kept) made) is did, refl)
             (stops_nothing does fails (IsCauseAt limits tells trouble place visit) trouble [] made (either h)),
       )
     where
-      either : (trouble ≡ Memory) ⊎ tells (Refuses path place.node trouble) → IsCauseAt limits tells trouble place (OfFolder place.path)
-      either (inl memory) = inl (subst (λ t. Hinders limits tells t place (OfFolder place.path)) (sym memory) tt)
+      either : (trouble ≡ Memory) ⊎ tells (Refuses path place.node trouble) → IsCauseAt limits tells trouble place (OfFolder place.path kept)
+      either (inl memory) = inl (subst (λ t. Hinders limits tells t place (OfFolder place.path kept)) (sym memory) tt)
       either (inr refused) = inr (subst (λ p. tells (Refuses p place.node trouble)) is refused)
 
   -- it could not be made
-  pub stops_making : (trouble : Trouble) (place : Place) (walk : Standing) (path : List ℕ) (old new : T) → path ≡ place.path → tells (Finds path place.node found.Folder) → fails old (Folder path) trouble new
-      → StopsVisit limits tells does fails trouble place walk old new
-  stops_making trouble place walk path old new is told failed =
-      let visit = OfFolder place.path in (
+  pub stops_making : (trouble : Trouble) (place : Place) (attributes kept : Attributes) (walk : Standing) (path : List ℕ) (old new : T) → kept ≡ kept_attributes limits attributes → path ≡ place.path
+      → tells (Finds path place.node (found.Folder attributes)) → fails old (Folder path kept) trouble new → StopsVisit limits tells does fails trouble place walk old new
+  stops_making trouble place attributes kept walk path old new as_kept is told failed =
+      let visit = OfFolder place.path kept in (
         visit,
-        inr (found.Folder, subst (λ p. tells (Finds p place.node found.Folder)) is told, refl),
-        stops_first does fails (IsCauseAt limits tells trouble place visit) trouble (Folder place.path) [] old new (subst (λ p. fails old (Folder p) trouble new) is failed),
+        inr (found.Folder attributes, subst (λ p. tells (Finds p place.node (found.Folder attributes))) is told, ap (OfFolder place.path) as_kept),
+        stops_first does fails (IsCauseAt limits tells trouble place visit) trouble (Folder place.path kept) [] old new (subst (λ p. fails old (Folder p kept) trouble new) is failed),
       )
 
   -- a further name could not be given
-  pub stops_link : (trouble : Trouble) (place : Place) (facts : FileFacts) (walk : Standing) (first path : List ℕ) (old new : T) → path ≡ place.path
-      → tells (Finds place.path place.node (found.File facts)) → walk.firsts facts.id ≡ Some first → fails old (Link first path) trouble new → StopsVisit limits tells does fails trouble place walk old new
-  stops_link trouble place facts walk first path old new is told met failed =
+  pub stops_link : (trouble : Trouble) (place : Place) (file : FoundFile) (walk : Standing) (first path : List ℕ) (old new : T) → path ≡ place.path
+      → tells (Finds place.path place.node (found.File file)) → walk.firsts file.facts.id ≡ Some first → fails old (Link first path) trouble new → StopsVisit limits tells does fails trouble place walk old new
+  stops_link trouble place file walk first path old new is told met failed =
       let visit = OfFurther first place.path in (
         visit,
-        inr (found.File facts, told, inr (first, refl, met)),
+        inr (found.File file, told, inr (first, refl, met)),
         stops_first does fails (IsCauseAt limits tells trouble place visit) trouble (Link first place.path) [] old new (subst (λ p. fails old (Link first p) trouble new) is failed),
       )
 
@@ -260,19 +274,14 @@ module _ {T : Type 0} (limits : TreeLimits) (tells : Told → Type 0) (does : T 
     h.5.4.2,
   )
 
-  pub stops_last : (stopped : Stopped) (trouble : Trouble) (begun walked done : Standing) (visits links : List Visit) (old started visited linked new : T) → stopped.trouble ≡ trouble → stopped.path ≡ []
-      → Enters tells [] ROOT nothing begun → does old Start started → WalksTo limits tells begun visits walked → walked.left ≡ [] → LinksTo limits tells walked links done → done.links ≡ []
-      → DoesAll does started (flat_map asked_of visits) visited → DoesAll does visited (flat_map asked_of links) linked → fails linked Finish trouble new → Stops limits tells does fails stopped old new
-  stops_last stopped trouble begun walked done visits links old started visited linked new is at entered did walk all last all_links made made_links failed = (
-    Behind visits links,
+  pub stops_last : (stopped : Stopped) (trouble : Trouble) (top kept : Attributes) (begun walked done : Standing) (visits links : List Visit) (old started visited linked new : T) → stopped.trouble ≡ trouble → stopped.path ≡ []
+      → tells (Finds [] ROOT (found.Folder top)) → kept ≡ kept_attributes limits top → Enters tells [] ROOT nothing begun → does old Start started → WalksTo limits tells begun visits walked → walked.left ≡ [] → LinksTo limits tells walked links done → done.links ≡ []
+      → DoesAll does started (flat_map asked_of visits) visited → DoesAll does visited (flat_map asked_of links) linked → fails linked (Finish kept) trouble new → Stops limits tells does fails stopped old new
+  stops_last stopped trouble top kept begun walked done visits links old started visited linked new is at told as_kept entered did walk all last all_links made made_links failed = (
+    Behind visits links kept,
     linked,
-    (done, (walked, (begun, entered, walk), all, last), all_links),
+    (done, (walked, (begun, entered, walk), all, last), all_links, (top, told, as_kept)),
     at,
     (started, did, does_more does started visited linked (flat_map asked_of visits) (flat_map asked_of links) made made_links),
-    stops_first does fails ⊥ stopped.trouble Finish [] linked new (subst (λ t. fails linked Finish t new) (sym is) failed),
+    stops_first does fails ⊥ stopped.trouble (Finish kept) [] linked new (subst (λ t. fails linked (Finish kept) t new) (sym is) failed),
   )
-
-  -- what is said of a file at a path that was not copied
-  abbrev pub StopsFileAt : Result (Unit {0}) Trouble → List ℕ → ℕ → T → T → Type 0
-  StopsFileAt result path node old new =
-      (facts : FileFacts) (walk : Standing) → tells (Finds path node (found.File facts)) → IfErr result (λ trouble. StopsVisit limits tells does fails trouble (record { path = path; node = node }) walk old new)

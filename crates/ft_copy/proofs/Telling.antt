@@ -1,13 +1,14 @@
 -- What is copied from a source that tells something is copied from one that tells what follows
 -- from it.
 use Rattle.std.proofs.Common.{◌⊎◌, ℕ, List, [], ◌∷◌, inl, inr}
-use Rattle.ft_cells.specs.declared.limits.TreeLimits.{TreeLimits}
 use Rattle.ft_copy.specs.declared.found.FileFacts.{FileFacts}
+use Rattle.ft_copy.specs.declared.found.FoundFile.{FoundFile}
 use Rattle.ft_copy.specs.declared.found.Found.{Found}
 use Rattle.ft_copy.specs.declared.found.Found.TheVariants as found
 use Rattle.ft_copy.specs.declared.found.MetLink.{MetLink}
 use Rattle.ft_copy.specs.declared.found.Place.{Place}
 use Rattle.ft_copy.specs.declared.found.TheConstants.{ROOT}
+use Rattle.ft_copy.specs.declared.limits.CopyLimits.{CopyLimits}
 use Rattle.ft_copy.specs.declared.trouble.Stopped.{Stopped}
 use Rattle.ft_copy.specs.declared.trouble.Trouble.{Trouble}
 use Rattle.ft_copy.specs.declared.trouble.Trouble.TheVariants as trouble
@@ -18,26 +19,26 @@ use Rattle.ft_copy.specs.Stops.{FindsFile, HasBegun, HasBegunAs, HasBegunLink, H
 use Rattle.ft_copy.proofs.Stopping.{stops_since}
 use Rattle.ft_copy.specs.Runs.{Copies, IsFileVisit, IsFirstLink, IsFirstName, IsFurtherName, IsLinkVisit, IsVisit, IsVisitOf, LinksTo, Visit, WalksTo}
 
-module _ (limits : TreeLimits) (P Q : Told → Type 0) (follows : (told : Told) → P told → Q told) where
+module _ (limits : CopyLimits) (P Q : Told → Type 0) (follows : (told : Told) → P told → Q told) where
   entered : (path : List ℕ) (node : ℕ) (old new : Standing) → Enters P path node old new → Enters Q path node old new
   entered path node old new h = (h.0, h.1, follows (Lists path node h.0) h.2, h.3, h.4, h.5)
 
   read : (path : List ℕ) (node : ℕ) (pieces : List (List ℕ)) → IsRead P path node pieces → IsRead Q path node pieces
   read path node pieces h = (h.0, follows (Holds path node h.0) h.1, h.2)
 
-  first : (place : Place) (facts : FileFacts) (old : Standing) (visit : Visit) (new : Standing) → IsFirstName limits P place facts old visit new → IsFirstName limits Q place facts old visit new
-  first place facts old visit new h = (h.0, h.1, read place.path place.node h.0 h.2, h.3, h.4)
+  first : (place : Place) (here : FoundFile) (old : Standing) (visit : Visit) (new : Standing) → IsFirstName limits P place here old visit new → IsFirstName limits Q place here old visit new
+  first place here old visit new h = (h.0, h.1, read place.path place.node h.0 h.2, h.3, h.4)
 
-  file : (place : Place) (facts : FileFacts) (old : Standing) (visit : Visit) (new : Standing) → IsFileVisit limits P place facts old visit new → IsFileVisit limits Q place facts old visit new
-  file place facts old visit new h = (h.0, h.1, either h.2)
+  file : (place : Place) (here : FoundFile) (old : Standing) (visit : Visit) (new : Standing) → IsFileVisit limits P place here old visit new → IsFileVisit limits Q place here old visit new
+  file place here old visit new h = (h.0, h.1, either h.2)
     where
-      either : IsFirstName limits P place facts old visit new ⊎ IsFurtherName place facts old visit new → IsFirstName limits Q place facts old visit new ⊎ IsFurtherName place facts old visit new
-      either (inl k) = inl (first place facts old visit new k)
+      either : IsFirstName limits P place here old visit new ⊎ IsFurtherName place here.facts old visit new → IsFirstName limits Q place here old visit new ⊎ IsFurtherName place here.facts old visit new
+      either (inl k) = inl (first place here old visit new k)
       either (inr k) = inr k
 
   found_there : (place : Place) (there : Found) (old : Standing) (visit : Visit) (new : Standing) → IsVisitOf limits P place there old visit new → IsVisitOf limits Q place there old visit new
-  found_there place found.Folder old visit new h = (h.0, entered place.path place.node old new h.1)
-  found_there place (found.File facts) old visit new h = file place facts old visit new h
+  found_there place (found.Folder attributes) old visit new h = (h.0, entered place.path place.node old new h.1)
+  found_there place (found.File here) old visit new h = file place here old visit new h
   found_there place (found.Symlink facts) old visit new h = h
   found_there place found.Special old visit new h = (h.0, follows (Omits place.path) h.1, h.2)
 
@@ -61,6 +62,8 @@ module _ (limits : TreeLimits) (P Q : Told → Type 0) (follows : (told : Told) 
 
   pub copies : {T : Type 0} (does : T → Asked → T → Type 0) (old new : T) → Copies limits P does old new → Copies limits Q does old new
   copies does old new h = record {
+    top = h.top;
+    folder = follows (Finds [] ROOT (found.Folder h.top)) h.folder;
     begun = h.begun;
     visits = h.visits;
     walked = h.walked;
@@ -104,20 +107,21 @@ module _ (limits : TreeLimits) (P Q : Told → Type 0) (follows : (told : Told) 
 
   cause : (why : Trouble) (reached : Reached) → IsCause limits P why reached → IsCause limits Q why reached
   cause why Root (inl h) = inl h
-  cause why Root (inr h) = inr (follows (Refuses [] ROOT why) h)
+  cause why Root (inr (inl h)) = inr (inl (h.0, (h.1.0, follows (Finds [] ROOT h.1.0) h.1.1, h.1.2)))
+  cause why Root (inr (inr h)) = inr (inr (follows (Refuses [] ROOT why) h))
   cause why (Amid visits place visit) h = cause_at why place visit h
   cause why (AmidLinks visits links link visit) h = cause_at_link why link h
-  cause why (Behind visits links) h = h
+  cause why (Behind visits links kept) h = h
   cause why (Endless visits) h = h
 
-  begun_as : (place : Place) (there : Found) (walk : Standing) (visit : Visit) → HasBegunAs P place there walk visit → HasBegunAs Q place there walk visit
-  begun_as place found.Folder walk visit h = h
-  begun_as place (found.File facts) walk visit (inl h) = inl (h.0, h.1, h.2, h.3, follows (Holds place.path place.node h.1) h.4, h.5)
-  begun_as place (found.File facts) walk visit (inr h) = inr h
+  begun_as : (place : Place) (there : Found) (walk : Standing) (visit : Visit) → HasBegunAs limits P place there walk visit → HasBegunAs limits Q place there walk visit
+  begun_as place (found.Folder attributes) walk visit h = h
+  begun_as place (found.File here) walk visit (inl h) = inl (h.0, h.1, h.2, h.3, follows (Holds place.path place.node h.1) h.4, h.5)
+  begun_as place (found.File here) walk visit (inr h) = inr h
   begun_as place (found.Symlink facts) walk visit h = h
   begun_as place found.Special walk visit h = h
 
-  begun : (place : Place) (walk : Standing) (visit : Visit) → HasBegun P place walk visit → HasBegun Q place walk visit
+  begun : (place : Place) (walk : Standing) (visit : Visit) → HasBegun limits P place walk visit → HasBegun limits Q place walk visit
   begun place walk visit (inl h) = inl h
   begun place walk visit (inr h) = inr (h.0, follows (Finds place.path place.node h.0) h.1, begun_as place h.0 walk visit h.2)
 
@@ -137,7 +141,7 @@ module _ (limits : TreeLimits) (P Q : Told → Type 0) (follows : (told : Told) 
   is_reached (Amid visits place visit) h = (h.0, h.1, has_walked visits h.0 h.2, h.3, begun place (record { left = h.1; links = h.0.links; firsts = h.0.firsts }) visit h.4)
   is_reached (AmidLinks visits links link visit) h =
       (h.0, h.1, has_linked visits links h.0 h.2, h.3, begun_link link (record { left = h.0.left; links = h.1; firsts = h.0.firsts }) visit h.4)
-  is_reached (Behind visits links) h = (h.0, has_linked visits links h.0 h.1, h.2)
+  is_reached (Behind visits links kept) h = (h.0, has_linked visits links h.0 h.1, h.2, (h.3.0, follows (Finds [] ROOT (found.Folder h.3.0)) h.3.1, h.3.2))
   is_reached (Endless visits) h = (h.0, has_walked visits h.0 h.1, h.2)
 
   stops : {T : Type 0} (does : T → Asked → T → Type 0) (fails : T → Asked → Trouble → T → Type 0) (stopped : Stopped) (old new : T) → Stops limits P does fails stopped old new → Stops limits Q does fails stopped old new

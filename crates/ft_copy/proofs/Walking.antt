@@ -1,9 +1,9 @@
 -- A walk, visit by visit.
 use Rattle.std.proofs.Common.{◌≡◌, ℕ, List, [], ◌∷◌, ◌++◌, length, arith, refl, sym, ap, ◌∙◌, subst, append_assoc}
-use Rattle.ft_cells.specs.declared.limits.TreeLimits.{TreeLimits}
 use Rattle.ft_copy.specs.declared.found.Listed.{Listed}
 use Rattle.ft_copy.specs.declared.found.MetLink.{MetLink}
 use Rattle.ft_copy.specs.declared.found.Place.{Place}
+use Rattle.ft_copy.specs.declared.limits.CopyLimits.{CopyLimits}
 use Rattle.ft_copy.specs.Told.{Told}
 use Rattle.ft_copy.specs.Walks.{Standing, above, child}
 use Rattle.ft_copy.specs.Runs.{Visit, IsLinkVisit, IsVisit, LinksTo, WalksTo}
@@ -23,7 +23,7 @@ pub none_left : (n : ℕ) (all : List Place) → n ≡ length all → n ≡ 0 �
 none_left n [] sized empty = refl
 none_left n (p ∷ ps) sized empty = absurd (omega (arith, sized, empty))
 
-module _ (limits : TreeLimits) (tells : Told → Type 0) where
+module _ (limits : CopyLimits) (tells : Told → Type 0) where
   pub walks_one : (old new : Standing) (rest : List Place) (place : Place) (visit : Visit) → old.left ≡ rest ++ place ∷ []
       → IsVisit limits tells place (record { left = rest; links = old.links; firsts = old.firsts }) visit new → WalksTo limits tells old (visit ∷ []) new
   walks_one old new rest place visit is h = (rest, place, new, is, h, refl)

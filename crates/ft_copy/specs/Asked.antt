@@ -1,31 +1,34 @@
 -- What a target is asked for, one thing after another.
-use Rattle.std.specs.Prelude.{◌≡◌, ℕ, Bool, true, false, List, [], ◌∷◌}
+use Rattle.std.specs.Prelude.{◌≡◌, ℕ, Bool, true, false, List, [], ◌∷◌, Option}
 use Rattle.std.specs.List.{list_any}
+use Rattle.ft_cells.specs.declared.attributes.Attributes.{Attributes}
+use Rattle.ft_cells.specs.declared.attributes.Timestamp.{Timestamp}
 
--- One thing that a target is asked for: to start; for a directory; for a file that is open; for
--- bytes behind those of the open file; to close it; for a further name of a file or of a symbolic
--- link; for a symbolic link that leads somewhere; to finish; to give up.
+-- One thing that a target is asked for: to start; for a directory with attributes; for a file with
+-- attributes that is open; for bytes behind those of the open file; to close it, with the time of
+-- its bytes, if there is one; for a further name of a file or of a symbolic link; for a symbolic
+-- link that leads somewhere; to finish, with attributes of the root; to give up.
 pub data Asked : Type 0 where
   Start : Asked
-  Folder : (path : List ℕ) → Asked
-  Open : (path : List ℕ) → Asked
+  Folder : (path : List ℕ) → (attributes : Attributes) → Asked
+  Open : (path : List ℕ) → (attributes : Attributes) → Asked
   Piece : (bytes : List ℕ) → Asked
-  Close : Asked
+  Close : (time : Option Timestamp) → Asked
   Link : (first : List ℕ) → (path : List ℕ) → Asked
   Symlink : (to : List ℕ) → (path : List ℕ) → Asked
-  Finish : Asked
+  Finish : (attributes : Attributes) → Asked
   GiveUp : Asked
 
 -- whether it is asked to finish
 abbrev pub is_finish : Asked → Bool
 is_finish Start = false
-is_finish (Folder path) = false
-is_finish (Open path) = false
+is_finish (Folder path attributes) = false
+is_finish (Open path attributes) = false
 is_finish (Piece bytes) = false
-is_finish Close = false
+is_finish (Close time) = false
 is_finish (Link first path) = false
 is_finish (Symlink to path) = false
-is_finish Finish = true
+is_finish (Finish attributes) = true
 is_finish GiveUp = false
 
 -- the target was not asked to finish

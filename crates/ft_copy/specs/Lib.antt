@@ -1,4 +1,5 @@
 pub mod Told
+pub mod Kept
 pub mod Asked
 pub mod Walks
 pub mod Runs

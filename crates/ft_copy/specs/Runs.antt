@@ -1,15 +1,19 @@
 -- What a copy comes to: which places were visited, and what the target was asked for at each.
 use Rattle.std.specs.Prelude.{◌≡◌, ◌⊎◌, ◌<◌, ◌≤◌, ℕ, false, List, [], ◌∷◌, ◌++◌, map, length, Option, None, Some}
 use Rattle.std.specs.List.{concat, flat_map}
-use Rattle.ft_cells.specs.declared.limits.TreeLimits.{TreeLimits}
+use Rattle.ft_cells.specs.declared.attributes.Attributes.{Attributes}
 use Rattle.ft_path.specs.declared.TheConstants.{LONGEST_PATH}
 use Rattle.ft_copy.specs.declared.found.TheConstants.{ROOT}
 use Rattle.ft_copy.specs.declared.found.FileFacts.{FileFacts}
+use Rattle.ft_copy.specs.declared.found.FoundFile.{FoundFile}
+use Rattle.ft_copy.specs.declared.found.Given.{Given}
 use Rattle.ft_copy.specs.declared.found.Found.{Found}
 use Rattle.ft_copy.specs.declared.found.Found.TheVariants as found
 use Rattle.ft_copy.specs.declared.found.MetLink.{MetLink}
 use Rattle.ft_copy.specs.declared.found.Place.{Place}
+use Rattle.ft_copy.specs.declared.limits.CopyLimits.{CopyLimits}
 use Rattle.ft_copy.specs.declared.trouble.Trouble.{Trouble}
+use Rattle.ft_copy.specs.Kept.{kept_attributes, kept_given}
 use Rattle.ft_copy.specs.Told.{Told, Finds, Leads, Omits}
 use Rattle.ft_copy.specs.Asked.{Asked, Start, Folder, Open, Piece, Close, Link, Symlink, Finish, GiveUp, DoesAll, IsUnfinished}
 use Rattle.ft_copy.specs.Walks.{Enters, IsRead, ArePieces, PutsOff, Standing, is_dotted, nothing, with_first}
@@ -18,20 +22,20 @@ use Rattle.ft_copy.specs.Walks.{Enters, IsRead, ArePieces, PutsOff, Standing, is
 
 -- What was done at a place.
 pub data Visit : Type 0 where
-  OfFolder : (path : List ℕ) → Visit
-  OfFile : (path : List ℕ) → (pieces : List (List ℕ)) → Visit
+  OfFolder : (path : List ℕ) → (attributes : Attributes) → Visit
+  OfFile : (path : List ℕ) → (given : Given) → (pieces : List (List ℕ)) → Visit
   OfFurther : (first : List ℕ) → (path : List ℕ) → Visit
   OfSymlink : (to : List ℕ) → (path : List ℕ) → Visit
   OfNothing : Visit
 
--- a file that is made of these pieces
-abbrev pub made : List ℕ → List (List ℕ) → List Asked
-made path pieces = Open path ∷ map Piece pieces ++ Close ∷ []
+-- a file that is made of these pieces, and is given this
+abbrev pub made : List ℕ → Given → List (List ℕ) → List Asked
+made path given pieces = Open path given.attributes ∷ map Piece pieces ++ Close given.time ∷ []
 
 -- what the target is asked for at a visit
 abbrev pub asked_of : Visit → List Asked
-asked_of (OfFolder path) = Folder path ∷ []
-asked_of (OfFile path pieces) = made path pieces
+asked_of (OfFolder path attributes) = Folder path attributes ∷ []
+asked_of (OfFile path given pieces) = made path given pieces
 asked_of (OfFurther first path) = Link first path ∷ []
 asked_of (OfSymlink to path) = Symlink to path ∷ []
 asked_of OfNothing = []
@@ -47,22 +51,24 @@ abbrev pub IsFurtherName : Place → FileFacts → Standing → Visit → Standi
 IsFurtherName place facts old visit new =
     (first : List ℕ) × (visit ≡ OfFurther first place.path) × (1 < facts.links) × (old.firsts facts.id ≡ Some first) × (new ≡ old)
 
-module _ (limits : TreeLimits) (tells : Told → Type 0) where
-  -- A file is made where it is met first.
-  abbrev pub IsFirstName : Place → FileFacts → Standing → Visit → Standing → Type 0
-  IsFirstName place facts old visit new =
-      (pieces : List (List ℕ)) × (visit ≡ OfFile place.path pieces) × IsRead tells place.path place.node pieces
-      × (length (concat pieces) ≤ limits.file_size) × IsNoted facts place.path old new
+module _ (limits : CopyLimits) (tells : Told → Type 0) where
+  -- A file is made where it is met first. It is given what it has, as far as that may be copied.
+  abbrev pub IsFirstName : Place → FoundFile → Standing → Visit → Standing → Type 0
+  IsFirstName place file old visit new =
+      (pieces : List (List ℕ)) × (visit ≡ OfFile place.path (kept_given limits file.given) pieces) × IsRead tells place.path place.node pieces
+      × (length (concat pieces) ≤ limits.file_size) × IsNoted file.facts place.path old new
 
   -- A visit of a file, which is within the limits.
-  abbrev pub IsFileVisit : Place → FileFacts → Standing → Visit → Standing → Type 0
-  IsFileVisit place facts old visit new =
-      (facts.links ≤ limits.links) × (facts.size ≤ limits.file_size) × (IsFirstName place facts old visit new ⊎ IsFurtherName place facts old visit new)
+  abbrev pub IsFileVisit : Place → FoundFile → Standing → Visit → Standing → Type 0
+  IsFileVisit place file old visit new =
+      (file.facts.links ≤ limits.links) × (file.facts.size ≤ limits.file_size)
+      × (IsFirstName place file old visit new ⊎ IsFurtherName place file.facts old visit new)
 
-  -- A visit of what was found. A symbolic link is put off.
+  -- A visit of what was found. A directory gets the attributes that it has, as far as those may be
+  -- copied. A symbolic link is put off.
   abbrev pub IsVisitOf : Place → Found → Standing → Visit → Standing → Type 0
-  IsVisitOf place found.Folder old visit new = (visit ≡ OfFolder place.path) × Enters tells place.path place.node old new
-  IsVisitOf place (found.File facts) old visit new = IsFileVisit place facts old visit new
+  IsVisitOf place (found.Folder attributes) old visit new = (visit ≡ OfFolder place.path (kept_attributes limits attributes)) × Enters tells place.path place.node old new
+  IsVisitOf place (found.File file) old visit new = IsFileVisit place file old visit new
   IsVisitOf place (found.Symlink facts) old visit new = (visit ≡ OfNothing) × PutsOff place facts old new
   IsVisitOf place found.Special old visit new = (visit ≡ OfNothing) × tells (Omits place.path) × (new ≡ old)
 
@@ -102,23 +108,25 @@ module _ {T : Type 0} (does : T → Asked → T → Type 0) where
   Pours most left old new = (pieces : List (List ℕ)) × ArePieces left pieces × (length (concat pieces) ≤ most) × DoesAll does old (map Piece pieces) new
 
 module _ {T : Type 0} (tells : Told → Type 0) (does : T → Asked → T → Type 0) where
-  -- the target has started, and the root is entered
-  abbrev pub Begins : Standing → Standing → T → T → Type 0
-  Begins walk next old new = does old Start new × Enters tells [] ROOT walk next
+  -- at the root stands a directory with these attributes, the target has started, and it is entered
+  abbrev pub Begins : Attributes → Standing → Standing → T → T → Type 0
+  Begins top walk next old new = tells (Finds [] ROOT (found.Folder top)) × does old Start new × Enters tells [] ROOT walk next
 
 module _ {T : Type 0} (tells : Told → Type 0) (does : T → Asked → T → Type 0) where
   -- the target made a symbolic link that leads where the source tells
   abbrev pub CopiesLink : List ℕ → ℕ → T → T → Type 0
   CopiesLink path node old new = (to : List ℕ) × tells (Leads path node to) × does old (Symlink to path) new
 
-module _ {T : Type 0} (limits : TreeLimits) (tells : Told → Type 0) (does : T → Asked → T → Type 0) where
-  -- the target made a file of what can be read of it
-  abbrev pub CopiesFile : List ℕ → ℕ → T → T → Type 0
-  CopiesFile path node old new = (pieces : List (List ℕ)) × IsRead tells path node pieces × (length (concat pieces) ≤ limits.file_size) × DoesAll does old (made path pieces) new
+module _ {T : Type 0} (limits : CopyLimits) (tells : Told → Type 0) (does : T → Asked → T → Type 0) where
+  -- the target made a file of what can be read of it, and gave it this
+  abbrev pub CopiesFile : Place → Given → T → T → Type 0
+  CopiesFile place given old new =
+      (pieces : List (List ℕ)) × IsRead tells place.path place.node pieces × (length (concat pieces) ≤ limits.file_size)
+      × DoesAll does old (made place.path given pieces) new
 
   -- a file was visited, and the target did what it was asked for
-  abbrev pub VisitsFile : Place → FileFacts → Standing → Standing → T → T → Type 0
-  VisitsFile place facts walk next old new = (visit : Visit) × IsFileVisit limits tells place facts walk visit next × DoesAll does old (asked_of visit) new
+  abbrev pub VisitsFile : Place → FoundFile → Standing → Standing → T → T → Type 0
+  VisitsFile place file walk next old new = (visit : Visit) × IsFileVisit limits tells place file walk visit next × DoesAll does old (asked_of visit) new
 
   -- the same, whatever stands there
   abbrev pub Visits : Place → Standing → Standing → T → T → Type 0
@@ -140,19 +148,22 @@ module _ {T : Type 0} (limits : TreeLimits) (tells : Told → Type 0) (does : T 
 
   -- A whole tree was copied. What was visited is what the source told, from the root on, each
   -- place in its turn, until none was left, and then the symbolic links that were met, until none was
-  -- left; and for just that the target was asked, between its start and its finish.
+  -- left; and for just that the target was asked, between its start and its finish, with what may be
+  -- copied of the root's attributes.
   pub record Copies (old new : T) : Type 0 where
+    pub top : Attributes
     pub begun : Standing
     pub visits : List Visit
     pub walked : Standing
     pub links : List Visit
     pub done : Standing
+    pub folder : tells (Finds [] ROOT (found.Folder top))
     pub root : Enters tells [] ROOT nothing begun
     pub walk : WalksTo limits tells begun visits walked
     pub all : walked.left ≡ []
     pub last : LinksTo limits tells walked links done
     pub all_links : done.links ≡ []
-    pub did : DoesAll does old (Start ∷ flat_map asked_of visits ++ flat_map asked_of links ++ Finish ∷ []) new
+    pub did : DoesAll does old (Start ∷ flat_map asked_of visits ++ flat_map asked_of links ++ Finish (kept_attributes limits top) ∷ []) new
 
 module _ {T : Type 0} (does : T → Asked → T → Type 0) (fails : T → Asked → Trouble → T → Type 0) where
   -- A target did some things, and then nothing more, or failed at one. It has not finished.

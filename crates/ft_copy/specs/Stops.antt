@@ -1,18 +1,22 @@
 -- How a copy stops that is not made: how far it came, and why it went no further.
-use Rattle.std.specs.Prelude.{◌≡◌, ◌⊎◌, ◌<◌, ◌≤◌, ◌-◌, ◌^◌, ℕ, true, List, [], ◌∷◌, ◌++◌, map, length, IsSome, IsSomeAnd, Option, None, Some}
+use Rattle.std.specs.Prelude.{◌≡◌, ◌⊎◌, ◌<◌, ◌≤◌, ◌-◌, ◌^◌, ℕ, Bool, true, false, List, [], ◌∷◌, ◌++◌, map, length, IsSome, IsSomeAnd, Option, None, Some}
 use Rattle.std.specs.List.{concat, flat_map}
 use Rattle.std.specs.Io.KnownBytes.{Consumes}
-use Rattle.ft_cells.specs.declared.limits.TreeLimits.{TreeLimits}
 use Rattle.ft_path.specs.declared.TheConstants.{LONGEST_PATH}
 use Rattle.ft_copy.specs.declared.found.TheConstants.{ROOT}
+use Rattle.ft_cells.specs.declared.attributes.Attributes.{Attributes}
 use Rattle.ft_copy.specs.declared.found.FileFacts.{FileFacts}
+use Rattle.ft_copy.specs.declared.found.FoundFile.{FoundFile}
+use Rattle.ft_copy.specs.declared.found.Given.{Given}
 use Rattle.ft_copy.specs.declared.found.Found.{Found}
 use Rattle.ft_copy.specs.declared.found.Found.TheVariants as found
 use Rattle.ft_copy.specs.declared.found.MetLink.{MetLink}
 use Rattle.ft_copy.specs.declared.found.Place.{Place}
+use Rattle.ft_copy.specs.declared.limits.CopyLimits.{CopyLimits}
 use Rattle.ft_copy.specs.declared.trouble.Stopped.{Stopped}
 use Rattle.ft_copy.specs.declared.trouble.Trouble.{Trouble}
-use Rattle.ft_copy.specs.declared.trouble.Trouble.TheVariants.{Memory, Read, Special, TooLarge, TooManyLinks, PathTooLong, BadName, Full}
+use Rattle.ft_copy.specs.declared.trouble.Trouble.TheVariants.{Memory, Read, Special, TooLarge, TooManyLinks, PathTooLong, BadName, BadTree, Full}
+use Rattle.ft_copy.specs.Kept.{kept_attributes, kept_given}
 use Rattle.ft_copy.specs.Told.{Told, Finds, Holds, Keeps, Leads, Refuses}
 use Rattle.ft_copy.specs.Asked.{Asked, Start, Piece, Symlink, Finish, GiveUp, DoesAll}
 use Rattle.ft_copy.specs.Walks.{Enters, Standing, is_dotted, nothing}
@@ -49,27 +53,27 @@ module _ {T : Type 0} (does : T → Asked → T → Type 0) (fails : T → Asked
 
 -- the bytes that were read of a file
 abbrev pub read_of : Visit → Option (List ℕ)
-read_of (OfFolder path) = None
-read_of (OfFile path pieces) = Some (concat pieces)
+read_of (OfFolder path attributes) = None
+read_of (OfFile path given pieces) = Some (concat pieces)
 read_of (OfFurther first path) = None
 read_of (OfSymlink to path) = None
 read_of OfNothing = None
 
-module _ (tells : Told → Type 0) where
-  -- A file was opened, and these pieces of it were read.
-  abbrev pub IsReading : Place → Visit → Type 0
-  IsReading place visit =
-      (pieces : List (List ℕ)) × (opened : Option (List ℕ)) × (after : Option (List ℕ)) × (visit ≡ OfFile place.path pieces)
-      × tells (Holds place.path place.node opened) × Consumes opened after (concat pieces)
+-- a file or a symbolic link that was met already is to get a further name
+abbrev pub IsLinking : Place → FileFacts → Standing → Visit → Type 0
+IsLinking place facts walk visit = (first : List ℕ) × (visit ≡ OfFurther first place.path) × (walk.firsts facts.id ≡ Some first)
 
-  -- a file or a symbolic link that was met already is to get a further name
-  abbrev pub IsLinking : Place → FileFacts → Standing → Visit → Type 0
-  IsLinking place facts walk visit = (first : List ℕ) × (visit ≡ OfFurther first place.path) × (walk.firsts facts.id ≡ Some first)
+module _ (limits : CopyLimits) (tells : Told → Type 0) where
+  -- A file was opened, and these pieces of it were read.
+  abbrev pub IsReading : Place → Given → Visit → Type 0
+  IsReading place given visit =
+      (pieces : List (List ℕ)) × (opened : Option (List ℕ)) × (after : Option (List ℕ)) × (visit ≡ OfFile place.path (kept_given limits given) pieces)
+      × tells (Holds place.path place.node opened) × Consumes opened after (concat pieces)
 
   -- A visit of what was found has begun.
   abbrev pub HasBegunAs : Place → Found → Standing → Visit → Type 0
-  HasBegunAs place found.Folder walk visit = visit ≡ OfFolder place.path
-  HasBegunAs place (found.File facts) walk visit = IsReading place visit ⊎ IsLinking place facts walk visit
+  HasBegunAs place (found.Folder attributes) walk visit = visit ≡ OfFolder place.path (kept_attributes limits attributes)
+  HasBegunAs place (found.File file) walk visit = IsReading place file.given visit ⊎ IsLinking place file.facts walk visit
   HasBegunAs place (found.Symlink facts) walk visit = ⊥
   HasBegunAs place found.Special walk visit = ⊥
 
@@ -77,6 +81,7 @@ module _ (tells : Told → Type 0) where
   abbrev pub HasBegun : Place → Standing → Visit → Type 0
   HasBegun place walk visit = (visit ≡ OfNothing) ⊎ ((found : Found) × tells (Finds place.path place.node found) × HasBegunAs place found walk visit)
 
+module _ (tells : Told → Type 0) where
   -- a symbolic link is to be made that leads where the source tells
   abbrev pub IsLeading : MetLink → Visit → Type 0
   IsLeading link visit = (to : List ℕ) × (visit ≡ OfSymlink to link.place.path) × tells (Leads link.place.path link.place.node to)
@@ -87,9 +92,9 @@ module _ (tells : Told → Type 0) where
 
   -- the source told of a file at the place, of which this holds
   abbrev pub FindsFile : Place → (FileFacts → Type 0) → Type 0
-  FindsFile place holds = (facts : FileFacts) × tells (Finds place.path place.node (found.File facts)) × holds facts
+  FindsFile place holds = (file : FoundFile) × tells (Finds place.path place.node (found.File file)) × holds file.facts
 
-module _ (limits : TreeLimits) (tells : Told → Type 0) where
+module _ (limits : CopyLimits) (tells : Told → Type 0) where
   -- Why a place is not copied: which trouble comes when.
   abbrev pub Hinders : Trouble → Place → Visit → Type 0
   Hinders Memory place visit = Unit {0}
@@ -114,12 +119,13 @@ module _ (limits : TreeLimits) (tells : Told → Type 0) where
 -- ---- a copy that is not made
 
 -- How far a copy came: to the root; to a place behind these visits; to a symbolic link behind these
--- visits and links; to its end; or to more places than a number counts.
+-- visits and links; to its end, where the root is to have these attributes; or to more places than a
+-- number counts.
 pub data Reached : Type 0 where
   Root : Reached
   Amid : (visits : List Visit) → (place : Place) → (visit : Visit) → Reached
   AmidLinks : (visits links : List Visit) → (link : MetLink) → (visit : Visit) → Reached
-  Behind : (visits links : List Visit) → Reached
+  Behind : (visits links : List Visit) → (kept : Attributes) → Reached
   Endless : (visits : List Visit) → Reached
 
 -- what the target was asked for before, and has done
@@ -127,7 +133,7 @@ abbrev pub asked_before : Reached → List Asked
 asked_before Root = []
 asked_before (Amid visits place visit) = Start ∷ flat_map asked_of visits
 asked_before (AmidLinks visits links link visit) = Start ∷ flat_map asked_of visits ++ flat_map asked_of links
-asked_before (Behind visits links) = Start ∷ flat_map asked_of visits ++ flat_map asked_of links
+asked_before (Behind visits links kept) = Start ∷ flat_map asked_of visits ++ flat_map asked_of links
 asked_before (Endless visits) = Start ∷ flat_map asked_of visits
 
 -- what it was asked for then, up to where the copy stops
@@ -135,7 +141,7 @@ abbrev pub asked_then : Reached → List Asked
 asked_then Root = Start ∷ []
 asked_then (Amid visits place visit) = asked_of visit
 asked_then (AmidLinks visits links link visit) = asked_of visit
-asked_then (Behind visits links) = Finish ∷ []
+asked_then (Behind visits links kept) = Finish kept ∷ []
 asked_then (Endless visits) = []
 
 -- the path at which it stops
@@ -143,15 +149,26 @@ abbrev pub path_at : Reached → List ℕ
 path_at Root = []
 path_at (Amid visits place visit) = place.path
 path_at (AmidLinks visits links link visit) = link.place.path
-path_at (Behind visits links) = []
+path_at (Behind visits links kept) = []
 path_at (Endless visits) = []
 
-module _ (tells : Told → Type 0) where
-  -- Why the root was not entered, where the target has started.
-  abbrev pub IsCauseAtRoot : Trouble → Type 0
-  IsCauseAtRoot trouble = (trouble ≡ Memory) ⊎ tells (Refuses [] ROOT trouble)
+-- a directory was found
+abbrev pub is_folder : Found → Bool
+is_folder (found.Folder attributes) = true
+is_folder (found.File file) = false
+is_folder (found.Symlink facts) = false
+is_folder found.Special = false
 
-module _ (limits : TreeLimits) (tells : Told → Type 0) where
+module _ (tells : Told → Type 0) where
+  -- The source told of something at the root that is no directory.
+  abbrev pub HasNoFolder : Type 0
+  HasNoFolder = (there : Found) × tells (Finds [] ROOT there) × (is_folder there ≡ false)
+
+  -- Why the root was not entered, where the target has not failed.
+  abbrev pub IsCauseAtRoot : Trouble → Type 0
+  IsCauseAtRoot trouble = (trouble ≡ Memory) ⊎ ((trouble ≡ BadTree) × HasNoFolder) ⊎ tells (Refuses [] ROOT trouble)
+
+module _ (limits : CopyLimits) (tells : Told → Type 0) where
   -- These visits were made from the root on, each of the place that was next, as the source told.
   abbrev pub HasWalked : List Visit → Standing → Type 0
   HasWalked visits now = (begun : Standing) × Enters tells [] ROOT nothing begun × WalksTo limits tells begun visits now
@@ -164,11 +181,12 @@ module _ (limits : TreeLimits) (tells : Told → Type 0) where
   abbrev pub IsReached : Reached → Type 0
   IsReached Root = Unit {0}
   IsReached (Amid visits place visit) =
-      (now : Standing) × (rest : List Place) × HasWalked visits now × (now.left ≡ rest ++ place ∷ []) × HasBegun tells place (record { left = rest; links = now.links; firsts = now.firsts }) visit
+      (now : Standing) × (rest : List Place) × HasWalked visits now × (now.left ≡ rest ++ place ∷ []) × HasBegun limits tells place (record { left = rest; links = now.links; firsts = now.firsts }) visit
   IsReached (AmidLinks visits links link visit) =
       (now : Standing) × (more : List MetLink) × HasLinked visits links now × (now.links ≡ link ∷ more)
       × HasBegunLink tells link (record { left = now.left; links = more; firsts = now.firsts }) visit
-  IsReached (Behind visits links) = (now : Standing) × HasLinked visits links now × (now.links ≡ [])
+  IsReached (Behind visits links kept) =
+      (now : Standing) × HasLinked visits links now × (now.links ≡ []) × ((top : Attributes) × tells (Finds [] ROOT (found.Folder top)) × (kept ≡ kept_attributes limits top))
   IsReached (Endless visits) = (now : Standing) × HasWalked visits now × (2 ^ 64 - 1 ≤ length visits)
 
   -- Why it went no further, where the target has not failed.
@@ -176,7 +194,7 @@ module _ (limits : TreeLimits) (tells : Told → Type 0) where
   IsCause trouble Root = IsCauseAtRoot tells trouble
   IsCause trouble (Amid visits place visit) = IsCauseAt limits tells trouble place visit
   IsCause trouble (AmidLinks visits links link visit) = IsCauseAtLink limits tells trouble link
-  IsCause trouble (Behind visits links) = ⊥
+  IsCause trouble (Behind visits links kept) = ⊥
   IsCause trouble (Endless visits) = trouble ≡ Full
 
 module _ {T : Type 0} (tells : Told → Type 0) (fails : T → Asked → Trouble → T → Type 0) where
@@ -190,11 +208,11 @@ module _ {T : Type 0} (tells : Told → Type 0) (does : T → Asked → T → Ty
   abbrev pub StopsBegin : Trouble → T → T → Type 0
   StopsBegin trouble old new = StopsIn does fails (IsCauseAtRoot tells trouble) trouble (Start ∷ []) old new
 
-module _ {T : Type 0} (limits : TreeLimits) (tells : Told → Type 0) (does : T → Asked → T → Type 0) (fails : T → Asked → Trouble → T → Type 0) where
+module _ {T : Type 0} (limits : CopyLimits) (tells : Told → Type 0) (does : T → Asked → T → Type 0) (fails : T → Asked → Trouble → T → Type 0) where
   -- A visit was not made, or not to its end.
   abbrev pub StopsVisit : Trouble → Place → Standing → T → T → Type 0
   StopsVisit trouble place walk old new =
-      (visit : Visit) × HasBegun tells place walk visit × StopsIn does fails (IsCauseAt limits tells trouble place visit) trouble (asked_of visit) old new
+      (visit : Visit) × HasBegun limits tells place walk visit × StopsIn does fails (IsCauseAt limits tells trouble place visit) trouble (asked_of visit) old new
 
   -- The visit of the next place was not made, or not to its end.
   abbrev pub StopsNext : Stopped → Standing → T → T → Type 0

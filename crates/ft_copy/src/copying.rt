@@ -1,21 +1,23 @@
 // The copy of a tree.
-ghost use Rattle.std.specs.Prelude.{◌≡◌, [], OnOk, OnErr, IfErr};
+ghost use Rattle.std.specs.Prelude.{◌≡◌, [], OnOk, OnErr, IfErr, IfOk};
 ghost use Rattle.ft_copy.specs.Runs.{Begins, Copies, GivesUp, Visits, VisitsAll, VisitsFile};
-ghost use Rattle.ft_copy.specs.Stops.{Stops, StopsBegin, StopsCopy, StopsVisit, StopsVisiting};
+ghost use Rattle.ft_copy.specs.Stops.{IsCauseAtRoot, Stops, StopsBegin, StopsCopy, StopsVisit, StopsVisiting};
 ghost use Rattle.ft_copy.specs.Told.{Finds};
-ghost use Rattle.ft_copy.specs.declared.found.Found.TheVariants.{File};
+ghost use Rattle.ft_copy.specs.declared.found.Found.TheVariants.{File, Folder};
+ghost use Rattle.ft_copy.specs.declared.found.TheConstants.{ROOT};
 ghost use Rattle.ft_copy.specs.Walks.{is_dotted, standing};
 
 use crate::file::copy_file;
 use crate::firsts::Firsts;
-use crate::found::{FileFacts, Found, Place, ROOT};
+use crate::found::{Found, FoundFile, Place, ROOT};
+use crate::limits::CopyLimits;
 use crate::linking::make_links;
 use crate::source::Source;
 use crate::target::Target;
 use crate::trouble::{Stopped, Trouble};
 use crate::walk::{Walk, enter, put_off};
 use ft_base::Sequence;
-use ft_cells::TreeLimits;
+use ft_cells::Attributes;
 use ft_path::LONGEST_PATH;
 use std::alloc::Global;
 use std::collections::VecDeque;
@@ -25,12 +27,13 @@ use std::collections::VecDeque;
 /// where it is met again. Symbolic links are not followed, and come behind all else, so that the
 /// target is asked for nothing that stands behind one. What a tree has no place for is refused,
 /// unless the source leaves it out, and so is a file that has more bytes or more names than these
-/// limits allow.
+/// limits allow. Directories and files have their attributes, without S_ISUID and S_ISGID where the
+/// limits say so, and files the time of their bytes.
 ///
 /// Where something fails, the target is asked to give up, and for nothing more.
 pub fn copy<S: Source, T: Target>(
     alloc: Global,
-    limits: TreeLimits,
+    limits: CopyLimits,
     source: &S,
     target: &mut T,
 ) -> Result<(), Stopped>
@@ -50,7 +53,7 @@ pub fn copy<S: Source, T: Target>(
 // The same, but for giving up.
 fn copy_whole<S: Source, T: Target>(
     alloc: Global,
-    limits: TreeLimits,
+    limits: CopyLimits,
     source: &S,
     target: &mut T,
 ) -> Result<(), Stopped>
@@ -63,12 +66,13 @@ fn copy_whole<S: Source, T: Target>(
         links: VecDeque::new(alloc),
         firsts: Firsts::new(alloc),
     };
-    if let Err(trouble) = begin(source, target, &mut walk) {
-        return Err(at_root(alloc, trouble));
-    }
+    let top = match begin(source, target, &mut walk) {
+        Ok(attributes) => attributes,
+        Err(trouble) => return Err(at_root(alloc, trouble)),
+    };
     visit_all(limits, source, target, &mut walk)?;
     make_links(limits, source, target, &mut walk)?;
-    match target.finish() {
+    match target.finish(limits.kept_attributes(top)) {
         Ok(()) => Ok(()),
         Err(trouble) => Err(at_root(alloc, trouble)),
     }
@@ -85,18 +89,35 @@ fn at_root(alloc: Global, trouble: Trouble) -> Stopped
     }
 }
 
-// Starts the target, and enters the root.
-fn begin<S: Source, T: Target>(source: &S, target: &mut T, walk: &mut Walk) -> Result<(), Trouble>
-    ensures ok { OnOk result (Begins (S.tells source.now) T.does (standing walk.old) (standing walk.new) target.old target.new) }
+// Starts the target, enters the root, and answers its attributes.
+fn begin<S: Source, T: Target>(
+    source: &S,
+    target: &mut T,
+    walk: &mut Walk,
+) -> Result<Attributes, Trouble>
+    ensures ok { IfOk result (λ top. Begins (S.tells source.now) T.does top (standing walk.old) (standing walk.new) target.old target.new) }
     ensures err { IfErr result (λ trouble. StopsBegin (S.tells source.now) T.does T.fails trouble target.old target.new) }
 {
+    let top = root_attributes(source)?;
     target.start()?;
-    enter(source, walk, b"".as_slice(), ROOT)
+    enter(source, walk, b"".as_slice(), ROOT)?;
+    Ok(top)
+}
+
+// The attributes of the root. What is no directory is refused.
+fn root_attributes<S: Source>(source: &S) -> Result<Attributes, Trouble>
+    ensures ok { IfOk result (λ top. S.tells source.now (Finds [] ROOT (Folder top))) }
+    ensures err { IfErr result (λ trouble. IsCauseAtRoot (S.tells source.now) trouble) }
+{
+    match source.look(b"".as_slice(), ROOT)? {
+        Found::Folder(attributes) => Ok(attributes),
+        Found::File(_) | Found::Symlink(_) | Found::Special => Err(Trouble::BadTree),
+    }
 }
 
 // Visits all that is left.
 fn visit_all<S: Source, T: Target>(
-    limits: TreeLimits,
+    limits: CopyLimits,
     source: &S,
     target: &mut T,
     walk: &mut Walk,
@@ -125,7 +146,7 @@ fn visit_all<S: Source, T: Target>(
 
 // Visits one place.
 fn visit<S: Source, T: Target>(
-    limits: TreeLimits,
+    limits: CopyLimits,
     source: &S,
     target: &mut T,
     walk: &mut Walk,
@@ -142,11 +163,11 @@ fn visit<S: Source, T: Target>(
         return Err(Trouble::PathTooLong);
     }
     match source.look(path, place.node)? {
-        Found::Folder => {
-            target.folder(path)?;
+        Found::Folder(attributes) => {
+            target.folder(path, limits.kept_attributes(attributes))?;
             enter(source, walk, path, place.node)
         }
-        Found::File(facts) => visit_file(limits, source, target, walk, place, &facts),
+        Found::File(file) => visit_file(limits, source, target, walk, place, &file),
         Found::Symlink(facts) => Ok(put_off(walk, place, facts)?),
         Found::Special => {
             if source.omits(path)? {
@@ -160,18 +181,18 @@ fn visit<S: Source, T: Target>(
 
 // Visits a file.
 fn visit_file<S: Source, T: Target>(
-    limits: TreeLimits,
+    limits: CopyLimits,
     source: &S,
     target: &mut T,
     walk: &mut Walk,
     place: &Place,
-    facts: &FileFacts,
+    file: &FoundFile,
 ) -> Result<(), Trouble>
-    ensures ok { OnOk result (VisitsFile limits (S.tells source.now) T.does place.now facts.now (standing walk.old) (standing walk.new) target.old target.new) }
-    ensures err { S.tells source.now (Finds place.now.path place.now.node (File facts.now))
+    ensures ok { OnOk result (VisitsFile limits (S.tells source.now) T.does place.now file.now (standing walk.old) (standing walk.new) target.old target.new) }
+    ensures err { S.tells source.now (Finds place.now.path place.now.node (File file.now))
         → IfErr result (λ trouble. StopsVisit limits (S.tells source.now) T.does T.fails trouble place.now (standing walk.old) target.old target.new) }
 {
-    let path = place.path.as_slice();
+    let facts = file.facts;
     if facts.links > limits.links {
         return Err(Trouble::TooManyLinks);
     }
@@ -179,14 +200,14 @@ fn visit_file<S: Source, T: Target>(
         return Err(Trouble::TooLarge);
     }
     if facts.links <= 1 {
-        return copy_file(walk.alloc, limits, source, target, path, place.node);
+        return copy_file(walk.alloc, limits, source, target, place, file);
     }
     match walk.firsts.get(facts.id) {
-        Some(first) => target.link(first.as_slice(), path),
+        Some(first) => target.link(first.as_slice(), place.path.as_slice()),
         None => {
-            let first = Vec::from_slice(walk.alloc, path)?;
+            let first = Vec::from_slice(walk.alloc, place.path.as_slice())?;
             walk.firsts.insert(facts.id, first.into())?;
-            copy_file(walk.alloc, limits, source, target, path, place.node)
+            copy_file(walk.alloc, limits, source, target, place, file)
         }
     }
 }

@@ -1,19 +1,20 @@
 // A file, copied piece by piece.
-ghost use Rattle.std.specs.Prelude.{◌≡◌, ◌⊎◌, ◌≤◌, ℕ, List, take, vec_len, length, OnOk, IfErr, IfOk};
+ghost use Rattle.std.specs.Prelude.{◌≡◌, ◌⊎◌, ◌≤◌, take, vec_len, length, OnOk, IfErr, IfOk};
 ghost use Rattle.std.specs.Io.{ReadsAtMost};
 ghost use Rattle.std.specs.Io.KnownBytes.{Consumes, IsAtEnd};
 ghost use Rattle.ft_copy.specs.Asked.{Piece};
-ghost use Rattle.ft_copy.specs.declared.found.FileFacts.{FileFacts};
 ghost use Rattle.ft_copy.specs.declared.found.Found.TheVariants.{File};
+ghost use Rattle.ft_copy.specs.Kept.{kept_given};
 ghost use Rattle.ft_copy.specs.Runs.{CopiesFile, Pours};
 ghost use Rattle.ft_copy.specs.Stops.{StopsPouring, StopsVisit};
 ghost use Rattle.ft_copy.specs.Told.{Finds};
 ghost use Rattle.ft_copy.specs.Walks.{Standing};
 
+use crate::found::{FoundFile, Place};
+use crate::limits::CopyLimits;
 use crate::source::Source;
 use crate::target::Target;
 use crate::trouble::Trouble;
-use ft_cells::TreeLimits;
 use std::alloc::{AllocError, Global};
 use std::io::{ErrorKind, Read};
 
@@ -23,20 +24,22 @@ pub const PIECE: usize = 65_536;
 /// Copies a file. One that turns out to have more bytes than the limits allow is refused.
 pub(crate) fn copy_file<S: Source, T: Target>(
     alloc: Global,
-    limits: TreeLimits,
+    limits: CopyLimits,
     source: &S,
     target: &mut T,
-    path: &[u8],
-    node: u64,
+    place: &Place,
+    file: &FoundFile,
 ) -> Result<(), Trouble>
-    ensures ok { OnOk result (CopiesFile limits (S.tells source.now) T.does path.now node target.old target.new) }
-    ensures err { (facts : FileFacts) (walk : Standing) → S.tells source.now (Finds path.now node (File facts))
-        → IfErr result (λ trouble. StopsVisit limits (S.tells source.now) T.does T.fails trouble (record { path = path.now; node = node }) walk target.old target.new) }
+    ensures ok { OnOk result (CopiesFile limits (S.tells source.now) T.does place.now (kept_given limits file.now.given) target.old target.new) }
+    ensures err { (walk : Standing) → S.tells source.now (Finds place.now.path place.now.node (File file.now))
+        → IfErr result (λ trouble. StopsVisit limits (S.tells source.now) T.does T.fails trouble place.now walk target.old target.new) }
 {
-    let mut file = source.open(path, node)?;
-    target.open(path)?;
-    pour(alloc, limits.file_size, &mut file, target)?;
-    target.close()
+    let path = place.path.as_slice();
+    let given = limits.kept_given(file.given);
+    let mut reader = source.open(path, place.node)?;
+    target.open(path, given.attributes)?;
+    pour(alloc, limits.file_size, &mut reader, target)?;
+    target.close(given.time)
 }
 
 // Puts all that a reader has left into the open file, so many bytes at most.

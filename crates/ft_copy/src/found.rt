@@ -1,5 +1,6 @@
 // What a source finds.
 use ft_base::Sequence;
+use ft_cells::{Attributes, Timestamp};
 use ft_path::Name;
 
 /// The number by which a source knows its root.
@@ -22,13 +23,28 @@ pub struct FileFacts {
     pub size: u64,
 }
 
+/// What a file has beside its bytes and its names.
+#[derive(Clone, Copy, Debug, PartialEq, Eq)]
+pub struct Given {
+    pub attributes: Attributes,
+    /// The time of its bytes, where there is one.
+    pub time: Option<Timestamp>,
+}
+
+/// A file that is found.
+#[derive(Clone, Copy, Debug, PartialEq, Eq)]
+pub struct FoundFile {
+    pub facts: FileFacts,
+    pub given: Given,
+}
+
 /// What stands at a place.
 #[derive(Clone, Copy, Debug, PartialEq, Eq)]
 pub enum Found {
-    /// A directory.
-    Folder,
+    /// A directory, which has these attributes.
+    Folder(Attributes),
     /// A file.
-    File(FileFacts),
+    File(FoundFile),
     /// A symbolic link, which is not followed.
     Symlink(FileFacts),
     /// What a tree has no place for: a device, a FIFO or a socket.

@@ -6,6 +6,7 @@ mod copying;
 mod file;
 mod firsts;
 mod found;
+mod limits;
 mod linking;
 mod name;
 mod source;
@@ -15,7 +16,8 @@ mod walk;
 
 pub use copying::copy;
 pub use file::PIECE;
-pub use found::{FileFacts, FileId, Found, Listed, MetLink, Place, ROOT};
+pub use found::{FileFacts, FileId, Found, FoundFile, Given, Listed, MetLink, Place, ROOT};
+pub use limits::CopyLimits;
 pub use name::name_of;
 pub use source::Source;
 pub use target::Target;

@@ -5,15 +5,15 @@ ghost use Rattle.ft_copy.specs.Stops.{FailsToCopyLink, StopsLink, StopsLinks};
 ghost use Rattle.ft_copy.specs.Walks.{standing};
 
 use crate::found::MetLink;
+use crate::limits::CopyLimits;
 use crate::source::Source;
 use crate::target::Target;
 use crate::trouble::{Stopped, Trouble};
 use crate::walk::Walk;
-use ft_cells::TreeLimits;
 
 /// Makes the symbolic links that were met, one after another.
 pub(crate) fn make_links<S: Source, T: Target>(
-    limits: TreeLimits,
+    limits: CopyLimits,
     source: &S,
     target: &mut T,
     walk: &mut Walk,
@@ -37,7 +37,7 @@ pub(crate) fn make_links<S: Source, T: Target>(
 
 // Makes a symbolic link where it is met first, and gives it a further name where it is met again.
 fn make_link<S: Source, T: Target>(
-    limits: TreeLimits,
+    limits: CopyLimits,
     source: &S,
     target: &mut T,
     walk: &mut Walk,

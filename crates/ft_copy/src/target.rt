@@ -2,6 +2,7 @@
 ghost use Rattle.std.specs.Prelude.{OnOk, IfErr};
 
 use crate::trouble::Trouble;
+use ft_cells::{Attributes, Timestamp};
 
 /// What makes a tree of directories. It is asked for one thing after another: first to start, then
 /// for directories and files, each directory before what stands in it, then for symbolic links, and
@@ -22,25 +23,26 @@ pub trait Target {
         ensures ok { OnOk result (does self.old Start self.new) }
         ensures err { IfErr result (λ trouble. fails self.old Start trouble self.new) };
 
-    /// Makes a directory.
-    fn folder(&mut self, path: &[u8]) -> Result<(), Trouble>
-        ensures ok { OnOk result (does self.old (Folder path.now) self.new) }
-        ensures err { IfErr result (λ trouble. fails self.old (Folder path.now) trouble self.new) };
+    /// Makes a directory, which has these attributes when the tree is whole.
+    fn folder(&mut self, path: &[u8], attributes: Attributes) -> Result<(), Trouble>
+        ensures ok { OnOk result (does self.old (Folder path.now attributes) self.new) }
+        ensures err { IfErr result (λ trouble. fails self.old (Folder path.now attributes) trouble self.new) };
 
-    /// Makes a file, which is empty and open for writing.
-    fn open(&mut self, path: &[u8]) -> Result<(), Trouble>
-        ensures ok { OnOk result (does self.old (Open path.now) self.new) }
-        ensures err { IfErr result (λ trouble. fails self.old (Open path.now) trouble self.new) };
+    /// Makes a file, which is empty and open for writing, and has these attributes when it is
+    /// closed.
+    fn open(&mut self, path: &[u8], attributes: Attributes) -> Result<(), Trouble>
+        ensures ok { OnOk result (does self.old (Open path.now attributes) self.new) }
+        ensures err { IfErr result (λ trouble. fails self.old (Open path.now attributes) trouble self.new) };
 
     /// Puts bytes behind those of the open file.
     fn piece(&mut self, bytes: &[u8]) -> Result<(), Trouble>
         ensures ok { OnOk result (does self.old (Piece bytes.now) self.new) }
         ensures err { IfErr result (λ trouble. fails self.old (Piece bytes.now) trouble self.new) };
 
-    /// Closes the open file.
-    fn close(&mut self) -> Result<(), Trouble>
-        ensures ok { OnOk result (does self.old Close self.new) }
-        ensures err { IfErr result (λ trouble. fails self.old Close trouble self.new) };
+    /// Closes the open file, whose bytes have this time, if there is one.
+    fn close(&mut self, time: Option<Timestamp>) -> Result<(), Trouble>
+        ensures ok { OnOk result (does self.old (Close time) self.new) }
+        ensures err { IfErr result (λ trouble. fails self.old (Close time) trouble self.new) };
 
     /// Gives a file or a symbolic link that was made a further name.
     fn link(&mut self, first: &[u8], path: &[u8]) -> Result<(), Trouble>
@@ -52,10 +54,10 @@ pub trait Target {
         ensures ok { OnOk result (does self.old (Symlink to.now path.now) self.new) }
         ensures err { IfErr result (λ trouble. fails self.old (Symlink to.now path.now) trouble self.new) };
 
-    /// Ends the tree, which is whole.
-    fn finish(&mut self) -> Result<(), Trouble>
-        ensures ok { OnOk result (does self.old Finish self.new) }
-        ensures err { IfErr result (λ trouble. fails self.old Finish trouble self.new) };
+    /// Ends the tree, which is whole. Its root has these attributes.
+    fn finish(&mut self, attributes: Attributes) -> Result<(), Trouble>
+        ensures ok { OnOk result (does self.old (Finish attributes) self.new) }
+        ensures err { IfErr result (λ trouble. fails self.old (Finish attributes) trouble self.new) };
 
     /// Takes away what was begun.
     fn give_up(&mut self)

@@ -49,6 +49,7 @@ pub enum Trouble {
 /// - Memory: there was none, at any time;
 /// - Special: the source told of something special that is not to be left out;
 /// - TooLarge, TooManyLinks: a file is over the limit, by what was told or read;
+/// - BadTree: the source told of something at the root that is no directory;
 /// - PathTooLong: the path has more than 4,095 bytes; BadName: its last name is `.` or `..`;
 /// - Read: a file was open to be read;
 /// - Full: behind 2^64 - 1 places.

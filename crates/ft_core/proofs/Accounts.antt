@@ -1,6 +1,6 @@
 -- Each place of no use is known to the locks: what keeps it so, and what a sweep makes of it.
 use Rattle.std.proofs.Common.{◌≡◌, ◌⊎◌, inl, inr, ℕ, Bool, true, false, cond, not, ◌&&◌, ◌||◌, ◌==◌, List, [], ◌∷◌, Option, Some, None, is_some, is_none, unwrap_or, map, refl, sym, ap, subst, ◌∙◌}
-use Rattle.std.proofs.lemmas.Bool.{false≢true, and_parts, and_from, or_cases, or_left, or_right}
+use Rattle.std.proofs.lemmas.Bool.{false≢true, and_parts, and_from, or_left, or_right}
 use Rattle.std.specs.Ordering.{nat_cmp}
 use Rattle.std.specs.Cmp.{nat_cmp_total, unsigned_tied}
 use Rattle.std.specs.Cmp.Lexicographic.{slice_cmp}
@@ -12,7 +12,7 @@ use Rattle.ft_laws.specs.Effects.{is_written}
 use Rattle.ft_laws.proofs.Tests.{by_test}
 use Rattle.ft_cells.specs.declared.node.Node.{Node}
 use Rattle.ft_cells.specs.declared.cell.Cell.{Cell}
-use Rattle.ft_cells.specs.declared.cell.Cell.TheVariants.{Entry, Names, Parent, Links, Bytes, Fd}
+use Rattle.ft_cells.specs.declared.cell.Cell.TheVariants.{Entry, Names, Parent, Links, Bytes, Fd, DirAttributes, FileAttributes}
 use Rattle.ft_cells.specs.declared.open_file.OpenFile.{OpenFile}
 use Rattle.ft_cells.specs.CellOrder.{same_cell, same_cell-refl}
 use Rattle.ft_cells.specs.declared.limits.TreeLimits.{TreeLimits}
@@ -38,25 +38,34 @@ use Rattle.ft_core.specs.Laws.{CallLaws, LockLaws}
 use Rattle.ft_core.specs.Sweeps.{EachUselessIsLocked}
 use Rattle.ft_core.proofs.Placing.{put-write}
 
--- Two words for it.
+-- Words for it.
 
 one_rest : (a b : Bool) → (a || b) ≡ true → a ≡ false → b ≡ true
 one_rest true b h f = absurd (false≢true (sym f))
 one_rest false b h f = h
 
-two_rest : (a b c d : Bool) → ((a || c) || (b || d)) ≡ true → (a || b) ≡ false → (c || d) ≡ true
-two_rest true b c d h f = absurd (false≢true (sym f))
-two_rest false true c d h f = absurd (false≢true (sym f))
-two_rest false false c d h f = h
+three_rest : (a b c x y z : Bool) → (a || x || (b || y) || (c || z)) ≡ true → (a || b || c) ≡ false → (x || y || z) ≡ true
+three_rest true b c x y z h f = absurd (false≢true (sym f))
+three_rest false true c x y z h f = absurd (false≢true (sym f))
+three_rest false false true x y z h f = absurd (false≢true (sym f))
+three_rest false false false x y z h f = h
+
+dir_rest : (p q : Cell → Bool) (d : ℕ) → at_place (λ x. p x || q x) (Names d) ≡ true → at_place p (Names d) ≡ false → at_place q (Names d) ≡ true
+dir_rest p q d = three_rest (p (Names d)) (p (Parent d)) (p (DirAttributes d)) (q (Names d)) (q (Parent d)) (q (DirAttributes d))
+
+file_rest : (p q : Cell → Bool) (i : ℕ) → at_place (λ x. p x || q x) (Links i) ≡ true → at_place p (Links i) ≡ false → at_place q (Links i) ≡ true
+file_rest p q i = three_rest (p (Links i)) (p (Bytes i)) (p (FileAttributes i)) (q (Links i)) (q (Bytes i)) (q (FileAttributes i))
 
 -- what is known of a place, and locked at none of its cells, was let go
 let-go-rest : (t : LockTable) (c : Cell) → at_place (is_known t) c ≡ true → at_place (is_locked t) c ≡ false → at_place (is_let_go t) c ≡ true
 let-go-rest t (Entry entry) h f = one_rest (is_locked t (Entry entry)) (is_let_go t (Entry entry)) h f
-let-go-rest t (Names d) h f = two_rest (is_locked t (Names d)) (is_locked t (Parent d)) (is_let_go t (Names d)) (is_let_go t (Parent d)) h f
-let-go-rest t (Parent d) h f = two_rest (is_locked t (Names d)) (is_locked t (Parent d)) (is_let_go t (Names d)) (is_let_go t (Parent d)) h f
-let-go-rest t (Links i) h f = two_rest (is_locked t (Links i)) (is_locked t (Bytes i)) (is_let_go t (Links i)) (is_let_go t (Bytes i)) h f
-let-go-rest t (Bytes i) h f = two_rest (is_locked t (Links i)) (is_locked t (Bytes i)) (is_let_go t (Links i)) (is_let_go t (Bytes i)) h f
+let-go-rest t (Names d) h f = dir_rest (is_locked t) (is_let_go t) d h f
+let-go-rest t (Parent d) h f = dir_rest (is_locked t) (is_let_go t) d h f
+let-go-rest t (Links i) h f = file_rest (is_locked t) (is_let_go t) i h f
+let-go-rest t (Bytes i) h f = file_rest (is_locked t) (is_let_go t) i h f
 let-go-rest t (Fd f) h g = one_rest (is_locked t (Fd f)) (is_let_go t (Fd f)) h g
+let-go-rest t (DirAttributes d) h f = dir_rest (is_locked t) (is_let_go t) d h f
+let-go-rest t (FileAttributes i) h f = file_rest (is_locked t) (is_let_go t) i h f
 
 -- each place of no use is known
 abbrev IsKnown : LockTable → Cells → Type 0
@@ -108,6 +117,8 @@ module _ (limits : TreeLimits) where
   fresh-none (Links i) = no-file i
   fresh-none (Bytes i) = no-file i
   fresh-none (Fd f) = ap (λ (o : Option (Option OpenFile)). is_some o && is_none (option_flatten o)) (finite.get-empty {X = Option OpenFile} nat_cmp f)
+  fresh-none (DirAttributes d) = no-directory d
+  fresh-none (FileAttributes i) = no-file i
 
   pub fresh-accounted : (kept let_go : Cell → Bool) → IsAccounted kept let_go (fresh_cells limits)
   fresh-accounted kept let_go c spare = absurd (false≢true (sym (fresh-none c) ∙ (and_parts (is_useless (fresh_cells limits) c) (not (at_place kept c)) spare).0))
@@ -174,11 +185,13 @@ swept-accounted t t' cells same none c spare = absurd (false≢true (sym (none c
 
 none-locked : (p : Cell → Bool) → ((c : Cell) → p c ≡ false) → (c : Cell) → at_place p c ≡ false
 none-locked p none (Entry entry) = none (Entry entry)
-none-locked p none (Names d) = λ i. none (Names d) i || none (Parent d) i
-none-locked p none (Parent d) = λ i. none (Names d) i || none (Parent d) i
-none-locked p none (Links i) = λ j. none (Links i) j || none (Bytes i) j
-none-locked p none (Bytes i) = λ j. none (Links i) j || none (Bytes i) j
+none-locked p none (Names d) = λ i. none (Names d) i || none (Parent d) i || none (DirAttributes d) i
+none-locked p none (Parent d) = λ i. none (Names d) i || none (Parent d) i || none (DirAttributes d) i
+none-locked p none (Links i) = λ j. none (Links i) j || none (Bytes i) j || none (FileAttributes i) j
+none-locked p none (Bytes i) = λ j. none (Links i) j || none (Bytes i) j || none (FileAttributes i) j
 none-locked p none (Fd f) = none (Fd f)
+none-locked p none (DirAttributes d) = λ i. none (Names d) i || none (Parent d) i || none (DirAttributes d) i
+none-locked p none (FileAttributes i) = λ j. none (Links i) j || none (Bytes i) j || none (FileAttributes i) j
 
 pub none-useless : (t : LockTable) (cells : Cells) → ((c : Cell) → is_locked t c ≡ false) → HasNoneToDrop (is_locked t) cells → (c : Cell) → is_useless cells c ≡ false
 none-useless t cells free none c = by_test (is_useless cells c)
@@ -186,25 +199,48 @@ none-useless t cells free none c = by_test (is_useless cells c)
     (λ u. u)
 
 -- A place among some has one of its cells among them.
+
+one_of_three : (a b c : Bool) → (a || b || c) ≡ true → (a ≡ true) ⊎ ((b ≡ true) ⊎ (c ≡ true))
+one_of_three true b c h = inl refl
+one_of_three false true c h = inr (inl refl)
+one_of_three false false c h = inr (inr h)
+
+three_with : (a b c : Bool) → (a ≡ true) ⊎ ((b ≡ true) ⊎ (c ≡ true)) → (a || b || c) ≡ true
+three_with a b c (inl h) = or_left (a || b) c (or_left a b h)
+three_with a b c (inr (inl h)) = or_left (a || b) c (or_right a b h)
+three_with a b c (inr (inr h)) = or_right (a || b) c h
+
+at-dir : (x : Cell) (d : ℕ) → (same_cell x (Names d) ≡ true) ⊎ ((same_cell x (Parent d) ≡ true) ⊎ (same_cell x (DirAttributes d) ≡ true)) → at_place (same_cell x) (Names d) ≡ true
+at-dir x d = three_with (same_cell x (Names d)) (same_cell x (Parent d)) (same_cell x (DirAttributes d))
+
+placed-dir : (among : Cell → Bool) (d : ℕ) → at_place among (Names d) ≡ true → (x : Cell) × (among x ≡ true) × (at_place (same_cell x) (Names d) ≡ true)
+placed-dir among d h = by_cell (one_of_three (among (Names d)) (among (Parent d)) (among (DirAttributes d)) h)
+  where
+    by_cell : (among (Names d) ≡ true) ⊎ ((among (Parent d) ≡ true) ⊎ (among (DirAttributes d) ≡ true)) → (x : Cell) × (among x ≡ true) × (at_place (same_cell x) (Names d) ≡ true)
+    by_cell (inl names) = (Names d, names, at-dir (Names d) d (inl (same_cell-refl (Names d))))
+    by_cell (inr (inl parent)) = (Parent d, parent, at-dir (Parent d) d (inr (inl (same_cell-refl (Parent d)))))
+    by_cell (inr (inr attributes)) = (DirAttributes d, attributes, at-dir (DirAttributes d) d (inr (inr (same_cell-refl (DirAttributes d)))))
+
+at-file : (x : Cell) (i : ℕ) → (same_cell x (Links i) ≡ true) ⊎ ((same_cell x (Bytes i) ≡ true) ⊎ (same_cell x (FileAttributes i) ≡ true)) → at_place (same_cell x) (Links i) ≡ true
+at-file x i = three_with (same_cell x (Links i)) (same_cell x (Bytes i)) (same_cell x (FileAttributes i))
+
+placed-file : (among : Cell → Bool) (i : ℕ) → at_place among (Links i) ≡ true → (x : Cell) × (among x ≡ true) × (at_place (same_cell x) (Links i) ≡ true)
+placed-file among i h = by_cell (one_of_three (among (Links i)) (among (Bytes i)) (among (FileAttributes i)) h)
+  where
+    by_cell : (among (Links i) ≡ true) ⊎ ((among (Bytes i) ≡ true) ⊎ (among (FileAttributes i) ≡ true)) → (x : Cell) × (among x ≡ true) × (at_place (same_cell x) (Links i) ≡ true)
+    by_cell (inl links) = (Links i, links, at-file (Links i) i (inl (same_cell-refl (Links i))))
+    by_cell (inr (inl bytes)) = (Bytes i, bytes, at-file (Bytes i) i (inr (inl (same_cell-refl (Bytes i)))))
+    by_cell (inr (inr attributes)) = (FileAttributes i, attributes, at-file (FileAttributes i) i (inr (inr (same_cell-refl (FileAttributes i)))))
+
 placed-cell : (among : Cell → Bool) (c : Cell) → at_place among c ≡ true → (x : Cell) × (among x ≡ true) × (at_place (same_cell x) c ≡ true)
 placed-cell among (Entry entry) h = (Entry entry, h, same_cell-refl (Entry entry))
-placed-cell among (Names d) h = elim (or_cases (among (Names d)) (among (Parent d)) h) [
-  | inl names ↦ (Names d, names, or_left (same_cell (Names d) (Names d)) (same_cell (Names d) (Parent d)) (same_cell-refl (Names d)))
-  | inr parent ↦ (Parent d, parent, or_right (same_cell (Parent d) (Names d)) (same_cell (Parent d) (Parent d)) (same_cell-refl (Parent d)))
-]
-placed-cell among (Parent d) h = elim (or_cases (among (Names d)) (among (Parent d)) h) [
-  | inl names ↦ (Names d, names, or_left (same_cell (Names d) (Names d)) (same_cell (Names d) (Parent d)) (same_cell-refl (Names d)))
-  | inr parent ↦ (Parent d, parent, or_right (same_cell (Parent d) (Names d)) (same_cell (Parent d) (Parent d)) (same_cell-refl (Parent d)))
-]
-placed-cell among (Links i) h = elim (or_cases (among (Links i)) (among (Bytes i)) h) [
-  | inl links ↦ (Links i, links, or_left (same_cell (Links i) (Links i)) (same_cell (Links i) (Bytes i)) (same_cell-refl (Links i)))
-  | inr bytes ↦ (Bytes i, bytes, or_right (same_cell (Bytes i) (Links i)) (same_cell (Bytes i) (Bytes i)) (same_cell-refl (Bytes i)))
-]
-placed-cell among (Bytes i) h = elim (or_cases (among (Links i)) (among (Bytes i)) h) [
-  | inl links ↦ (Links i, links, or_left (same_cell (Links i) (Links i)) (same_cell (Links i) (Bytes i)) (same_cell-refl (Links i)))
-  | inr bytes ↦ (Bytes i, bytes, or_right (same_cell (Bytes i) (Links i)) (same_cell (Bytes i) (Bytes i)) (same_cell-refl (Bytes i)))
-]
+placed-cell among (Names d) h = placed-dir among d h
+placed-cell among (Parent d) h = placed-dir among d h
+placed-cell among (Links i) h = placed-file among i h
+placed-cell among (Bytes i) h = placed-file among i h
 placed-cell among (Fd f) h = (Fd f, h, same_cell-refl (Fd f))
+placed-cell among (DirAttributes d) h = placed-dir among d h
+placed-cell among (FileAttributes i) h = placed-file among i h
 
 -- What a sweep leaves of no use is locked.
 pub useless-locked : (K : LockLaws) (s : State) (t : LockTable) (cells : Cells) → AreLocksOf (history s) t → HasNoneToDrop (is_locked t) cells → EachUselessIsLocked s cells

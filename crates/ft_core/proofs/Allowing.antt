@@ -32,6 +32,8 @@ limits-set p (cell.Parent d) to = refl
 limits-set p (cell.Links i) to = refl
 limits-set p (cell.Bytes i) to = refl
 limits-set p (cell.Fd f) to = refl
+limits-set p (cell.DirAttributes d) to = refl
+limits-set p (cell.FileAttributes i) to = refl
 
 limits-put_all : (ws : List Write) (p : PlainTree) → (put_all_plain p ws).limits ≡ p.limits
 limits-put_all [] p = refl

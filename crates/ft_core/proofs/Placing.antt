@@ -4,7 +4,7 @@ use Rattle.ft_laws.specs.Lists.{Each}
 use Rattle.ft_laws.specs.Effects.{Has, before, write_all}
 use Rattle.ft_laws.proofs.Lists.{Each-from, Each-at}
 use Rattle.ft_cells.specs.declared.cell.Cell.{Cell}
-use Rattle.ft_cells.specs.declared.cell.Cell.TheVariants.{Entry, Names, Parent, Links, Bytes, Fd}
+use Rattle.ft_cells.specs.declared.cell.Cell.TheVariants.{Entry, Names, Parent, Links, Bytes, Fd, DirAttributes, FileAttributes}
 use Rattle.ft_cells.specs.declared.open_file.OpenFile.{OpenFile}
 use Rattle.ft_cells.specs.Cells.{Cells, open_of, HasFilePlace}
 use Rattle.ft_tree.specs.Held.{Holds, held, IsStored}
@@ -51,6 +51,8 @@ module _ (cells now : Cells) (named : (f : ℕ) (o : OpenFile) → open_of cells
   of-cell (Links i) = tt
   of-cell (Bytes i) = tt
   of-cell (Fd f) = of-description f (open_of cells f) refl
+  of-cell (DirAttributes d) = tt
+  of-cell (FileAttributes i) = tt
 
   pub files-stored : (ws : List Write) → Each (λ (w : Change). file_is_stored now w.cell w.value) (before posix cells ws)
   files-stored [] = tt
@@ -66,6 +68,8 @@ module _ (cells now : Cells) (stay : (x : Cell) → IsStored cells x → IsStore
   file-stays (Bytes i) v h = tt
   file-stays (Fd f) None h = tt
   file-stays (Fd f) (Some o) h = stay (Links o.file) h
+  file-stays (DirAttributes d) v h = tt
+  file-stays (FileAttributes i) v h = tt
 
   pub placed-stays : (e : Item) → ArePlaced cells e → ArePlaced now e
   placed-stays e placed = record {

@@ -5,7 +5,7 @@ use Rattle.ft_laws.specs.Effects.{write_all}
 use Rattle.ft_laws.proofs.Lists.{Each-map}
 use Rattle.ft_laws.proofs.Tests.{by_test}
 use Rattle.ft_cells.specs.declared.cell.Cell.{Cell}
-use Rattle.ft_cells.specs.declared.cell.Cell.TheVariants.{Entry, Names, Parent, Links, Bytes, Fd}
+use Rattle.ft_cells.specs.declared.cell.Cell.TheVariants.{Entry, Names, Parent, Links, Bytes, Fd, DirAttributes, FileAttributes}
 use Rattle.ft_cells.specs.declared.open_file.OpenFile.{OpenFile}
 use Rattle.ft_cells.specs.CellOrder.{same_cell, same_cell-is}
 use Rattle.ft_cells.specs.Cells.{Cells, open_of, HasFilePlace}
@@ -39,6 +39,8 @@ file-stays old new stay (Links i) v h = tt
 file-stays old new stay (Bytes i) v h = tt
 file-stays old new stay (Fd f) None h = tt
 file-stays old new stay (Fd f) (Some o) h = stay (Links o.file) h
+file-stays old new stay (DirAttributes d) v h = tt
+file-stays old new stay (FileAttributes i) v h = tt
 
 pub placed-stays : (old new : Cells) → StayPlaces old new → (e : Item) → ArePlaced old e → ArePlaced new e
 placed-stays old new stay e h = record {
@@ -59,6 +61,8 @@ module _ (setting : SettingLaw) where
   opens-set cells (Parent d) v h opens f o is = opens f o (sym (setting.kept cells (Parent d) v (Fd f) refl) ∙ is)
   opens-set cells (Links i) v h opens f o is = opens f o (sym (setting.kept cells (Links i) v (Fd f) refl) ∙ is)
   opens-set cells (Bytes i) v h opens f o is = opens f o (sym (setting.kept cells (Bytes i) v (Fd f) refl) ∙ is)
+  opens-set cells (DirAttributes d) v h opens f o is = opens f o (sym (setting.kept cells (DirAttributes d) v (Fd f) refl) ∙ is)
+  opens-set cells (FileAttributes i) v h opens f o is = opens f o (sym (setting.kept cells (FileAttributes i) v (Fd f) refl) ∙ is)
   opens-set cells (Fd g) v h opens f o is = by_test (same_cell (Fd g) (Fd f))
       (λ k.
       let same : g ≡ f = number (same_cell-is (Fd g) (Fd f) k) in

@@ -12,11 +12,12 @@ use Rattle.ft_laws.specs.Runs.{Along}
 use Rattle.ft_laws.proofs.Lists.{Each-from, Each-at}
 use Rattle.ft_laws.proofs.Tests.{by_test, by_option}
 use Rattle.ft_cells.specs.declared.cell.Cell.{Cell}
-use Rattle.ft_cells.specs.declared.cell.Cell.TheVariants.{Entry, Names, Parent, Links, Bytes, Fd}
-use Rattle.ft_cells.specs.Cells.{Cells, FileCells, no_file, bytes_of, links_of, HasFilePlace}
+use Rattle.ft_cells.specs.declared.cell.Cell.TheVariants.{Entry, Names, Parent, Links, Bytes, Fd, DirAttributes, FileAttributes}
+use Rattle.ft_cells.specs.Cells.{Cells, FileCells, no_file, file_of as stored_file, links_of, HasFilePlace}
 use Rattle.ft_tree.specs.Held.{Holds, IsStored, held}
-use Rattle.ft_tree.specs.Sound.{AreSoundCells}
+use Rattle.ft_tree.specs.Sound.{AreSoundCells, IsFree}
 use Rattle.ft_tree.specs.Sweep.{IsSwept, is_dropped, HasNoneToDrop}
+use Rattle.ft_tree.proofs.Sweeps.{swept-dir_attributes}
 use Rattle.ft_posix.specs.Posix.{HasSoundValues, file_of, names_file, posix_calls}
 use Rattle.ft_posix.specs.RunLaws.{writes_cell}
 use Rattle.ft_undo.specs.declared.logs.Logged.{Logged}
@@ -44,19 +45,21 @@ use Rattle.ft_core.specs.declared.parts.Parts.{Parts}
 
 -- The cells of a file.
 
-file-cell : (P : Cell → Type 0) (i : ℕ) → P (Links i) → P (Bytes i) → (x : Cell) → file_of x ≡ Some i → P x
-file-cell P i links bytes (Entry entry) e = absurd (none_some i e)
-file-cell P i links bytes (Names d) e = absurd (none_some i e)
-file-cell P i links bytes (Parent d) e = absurd (none_some i e)
-file-cell P i links bytes (Links j) e = subst (λ k. P (Links k)) (sym (same_some j i e)) links
-file-cell P i links bytes (Bytes j) e = subst (λ k. P (Bytes k)) (sym (same_some j i e)) bytes
-file-cell P i links bytes (Fd f) e = absurd (none_some i e)
+file-cell : (P : Cell → Type 0) (i : ℕ) → P (Links i) → P (Bytes i) → P (FileAttributes i) → (x : Cell) → file_of x ≡ Some i → P x
+file-cell P i links bytes attributes (Entry entry) e = absurd (none_some i e)
+file-cell P i links bytes attributes (Names d) e = absurd (none_some i e)
+file-cell P i links bytes attributes (Parent d) e = absurd (none_some i e)
+file-cell P i links bytes attributes (Links j) e = subst (λ k. P (Links k)) (sym (same_some j i e)) links
+file-cell P i links bytes attributes (Bytes j) e = subst (λ k. P (Bytes k)) (sym (same_some j i e)) bytes
+file-cell P i links bytes attributes (Fd f) e = absurd (none_some i e)
+file-cell P i links bytes attributes (DirAttributes d) e = absurd (none_some i e)
+file-cell P i links bytes attributes (FileAttributes j) e = subst (λ k. P (FileAttributes k)) (sym (same_some j i e)) attributes
 
 -- Whether a file is stored.
 
-not-stored : (cells : Cells) (i : ℕ) → finite.contains_key cells.files i ≡ false → bytes_of cells i ≡ []
+not-stored : (cells : Cells) (i : ℕ) → finite.contains_key cells.files i ≡ false → stored_file cells i ≡ no_file
 not-stored cells i k = by_option (finite.get cells.files i)
-    (λ none. ap (λ (o : Option FileCells). (unwrap_or o no_file).bytes) none)
+    (λ none. ap (λ (o : Option FileCells). unwrap_or o no_file) none)
     (λ f some. absurd (false≢true (sym k ∙ ap (λ (o : Option FileCells). is_some o) some)))
 
 stored-place : (cells : Cells) (i : ℕ) → finite.contains_key cells.files i ≡ true → HasFilePlace cells i
@@ -112,7 +115,7 @@ module _ (W : CallLaws) (K : LockLaws) {base : Base} {h : History} {asks : Asks}
   more i = hidden i || (gone i && nat_le i last_number)
 
   unlocked : (i : ℕ) → gone i ≡ true → (y : ℕ) (x : Cell) → file_of x ≡ Some i → owns_lock posix_calls h y (λ f. posix_calls.touches f (Some x)) ≡ false
-  unlocked i k y x e = K.cover from with_values h table core.locks x i e (file-cell (λ c. is_locked table c ≡ false) i (swept.files i k).links (swept.files i k).bytes x e) y
+  unlocked i k y x e = K.cover from with_values h table core.locks x i e (file-cell (λ c. is_locked table c ≡ false) i (swept.files i k).links (swept.files i k).bytes (swept.files i k).attributes x e) y
 
   unnamed : (i : ℕ) → gone i ≡ true → (x : Cell) → names_file x (held cells x) i ≡ false
   unnamed i k x = W.nameless cells core.kept.sound i (swept.files i k).dead x
@@ -120,26 +123,28 @@ module _ (W : CallLaws) (K : LockLaws) {base : Base} {h : History} {asks : Asks}
   gone-of : (i : ℕ) → hidden i ≡ false → more i ≡ true → gone i ≡ true
   gone-of i seen unseen = (and_parts (gone i) (nat_le i last_number) (sym (ap (λ b. b || (gone i && nat_le i last_number)) seen) ∙ unseen)).0
 
-  -- The bytes of a file that is not hidden stay.
-  bytes-same : (i : ℕ) → more i ≡ false → bytes_of new i ≡ bytes_of cells i
-  bytes-same i seen = by_test (finite.contains_key new.files i)
-      (λ k. swept.bytes i (stored-place new i k))
-      (λ k. not-stored new i k ∙ sym (by_test (finite.contains_key cells.files i)
+  -- What is stored of a file that is not hidden stays.
+  file-same : {A : Type 0} (what : FileCells → A) (i : ℕ) → (HasFilePlace new i → what (stored_file new i) ≡ what (stored_file cells i)) → (IsFree cells i → what (stored_file cells i) ≡ what no_file)
+      → more i ≡ false → what (stored_file new i) ≡ what (stored_file cells i)
+  file-same what i stays unused seen = by_test (finite.contains_key new.files i)
+      (λ k. stays (stored-place new i k))
+      (λ k. ap what (not-stored new i k) ∙ sym (by_test (finite.contains_key cells.files i)
       (λ was. by_test (nat_le i last_number)
       (λ old. absurd (false≢true (sym seen ∙ or_right (hidden i) (gone i && nat_le i last_number) (ap (λ b. (b && not (finite.contains_key new.files i)) && nat_le i last_number) was ∙ ap (λ b. not b && nat_le i last_number) k ∙ old))))
-      (λ later. (free W core.kept i (past-last i later)).unused (Bytes i) refl))
-      (not-stored cells i)))
+      (λ later. unused (free W core.kept i (past-last i later))))
+      (λ k. ap what (not-stored cells i k))))
     where
       past-last : (i : ℕ) → nat_le i last_number ≡ false → last_number < i
       past-last i e = leb-false i last_number e
 
-  -- Those of one that is are gone.
-  bytes-gone : (i : ℕ) → more i ≡ true → bytes_of new i ≡ []
-  bytes-gone i unseen = by_test (finite.contains_key new.files i)
+  -- That of one that is is gone.
+  file-gone : {A : Type 0} (what : FileCells → A) (i : ℕ) → (HasFilePlace new i → what (stored_file new i) ≡ what (stored_file cells i)) → (hidden i ≡ true → what (stored_file cells i) ≡ what no_file)
+      → more i ≡ true → what (stored_file new i) ≡ what no_file
+  file-gone what i stays was_gone unseen = by_test (finite.contains_key new.files i)
       (λ k. by_test (hidden i)
-      (λ was. swept.bytes i (stored-place new i k) ∙ core.kept.core.store.gone (Some (Bytes i)) was)
+      (λ was. stays (stored-place new i k) ∙ was_gone was)
       (λ seen. absurd (false≢true (sym (ap not k) ∙ (and_parts (finite.contains_key cells.files i) (not (finite.contains_key new.files i)) (gone-of i seen unseen)).1))))
-      (not-stored new i)
+      (λ k. ap what (not-stored new i k))
 
   links-gone : (i : ℕ) → more i ≡ true → links_of new i ≡ 0
   links-gone i unseen = swept.links i ∙ by_test (hidden i)
@@ -152,8 +157,10 @@ module _ (W : CallLaws) (K : LockLaws) {base : Base} {h : History} {asks : Asks}
   others (Some (Names d)) k = refl
   others (Some (Parent d)) k = swept.parents d
   others (Some (Links i)) k = swept.links i
-  others (Some (Bytes i)) k = bytes-same i k
+  others (Some (Bytes i)) k = file-same (λ (f : FileCells). f.contents) i (swept.contents i) (λ free. free.unused (Bytes i) refl) k
   others (Some (Fd f)) k = swept.opens f
+  others (Some (DirAttributes d)) k = swept-dir_attributes (is_locked table) cells new swept core.kept.sound d
+  others (Some (FileAttributes i)) k = file-same (λ (f : FileCells). f.attributes) i (swept.file_attributes i) (λ free. free.unused (FileAttributes i) refl) k
 
   blanked : (x : Option Cell) → is_hidden posix_calls more x ≡ true → posix_calls.cell new x ≡ posix_calls.blank x
   blanked None k = absurd (false≢true k)
@@ -161,8 +168,10 @@ module _ (W : CallLaws) (K : LockLaws) {base : Base} {h : History} {asks : Asks}
   blanked (Some (Names d)) k = absurd (false≢true k)
   blanked (Some (Parent d)) k = absurd (false≢true k)
   blanked (Some (Links i)) k = links-gone i k
-  blanked (Some (Bytes i)) k = bytes-gone i k
+  blanked (Some (Bytes i)) k = file-gone (λ (f : FileCells). f.contents) i (swept.contents i) (core.kept.core.store.gone (Some (Bytes i))) k
   blanked (Some (Fd f)) k = absurd (false≢true k)
+  blanked (Some (DirAttributes d)) k = absurd (false≢true k)
+  blanked (Some (FileAttributes i)) k = file-gone (λ (f : FileCells). f.attributes) i (swept.file_attributes i) (core.kept.core.store.gone (Some (FileAttributes i))) k
 
   -- nothing names a hidden file
   none-named : (x : Option Cell) (i : ℕ) → more i ≡ true → posix_calls.names x (posix_calls.cell cells x) i ≡ false
@@ -238,6 +247,8 @@ module _ (W : CallLaws) (K : LockLaws) {base : Base} {h : History} {asks : Asks}
     file-kept (Parent d) v none stored = tt
     file-kept (Links n) v none stored = tt
     file-kept (Bytes n) v none stored = tt
+    file-kept (DirAttributes d) v none stored = tt
+    file-kept (FileAttributes n) v none stored = tt
     file-kept (Fd f) None none stored = tt
     file-kept (Fd f) (Some o) none stored = by_test (finite.contains_key new.files o.file)
         (stored-place new o.file)

@@ -5,7 +5,7 @@ use Rattle.std.specs.Cmp.{eq_by_cmp_equiv}
 use Rattle.ft_laws.specs.Lists.{Each, Pairs, In}
 use Rattle.ft_laws.specs.Effects.{Access as PlaceAccess, before, write_all, change}
 use Rattle.ft_cells.specs.declared.cell.Cell.{Cell}
-use Rattle.ft_cells.specs.declared.cell.Cell.TheVariants.{Entry, Names, Parent, Links, Bytes, Fd}
+use Rattle.ft_cells.specs.declared.cell.Cell.TheVariants.{Entry, Names, Parent, Links, Bytes, Fd, DirAttributes, FileAttributes}
 use Rattle.ft_cells.specs.CellOrder.{cell_cmp_total, same_cell, same_cell-is}
 use Rattle.ft_cells.specs.Cells.{Cells}
 use Rattle.ft_tree.specs.Held.{held, set_cell}
@@ -53,6 +53,8 @@ covers-itself (Parent d) = itself (Parent d)
 covers-itself (Links i) = itself (Links i)
 covers-itself (Bytes i) = itself (Bytes i)
 covers-itself (Fd f) = itself (Fd f)
+covers-itself (DirAttributes d) = itself (DirAttributes d)
+covers-itself (FileAttributes i) = itself (FileAttributes i)
 
 pub written-changes : (f : List (PlaceAccess Cell)) (x : Cell) → writes_cell f x ≡ true → change posix f x ≡ true
 written-changes [] x h = h

@@ -5,7 +5,7 @@ use Rattle.ft_base.specs.Chains.{Lists, list_in}
 use Rattle.ft_laws.specs.Lists.{Each, Pairs, In}
 use Rattle.ft_laws.specs.Effects.{Has, Write as CellWrite}
 use Rattle.ft_cells.specs.declared.cell.Cell.{Cell}
-use Rattle.ft_cells.specs.declared.cell.Cell.TheVariants.{Entry as EntryCell, Names as NamesCell, Parent as ParentCell, Links as LinksCell, Bytes as BytesCell, Fd as FdCell}
+use Rattle.ft_cells.specs.declared.cell.Cell.TheVariants.{Entry as EntryCell, Names as NamesCell, Parent as ParentCell, Links as LinksCell, Bytes as BytesCell, Fd as FdCell, DirAttributes as DirAttributesCell, FileAttributes as FileAttributesCell}
 use Rattle.ft_cells.specs.CellOrder.{same_cell}
 use Rattle.ft_cells.specs.Cells.{Cells, HasFilePlace}
 use Rattle.ft_tree.specs.Held.{Holds, IsStored}
@@ -89,6 +89,8 @@ file_is_stored cells (LinksCell i) to = Unit {0}
 file_is_stored cells (BytesCell i) to = Unit {0}
 file_is_stored cells (FdCell f) None = Unit {0}
 file_is_stored cells (FdCell f) (Some o) = HasFilePlace cells o.file
+file_is_stored cells (DirAttributesCell d) to = Unit {0}
+file_is_stored cells (FileAttributesCell i) to = Unit {0}
 
 -- What takes a call back is of cells that the call wrote, of each one once.
 pub record IsOfWritten (e : Item) : Type 0 where

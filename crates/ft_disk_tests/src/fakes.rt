@@ -1,7 +1,10 @@
 // A tree of directories in memory: one that is read, and one that is made. Each has so many turns:
 // a call takes one, and where none is left it fails.
 use ft_base::Sequence;
-use ft_copy::{FileFacts, FileId, Found, Listed, Source, Target, Trouble, name_of};
+use ft_cells::{Attributes, Kind, Timestamp};
+use ft_copy::{
+    FileFacts, FileId, Found, FoundFile, Given, Listed, Source, Target, Trouble, name_of,
+};
 use std::alloc::Global;
 use std::cell::Cell;
 use std::io;
@@ -10,12 +13,17 @@ use std::time::{Clock, Duration};
 
 // ---- what stands where
 
-/// What stands at a path.
+/// What stands at a path. A directory and a file have the default attributes, and a file no time,
+/// where nothing else is said.
 #[derive(Clone, Copy)]
 pub enum Held<'a> {
     Folder,
+    /// A directory with these attributes.
+    Owned(Attributes),
     /// A file: its number, how many names it has, and its bytes.
     File(u64, u64, &'a [u8]),
+    /// A file of one name that is given this: its number, and its bytes.
+    Given(u64, &'a [u8], Given),
     /// A symbolic link: its number, how many names it has, and where it leads.
     Symlink(u64, u64, &'a [u8]),
     /// What a tree has no place for.
@@ -25,10 +33,37 @@ pub enum Held<'a> {
 /// A path, and what stands there.
 pub type Row<'a> = (&'a [u8], Held<'a>);
 
-// What stands at a path, where something does.
+impl<'a> Held<'a> {
+    // Its attributes, where it is a directory.
+    fn folder(self) -> Option<Attributes> {
+        match self {
+            Held::Folder => Some(Attributes::of(Kind::Dir)),
+            Held::Owned(attributes) => Some(attributes),
+            _ => None,
+        }
+    }
+
+    // Its number, the count of its names, its bytes and what it is given, where it is a file.
+    fn file(self) -> Option<(u64, u64, &'a [u8], Given)> {
+        let given = Given {
+            attributes: Attributes::of(Kind::File),
+            time: None,
+        };
+        match self {
+            Held::File(number, links, bytes) => Some((number, links, bytes, given)),
+            Held::Given(number, bytes, given) => Some((number, 1, bytes, given)),
+            _ => None,
+        }
+    }
+}
+
+// What stands at a path, where something does: at the root a directory, where no row tells of it.
 fn held_at<'a>(rows: &[Row<'a>], path: &[u8]) -> Option<Held<'a>> {
-    let row = rows.iter().find(|row| row.0 == path)?;
-    Some(row.1)
+    match rows.iter().find(|row| row.0 == path) {
+        Some(row) => Some(row.1),
+        None if path.is_empty() => Some(Held::Folder),
+        None => None,
+    }
 }
 
 // The name that leads from a directory to a path, where it is one name.
@@ -78,6 +113,22 @@ fn facts_of(number: u64, links: u64, bytes: &[u8]) -> FileFacts {
     }
 }
 
+// What stands at a path, as it is found.
+fn found_as(held: Held<'_>) -> Result<Found, Trouble> {
+    if let Some(attributes) = held.folder() {
+        return Ok(Found::Folder(attributes));
+    }
+    if let Some((number, links, bytes, given)) = held.file() {
+        let facts = facts_of(number, links, bytes);
+        return Ok(Found::File(FoundFile { facts, given }));
+    }
+    match held {
+        Held::Symlink(number, links, to) => Ok(Found::Symlink(facts_of(number, links, to))),
+        Held::Special => Ok(Found::Special),
+        _ => Err(Trouble::Read),
+    }
+}
+
 impl<'a> Source for FakeSource<'a> {
     type File = FakeFile<'a>;
 
@@ -95,28 +146,17 @@ impl<'a> Source for FakeSource<'a> {
 
     fn look(&self, path: &[u8], _node: u64) -> Result<Found, Trouble> {
         take_turn(self.turns)?;
-        match held_at(self.rows, path) {
-            Some(Held::Folder) => Ok(Found::Folder),
-            Some(Held::File(number, links, bytes)) => {
-                Ok(Found::File(facts_of(number, links, bytes)))
-            }
-            Some(Held::Symlink(number, links, to)) => {
-                Ok(Found::Symlink(facts_of(number, links, to)))
-            }
-            Some(Held::Special) => Ok(Found::Special),
-            None => Err(Trouble::Read),
-        }
+        found_as(held_at(self.rows, path).ok_or(Trouble::Read)?)
     }
 
     fn open(&self, path: &[u8], _node: u64) -> Result<FakeFile<'a>, Trouble> {
         take_turn(self.turns)?;
-        match held_at(self.rows, path) {
-            Some(Held::File(_, _, bytes)) => Ok(FakeFile {
-                bytes,
-                turns: self.turns,
-            }),
-            _ => Err(Trouble::Read),
-        }
+        let held = held_at(self.rows, path).ok_or(Trouble::Read)?;
+        let (_, _, bytes, _) = held.file().ok_or(Trouble::Read)?;
+        Ok(FakeFile {
+            bytes,
+            turns: self.turns,
+        })
     }
 
     fn read_link(&self, path: &[u8], _node: u64) -> Result<Sequence<u8>, Trouble> {
@@ -153,7 +193,10 @@ pub struct FakeTarget {
     made: Vec<Made>,
     // the bytes of each file, and where each symbolic link leads
     files: Vec<Vec<u8>>,
-    is_whole: bool,
+    // what each of them was given, by the same numbers
+    given: Vec<Given>,
+    // the attributes of the root, once the tree is whole
+    root: Option<Attributes>,
 }
 
 // What was made at a path.
@@ -163,10 +206,10 @@ struct Made {
     what: What,
 }
 
-// A directory, or a name of the file or of the symbolic link of this number.
+// A directory with these attributes, or a name of the file or of the symbolic link of this number.
 #[derive(Clone, Copy, PartialEq, Eq)]
 enum What {
-    Folder,
+    Folder(Attributes),
     File(usize),
     Symlink(usize),
 }
@@ -178,7 +221,8 @@ impl FakeTarget {
             turns,
             made: Vec::new(alloc),
             files: Vec::new(alloc),
-            is_whole: false,
+            given: Vec::new(alloc),
+            root: None,
         }
     }
 
@@ -187,10 +231,15 @@ impl FakeTarget {
         self.made.is_empty() && self.files.is_empty()
     }
 
-    /// Whether the tree is whole and has just these rows, made in this order.
+    /// Whether the tree is whole and has just these rows, made in this order. The first may be that
+    /// of the root, which else has the default attributes.
     pub fn holds(&self, rows: &[Row<'_>]) -> bool {
+        let (root, rows) = match rows.split_first() {
+            Some((row, rows)) if row.0.is_empty() => (row.1.folder(), rows),
+            _ => (Some(Attributes::of(Kind::Dir)), rows),
+        };
         match self.made.split_first() {
-            Some((root, made)) if self.is_whole && root.path.is_empty() => {
+            Some((top, made)) if self.root == root && top.path.is_empty() => {
                 made.len() == rows.len()
                     && made
                         .iter()
@@ -205,13 +254,25 @@ impl FakeTarget {
     fn is_row(&self, made: &Made, row: &Row<'_>) -> bool {
         made.path.as_slice() == row.0
             && match (made.what, row.1) {
-                (What::Folder, Held::Folder) => true,
-                (What::File(file), Held::File(number, _, bytes))
-                | (What::Symlink(file), Held::Symlink(number, _, bytes)) => {
-                    file as u64 == number && self.has_bytes(file, bytes)
+                (What::Folder(attributes), held) => held.folder() == Some(attributes),
+                (What::File(file), held) => self.is_file(file, held),
+                (What::Symlink(link), Held::Symlink(number, _, to)) => {
+                    link as u64 == number && self.has_bytes(link, to)
                 }
                 _ => false,
             }
+    }
+
+    // Whether the file of this number is that of a row.
+    fn is_file(&self, file: usize, held: Held<'_>) -> bool {
+        match held.file() {
+            Some((number, _, bytes, given)) => {
+                file as u64 == number
+                    && self.has_bytes(file, bytes)
+                    && self.given.get(file) == Some(&given)
+            }
+            None => false,
+        }
     }
 
     // Whether the file, or where the symbolic link leads, of this number is these bytes.
@@ -228,7 +289,7 @@ impl FakeTarget {
 
     // Makes something in a directory, where its name is free, and takes a turn.
     fn put(&mut self, path: &[u8], what: What) -> Result<(), Trouble> {
-        let is_in_folder = self.made.iter().any(|made| made.what == What::Folder
+        let is_in_folder = self.made.iter().any(|made| matches!(made.what, What::Folder(_))
             && name_in(made.path.as_slice(), path).is_some());
         if !is_in_folder || self.at(path).is_some() {
             return Err(Trouble::BadTree);
@@ -236,6 +297,17 @@ impl FakeTarget {
         let path = Vec::from_slice(self.alloc, path)?;
         self.made.push(Made { path, what })?;
         self.take_turn()
+    }
+
+    // Adds a file or a symbolic link of these bytes, and answers its number.
+    fn add(&mut self, bytes: Vec<u8>, attributes: Attributes) -> Result<usize, Trouble> {
+        let number = self.files.len();
+        self.files.push(bytes)?;
+        self.given.push(Given {
+            attributes,
+            time: None,
+        })?;
+        Ok(number)
     }
 
     // Takes a turn.
@@ -252,18 +324,17 @@ impl Target for FakeTarget {
     fn start(&mut self) -> Result<(), Trouble> {
         self.made.push(Made {
             path: Vec::new(self.alloc),
-            what: What::Folder,
+            what: What::Folder(Attributes::of(Kind::Dir)),
         })?;
         self.take_turn()
     }
 
-    fn folder(&mut self, path: &[u8]) -> Result<(), Trouble> {
-        self.put(path, What::Folder)
+    fn folder(&mut self, path: &[u8], attributes: Attributes) -> Result<(), Trouble> {
+        self.put(path, What::Folder(attributes))
     }
 
-    fn open(&mut self, path: &[u8]) -> Result<(), Trouble> {
-        let file = self.files.len();
-        self.files.push(Vec::new(self.alloc))?;
+    fn open(&mut self, path: &[u8], attributes: Attributes) -> Result<(), Trouble> {
+        let file = self.add(Vec::new(self.alloc), attributes)?;
         self.put(path, What::File(file))
     }
 
@@ -275,13 +346,17 @@ impl Target for FakeTarget {
         self.take_turn()
     }
 
-    fn close(&mut self) -> Result<(), Trouble> {
+    fn close(&mut self, time: Option<Timestamp>) -> Result<(), Trouble> {
+        match self.given.last_mut() {
+            Some(given) => given.time = time,
+            None => return Err(Trouble::BadTree),
+        }
         self.take_turn()
     }
 
     fn link(&mut self, first: &[u8], path: &[u8]) -> Result<(), Trouble> {
         match self.at(first) {
-            Some(made) if made.what != What::Folder => {
+            Some(made) if !matches!(made.what, What::Folder(_)) => {
                 let what = made.what;
                 self.put(path, what)
             }
@@ -290,20 +365,21 @@ impl Target for FakeTarget {
     }
 
     fn symlink(&mut self, to: &[u8], path: &[u8]) -> Result<(), Trouble> {
-        let file = self.files.len();
-        self.files.push(Vec::from_slice(self.alloc, to)?)?;
-        self.put(path, What::Symlink(file))
+        let bytes = Vec::from_slice(self.alloc, to)?;
+        let link = self.add(bytes, Attributes::of(Kind::Link))?;
+        self.put(path, What::Symlink(link))
     }
 
-    fn finish(&mut self) -> Result<(), Trouble> {
-        self.is_whole = true;
+    fn finish(&mut self, attributes: Attributes) -> Result<(), Trouble> {
+        self.root = Some(attributes);
         self.take_turn()
     }
 
     fn give_up(&mut self) {
         self.made.clear();
         self.files.clear();
-        self.is_whole = false;
+        self.given.clear();
+        self.root = None;
     }
 }
 

@@ -1,7 +1,8 @@
 // What no clause says: that a load comes to its end, its text as it stands in a script, and which
 // fault comes where.
 use crate::fakes::{FakeSource, Held, Row};
-use ft_copy::{Stopped, Trouble};
+use ft_cells::{Attributes, Timestamp};
+use ft_copy::{Given, Stopped, Trouble};
 use ft_core::Limits;
 use ft_load::{load, needs_of};
 use std::alloc::Global;
@@ -43,11 +44,82 @@ pub const WITH_LINKS: &[Row<'static>] = &[
 pub const SCRIPT_WITH_LINKS: &str =
     "begin\n1 mkdir /d\n1 open wcx /d/f\n1 write 3 x\n1 close 3\n1 mkdir /d-\n1 symlink d /0\n1 symlink /etc/pass%20wd /d/e\n1 link /0 /d/g\n1 symlink loop /d-/loop\n1 symlink ..//no%FFne%25/ /e\ncommit 1\n";
 
-// How many calls a load of each takes: one for each directory with the root, one look at each path,
-// for each file an open, its pieces and a read at its end, and one for each symbolic link.
-const CALLS: u64 = 17;
+// The attributes of the tree below.
+const ROOT: Attributes = Attributes {
+    mode: 0o1751,
+    owner: 5,
+    group: 6,
+};
 
-const CALLS_WITH_LINKS: u64 = 18;
+const UNWRITTEN: Attributes = Attributes {
+    mode: 0o555,
+    owner: 0,
+    group: 0,
+};
+
+const RUN: Given = Given {
+    attributes: Attributes {
+        mode: 0o755,
+        owner: 0,
+        group: 7,
+    },
+    time: None,
+};
+
+const SET_ID: Given = Given {
+    attributes: Attributes {
+        mode: 0o6755,
+        owner: 1_000,
+        group: 0,
+    },
+    time: Some(OLD),
+};
+
+const WITHOUT: Given = Given {
+    attributes: Attributes {
+        mode: 0o755,
+        owner: 1_000,
+        group: 0,
+    },
+    time: Some(OLD),
+};
+
+const OLD: Timestamp = Timestamp {
+    seconds: -1,
+    nanoseconds: 5,
+};
+
+/// A root that only its owner and its group may list, a directory that nobody may write, a file that
+/// may be run, and one with set-id bits, whose bytes are older than the Epoch.
+pub const WITH_ATTRIBUTES: &[Row<'static>] = &[
+    (b"", Held::Owned(ROOT)),
+    (b"/d", Held::Owned(UNWRITTEN)),
+    (b"/d/run", Held::Given(0, b"x", RUN)),
+    (b"/s", Held::Given(1, b"", SET_ID)),
+];
+
+/// The same without set-id bits.
+pub const WITHOUT_SET_ID: &[Row<'static>] = &[
+    (b"", Held::Owned(ROOT)),
+    (b"/d", Held::Owned(UNWRITTEN)),
+    (b"/d/run", Held::Given(0, b"x", RUN)),
+    (b"/s", Held::Given(1, b"", WITHOUT)),
+];
+
+/// The script that makes it, with set-id bits.
+pub const SCRIPT_WITH_ATTRIBUTES: &str =
+    "begin\n1 mkdir 0555 /d\n1 open wcx=0755 /d/run\n1 fchown 3 0 7\n1 write 3 x\n1 close 3\n1 open wcx=6755 /s\n1 fchown 7 1000 0\n1 futime 7 -1 5\n1 close 7\n1 chmod 1751 /\n1 chown 5 6 /\ncommit 1\n";
+
+// The same without.
+const SCRIPT_WITHOUT_SET_ID: &str =
+    "begin\n1 mkdir 0555 /d\n1 open wcx=0755 /d/run\n1 fchown 3 0 7\n1 write 3 x\n1 close 3\n1 open wcx=0755 /s\n1 fchown 7 1000 0\n1 futime 7 -1 5\n1 close 7\n1 chmod 1751 /\n1 chown 5 6 /\ncommit 1\n";
+
+// How many calls a load of each takes: two for the root, two for each other directory, for each file
+// a look, an open, its pieces and a read at its end, and two for each symbolic link; for each further
+// name one.
+const CALLS: u64 = 18;
+
+const CALLS_WITH_LINKS: u64 = 19;
 
 // Loads a tree in so many turns, and puts its script behind a text.
 fn load_in(
@@ -63,7 +135,7 @@ fn load_in(
         skipped,
         turns: &turns,
     };
-    let (_, loaded) = load(alloc, Limits::default(), &source, text);
+    let (_, loaded) = load(alloc, Limits::default(), false, &source, text);
     loaded
 }
 
@@ -101,6 +173,36 @@ fn directory_as_script(rt: HostRuntime) -> Result<(), Fail> {
 fn links_as_script(rt: HostRuntime) -> Result<(), Fail> {
     let alloc = rt.alloc();
     assert!(rt; is_loaded(alloc, (WITH_LINKS, b"".as_slice()), SCRIPT_WITH_LINKS));
+    Ok(())
+}
+
+// The script of a tree, with set-id bits or without.
+fn script_of(alloc: Global, rows: &[Row<'_>], set_id: bool) -> Option<Vec<u8>> {
+    let turns = Cell::new(ALL);
+    let source = FakeSource {
+        alloc,
+        rows,
+        skipped: b"".as_slice(),
+        turns: &turns,
+    };
+    let needs = needs_of(alloc, Limits::default(), set_id, &source).ok()?;
+    let (text, loaded) = load(alloc, needs, set_id, &source, Vec::new(alloc));
+    loaded.is_ok().then_some(text)
+}
+
+#[test]
+fn modes_owners_and_times_as_script(rt: HostRuntime) -> Result<(), Fail> {
+    let alloc = rt.alloc();
+    for (set_id, script) in [
+        (true, SCRIPT_WITH_ATTRIBUTES),
+        (false, SCRIPT_WITHOUT_SET_ID),
+    ] {
+        let text = script_of(alloc, WITH_ATTRIBUTES, set_id);
+        assert!(rt;
+            text.is_some_and(|text| text.as_slice() == script.as_bytes()),
+            "{set_id}"
+        );
+    }
     Ok(())
 }
 
@@ -183,10 +285,10 @@ fn begins_with(alloc: Global, size: usize, most: Limits, line: &str) -> Result<b
         skipped: b"".as_slice(),
         turns: &turns,
     };
-    let Ok(needs) = needs_of(alloc, most, &source) else {
+    let Ok(needs) = needs_of(alloc, most, false, &source) else {
         return Ok(false);
     };
-    let (text, loaded) = load(alloc, needs, &source, Vec::new(alloc));
+    let (text, loaded) = load(alloc, needs, false, &source, Vec::new(alloc));
     Ok(loaded.is_ok() && text.as_slice().starts_with(line.as_bytes()))
 }
 

@@ -1,8 +1,11 @@
 // What no clause says: that a save comes to its end, and what is left where it does not.
 use crate::fakes::{FakeTarget, Held, Row};
-use crate::of_load::{SCRIPT, SCRIPT_WITH_LINKS, TREE, WITH_LINKS};
+use crate::of_load::{
+    SCRIPT, SCRIPT_WITH_ATTRIBUTES, SCRIPT_WITH_LINKS, TREE, WITH_ATTRIBUTES, WITH_LINKS,
+    WITHOUT_SET_ID,
+};
 use ft_cells::TreeLimits;
-use ft_copy::Trouble;
+use ft_copy::{CopyLimits, Trouble};
 use ft_core::Core;
 use ft_save::{SaveFault, save};
 use ft_script::play;
@@ -28,17 +31,37 @@ const SAVED: &[Row<'static>] = &[
 const LINK_REPLIES: &str =
     "tree 16\ndir 1\ndir 2\ndir 3\nedge 1 0 5\nedge 1 d 2\nedge 1 d- 3\nedge 1 e 8\nedge 2 e 6\nedge 2 f 4\nedge 2 g 5\nedge 3 loop 7\nfile 4 1 x\nlink 5 d\nlink 6 /etc/pass%20wd\nlink 7 loop\nlink 8 ..//no%FFne%25/\n";
 
+// A report of modes, owners and times, of the tree that `of_load` has. Rows of a link, of what is
+// nothing, and second rows change nothing.
+const ATTRIBUTE_REPLIES: &str =
+    "tree 18\ndir 1\ndir 2\nedge 1 d 2\nedge 1 s 4\nedge 2 run 3\nfile 3 1 x\nfile 4 0\nattributes 1 1751 5 6\nattributes 2 555 0 0\nattributes 3 00755 0 7\nattributes 4 6755 1000 0\nattributes 9 0700 1 1\nattributes 2 0700 1 1\ntime 2 7 7\ntime 4 -1 5\ntime 4 8 8\ntime 9 7 7\nfd 9 4 r 0\n";
+
 // How many calls a save of each makes: a start and a finish, one for each directory, each symbolic
 // link and each further name, and for each file an open, its pieces and a close.
 const CALLS: u64 = 9;
 
 const LINK_CALLS: u64 = 12;
 
+/// What may be saved where nobody asks for more, with set-id bits or without.
+pub fn default_limits(set_id: bool) -> CopyLimits {
+    let TreeLimits { file_size, links } = TreeLimits::default();
+    CopyLimits {
+        file_size,
+        links,
+        set_id,
+    }
+}
+
 // Whether replies are saved as these rows.
 fn is_saved(alloc: Global, replies: &[u8], rows: &[Row<'_>]) -> bool {
+    is_saved_with(alloc, replies, false, rows)
+}
+
+// The same with set-id bits, or without.
+fn is_saved_with(alloc: Global, replies: &[u8], set_id: bool, rows: &[Row<'_>]) -> bool {
     let mut reader = replies;
     let mut target = FakeTarget::new(alloc, ALL);
-    save(alloc, TreeLimits::default(), &mut reader, &mut target).is_ok() && target.holds(rows)
+    save(alloc, default_limits(set_id), &mut reader, &mut target).is_ok() && target.holds(rows)
 }
 
 #[test]
@@ -53,11 +76,45 @@ fn links_are_saved_last(rt: HostRuntime) -> Result<(), Fail> {
     Ok(())
 }
 
+#[test]
+fn modes_owners_and_times_are_saved(rt: HostRuntime) -> Result<(), Fail> {
+    let alloc = rt.alloc();
+    let replies = ATTRIBUTE_REPLIES.as_bytes();
+    assert!(rt; is_saved_with(alloc, replies, true, WITH_ATTRIBUTES));
+    assert!(rt; is_saved_with(alloc, replies, false, WITHOUT_SET_ID));
+    Ok(())
+}
+
+#[test]
+fn rows_that_are_none(rt: HostRuntime) -> Result<(), Fail> {
+    let alloc = rt.alloc();
+    for row in [
+        "attributes 1",
+        "attributes 1 0755 0",
+        "attributes 1 0755 0 0 0",
+        "attributes 1 8 0 0",
+        "attributes 1 10000 0 0",
+        "attributes 1 000755 0 0",
+        "attributes 1 0755 - 0",
+        "attributes 1 0755 4294967296 0",
+        "attributes - 0755 0 0",
+        "time 1 0",
+        "time 1 0 1000000000",
+        "time 1 0 -1",
+        "time 1 9223372036854775808 0",
+        "time 1 0 0 0",
+    ] {
+        let replies = format!(in alloc; "tree 2\ndir 1\n{row}\n")?;
+        assert!(rt; finds_none(alloc, replies.as_str()), "{row}");
+    }
+    Ok(())
+}
+
 // Why a save in so many turns is not made, where that leaves nothing.
 fn stopped_by(alloc: Global, replies: &[u8], turns: u64) -> Option<SaveFault> {
     let mut reader = replies;
     let mut target = FakeTarget::new(alloc, turns);
-    let fault = save(alloc, TreeLimits::default(), &mut reader, &mut target).err()?;
+    let fault = save(alloc, default_limits(false), &mut reader, &mut target).err()?;
     target.is_empty().then_some(fault)
 }
 
@@ -196,9 +253,9 @@ fn is_saved_within(alloc: Global, size: usize, file_size: u64) -> Result<bool, F
     let mut replies = Vec::from_slice(alloc, head.as_bytes())?;
     replies.extend_from_slice(bytes.as_slice())?;
     replies.push(b'\n')?;
-    let limits = TreeLimits {
+    let limits = CopyLimits {
         file_size,
-        ..TreeLimits::default()
+        ..default_limits(false)
     };
     let mut target = FakeTarget::new(alloc, ALL);
     let saved = save(alloc, limits, &mut replies.as_slice(), &mut target);
@@ -224,7 +281,7 @@ fn leaves_nothing_at_each_call(alloc: Global, replies: &str, calls: u64, rows: &
     }
     let mut target = FakeTarget::new(alloc, calls);
     let mut reader = replies.as_bytes();
-    let saved = save(alloc, TreeLimits::default(), &mut reader, &mut target);
+    let saved = save(alloc, default_limits(false), &mut reader, &mut target);
     saved.is_ok() && target.holds(rows)
 }
 
@@ -248,9 +305,13 @@ fn replies_to_load(alloc: Global, script: &str) -> Result<Vec<u8>, Fail> {
 #[test]
 fn loaded_tree_is_saved(rt: HostRuntime) -> Result<(), Fail> {
     let alloc = rt.alloc();
-    for (script, rows) in [(SCRIPT, TREE), (SCRIPT_WITH_LINKS, WITH_LINKS)] {
+    for (script, rows) in [
+        (SCRIPT, TREE),
+        (SCRIPT_WITH_LINKS, WITH_LINKS),
+        (SCRIPT_WITH_ATTRIBUTES, WITH_ATTRIBUTES),
+    ] {
         let replies = replies_to_load(alloc, script)?;
-        assert!(rt; is_saved(alloc, replies.as_slice(), rows));
+        assert!(rt; is_saved_with(alloc, replies.as_slice(), true, rows));
     }
     Ok(())
 }

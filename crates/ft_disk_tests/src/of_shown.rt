@@ -1,8 +1,7 @@
 // What a screen gets while a tree is loaded or saved, and the line that tells of a fault.
 use crate::fakes::{FakeClock, FakeSource, FakeTarget, Row};
 use crate::of_load::{TREE, WITH_SPECIAL};
-use crate::of_save::REPLIES;
-use ft_cells::TreeLimits;
+use crate::of_save::{REPLIES, default_limits};
 use ft_core::Limits;
 use ft_shown::ShownTarget;
 use ft_status::{load_status, save_status};
@@ -47,6 +46,7 @@ fn load_shown(alloc: Global, rows: &[Row<'_>], step: u64, seen: &mut Seen) -> u8
         &clock,
         alloc,
         Limits::default(),
+        false,
         &source,
         screen,
         script,
@@ -63,7 +63,7 @@ fn save_shown(alloc: Global, turns: u64, step: u64, seen: &mut Seen) -> u8 {
     let mut shown = ShownTarget::new(&clock, alloc, target, screen);
     save_status(
         alloc,
-        TreeLimits::default(),
+        default_limits(false),
         &mut REPLIES.as_bytes(),
         &mut shown,
         &mut seen.errors,

@@ -21,6 +21,7 @@ pub fn make_file(
         excl: true,
         trunc: false,
         append: false,
+        mode: None,
     };
     let Reply::Number(fd) = granted(core, txn, call)? else {
         bail!("the file could not be made");

@@ -1,5 +1,5 @@
-// One directory: the directory that has its entry, and the places of its entries.
-ghost use Rattle.std.specs.Prelude.{◌≡◌, ◌↔◌, [], ◌++◌, ◌==◌, ◌&&◌, IsTrue, IsOk, is_some, is_none, IfOk, OnOk, OnErr, Option};
+// One directory: the directory that has its entry, its attributes, and the places of its entries.
+ghost use Rattle.std.specs.Prelude.{◌≡◌, ◌↔◌, [], ◌++◌, ◌==◌, ◌&&◌, None, IsTrue, IsOk, is_some, is_none, IfOk, OnOk, OnErr, Option};
 ghost use Rattle.std.specs.List.{list_all, filter_map};
 ghost use Rattle.std.specs.Ordering.{nat_cmp};
 ghost use Rattle.std.specs.Cmp.Lexicographic.{slice_cmp};
@@ -8,20 +8,24 @@ ghost use Rattle.std.specs.FinMap as map;
 ghost use Rattle.ft_cells.specs.Nodes.{with_kinds};
 ghost use Rattle.ft_cells.specs.Rows.{named_rows};
 ghost use Rattle.std.specs.Option.{option_flatten, option_map, option_copied};
-ghost use Rattle.ft_cells.specs.Cells.{DirCells, coded_dir_cells, dir_entry, put_dir_entry, put_dir_parent, without_dir_place, HasPlace, filled, dir_names};
+ghost use Rattle.ft_cells.specs.Cells.{DirCells, coded_dir_cells, dir_entry, put_dir_entry, put_dir_parent, put_kept_of_dir, without_dir_place, HasPlace, filled, dir_names};
 
 use ft_base::Memory;
-use ft_cells::{EntryRef, Hint, Hinted, Kind, Node, TreeRow, seen_in, value_in, with_hint};
+use ft_cells::{
+    Attributes, EntryRef, Hint, Hinted, Kind, Node, Rare, TreeRow, seen_in, value_in, with_hint,
+};
 use ft_path::Name;
 use std::alloc::{AllocError, Global};
 use std::collections::BTreeMap;
 use std::marker::Model;
 use std::mem;
 
-/// A directory, stored: where it stands, and its entries, of whose places some may be empty.
+/// A directory, stored: where it stands, its attributes, and its entries, of whose places some may
+/// be empty.
 #[derive(Drop)]
 pub struct Directory {
     parent: Option<u64>,
+    attributes: Rare<Attributes>,
     entries: BTreeMap<Name, Option<Hinted<Node>>>,
 }
 
@@ -30,16 +34,17 @@ impl Model for Directory {
 
     ghost coded = { coded_dir_cells };
 
-    ghost view = { λ a. record { parent = a.parent; entries = map.from_entries a.entries.entries } };
+    ghost view = { λ a. record { parent = a.parent; attributes = a.attributes; entries = map.from_entries a.entries.entries } };
 }
 
 impl Directory {
-    /// A directory without entries. Takes no memory.
+    /// A directory without attributes and entries. Takes no memory.
     pub fn new(alloc: Global, parent: Option<u64>) -> Directory
-        ensures { result ≡ record { parent = parent; entries = map.empty } }
+        ensures { result ≡ record { parent = parent; attributes = None; entries = map.empty } }
     {
         Directory {
             parent,
+            attributes: Rare::none(),
             entries: BTreeMap::new(alloc),
         }
     }
@@ -49,6 +54,13 @@ impl Directory {
         ensures { result ≡ self.now.parent }
     {
         self.parent
+    }
+
+    /// The attributes that are kept of it.
+    pub fn attributes(&self) -> Option<Attributes>
+        ensures { result ≡ self.now.attributes }
+    {
+        self.attributes.get()
     }
 
     /// What a name leads to.
@@ -74,6 +86,14 @@ impl Directory {
         ensures set { self.new ≡ put_dir_parent self.old parent }
     {
         mem::replace(&mut self.parent, parent)
+    }
+
+    /// Sets the attributes that are kept of it, and answers those that were. Takes no memory.
+    pub fn set_attributes(&mut self, to: Rare<Attributes>) -> Rare<Attributes>
+        ensures was { result ≡ self.old.attributes }
+        ensures set { self.new ≡ put_kept_of_dir self.old to }
+    {
+        mem::replace(&mut self.attributes, to)
     }
 
     /// Sets an entry, with where what it leads to may stand, and answers what stood in its place,
@@ -139,9 +159,11 @@ impl Clone for Directory {
     ghost is_clone = { λ directory copy. copy ≡ directory };
 
     fn clone(&self) -> Result<Directory, AllocError> {
+        let attributes = self.attributes.clone()?;
         let entries = self.entries.clone()?;
         Ok(Directory {
             parent: self.parent,
+            attributes,
             entries,
         })
     }

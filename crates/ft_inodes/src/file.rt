@@ -1,11 +1,12 @@
-// One file: how many entries name it, and its bytes.
-ghost use Rattle.std.specs.Prelude.{◌≡◌, ◌≤◌, [], length, IsOk, IfOk, OnOk, OnErr};
+// One file: how many entries name it, its attributes, and what it holds.
+ghost use Rattle.std.specs.Prelude.{◌≡◌, ◌≤◌, [], None, length, IsOk, IfOk, OnOk, OnErr};
 ghost use Rattle.ft_body.specs.declared.TheConstants.{LARGEST_SIZE};
 ghost use Rattle.ft_body.specs.Bytes.{fitting, written, resized};
-ghost use Rattle.ft_cells.specs.Cells.{FileCells, coded_file_cells};
+ghost use Rattle.ft_cells.specs.Cells.{FileCells, coded_file_cells, no_contents, untimed, timed};
 
 use ft_base::Memory;
 use ft_body::{Body, BodyUndo};
+use ft_cells::{Attributes, Rare, Timestamp};
 use std::alloc::{AllocError, Global};
 use std::marker::Model;
 use std::mem;
@@ -14,7 +15,9 @@ use std::mem;
 #[derive(Drop)]
 pub struct File {
     links: u64,
+    attributes: Rare<Attributes>,
     body: Body,
+    time: Rare<Timestamp>,
 }
 
 impl Model for File {
@@ -22,17 +25,54 @@ impl Model for File {
 
     ghost coded = { coded_file_cells };
 
-    ghost view = { λ a. record { links = a.links; bytes = a.body } };
+    ghost view = { λ a. record { links = a.links; attributes = a.attributes; contents = record { bytes = a.body; time = a.time } } };
+}
+
+/// What takes one change of the bytes of a file back, with the time that they had. A change leaves
+/// no time.
+///
+/// Clauses see it as what the file held before the change and after it.
+pub struct FileUndo {
+    body: BodyUndo,
+    time: Rare<Timestamp>,
+}
+
+impl Model for FileUndo {
+    ghost use Rattle.ft_cells.specs.Cells.{ContentsChange, untimed};
+
+    ghost Value = { ContentsChange };
+
+    ghost view = { λ a. record { before = record { bytes = a.body.before; time = a.time }; after = untimed a.body.after } };
+}
+
+// By hand, so that callers that let one go see one step.
+impl Drop for FileUndo {
+    fn drop(self) {
+        let FileUndo { body: _, time: _ } = self;
+    }
+}
+
+impl FileUndo {
+    /// What takes the change of the bytes back, and the time that they had.
+    fn into_parts(self) -> (BodyUndo, Rare<Timestamp>)
+        ensures body { result.0 ≡ record { before = self.before.bytes; after = self.after.bytes } }
+        ensures time { result.1 ≡ self.before.time }
+    {
+        let FileUndo { body, time } = self;
+        (body, time)
+    }
 }
 
 impl File {
-    /// A file without bytes. Takes no memory.
+    /// A file without attributes and bytes. Takes no memory.
     pub fn new(alloc: Global, links: u64) -> File
-        ensures { result ≡ record { links = links; bytes = [] } }
+        ensures { result ≡ record { links = links; attributes = None; contents = no_contents } }
     {
         File {
             links,
+            attributes: Rare::none(),
             body: Body::new(alloc),
+            time: Rare::none(),
         }
     }
 
@@ -43,50 +83,86 @@ impl File {
         self.links
     }
 
-    /// Sets how many entries name it, and answers how many there were.
-    pub fn set_links(&mut self, links: u64) -> u64
-        ensures was { result ≡ self.old.links }
-        ensures set { self.new ≡ record { links = links; bytes = self.old.bytes } }
+    /// The attributes that are kept of it.
+    pub fn attributes(&self) -> Option<Attributes>
+        ensures { result ≡ self.now.attributes }
     {
-        mem::replace(&mut self.links, links)
+        self.attributes.get()
+    }
+
+    /// The time of its bytes, where one was set.
+    pub fn time(&self) -> Option<Timestamp>
+        ensures { result ≡ self.now.contents.time }
+    {
+        self.time.get()
     }
 
     /// Its bytes.
     pub fn body(&self) -> &Body
-        ensures { result.now ≡ self.now.bytes }
+        ensures { result.now ≡ self.now.contents.bytes }
     {
         &self.body
     }
 
-    /// Writes bytes at an offset, as `Body::write_at` does.
-    pub fn write_at(&mut self, offset: u64, bytes: &[u8]) -> Result<(u64, BodyUndo), Memory>
+    /// Sets how many entries name it, and answers how many there were.
+    pub fn set_links(&mut self, links: u64) -> u64
+        ensures was { result ≡ self.old.links }
+        ensures set { self.new ≡ record { links = links; attributes = self.old.attributes; contents = self.old.contents } }
+    {
+        mem::replace(&mut self.links, links)
+    }
+
+    /// Sets the attributes that are kept of it, and answers those that were. Takes no memory.
+    pub fn set_attributes(&mut self, to: Rare<Attributes>) -> Rare<Attributes>
+        ensures was { result ≡ self.old.attributes }
+        ensures set { self.new ≡ record { links = self.old.links; attributes = to; contents = self.old.contents } }
+    {
+        mem::replace(&mut self.attributes, to)
+    }
+
+    /// Sets the time of its bytes, and answers the one that they had. Takes no memory.
+    pub fn set_time(&mut self, to: Rare<Timestamp>) -> Rare<Timestamp>
+        ensures was { result ≡ self.old.contents.time }
+        ensures set { self.new ≡ record { links = self.old.links; attributes = self.old.attributes; contents = timed self.old.contents to } }
+    {
+        mem::replace(&mut self.time, to)
+    }
+
+    /// Writes bytes at an offset, as `Body::write_at` does, and takes the time of the bytes away.
+    pub fn write_at(&mut self, offset: u64, bytes: &[u8]) -> Result<(u64, FileUndo), Memory>
         requires { offset ≤ LARGEST_SIZE }
         ensures taken { IfOk result (λ done. done.0 ≡ length (fitting LARGEST_SIZE bytes.now offset)) }
-        ensures file { OnOk result (self.new ≡ record { links = self.old.links; bytes = written self.old.bytes offset (fitting LARGEST_SIZE bytes.now offset) }) }
-        ensures undo { IfOk result (λ done. done.1 ≡ record { before = self.old.bytes; after = self.new.bytes }) }
+        ensures file { OnOk result (self.new ≡ record { links = self.old.links; attributes = self.old.attributes; contents = untimed (written self.old.contents.bytes offset (fitting LARGEST_SIZE bytes.now offset)) }) }
+        ensures undo { IfOk result (λ done. done.1 ≡ record { before = self.old.contents; after = self.new.contents }) }
         ensures err { OnErr result (self.new ≡ self.old) }
         ensures nothing { fitting LARGEST_SIZE bytes.now offset ≡ [] → IsOk result }
     {
-        self.body.write_at(offset, bytes)
+        let (taken, body) = self.body.write_at(offset, bytes)?;
+        let time = mem::replace(&mut self.time, Rare::none());
+        Ok((taken, FileUndo { body, time }))
     }
 
-    /// Cuts it to a size, or adds zeros up to it.
-    pub fn set_len(&mut self, size: u64) -> Result<BodyUndo, Memory>
+    /// Cuts it to a size, or adds zeros up to it, and takes the time of the bytes away.
+    pub fn set_len(&mut self, size: u64) -> Result<FileUndo, Memory>
         requires { size ≤ LARGEST_SIZE }
-        ensures file { OnOk result (self.new ≡ record { links = self.old.links; bytes = resized self.old.bytes size }) }
-        ensures undo { IfOk result (λ undo. undo ≡ record { before = self.old.bytes; after = self.new.bytes }) }
+        ensures file { OnOk result (self.new ≡ record { links = self.old.links; attributes = self.old.attributes; contents = untimed (resized self.old.contents.bytes size) }) }
+        ensures undo { IfOk result (λ undo. undo ≡ record { before = self.old.contents; after = self.new.contents }) }
         ensures err { OnErr result (self.new ≡ self.old) }
-        ensures nothing { length self.old.bytes ≡ size → IsOk result }
+        ensures nothing { length self.old.contents.bytes ≡ size → IsOk result }
     {
-        self.body.set_len(size)
+        let body = self.body.set_len(size)?;
+        let time = mem::replace(&mut self.time, Rare::none());
+        Ok(FileUndo { body, time })
     }
 
     /// Takes a change of its bytes back.
-    pub fn undo(&mut self, undo: BodyUndo)
-        requires { self.old.bytes ≡ undo.after }
-        ensures { self.new ≡ record { links = self.old.links; bytes = undo.before } }
+    pub fn undo(&mut self, undo: FileUndo)
+        requires { self.old.contents ≡ undo.after }
+        ensures { self.new ≡ record { links = self.old.links; attributes = self.old.attributes; contents = undo.before } }
     {
-        self.body.undo(undo);
+        let (body, time) = undo.into_parts();
+        self.body.undo(body);
+        self.time = time;
     }
 }
 
@@ -94,10 +170,14 @@ impl Clone for File {
     ghost is_clone = { λ file copy. copy ≡ file };
 
     fn clone(&self) -> Result<File, AllocError> {
+        let attributes = self.attributes.clone()?;
+        let time = self.time.clone()?;
         match self.body.copy() {
             Ok(body) => Ok(File {
                 links: self.links,
+                attributes,
                 body,
+                time,
             }),
             Err(Memory) => Err(AllocError),
         }

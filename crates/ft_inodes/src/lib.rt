@@ -11,6 +11,6 @@ mod inodes;
 mod listed;
 
 pub use directory::Directory;
-pub use file::File;
+pub use file::{File, FileUndo};
 pub use inodes::Inodes;
 pub use listed::{Directories, Files};

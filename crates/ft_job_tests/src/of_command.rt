@@ -61,27 +61,32 @@ fn is_jobs(alloc: Global, words: &[&str], plan: &str, most: u64, hushed: bool) -
     }
 }
 
-// Whether they ask for a script of this directory, to skip and to be quiet or not.
-fn is_load(alloc: Global, words: &[&str], folder: &str, asked: (bool, bool)) -> bool {
+// Whether they ask for a script of this directory, to skip, to keep set-id bits and to be quiet or
+// not.
+fn is_load(alloc: Global, words: &[&str], folder: &str, asked: (bool, bool, bool)) -> bool {
     match choose(alloc, words) {
         Choice::Load {
             dir,
             skip,
+            set_id,
             quiet,
             limits: _,
-        } => dir.as_str() == folder && (skip, quiet) == asked,
+        } => dir.as_str() == folder && (skip, set_id, quiet) == asked,
         _ => false,
     }
 }
 
-// Whether they ask for this directory to be made, and to be as quiet.
-fn is_save(alloc: Global, words: &[&str], folder: &str, hushed: bool) -> bool {
+// Whether they ask for this directory to be made, to keep set-id bits, to set no owners and to be
+// quiet or not.
+fn is_save(alloc: Global, words: &[&str], folder: &str, asked: (bool, bool, bool)) -> bool {
     match choose(alloc, words) {
         Choice::Save {
             dir,
+            set_id,
+            no_owners,
             quiet,
             limits: _,
-        } => dir.as_str() == folder && quiet == hushed,
+        } => dir.as_str() == folder && (set_id, no_owners, quiet) == asked,
         _ => false,
     }
 }
@@ -118,12 +123,57 @@ fn is_after(alloc: Global, words: &[&str], script: &str) -> bool {
 #[test]
 fn choices_of_directories(rt: HostRuntime) -> Result<(), Fail> {
     let alloc = rt.alloc();
-    assert!(rt; is_load(alloc, &["load", "src"], "src", (false, false)));
-    assert!(rt; is_load(alloc, &["load", "--skip", "src"], "src", (true, false)));
-    assert!(rt; is_load(alloc, &["load", "src", "--quiet"], "src", (false, true)));
+    assert!(rt; is_load(alloc, &["load", "src"], "src", (false, false, false)));
+    assert!(rt;
+        is_load(
+            alloc,
+            &["load", "--skip", "src"],
+            "src",
+            (true, false, false)
+        )
+    );
+    assert!(rt;
+        is_load(
+            alloc,
+            &["load", "--set-id", "src"],
+            "src",
+            (false, true, false)
+        )
+    );
+    assert!(rt;
+        is_load(
+            alloc,
+            &["load", "src", "--quiet"],
+            "src",
+            (false, false, true)
+        )
+    );
     assert!(rt; is_usage(alloc, &["load"], "<DIR>"));
-    assert!(rt; is_save(alloc, &["save", "out"], "out", false));
-    assert!(rt; is_save(alloc, &["save", "--quiet", "out"], "out", true));
+    assert!(rt; is_save(alloc, &["save", "out"], "out", (false, false, false)));
+    assert!(rt;
+        is_save(
+            alloc,
+            &["save", "--set-id", "out"],
+            "out",
+            (true, false, false)
+        )
+    );
+    assert!(rt;
+        is_save(
+            alloc,
+            &["save", "--no-owners", "out"],
+            "out",
+            (false, true, false)
+        )
+    );
+    assert!(rt;
+        is_save(
+            alloc,
+            &["save", "--quiet", "out"],
+            "out",
+            (false, false, true)
+        )
+    );
     assert!(rt; is_usage(alloc, &["save"], "<DIR>"));
     assert!(rt; is_after(alloc, &["play", "--after", "src.ft"], "src.ft"));
     assert!(rt; is_after(alloc, &["jobs", "p", "--after", "src.ft"], "src.ft"));

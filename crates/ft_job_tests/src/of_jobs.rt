@@ -84,6 +84,8 @@ fn has_made(report: &Report) -> bool {
             number,
             links,
             size,
+            attributes: None,
+            time: None,
         } => *kind == Kind::Dir && *number == made.stamp && *links == 1 && *size == 0,
         _ => false,
     };

@@ -1,40 +1,49 @@
 -- What a load writes.
-use Rattle.std.specs.Prelude.{◌≡◌, ◌⊎◌, ℕ, List, [], ◌∷◌, ◌++◌, Option}
+use Rattle.std.specs.Prelude.{Bool, ◌≡◌, ◌⊎◌, ℕ, List, [], ◌∷◌, ◌++◌, Option}
 use Rattle.std.specs.List.{flat_map}
 use Rattle.std.specs.Io.KnownBytes.{Appends, Keeps}
+use Rattle.ft_cells.specs.declared.attributes.Attributes.{Attributes}
+use Rattle.ft_copy.specs.declared.found.Found.TheVariants as found
 use Rattle.ft_copy.specs.declared.found.TheConstants.{ROOT}
+use Rattle.ft_copy.specs.declared.limits.CopyLimits.{CopyLimits}
 use Rattle.ft_copy.specs.declared.trouble.Stopped.{Stopped}
 use Rattle.ft_copy.specs.declared.trouble.Trouble.{Trouble}
 use Rattle.ft_copy.specs.Asked.{Asked, Start, Finish}
-use Rattle.ft_copy.specs.Told.{Told}
+use Rattle.ft_copy.specs.Kept.{kept_attributes}
+use Rattle.ft_copy.specs.Told.{Told, Finds}
 use Rattle.ft_copy.specs.Walks.{Enters, Standing, nothing}
 use Rattle.ft_copy.specs.Runs.{LinksTo, Visit, WalksTo, asked_of}
 use Rattle.ft_copy.specs.Stops.{IsCause, IsReached, Reached, asked_before, asked_then, path_at}
-use Rattle.ft_core.specs.Limits.{of_tree}
 use Rattle.ft_core.specs.declared.limits.Limits.{Limits}
 use Rattle.ft_load.specs.Scripts.{BreaksOff, IsWithinCalls, fd_of, next_of, script_text}
 
--- all that a script has whose visits and links are these
-abbrev pub whole : List Visit → List Visit → List Asked
-whole visits links = Start ∷ flat_map asked_of visits ++ flat_map asked_of links ++ Finish ∷ []
+-- what may be copied where a core has these limits, with set-id bits or without
+abbrev pub copy_limits : Limits → Bool → CopyLimits
+copy_limits limits set_id = record { file_size = limits.file_size; links = limits.links; set_id = set_id }
+
+-- all that a script has whose visits and links are these, and whose root is to have these attributes
+abbrev pub whole : List Visit → List Visit → Attributes → List Asked
+whole visits links kept = Start ∷ flat_map asked_of visits ++ flat_map asked_of links ++ Finish kept ∷ []
 
 -- What was visited is what the source told, from the root on, each place in its turn, until none
 -- was left, and then the symbolic links that were met, until none was left; and the script of just
--- that was written. A core with these limits grants as many calls,
--- and its files may be as large.
-pub record Loads (limits : Limits) (tells : Told → Type 0) (held held_after : Option (List ℕ)) : Type 0 where
+-- that was written, with what may be copied of the root's attributes. A core with these limits grants
+-- as many calls, and its files may be as large.
+pub record Loads (limits : Limits) (set_id : Bool) (tells : Told → Type 0) (held held_after : Option (List ℕ)) : Type 0 where
+  pub top : Attributes
   pub begun : Standing
   pub visits : List Visit
   pub walked : Standing
   pub links : List Visit
   pub done : Standing
+  pub folder : tells (Finds [] ROOT (found.Folder top))
   pub root : Enters tells [] ROOT nothing begun
-  pub walk : WalksTo (of_tree limits) tells begun visits walked
+  pub walk : WalksTo (copy_limits limits set_id) tells begun visits walked
   pub all : walked.left ≡ []
-  pub last : LinksTo (of_tree limits) tells walked links done
+  pub last : LinksTo (copy_limits limits set_id) tells walked links done
   pub all_links : done.links ≡ []
-  pub few : IsWithinCalls limits (next_of (whole visits links) 2)
-  pub wrote : Appends held held_after (script_text limits (whole visits links))
+  pub few : IsWithinCalls limits (next_of (whole visits links (kept_attributes (copy_limits limits set_id) top)) 2)
+  pub wrote : Appends held held_after (script_text limits (whole visits links (kept_attributes (copy_limits limits set_id) top)))
 
 -- The first of what is still to be written is not written whole.
 abbrev pub BreaksOffAt : Limits → Trouble → List Asked → ℕ → ℕ → Option (List ℕ) → Option (List ℕ) → Type 0
@@ -43,13 +52,13 @@ BreaksOffAt limits trouble (first ∷ more) next fd held held_after = BreaksOff 
 
 -- A load came so far as the source told, and no further: of the script up to there a beginning was
 -- written, whole lines and a part of the next one at most.
-pub record StopsLoad (limits : Limits) (tells : Told → Type 0) (stopped : Stopped) (held held_after : Option (List ℕ)) : Type 0 where
+pub record StopsLoad (limits : Limits) (set_id : Bool) (tells : Told → Type 0) (stopped : Stopped) (held held_after : Option (List ℕ)) : Type 0 where
   pub reached : Reached
-  pub told : IsReached (of_tree limits) tells reached
+  pub told : IsReached (copy_limits limits set_id) tells reached
   pub path : stopped.path ≡ path_at reached
   pub done : List Asked
   pub rest : List Asked
   pub asked : asked_before reached ++ asked_then reached ≡ done ++ rest
   pub middle : Option (List ℕ)
   pub wrote : Appends held middle (script_text limits done)
-  pub ended : (Keeps middle held_after × IsCause (of_tree limits) tells stopped.trouble reached) ⊎ BreaksOffAt limits stopped.trouble rest (next_of done 2) (fd_of done 2 0) middle held_after
+  pub ended : (Keeps middle held_after × IsCause (copy_limits limits set_id) tells stopped.trouble reached) ⊎ BreaksOffAt limits stopped.trouble rest (next_of done 2) (fd_of done 2 0) middle held_after

@@ -2,9 +2,10 @@
 ghost use Rattle.std.specs.Prelude.{◌≡◌, ◌≤◌, IfOk, min};
 ghost use Rattle.ft_core.specs.Limits.{default_limits};
 
+use crate::script::{has_owners, said_mode};
 use ft_base::{Memory, Sequence};
-use ft_cells::TreeLimits;
-use ft_copy::{Found, Listed, PIECE, Source, Target, Trouble, copy};
+use ft_cells::{Attributes, Kind, Timestamp};
+use ft_copy::{CopyLimits, Found, Listed, PIECE, Source, Target, Trouble, copy};
 use ft_core::Limits;
 use std::alloc::Global;
 use std::cell::Cell;
@@ -15,7 +16,12 @@ use std::cell::Cell;
 ///
 /// No file is read for it: its size is what the source tells. Where the source can't tell something,
 /// or tells of what is not allowed, what was told before counts. Fails only for want of memory.
-pub fn needs_of<S: Source>(alloc: Global, most: Limits, source: &S) -> Result<Limits, Memory>
+pub fn needs_of<S: Source>(
+    alloc: Global,
+    most: Limits,
+    set_id: bool,
+    source: &S,
+) -> Result<Limits, Memory>
     ensures size { IfOk result (λ limits. limits.file_size ≤ most.file_size) }
     ensures calls { IfOk result (λ limits. limits.calls ≤ most.calls) }
     ensures least { IfOk result (λ limits. (min default_limits.file_size most.file_size ≤ limits.file_size) × (min default_limits.calls most.calls ≤ limits.calls)) }
@@ -29,9 +35,10 @@ pub fn needs_of<S: Source>(alloc: Global, most: Limits, source: &S) -> Result<Li
         pieces: Cell::new(0),
     };
     let mut calls = CallCount { count: 0 };
-    let allowed = TreeLimits {
+    let allowed = CopyLimits {
         file_size: most.file_size,
         links: most.links,
+        set_id,
     };
     if let Err(stopped) = copy(alloc, allowed, &counted, &mut calls) {
         if stopped.trouble == Trouble::Memory {
@@ -71,9 +78,9 @@ impl<S: Source> Source for CountedSource<'_, S> {
 
     fn look(&self, path: &[u8], node: u64) -> Result<Found, Trouble> {
         let found = self.source.look(path, node)?;
-        if let Found::File(facts) = found {
-            self.size.set(facts.size);
-            self.largest.set(self.largest.get().max(facts.size));
+        if let Found::File(file) = found {
+            self.size.set(file.facts.size);
+            self.largest.set(self.largest.get().max(file.facts.size));
         }
         Ok(found)
     }
@@ -102,8 +109,8 @@ struct CallCount {
 }
 
 impl CallCount {
-    fn add(&mut self) -> Result<(), Trouble> {
-        self.count = self.count.saturating_add(1);
+    fn add(&mut self, calls: u64) -> Result<(), Trouble> {
+        self.count = self.count.saturating_add(calls);
         Ok(())
     }
 }
@@ -113,32 +120,33 @@ impl Target for CallCount {
         Ok(())
     }
 
-    fn folder(&mut self, _path: &[u8]) -> Result<(), Trouble> {
-        self.add()
+    fn folder(&mut self, _path: &[u8], attributes: Attributes) -> Result<(), Trouble> {
+        self.add(1 + u64::from(has_owners(attributes)))
     }
 
-    fn open(&mut self, _path: &[u8]) -> Result<(), Trouble> {
-        self.add()
+    fn open(&mut self, _path: &[u8], attributes: Attributes) -> Result<(), Trouble> {
+        self.add(1 + u64::from(has_owners(attributes)))
     }
 
     fn piece(&mut self, _bytes: &[u8]) -> Result<(), Trouble> {
         Ok(())
     }
 
-    fn close(&mut self) -> Result<(), Trouble> {
-        self.add()
+    fn close(&mut self, time: Option<Timestamp>) -> Result<(), Trouble> {
+        self.add(1 + u64::from(time.is_some()))
     }
 
     fn link(&mut self, _first: &[u8], _path: &[u8]) -> Result<(), Trouble> {
-        self.add()
+        self.add(1)
     }
 
     fn symlink(&mut self, _to: &[u8], _path: &[u8]) -> Result<(), Trouble> {
-        self.add()
+        self.add(1)
     }
 
-    fn finish(&mut self) -> Result<(), Trouble> {
-        Ok(())
+    fn finish(&mut self, attributes: Attributes) -> Result<(), Trouble> {
+        let mode = said_mode(Kind::Dir, attributes.mode);
+        self.add(u64::from(mode.is_some()) + u64::from(has_owners(attributes)))
     }
 
     fn give_up(&mut self) {}

@@ -3,8 +3,7 @@ ghost use Rattle.std.specs.Prelude.{IfErr, OnOk};
 ghost use Rattle.ft_load.specs.Loads.{Loads, StopsLoad};
 
 use crate::script::Script;
-use ft_cells::TreeLimits;
-use ft_copy::{Source, Stopped, copy};
+use ft_copy::{CopyLimits, Source, Stopped, copy};
 use ft_core::Limits;
 use std::alloc::Global;
 use std::io::Write;
@@ -18,16 +17,21 @@ use std::io::Write;
 /// pieces in which it was read, and closed; where it is met again it gets a further name by a link.
 /// Symbolic links come behind all else, and are not followed.
 ///
+/// Modes, owners and groups are said where they are not those that a directory or file gets anyway,
+/// those of the root at the end, and of files the time. A mode has its bits S_ISUID and S_ISGID only
+/// where that is asked for.
+///
 /// The writer is handed back. Where something fails, a part of the script was written, and its
 /// transaction does not commit, unless only the last line feed is missing.
 pub fn load<S: Source, W: Write>(
     alloc: Global,
     limits: Limits,
+    set_id: bool,
     source: &S,
     writer: W,
 ) -> (W, Result<(), Stopped>)
-    ensures ok { OnOk result.1 (Loads limits (S.tells source.now) (W.contents writer) (W.contents result.0)) }
-    ensures stopped { IfErr result.1 (λ stopped. StopsLoad limits (S.tells source.now) stopped (W.contents writer) (W.contents result.0)) }
+    ensures ok { OnOk result.1 (Loads limits set_id (S.tells source.now) (W.contents writer) (W.contents result.0)) }
+    ensures stopped { IfErr result.1 (λ stopped. StopsLoad limits set_id (S.tells source.now) stopped (W.contents writer) (W.contents result.0)) }
 {
     let mut script = Script {
         alloc,
@@ -36,9 +40,10 @@ pub fn load<S: Source, W: Write>(
         next: 2,
         fd: 0,
     };
-    let allowed = TreeLimits {
+    let allowed = CopyLimits {
         file_size: limits.file_size,
         links: limits.links,
+        set_id,
     };
     let copied = copy(alloc, allowed, source, &mut script);
     (script.writer, copied)

@@ -1,18 +1,22 @@
 // A script as a target.
 ghost use Rattle.std.specs.Prelude.{◌≡◌, ◌⊎◌, ◌<◌, suc, true, IfErr, IfOk, IsTrue, OnOk};
 ghost use Rattle.ft_path.specs.Name.{has_nul};
-ghost use Rattle.ft_load.specs.Scripts.{AsksFor, FailsToAsk, FailsToSay, Says};
+ghost use Rattle.std.specs.Option.{option_to_list};
+ghost use Rattle.ft_load.specs.Scripts.{AsksFor, AsksForAll, FailsToAsk, FailsToAskAll, FailsToSay, Says, chmod_of, chown_of, fchown_of, futime_of, has_owners, said_mode};
 
-use ft_calls::Call;
-use ft_cells::AccessMode;
+use ft_cells::{AccessMode, Attributes, Kind, Timestamp};
 use ft_copy::{Target, Trouble};
 use ft_core::Limits;
 use ft_needs::NeedsLine;
 use ft_path::{FilePath, PathFault};
+use ft_posix::Call;
 use ft_script::write_out;
 use ft_words::CallText;
 use std::alloc::Global;
 use std::io::Write;
+
+// The path of the root.
+const ROOT_PATH: &[u8] = b"/";
 
 /// A script of one transaction, which is written as what it is asked for comes in. It is for a core
 /// that is new, where the transaction is number 1 and the first call has stamp 2.
@@ -48,6 +52,19 @@ impl<W: Write> Script<W> {
         Ok(())
     }
 
+    /// Writes a call, if there is one.
+    fn ask_if(&mut self, call: Option<Call>) -> Result<(), Trouble>
+        ensures call { OnOk result (AsksForAll self.old.limits (option_to_list call) self.old.next (W.contents self.old.writer) self.new.next (W.contents self.new.writer)) }
+        ensures err { IfErr result (λ trouble. FailsToAskAll self.old.limits trouble (option_to_list call) self.old.next (W.contents self.old.writer) (W.contents self.new.writer)) }
+        ensures fd { self.new.fd ≡ self.old.fd }
+        ensures limits { self.new.limits ≡ self.old.limits }
+    {
+        match call {
+            Some(call) => self.ask(&call),
+            None => Ok(()),
+        }
+    }
+
     /// Writes text.
     fn say(&mut self, text: &str) -> Result<(), Trouble>
         ensures text { OnOk result (Says text.now (W.contents self.old.writer) (W.contents self.new.writer)) }
@@ -76,12 +93,17 @@ impl<W: Write> Target for Script<W> {
         self.say(line.as_str())
     }
 
-    fn folder(&mut self, path: &[u8]) -> Result<(), Trouble> {
-        let path = path_of(self.alloc, path)?;
-        self.ask(&Call::Mkdir { path })
+    fn folder(&mut self, path: &[u8], attributes: Attributes) -> Result<(), Trouble> {
+        let call = Call::Mkdir {
+            path: path_of(self.alloc, path)?,
+            mode: said_mode(Kind::Dir, attributes.mode),
+        };
+        let chown = chown_of(self.alloc, path, attributes)?;
+        self.ask(&call)?;
+        self.ask_if(chown)
     }
 
-    fn open(&mut self, path: &[u8]) -> Result<(), Trouble> {
+    fn open(&mut self, path: &[u8], attributes: Attributes) -> Result<(), Trouble> {
         let call = Call::Open {
             path: path_of(self.alloc, path)?,
             access: AccessMode::WriteOnly,
@@ -89,11 +111,12 @@ impl<W: Write> Target for Script<W> {
             excl: true,
             trunc: false,
             append: false,
+            mode: said_mode(Kind::File, attributes.mode),
         };
         let fd = self.next;
         self.ask(&call)?;
         self.fd = fd;
-        Ok(())
+        self.ask_if(fchown_of(fd, attributes))
     }
 
     fn piece(&mut self, bytes: &[u8]) -> Result<(), Trouble> {
@@ -105,9 +128,10 @@ impl<W: Write> Target for Script<W> {
         self.ask(&call)
     }
 
-    fn close(&mut self) -> Result<(), Trouble> {
-        let call = Call::Close { fd: self.fd };
-        self.ask(&call)
+    fn close(&mut self, time: Option<Timestamp>) -> Result<(), Trouble> {
+        let fd = self.fd;
+        self.ask_if(futime_of(fd, time))?;
+        self.ask(&Call::Close { fd })
     }
 
     fn link(&mut self, first: &[u8], path: &[u8]) -> Result<(), Trouble> {
@@ -126,7 +150,11 @@ impl<W: Write> Target for Script<W> {
         self.ask(&call)
     }
 
-    fn finish(&mut self) -> Result<(), Trouble> {
+    fn finish(&mut self, attributes: Attributes) -> Result<(), Trouble> {
+        let chmod = chmod_of(self.alloc, ROOT_PATH, attributes)?;
+        let chown = chown_of(self.alloc, ROOT_PATH, attributes)?;
+        self.ask_if(chmod)?;
+        self.ask_if(chown)?;
         self.say("commit 1\n")
     }
 
@@ -143,4 +171,74 @@ fn path_of(alloc: Global, bytes: &[u8]) -> Result<FilePath, Trouble>
         Err(PathFault::Memory) => Err(Trouble::Memory),
         Err(PathFault::NulByte) => Err(Trouble::BadName),
     }
+}
+
+/// The mode of what is made, where it has to be said: it is not that which a directory or file
+/// gets anyway.
+pub(crate) fn said_mode(kind: Kind, mode: u16) -> Option<u16>
+    ensures { result ≡ said_mode kind mode }
+{
+    if mode == Attributes::of(kind).mode {
+        None
+    } else {
+        Some(mode)
+    }
+}
+
+/// Whether owner and group have to be said.
+pub(crate) fn has_owners(attributes: Attributes) -> bool
+    ensures { result ≡ has_owners attributes }
+{
+    attributes.owner != 0 || attributes.group != 0
+}
+
+// The call that sets the owner and the group of what stands at a path, where they have to be said.
+fn chown_of(alloc: Global, path: &[u8], attributes: Attributes) -> Result<Option<Call>, Trouble>
+    ensures ok { IfOk result (λ call. call ≡ chown_of path.now attributes) }
+    ensures err { IfErr result (λ trouble. (trouble ≡ Trouble.Memory) ⊎ ((trouble ≡ Trouble.BadName) × (has_nul path.now ≡ true))) }
+{
+    if !has_owners(attributes) {
+        return Ok(None);
+    }
+    Ok(Some(Call::Chown {
+        owner: Some(attributes.owner),
+        group: Some(attributes.group),
+        path: path_of(alloc, path)?,
+    }))
+}
+
+// The same of the open file.
+fn fchown_of(fd: u64, attributes: Attributes) -> Option<Call>
+    ensures { result ≡ fchown_of fd attributes }
+{
+    if !has_owners(attributes) {
+        return None;
+    }
+    Some(Call::Fchown {
+        fd,
+        owner: Some(attributes.owner),
+        group: Some(attributes.group),
+    })
+}
+
+// The call that sets the time of the bytes of the open file, where there is one.
+fn futime_of(fd: u64, time: Option<Timestamp>) -> Option<Call>
+    ensures { result ≡ futime_of fd time }
+{
+    let time = time?;
+    Some(Call::Futime { fd, time })
+}
+
+// The call that sets the mode of the directory at a path, where it has to be said.
+fn chmod_of(alloc: Global, path: &[u8], attributes: Attributes) -> Result<Option<Call>, Trouble>
+    ensures ok { IfOk result (λ call. call ≡ chmod_of path.now attributes) }
+    ensures err { IfErr result (λ trouble. (trouble ≡ Trouble.Memory) ⊎ ((trouble ≡ Trouble.BadName) × (has_nul path.now ≡ true))) }
+{
+    let Some(mode) = said_mode(Kind::Dir, attributes.mode) else {
+        return Ok(None);
+    };
+    Ok(Some(Call::Chmod {
+        mode,
+        path: path_of(alloc, path)?,
+    }))
 }

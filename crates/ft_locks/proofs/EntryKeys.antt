@@ -15,7 +15,7 @@ use Rattle.slab.proofs.SlabLemmas.{Updates-with_value}
 use Rattle.ft_laws.specs.Lists.{In}
 use Rattle.ft_cells.specs.declared.entry.Entry.{Entry as EntryOf}
 use Rattle.ft_cells.specs.declared.cell.Cell.{Cell}
-use Rattle.ft_cells.specs.declared.cell.Cell.TheVariants.{Entry, Names, Parent, Links, Bytes, Fd}
+use Rattle.ft_cells.specs.declared.cell.Cell.TheVariants.{Entry, Names, Parent, Links, Bytes, Fd, DirAttributes, FileAttributes}
 use Rattle.ft_locks.specs.declared.cells.Locked.{Locked}
 use Rattle.ft_locks.specs.EntryKeys.{EntryKeys, listed_keys, key_at, spot_of, same_spot, is_spot, IsMoved}
 use Rattle.ft_moss.specs.Holders.{Owners}
@@ -153,6 +153,8 @@ spot-moved (Some l) dir last place e = by_cell l.cell l.place e
     by_cell (Links i) p e = absurd (false≢true (ap is_some e))
     by_cell (Bytes i) p e = absurd (false≢true (ap is_some e))
     by_cell (Fd f) p e = absurd (false≢true (ap is_some e))
+    by_cell (DirAttributes d) p e = absurd (false≢true (ap is_some e))
+    by_cell (FileAttributes i) p e = absurd (false≢true (ap is_some e))
 
 -- the gap is closed
 pub gap-closed : (s s' : Slab Locked) (m m' : EntryKeys) (dir place moved : ℕ) → HaveGap (get s) m dir place → IsMoved m m' dir place moved
@@ -279,6 +281,8 @@ spot_entry (Parent d) place t e = absurd (false≢true (ap is_some e))
 spot_entry (Links i) place t e = absurd (false≢true (ap is_some e))
 spot_entry (Bytes i) place t e = absurd (false≢true (ap is_some e))
 spot_entry (Fd f) place t e = absurd (false≢true (ap is_some e))
+spot_entry (DirAttributes d) place t e = absurd (false≢true (ap is_some e))
+spot_entry (FileAttributes i) place t e = absurd (false≢true (ap is_some e))
 
 entry_spot : (c : Cell) (place d : ℕ) → is_entry_of d c ≡ true → spot_of c place ≡ Some (d, place)
 entry_spot (Entry entry) place d e = ap (λ x. Some (x, place)) (sym (eqb-true d entry.dir e))
@@ -287,6 +291,8 @@ entry_spot (Parent e) place d is = absurd (false≢true is)
 entry_spot (Links i) place d is = absurd (false≢true is)
 entry_spot (Bytes i) place d is = absurd (false≢true is)
 entry_spot (Fd f) place d is = absurd (false≢true is)
+entry_spot (DirAttributes e) place d is = absurd (false≢true is)
+entry_spot (FileAttributes i) place d is = absurd (false≢true is)
 
 -- the keys of a directory's list are those of its entries
 pub entries-listed : (s : Slab Locked) (index : List (Cell × ℕ)) (seen : Keyed) → record { cells = cells_of s index; at = at_of s } ≡ seen → AreKeyed (at_of s) index
@@ -412,3 +418,5 @@ no_spot (Parent d) place none = refl
 no_spot (Links i) place none = refl
 no_spot (Bytes i) place none = refl
 no_spot (Fd f) place none = refl
+no_spot (DirAttributes d) place none = refl
+no_spot (FileAttributes i) place none = refl

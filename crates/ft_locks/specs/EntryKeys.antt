@@ -5,7 +5,7 @@ use Rattle.std.specs.Ordering.{nat_cmp}
 use Rattle.std.specs.FinMap as finite
 use Rattle.std.proofs.Common.{Vec, Global}
 use Rattle.ft_cells.specs.declared.cell.Cell.{Cell}
-use Rattle.ft_cells.specs.declared.cell.Cell.TheVariants.{Entry, Names, Parent, Links, Bytes, Fd}
+use Rattle.ft_cells.specs.declared.cell.Cell.TheVariants.{Entry, Names, Parent, Links, Bytes, Fd, DirAttributes, FileAttributes}
 
 -- for each directory that has entries in the table, their keys
 abbrev pub EntryKeys : Type 0
@@ -28,6 +28,8 @@ spot_of (Parent d) place = None
 spot_of (Links i) place = None
 spot_of (Bytes i) place = None
 spot_of (Fd f) place = None
+spot_of (DirAttributes d) place = None
+spot_of (FileAttributes i) place = None
 
 -- the same directory and the same place in its list
 abbrev pub same_spot : ℕ × ℕ → ℕ × ℕ → Bool

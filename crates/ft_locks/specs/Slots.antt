@@ -4,7 +4,7 @@ use Rattle.std.specs.FinMap as finite
 use Rattle.std.specs.Map.{lookup}
 use Rattle.slab.specs.Slab.{Slab, get, entries}
 use Rattle.ft_cells.specs.declared.cell.Cell.{Cell}
-use Rattle.ft_cells.specs.declared.cell.Cell.TheVariants.{Entry, Names, Parent, Links, Bytes, Fd}
+use Rattle.ft_cells.specs.declared.cell.Cell.TheVariants.{Entry, Names, Parent, Links, Bytes, Fd, DirAttributes, FileAttributes}
 use Rattle.ft_cells.specs.CellOrder.{same_cell}
 use Rattle.ft_locks.specs.declared.cells.Locked.{Locked}
 use Rattle.ft_moss.specs.Holders.{Owners}
@@ -69,6 +69,8 @@ is_names (Parent d) = false
 is_names (Links i) = false
 is_names (Bytes i) = false
 is_names (Fd f) = false
+is_names (DirAttributes d) = false
+is_names (FileAttributes i) = false
 
 -- the names of no directory are in the table
 abbrev pub HaveNoNames : CellKeys → Type 0

@@ -129,7 +129,12 @@ fn note_beside(
             note_cell(holdings, found, forest, asker, &names, mode)
         }
         Cell::Names(dir) => note_entries(holdings, found, forest, asker, *dir, mode),
-        Cell::Parent(_) | Cell::Links(_) | Cell::Bytes(_) | Cell::Fd(_) => Ok(()),
+        Cell::Parent(_)
+        | Cell::Links(_)
+        | Cell::Bytes(_)
+        | Cell::Fd(_)
+        | Cell::DirAttributes(_)
+        | Cell::FileAttributes(_) => Ok(()),
     }
 }
 

@@ -4,7 +4,7 @@ ghost use Rattle.std.specs.Option.{option_to_list};
 ghost use Rattle.std.specs.FinMap as finite;
 ghost use Rattle.ft_body.specs.declared.TheConstants.{LARGEST_SIZE};
 ghost use Rattle.ft_path.specs.FilePath.{parts_of};
-ghost use Rattle.ft_cells.specs.declared.cell.Cell.TheVariants.{Links, Names, Fd};
+ghost use Rattle.ft_cells.specs.declared.cell.Cell.TheVariants.{Links, Names, Fd, DirAttributes, FileAttributes};
 ghost use Rattle.ft_cells.specs.Cells.{bytes_of, stored_dirs};
 ghost use Rattle.ft_tree.specs.Walk.{walk};
 ghost use Rattle.ft_posix.specs.Links.{climb};
@@ -14,13 +14,15 @@ ghost use Rattle.ft_posix.specs.Comes.{Leads, Says};
 ghost use Rattle.ft_posix.specs.Accesses.{listed};
 ghost use Rattle.ft_posix.specs.Within.{AreWithin};
 ghost use Rattle.ft_posix.specs.Edits.{edit_cell, with_edits};
+ghost use Rattle.ft_looks.specs.Sizes.{size_and_time_at};
 
 use crate::touched::Touched;
 use ft_base::Memory;
 use ft_path::{FilePath, Name, Parts, PartsFault};
 use ft_posix::{Access, Edit, Edits, Stop};
 use ft_tree::{
-    Cell, Cursor, EntryRef, HintedFile, Node, OpenFile, ROOT, Reader, Spot, Tree, TreeLimits, walk,
+    Attributes, Cell, Cursor, EntryRef, HintedFile, Node, OpenFile, ROOT, Reader, Spot, Timestamp,
+    Tree, TreeLimits, walk,
 };
 use std::alloc::Global;
 use std::marker::Model;
@@ -69,6 +71,22 @@ impl<'t> Look<'t> {
         Ok(self.cursor.links(file))
     }
 
+    /// The attributes that are kept of a directory.
+    pub fn dir_attributes(&mut self, dir: u64) -> Result<Option<Attributes>, Memory>
+        ensures { Finds self.old (look_at (DirAttributes dir)) self.new result }
+    {
+        self.touched.read(Cell::DirAttributes(dir))?;
+        Ok(self.cursor.dir_attributes(dir))
+    }
+
+    /// The attributes that are kept of a file.
+    pub fn file_attributes(&mut self, file: u64) -> Result<Option<Attributes>, Memory>
+        ensures { Finds self.old (look_at (FileAttributes file)) self.new result }
+    {
+        self.touched.read(Cell::FileAttributes(file))?;
+        Ok(self.cursor.file_attributes(file))
+    }
+
     /// The open file description of a descriptor.
     pub fn open_file(&mut self, fd: u64) -> Result<Option<OpenFile>, Memory>
         ensures { Finds self.old (look_at (Fd fd)) self.new result }
@@ -100,6 +118,14 @@ impl<'t> Look<'t> {
     {
         self.touched.read(Cell::Bytes(file))?;
         Ok(size_of(&self.cursor, file))
+    }
+
+    /// The size of a file and the time of its bytes, by one look at them.
+    pub fn size_and_time(&mut self, file: u64) -> Result<(u64, Option<Timestamp>), Memory>
+        ensures { Finds self.old (size_and_time_at file) self.new result }
+    {
+        self.touched.read(Cell::Bytes(file))?;
+        Ok((size_of(&self.cursor, file), self.cursor.time(file)))
     }
 
     /// A file's number, to read or write the file later from where something was found last.
@@ -232,9 +258,11 @@ fn note_edit(touched: &mut Touched, edit: &Edit<'_>) -> Result<(), Memory>
         Edit::Entry { entry, .. } => touched.write_entry(entry.as_ref()),
         Edit::Parent { dir, .. } => touched.write(Cell::Parent(*dir)),
         Edit::Links { file, .. } => touched.write(Cell::Links(*file)),
-        Edit::Overwrite { file, .. } | Edit::Resize { file, .. } => {
+        Edit::Overwrite { file, .. } | Edit::Resize { file, .. } | Edit::Time { file, .. } => {
             touched.write(Cell::Bytes(file.number()))
         }
         Edit::Open { fd, .. } => touched.write(Cell::Fd(*fd)),
+        Edit::DirAttributes { dir, .. } => touched.write(Cell::DirAttributes(*dir)),
+        Edit::FileAttributes { file, .. } => touched.write(Cell::FileAttributes(file.number())),
     }
 }

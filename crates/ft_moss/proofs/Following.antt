@@ -22,7 +22,7 @@ use Rattle.ft_history.proofs.Promises.{live_owners}
 use Rattle.ft_history.proofs.Locks as theory
 use Rattle.ft_history.proofs.Sharing.{sharing, conflict_back}
 use Rattle.ft_cells.specs.declared.cell.Cell.{Cell}
-use Rattle.ft_cells.specs.declared.cell.Cell.TheVariants.{Entry, Names, Parent, Links, Bytes, Fd}
+use Rattle.ft_cells.specs.declared.cell.Cell.TheVariants.{Entry, Names, Parent, Links, Bytes, Fd, DirAttributes, FileAttributes}
 use Rattle.ft_cells.specs.CellOrder.{cell_cmp_total, same_cell, same_cell-is}
 use Rattle.ft_posix.specs.declared.call.Mode.{Mode}
 use Rattle.ft_posix.specs.declared.call.Mode.TheVariants.{Read as ReadMode, Write as WriteMode}
@@ -364,13 +364,26 @@ place_is (Links i) file is (Parent d) = refl
 place_is (Links i) file is (Links j) = refl
 place_is (Links i) file is (Bytes j) = refl
 place_is (Links i) file is (Fd f) = refl
+place_is (Links i) file is (DirAttributes d) = refl
+place_is (Links i) file is (FileAttributes j) = refl
 place_is (Bytes i) file is (Entry entry) = refl
 place_is (Bytes i) file is (Names d) = refl
 place_is (Bytes i) file is (Parent d) = refl
 place_is (Bytes i) file is (Links j) = refl
 place_is (Bytes i) file is (Bytes j) = refl
 place_is (Bytes i) file is (Fd f) = refl
+place_is (Bytes i) file is (DirAttributes d) = refl
+place_is (Bytes i) file is (FileAttributes j) = refl
 place_is (Fd f) file is place = absurd (none_some file is)
+place_is (DirAttributes d) file is place = absurd (none_some file is)
+place_is (FileAttributes i) file is (Entry entry) = refl
+place_is (FileAttributes i) file is (Names d) = refl
+place_is (FileAttributes i) file is (Parent d) = refl
+place_is (FileAttributes i) file is (Links j) = refl
+place_is (FileAttributes i) file is (Bytes j) = refl
+place_is (FileAttributes i) file is (Fd f) = refl
+place_is (FileAttributes i) file is (DirAttributes d) = refl
+place_is (FileAttributes i) file is (FileAttributes j) = refl
 
 pub cover_law : CoverLaw
 cover_law base sound h t locks c file is unlocked y = by_test (owns_lock posix_calls h y (λ f. posix_calls.touches f (Some c)))

@@ -13,7 +13,7 @@ use Rattle.std.specs.Cmp.{nat_cmp_total, nat_eq_equiv, unsigned_tied, eq_by_cmp_
 use Rattle.std.specs.FinMap as finite
 use Rattle.ft_cells.specs.Entries.{entry_at}
 use Rattle.ft_cells.specs.declared.cell.Cell.{Cell}
-use Rattle.ft_cells.specs.declared.cell.Cell.TheVariants.{Entry, Names, Parent, Links, Bytes, Fd}
+use Rattle.ft_cells.specs.declared.cell.Cell.TheVariants.{Entry, Names, Parent, Links, Bytes, Fd, DirAttributes, FileAttributes}
 use Rattle.ft_cells.specs.CellOrder.{cell_cmp_total, same_cell, same_cell-is, overlap}
 use Rattle.ft_posix.specs.declared.call.Mode.{Mode}
 use Rattle.ft_posix.specs.declared.call.Mode.TheVariants.{Read as ReadMode, Write as WriteMode}
@@ -261,6 +261,8 @@ module _ (counted : Counted) where
   entry_is m d mode u (Links i) both = absurd (false≢true both)
   entry_is m d mode u (Bytes i) both = absurd (false≢true both)
   entry_is m d mode u (Fd f) both = absurd (false≢true both)
+  entry_is m d mode u (DirAttributes e) both = absurd (false≢true both)
+  entry_is m d mode u (FileAttributes i) both = absurd (false≢true both)
 
   -- an owner's locks on the cell under a key are in the way
   abbrev pub way_under : Keyed → ℕ → Mode → ℕ → Bool
@@ -329,6 +331,8 @@ overlaps_itself (Parent d) = (eq_by_cmp_equiv cell_cmp_total).refl (Parent d)
 overlaps_itself (Links i) = (eq_by_cmp_equiv cell_cmp_total).refl (Links i)
 overlaps_itself (Bytes i) = (eq_by_cmp_equiv cell_cmp_total).refl (Bytes i)
 overlaps_itself (Fd f) = (eq_by_cmp_equiv cell_cmp_total).refl (Fd f)
+overlaps_itself (DirAttributes d) = (eq_by_cmp_equiv cell_cmp_total).refl (DirAttributes d)
+overlaps_itself (FileAttributes i) = (eq_by_cmp_equiv cell_cmp_total).refl (FileAttributes i)
 
 module _ (counted : Counted) where
   -- a cell that overlaps the access's, on which somebody is in its way
@@ -350,6 +354,8 @@ module _ (counted : Counted) where
       by_kind (Links i) is e = absurd (false≢true e)
       by_kind (Bytes i) is e = absurd (false≢true e)
       by_kind (Fd f) is e = absurd (false≢true e)
+      by_kind (DirAttributes d) is e = absurd (false≢true e)
+      by_kind (FileAttributes i) is e = absurd (false≢true e)
 
       by_part : (way counted m a.cell a.mode u ≡ true) ⊎ (beside counted m a.cell a.mode u ≡ true) → InWay m a u
       by_part (inl h) = record { cell = a.cell; overlaps = overlaps_itself a.cell; there = h }
@@ -368,16 +374,22 @@ overlap_is (Entry entry) (Parent e) h = same (same_cell-is (Entry entry) (Parent
 overlap_is (Entry entry) (Links i) h = same (same_cell-is (Entry entry) (Links i) h)
 overlap_is (Entry entry) (Bytes i) h = same (same_cell-is (Entry entry) (Bytes i) h)
 overlap_is (Entry entry) (Fd f) h = same (same_cell-is (Entry entry) (Fd f) h)
+overlap_is (Entry entry) (DirAttributes d) h = same (same_cell-is (Entry entry) (DirAttributes d) h)
+overlap_is (Entry entry) (FileAttributes i) h = same (same_cell-is (Entry entry) (FileAttributes i) h)
 overlap_is (Names d) (Entry entry) h = has_in d entry.name refl (ap (λ x. Entry (entry_at x entry.name)) (sym (eqb-true d entry.dir h)))
 overlap_is (Names d) (Names e) h = same (same_cell-is (Names d) (Names e) h)
 overlap_is (Names d) (Parent e) h = same (same_cell-is (Names d) (Parent e) h)
 overlap_is (Names d) (Links i) h = same (same_cell-is (Names d) (Links i) h)
 overlap_is (Names d) (Bytes i) h = same (same_cell-is (Names d) (Bytes i) h)
 overlap_is (Names d) (Fd f) h = same (same_cell-is (Names d) (Fd f) h)
+overlap_is (Names d) (DirAttributes e) h = same (same_cell-is (Names d) (DirAttributes e) h)
+overlap_is (Names d) (FileAttributes i) h = same (same_cell-is (Names d) (FileAttributes i) h)
 overlap_is (Parent d) k h = same (same_cell-is (Parent d) k h)
 overlap_is (Links i) k h = same (same_cell-is (Links i) k h)
 overlap_is (Bytes i) k h = same (same_cell-is (Bytes i) k h)
 overlap_is (Fd f) k h = same (same_cell-is (Fd f) k h)
+overlap_is (DirAttributes d) k h = same (same_cell-is (DirAttributes d) k h)
+overlap_is (FileAttributes i) k h = same (same_cell-is (FileAttributes i) k h)
 
 module _ (counted : Counted) where
   in_way_blocks : (m : Cells) (a : Access) (u : ℕ) → InWay counted m a u → blocks counted m a u ≡ true

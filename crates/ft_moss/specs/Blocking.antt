@@ -4,7 +4,7 @@ use Rattle.std.specs.List.{list_any}
 use Rattle.std.specs.Ordering.{nat_cmp}
 use Rattle.std.specs.FinMap as finite
 use Rattle.ft_cells.specs.declared.cell.Cell.{Cell}
-use Rattle.ft_cells.specs.declared.cell.Cell.TheVariants.{Entry, Names, Parent, Links, Bytes, Fd}
+use Rattle.ft_cells.specs.declared.cell.Cell.TheVariants.{Entry, Names, Parent, Links, Bytes, Fd, DirAttributes, FileAttributes}
 use Rattle.ft_posix.specs.declared.call.Mode.{Mode}
 use Rattle.ft_posix.specs.declared.call.Access.{Access}
 use Rattle.ft_moss.specs.declared.marks.Marks.{Marks}
@@ -60,6 +60,8 @@ is_entry_of d (Parent e) = false
 is_entry_of d (Links i) = false
 is_entry_of d (Bytes i) = false
 is_entry_of d (Fd f) = false
+is_entry_of d (DirAttributes e) = false
+is_entry_of d (FileAttributes i) = false
 
 -- these are the keys of a directory's entries
 pub record AreEntriesOf (k : Keyed) (d : ℕ) (keys : List ℕ) : Type 0 where
@@ -74,6 +76,8 @@ beside counted m (Parent d) mode u = false
 beside counted m (Links i) mode u = false
 beside counted m (Bytes i) mode u = false
 beside counted m (Fd f) mode u = false
+beside counted m (DirAttributes d) mode u = false
+beside counted m (FileAttributes i) mode u = false
 
 -- whether an owner is in the way of the access, on its cell or on one that overlaps it
 abbrev pub blocks : Counted → Cells → Access → ℕ → Bool

@@ -5,8 +5,8 @@ ghost use Rattle.ft_tree.specs.Sound.{AreSoundCells, IsFree};
 
 use ft_base::Memory;
 use ft_calls::{Access, Call, Mode, Reply, accesses};
-use ft_path::FilePath;
-use ft_tree::{AccessMode, Cell, Kind, Tree};
+use ft_path::{Errno, FilePath};
+use ft_tree::{AccessMode, Attributes, Cell, Kind, Timestamp, Tree};
 use ft_undo::{perform, revert};
 use std::alloc::Global;
 use std::test::Fail;
@@ -28,6 +28,16 @@ enum CallRef<'a> {
     Unlink(&'a [u8]),
     /// From the old path to the new one.
     Rename(&'a [u8], &'a [u8]),
+    Chmod(u16, &'a [u8]),
+    Fchmod(u64, u16),
+    /// Of an owner, while the group stays.
+    Chown(u32, &'a [u8]),
+    Lchown(u32, &'a [u8]),
+    /// Of a group, while the owner stays.
+    Fchown(u64, u32),
+    Utime(Timestamp, &'a [u8]),
+    Lutime(Timestamp, &'a [u8]),
+    Futime(u64, Timestamp),
 }
 
 /// A reply, as a test writes it.
@@ -38,6 +48,9 @@ enum ReplyRef<'a> {
     Bytes(&'a [u8]),
     /// A kind, a number, its links and its size.
     Info(Kind, u64, u64, u64),
+    /// The attributes and the time, where they are told.
+    Attributes(Option<Attributes>, Option<Timestamp>),
+    Failed(Errno),
 }
 
 /// The place of the first call in a table that is not as it has it.
@@ -48,6 +61,7 @@ fn call_of(alloc: Global, call: CallRef) -> Result<Call, Fail> {
     Ok(match call {
         CallRef::Mkdir(path) => Call::Mkdir {
             path: FilePath::new(alloc, path)?,
+            mode: None,
         },
         CallRef::Stat(path) => Call::Stat {
             path: FilePath::new(alloc, path)?,
@@ -75,6 +89,7 @@ fn open_of(path: FilePath) -> Call {
         excl: false,
         trunc: false,
         append: false,
+        mode: None,
     }
 }
 
@@ -91,8 +106,44 @@ fn call_of_two(alloc: Global, call: CallRef) -> Result<Call, Fail> {
             let new = FilePath::new(alloc, new)?;
             Ok(Call::Rename { old, new })
         }
-        _ => Err(Fail::from("a call on two paths")),
+        call => call_of_attributes(alloc, call),
     }
+}
+
+/// A call on attributes or a time.
+fn call_of_attributes(alloc: Global, call: CallRef) -> Result<Call, Fail> {
+    Ok(match call {
+        CallRef::Chmod(mode, path) => Call::Chmod {
+            mode,
+            path: FilePath::new(alloc, path)?,
+        },
+        CallRef::Fchmod(fd, mode) => Call::Fchmod { fd, mode },
+        CallRef::Chown(owner, path) => Call::Chown {
+            owner: Some(owner),
+            group: None,
+            path: FilePath::new(alloc, path)?,
+        },
+        CallRef::Lchown(owner, path) => Call::Lchown {
+            owner: Some(owner),
+            group: None,
+            path: FilePath::new(alloc, path)?,
+        },
+        CallRef::Fchown(fd, group) => Call::Fchown {
+            fd,
+            owner: None,
+            group: Some(group),
+        },
+        CallRef::Utime(time, path) => Call::Utime {
+            time,
+            path: FilePath::new(alloc, path)?,
+        },
+        CallRef::Lutime(time, path) => Call::Lutime {
+            time,
+            path: FilePath::new(alloc, path)?,
+        },
+        CallRef::Futime(fd, time) => Call::Futime { fd, time },
+        _ => Err(Fail::from("a call on attributes"))?,
+    })
 }
 
 fn is_reply(reply: &Reply, wanted: ReplyRef) -> bool {
@@ -106,9 +157,19 @@ fn is_reply(reply: &Reply, wanted: ReplyRef) -> bool {
                 number,
                 links,
                 size,
+                ..
             },
             ReplyRef::Info(wanted, file, count, length),
         ) => *kind == wanted && *number == file && *links == count && *size == length,
+        (
+            Reply::Info {
+                attributes,
+                time,
+                ..
+            },
+            ReplyRef::Attributes(wanted, at),
+        ) => *attributes == wanted && *time == at,
+        (Reply::Failed(errno), ReplyRef::Failed(wanted)) => *errno == wanted,
         _ => false,
     }
 }
@@ -250,4 +311,69 @@ fn orphan_lives_on(rt: HostRuntime) -> Result<(), Fail> {
         (CallRef::Close(2), ReplyRef::Done),
     ];
     make_calls(rt.alloc(), CALLS)
+}
+
+/// A time before the Epoch.
+const EARLY: Timestamp = Timestamp {
+    seconds: -1,
+    nanoseconds: 999_999_999,
+};
+
+#[test]
+fn attributes_stay_and_time_goes(rt: HostRuntime) -> Result<(), Fail> {
+    let early = Some(EARLY);
+    let owned = Some(Attributes {
+        mode: 0o755,
+        owner: 7,
+        group: 8,
+    });
+    let calls = [
+        (CallRef::Open(b"/f"), ReplyRef::Number(2)),
+        (CallRef::Write(2, b"hi"), ReplyRef::Number(2)),
+        (CallRef::Utime(EARLY, b"/f"), ReplyRef::Done),
+        (CallRef::Stat(b"/f"), ReplyRef::Attributes(None, early)),
+        (CallRef::Chmod(0o755, b"/f"), ReplyRef::Done),
+        (CallRef::Chown(7, b"/f"), ReplyRef::Done),
+        (CallRef::Fchown(2, 8), ReplyRef::Done),
+        (CallRef::Fstat(2), ReplyRef::Attributes(owned, early)),
+        (CallRef::Write(2, b"!"), ReplyRef::Number(1)),
+        (CallRef::Stat(b"/f"), ReplyRef::Attributes(owned, None)),
+    ];
+    make_calls(rt.alloc(), &calls)
+}
+
+#[test]
+fn attributes_go_back_to_none(rt: HostRuntime) -> Result<(), Fail> {
+    let owned = Some(Attributes {
+        mode: 0o644,
+        owner: 7,
+        group: 0,
+    });
+    let calls = [
+        (CallRef::Open(b"/f"), ReplyRef::Number(2)),
+        (CallRef::Fchmod(2, 0o600), ReplyRef::Done),
+        (CallRef::Lchown(7, b"/f"), ReplyRef::Done),
+        (CallRef::Chmod(0o644, b"/f"), ReplyRef::Done),
+        (CallRef::Stat(b"/f"), ReplyRef::Attributes(owned, None)),
+        (CallRef::Chown(0, b"/f"), ReplyRef::Done),
+        (CallRef::Stat(b"/f"), ReplyRef::Attributes(None, None)),
+        (CallRef::Lutime(EARLY, b"/f"), ReplyRef::Done),
+        (CallRef::Futime(2, EARLY), ReplyRef::Done),
+        (CallRef::Mkdir(b"/d"), ReplyRef::Done),
+        (
+            CallRef::Utime(EARLY, b"/d"),
+            ReplyRef::Failed(Errno::EINVAL),
+        ),
+        (
+            CallRef::Chmod(0o10000, b"/d"),
+            ReplyRef::Failed(Errno::EINVAL),
+        ),
+        (CallRef::Chmod(0o1777, b"/d"), ReplyRef::Done),
+        (CallRef::Rename(b"/f", b"/d/f"), ReplyRef::Done),
+        (
+            CallRef::Stat(b"/d/f"),
+            ReplyRef::Attributes(None, Some(EARLY)),
+        ),
+    ];
+    make_calls(rt.alloc(), &calls)
 }

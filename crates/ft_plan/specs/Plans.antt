@@ -74,7 +74,7 @@ is_subs steps.Abort = false
 
 -- a step that is a call `open`
 abbrev pub is_open : Step → Bool
-is_open (steps.Call (calls.Open path access create excl trunc append)) = true
+is_open (steps.Call (calls.Open path access create excl trunc append mode)) = true
 is_open step = false
 
 -- the descriptor that a call is on, or 0
@@ -87,6 +87,9 @@ descriptor (calls.Pwrite fd off bytes) = fd
 descriptor (calls.Lseek fd whence off) = fd
 descriptor (calls.Ftruncate fd len) = fd
 descriptor (calls.Fstat fd) = fd
+descriptor (calls.Fchmod fd mode) = fd
+descriptor (calls.Fchown fd owner group) = fd
+descriptor (calls.Futime fd time) = fd
 descriptor call = 0
 
 -- the step of this number, counted from 1

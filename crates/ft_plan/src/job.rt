@@ -1,7 +1,7 @@
 // The jobs of a plan, and their steps.
 use crate::name::JobName;
 use ft_base::Sequence;
-use ft_calls::Call;
+use ft_posix::Call;
 
 /// A job of a plan.
 #[derive(Debug, PartialEq, Eq, Drop)]

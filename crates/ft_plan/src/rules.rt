@@ -6,7 +6,7 @@ ghost use Rattle.std.specs.Str.{bytes_eq};
 ghost use Rattle.ft_plan.specs.Plans.{is_plan, is_job, starts_subjobs, all_behind, is_opened, is_named, is_subjob_of, ends_last, is_end, is_subs, is_on_opened, is_open, step_at, descriptor};
 
 use crate::job::{Job, Step};
-use ft_calls::Call;
+use ft_posix::Call;
 
 // The most jobs of a plan.
 const MOST_JOBS: usize = 64;
@@ -198,7 +198,10 @@ fn descriptor(call: &Call) -> u64
         | Call::Pwrite { fd, .. }
         | Call::Lseek { fd, .. }
         | Call::Ftruncate { fd, .. }
-        | Call::Fstat { fd } => *fd,
+        | Call::Fstat { fd }
+        | Call::Fchmod { fd, .. }
+        | Call::Fchown { fd, .. }
+        | Call::Futime { fd, .. } => *fd,
         _ => 0,
     }
 }

@@ -9,7 +9,7 @@ use Rattle.ft_laws.specs.Lists.{In}
 use Rattle.ft_cells.specs.Entries.{entry_at}
 use Rattle.ft_cells.specs.declared.node.Node.{Node}
 use Rattle.ft_cells.specs.declared.cell.Cell.{Cell}
-use Rattle.ft_cells.specs.declared.cell.Cell.TheVariants.{Entry, Names, Parent, Links, Bytes, Fd}
+use Rattle.ft_cells.specs.declared.cell.Cell.TheVariants.{Entry, Names, Parent, Links, Bytes, Fd, DirAttributes, FileAttributes}
 use Rattle.ft_cells.specs.Cells.{Cells, DirCells, dir_entry, dir_names, dir_of, stored_dirs, entry_of, parent_of}
 use Rattle.ft_tree.specs.Views.{view_of}
 use Rattle.ft_cells.specs.Looks.{View, Agree, answer, looked_at, answer-agree, looked_at-agree}
@@ -22,7 +22,7 @@ use Rattle.ft_posix.specs.Steps.{steps}
 use Rattle.ft_posix.specs.Stored.{put_all, outcome}
 use Rattle.ft_posix.specs.Accesses.{with_looks, with_writes, listed, accesses_of}
 use Rattle.ft_posix.specs.Posix.{covers, HasSoundValues}
-use Rattle.ft_posix.proofs.Puts.{entry_after, parent_after, links_after, bytes_after, open_after, entry-put_all, parent-put_all, links-put_all, bytes-put_all, open-put_all, limits-put_all}
+use Rattle.ft_posix.proofs.Puts.{entry_after, parent_after, dir_attributes_after, links_after, file_attributes_after, contents_after, open_after, entry-put_all, parent-put_all, dir_attributes-put_all, links-put_all, file_attributes-put_all, contents-put_all, open-put_all, limits-put_all}
 use Rattle.ft_posix.proofs.Tidied.{dir_names-find}
 use Rattle.ft_posix.proofs.Below.{IsEnough, StoredEnough, StepsAlike}
 use Rattle.ft_posix.proofs.Accessed.{with_accesses-parts}
@@ -46,6 +46,8 @@ view-covered s t (Parent d) same = same (Parent d) (same_cell-refl (Parent d))
 view-covered s t (Links i) same = same (Links i) (same_cell-refl (Links i))
 view-covered s t (Bytes i) same = same (Bytes i) (same_cell-refl (Bytes i))
 view-covered s t (Fd f) same = same (Fd f) (same_cell-refl (Fd f))
+view-covered s t (DirAttributes d) same = same (DirAttributes d) (same_cell-refl (DirAttributes d))
+view-covered s t (FileAttributes i) same = same (FileAttributes i) (same_cell-refl (FileAttributes i))
 
 -- views that show the same of each cell of a list agree on it
 pub agree-each : (v w : View) (cs : List Cell) → ((c : Cell) → In c cs → v c ≡ w c) → Agree v w cs
@@ -78,8 +80,10 @@ same_after ws old new same = record { limits = limits-put_all ws new ∙ same.li
     values (Names d) = refl
     values (Parent d) = ap (λ f. f d) (parent-put_all ws new ∙ (λ i. parent_after (λ e. same.values (Parent e) i) ws) ∙ sym (parent-put_all ws old))
     values (Links n) = ap (λ f. f n) (links-put_all ws new ∙ (λ i. links_after (λ e. same.values (Links e) i) ws) ∙ sym (links-put_all ws old))
-    values (Bytes n) = ap (λ f. f n) (bytes-put_all ws new ∙ (λ i. bytes_after (λ e. same.values (Bytes e) i) ws) ∙ sym (bytes-put_all ws old))
+    values (Bytes n) = ap (λ f. f n) (contents-put_all ws new ∙ (λ i. contents_after (λ e. same.values (Bytes e) i) ws) ∙ sym (contents-put_all ws old))
     values (Fd f) = ap (λ g. g f) (open-put_all ws new ∙ (λ i. open_after (λ e. same.values (Fd e) i) ws) ∙ sym (open-put_all ws old))
+    values (DirAttributes d) = ap (λ f. f d) (dir_attributes-put_all ws new ∙ (λ i. dir_attributes_after (λ e. same.values (DirAttributes e) i) ws) ∙ sym (dir_attributes-put_all ws old))
+    values (FileAttributes n) = ap (λ f. f n) (file_attributes-put_all ws new ∙ (λ i. file_attributes_after (λ e. same.values (FileAttributes e) i) ws) ∙ sym (file_attributes-put_all ws old))
 
 -- sound values are those of a tree
 pub tree-values : (cells : Cells) → HasSoundValues cells → IsTree (entry_of cells) (parent_of cells)

@@ -1,11 +1,11 @@
--- What a call changes: nothing, a directory that it makes or removes, a file that it makes, or
--- files and descriptions that are there.
-use Rattle.std.proofs.Common.{◌≡◌, ◌≢◌, ◌⊎◌, inl, inr, ℕ, ℤ, Bool, true, false, cond, List, [], ◌∷◌, Option, Some, None, IsSome, Result, Ok, Err, eq-eqb, refl, sym, subst, ◌∙◌}
+-- What a call changes: nothing, a directory that it makes or removes, a file that it makes, or what
+-- directories, files and descriptions hold that are there.
+use Rattle.std.proofs.Common.{◌≡◌, ◌≢◌, ◌⊎◌, inl, inr, ℕ, ℤ, Bool, true, false, cond, List, [], ◌∷◌, Option, Some, None, IsSome, unwrap_or, Result, Ok, Err, eq-eqb, refl, sym, subst, ◌∙◌}
 use Rattle.std.specs.Prelude.{◌-◌, ◌==◌, ◌&&◌, not, nat_lt, nat_le}
 use Rattle.std.specs.List.{AllByRecursion}
 use Rattle.std.proofs.lemmas.Bool.{false≢true}
 use Rattle.ft_path.specs.declared.errno.Errno.{Errno}
-use Rattle.ft_path.specs.declared.errno.Errno.TheVariants.{EINVAL, EEXIST, EISDIR, ENOENT, ENOTDIR, EBADF, EFBIG, EMLINK, EOVERFLOW}
+use Rattle.ft_path.specs.declared.errno.Errno.TheVariants.{EINVAL, EEXIST, EISDIR, ENOENT, ENOTDIR, EBADF, EFBIG, ELOOP, EMLINK, EOVERFLOW}
 use Rattle.ft_path.specs.declared.path.Parts.{Parts}
 use Rattle.ft_path.specs.FilePath.{last_of, parts_of}
 use Rattle.ft_cells.specs.declared.limits.TreeLimits.{TreeLimits}
@@ -15,27 +15,29 @@ use Rattle.ft_cells.specs.declared.node.Form.{Form}
 use Rattle.ft_cells.specs.declared.node.Form.TheVariants.{Regular, Link as LinkForm}
 use Rattle.ft_cells.specs.declared.node.Node.TheVariants.{Dir as DirNode, File as FileNode}
 use Rattle.ft_cells.specs.declared.open_file.OpenFile.{OpenFile}
-use Rattle.ft_cells.specs.Cells.{Cells, entry_of, names_of, parent_of, links_of, open_of, stored_dirs}
-use Rattle.ft_cells.specs.Modes.{can_write}
+use Rattle.ft_cells.specs.declared.attributes.Attributes.{Attributes}
+use Rattle.ft_cells.specs.declared.attributes.Timestamp.{Timestamp}
+use Rattle.ft_cells.specs.Cells.{Cells, Contents, no_contents, entry_of, names_of, parent_of, links_of, open_of, stored_dirs}
 use Rattle.ft_tree.specs.Views.{view_of}
 use Rattle.ft_cells.specs.Looks.{Looks, Answer, answer, answer-then, or_else}
 use Rattle.ft_cells.specs.declared.node.Spot.{Spot}
 use Rattle.ft_cells.specs.declared.node.Spot.TheVariants.{Named as AtName, Itself}
 use Rattle.ft_tree.specs.Walk.{walk}
-use Rattle.ft_tree.specs.Sound.{Hangs, AreSoundCells}
+use Rattle.ft_tree.specs.Sound.{Hangs, under, AreSoundCells}
 use Rattle.ft_posix.specs.declared.TheConstants.{LAST_OFFSET}
 use Rattle.ft_posix.specs.declared.call.Call.{Call}
-use Rattle.ft_posix.specs.declared.call.Call.TheVariants.{Mkdir, Rmdir, List as ListDir, Open, Close, Read, Write as WriteCall, Pread, Pwrite, Lseek, Truncate, Ftruncate, Stat, Fstat, Link, Unlink, Rename, Symlink, Readlink, Lstat}
+use Rattle.ft_posix.specs.declared.call.Call.TheVariants.{Mkdir, Rmdir, List as ListDir, Open, Close, Read, Write as WriteCall, Pread, Pwrite, Lseek, Truncate, Ftruncate, Stat, Fstat, Link, Unlink, Rename, Symlink, Readlink, Lstat, Chmod, Fchmod, Chown, Lchown, Fchown, Utime, Lutime, Futime}
 use Rattle.ft_posix.specs.declared.call.OpenFlags.{OpenFlags}
 use Rattle.ft_posix.specs.declared.call.Whence.{Whence}
 use Rattle.ft_posix.specs.declared.call.Reply.{Reply}
 use Rattle.ft_posix.specs.declared.call.Reply.TheVariants.{Done, Number}
 use Rattle.ft_cells.specs.declared.cell.Cell.TheVariants as cell
-use Rattle.ft_posix.specs.Outcomes.{Write, sets, Outcome, told, failed, from_parts, unless}
-use Rattle.ft_posix.specs.Dirs.{make_dir, remove_dir, if_empty, last_fault, remove_parts, list_dir}
+use Rattle.ft_posix.specs.Outcomes.{Write, sets, Outcome, told, failed, from_parts, from_judged, unless}
+use Rattle.ft_posix.specs.Attributes.{mode_fault, time_fault, with_mode, with_owner, change_dir, change_file, change_spot, chmod_spot, chown_spot, chown_link, lchown_spot, fchmod_open, fchown_open, set_time, time_spot, utime_spot, lutime_spot, futime_open}
+use Rattle.ft_posix.specs.Dirs.{makes_dir, make_dir, remove_dir, if_empty, last_fault, remove_parts, list_dir}
 use Rattle.ft_posix.specs.Links.{linked, link_new, link_old, link_parts, unlinked, unlink_spot, climb, unless_below, rename_fault, renamed, with_parent, replace_file, if_bare, replace_dir, rename_file, rename_dir, rename_old, rename_parts}
-use Rattle.ft_posix.specs.Symlinks.{target_fault, makes_link, make_link, symlink_parts, read_link}
-use Rattle.ft_posix.specs.Files.{description, creates, opens, open_node, is_exclusive, open_spot, open_parts, to_size, cut_file, truncate_spot, truncate_parts, stat_spot}
+use Rattle.ft_posix.specs.Symlinks.{target_fault, makes_link, make_link, read_link}
+use Rattle.ft_posix.specs.Files.{description, creates, opens, open_node, is_exclusive, open_spot, open_fault, open_parts, to_size, cut_file, truncate_spot, truncate_parts, stat_spot}
 use Rattle.ft_posix.specs.Descriptors.{on_open, with_open, any_open, is_readable, is_writable, at_offset, close_open, read_open, not_negative, pread_at, pread_open, write_place, write_at, write_open, pwrite_at, pwrite_open, seek_from, moved, sought, seek_open, ftruncate_open, fstat_open}
 use Rattle.ft_posix.specs.Perform.{OnlyTells, IsList, is_read}
 use Rattle.ft_posix.specs.Stored.{outcome}
@@ -46,17 +48,20 @@ use Rattle.ft_posix.proofs.Named.{Named, by_entry, by_open}
 use Rattle.ft_posix.proofs.Walked.{IsSpot, EndsWell, walk-ends}
 
 -- a directory k was made
-abbrev pub made : ℕ → ℕ → List ℕ → Outcome
-made k d name = record { reply = Done; writes = sets (cell.Parent k) (Some d) ∷ sets (cell.Entry (entry_at d name)) (Some (DirNode k)) ∷ [] }
+abbrev pub made : ℕ → Option ℕ → ℕ → List ℕ → Outcome
+made k mode d name = makes_dir k mode (entry_at d name)
 
 -- a directory i was removed
 abbrev pub removed : ℕ → List ℕ → ℕ → Outcome
-removed d name i = record { reply = Done; writes = sets (cell.Parent i) None ∷ sets (cell.Entry (entry_at d name)) None ∷ [] }
+removed d name i = record { reply = Done; writes = sets (cell.DirAttributes i) None ∷ sets (cell.Parent i) None ∷ sets (cell.Entry (entry_at d name)) None ∷ [] }
 
 module _ (cells : Cells) where
-  -- the bytes of a file that is named, or a description: an open one, or a new one of number k
+  -- the contents or the attributes of a file that is named, the attributes of a directory of the
+  -- tree, or a description: an open one, or a new one of number k
   pub data FileWrite (k : ℕ) : Write → Type 0 where
-    sets_bytes : (i : ℕ) (bytes : List ℕ) → Named cells i → FileWrite k (sets (cell.Bytes i) bytes)
+    sets_contents : (i : ℕ) (contents : Contents) → Named cells i → FileWrite k (sets (cell.Bytes i) contents)
+    sets_file_attributes : (i : ℕ) (to : Option Attributes) → Named cells i → FileWrite k (sets (cell.FileAttributes i) to)
+    sets_dir_attributes : (d : ℕ) (to : Option Attributes) → Hangs (parent_of cells) d → FileWrite k (sets (cell.DirAttributes d) to)
     closes : (f : ℕ) (o : OpenFile) → open_of cells f ≡ Some o → FileWrite k (sets (cell.Fd f) None)
     sets_open : (f : ℕ) (o : OpenFile) → Named cells o.file → (f ≡ k) ⊎ IsSome (open_of cells f) → FileWrite k (sets (cell.Fd f) (Some o))
 
@@ -68,7 +73,7 @@ module _ (cells : Cells) where
   -- only where it reads
   pub data Change (k : ℕ) (reads : Bool) : Outcome → Type 0 where
     no_change : (reply : Reply) → Change k reads (told reply)
-    makes : (d : ℕ) (name : List ℕ) → Hangs (parent_of cells) d → entry_of cells d name ≡ None → Change k reads (made k d name)
+    makes : (mode : Option ℕ) (d : ℕ) (name : List ℕ) → Hangs (parent_of cells) d → entry_of cells d name ≡ None → Change k reads (made k mode d name)
     removes : (d : ℕ) (name : List ℕ) (i : ℕ) → entry_of cells d name ≡ Some (DirNode i) → names_of cells i ≡ [] → Change k reads (removed d name i)
     creates_file : (flags : OpenFlags) (d : ℕ) (name : List ℕ) → Hangs (parent_of cells) d → entry_of cells d name ≡ None → Change k reads (creates k flags (entry_at d name))
     -- a symbolic link is made
@@ -84,7 +89,7 @@ module _ (cells : Cells) where
     moves_dir : (d : ℕ) (name : List ℕ) (i e : ℕ) (other : List ℕ) → entry_of cells d name ≡ Some (DirNode i) → Hangs (parent_of cells) e → Avoids (parent_of cells) i e → entry_of cells e other ≡ None
         → Change k reads (renamed (entry_at d name) (DirNode i) (entry_at e other) (with_parent i d e))
     replaces_dir : (d : ℕ) (name : List ℕ) (i e : ℕ) (other : List ℕ) (j : ℕ) → entry_of cells d name ≡ Some (DirNode i) → entry_of cells e other ≡ Some (DirNode j) → i ≢ j → Avoids (parent_of cells) i e
-        → names_of cells j ≡ [] → Change k reads (renamed (entry_at d name) (DirNode i) (entry_at e other) (sets (cell.Parent j) None ∷ with_parent i d e))
+        → names_of cells j ≡ [] → Change k reads (renamed (entry_at d name) (DirNode i) (entry_at e other) (sets (cell.DirAttributes j) None ∷ sets (cell.Parent j) None ∷ with_parent i d e))
     on_files : (reply : Reply) (ws : List Write) → AreFileWrites k ws → AreApart ws → (OnlyTells reply → ⊥) → (IsList reply → reads ≡ true) → Change k reads (record { reply = reply; writes = ws })
 
   module _ (k : ℕ) (reads : Bool) where
@@ -107,10 +112,10 @@ module _ (cells : Cells) where
     unless-changes (Some e) go h = no_change _
 
     -- mkdir makes a directory, or changes nothing
-    make_dir-changes : (spot : Spot) → IsSpot cells spot → ComesTo (make_dir k spot)
-    make_dir-changes (AtName entry None slash) h = makes entry.dir entry.name h.0 (sym h.1)
-    make_dir-changes (AtName entry (Some x) slash) h = no_change _
-    make_dir-changes (Itself d) h = no_change _
+    make_dir-changes : (mode : Option ℕ) (spot : Spot) → IsSpot cells spot → ComesTo (make_dir k mode spot)
+    make_dir-changes mode (AtName entry None slash) h = makes mode entry.dir entry.name h.0 (sym h.1)
+    make_dir-changes mode (AtName entry (Some x) slash) h = no_change _
+    make_dir-changes mode (Itself d) h = no_change _
 
     -- rmdir removes an empty directory, or changes nothing
     remove_dir-changes : (spot : Spot) → IsSpot cells spot → ComesTo (remove_dir spot)
@@ -133,7 +138,8 @@ module _ (cells : Cells) where
     -- nor does stat
     stat_spot-changes : (spot : Spot) → IsSpot cells spot → ComesTo (stat_spot spot)
     stat_spot-changes (AtName entry None slash) h = no_change _
-    stat_spot-changes (AtName entry (Some (FileNode form i)) slash) h = no_change _
+    stat_spot-changes (AtName entry (Some (FileNode Regular i)) slash) h = no_change _
+    stat_spot-changes (AtName entry (Some (FileNode LinkForm i)) slash) h = no_change _
     stat_spot-changes (AtName entry (Some (DirNode i)) slash) h = no_change _
     stat_spot-changes (Itself d) h = no_change _
 
@@ -141,11 +147,11 @@ module _ (cells : Cells) where
     opens-changes : (flags : OpenFlags) (i : ℕ) → Named cells i → Change k reads (opens k flags i)
     opens-changes flags i named = on_files (Number k) _ (sets_open k (description flags i) named (inl refl), cut flags.trunc) (apart flags.trunc) (λ x. x) (λ x. absurd x)
       where
-        cut : (trunc : Bool) → AreFileWrites k (cond trunc (sets (cell.Bytes i) [] ∷ []) [])
-        cut true = (sets_bytes i [] named, tt)
+        cut : (trunc : Bool) → AreFileWrites k (cond trunc (sets (cell.Bytes i) no_contents ∷ []) [])
+        cut true = (sets_contents i no_contents named, tt)
         cut false = tt
 
-        apart : (trunc : Bool) → AreApart (sets (cell.Fd k) (Some (description flags i)) ∷ cond trunc (sets (cell.Bytes i) [] ∷ []) [])
+        apart : (trunc : Bool) → AreApart (sets (cell.Fd k) (Some (description flags i)) ∷ cond trunc (sets (cell.Bytes i) no_contents ∷ []) [])
         apart true = ((refl, tt), (tt, tt))
         apart false = (tt, tt)
 
@@ -184,7 +190,7 @@ module _ (cells : Cells) where
     write_at-changes : (limits : TreeLimits) (fd : ℕ) (o : OpenFile) → open_of cells fd ≡ Some o → (bytes : List ℕ) (at : ℕ) → ComesTo (write_at limits fd o bytes at)
     write_at-changes limits fd o is bytes at =
         either-changes (nat_le limits.file_size at) (Answer (failed EFBIG)) _ (no_change _)
-        (on_files _ _ (sets_bytes o.file _ (by_open fd o is), (moves fd o is _, tt)) ((refl, tt), (tt, tt)) (λ x. x) (λ x. absurd x))
+        (on_files _ _ (sets_contents o.file _ (by_open fd o is), (moves fd o is _, tt)) ((refl, tt), (tt, tt)) (λ x. x) (λ x. absurd x))
 
     write_open-changes : (limits : TreeLimits) (fd : ℕ) (bytes : List ℕ) (o : OpenFile) → open_of cells fd ≡ Some o → ComesTo (write_open limits fd bytes o)
     write_open-changes limits fd [] o is = no_change _
@@ -195,7 +201,7 @@ module _ (cells : Cells) where
     pwrite_at-changes : (limits : TreeLimits) (fd : ℕ) (o : OpenFile) → open_of cells fd ≡ Some o → (bytes : List ℕ) (at : ℕ) → ComesTo (pwrite_at limits o bytes at)
     pwrite_at-changes limits fd o is [] at = no_change _
     pwrite_at-changes limits fd o is (first ∷ more) at =
-        either-changes (nat_le limits.file_size at) (Answer (failed EFBIG)) _ (no_change _) (on_files _ _ (sets_bytes o.file _ (by_open fd o is), tt) (tt, tt) (λ x. x) (λ x. absurd x))
+        either-changes (nat_le limits.file_size at) (Answer (failed EFBIG)) _ (no_change _) (on_files _ _ (sets_contents o.file _ (by_open fd o is), tt) (tt, tt) (λ x. x) (λ x. absurd x))
 
     -- lseek moves the offset
     sought-changes : (fd : ℕ) (o : OpenFile) → open_of cells fd ≡ Some o → (place : Option ℕ) → Change k reads (sought fd o place)
@@ -212,7 +218,7 @@ module _ (cells : Cells) where
 
     -- truncate and ftruncate set the bytes
     cut_file-changes : (i size : ℕ) → Named cells i → ComesTo (cut_file i size)
-    cut_file-changes i size named = on_files Done _ (sets_bytes i _ named, tt) (tt, tt) (λ x. x) (λ x. absurd x)
+    cut_file-changes i size named = on_files Done _ (sets_contents i _ named, tt) (tt, tt) (λ x. x) (λ x. absurd x)
 
     truncate_spot-changes : (size : ℕ) (spot : Spot) → IsSpot cells spot → ComesTo (truncate_spot size spot)
     truncate_spot-changes size (AtName entry None slash) h = no_change _
@@ -220,6 +226,29 @@ module _ (cells : Cells) where
     truncate_spot-changes size (AtName entry (Some (FileNode LinkForm i)) slash) h = no_change _
     truncate_spot-changes size (AtName entry (Some (FileNode Regular i)) slash) h = cut_file-changes i size (by_entry entry.dir entry.name i (sym h.1))
     truncate_spot-changes size (Itself d) h = no_change _
+
+    -- fchmod and fchown set attributes, and so do chmod and chown
+    change_file-changes : (change : Attributes → Attributes) (i : ℕ) → Named cells i → ComesTo (change_file change i)
+    change_file-changes change i named = on_files Done _ (sets_file_attributes i _ named, tt) (tt, tt) (λ x. x) (λ x. absurd x)
+
+    change_dir-changes : (change : Attributes → Attributes) (d : ℕ) → Hangs (parent_of cells) d → ComesTo (change_dir change d)
+    change_dir-changes change d hangs = on_files Done _ (sets_dir_attributes d _ hangs, tt) (tt, tt) (λ x. x) (λ x. absurd x)
+
+    -- lchown changes nothing of a link
+    chown_link-changes : (owner group : Option ℕ) → Change k reads (chown_link owner group)
+    chown_link-changes owner group =
+        elim ((unwrap_or owner 0 == 0) && (unwrap_or group 0 == 0)) as (λ b. Change k reads (cond b (told Done) (failed EINVAL))) [ true ↦ no_change _ | false ↦ no_change _ ]
+
+    -- utime sets the contents, with the same bytes
+    set_time-changes : (time : Timestamp) (i : ℕ) → Named cells i → ComesTo (set_time time i)
+    set_time-changes time i named = on_files Done _ (sets_contents i _ named, tt) (tt, tt) (λ x. x) (λ x. absurd x)
+
+    time_spot-changes : (fault : Errno) (time : Timestamp) (spot : Spot) → IsSpot cells spot → ComesTo (time_spot fault time spot)
+    time_spot-changes fault time (AtName entry None slash) h = no_change _
+    time_spot-changes fault time (AtName entry (Some (DirNode i)) slash) h = no_change _
+    time_spot-changes fault time (AtName entry (Some (FileNode LinkForm i)) slash) h = no_change _
+    time_spot-changes fault time (AtName entry (Some (FileNode Regular i)) slash) h = set_time-changes time i (by_entry entry.dir entry.name i (sym h.1))
+    time_spot-changes fault time (Itself d) h = no_change _
 
     -- symlink makes a link
     make_link-changes : (target : List ℕ) (spot : Spot) → IsSpot cells spot → ComesTo (make_link k target spot)
@@ -287,10 +316,18 @@ module _ (cells : Cells) where
           subst (Change k reads) (sym (answer-then (walk follow parts.names parts.trailing) (or_else failed go) (view_of cells)))
           (spot-changes go each _ (walk-ends cells sound.tree follow parts.names parts.trailing))
 
-      -- with the faults of the target
-      symlink_parts-changes : (target : List ℕ) (parts : Result Parts Errno) → ComesTo (symlink_parts k target parts)
-      symlink_parts-changes target (Err e) = no_change _
-      symlink_parts-changes target (Ok parts) = unless-changes (target_fault target) (from_parts false (Ok parts) (make_link k target)) (from_parts-changes false (make_link k target) (make_link-changes target) (Ok parts))
+      -- with the faults of its arguments
+      from_judged-changes : (fault : Option Errno) (follow : Bool) (go : Spot → Looks Outcome) → ((spot : Spot) → IsSpot cells spot → ComesTo (go spot)) → (parts : Result Parts Errno) → ComesTo (from_judged fault follow parts go)
+      from_judged-changes fault follow go each (Err e) = no_change _
+      from_judged-changes fault follow go each (Ok parts) = unless-changes fault (from_parts follow (Ok parts) go) (from_parts-changes follow go each (Ok parts))
+
+      -- chmod and chown set attributes, those of what is found
+      change_spot-changes : (change : Attributes → Attributes) (at_link : Outcome) → Change k reads at_link → (spot : Spot) → IsSpot cells spot → ComesTo (change_spot change at_link spot)
+      change_spot-changes change at_link linked (AtName entry None slash) h = no_change _
+      change_spot-changes change at_link linked (AtName entry (Some (DirNode i)) slash) h = change_dir-changes change i (under i entry.dir (sound.tree.leads entry.dir entry.name i (sym h.1)) h.0)
+      change_spot-changes change at_link linked (AtName entry (Some (FileNode Regular i)) slash) h = change_file-changes change i (by_entry entry.dir entry.name i (sym h.1))
+      change_spot-changes change at_link linked (AtName entry (Some (FileNode LinkForm i)) slash) h = linked
+      change_spot-changes change at_link linked (Itself d) h = change_dir-changes change d h
 
       -- with the faults of the last component
       remove_parts-changes : (parts : Result Parts Errno) → ComesTo (remove_parts parts)
@@ -299,10 +336,7 @@ module _ (cells : Cells) where
 
       -- with the fault of the flags
       open_parts-changes : (flags : OpenFlags) (parts : Result Parts Errno) → ComesTo (open_parts k flags parts)
-      open_parts-changes flags (Err e) = no_change _
-      open_parts-changes flags (Ok parts) =
-          either-changes (flags.trunc && not (can_write flags.access)) (Answer (failed EINVAL)) _ (no_change _)
-          (from_parts-changes (not (is_exclusive flags)) (λ spot. Answer (open_spot k flags spot)) (open_spot-changes flags) (Ok parts))
+      open_parts-changes flags parts = from_judged-changes (open_fault flags) (not (is_exclusive flags)) (λ spot. Answer (open_spot k flags spot)) (open_spot-changes flags) parts
 
       -- with the faults of the length
       truncate_parts-changes : (limits : TreeLimits) (len : ℤ) (parts : Result Parts Errno) → ComesTo (truncate_parts limits len parts)
@@ -366,10 +400,11 @@ read_open-changes cells k fd len o is = on_files _ _ (moves cells k true fd o is
 
 -- what each call changes on sound cells
 pub call-changes : (cells : Cells) → AreSoundCells cells → (k : ℕ) (call : Call) → Change cells k (is_read call) (outcome cells k call)
-call-changes cells sound k (Mkdir path) = from_parts-changes cells k false sound false (make_dir k) (make_dir-changes cells k false) (parts_of path)
+call-changes cells sound k (Mkdir path mode) = from_judged-changes cells k false sound (mode_fault mode) false (make_dir k mode) (make_dir-changes cells k false mode) (parts_of path)
 call-changes cells sound k (Rmdir path) = remove_parts-changes cells k false sound (parts_of path)
 call-changes cells sound k (ListDir path) = from_parts-changes cells k false sound true list_dir (list_dir-changes cells k false) (parts_of path)
-call-changes cells sound k (Open path access create excl trunc append) = open_parts-changes cells k false sound (record { access = access; create = create; excl = excl; trunc = trunc; append = append }) (parts_of path)
+call-changes cells sound k (Open path access create excl trunc append mode) =
+    open_parts-changes cells k false sound (record { access = access; create = create; excl = excl; trunc = trunc; append = append; mode = mode }) (parts_of path)
 call-changes cells sound k (Close fd) =
     with_open-changes cells k false fd any_open (close_open fd) (λ o is. on_files Done _ (closes fd o is, tt) (tt, tt) (λ x. x) (λ x. absurd x))
 call-changes cells sound k (Read fd len) = with_open-changes cells k true fd is_readable (read_open fd len) (read_open-changes cells k fd len)
@@ -387,14 +422,30 @@ call-changes cells sound k (Fstat fd) = with_open-changes cells k false fd any_o
 call-changes cells sound k (Link old new) = link_parts-changes cells k false sound cells.limits (parts_of old) (parts_of new)
 call-changes cells sound k (Unlink path) = from_parts-changes cells k false sound false unlink_spot (unlink_spot-changes cells k false) (parts_of path)
 call-changes cells sound k (Rename old new) = rename_parts-changes cells k false sound (stored_dirs cells) (stored-enough cells sound.tree) (parts_of old) (parts_of new)
-call-changes cells sound k (Symlink target path) = symlink_parts-changes cells k false sound target (parts_of path)
+call-changes cells sound k (Symlink target path) = from_judged-changes cells k false sound (target_fault target) false (make_link k target) (make_link-changes cells k false target) (parts_of path)
 call-changes cells sound k (Readlink path) = from_parts-changes cells k false sound false read_link (read_link-changes cells k false) (parts_of path)
 call-changes cells sound k (Lstat path) = from_parts-changes cells k false sound false stat_spot (stat_spot-changes cells k false) (parts_of path)
+call-changes cells sound k (Chmod mode path) =
+    from_judged-changes cells k false sound (mode_fault (Some mode)) true (chmod_spot mode) (change_spot-changes cells k false sound (with_mode mode) (failed ELOOP) (no_change _)) (parts_of path)
+call-changes cells sound k (Fchmod fd mode) =
+    with_open-changes cells k false fd any_open (fchmod_open mode)
+    (λ o is. unless-changes cells k false (mode_fault (Some mode)) (change_file (with_mode mode) o.file) (change_file-changes cells k false (with_mode mode) o.file (by_open fd o is)))
+call-changes cells sound k (Chown owner group path) =
+    from_parts-changes cells k false sound true (chown_spot owner group) (change_spot-changes cells k false sound (with_owner owner group) (failed ELOOP) (no_change _)) (parts_of path)
+call-changes cells sound k (Lchown owner group path) =
+    from_parts-changes cells k false sound false (lchown_spot owner group)
+    (change_spot-changes cells k false sound (with_owner owner group) (chown_link owner group) (chown_link-changes cells k false owner group)) (parts_of path)
+call-changes cells sound k (Fchown fd owner group) =
+    with_open-changes cells k false fd any_open (fchown_open owner group) (λ o is. change_file-changes cells k false (with_owner owner group) o.file (by_open fd o is))
+call-changes cells sound k (Utime time path) = from_judged-changes cells k false sound (time_fault time) true (utime_spot time) (time_spot-changes cells k false ELOOP time) (parts_of path)
+call-changes cells sound k (Lutime time path) = from_judged-changes cells k false sound (time_fault time) false (lutime_spot time) (time_spot-changes cells k false EINVAL time) (parts_of path)
+call-changes cells sound k (Futime fd time) =
+    with_open-changes cells k false fd any_open (futime_open time) (λ o is. unless-changes cells k false (time_fault time) (set_time time o.file) (set_time-changes cells k false time o.file (by_open fd o is)))
 
 -- what only tells is told without a change
 pub only_tells-none : (cells : Cells) (k : ℕ) (reads : Bool) (o : Outcome) → Change cells k reads o → OnlyTells o.reply → o.writes ≡ []
 only_tells-none cells k reads _ (no_change reply) tells = refl
-only_tells-none cells k reads _ (makes d name hangs empty) tells = absurd tells
+only_tells-none cells k reads _ (makes mode d name hangs empty) tells = absurd tells
 only_tells-none cells k reads _ (removes d name i is bare) tells = absurd tells
 only_tells-none cells k reads _ (creates_file flags d name hangs empty) tells = absurd tells
 only_tells-none cells k reads _ (creates_link target d name hangs empty) tells = absurd tells
@@ -409,7 +460,7 @@ only_tells-none cells k reads _ (on_files reply ws each apart acts lists) tells 
 -- and so is a list, but that of a read
 pub lists-none : (cells : Cells) (k : ℕ) (o : Outcome) → Change cells k false o → IsList o.reply → o.writes ≡ []
 lists-none cells k _ (no_change reply) list = refl
-lists-none cells k _ (makes d name hangs empty) list = absurd list
+lists-none cells k _ (makes mode d name hangs empty) list = absurd list
 lists-none cells k _ (removes d name i is bare) list = absurd list
 lists-none cells k _ (creates_file flags d name hangs empty) list = absurd list
 lists-none cells k _ (creates_link target d name hangs empty) list = absurd list

@@ -5,7 +5,7 @@ use Rattle.ft_cells.specs.CellOrder.{same_cell}
 use Rattle.ft_cells.specs.Cells.{Cells}
 use Rattle.ft_tree.specs.Held.{held}
 use Rattle.ft_posix.specs.declared.intent.Edit.{Edit}
-use Rattle.ft_posix.specs.declared.intent.Edit.TheVariants.{Entry, Parent, Links, Overwrite, Resize, Open}
+use Rattle.ft_posix.specs.declared.intent.Edit.TheVariants.{Entry, Parent, Links, Overwrite, Resize, Open, DirAttributes, FileAttributes, Time}
 use Rattle.ft_posix.specs.Accesses.{written_cell}
 use Rattle.ft_posix.specs.Stored.{put}
 use Rattle.ft_posix.specs.Comes.{write_of}
@@ -20,6 +20,9 @@ write-cell s (Links i to) = refl
 write-cell s (Overwrite i at bytes) = refl
 write-cell s (Resize i size) = refl
 write-cell s (Open f to) = refl
+write-cell s (DirAttributes d to) = refl
+write-cell s (FileAttributes i to) = refl
+write-cell s (Time i to) = refl
 
 -- an edit keeps the other cells
 edit-kept : (s : Cells) (e : Edit) (c : Cell) → same_cell (edit_cell e) c ≡ false → held (put s (write_of s e)) c ≡ held s c

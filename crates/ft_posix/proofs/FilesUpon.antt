@@ -1,6 +1,6 @@
 -- What the calls on directories, files and descriptors come upon.
-use Rattle.std.proofs.Common.{◌≡◌, inl, inr, ℕ, ℤ, Bool, true, false, cond, length, List, [], ◌∷◌, Option, Some, None, Result, Ok, Err, refl, sym, subst, ◌∙◌}
-use Rattle.std.specs.Prelude.{◌&&◌, not, nat_le}
+use Rattle.std.proofs.Common.{◌≡◌, inl, inr, ℕ, ℤ, Bool, true, false, cond, length, List, [], ◌∷◌, Option, Some, None, unwrap_or, Result, Ok, Err, refl, sym, subst, ◌∙◌}
+use Rattle.std.specs.Prelude.{◌==◌, ◌&&◌, not, nat_le}
 use Rattle.std.proofs.lemmas.Bool.{false≢true}
 use Rattle.std.proofs.lemmas.Option.{none-some, same_Some}
 use Rattle.ft_laws.specs.Lists.{Each, In}
@@ -11,14 +11,15 @@ use Rattle.ft_path.specs.declared.path.Parts.{Parts}
 use Rattle.ft_cells.specs.declared.limits.TreeLimits.{TreeLimits}
 use Rattle.ft_cells.specs.Entries.{entry_at}
 use Rattle.ft_cells.specs.declared.cell.Cell.{Cell}
-use Rattle.ft_cells.specs.declared.cell.Cell.TheVariants.{Names, Bytes, Fd}
+use Rattle.ft_cells.specs.declared.cell.Cell.TheVariants.{Names, Bytes, Fd, DirAttributes}
 use Rattle.ft_cells.specs.declared.node.Node.{Node}
 use Rattle.ft_cells.specs.declared.node.Form.{Form}
 use Rattle.ft_cells.specs.declared.node.Form.TheVariants.{Regular, Link as LinkForm}
 use Rattle.ft_cells.specs.declared.node.Node.TheVariants.{Dir as DirNode, File as FileNode}
 use Rattle.ft_cells.specs.declared.open_file.OpenFile.{OpenFile}
-use Rattle.ft_cells.specs.Cells.{Cells, entry_of, names_of, open_of}
-use Rattle.ft_cells.specs.Modes.{can_write}
+use Rattle.ft_cells.specs.declared.attributes.Attributes.{Attributes}
+use Rattle.ft_cells.specs.declared.attributes.Timestamp.{Timestamp}
+use Rattle.ft_cells.specs.Cells.{Cells, untimed, no_contents, entry_of, names_of, open_of}
 use Rattle.ft_tree.specs.Views.{view_of}
 use Rattle.ft_cells.specs.Looks.{Looks, Answer, Look, answer, looked_at, then, or_else}
 use Rattle.ft_cells.specs.declared.node.Spot.{Spot}
@@ -29,15 +30,16 @@ use Rattle.ft_posix.specs.declared.call.OpenFlags.{OpenFlags}
 use Rattle.ft_posix.specs.declared.call.Whence.{Whence}
 use Rattle.ft_posix.specs.declared.call.Whence.TheVariants.{Set, Cur, End}
 use Rattle.ft_posix.specs.declared.call.Reply.TheVariants.{Done, Number}
-use Rattle.ft_posix.specs.Outcomes.{Write, sets, Outcome, failed, told, from_parts, unless}
-use Rattle.ft_posix.specs.Dirs.{make_dir, if_empty, remove_dir, last_fault, remove_parts, list_dir}
-use Rattle.ft_posix.specs.Symlinks.{target_fault, makes_link, make_link, symlink_parts, read_link}
-use Rattle.ft_posix.specs.Files.{description, creates, opens, open_node, is_exclusive, open_spot, open_parts, to_size, cut_file, truncate_spot, truncate_parts, file_info, stat_spot}
+use Rattle.ft_posix.specs.Outcomes.{Write, sets, Outcome, failed, told, from_parts, from_judged, unless}
+use Rattle.ft_posix.specs.Attributes.{mode_fault, time_fault, with_mode, dir_mode, file_mode, change_dir, change_file, change_spot, chown_link, fchmod_open, set_time, time_spot, futime_open}
+use Rattle.ft_posix.specs.Dirs.{makes_dir, make_dir, if_empty, remove_dir, last_fault, remove_parts, list_dir}
+use Rattle.ft_posix.specs.Symlinks.{makes_link, make_link, read_link}
+use Rattle.ft_posix.specs.Files.{description, creates, opens, open_node, is_exclusive, open_spot, open_fault, open_parts, to_size, cut_file, truncate_spot, truncate_parts, file_info, stat_spot}
 use Rattle.ft_posix.specs.Descriptors.{on_open, with_open, at_offset, close_open, read_open, not_negative, pread_at, pread_open, write_place, write_at, write_open, pwrite_at, pwrite_open, seek_from, moved, sought, seek_open, ftruncate_open, fstat_open}
 use Rattle.ft_posix.specs.Posix.{file_of}
 use Rattle.ft_posix.proofs.Upon.{Upon, sees_entry, sees_open}
 use Rattle.ft_posix.proofs.WalkedUpon.{AreSeen, MeetsNone, IsSeenOf, seen-parts, IsFound, EndsFound, walk-finds}
-use Rattle.ft_posix.proofs.WritesUpon.{IsUpon, upon_parent, upon_links, upon_bytes, AreUpon, of_same, fills, opens_new, keeps_open, shuts}
+use Rattle.ft_posix.proofs.WritesUpon.{IsUpon, upon_parent, upon_links, upon_contents, upon_dir_attributes, upon_file_attributes, AreUpon, of_same, fills, opens_new, keeps_open, shuts}
 use Rattle.ft_path.specs.FilePath.{last_of}
 
 module _ (cells : Cells) (k : ℕ) (seen : List Cell) where
@@ -108,17 +110,29 @@ module _ (cells : Cells) (k : ℕ) (seen : List Cell) where
       then-goes way (or_else failed go) (Each-map (IsSeenOf cells seen) IsMet (λ c f i is. inr (f i is)) (looked_at way (view_of cells)) found.0)
       (λ _. spot-goes go each (answer way (view_of cells)) found.1) all
 
+  -- with the faults of its arguments
+  pub from_judged-goes : (fault : Option Errno) (follow : Bool) (go : Spot → Looks Outcome) → ((spot : Spot) → IsFound cells seen spot → GoesUpon (go spot)) → (parts : Result Parts Errno) → GoesUpon (from_judged fault follow parts go)
+  from_judged-goes fault follow go each (Err e) = no_change
+  from_judged-goes fault follow go each (Ok parts) = unless-goes fault (from_parts follow (Ok parts) go) (from_parts-goes follow go each (Ok parts))
+
   -- a file that an entry names is come upon
   pub by_entry : (d : ℕ) (name : List ℕ) {form : Form} (i : ℕ) (slash : Bool) → IsFound cells seen (AtName (entry_at d name) (Some (FileNode form i)) slash) → Upon cells k seen i
   by_entry d name i slash h = inr (sees_entry d name i h.0 h.1)
 
   -- Directories, which are of no file.
 
+  -- and so is the mode of one that is made
+  dir_mode-upon : (all : List Write) (mode : Option ℕ) → Each (IsUpon cells k seen all) (dir_mode k mode)
+  dir_mode-upon all None = tt
+  dir_mode-upon all (Some mode) = (upon_dir_attributes k _, tt)
+
   -- to make a directory sets an entry that led to nothing
-  pub make_dir-goes : (spot : Spot) → IsFound cells seen spot → GoesUpon (make_dir k spot)
-  make_dir-goes (AtName entry None slash) h = λ all. (tt, (upon_parent k (Some entry.dir), (fills cells k seen _ entry.dir entry.name None (Some (DirNode k)) h.1 (λ i. refl) no_name, tt)))
-  make_dir-goes (AtName entry (Some x) slash) h = no_change
-  make_dir-goes (Itself d) h = no_change
+  pub make_dir-goes : (mode : Option ℕ) (spot : Spot) → IsFound cells seen spot → GoesUpon (make_dir k mode spot)
+  make_dir-goes mode (AtName entry None slash) h =
+      let ws = (makes_dir k mode entry).writes in
+      λ all. (tt, (upon_parent k (Some entry.dir), (fills cells k seen ws entry.dir entry.name None (Some (DirNode k)) h.1 (λ i. refl) no_name, dir_mode-upon ws mode)))
+  make_dir-goes mode (AtName entry (Some x) slash) h = no_change
+  make_dir-goes mode (Itself d) h = no_change
 
   -- to remove one empties an entry of a directory
   remove_dir-goes : (spot : Spot) → IsFound cells seen spot → GoesUpon (remove_dir spot)
@@ -128,7 +142,7 @@ module _ (cells : Cells) (k : ℕ) (seen : List Cell) where
   remove_dir-goes (AtName entry (Some (DirNode i)) slash) h = λ all. ((of_none (Names i) refl, tt), by_names (names_of cells i))
     where
       by_names : (names : List (List ℕ × Node)) → AreUpon cells k seen (if_empty entry i names).writes
-      by_names [] = (upon_parent i None, (fills cells k seen _ entry.dir entry.name (Some (DirNode i)) None h.1 (λ j. refl) no_name, tt))
+      by_names [] = (upon_dir_attributes i None, (upon_parent i None, (fills cells k seen _ entry.dir entry.name (Some (DirNode i)) None h.1 (λ j. refl) no_name, tt)))
       by_names (e ∷ es) = tt
 
   -- the names of a directory are of no file
@@ -145,20 +159,21 @@ module _ (cells : Cells) (k : ℕ) (seen : List Cell) where
 
   -- Files by their paths.
 
-  -- the links and the bytes of a file are looked at
+  -- the links, the bytes and the attributes of a file are looked at
   file_info-goes : (form : Form) (i : ℕ) → Upon cells k seen i → GoesUpon (file_info form i)
-  file_info-goes form i upon all = ((of_file i upon, (of_file i upon, tt)), tt)
+  file_info-goes Regular i upon all = ((of_file i upon, (of_file i upon, (of_file i upon, tt))), tt)
+  file_info-goes LinkForm i upon all = ((of_file i upon, (of_file i upon, tt)), tt)
 
   -- those of the file to which the path leads
   pub stat_spot-goes : (spot : Spot) → IsFound cells seen spot → GoesUpon (stat_spot spot)
   stat_spot-goes (AtName entry None slash) h = no_change
-  stat_spot-goes (AtName entry (Some (DirNode i)) slash) h = no_change
+  stat_spot-goes (AtName entry (Some (DirNode i)) slash) h = λ all. ((of_none (DirAttributes i) refl, tt), tt)
   stat_spot-goes (AtName entry (Some (FileNode form i)) slash) h = file_info-goes form i (by_entry entry.dir entry.name i slash h)
-  stat_spot-goes (Itself d) h = no_change
+  stat_spot-goes (Itself d) h = λ all. ((of_none (DirAttributes d) refl, tt), tt)
 
   -- the bytes of a file are set
   cut_file-goes : (i size : ℕ) → Upon cells k seen i → GoesUpon (cut_file i size)
-  cut_file-goes i size upon all = ((of_file i upon, tt), (upon_bytes i _ upon, tt))
+  cut_file-goes i size upon all = ((of_file i upon, tt), (upon_contents i _ upon, tt))
 
   -- those of the file to which the path leads
   truncate_spot-goes : (size : ℕ) (spot : Spot) → IsFound cells seen spot → GoesUpon (truncate_spot size spot)
@@ -174,6 +189,46 @@ module _ (cells : Cells) (k : ℕ) (seen : List Cell) where
   truncate_parts-goes limits len (Ok parts) =
       or_else-goes (λ size. from_parts true (Ok parts) (truncate_spot size)) (to_size limits len) (λ size. from_parts-goes true (truncate_spot size) (truncate_spot-goes size) (Ok parts))
 
+  -- Attributes and times.
+
+  -- the attributes of a directory are of no file
+  change_dir-goes : (change : Attributes → Attributes) (d : ℕ) → GoesUpon (change_dir change d)
+  change_dir-goes change d all = ((of_none (DirAttributes d) refl, tt), (upon_dir_attributes d _, tt))
+
+  -- those of a file are set
+  change_file-goes : (change : Attributes → Attributes) (i : ℕ) → Upon cells k seen i → GoesUpon (change_file change i)
+  change_file-goes change i upon all = ((of_file i upon, tt), (upon_file_attributes i _ upon, tt))
+
+  -- those of what the path leads to
+  pub change_spot-goes : (change : Attributes → Attributes) (at_link : Outcome) → GoesUpon (Answer at_link) → (spot : Spot) → IsFound cells seen spot → GoesUpon (change_spot change at_link spot)
+  change_spot-goes change at_link linked (AtName entry None slash) h = no_change
+  change_spot-goes change at_link linked (AtName entry (Some (DirNode i)) slash) h = change_dir-goes change i
+  change_spot-goes change at_link linked (AtName entry (Some (FileNode Regular i)) slash) h = change_file-goes change i (by_entry entry.dir entry.name i slash h)
+  change_spot-goes change at_link linked (AtName entry (Some (FileNode LinkForm i)) slash) h = linked
+  change_spot-goes change at_link linked (Itself d) h = change_dir-goes change d
+
+  -- of a link nothing is
+  pub chown_link-goes : (owner group : Option ℕ) → GoesUpon (Answer (chown_link owner group))
+  chown_link-goes owner group =
+      elim ((unwrap_or owner 0 == 0) && (unwrap_or group 0 == 0)) as (λ b. GoesUpon (Answer (cond b (told Done) (failed EINVAL)))) [ true ↦ λ all. (tt, tt) | false ↦ λ all. (tt, tt) ]
+
+  -- the time of a file is set
+  set_time-goes : (time : Timestamp) (i : ℕ) → Upon cells k seen i → GoesUpon (set_time time i)
+  set_time-goes time i upon all = ((of_file i upon, tt), (upon_contents i _ upon, tt))
+
+  -- that of the file to which the path leads
+  pub time_spot-goes : (fault : Errno) (time : Timestamp) (spot : Spot) → IsFound cells seen spot → GoesUpon (time_spot fault time spot)
+  time_spot-goes fault time (AtName entry None slash) h = no_change
+  time_spot-goes fault time (AtName entry (Some (DirNode i)) slash) h = no_change
+  time_spot-goes fault time (AtName entry (Some (FileNode LinkForm i)) slash) h = no_change
+  time_spot-goes fault time (AtName entry (Some (FileNode Regular i)) slash) h = set_time-goes time i (by_entry entry.dir entry.name i slash h)
+  time_spot-goes fault time (Itself d) h = no_change
+
+  -- the mode of a file that is made is the call's own
+  file_mode-upon : (all : List Write) (mode : Option ℕ) → Each (IsUpon cells k seen all) (file_mode k mode)
+  file_mode-upon all None = tt
+  file_mode-upon all (Some mode) = (upon_file_attributes k _ (inl refl), tt)
+
   -- the descriptor k was not open, and a file that is made has the number k
   module _ (none : open_of cells k ≡ None) where
     -- a file that is made is the call's own
@@ -182,14 +237,14 @@ module _ (cells : Cells) (k : ℕ) (seen : List Cell) where
         let all = (creates k flags (entry_at d name)).writes in
         let opened = opens_new cells k seen all k (description flags k) none (inl refl) in
         let entered = fills cells k seen all d name None (Some (FileNode Regular k)) empty (λ i. refl) (of_same (Upon cells k seen) k (inl refl)) in
-        (upon_links k 1 (inl refl), (upon_bytes k [] (inl refl), (opened, (entered, tt))))
+        (upon_links k 1 (inl refl), (upon_contents k no_contents (inl refl), (opened, (entered, file_mode-upon all flags.mode))))
 
     -- a file that is there is opened, and may be cut
     opens-upon : (flags : OpenFlags) (i : ℕ) → Upon cells k seen i → AreUpon cells k seen (opens k flags i).writes
     opens-upon flags i upon = (opens_new cells k seen _ k (description flags i) none upon, cut flags.trunc)
       where
-        cut : (trunc : Bool) → Each (IsUpon cells k seen (opens k flags i).writes) (cond trunc (sets (Bytes i) [] ∷ []) [])
-        cut true = (upon_bytes i [] upon, tt)
+        cut : (trunc : Bool) → Each (IsUpon cells k seen (opens k flags i).writes) (cond trunc (sets (Bytes i) no_contents ∷ []) [])
+        cut true = (upon_contents i no_contents upon, tt)
         cut false = tt
 
     -- that to which the path leads
@@ -214,27 +269,19 @@ module _ (cells : Cells) (k : ℕ) (seen : List Cell) where
 
     -- with the fault of the flags
     pub open_parts-goes : (flags : OpenFlags) (parts : Result Parts Errno) → GoesUpon (open_parts k flags parts)
-    open_parts-goes flags (Err e) = no_change
-    open_parts-goes flags (Ok parts) =
-        either-goes (flags.trunc && not (can_write flags.access)) (Answer (failed EINVAL)) _ no_change
-        (from_parts-goes (not (is_exclusive flags)) (λ spot. Answer (open_spot k flags spot)) (λ spot h all. (tt, open_spot-upon flags spot h)) (Ok parts))
+    open_parts-goes flags parts = from_judged-goes (open_fault flags) (not (is_exclusive flags)) (λ spot. Answer (open_spot k flags spot)) (λ spot h all. (tt, open_spot-upon flags spot h)) parts
 
   -- Symbolic links.
 
   -- one that is made is the call's own
-  make_link-goes : (target : List ℕ) (spot : Spot) → IsFound cells seen spot → GoesUpon (make_link k target spot)
+  pub make_link-goes : (target : List ℕ) (spot : Spot) → IsFound cells seen spot → GoesUpon (make_link k target spot)
   make_link-goes target (AtName entry None slash) h = λ all. (tt, by_slash slash)
     where
       by_slash : (b : Bool) → AreUpon cells k seen (cond b (failed ENOENT) (makes_link k target entry)).writes
       by_slash true = tt
-      by_slash false = (upon_links k 1 (inl refl), (upon_bytes k target (inl refl), (fills cells k seen _ entry.dir entry.name None (Some (FileNode LinkForm k)) h.1 (λ i. refl) (of_same (Upon cells k seen) k (inl refl)), tt)))
+      by_slash false = (upon_links k 1 (inl refl), (upon_contents k (untimed target) (inl refl), (fills cells k seen _ entry.dir entry.name None (Some (FileNode LinkForm k)) h.1 (λ i. refl) (of_same (Upon cells k seen) k (inl refl)), tt)))
   make_link-goes target (AtName entry (Some x) slash) h = no_change
   make_link-goes target (Itself d) h = no_change
-
-  -- with the faults of the target
-  pub symlink_parts-goes : (target : List ℕ) (parts : Result Parts Errno) → GoesUpon (symlink_parts k target parts)
-  symlink_parts-goes target (Err e) = no_change
-  symlink_parts-goes target (Ok parts) = unless-goes (target_fault target) (from_parts false (Ok parts) (make_link k target)) (from_parts-goes false (make_link k target) (make_link-goes target) (Ok parts))
 
   -- the target of the link to which the path leads is looked at
   pub read_link-goes : (spot : Spot) → IsFound cells seen spot → GoesUpon (read_link spot)
@@ -280,7 +327,7 @@ module _ (cells : Cells) (k : ℕ) (seen : List Cell) where
 
   -- the place of a write may be the end of the bytes
   write_place-meets : (fd : ℕ) (o : OpenFile) → IsOpen fd o → MeetsUpon (write_place o)
-  write_place-meets fd o h = elim o.append as (λ b. MeetsUpon (cond b (Look (Bytes o.file) (λ bytes. Answer (length bytes))) (Answer o.offset))) [ true ↦ (of_file o.file (by_open fd o h), tt) | false ↦ tt ]
+  write_place-meets fd o h = elim o.append as (λ b. MeetsUpon (cond b (Look (Bytes o.file) (λ contents. Answer (length contents.bytes))) (Answer o.offset))) [ true ↦ (of_file o.file (by_open fd o h), tt) | false ↦ tt ]
 
   -- write sets the bytes, and moves the offset
   pub write_open-goes : (limits : TreeLimits) (fd : ℕ) (bytes : List ℕ) (o : OpenFile) → IsOpen fd o → GoesUpon (write_open limits fd bytes o)
@@ -289,14 +336,14 @@ module _ (cells : Cells) (k : ℕ) (seen : List Cell) where
       let upon = by_open fd o h in
       then-goes (write_place o) (write_at limits fd o (first ∷ more)) (write_place-meets fd o h)
       (λ _. either-goes (nat_le limits.file_size (answer (write_place o) (view_of cells))) (Answer (failed EFBIG)) _ no_change
-      (λ all. ((of_file o.file upon, tt), (upon_bytes o.file _ upon, (moves _ fd o h _, tt)))))
+      (λ all. ((of_file o.file upon, tt), (upon_contents o.file _ upon, (moves _ fd o h _, tt)))))
 
   -- pwrite sets the bytes alone
   pwrite_at-goes : (limits : TreeLimits) (fd : ℕ) (o : OpenFile) → IsOpen fd o → (bytes : List ℕ) (at : ℕ) → GoesUpon (pwrite_at limits o bytes at)
   pwrite_at-goes limits fd o h [] at = no_change
   pwrite_at-goes limits fd o h (first ∷ more) at =
       let upon = by_open fd o h in
-      either-goes (nat_le limits.file_size at) (Answer (failed EFBIG)) _ no_change (λ all. ((of_file o.file upon, tt), (upon_bytes o.file _ upon, tt)))
+      either-goes (nat_le limits.file_size at) (Answer (failed EFBIG)) _ no_change (λ all. ((of_file o.file upon, tt), (upon_contents o.file _ upon, tt)))
 
   -- with the fault of the offset
   pub pwrite_open-goes : (limits : TreeLimits) (off : ℤ) (fd : ℕ) (bytes : List ℕ) (o : OpenFile) → IsOpen fd o → GoesUpon (pwrite_open limits off bytes o)
@@ -327,6 +374,18 @@ module _ (cells : Cells) (k : ℕ) (seen : List Cell) where
       let place = moved (answer (seek_from whence o) (view_of cells)) off in
       then-goes (seek_from whence o) (λ from. Answer (sought fd o (moved from off))) (seek_from-meets fd whence o h) (λ _ all. (tt, sought-upon fd o h place))
 
-  -- fstat looks at the links and the bytes
+  -- fchmod and fchown set the attributes
+  pub change_open-goes : (change : Attributes → Attributes) (fd : ℕ) (o : OpenFile) → IsOpen fd o → GoesUpon (change_file change o.file)
+  change_open-goes change fd o h = change_file-goes change o.file (by_open fd o h)
+
+  -- with the fault of the mode
+  pub fchmod_open-goes : (mode fd : ℕ) (o : OpenFile) → IsOpen fd o → GoesUpon (fchmod_open mode o)
+  fchmod_open-goes mode fd o h = unless-goes (mode_fault (Some mode)) (change_file (with_mode mode) o.file) (change_open-goes (with_mode mode) fd o h)
+
+  -- futime sets the time
+  pub futime_open-goes : (time : Timestamp) (fd : ℕ) (o : OpenFile) → IsOpen fd o → GoesUpon (futime_open time o)
+  futime_open-goes time fd o h = unless-goes (time_fault time) (set_time time o.file) (set_time-goes time o.file (by_open fd o h))
+
+  -- fstat looks at the links, the bytes and the attributes
   pub fstat_open-goes : (fd : ℕ) (o : OpenFile) → IsOpen fd o → GoesUpon (fstat_open o)
   fstat_open-goes fd o h = file_info-goes Regular o.file (by_open fd o h)

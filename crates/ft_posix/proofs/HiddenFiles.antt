@@ -1,11 +1,11 @@
 -- What is hidden, the plain tree has not.
-use Rattle.std.proofs.Common.{◌≡◌, ℕ, Bool, true, false, cond, ◌||◌, List, Some, None, is_some, eq-eqb, refl, sym, ap, ◌∙◌}
-use Rattle.std.specs.Prelude.{◌==◌, nat_lt}
-use Rattle.std.specs.FinMap.{get, empty, contains_key}
+use Rattle.std.proofs.Common.{◌≡◌, ℕ, Bool, true, false, cond, ◌||◌, List, Some, None, eq-eqb, refl, sym, ap, ◌∙◌}
+use Rattle.std.specs.Prelude.{nat_lt}
+use Rattle.std.specs.FinMap.{get, empty}
 use Rattle.std.proofs.lemmas.Bool.{false≢true}
 use Rattle.ft_cells.specs.Entries.{entry_at}
-use Rattle.ft_cells.specs.declared.cell.Cell.TheVariants.{Entry, Parent, Links, Bytes, Fd}
-use Rattle.ft_cells.specs.Cells.{Cells, links_of, bytes_of, has_file, is_open}
+use Rattle.ft_cells.specs.declared.cell.Cell.TheVariants.{Entry, Parent, Links, Bytes, Fd, DirAttributes, FileAttributes}
+use Rattle.ft_cells.specs.Cells.{Cells, links_of, has_file, is_open}
 use Rattle.ft_cells.specs.Limits.{default_limits}
 use Rattle.ft_cells.specs.Plain.{PlainTree, view_in}
 use Rattle.ft_tree.specs.Sound.{AreSoundCells}
@@ -13,7 +13,7 @@ use Rattle.ft_tree.specs.Tidy.{tidy}
 use Rattle.ft_laws.specs.Laws.{Hides}
 use Rattle.ft_posix.specs.Posix.{posix_calls, description_names}
 use Rattle.ft_laws.proofs.Tests.{by_test}
-use Rattle.ft_posix.proofs.Tidied.{get-tidy, contains-parent, get-bytes, get-opens, same_plain}
+use Rattle.ft_posix.proofs.Tidied.{get-tidy, kept_dir, get-dirs, file_at, get-files, get-opens, same_plain}
 use Rattle.ft_posix.proofs.Opens.{is_open-alike, named-open}
 use Rattle.ft_posix.specs.RunLaws.{HidingLaw}
 
@@ -22,8 +22,8 @@ module _ (hidden : ℕ → Bool) (r s : Cells) (rs : AreSoundCells r) (ss : AreS
   edges : (d : ℕ) (name : List ℕ) → get (tidy s).edges (entry_at d name) ≡ get (tidy r).edges (entry_at d name)
   edges d name = get-tidy s d name ∙ sym (h.others (Some (Entry (entry_at d name))) refl) ∙ sym (get-tidy r d name)
 
-  dirs : (d : ℕ) → contains_key (tidy s).dirs d ≡ contains_key (tidy r).dirs d
-  dirs d = contains-parent s ss.root_is d ∙ ap (λ o. (d == 1) || is_some o) (sym (h.others (Some (Parent d)) refl)) ∙ sym (contains-parent r rs.root_is d)
+  dirs : (d : ℕ) → get (tidy s).dirs d ≡ get (tidy r).dirs d
+  dirs d = get-dirs s ss.root_is d ∙ (λ x. kept_dir (λ e. sym (h.others (Some (Parent e)) refl) x) (λ e. sym (h.others (Some (DirAttributes e)) refl) x) d) ∙ sym (get-dirs r rs.root_is d)
 
   -- without the files and descriptions, of which the count of links does not depend
   abbrev frame : Cells → PlainTree
@@ -42,13 +42,14 @@ module _ (hidden : ℕ → Bool) (r s : Cells) (rs : AreSoundCells r) (ss : AreS
       (λ o. let x = named-open s i o in absurd (false≢true (sym (h.unnamed (Some (Fd x.0)) i k) ∙ ap (λ p. description_names p i) x.2 ∙ eq-eqb x.1.file i x.3)))
       (λ shut. shut)
 
-  -- and the bytes of those that are there are the same
+  -- and those that are there are the same
   files : (i : ℕ) → get (tidy s).files i ≡ get (tidy r).files i
-  files i = get-bytes s ss i ∙ by_test (hidden i)
+  files i = get-files s ss i ∙ by_test (hidden i)
       (λ k. let gone : has_file s i ≡ false = ap (λ n. nat_lt 0 n || is_open s.opens i) (h.gone (Some (Links i)) k) ∙ not_open i k in
-      ap (λ b. cond b (Some (bytes_of s i)) None) gone ∙ sym (ap (λ b. cond b (Some (bytes_of r i)) None) (sym (there i) ∙ gone)))
-      (λ k. ap (λ b. cond b (Some (bytes_of s i)) None) (there i) ∙ ap (λ bs. cond (has_file r i) (Some bs) None) (sym (h.others (Some (Bytes i)) k)))
-      ∙ sym (get-bytes r rs i)
+      ap (λ b. cond b (Some (file_at s i)) None) gone ∙ sym (ap (λ b. cond b (Some (file_at r i)) None) (sym (there i) ∙ gone)))
+      (λ k. ap (λ b. cond b (Some (file_at s i)) None) (there i)
+      ∙ (λ x. cond (has_file r i) (Some (record { attributes = sym (h.others (Some (FileAttributes i)) k) x; contents = sym (h.others (Some (Bytes i)) k) x })) None))
+      ∙ sym (get-files r rs i)
 
 pub hiding : HidingLaw
 hiding hidden r s rs ss h =

@@ -27,11 +27,11 @@ use Rattle.ft_cells.specs.declared.node.Node.{Node}
 use Rattle.ft_cells.specs.declared.node.Form.{Form}
 use Rattle.ft_cells.specs.declared.node.Node.TheVariants.{Dir as DirNode, File as FileNode}
 use Rattle.ft_cells.specs.declared.cell.Cell.{Cell}
-use Rattle.ft_cells.specs.declared.cell.Cell.TheVariants.{Entry, Names, Parent, Links, Bytes, Fd}
+use Rattle.ft_cells.specs.declared.cell.Cell.TheVariants.{Entry, Names, Parent, Links, Bytes, Fd, DirAttributes, FileAttributes}
 use Rattle.ft_cells.specs.declared.open_file.OpenFile.{OpenFile}
 use Rattle.ft_cells.specs.CellOrder.{cell_number, same_cell, overlap, same_cell-refl, same_cell-is}
 use Rattle.ft_cells.specs.Nodes.{number_of}
-use Rattle.ft_cells.specs.Cells.{Cells, FileCells, no_file, file_of as file_cells, stored_dirs, entry_of, links_of, bytes_of, open_of}
+use Rattle.ft_cells.specs.Cells.{Cells, FileCells, no_contents, no_file, file_of as file_cells, stored_dirs, entry_of, links_of, file_attributes_of, contents_of, open_of}
 use Rattle.ft_cells.specs.Limits.{default_limits}
 use Rattle.ft_cells.specs.declared.limits.TreeLimits.{TreeLimits}
 use Rattle.ft_cells.specs.Plain.{view_in, links_in}
@@ -57,7 +57,7 @@ use Rattle.ft_posix.proofs.Held.{cell_written, cell_kept}
 use Rattle.ft_posix.proofs.Parents.{contains-under}
 use Rattle.ft_posix.proofs.Counting.{count-none}
 use Rattle.ft_posix.proofs.Tidied.{get-tidy}
-use Rattle.ft_posix.proofs.Free.{made_free, no_bytes, no_entry, no_file as names_no_file, no_links, no_open, no_parent}
+use Rattle.ft_posix.proofs.Free.{made_free, no_contents_yet, no_dir_attributes, no_entry, no_file as names_no_file, no_file_attributes, no_links, no_open, no_parent}
 
 -- Cells and places.
 
@@ -72,6 +72,8 @@ covers-refl (Parent d) = same_cell-refl (Parent d)
 covers-refl (Links i) = same_cell-refl (Links i)
 covers-refl (Bytes i) = same_cell-refl (Bytes i)
 covers-refl (Fd f) = same_cell-refl (Fd f)
+covers-refl (DirAttributes d) = same_cell-refl (DirAttributes d)
+covers-refl (FileAttributes i) = same_cell-refl (FileAttributes i)
 
 -- p is the names of a directory, and x an entry of it
 abbrev pub IsOfNames : Cell → Cell → Type 0
@@ -90,6 +92,8 @@ overlap-refl (Parent d) = same_cell-refl (Parent d)
 overlap-refl (Links i) = same_cell-refl (Links i)
 overlap-refl (Bytes i) = same_cell-refl (Bytes i)
 overlap-refl (Fd f) = same_cell-refl (Fd f)
+overlap-refl (DirAttributes d) = same_cell-refl (DirAttributes d)
+overlap-refl (FileAttributes i) = same_cell-refl (FileAttributes i)
 
 -- places that cover a cell in common overlap
 pub overlaps : (p q x : Cell) → covers p x ≡ true → covers q x ≡ true → overlap p q ≡ true
@@ -244,6 +248,8 @@ nameless (Parent d) v i j h = refl
 nameless (Links n) v i j h = refl
 nameless (Bytes n) v i j h = refl
 nameless (Fd f) v i j h = absurd (none-some i h)
+nameless (DirAttributes d) v i j h = refl
+nameless (FileAttributes n) v i j h = refl
 
 -- nothing is stored of a free number
 pub own_blank : (s : Cells) (k : ℕ) → IsFree s k → (x : Cell) → file_of x ≡ Some k → held s x ≡ blank x
@@ -251,8 +257,10 @@ own_blank s k free (Entry entry) h = absurd (none-some k h)
 own_blank s k free (Names d) h = refl
 own_blank s k free (Parent d) h = absurd (none-some k h)
 own_blank s k free (Links i) h = ap (links_of s) (same_Some i k h) ∙ (no_links free)
-own_blank s k free (Bytes i) h = ap (bytes_of s) (same_Some i k h) ∙ (no_bytes free)
+own_blank s k free (Bytes i) h = ap (contents_of s) (same_Some i k h) ∙ (no_contents_yet free)
 own_blank s k free (Fd f) h = absurd (none-some k h)
+own_blank s k free (DirAttributes d) h = absurd (none-some k h)
+own_blank s k free (FileAttributes i) h = ap (file_attributes_of s) (same_Some i k h) ∙ (no_file_attributes free)
 
 -- Hidden files.
 
@@ -281,7 +289,8 @@ module _ (hidden : ℕ → Bool) where
     -- a number that is free is free without them
     hides_ready : (k : ℕ) → IsFree r k → IsFree s k
     hides_ready k free = made_free s k free.above_root
-        (still_blank (Parent k) (no_parent free)) (still_blank (Links k) (no_links free)) (still_blank (Bytes k) (no_bytes free)) (still_blank (Fd k) (no_open free))
+        (still_blank (Parent k) (no_parent free)) (still_blank (DirAttributes k) (no_dir_attributes free)) (still_blank (Links k) (no_links free)) (still_blank (FileAttributes k) (no_file_attributes free))
+        (still_blank (Bytes k) (no_contents_yet free)) (still_blank (Fd k) (no_open free))
         (λ d name x h. no_entry free d name x (hides.others (Entry (entry_at d name)) refl ∙ h)) (λ f o h. names_no_file free f o (hides.others (Fd f) refl ∙ h))
 
     module _ (p : Cells) (sound : AreSoundCells p) (same : SameValues p r) where
@@ -297,9 +306,13 @@ module _ (hidden : ℕ → Bool) where
               (λ k. hides.gone (Links i) k ∙ sym (read-without s.limits (λ f. f.links) p i ∙ ap (λ b. cond b 0 (links_of p i)) k))
               (λ k. sym (hides.others (Links i) k) ∙ same.values (Links i) ∙ sym (read-without s.limits (λ f. f.links) p i ∙ ap (λ b. cond b 0 (links_of p i)) k))
           values (Bytes i) = by_test (hidden i)
-              (λ k. hides.gone (Bytes i) k ∙ sym (read-without s.limits (λ f. f.bytes) p i ∙ ap (λ b. cond b [] (bytes_of p i)) k))
-              (λ k. sym (hides.others (Bytes i) k) ∙ same.values (Bytes i) ∙ sym (read-without s.limits (λ f. f.bytes) p i ∙ ap (λ b. cond b [] (bytes_of p i)) k))
+              (λ k. hides.gone (Bytes i) k ∙ sym (read-without s.limits (λ f. f.contents) p i ∙ ap (λ b. cond b no_contents (contents_of p i)) k))
+              (λ k. sym (hides.others (Bytes i) k) ∙ same.values (Bytes i) ∙ sym (read-without s.limits (λ f. f.contents) p i ∙ ap (λ b. cond b no_contents (contents_of p i)) k))
           values (Fd f) = sym (hides.others (Fd f) refl) ∙ same.values (Fd f)
+          values (DirAttributes d) = sym (hides.others (DirAttributes d) refl) ∙ same.values (DirAttributes d)
+          values (FileAttributes i) = by_test (hidden i)
+              (λ k. hides.gone (FileAttributes i) k ∙ sym (read-without s.limits (λ f. f.attributes) p i ∙ ap (λ b. cond b None (file_attributes_of p i)) k))
+              (λ k. sym (hides.others (FileAttributes i) k) ∙ same.values (FileAttributes i) ∙ sym (read-without s.limits (λ f. f.attributes) p i ∙ ap (λ b. cond b None (file_attributes_of p i)) k))
 
       -- no entry names a hidden file
       not_named : (i d : ℕ) (name : List ℕ) {form : Form} → hidden i ≡ true → entry_of p d name ≡ Some (FileNode form i) → ⊥
@@ -335,6 +348,7 @@ module _ (hidden : ℕ → Bool) where
         opens = λ f o h.
             let was = sound.opens f o h in
             (subst IsSome (sym (get-without s.limits p o.file ∙ ap (λ b. cond (not b) (get p.files o.file) None) (not_open f o h))) was.0, was.1);
+        attributes = sound.attributes;
       }
 
     -- sound values are sound without the hidden files

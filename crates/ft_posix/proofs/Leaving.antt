@@ -14,10 +14,10 @@ use Rattle.ft_laws.proofs.Tests.{by_test}
 use Rattle.ft_cells.specs.Entries.{entry_at}
 use Rattle.ft_cells.specs.declared.node.Node.{Node}
 use Rattle.ft_cells.specs.declared.cell.Cell.{Cell}
-use Rattle.ft_cells.specs.declared.cell.Cell.TheVariants.{Entry, Names, Parent, Links, Bytes, Fd}
+use Rattle.ft_cells.specs.declared.cell.Cell.TheVariants.{Entry, Names, Parent, Links, Bytes, Fd, DirAttributes, FileAttributes}
 use Rattle.ft_cells.specs.declared.open_file.OpenFile.{OpenFile}
 use Rattle.ft_cells.specs.CellOrder.{same_cell, same_cell-refl, same_cell-is}
-use Rattle.ft_cells.specs.Cells.{Cells, DirCells, FileCells, no_dir, no_file, dir_of, links_of, is_there, is_open, has_file, put_dir_entry, put_dir_parent, put_entry, put_file}
+use Rattle.ft_cells.specs.Cells.{Cells, DirCells, FileCells, no_dir, no_file, dir_of, links_of, is_there, is_open, has_file, put_dir_entry, put_dir_parent, put_kept_of_dir, put_entry, put_file}
 use Rattle.ft_tree.specs.Held.{Holds, held, set_cell}
 use Rattle.ft_tree.specs.Sound.{AreSoundCells, IsFree}
 use Rattle.ft_tree.specs.Sweep.{is_useless, at_place}
@@ -41,23 +41,30 @@ or_more : (a b c d : Bool) → (a ≡ true → c ≡ true) → (b ≡ true → d
 or_more true b c d f g h = or_left c d (f refl)
 or_more false b c d f g h = or_right c d (g h)
 
+or_more_of : (a b c d e f : Bool) → (a ≡ true → d ≡ true) → (b ≡ true → e ≡ true) → (c ≡ true → f ≡ true) → (a || b || c) ≡ true → (d || e || f) ≡ true
+or_more_of a b c d e f p q r h = or_more (a || b) c (d || e) f (or_more a b d e p q) r h
+
 -- one of a place's cells is among more, where it is among fewer
 pub at_place-more : (p q : Cell → Bool) → ((x : Cell) → p x ≡ true → q x ≡ true) → (c : Cell) → at_place p c ≡ true → at_place q c ≡ true
 at_place-more p q more (Entry entry) h = more (Entry entry) h
-at_place-more p q more (Names d) h = or_more (p (Names d)) (p (Parent d)) (q (Names d)) (q (Parent d)) (more (Names d)) (more (Parent d)) h
-at_place-more p q more (Parent d) h = or_more (p (Names d)) (p (Parent d)) (q (Names d)) (q (Parent d)) (more (Names d)) (more (Parent d)) h
-at_place-more p q more (Links i) h = or_more (p (Links i)) (p (Bytes i)) (q (Links i)) (q (Bytes i)) (more (Links i)) (more (Bytes i)) h
-at_place-more p q more (Bytes i) h = or_more (p (Links i)) (p (Bytes i)) (q (Links i)) (q (Bytes i)) (more (Links i)) (more (Bytes i)) h
+at_place-more p q more (Names d) h = or_more_of (p (Names d)) (p (Parent d)) (p (DirAttributes d)) (q (Names d)) (q (Parent d)) (q (DirAttributes d)) (more (Names d)) (more (Parent d)) (more (DirAttributes d)) h
+at_place-more p q more (Parent d) h = or_more_of (p (Names d)) (p (Parent d)) (p (DirAttributes d)) (q (Names d)) (q (Parent d)) (q (DirAttributes d)) (more (Names d)) (more (Parent d)) (more (DirAttributes d)) h
+at_place-more p q more (Links i) h = or_more_of (p (Links i)) (p (Bytes i)) (p (FileAttributes i)) (q (Links i)) (q (Bytes i)) (q (FileAttributes i)) (more (Links i)) (more (Bytes i)) (more (FileAttributes i)) h
+at_place-more p q more (Bytes i) h = or_more_of (p (Links i)) (p (Bytes i)) (p (FileAttributes i)) (q (Links i)) (q (Bytes i)) (q (FileAttributes i)) (more (Links i)) (more (Bytes i)) (more (FileAttributes i)) h
 at_place-more p q more (Fd f) h = more (Fd f) h
+at_place-more p q more (DirAttributes d) h = or_more_of (p (Names d)) (p (Parent d)) (p (DirAttributes d)) (q (Names d)) (q (Parent d)) (q (DirAttributes d)) (more (Names d)) (more (Parent d)) (more (DirAttributes d)) h
+at_place-more p q more (FileAttributes i) h = or_more_of (p (Links i)) (p (Bytes i)) (p (FileAttributes i)) (q (Links i)) (q (Bytes i)) (q (FileAttributes i)) (more (Links i)) (more (Bytes i)) (more (FileAttributes i)) h
 
--- the links and the bytes of a file have one place
+-- the links, the bytes and the attributes of a file have one place
 of-place : (p : Cell → Bool) (x : Cell) (i : ℕ) → file_of x ≡ Some i → p x ≡ true → at_place p (Links i) ≡ true
 of-place p (Entry entry) i e h = absurd (none-some i e)
 of-place p (Names d) i e h = absurd (none-some i e)
 of-place p (Parent d) i e h = absurd (none-some i e)
-of-place p (Links k) i e h = or_left (p (Links i)) (p (Bytes i)) (subst (λ n. p (Links n) ≡ true) (same_Some k i e) h)
-of-place p (Bytes k) i e h = or_right (p (Links i)) (p (Bytes i)) (subst (λ n. p (Bytes n) ≡ true) (same_Some k i e) h)
+of-place p (Links k) i e h = or_left (p (Links i) || p (Bytes i)) (p (FileAttributes i)) (or_left (p (Links i)) (p (Bytes i)) (subst (λ n. p (Links n) ≡ true) (same_Some k i e) h))
+of-place p (Bytes k) i e h = or_left (p (Links i) || p (Bytes i)) (p (FileAttributes i)) (or_right (p (Links i)) (p (Bytes i)) (subst (λ n. p (Bytes n) ≡ true) (same_Some k i e) h))
 of-place p (Fd f) i e h = absurd (none-some i e)
+of-place p (DirAttributes d) i e h = absurd (none-some i e)
+of-place p (FileAttributes k) i e h = or_right (p (Links i) || p (Bytes i)) (p (FileAttributes i)) (subst (λ n. p (FileAttributes n) ≡ true) (same_Some k i e) h)
 
 at-place : (p : Cell → Bool) (c : Cell) (i : ℕ) → file_of c ≡ Some i → at_place p (Links i) ≡ true → at_place p c ≡ true
 at-place p (Entry entry) i e h = absurd (none-some i e)
@@ -66,6 +73,8 @@ at-place p (Parent d) i e h = absurd (none-some i e)
 at-place p (Links k) i e h = subst (λ n. at_place p (Links n) ≡ true) (sym (same_Some k i e)) h
 at-place p (Bytes k) i e h = subst (λ n. at_place p (Links n) ≡ true) (sym (same_Some k i e)) h
 at-place p (Fd f) i e h = absurd (none-some i e)
+at-place p (DirAttributes d) i e h = absurd (none-some i e)
+at-place p (FileAttributes k) i e h = subst (λ n. at_place p (Links n) ≡ true) (sym (same_Some k i e)) h
 
 pub same-place : (p : Cell → Bool) (x c : Cell) (i : ℕ) → file_of x ≡ Some i → file_of c ≡ Some i → p x ≡ true → at_place p c ≡ true
 same-place p x c i e f h = at-place p c i f (of-place p x i e h)
@@ -78,6 +87,8 @@ dead-file s (Parent d) i e h = absurd (none-some i e)
 dead-file s (Links k) i e h = subst (λ n. has_file s n ≡ false) (same_Some k i e) (not-true (has_file s k) (and_parts (contains_key s.files k) (not (has_file s k)) h).1)
 dead-file s (Bytes k) i e h = subst (λ n. has_file s n ≡ false) (same_Some k i e) (not-true (has_file s k) (and_parts (contains_key s.files k) (not (has_file s k)) h).1)
 dead-file s (Fd f) i e h = absurd (none-some i e)
+dead-file s (DirAttributes d) i e h = absurd (none-some i e)
+dead-file s (FileAttributes k) i e h = subst (λ n. has_file s n ≡ false) (same_Some k i e) (not-true (has_file s k) (and_parts (contains_key s.files k) (not (has_file s k)) h).1)
 
 -- One cell is set.
 
@@ -107,6 +118,8 @@ entry_place-kept s (Parent d) v e other apart = read-kept (λ (x : DirCells). co
 entry_place-kept s (Links i) v e other apart = refl
 entry_place-kept s (Bytes i) v e other apart = refl
 entry_place-kept s (Fd f) v e other apart = refl
+entry_place-kept s (DirAttributes d) v e other apart = read-kept (λ (x : DirCells). contains_key x.entries other) s d (put_kept_of_dir (dir_of s d) v) e refl
+entry_place-kept s (FileAttributes i) v e other apart = refl
 
 entry-kept : (s : Cells) (c : Cell) (v : Holds c) (e : ℕ) (other : List ℕ) → same_cell c (Entry (entry_at e other)) ≡ false → is_useless (set_cell s c v) (Entry (entry_at e other)) ≡ is_useless s (Entry (entry_at e other))
 entry-kept s c v e other apart = λ i. entry_place-kept s c v e other apart i && is_none (cell_kept s c v (Entry (entry_at e other)) apart i)
@@ -115,8 +128,8 @@ entry-kept s c v e other apart = λ i. entry_place-kept s c v e other apart i &&
 abbrev useless_dir : ℕ → Option DirCells → Bool
 useless_dir d o = is_some o && not (option_map_or (is_there d) o false) && (len (unwrap_or o no_dir).entries == 0)
 
-dir-before : (s : Cells) (c : Cell) (v : Holds c) (d : ℕ) → same_cell c (Parent d) ≡ false → is_useless (set_cell s c v) (Parent d) ≡ true → is_useless s (Parent d) ≡ true
-dir-before s (Entry entry) v d apart h =
+dir-before : (s : Cells) (c : Cell) (v : Holds c) (d : ℕ) → same_cell c (Parent d) ≡ false → same_cell c (DirAttributes d) ≡ false → is_useless (set_cell s c v) (Parent d) ≡ true → is_useless s (Parent d) ≡ true
+dir-before s (Entry entry) v d apart away h =
     let x : DirCells = put_dir_entry (dir_of s entry.dir) entry.name v in
     let set = get-insert nat_cmp_total s.directories entry.dir x d in
     by_test (eq_by_cmp nat_cmp d entry.dir)
@@ -126,14 +139,24 @@ dir-before s (Entry entry) v d apart h =
     absurd (false≢true (sym (ap (λ n. n == 0) (len-insert nat_list_cmp_total places entry.name v) ∙ some_len nat_list_cmp_total places entry.name (contains_key places entry.name) refl)
     ∙ (and_parts (true && not (is_there d x)) (len x.entries == 0) at).1)))
     (λ f. sym (ap (λ (o : Option DirCells). useless_dir d o) (set ∙ ap (λ b. cond b (Some x) (get s.directories d)) f)) ∙ h)
-dir-before s (Names e) v d apart h = h
-dir-before s (Parent e) v d apart h =
+dir-before s (Names e) v d apart away h = h
+dir-before s (Parent e) v d apart away h =
     let x : DirCells = put_dir_parent (dir_of s e) v in
     let other = unsigned_tied d e ∙ ne_eqb d e (λ is. other_cell (Parent e) (Parent d) apart (ap Parent (sym is))) in
     sym (ap (λ (o : Option DirCells). useless_dir d o) (get-insert nat_cmp_total s.directories e x d ∙ ap (λ b. cond b (Some x) (get s.directories d)) other)) ∙ h
-dir-before s (Links i) v d apart h = h
-dir-before s (Bytes i) v d apart h = h
-dir-before s (Fd f) v d apart h = h
+dir-before s (Links i) v d apart away h = h
+dir-before s (Bytes i) v d apart away h = h
+dir-before s (Fd f) v d apart away h = h
+dir-before s (DirAttributes e) v d apart away h =
+    let x : DirCells = put_kept_of_dir (dir_of s e) v in
+    let other = unsigned_tied d e ∙ ne_eqb d e (λ is. other_cell (DirAttributes e) (DirAttributes d) away (ap DirAttributes (sym is))) in
+    sym (ap (λ (o : Option DirCells). useless_dir d o) (get-insert nat_cmp_total s.directories e x d ∙ ap (λ b. cond b (Some x) (get s.directories d)) other)) ∙ h
+dir-before s (FileAttributes i) v d apart away h = h
+
+dir_place-before : (s : Cells) (c : Cell) (v : Holds c) (d : ℕ) → at_place (same_cell c) (Parent d) ≡ false → is_useless (set_cell s c v) (Parent d) ≡ true → is_useless s (Parent d) ≡ true
+dir_place-before s c v d apart h =
+    let others = none-left (same_cell c (Names d) || same_cell c (Parent d)) (same_cell c (DirAttributes d)) apart in
+    dir-before s c v d (none-right (same_cell c (Names d)) (same_cell c (Parent d)) others) (none-right (same_cell c (Names d) || same_cell c (Parent d)) (same_cell c (DirAttributes d)) apart) h
 
 -- the place of a descriptor
 fd-kept : (s : Cells) (c : Cell) (v : Holds c) (f : ℕ) → same_cell c (Fd f) ≡ false → is_useless (set_cell s c v) (Fd f) ≡ is_useless s (Fd f)
@@ -142,6 +165,8 @@ fd-kept s (Names d) v f apart = refl
 fd-kept s (Parent d) v f apart = refl
 fd-kept s (Links i) v f apart = refl
 fd-kept s (Bytes i) v f apart = refl
+fd-kept s (DirAttributes d) v f apart = refl
+fd-kept s (FileAttributes i) v f apart = refl
 fd-kept s (Fd g) v f apart =
     let other = unsigned_tied f g ∙ ne_eqb f g (λ is. other_cell (Fd g) (Fd f) apart (ap Fd (sym is))) in
     ap (λ (o : Option (Option OpenFile)). is_some o && is_none (option_flatten o)) (get-insert nat_cmp_total s.opens g v f ∙ ap (λ b. cond b (Some v) (get s.opens f)) other)
@@ -155,19 +180,27 @@ file-kept s (Entry entry) v i apart = refl
 file-kept s (Names d) v i apart = refl
 file-kept s (Parent d) v i apart = refl
 file-kept s (Links j) v i apart =
-    put-kept s j _ i (λ is. other_cell (Links j) (Links i) (none-left (same_cell (Links j) (Links i)) (same_cell (Links j) (Bytes i)) apart) (ap Links (sym is)))
+    let own = none-left (same_cell (Links j) (Links i)) (same_cell (Links j) (Bytes i)) (none-left (same_cell (Links j) (Links i) || same_cell (Links j) (Bytes i)) (same_cell (Links j) (FileAttributes i)) apart) in
+    put-kept s j _ i (λ is. other_cell (Links j) (Links i) own (ap Links (sym is)))
 file-kept s (Bytes j) v i apart =
-    put-kept s j _ i (λ is. other_cell (Bytes j) (Bytes i) (none-right (same_cell (Bytes j) (Links i)) (same_cell (Bytes j) (Bytes i)) apart) (ap Bytes (sym is)))
+    let own = none-right (same_cell (Bytes j) (Links i)) (same_cell (Bytes j) (Bytes i)) (none-left (same_cell (Bytes j) (Links i) || same_cell (Bytes j) (Bytes i)) (same_cell (Bytes j) (FileAttributes i)) apart) in
+    put-kept s j _ i (λ is. other_cell (Bytes j) (Bytes i) own (ap Bytes (sym is)))
 file-kept s (Fd f) v i apart = refl
+file-kept s (DirAttributes d) v i apart = refl
+file-kept s (FileAttributes j) v i apart =
+    let own = none-right (same_cell (FileAttributes j) (Links i) || same_cell (FileAttributes j) (Bytes i)) (same_cell (FileAttributes j) (FileAttributes i)) apart in
+    put-kept s j _ i (λ is. other_cell (FileAttributes j) (FileAttributes i) own (ap FileAttributes (sym is)))
 
 -- what is not a file's
 one-before : (s : Cells) (c : Cell) (v : Holds c) (q : Cell) → file_of q ≡ None → at_place (same_cell c) q ≡ false → is_useless (set_cell s c v) q ≡ true → is_useless s q ≡ true
 one-before s c v (Entry entry) plain apart h = sym (entry-kept s c v entry.dir entry.name apart) ∙ h
-one-before s c v (Names d) plain apart h = dir-before s c v d (none-right (same_cell c (Names d)) (same_cell c (Parent d)) apart) h
-one-before s c v (Parent d) plain apart h = dir-before s c v d (none-right (same_cell c (Names d)) (same_cell c (Parent d)) apart) h
+one-before s c v (Names d) plain apart h = dir_place-before s c v d apart h
+one-before s c v (Parent d) plain apart h = dir_place-before s c v d apart h
 one-before s c v (Links i) plain apart h = absurd (none-some i (sym plain))
 one-before s c v (Bytes i) plain apart h = absurd (none-some i (sym plain))
 one-before s c v (Fd f) plain apart h = sym (fd-kept s c v f apart) ∙ h
+one-before s c v (DirAttributes d) plain apart h = dir_place-before s c v d apart h
+one-before s c v (FileAttributes i) plain apart h = absurd (none-some i (sym plain))
 
 -- A list of writes.
 
@@ -228,6 +261,8 @@ leaving s ws (Parent d) h = left-other s ws (Parent d) refl h
 leaving s ws (Links i) h = left-file s ws (Links i) i refl h
 leaving s ws (Bytes i) h = left-file s ws (Bytes i) i refl h
 leaving s ws (Fd f) h = left-other s ws (Fd f) refl h
+leaving s ws (DirAttributes d) h = left-other s ws (DirAttributes d) refl h
+leaving s ws (FileAttributes i) h = left-file s ws (FileAttributes i) i refl h
 
 -- A call.
 

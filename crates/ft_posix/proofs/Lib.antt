@@ -16,6 +16,7 @@ pub mod Climbing
 pub mod Upon
 pub mod Named
 pub mod Changes
+pub mod There
 pub mod Looked
 pub mod Made
 pub mod WalkedUpon

@@ -28,7 +28,7 @@ use Rattle.ft_posix.proofs.Puts.{is_place, entry_after}
 use Rattle.ft_posix.proofs.Upon.{Upon}
 use Rattle.ft_posix.proofs.Left.{other_than}
 use Rattle.ft_posix.proofs.WalkedUpon.{climb-meets, IsFound}
-use Rattle.ft_posix.proofs.WritesUpon.{IsUpon, upon_parent, upon_links, AreUpon, of_same, fills, frees, places_apart, moved-left}
+use Rattle.ft_posix.proofs.WritesUpon.{IsUpon, upon_parent, upon_dir_attributes, upon_links, AreUpon, of_same, fills, frees, places_apart, moved-left}
 use Rattle.ft_posix.proofs.FilesUpon.{GoesUpon, of_none, of_file, no_name, no_change, either-goes, unless-goes, then-goes, meets_none, from_parts-goes, by_entry}
 
 -- files of one number are one node
@@ -132,8 +132,9 @@ module _ (cells : Cells) (k : ℕ) (seen : List Cell) where
     where
       by_names : (names : List (List ℕ × Node)) → AreUpon cells k seen (if_bare (entry_at d name) i entry j names).writes
       by_names [] =
-          let more = sets (cell.Parent j) None ∷ with_parent i d entry.dir in
-          renamed_dir-upon d name i entry.dir entry.name more (Some (DirNode j)) is g.1 (λ m. refl) (upon_parent j None, with_parent-upon (renamed (entry_at d name) (DirNode i) entry more).writes i d entry.dir)
+          let more = sets (cell.DirAttributes j) None ∷ sets (cell.Parent j) None ∷ with_parent i d entry.dir in
+          let all = (renamed (entry_at d name) (DirNode i) entry more).writes in
+          renamed_dir-upon d name i entry.dir entry.name more (Some (DirNode j)) is g.1 (λ m. refl) (upon_dir_attributes j None, (upon_parent j None, with_parent-upon all i d entry.dir))
       by_names (x ∷ xs) = tt
   rename_dir-goes n d name i is (Itself e) g = no_change cells k seen
 

@@ -1,22 +1,23 @@
--- What the calls look at: beside the bytes of files that are named, only what the plain tree shows
--- as the stored cells do.
+-- What the calls look at: beside the contents and the attributes of files that are named, only what
+-- the plain tree shows as the stored cells do.
 use Rattle.std.proofs.Common.{◌≡◌, ℕ, zero, suc, ℤ, Bool, true, false, cond, length, List, [], ◌∷◌, Option, Some, None, unwrap_or, Result, Ok, Err, refl, sym}
-use Rattle.std.specs.Prelude.{◌==◌, ◌&&◌, not, nat_le}
+use Rattle.std.specs.Prelude.{◌==◌, not, nat_le}
 use Rattle.ft_path.specs.Name.{is_dot, is_dot_dot}
 use Rattle.ft_path.specs.declared.errno.Errno.{Errno}
-use Rattle.ft_path.specs.declared.errno.Errno.TheVariants.{ENOENT, EINVAL, EBADF, EFBIG}
+use Rattle.ft_path.specs.declared.errno.Errno.TheVariants.{ENOENT, EINVAL, EBADF, EFBIG, ELOOP}
 use Rattle.ft_path.specs.declared.path.Parts.{Parts}
 use Rattle.ft_path.specs.FilePath.{last_of, parts_of}
 use Rattle.ft_cells.specs.declared.limits.TreeLimits.{TreeLimits}
 use Rattle.ft_cells.specs.Entries.{entry_at}
 use Rattle.ft_cells.specs.declared.cell.Cell.{Cell}
-use Rattle.ft_cells.specs.declared.cell.Cell.TheVariants.{Entry, Names, Parent, Links, Bytes, Fd}
+use Rattle.ft_cells.specs.declared.cell.Cell.TheVariants.{Entry, Names, Parent, Links, Bytes, Fd, DirAttributes, FileAttributes}
 use Rattle.ft_cells.specs.declared.node.Form.{Form}
 use Rattle.ft_cells.specs.declared.node.Form.TheVariants.{Regular, Link as LinkForm}
 use Rattle.ft_cells.specs.declared.node.Node.TheVariants.{Dir as DirNode, File as FileNode}
 use Rattle.ft_cells.specs.declared.open_file.OpenFile.{OpenFile}
 use Rattle.ft_cells.specs.Cells.{Cells, parent_of, bytes_of, open_of}
-use Rattle.ft_cells.specs.Modes.{can_write}
+use Rattle.ft_cells.specs.declared.attributes.Attributes.{Attributes}
+use Rattle.ft_cells.specs.declared.attributes.Timestamp.{Timestamp}
 use Rattle.ft_tree.specs.Views.{view_of}
 use Rattle.ft_cells.specs.Looks.{Looks, Answer, Look, answer, looked_at, then, or_else}
 use Rattle.ft_cells.specs.declared.node.Spot.{Spot}
@@ -27,24 +28,25 @@ use Rattle.ft_tree.specs.declared.reader.TheConstants.{MOST_FOLLOWED}
 use Rattle.ft_tree.specs.Walk.{Leg, Ends, Meets, halted, leg_from, leg, way_of, onward, ended, walk_on, up, passed, inner, reached, last, walk}
 use Rattle.ft_tree.specs.Sound.{Hangs, the_root, AreSoundCells}
 use Rattle.ft_posix.specs.declared.call.Call.{Call}
-use Rattle.ft_posix.specs.declared.call.Call.TheVariants.{Mkdir, Rmdir, List as ListDir, Open, Close, Read, Write as WriteCall, Pread, Pwrite, Lseek, Truncate, Ftruncate, Stat, Fstat, Link, Unlink, Rename, Symlink, Readlink, Lstat}
+use Rattle.ft_posix.specs.declared.call.Call.TheVariants.{Mkdir, Rmdir, List as ListDir, Open, Close, Read, Write as WriteCall, Pread, Pwrite, Lseek, Truncate, Ftruncate, Stat, Fstat, Link, Unlink, Rename, Symlink, Readlink, Lstat, Chmod, Fchmod, Chown, Lchown, Fchown, Utime, Lutime, Futime}
 use Rattle.ft_posix.specs.declared.call.OpenFlags.{OpenFlags}
 use Rattle.ft_posix.specs.declared.call.Whence.{Whence}
 use Rattle.ft_posix.specs.declared.call.Whence.TheVariants.{Set, Cur, End}
 use Rattle.ft_posix.specs.declared.call.Reply.TheVariants.{Done}
-use Rattle.ft_posix.specs.Outcomes.{Outcome, failed, told, from_parts, unless}
+use Rattle.ft_posix.specs.Outcomes.{Outcome, failed, told, from_parts, from_judged, unless}
+use Rattle.ft_posix.specs.Attributes.{mode_fault, time_fault, with_mode, with_owner, change_file, change_spot, chmod_spot, chown_spot, chown_link, lchown_spot, fchmod_open, fchown_open, set_time, time_spot, utime_spot, lutime_spot, futime_open}
 use Rattle.ft_posix.specs.Dirs.{make_dir, remove_dir, last_fault, remove_parts, list_dir}
 use Rattle.ft_posix.specs.Links.{link_new, link_old, link_parts, unlink_spot, climb, unless_below, rename_fault, replace_dir, rename_file, rename_dir, rename_old, rename_parts}
-use Rattle.ft_posix.specs.Symlinks.{target_fault, make_link, symlink_parts, read_link}
-use Rattle.ft_posix.specs.Files.{is_exclusive, open_spot, open_parts, to_size, cut_file, truncate_spot, truncate_parts, stat_spot}
+use Rattle.ft_posix.specs.Symlinks.{target_fault, make_link, read_link}
+use Rattle.ft_posix.specs.Files.{is_exclusive, open_spot, open_fault, open_parts, to_size, cut_file, truncate_spot, truncate_parts, file_info, stat_spot}
 use Rattle.ft_posix.specs.Descriptors.{on_open, with_open, any_open, is_readable, is_writable, close_open, read_open, not_negative, pread_at, pread_open, write_place, write_at, write_open, pwrite_at, pwrite_open, seek_from, moved, sought, seek_open, ftruncate_open, fstat_open}
 use Rattle.ft_posix.specs.Steps.{steps}
 use Rattle.ft_posix.proofs.Named.{Named, by_entry, by_open}
 use Rattle.ft_posix.proofs.Walked.{IsSpot, EndsWell, LegWell, start-hangs, leg-ends, walk-ends}
 
 module _ (cells : Cells) where
-  -- the plain tree shows the cell as the stored cells do: of bytes it has those of files that are
-  -- named alone
+  -- the plain tree shows the cell as the stored cells do: of contents and attributes of files it
+  -- has those of files that are named alone
   abbrev pub IsShown : Cell → Type 0
   IsShown (Entry entry) = Unit {0}
   IsShown (Names d) = Unit {0}
@@ -52,6 +54,8 @@ module _ (cells : Cells) where
   IsShown (Links i) = Unit {0}
   IsShown (Bytes i) = Named cells i
   IsShown (Fd f) = Unit {0}
+  IsShown (DirAttributes d) = Unit {0}
+  IsShown (FileAttributes i) = Named cells i
 
   abbrev pub AllShown : List Cell → Type 0
   AllShown [] = Unit {0}
@@ -144,10 +148,10 @@ module _ (cells : Cells) where
   remove_dir-shown (AtName entry (Some (FileNode form i)) slash) h = tt
   remove_dir-shown (Itself d) h = tt
 
-  make_dir-shown : (k : ℕ) (spot : Spot) → IsSpot cells spot → LooksWell (make_dir k spot)
-  make_dir-shown k (AtName entry None slash) h = tt
-  make_dir-shown k (AtName entry (Some x) slash) h = tt
-  make_dir-shown k (Itself d) h = tt
+  make_dir-shown : (k : ℕ) (mode : Option ℕ) (spot : Spot) → IsSpot cells spot → LooksWell (make_dir k mode spot)
+  make_dir-shown k mode (AtName entry None slash) h = tt
+  make_dir-shown k mode (AtName entry (Some x) slash) h = tt
+  make_dir-shown k mode (Itself d) h = tt
 
   list_dir-shown : (spot : Spot) → IsSpot cells spot → LooksWell (list_dir spot)
   list_dir-shown (AtName entry None slash) h = tt
@@ -162,11 +166,29 @@ module _ (cells : Cells) where
   truncate_spot-shown size (AtName entry (Some (FileNode Regular i)) slash) h = (by_entry entry.dir entry.name i (sym h.1), tt)
   truncate_spot-shown size (Itself d) h = tt
 
+  file_info-shown : (form : Form) (i : ℕ) → Named cells i → LooksWell (file_info form i)
+  file_info-shown Regular i named = (tt, (named, (named, tt)))
+  file_info-shown LinkForm i named = (tt, (named, tt))
+
   stat_spot-shown : (spot : Spot) → IsSpot cells spot → LooksWell (stat_spot spot)
   stat_spot-shown (AtName entry None slash) h = tt
-  stat_spot-shown (AtName entry (Some (DirNode i)) slash) h = tt
-  stat_spot-shown (AtName entry (Some (FileNode form i)) slash) h = (tt, (by_entry entry.dir entry.name i (sym h.1), tt))
-  stat_spot-shown (Itself d) h = tt
+  stat_spot-shown (AtName entry (Some (DirNode i)) slash) h = (tt, tt)
+  stat_spot-shown (AtName entry (Some (FileNode form i)) slash) h = file_info-shown form i (by_entry entry.dir entry.name i (sym h.1))
+  stat_spot-shown (Itself d) h = (tt, tt)
+
+  change_spot-shown : (change : Attributes → Attributes) (at_link : Outcome) (spot : Spot) → IsSpot cells spot → LooksWell (change_spot change at_link spot)
+  change_spot-shown change at_link (AtName entry None slash) h = tt
+  change_spot-shown change at_link (AtName entry (Some (DirNode i)) slash) h = (tt, tt)
+  change_spot-shown change at_link (AtName entry (Some (FileNode Regular i)) slash) h = (by_entry entry.dir entry.name i (sym h.1), tt)
+  change_spot-shown change at_link (AtName entry (Some (FileNode LinkForm i)) slash) h = tt
+  change_spot-shown change at_link (Itself d) h = (tt, tt)
+
+  time_spot-shown : (fault : Errno) (time : Timestamp) (spot : Spot) → IsSpot cells spot → LooksWell (time_spot fault time spot)
+  time_spot-shown fault time (AtName entry None slash) h = tt
+  time_spot-shown fault time (AtName entry (Some (DirNode i)) slash) h = tt
+  time_spot-shown fault time (AtName entry (Some (FileNode LinkForm i)) slash) h = tt
+  time_spot-shown fault time (AtName entry (Some (FileNode Regular i)) slash) h = (by_entry entry.dir entry.name i (sym h.1), tt)
+  time_spot-shown fault time (Itself d) h = tt
 
   make_link-shown : (k : ℕ) (target : List ℕ) (spot : Spot) → IsSpot cells spot → LooksWell (make_link k target spot)
   make_link-shown k target (AtName entry None slash) h = tt
@@ -211,7 +233,7 @@ module _ (cells : Cells) where
       by_place (Some o) is = either-shown (fits o) (go o) (Answer (failed EBADF)) (each o (by_open fd o is)) tt
 
   write_place-shown : (o : OpenFile) → Named cells o.file → LooksWell (write_place o)
-  write_place-shown o named = either-shown o.append (Look (Bytes o.file) (λ bytes. Answer (length bytes))) (Answer o.offset) (named, tt) tt
+  write_place-shown o named = either-shown o.append (Look (Bytes o.file) (λ contents. Answer (length contents.bytes))) (Answer o.offset) (named, tt) tt
 
   write_open-shown : (limits : TreeLimits) (fd : ℕ) (bytes : List ℕ) (o : OpenFile) → Named cells o.file → LooksWell (write_open limits fd bytes o)
   write_open-shown limits fd [] o named = tt
@@ -239,19 +261,16 @@ module _ (cells : Cells) where
         then-shown (walk follow parts.names parts.trailing) (or_else failed go) (walk-shown sound follow parts.names parts.trailing)
         (spot-shown go each _ (walk-ends cells sound.tree follow parts.names parts.trailing))
 
-    symlink_parts-shown : (k : ℕ) (target : List ℕ) (parts : Result Parts Errno) → LooksWell (symlink_parts k target parts)
-    symlink_parts-shown k target (Err e) = tt
-    symlink_parts-shown k target (Ok parts) = unless-shown (target_fault target) (from_parts false (Ok parts) (make_link k target)) (from_parts-shown false (make_link k target) (make_link-shown k target) (Ok parts))
+    from_judged-shown : (fault : Option Errno) (follow : Bool) (go : Spot → Looks Outcome) → ((spot : Spot) → IsSpot cells spot → LooksWell (go spot)) → (parts : Result Parts Errno) → LooksWell (from_judged fault follow parts go)
+    from_judged-shown fault follow go each (Err e) = tt
+    from_judged-shown fault follow go each (Ok parts) = unless-shown fault (from_parts follow (Ok parts) go) (from_parts-shown follow go each (Ok parts))
 
     remove_parts-shown : (parts : Result Parts Errno) → LooksWell (remove_parts parts)
     remove_parts-shown (Err e) = tt
     remove_parts-shown (Ok parts) = unless-shown (last_fault (last_of parts.names)) (from_parts false (Ok parts) remove_dir) (from_parts-shown false remove_dir remove_dir-shown (Ok parts))
 
     open_parts-shown : (k : ℕ) (flags : OpenFlags) (parts : Result Parts Errno) → LooksWell (open_parts k flags parts)
-    open_parts-shown k flags (Err e) = tt
-    open_parts-shown k flags (Ok parts) =
-        either-shown (flags.trunc && not (can_write flags.access)) (Answer (failed EINVAL)) _ tt
-        (from_parts-shown (not (is_exclusive flags)) (λ spot. Answer (open_spot k flags spot)) (λ spot h. tt) (Ok parts))
+    open_parts-shown k flags parts = from_judged-shown (open_fault flags) (not (is_exclusive flags)) (λ spot. Answer (open_spot k flags spot)) (λ spot h. tt) parts
 
     truncate_parts-shown : (limits : TreeLimits) (len : ℤ) (parts : Result Parts Errno) → LooksWell (truncate_parts limits len parts)
     truncate_parts-shown limits len (Err e) = tt
@@ -285,10 +304,11 @@ module _ (cells : Cells) where
 
 -- on sound cells each cell that a call looks at is one that the plain tree shows alike
 pub call-looks : (limits : TreeLimits) (cells : Cells) → AreSoundCells cells → (n k : ℕ) (call : Call) → AllShown cells (looked_at (steps limits n k call) (view_of cells))
-call-looks limits cells sound n k (Mkdir path) = from_parts-shown cells sound false (make_dir k) (make_dir-shown cells k) (parts_of path)
+call-looks limits cells sound n k (Mkdir path mode) = from_judged-shown cells sound (mode_fault mode) false (make_dir k mode) (make_dir-shown cells k mode) (parts_of path)
 call-looks limits cells sound n k (Rmdir path) = remove_parts-shown cells sound (parts_of path)
 call-looks limits cells sound n k (ListDir path) = from_parts-shown cells sound true list_dir (list_dir-shown cells) (parts_of path)
-call-looks limits cells sound n k (Open path access create excl trunc append) = open_parts-shown cells sound k (record { access = access; create = create; excl = excl; trunc = trunc; append = append }) (parts_of path)
+call-looks limits cells sound n k (Open path access create excl trunc append mode) =
+    open_parts-shown cells sound k (record { access = access; create = create; excl = excl; trunc = trunc; append = append; mode = mode }) (parts_of path)
 call-looks limits cells sound n k (Close fd) = with_open-shown cells fd any_open (close_open fd) (λ o named. (tt, tt))
 call-looks limits cells sound n k (Read fd len) = with_open-shown cells fd is_readable (read_open fd len) (λ o named. (named, tt))
 call-looks limits cells sound n k (WriteCall fd bytes) = with_open-shown cells fd is_writable (write_open limits fd bytes) (write_open-shown cells limits fd bytes)
@@ -302,10 +322,19 @@ call-looks limits cells sound n k (Truncate len path) = truncate_parts-shown cel
 call-looks limits cells sound n k (Ftruncate fd len) =
     with_open-shown cells fd is_writable (ftruncate_open limits len) (λ o named. or_else-shown cells failed (cut_file o.file) (to_size limits len) (λ size. (named, tt)))
 call-looks limits cells sound n k (Stat path) = from_parts-shown cells sound true stat_spot (stat_spot-shown cells) (parts_of path)
-call-looks limits cells sound n k (Fstat fd) = with_open-shown cells fd any_open fstat_open (λ o named. (tt, (named, tt)))
+call-looks limits cells sound n k (Fstat fd) = with_open-shown cells fd any_open fstat_open (λ o named. file_info-shown cells Regular o.file named)
 call-looks limits cells sound n k (Link old new) = link_parts-shown cells sound limits (parts_of old) (parts_of new)
 call-looks limits cells sound n k (Unlink path) = from_parts-shown cells sound false unlink_spot (unlink_spot-shown cells) (parts_of path)
 call-looks limits cells sound n k (Rename old new) = rename_parts-shown cells sound n (parts_of old) (parts_of new)
-call-looks limits cells sound n k (Symlink target path) = symlink_parts-shown cells sound k target (parts_of path)
+call-looks limits cells sound n k (Symlink target path) = from_judged-shown cells sound (target_fault target) false (make_link k target) (make_link-shown cells k target) (parts_of path)
 call-looks limits cells sound n k (Readlink path) = from_parts-shown cells sound false read_link (read_link-shown cells) (parts_of path)
 call-looks limits cells sound n k (Lstat path) = from_parts-shown cells sound false stat_spot (stat_spot-shown cells) (parts_of path)
+call-looks limits cells sound n k (Chmod mode path) = from_judged-shown cells sound (mode_fault (Some mode)) true (chmod_spot mode) (change_spot-shown cells (with_mode mode) (failed ELOOP)) (parts_of path)
+call-looks limits cells sound n k (Fchmod fd mode) =
+    with_open-shown cells fd any_open (fchmod_open mode) (λ o named. unless-shown cells (mode_fault (Some mode)) (change_file (with_mode mode) o.file) (named, tt))
+call-looks limits cells sound n k (Chown owner group path) = from_parts-shown cells sound true (chown_spot owner group) (change_spot-shown cells (with_owner owner group) (failed ELOOP)) (parts_of path)
+call-looks limits cells sound n k (Lchown owner group path) = from_parts-shown cells sound false (lchown_spot owner group) (change_spot-shown cells (with_owner owner group) (chown_link owner group)) (parts_of path)
+call-looks limits cells sound n k (Fchown fd owner group) = with_open-shown cells fd any_open (fchown_open owner group) (λ o named. (named, tt))
+call-looks limits cells sound n k (Utime time path) = from_judged-shown cells sound (time_fault time) true (utime_spot time) (time_spot-shown cells ELOOP time) (parts_of path)
+call-looks limits cells sound n k (Lutime time path) = from_judged-shown cells sound (time_fault time) false (lutime_spot time) (time_spot-shown cells EINVAL time) (parts_of path)
+call-looks limits cells sound n k (Futime fd time) = with_open-shown cells fd any_open (futime_open time) (λ o named. unless-shown cells (time_fault time) (set_time time o.file) (named, tt))

@@ -1,6 +1,6 @@
 -- A call that leaves the name of its own file writes a cell of this file: else the file would have
 -- no place.
-use Rattle.std.proofs.Common.{◌≡◌, inl, inr, ℕ, true, false, cond, not, ◌==◌, Option, Some, None, IsSome, eqb-true, eq-eqb, ne_eqb, refl, sym, ap, subst, ◌∙◌}
+use Rattle.std.proofs.Common.{◌≡◌, inl, inr, ℕ, true, false, cond, not, ◌||◌, ◌==◌, Option, Some, None, IsSome, eqb-true, eq-eqb, ne_eqb, refl, sym, ap, subst, ◌∙◌}
 use Rattle.std.proofs.lemmas.Bool.{false≢true, or_cases}
 use Rattle.std.specs.FinMap.{get}
 use Rattle.ft_laws.specs.Laws.{Hides, holds}
@@ -8,7 +8,7 @@ use Rattle.ft_laws.specs.Effects.{is_written, calls_of}
 use Rattle.ft_cells.specs.declared.node.Node.{Node}
 use Rattle.ft_cells.specs.declared.node.Node.TheVariants.{Dir as DirNode, File as FileNode}
 use Rattle.ft_cells.specs.declared.cell.Cell.{Cell}
-use Rattle.ft_cells.specs.declared.cell.Cell.TheVariants.{Entry, Names, Parent, Links, Bytes, Fd}
+use Rattle.ft_cells.specs.declared.cell.Cell.TheVariants.{Entry, Names, Parent, Links, Bytes, Fd, DirAttributes, FileAttributes}
 use Rattle.ft_cells.specs.declared.open_file.OpenFile.{OpenFile}
 use Rattle.ft_cells.specs.Cells.{Cells, entry_of, open_of, HasFilePlace}
 use Rattle.ft_tree.specs.Held.{held}
@@ -39,6 +39,8 @@ unnamed s k free (Names d) = refl
 unnamed s k free (Parent d) = refl
 unnamed s k free (Links i) = refl
 unnamed s k free (Bytes i) = refl
+unnamed s k free (DirAttributes d) = refl
+unnamed s k free (FileAttributes i) = refl
 unnamed s k free (Fd f) = by_description (open_of s f) refl
   where
     by_description : (o : Option OpenFile) → open_of s f ≡ o → description_names o k ≡ false
@@ -88,7 +90,11 @@ module _ (steps-alike : StepsAlike) (stored-enough : StoredEnough) (soundness : 
       } in
       let none = get-without (λ i. i == k) s.limits p k ∙ ap (λ b. cond (not b) (get p.files k) None) (eq-eqb k k refl) in
       let noted = all-noted (does s a).accesses (does s a).writes (writes-noted s a) in
-      elim (or_cases (is_written posix (does s a).writes (Links k)) (is_written posix (does s a).writes (Bytes k)) (from-bare s a bare none free x named_after)) [
-        | inl links ↦ (Links k, refl, noted (Links k) links)
-        | inr bytes ↦ (Bytes k, refl, noted (Bytes k) bytes)
+      let ws = (does s a).writes in
+      elim (or_cases (is_written posix ws (Links k) || is_written posix ws (Bytes k)) (is_written posix ws (FileAttributes k)) (from-bare s a bare none free x named_after)) [
+        | inl held ↦ elim (or_cases (is_written posix ws (Links k)) (is_written posix ws (Bytes k)) held) [
+          | inl links ↦ (Links k, refl, noted (Links k) links)
+          | inr bytes ↦ (Bytes k, refl, noted (Bytes k) bytes)
+        ]
+        | inr attributes ↦ (FileAttributes k, refl, noted (FileAttributes k) attributes)
       ]

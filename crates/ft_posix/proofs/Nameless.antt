@@ -3,7 +3,7 @@ use Rattle.std.proofs.Common.{◌≡◌, ℕ, true, Option, Some, None, eqb-true
 use Rattle.std.proofs.lemmas.Bool.{false≢true}
 use Rattle.ft_laws.proofs.Tests.{by_test}
 use Rattle.ft_cells.specs.declared.cell.Cell.{Cell}
-use Rattle.ft_cells.specs.declared.cell.Cell.TheVariants.{Entry, Names, Parent, Links, Bytes, Fd}
+use Rattle.ft_cells.specs.declared.cell.Cell.TheVariants.{Entry, Names, Parent, Links, Bytes, Fd, DirAttributes, FileAttributes}
 use Rattle.ft_cells.specs.declared.node.Node.{Node}
 use Rattle.ft_cells.specs.declared.node.Node.TheVariants.{Dir as DirNode, File as FileNode}
 use Rattle.ft_cells.specs.declared.open_file.OpenFile.{OpenFile}
@@ -25,6 +25,8 @@ named cells i (Names d) e = absurd (false≢true e)
 named cells i (Parent d) e = absurd (false≢true e)
 named cells i (Links j) e = absurd (false≢true e)
 named cells i (Bytes j) e = absurd (false≢true e)
+named cells i (DirAttributes d) e = absurd (false≢true e)
+named cells i (FileAttributes j) e = absurd (false≢true e)
 named cells i (Fd f) e = by_description (open_of cells f) refl e
   where
     by_description : (o : Option OpenFile) → open_of cells f ≡ o → description_names o i ≡ true → Named cells i

@@ -9,7 +9,7 @@ use Rattle.ft_tree.specs.Views.{view_of}
 use Rattle.ft_posix.specs.declared.call.Call.{Call}
 use Rattle.ft_posix.specs.declared.call.Mode.TheVariants.{Read as ReadMode}
 use Rattle.ft_posix.specs.declared.intent.Edit.{Edit}
-use Rattle.ft_posix.specs.declared.intent.Edit.TheVariants.{Entry, Parent, Links, Overwrite, Resize, Open}
+use Rattle.ft_posix.specs.declared.intent.Edit.TheVariants.{Entry, Parent, Links, Overwrite, Resize, Open, DirAttributes, FileAttributes, Time}
 use Rattle.ft_posix.specs.declared.intent.Intent.{Intent}
 use Rattle.ft_posix.specs.Outcomes.{Outcome}
 use Rattle.ft_posix.specs.Steps.{steps}
@@ -31,6 +31,9 @@ with_edits-writes cells (Links i to ∷ es) m = with_edits-writes cells es _
 with_edits-writes cells (Overwrite i at bytes ∷ es) m = with_edits-writes cells es _
 with_edits-writes cells (Resize i size ∷ es) m = with_edits-writes cells es _
 with_edits-writes cells (Open f to ∷ es) m = with_edits-writes cells es _
+with_edits-writes cells (DirAttributes d to ∷ es) m = with_edits-writes cells es _
+with_edits-writes cells (FileAttributes i to ∷ es) m = with_edits-writes cells es _
+with_edits-writes cells (Time i to ∷ es) m = with_edits-writes cells es _
 
 pub accesses-noted : (cells : Cells) (old mid : Looking) (k : ℕ) (call : Call) (x : Intent) → old ≡ record { cells = cells; modes = finite.empty } → outcome_of old.cells x ≡ outcome old.cells k call → mid ≡ noted old (steps old.cells.limits (stored_dirs old.cells) k call)
     → listed (with_edits mid.modes x.edits) ≡ accesses_of cells k call

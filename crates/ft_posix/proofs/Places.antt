@@ -5,13 +5,13 @@ use Rattle.std.proofs.lemmas.Bool.{false≢true}
 use Rattle.std.specs.Ordering.{nat_cmp, is_eq, eq_by_cmp}
 use Rattle.std.specs.Cmp.{nat_cmp_total, unsigned_tied, tied_itself}
 use Rattle.std.specs.Cmp.Lexicographic.{slice_cmp, nat_list_cmp_total}
-use Rattle.std.specs.Option.{option_map}
 use Rattle.std.specs.FinMap.{get, get-insert, get-empty}
 use Rattle.ft_cells.specs.declared.node.Node.{Node}
 use Rattle.ft_cells.specs.declared.cell.Cell.{Cell}
-use Rattle.ft_cells.specs.declared.cell.Cell.TheVariants.{Entry, Names, Parent, Links, Bytes, Fd}
+use Rattle.ft_cells.specs.declared.cell.Cell.TheVariants.{Entry, Names, Parent, Links, Bytes, Fd, DirAttributes, FileAttributes}
 use Rattle.ft_cells.specs.declared.open_file.OpenFile.{OpenFile}
-use Rattle.ft_cells.specs.Cells.{Cells, DirCells, FileCells, no_dir, no_file, dir_of, parent_of, links_of, bytes_of, body_in, HasDirPlace, HasPlace, HasEntryPlace, HasFilePlace, HasOpenPlace, put_dir, put_dir_entry, put_dir_parent, put_file, put_entry, put_parent, put_open}
+use Rattle.ft_cells.specs.declared.attributes.Attributes.{Attributes}
+use Rattle.ft_cells.specs.Cells.{Cells, DirCells, FileCells, no_dir, no_file, dir_of, parent_of, links_of, HasDirPlace, HasPlace, HasEntryPlace, HasFilePlace, HasOpenPlace, put_dir, put_dir_entry, put_dir_parent, put_kept_of_dir, put_file, put_entry, put_parent, put_dir_attributes, put_open}
 use Rattle.ft_tree.specs.Sound.{Hangs, the_root, under, AreSoundCells}
 use Rattle.ft_tree.specs.Held.{Holds, set_cell}
 use Rattle.ft_posix.specs.Outcomes.{Write}
@@ -52,14 +52,6 @@ file_place-linked cells i h = by_place (get cells.files i) h
     by_place : (o : Option FileCells) → (unwrap_or o no_file).links ≢ 0 → IsSome o
     by_place None other = absurd (other refl)
     by_place (Some x) other = refl
-
--- the bytes of a file that is stored are its bytes
-pub body-place : (cells : Cells) (i : ℕ) → HasFilePlace cells i → body_in cells i ≡ Some (bytes_of cells i)
-body-place cells i h = by_place (get cells.files i) h
-  where
-    by_place : (o : Option FileCells) → IsSome o → option_map (λ (x : FileCells). x.bytes) o ≡ Some (unwrap_or o no_file).bytes
-    by_place None is = absurd (false≢true is)
-    by_place (Some x) is = refl
 
 -- one of two that are there is there
 either_some : {A : Type 0} (b : Bool) (x : A) (o : Option A) → IsSome o → IsSome (cond b (Some x) o)
@@ -112,6 +104,10 @@ entry_place-put_entry cells d other to e name =
 pub entry_place-put_parent : (cells : Cells) (d : ℕ) (p : Option ℕ) (e : ℕ) (name : List ℕ) → HasEntryPlace cells e name → HasEntryPlace (put_parent cells d p) e name
 entry_place-put_parent cells d p e name = entry_place-put_dir cells d (put_dir_parent (dir_of cells d) p) e name (λ h. h)
 
+-- and attributes
+pub entry_place-put_dir_attributes : (cells : Cells) (d : ℕ) (to : Option Attributes) (e : ℕ) (name : List ℕ) → HasEntryPlace cells e name → HasEntryPlace (put_dir_attributes cells d to) e name
+entry_place-put_dir_attributes cells d to e name = entry_place-put_dir cells d (put_kept_of_dir (dir_of cells d) to) e name (λ h. h)
+
 -- and the one that is set is there
 pub entry_place-set : (cells : Cells) (d : ℕ) (name : List ℕ) (to : Option Node) → HasEntryPlace (put_entry cells d name to) d name
 entry_place-set cells d name to =
@@ -128,6 +124,8 @@ dir_place-set_cell cells (Parent d) to e h = dir_place-put_dir cells d (put_dir_
 dir_place-set_cell cells (Links i) to e h = h
 dir_place-set_cell cells (Bytes i) to e h = h
 dir_place-set_cell cells (Fd f) to e h = h
+dir_place-set_cell cells (DirAttributes d) to e h = dir_place-put_dir cells d (put_kept_of_dir (dir_of cells d) to) e h
+dir_place-set_cell cells (FileAttributes i) to e h = h
 
 pub dir_place-put_all : (ws : List Write) (cells : Cells) (d : ℕ) → HasDirPlace cells d → HasDirPlace (put_all cells ws) d
 dir_place-put_all [] cells e h = h
@@ -140,6 +138,8 @@ entry_place-set_cell cells (Parent d) to e other h = entry_place-put_parent cell
 entry_place-set_cell cells (Links i) to e other h = h
 entry_place-set_cell cells (Bytes i) to e other h = h
 entry_place-set_cell cells (Fd f) to e other h = h
+entry_place-set_cell cells (DirAttributes d) to e other h = entry_place-put_dir_attributes cells d to e other h
+entry_place-set_cell cells (FileAttributes i) to e other h = h
 
 pub entry_place-put_all : (ws : List Write) (cells : Cells) (d : ℕ) (name : List ℕ) → HasEntryPlace cells d name → HasEntryPlace (put_all cells ws) d name
 entry_place-put_all [] cells e other h = h
@@ -149,9 +149,11 @@ file_place-set_cell : (cells : Cells) (c : Cell) (to : Holds c) (j : ℕ) → Ha
 file_place-set_cell cells (Entry entry) to j h = h
 file_place-set_cell cells (Names d) to j h = h
 file_place-set_cell cells (Parent d) to j h = h
-file_place-set_cell cells (Links i) to j h = file_place-put_file cells i (record { links = to; bytes = bytes_of cells i }) j h
-file_place-set_cell cells (Bytes i) to j h = file_place-put_file cells i (record { links = links_of cells i; bytes = to }) j h
+file_place-set_cell cells (Links i) to j h = file_place-put_file cells i _ j h
+file_place-set_cell cells (Bytes i) to j h = file_place-put_file cells i _ j h
 file_place-set_cell cells (Fd f) to j h = h
+file_place-set_cell cells (DirAttributes d) to j h = h
+file_place-set_cell cells (FileAttributes i) to j h = file_place-put_file cells i _ j h
 
 pub file_place-put_all : (ws : List Write) (cells : Cells) (i : ℕ) → HasFilePlace cells i → HasFilePlace (put_all cells ws) i
 file_place-put_all [] cells j h = h
@@ -164,6 +166,8 @@ open_place-set_cell cells (Parent d) to g h = h
 open_place-set_cell cells (Links i) to g h = h
 open_place-set_cell cells (Bytes i) to g h = h
 open_place-set_cell cells (Fd f) to g h = open_place-put_open cells f to g h
+open_place-set_cell cells (DirAttributes d) to g h = h
+open_place-set_cell cells (FileAttributes i) to g h = h
 
 pub open_place-put_all : (ws : List Write) (cells : Cells) (f : ℕ) → HasOpenPlace cells f → HasOpenPlace (put_all cells ws) f
 open_place-put_all [] cells g h = h

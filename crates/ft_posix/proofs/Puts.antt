@@ -8,9 +8,10 @@ use Rattle.std.specs.Option.{option_flatten}
 use Rattle.std.specs.FinMap.{get, get-insert}
 use Rattle.ft_cells.specs.declared.node.Node.{Node}
 use Rattle.ft_cells.specs.declared.cell.Cell.{Cell}
-use Rattle.ft_cells.specs.declared.cell.Cell.TheVariants.{Entry, Names, Parent, Links, Bytes, Fd}
+use Rattle.ft_cells.specs.declared.cell.Cell.TheVariants.{Entry, Names, Parent, Links, Bytes, Fd, DirAttributes, FileAttributes}
 use Rattle.ft_cells.specs.declared.open_file.OpenFile.{OpenFile}
-use Rattle.ft_cells.specs.Cells.{Cells, DirCells, FileCells, no_dir, no_file, dir_of, file_of, dir_entry, put_dir, put_dir_entry, put_dir_parent, put_file, entry_of, parent_of, links_of, bytes_of, open_of, put_entry, put_parent, put_links, put_bytes, put_open}
+use Rattle.ft_cells.specs.declared.attributes.Attributes.{Attributes}
+use Rattle.ft_cells.specs.Cells.{Cells, DirCells, FileCells, Contents, no_dir, no_file, dir_of, file_of, dir_entry, put_dir, put_dir_entry, put_dir_parent, put_kept_of_dir, put_file, entry_of, parent_of, dir_attributes_of, links_of, file_attributes_of, contents_of, open_of, put_entry, put_parent, put_dir_attributes, put_links, put_file_attributes, put_contents, put_open}
 use Rattle.ft_tree.specs.Held.{Holds, set_cell}
 use Rattle.ft_posix.specs.Outcomes.{Write}
 use Rattle.ft_posix.specs.Stored.{put_all}
@@ -86,6 +87,26 @@ entry-put_parent cells d p e other = read-kept (λ x. dir_entry x other) cells d
 pub parent-put_parent : (cells : Cells) (d : ℕ) (p : Option ℕ) (e : ℕ) → parent_of (put_parent cells d p) e ≡ with_parent (parent_of cells) d p e
 parent-put_parent cells d p e = read-put_dir (λ x. x.parent) cells d (put_dir_parent (dir_of cells d) p) e
 
+-- and no attributes
+pub dir_attributes-put_parent : (cells : Cells) (d : ℕ) (p : Option ℕ) (e : ℕ) → dir_attributes_of (put_parent cells d p) e ≡ dir_attributes_of cells e
+dir_attributes-put_parent cells d p e = read-kept (λ x. x.attributes) cells d (put_dir_parent (dir_of cells d) p) e refl
+
+-- nor does an entry that is set
+pub dir_attributes-put_entry : (cells : Cells) (d : ℕ) (name : List ℕ) (to : Option Node) (e : ℕ) → dir_attributes_of (put_entry cells d name to) e ≡ dir_attributes_of cells e
+dir_attributes-put_entry cells d name to e = read-kept (λ x. x.attributes) cells d (put_dir_entry (dir_of cells d) name to) e refl
+
+-- to set the attributes of a directory sets no entry
+pub entry-put_dir_attributes : (cells : Cells) (d : ℕ) (to : Option Attributes) (e : ℕ) (other : List ℕ) → entry_of (put_dir_attributes cells d to) e other ≡ entry_of cells e other
+entry-put_dir_attributes cells d to e other = read-kept (λ x. dir_entry x other) cells d (put_kept_of_dir (dir_of cells d) to) e refl
+
+-- and no parent
+pub parent-put_dir_attributes : (cells : Cells) (d : ℕ) (to : Option Attributes) (e : ℕ) → parent_of (put_dir_attributes cells d to) e ≡ parent_of cells e
+parent-put_dir_attributes cells d to e = read-kept (λ x. x.parent) cells d (put_kept_of_dir (dir_of cells d) to) e refl
+
+-- but those attributes
+pub dir_attributes-put_dir_attributes : (cells : Cells) (d : ℕ) (to : Option Attributes) (e : ℕ) → dir_attributes_of (put_dir_attributes cells d to) e ≡ with_value (dir_attributes_of cells) d to e
+dir_attributes-put_dir_attributes cells d to e = read-put_dir (λ x. x.attributes) cells d (put_kept_of_dir (dir_of cells d) to) e
+
 -- the files after one was set
 file_of-put_file : (cells : Cells) (i : ℕ) (x : FileCells) (j : ℕ) → file_of (put_file cells i x) j ≡ cond (j == i) x (file_of cells j)
 file_of-put_file cells i x j =
@@ -106,19 +127,39 @@ read-kept_file read cells i x j same = read-put_file read cells i x j ∙ by_fil
 
 -- to set the links of a file sets those links
 pub links-put_links : (cells : Cells) (i links j : ℕ) → links_of (put_links cells i links) j ≡ with_value (links_of cells) i links j
-links-put_links cells i links j = read-put_file (λ x. x.links) cells i (record { links = links; bytes = bytes_of cells i }) j
+links-put_links cells i links j = read-put_file (λ x. x.links) cells i (record { links = links; attributes = file_attributes_of cells i; contents = contents_of cells i }) j
 
--- and no bytes
-pub bytes-put_links : (cells : Cells) (i links j : ℕ) → bytes_of (put_links cells i links) j ≡ bytes_of cells j
-bytes-put_links cells i links j = read-kept_file (λ x. x.bytes) cells i (record { links = links; bytes = bytes_of cells i }) j refl
+-- and no contents
+pub contents-put_links : (cells : Cells) (i links j : ℕ) → contents_of (put_links cells i links) j ≡ contents_of cells j
+contents-put_links cells i links j = read-kept_file (λ x. x.contents) cells i (record { links = links; attributes = file_attributes_of cells i; contents = contents_of cells i }) j refl
 
--- to set the bytes of a file sets no links
-pub links-put_bytes : (cells : Cells) (i : ℕ) (bytes : List ℕ) (j : ℕ) → links_of (put_bytes cells i bytes) j ≡ links_of cells j
-links-put_bytes cells i bytes j = read-kept_file (λ x. x.links) cells i (record { links = links_of cells i; bytes = bytes }) j refl
+-- and no attributes
+pub file_attributes-put_links : (cells : Cells) (i links j : ℕ) → file_attributes_of (put_links cells i links) j ≡ file_attributes_of cells j
+file_attributes-put_links cells i links j = read-kept_file (λ x. x.attributes) cells i (record { links = links; attributes = file_attributes_of cells i; contents = contents_of cells i }) j refl
 
--- but those bytes
-pub bytes-put_bytes : (cells : Cells) (i : ℕ) (bytes : List ℕ) (j : ℕ) → bytes_of (put_bytes cells i bytes) j ≡ with_value (bytes_of cells) i bytes j
-bytes-put_bytes cells i bytes j = read-put_file (λ x. x.bytes) cells i (record { links = links_of cells i; bytes = bytes }) j
+-- to set the contents of a file sets no links
+pub links-put_contents : (cells : Cells) (i : ℕ) (contents : Contents) (j : ℕ) → links_of (put_contents cells i contents) j ≡ links_of cells j
+links-put_contents cells i contents j = read-kept_file (λ x. x.links) cells i (record { links = links_of cells i; attributes = file_attributes_of cells i; contents = contents }) j refl
+
+-- and no attributes
+pub file_attributes-put_contents : (cells : Cells) (i : ℕ) (contents : Contents) (j : ℕ) → file_attributes_of (put_contents cells i contents) j ≡ file_attributes_of cells j
+file_attributes-put_contents cells i contents j = read-kept_file (λ x. x.attributes) cells i (record { links = links_of cells i; attributes = file_attributes_of cells i; contents = contents }) j refl
+
+-- but those contents
+pub contents-put_contents : (cells : Cells) (i : ℕ) (contents : Contents) (j : ℕ) → contents_of (put_contents cells i contents) j ≡ with_value (contents_of cells) i contents j
+contents-put_contents cells i contents j = read-put_file (λ x. x.contents) cells i (record { links = links_of cells i; attributes = file_attributes_of cells i; contents = contents }) j
+
+-- to set the attributes of a file sets no links
+pub links-put_file_attributes : (cells : Cells) (i : ℕ) (to : Option Attributes) (j : ℕ) → links_of (put_file_attributes cells i to) j ≡ links_of cells j
+links-put_file_attributes cells i to j = read-kept_file (λ x. x.links) cells i (record { links = links_of cells i; attributes = to; contents = contents_of cells i }) j refl
+
+-- and no contents
+pub contents-put_file_attributes : (cells : Cells) (i : ℕ) (to : Option Attributes) (j : ℕ) → contents_of (put_file_attributes cells i to) j ≡ contents_of cells j
+contents-put_file_attributes cells i to j = read-kept_file (λ x. x.contents) cells i (record { links = links_of cells i; attributes = to; contents = contents_of cells i }) j refl
+
+-- but those attributes
+pub file_attributes-put_file_attributes : (cells : Cells) (i : ℕ) (to : Option Attributes) (j : ℕ) → file_attributes_of (put_file_attributes cells i to) j ≡ with_value (file_attributes_of cells) i to j
+file_attributes-put_file_attributes cells i to j = read-put_file (λ x. x.attributes) cells i (record { links = links_of cells i; attributes = to; contents = contents_of cells i }) j
 
 -- to set a description sets that description
 pub open-put_open : (cells : Cells) (f : ℕ) (to : Option OpenFile) (g : ℕ) → open_of (put_open cells f to) g ≡ with_value (open_of cells) f to g
@@ -135,6 +176,8 @@ entry_set entry (Parent d) to = entry
 entry_set entry (Links i) to = entry
 entry_set entry (Bytes i) to = entry
 entry_set entry (Fd f) to = entry
+entry_set entry (DirAttributes d) to = entry
+entry_set entry (FileAttributes i) to = entry
 
 abbrev pub entry_after : (ℕ → List ℕ → Option Node) → List Write → ℕ → List ℕ → Option Node
 entry_after entry [] = entry
@@ -147,6 +190,8 @@ parent_set parent (Parent d) to = with_parent parent d to
 parent_set parent (Links i) to = parent
 parent_set parent (Bytes i) to = parent
 parent_set parent (Fd f) to = parent
+parent_set parent (DirAttributes d) to = parent
+parent_set parent (FileAttributes i) to = parent
 
 abbrev pub parent_after : (ℕ → Option ℕ) → List Write → ℕ → Option ℕ
 parent_after parent [] = parent
@@ -159,22 +204,54 @@ links_set links (Parent d) to = links
 links_set links (Links i) to = with_value links i to
 links_set links (Bytes i) to = links
 links_set links (Fd f) to = links
+links_set links (DirAttributes d) to = links
+links_set links (FileAttributes i) to = links
 
 abbrev pub links_after : (ℕ → ℕ) → List Write → ℕ → ℕ
 links_after links [] = links
 links_after links (w ∷ ws) = links_after (links_set links w.cell w.value) ws
 
-abbrev pub bytes_set : (ℕ → List ℕ) → (c : Cell) → Holds c → ℕ → List ℕ
-bytes_set bytes (Entry entry) to = bytes
-bytes_set bytes (Names d) to = bytes
-bytes_set bytes (Parent d) to = bytes
-bytes_set bytes (Links i) to = bytes
-bytes_set bytes (Bytes i) to = with_value bytes i to
-bytes_set bytes (Fd f) to = bytes
+abbrev pub contents_set : (ℕ → Contents) → (c : Cell) → Holds c → ℕ → Contents
+contents_set contents (Entry entry) to = contents
+contents_set contents (Names d) to = contents
+contents_set contents (Parent d) to = contents
+contents_set contents (Links i) to = contents
+contents_set contents (Bytes i) to = with_value contents i to
+contents_set contents (Fd f) to = contents
+contents_set contents (DirAttributes d) to = contents
+contents_set contents (FileAttributes i) to = contents
 
-abbrev pub bytes_after : (ℕ → List ℕ) → List Write → ℕ → List ℕ
-bytes_after bytes [] = bytes
-bytes_after bytes (w ∷ ws) = bytes_after (bytes_set bytes w.cell w.value) ws
+abbrev pub contents_after : (ℕ → Contents) → List Write → ℕ → Contents
+contents_after contents [] = contents
+contents_after contents (w ∷ ws) = contents_after (contents_set contents w.cell w.value) ws
+
+abbrev pub dir_attributes_set : (ℕ → Option Attributes) → (c : Cell) → Holds c → ℕ → Option Attributes
+dir_attributes_set attributes (Entry entry) to = attributes
+dir_attributes_set attributes (Names d) to = attributes
+dir_attributes_set attributes (Parent d) to = attributes
+dir_attributes_set attributes (Links i) to = attributes
+dir_attributes_set attributes (Bytes i) to = attributes
+dir_attributes_set attributes (Fd f) to = attributes
+dir_attributes_set attributes (DirAttributes d) to = with_value attributes d to
+dir_attributes_set attributes (FileAttributes i) to = attributes
+
+abbrev pub dir_attributes_after : (ℕ → Option Attributes) → List Write → ℕ → Option Attributes
+dir_attributes_after attributes [] = attributes
+dir_attributes_after attributes (w ∷ ws) = dir_attributes_after (dir_attributes_set attributes w.cell w.value) ws
+
+abbrev pub file_attributes_set : (ℕ → Option Attributes) → (c : Cell) → Holds c → ℕ → Option Attributes
+file_attributes_set attributes (Entry entry) to = attributes
+file_attributes_set attributes (Names d) to = attributes
+file_attributes_set attributes (Parent d) to = attributes
+file_attributes_set attributes (Links i) to = attributes
+file_attributes_set attributes (Bytes i) to = attributes
+file_attributes_set attributes (Fd f) to = attributes
+file_attributes_set attributes (DirAttributes d) to = attributes
+file_attributes_set attributes (FileAttributes i) to = with_value attributes i to
+
+abbrev pub file_attributes_after : (ℕ → Option Attributes) → List Write → ℕ → Option Attributes
+file_attributes_after attributes [] = attributes
+file_attributes_after attributes (w ∷ ws) = file_attributes_after (file_attributes_set attributes w.cell w.value) ws
 
 abbrev pub open_set : (ℕ → Option OpenFile) → (c : Cell) → Holds c → ℕ → Option OpenFile
 open_set opens (Entry entry) to = opens
@@ -183,6 +260,8 @@ open_set opens (Parent d) to = opens
 open_set opens (Links i) to = opens
 open_set opens (Bytes i) to = opens
 open_set opens (Fd f) to = with_value opens f to
+open_set opens (DirAttributes d) to = opens
+open_set opens (FileAttributes i) to = opens
 
 abbrev pub open_after : (ℕ → Option OpenFile) → List Write → ℕ → Option OpenFile
 open_after opens [] = opens
@@ -195,18 +274,22 @@ entry-set_cell cells (Parent d) to = λ i e other. entry-put_parent cells d to e
 entry-set_cell cells (Links i) to = refl
 entry-set_cell cells (Bytes i) to = refl
 entry-set_cell cells (Fd f) to = refl
+entry-set_cell cells (DirAttributes d) to = λ i e other. entry-put_dir_attributes cells d to e other i
+entry-set_cell cells (FileAttributes i) to = refl
 
 pub entry-put_all : (ws : List Write) (cells : Cells) → entry_of (put_all cells ws) ≡ entry_after (entry_of cells) ws
 entry-put_all [] cells = refl
 entry-put_all (w ∷ ws) cells = entry-put_all ws (set_cell cells w.cell w.value) ∙ ap (λ f. entry_after f ws) (entry-set_cell cells w.cell w.value)
 
-parent-set_cell : (cells : Cells) (c : Cell) (to : Holds c) → parent_of (set_cell cells c to) ≡ parent_set (parent_of cells) c to
+pub parent-set_cell : (cells : Cells) (c : Cell) (to : Holds c) → parent_of (set_cell cells c to) ≡ parent_set (parent_of cells) c to
 parent-set_cell cells (Entry entry) to = λ i e. parent-put_entry cells entry.dir entry.name to e i
 parent-set_cell cells (Names d) to = refl
 parent-set_cell cells (Parent d) to = λ i e. parent-put_parent cells d to e i
 parent-set_cell cells (Links i) to = refl
 parent-set_cell cells (Bytes i) to = refl
 parent-set_cell cells (Fd f) to = refl
+parent-set_cell cells (DirAttributes d) to = λ i e. parent-put_dir_attributes cells d to e i
+parent-set_cell cells (FileAttributes i) to = refl
 
 pub parent-put_all : (ws : List Write) (cells : Cells) → parent_of (put_all cells ws) ≡ parent_after (parent_of cells) ws
 parent-put_all [] cells = refl
@@ -217,24 +300,56 @@ links-set_cell cells (Entry entry) to = refl
 links-set_cell cells (Names d) to = refl
 links-set_cell cells (Parent d) to = refl
 links-set_cell cells (Links i) to = λ n j. links-put_links cells i to j n
-links-set_cell cells (Bytes i) to = λ n j. links-put_bytes cells i to j n
+links-set_cell cells (Bytes i) to = λ n j. links-put_contents cells i to j n
 links-set_cell cells (Fd f) to = refl
+links-set_cell cells (DirAttributes d) to = refl
+links-set_cell cells (FileAttributes i) to = λ n j. links-put_file_attributes cells i to j n
 
 pub links-put_all : (ws : List Write) (cells : Cells) → links_of (put_all cells ws) ≡ links_after (links_of cells) ws
 links-put_all [] cells = refl
 links-put_all (w ∷ ws) cells = links-put_all ws (set_cell cells w.cell w.value) ∙ ap (λ f. links_after f ws) (links-set_cell cells w.cell w.value)
 
-bytes-set_cell : (cells : Cells) (c : Cell) (to : Holds c) → bytes_of (set_cell cells c to) ≡ bytes_set (bytes_of cells) c to
-bytes-set_cell cells (Entry entry) to = refl
-bytes-set_cell cells (Names d) to = refl
-bytes-set_cell cells (Parent d) to = refl
-bytes-set_cell cells (Links i) to = λ n j. bytes-put_links cells i to j n
-bytes-set_cell cells (Bytes i) to = λ n j. bytes-put_bytes cells i to j n
-bytes-set_cell cells (Fd f) to = refl
+contents-set_cell : (cells : Cells) (c : Cell) (to : Holds c) → contents_of (set_cell cells c to) ≡ contents_set (contents_of cells) c to
+contents-set_cell cells (Entry entry) to = refl
+contents-set_cell cells (Names d) to = refl
+contents-set_cell cells (Parent d) to = refl
+contents-set_cell cells (Links i) to = λ n j. contents-put_links cells i to j n
+contents-set_cell cells (Bytes i) to = λ n j. contents-put_contents cells i to j n
+contents-set_cell cells (Fd f) to = refl
+contents-set_cell cells (DirAttributes d) to = refl
+contents-set_cell cells (FileAttributes i) to = λ n j. contents-put_file_attributes cells i to j n
 
-pub bytes-put_all : (ws : List Write) (cells : Cells) → bytes_of (put_all cells ws) ≡ bytes_after (bytes_of cells) ws
-bytes-put_all [] cells = refl
-bytes-put_all (w ∷ ws) cells = bytes-put_all ws (set_cell cells w.cell w.value) ∙ ap (λ f. bytes_after f ws) (bytes-set_cell cells w.cell w.value)
+pub contents-put_all : (ws : List Write) (cells : Cells) → contents_of (put_all cells ws) ≡ contents_after (contents_of cells) ws
+contents-put_all [] cells = refl
+contents-put_all (w ∷ ws) cells = contents-put_all ws (set_cell cells w.cell w.value) ∙ ap (λ f. contents_after f ws) (contents-set_cell cells w.cell w.value)
+
+pub dir_attributes-set_cell : (cells : Cells) (c : Cell) (to : Holds c) → dir_attributes_of (set_cell cells c to) ≡ dir_attributes_set (dir_attributes_of cells) c to
+dir_attributes-set_cell cells (Entry entry) to = λ i e. dir_attributes-put_entry cells entry.dir entry.name to e i
+dir_attributes-set_cell cells (Names d) to = refl
+dir_attributes-set_cell cells (Parent d) to = λ i e. dir_attributes-put_parent cells d to e i
+dir_attributes-set_cell cells (Links i) to = refl
+dir_attributes-set_cell cells (Bytes i) to = refl
+dir_attributes-set_cell cells (Fd f) to = refl
+dir_attributes-set_cell cells (DirAttributes d) to = λ i e. dir_attributes-put_dir_attributes cells d to e i
+dir_attributes-set_cell cells (FileAttributes i) to = refl
+
+pub dir_attributes-put_all : (ws : List Write) (cells : Cells) → dir_attributes_of (put_all cells ws) ≡ dir_attributes_after (dir_attributes_of cells) ws
+dir_attributes-put_all [] cells = refl
+dir_attributes-put_all (w ∷ ws) cells = dir_attributes-put_all ws (set_cell cells w.cell w.value) ∙ ap (λ f. dir_attributes_after f ws) (dir_attributes-set_cell cells w.cell w.value)
+
+file_attributes-set_cell : (cells : Cells) (c : Cell) (to : Holds c) → file_attributes_of (set_cell cells c to) ≡ file_attributes_set (file_attributes_of cells) c to
+file_attributes-set_cell cells (Entry entry) to = refl
+file_attributes-set_cell cells (Names d) to = refl
+file_attributes-set_cell cells (Parent d) to = refl
+file_attributes-set_cell cells (Links i) to = λ n j. file_attributes-put_links cells i to j n
+file_attributes-set_cell cells (Bytes i) to = λ n j. file_attributes-put_contents cells i to j n
+file_attributes-set_cell cells (Fd f) to = refl
+file_attributes-set_cell cells (DirAttributes d) to = refl
+file_attributes-set_cell cells (FileAttributes i) to = λ n j. file_attributes-put_file_attributes cells i to j n
+
+pub file_attributes-put_all : (ws : List Write) (cells : Cells) → file_attributes_of (put_all cells ws) ≡ file_attributes_after (file_attributes_of cells) ws
+file_attributes-put_all [] cells = refl
+file_attributes-put_all (w ∷ ws) cells = file_attributes-put_all ws (set_cell cells w.cell w.value) ∙ ap (λ f. file_attributes_after f ws) (file_attributes-set_cell cells w.cell w.value)
 
 open-set_cell : (cells : Cells) (c : Cell) (to : Holds c) → open_of (set_cell cells c to) ≡ open_set (open_of cells) c to
 open-set_cell cells (Entry entry) to = refl
@@ -243,6 +358,8 @@ open-set_cell cells (Parent d) to = refl
 open-set_cell cells (Links i) to = refl
 open-set_cell cells (Bytes i) to = refl
 open-set_cell cells (Fd f) to = λ i g. open-put_open cells f to g i
+open-set_cell cells (DirAttributes d) to = refl
+open-set_cell cells (FileAttributes i) to = refl
 
 pub open-put_all : (ws : List Write) (cells : Cells) → open_of (put_all cells ws) ≡ open_after (open_of cells) ws
 open-put_all [] cells = refl
@@ -257,6 +374,8 @@ limits-set cells (Parent d) to = refl
 limits-set cells (Links i) to = refl
 limits-set cells (Bytes i) to = refl
 limits-set cells (Fd f) to = refl
+limits-set cells (DirAttributes d) to = refl
+limits-set cells (FileAttributes i) to = refl
 
 pub limits-put_all : (ws : List Write) (cells : Cells) → (put_all cells ws).limits ≡ cells.limits
 limits-put_all [] cells = refl

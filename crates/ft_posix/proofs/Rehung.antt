@@ -6,7 +6,7 @@ use Rattle.std.proofs.Math.Bool.{or-true}
 use Rattle.ft_cells.specs.Entries.{entry_at}
 use Rattle.ft_cells.specs.declared.node.Node.TheVariants.{Dir as DirNode}
 use Rattle.ft_cells.specs.Nodes.{number_of}
-use Rattle.ft_cells.specs.Cells.{Cells, dir_of, entry_of, parent_of, links_of, bytes_of, open_of, names_of}
+use Rattle.ft_cells.specs.Cells.{Cells, dir_of, entry_of, parent_of, dir_attributes_of, links_of, file_attributes_of, contents_of, open_of, names_of}
 use Rattle.ft_cells.specs.Plain.{links_in}
 use Rattle.ft_tree.specs.Tidy.{tidy}
 use Rattle.ft_tree.specs.Sound.{IsNoDir, AreSoundCells, IsFree}
@@ -17,7 +17,7 @@ use Rattle.ft_posix.specs.Links.{renamed}
 use Rattle.ft_posix.specs.Stored.{put_all}
 use Rattle.ft_posix.proofs.Below.{Avoids}
 use Rattle.ft_posix.proofs.Places.{dir_place-put_all, file_place-put_all}
-use Rattle.ft_posix.proofs.Puts.{with_entry, with_parent, entry_after, parent_after, links_after, bytes_after, open_after, entry-put_all, parent-put_all, links-put_all, bytes-put_all, open-put_all}
+use Rattle.ft_posix.proofs.Puts.{with_entry, with_parent, with_value, entry_after, parent_after, dir_attributes_after, links_after, file_attributes_after, contents_after, open_after, entry-put_all, parent-put_all, dir_attributes-put_all, links-put_all, file_attributes-put_all, contents-put_all, open-put_all}
 use Rattle.ft_posix.proofs.Listed.{dir_entry-none}
 use Rattle.ft_posix.proofs.Tidied.{get-tidy}
 use Rattle.ft_posix.proofs.Drawn.{count-erased, count-other}
@@ -27,7 +27,8 @@ use Rattle.ft_posix.proofs.Moved.{parents-alike, tree-moved_dir, avoids-left}
 use Rattle.ft_posix.proofs.Changes.{removed}
 use Rattle.ft_posix.proofs.Left.{shown, links-shown, sound-after, free-after, entries-apart, value-other, other_than}
 use Rattle.ft_posix.proofs.Relinked.{Moves, no_dir-moves, sound-moves, free-moves, was-left, empty-left, entries-left}
-use Rattle.ft_posix.proofs.Free.{no_bytes, no_file, no_links, no_open, no_parent}
+use Rattle.ft_posix.proofs.Free.{no_contents_yet, no_dir_attributes, no_file, no_file_attributes, no_links, no_open, no_parent}
+use Rattle.ft_posix.proofs.There.{stay-removed}
 
 -- The empty directory i is removed.
 module _ (cells : Cells) (sound : AreSoundCells cells) (d : ℕ) (name : List ℕ) (i : ℕ) (is : entry_of cells d name ≡ Some (DirNode i)) (bare : names_of cells i ≡ []) where
@@ -64,10 +65,12 @@ module _ (cells : Cells) (sound : AreSoundCells cells) (d : ℕ) (name : List �
   sound-removed =
       sound-after cells sound removed_writes (tree-removed (entry_of cells) (parent_of cells) sound.tree d name i is no_entry) links-removed
       (λ f o h. let file = sound.opens f o h in (file_place-put_all removed_writes cells o.file file.0, no_dir_left (entry_of cells) (parent_of cells) sound.tree d name i is no_entry o.file file.1))
+      (stay-removed cells sound d name i)
 
   pub free-removed : (j : ℕ) → IsFree cells j → IsFree (put_all cells removed_writes) j
   free-removed j too =
-      free-after cells removed_writes j too.above_root (elim (j == i) as (λ b. cond b None (parent_of cells j) ≡ None) [ true ↦ refl | false ↦ (no_parent too) ]) (no_links too) (no_bytes too) (no_open too)
+      free-after cells removed_writes j too.above_root (elim (j == i) as (λ b. cond b None (parent_of cells j) ≡ None) [ true ↦ refl | false ↦ (no_parent too) ])
+      (elim (j == i) as (λ b. cond b None (dir_attributes_of cells j) ≡ None) [ true ↦ refl | false ↦ (no_dir_attributes too) ]) (no_links too) (no_file_attributes too) (no_contents_yet too) (no_open too)
       (entries-apart cells d name None j too (λ x h. absurd (none-some x h))) (no_file too)
 
   -- what was no directory is none
@@ -123,7 +126,9 @@ module _ (cells : Cells) (sound : AreSoundCells cells) (d : ℕ) (name : List �
     entries = entry-put_all moved_writes cells ∙ kept-hung i d e (entry_after (with_entry (with_entry (entry_of cells) e other (Some (DirNode i))) d name None)) refl;
     parents = parent-put_all moved_writes cells ∙ parent-hung i d e (parent_of cells) (sound.tree.leads d name i is);
     links = links-put_all moved_writes cells ∙ kept-hung i d e (links_after (links_of cells)) refl;
-    bytes = bytes-put_all moved_writes cells ∙ kept-hung i d e (bytes_after (bytes_of cells)) refl;
+    dir_attributes = dir_attributes-put_all moved_writes cells ∙ kept-hung i d e (dir_attributes_after (dir_attributes_of cells)) refl;
+    file_attributes = file_attributes-put_all moved_writes cells ∙ kept-hung i d e (file_attributes_after (file_attributes_of cells)) refl;
+    contents = contents-put_all moved_writes cells ∙ kept-hung i d e (contents_after (contents_of cells)) refl;
     opens = open-put_all moved_writes cells ∙ kept-hung i d e (open_after (open_of cells)) refl;
     root = dir_place-put_all moved_writes cells 1 sound.root_is;
     files = file_place-put_all moved_writes cells;
@@ -142,7 +147,7 @@ module _ (cells : Cells) (sound : AreSoundCells cells) (d : ℕ) (name : List �
 module _ (cells : Cells) (sound : AreSoundCells cells) (d : ℕ) (name : List ℕ) (i e : ℕ) (other : List ℕ) (j : ℕ) (is : entry_of cells d name ≡ Some (DirNode i)) (filled : entry_of cells e other ≡ Some (DirNode j)) (differ : i ≢ j)
     (clear : Avoids (parent_of cells) i e) (bare : names_of cells j ≡ []) where
   abbrev replaced_writes : List Write
-  replaced_writes = (renamed (entry_at d name) (DirNode i) (entry_at e other) (sets (cell.Parent j) None ∷ steps.with_parent i d e)).writes
+  replaced_writes = (renamed (entry_at d name) (DirNode i) (entry_at e other) (sets (cell.DirAttributes j) None ∷ sets (cell.Parent j) None ∷ steps.with_parent i d e)).writes
 
   abbrev gone_writes : List Write
   gone_writes = (removed e other j).writes
@@ -168,7 +173,9 @@ module _ (cells : Cells) (sound : AreSoundCells cells) (d : ℕ) (name : List �
             ∙ entries-left cells gone d name (DirNode i) e other (DirNode j) emptied is filled nodes_differ;
         parents = parent-put_all replaced_writes cells ∙ parent-hung i d e (with_parent (parent_of cells) j None) parent_left ∙ ap (λ f. with_parent f i (Some e)) (sym (parent-put_all gone_writes cells));
         links = links-put_all replaced_writes cells ∙ kept-hung i d e (links_after (links_of cells)) refl ∙ sym (links-put_all gone_writes cells);
-        bytes = bytes-put_all replaced_writes cells ∙ kept-hung i d e (bytes_after (bytes_of cells)) refl ∙ sym (bytes-put_all gone_writes cells);
+        dir_attributes = dir_attributes-put_all replaced_writes cells ∙ kept-hung i d e (dir_attributes_after (with_value (dir_attributes_of cells) j None)) refl ∙ sym (dir_attributes-put_all gone_writes cells);
+        file_attributes = file_attributes-put_all replaced_writes cells ∙ kept-hung i d e (file_attributes_after (file_attributes_of cells)) refl ∙ sym (file_attributes-put_all gone_writes cells);
+        contents = contents-put_all replaced_writes cells ∙ kept-hung i d e (contents_after (contents_of cells)) refl ∙ sym (contents-put_all gone_writes cells);
         opens = open-put_all replaced_writes cells ∙ kept-hung i d e (open_after (open_of cells)) refl ∙ sym (open-put_all gone_writes cells);
         root = dir_place-put_all replaced_writes cells 1 sound.root_is;
         files = file_place-put_all replaced_writes cells;

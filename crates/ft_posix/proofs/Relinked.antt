@@ -9,7 +9,7 @@ use Rattle.ft_cells.specs.declared.node.Node.{Node}
 use Rattle.ft_cells.specs.declared.node.Form.{Form}
 use Rattle.ft_cells.specs.declared.node.Node.TheVariants.{File as FileNode}
 use Rattle.ft_cells.specs.Nodes.{number_of}
-use Rattle.ft_cells.specs.Cells.{Cells, entry_of, parent_of, links_of, bytes_of, open_of, put_entry, HasDirPlace, HasFilePlace}
+use Rattle.ft_cells.specs.Cells.{Cells, entry_of, parent_of, dir_attributes_of, links_of, file_attributes_of, contents_of, open_of, put_entry, HasDirPlace, HasFilePlace}
 use Rattle.ft_cells.specs.Plain.{links_in}
 use Rattle.ft_tree.specs.Tidy.{tidy}
 use Rattle.ft_tree.specs.Sound.{Hangs, IsNoDir, IsTree, AreSoundCells, IsFree}
@@ -18,7 +18,7 @@ use Rattle.ft_posix.specs.Outcomes.{Write, sets}
 use Rattle.ft_posix.specs.Links.{linked, unlinked, renamed}
 use Rattle.ft_posix.specs.Stored.{put_all}
 use Rattle.ft_posix.proofs.Places.{dir_place-put_all, file_place-put_all}
-use Rattle.ft_posix.proofs.Puts.{with_entry, with_value, entry-put_entry, entry-put_all, parent-put_all, links-put_all, bytes-put_all, open-put_all}
+use Rattle.ft_posix.proofs.Puts.{with_entry, with_value, entry-put_entry, entry-put_all, parent-put_all, dir_attributes-put_all, links-put_all, file_attributes-put_all, contents-put_all, open-put_all}
 use Rattle.ft_posix.proofs.Tidied.{contains-parent}
 use Rattle.ft_posix.proofs.Drawn.{count-drawn, count-erased, count-other}
 use Rattle.ft_posix.proofs.Created.{tree-created}
@@ -26,7 +26,8 @@ use Rattle.ft_posix.proofs.Linked.{entry-kept, entry-set, entry-twice, entry-lef
 use Rattle.ft_posix.proofs.Moved.{tree-moved_file}
 use Rattle.ft_posix.proofs.Named.{Named, by_entry}
 use Rattle.ft_posix.proofs.Left.{shown, shown-no_dir, IsFile, links-shown, links-counted, named-file, sound-after, named-not_free, free-after, entries-apart, node-apart, value-other, other_than}
-use Rattle.ft_posix.proofs.Free.{made_free, no_bytes, no_entry, no_file, no_links, no_open, no_parent}
+use Rattle.ft_posix.proofs.Free.{made_free, no_contents_yet, no_dir_attributes, no_entry, no_file, no_file_attributes, no_links, no_open, no_parent, has_dir-parent}
+use Rattle.ft_posix.proofs.There.{cells-there}
 
 -- a number is counted at itself
 one_own : (i : ℕ) → ◌≡◌ {A = ℕ} (cond (i == i) 1 0) 1
@@ -64,12 +65,12 @@ module _ (cells : Cells) (sound : AreSoundCells cells) (form : Form) (i : ℕ) (
   pub sound-linked : AreSoundCells (put_all cells linked_writes)
   sound-linked =
       sound-after cells sound linked_writes (tree-created (entry_of cells) (parent_of cells) sound.tree d name form i empty file.1.1 file.1.0 hangs) links-linked
-      (λ f o h. let x = sound.opens f o h in (file_place-put_all linked_writes cells o.file x.0, x.1))
+      (λ f o h. let x = sound.opens f o h in (file_place-put_all linked_writes cells o.file x.0, x.1)) (let there = cells-there cells sound in (there, (there, tt)))
 
   pub free-linked : (j : ℕ) → IsFree cells j → IsFree (put_all cells linked_writes) j
   free-linked j too =
       let other : j ≢ i = λ same. named-not_free cells j too i named (sym same) in
-      free-after cells linked_writes j too.above_root (no_parent too) (value-other (links_of cells) i (suc (links_of cells i)) j other ∙ (no_links too)) (no_bytes too) (no_open too)
+      free-after cells linked_writes j too.above_root (no_parent too) (no_dir_attributes too) (value-other (links_of cells) i (suc (links_of cells i)) j other ∙ (no_links too)) (no_file_attributes too) (no_contents_yet too) (no_open too)
       (entries-apart cells d name (Some (FileNode form i)) j too (λ x. node-apart (FileNode form i) x j other)) (no_file too)
 
 -- A file loses one.
@@ -94,12 +95,12 @@ module _ (cells : Cells) (sound : AreSoundCells cells) (d : ℕ) (name : List �
   pub sound-unlinked : AreSoundCells (put_all cells unlinked_writes)
   sound-unlinked =
       sound-after cells sound unlinked_writes (tree-unlinked (entry_of cells) (parent_of cells) sound.tree d name i is) links-unlinked
-      (λ f o h. let x = sound.opens f o h in (file_place-put_all unlinked_writes cells o.file x.0, x.1))
+      (λ f o h. let x = sound.opens f o h in (file_place-put_all unlinked_writes cells o.file x.0, x.1)) (let there = cells-there cells sound in (there, (there, tt)))
 
   pub free-unlinked : (j : ℕ) → IsFree cells j → IsFree (put_all cells unlinked_writes) j
   free-unlinked j too =
       let other : j ≢ i = λ same. named-not_free cells j too i (by_entry d name i is) (sym same) in
-      free-after cells unlinked_writes j too.above_root (no_parent too) (value-other (links_of cells) i (links_of cells i - 1) j other ∙ (no_links too)) (no_bytes too) (no_open too)
+      free-after cells unlinked_writes j too.above_root (no_parent too) (no_dir_attributes too) (value-other (links_of cells) i (links_of cells i - 1) j other ∙ (no_links too)) (no_file_attributes too) (no_contents_yet too) (no_open too)
       (entries-apart cells d name None j too (λ x h. absurd (none-some x h))) (no_file too)
 
 -- The new cells have what the old ones have, but that one entry is moved to an empty place, and
@@ -110,7 +111,9 @@ pub record Moves (old new : Cells) (d : ℕ) (name : List ℕ) (x : Node) (e : �
   pub entries : entry_of new ≡ with_entry (with_entry (entry_of old) e other (Some x)) d name None
   pub parents : parent_of new ≡ parent
   pub links : links_of new ≡ links_of old
-  pub bytes : bytes_of new ≡ bytes_of old
+  pub dir_attributes : dir_attributes_of new ≡ dir_attributes_of old
+  pub file_attributes : file_attributes_of new ≡ file_attributes_of old
+  pub contents : contents_of new ≡ contents_of old
   pub opens : open_of new ≡ open_of old
   pub root : HasDirPlace new 1
   pub files : (i : ℕ) → HasFilePlace old i → HasFilePlace new i
@@ -151,13 +154,16 @@ module _ (old new : Cells) (d : ℕ) (name : List ℕ) (x : Node) (e : ℕ) (oth
         tree = subst (λ (f : ℕ → List ℕ → Option Node). IsTree f (parent_of new)) (sym m.entries) (subst (λ (f : ℕ → Option ℕ). IsTree (with_entry (with_entry (entry_of old) e other (Some x)) d name None) f) (sym m.parents) tree);
         links = λ n. ap (λ f. f n) m.links ∙ sound.links n ∙ (λ i. cond (dirs n i) 0 (sym (count-moved n) i));
         opens = λ f o h. let file = sound.opens f o (ap (λ g. g f) (sym m.opens) ∙ h) in (m.files o.file file.0, no_dir-moves o.file file.1);
+        attributes = λ f a h.
+            has_dir-parent new m.root f ∙ ap (λ b. (f == 1) || b) (parents-moved f) ∙ sym (has_dir-parent old sound.root_is f) ∙ sound.attributes f a (ap (λ g. g f) (sym m.dir_attributes) ∙ h);
       }
 
   -- and no number is named that was not
   pub free-moves : (j : ℕ) → IsFree old j → IsFree new j
   free-moves j too =
       made_free new j too.above_root
-      (none-alike (parent_of new j) (parent_of old j) (parents-moved j) (no_parent too)) (ap (λ f. f j) m.links ∙ no_links too) (ap (λ f. f j) m.bytes ∙ no_bytes too) (ap (λ f. f j) m.opens ∙ no_open too)
+      (none-alike (parent_of new j) (parent_of old j) (parents-moved j) (no_parent too)) (ap (λ f. f j) m.dir_attributes ∙ no_dir_attributes too) (ap (λ f. f j) m.links ∙ no_links too)
+      (ap (λ f. f j) m.file_attributes ∙ no_file_attributes too) (ap (λ f. f j) m.contents ∙ no_contents_yet too) (ap (λ f. f j) m.opens ∙ no_open too)
       (λ f text y h. entries-apart old e other (Some x) j too (λ z is. no_entry too d name z (m.was ∙ is)) f text y (entry-left (with_entry (entry_of old) e other (Some x)) d name f text y (sym (ap (λ g. g f text) m.entries) ∙ h)))
       (λ f o h. no_file too f o (ap (λ g. g f) (sym m.opens) ∙ h))
 
@@ -181,7 +187,9 @@ module _ (cells : Cells) (sound : AreSoundCells cells) (d : ℕ) (name : List �
     entries = entry-put_all moved_writes cells;
     parents = parent-put_all moved_writes cells;
     links = links-put_all moved_writes cells;
-    bytes = bytes-put_all moved_writes cells;
+    dir_attributes = dir_attributes-put_all moved_writes cells;
+    file_attributes = file_attributes-put_all moved_writes cells;
+    contents = contents-put_all moved_writes cells;
     opens = open-put_all moved_writes cells;
     root = dir_place-put_all moved_writes cells 1 sound.root_is;
     files = file_place-put_all moved_writes cells;
@@ -232,7 +240,9 @@ module _ (cells : Cells) (sound : AreSoundCells cells) (d : ℕ) (name : List �
         entries = entry-put_all replaced_writes cells ∙ entries-left cells gone d name (FileNode form i) e other (FileNode kind j) emptied is filled nodes_differ;
         parents = parent-put_all replaced_writes cells ∙ sym (parent-put_all gone_writes cells);
         links = links-put_all replaced_writes cells ∙ sym (links-put_all gone_writes cells);
-        bytes = bytes-put_all replaced_writes cells ∙ sym (bytes-put_all gone_writes cells);
+        dir_attributes = dir_attributes-put_all replaced_writes cells ∙ sym (dir_attributes-put_all gone_writes cells);
+        file_attributes = file_attributes-put_all replaced_writes cells ∙ sym (file_attributes-put_all gone_writes cells);
+        contents = contents-put_all replaced_writes cells ∙ sym (contents-put_all gone_writes cells);
         opens = open-put_all replaced_writes cells ∙ sym (open-put_all gone_writes cells);
         root = dir_place-put_all replaced_writes cells 1 sound.root_is;
         files = λ n h. h;

@@ -11,13 +11,13 @@ use Rattle.std.specs.Option.{option_map, option_map_or}
 use Rattle.std.specs.FinMap.{FinMap, get, insert, remove, get-insert, get-remove, get_tied, same_map}
 use Rattle.std.proofs.lemmas.Map.Lookups.{CmpEqualImpliesEq, exact_unsigned, exact_bytes}
 use Rattle.ft_cells.specs.declared.cell.Cell.{Cell}
-use Rattle.ft_cells.specs.declared.cell.Cell.TheVariants.{Entry, Names, Parent, Links, Bytes, Fd}
+use Rattle.ft_cells.specs.declared.cell.Cell.TheVariants.{Entry, Names, Parent, Links, Bytes, Fd, DirAttributes, FileAttributes}
 use Rattle.ft_cells.specs.declared.open_file.OpenFile.{OpenFile}
-use Rattle.ft_cells.specs.Cells.{Cells, DirCells, FileCells, no_dir, no_file, dir_of, put_dir, put_dir_entry, without_dir_place, bytes_of, links_of, put_parent, put_links, put_bytes, HasDirPlace}
+use Rattle.ft_cells.specs.Cells.{Cells, DirCells, FileCells, no_dir, no_file, dir_of, put_dir, put_dir_entry, put_dir_parent, put_kept_of_dir, put_file, without_dir_place, put_parent, put_dir_attributes, put_links, put_file_attributes, put_contents, HasDirPlace}
 use Rattle.ft_tree.specs.Held.{Holds, set_cell, place_at, without_place, CanSet}
 use Rattle.ft_posix.specs.CellLaws.{RestoringLaw}
 use Rattle.ft_posix.proofs.Places.{dir_place-entry}
-use Rattle.ft_posix.proofs.Puts.{dir_of-put_dir, bytes-put_links, links-put_bytes}
+use Rattle.ft_posix.proofs.Puts.{dir_of-put_dir, file_attributes-put_links, contents-put_links, links-put_file_attributes, contents-put_file_attributes, links-put_contents, file_attributes-put_contents}
 
 -- Maps.
 
@@ -82,6 +82,10 @@ module _ (s : Cells) where
       by_place None is there = absurd (false≢true there)
       by_place (Some x) is there = (x, is)
 
+  -- a file that is stored, and is set to what it was
+  same_file : (i : ℕ) (y x : FileCells) → get s.files i ≡ Some x → (z : FileCells) → z ≡ x → put_file (put_file s i y) i z ≡ s
+  same_file i y x is z same = ap with_files (ap (insert (insert s.files i y) i) same ∙ put_back nat_cmp_total exact_unsigned s.files i y x is)
+
   -- what stands in a place that is there
 
   again : (c : Cell) (v was : Holds c) → place_at s c ≡ Some was → set_cell (set_cell s c v) c was ≡ s
@@ -89,34 +93,54 @@ module _ (s : Cells) where
       let y : DirCells = put_dir_entry (dir_of s entry.dir) entry.name v in
       let there = stored_dir entry.dir (dir_place-entry s entry.dir entry.name (subst IsSome (sym is) refl)) in
       ap (λ z. put_dir (put_dir s entry.dir y) entry.dir (put_dir_entry z entry.name was)) (own_dir entry.dir y)
-      ∙ same_dir entry.dir y there.0 there.1 (put_dir_entry y entry.name was) (ap (λ m. record { parent = (dir_of s entry.dir).parent; entries = m }) (put_back nat_list_cmp_total exact_bytes (dir_of s entry.dir).entries entry.name v was is))
+      ∙ same_dir entry.dir y there.0 there.1 (put_dir_entry y entry.name was) (ap (λ m. record { parent = (dir_of s entry.dir).parent; attributes = (dir_of s entry.dir).attributes; entries = m }) (put_back nat_list_cmp_total exact_bytes (dir_of s entry.dir).entries entry.name v was is))
   again (Names d) v was is = refl
   again (Parent d) v was is = by_place (get s.directories d) refl is
     where
       by_place : (o : Option DirCells) → get s.directories d ≡ o → option_map (λ (x : DirCells). x.parent) o ≡ Some was → put_parent (put_parent s d v) d was ≡ s
       by_place None there h = absurd (none-some was h)
       by_place (Some x) there h =
-          let y : DirCells = record { parent = v; entries = (dir_of s d).entries } in
+          let y : DirCells = put_dir_parent (dir_of s d) v in
           let x_is : x ≡ dir_of s d = sym (ap (λ o. unwrap_or o no_dir) there) in
-          ap (λ (z : DirCells). put_dir (put_dir s d y) d (record { parent = was; entries = z.entries })) (own_dir d y)
-          ∙ same_dir d y x there (record { parent = was; entries = (dir_of s d).entries }) (λ j. record { parent = (sym (same_Some x.parent was h) ∙ ap (λ (z : DirCells). z.parent) x_is) j; entries = (dir_of s d).entries })
+          ap (λ (z : DirCells). put_dir (put_dir s d y) d (put_dir_parent z was)) (own_dir d y)
+          ∙ same_dir d y x there (put_dir_parent y was) (λ j. put_dir_parent (dir_of s d) ((sym (same_Some x.parent was h) ∙ ap (λ (z : DirCells). z.parent) x_is) j))
   again (Links i) v was is = by_place (get s.files i) refl is
     where
       by_place : (o : Option FileCells) → get s.files i ≡ o → option_map (λ (x : FileCells). x.links) o ≡ Some was → put_links (put_links s i v) i was ≡ s
       by_place None there h = absurd (none-some was h)
-      by_place (Some x) there h =
-          let y : FileCells = record { links = v; bytes = bytes_of s i } in
-          let kept : bytes_of (put_links s i v) i ≡ x.bytes = bytes-put_links s i v i ∙ ap (λ o. (unwrap_or o no_file).bytes) there in
-          ap with_files ((λ j. insert (insert s.files i y) i (record { links = sym (same_Some x.links was h) j; bytes = kept j })) ∙ put_back nat_cmp_total exact_unsigned s.files i y x there)
+      by_place (Some x) there h = same_file i _ x there _ (λ j. record {
+        links = sym (same_Some x.links was h) j;
+        attributes = (file_attributes-put_links s i v i ∙ ap (λ o. (unwrap_or o no_file).attributes) there) j;
+        contents = (contents-put_links s i v i ∙ ap (λ o. (unwrap_or o no_file).contents) there) j;
+      })
   again (Bytes i) v was is = by_place (get s.files i) refl is
     where
-      by_place : (o : Option FileCells) → get s.files i ≡ o → option_map (λ (x : FileCells). x.bytes) o ≡ Some was → put_bytes (put_bytes s i v) i was ≡ s
+      by_place : (o : Option FileCells) → get s.files i ≡ o → option_map (λ (x : FileCells). x.contents) o ≡ Some was → put_contents (put_contents s i v) i was ≡ s
+      by_place None there h = absurd (none-some was h)
+      by_place (Some x) there h = same_file i _ x there _ (λ j. record {
+        links = (links-put_contents s i v i ∙ ap (λ o. (unwrap_or o no_file).links) there) j;
+        attributes = (file_attributes-put_contents s i v i ∙ ap (λ o. (unwrap_or o no_file).attributes) there) j;
+        contents = sym (same_Some x.contents was h) j;
+      })
+  again (Fd f) v was is = ap with_opens (put_back nat_cmp_total exact_unsigned s.opens f v was is)
+  again (DirAttributes d) v was is = by_place (get s.directories d) refl is
+    where
+      by_place : (o : Option DirCells) → get s.directories d ≡ o → option_map (λ (x : DirCells). x.attributes) o ≡ Some was → put_dir_attributes (put_dir_attributes s d v) d was ≡ s
       by_place None there h = absurd (none-some was h)
       by_place (Some x) there h =
-          let y : FileCells = record { links = links_of s i; bytes = v } in
-          let kept : links_of (put_bytes s i v) i ≡ x.links = links-put_bytes s i v i ∙ ap (λ o. (unwrap_or o no_file).links) there in
-          ap with_files ((λ j. insert (insert s.files i y) i (record { links = kept j; bytes = sym (same_Some x.bytes was h) j })) ∙ put_back nat_cmp_total exact_unsigned s.files i y x there)
-  again (Fd f) v was is = ap with_opens (put_back nat_cmp_total exact_unsigned s.opens f v was is)
+          let y : DirCells = put_kept_of_dir (dir_of s d) v in
+          let x_is : x ≡ dir_of s d = sym (ap (λ o. unwrap_or o no_dir) there) in
+          ap (λ (z : DirCells). put_dir (put_dir s d y) d (put_kept_of_dir z was)) (own_dir d y)
+          ∙ same_dir d y x there (put_kept_of_dir y was) (λ j. put_kept_of_dir (dir_of s d) ((sym (same_Some x.attributes was h) ∙ ap (λ (z : DirCells). z.attributes) x_is) j))
+  again (FileAttributes i) v was is = by_place (get s.files i) refl is
+    where
+      by_place : (o : Option FileCells) → get s.files i ≡ o → option_map (λ (x : FileCells). x.attributes) o ≡ Some was → put_file_attributes (put_file_attributes s i v) i was ≡ s
+      by_place None there h = absurd (none-some was h)
+      by_place (Some x) there h = same_file i _ x there _ (λ j. record {
+        links = (links-put_file_attributes s i v i ∙ ap (λ o. (unwrap_or o no_file).links) there) j;
+        attributes = sym (same_Some x.attributes was h) j;
+        contents = (contents-put_file_attributes s i v i ∙ ap (λ o. (unwrap_or o no_file).contents) there) j;
+      })
 
   -- a place that is new
 
@@ -125,12 +149,14 @@ module _ (s : Cells) where
       let y : DirCells = put_dir_entry (dir_of s entry.dir) entry.name v in
       let there = stored_dir entry.dir can in
       ap (λ o. option_map_or (λ z. put_dir (put_dir s entry.dir y) entry.dir (without_dir_place z entry.name)) o (put_dir s entry.dir y)) (own s.directories entry.dir y)
-      ∙ same_dir entry.dir y there.0 there.1 (without_dir_place y entry.name) (ap (λ m. record { parent = (dir_of s entry.dir).parent; entries = m }) (take_out nat_list_cmp_total exact_bytes (dir_of s entry.dir).entries entry.name v is))
+      ∙ same_dir entry.dir y there.0 there.1 (without_dir_place y entry.name) (ap (λ m. record { parent = (dir_of s entry.dir).parent; attributes = (dir_of s entry.dir).attributes; entries = m }) (take_out nat_list_cmp_total exact_bytes (dir_of s entry.dir).entries entry.name v is))
   new (Names d) v can is = refl
   new (Parent d) v can is = ap with_dirs (take_out nat_cmp_total exact_unsigned s.directories d _ (none-mapped (λ (x : DirCells). x.parent) (get s.directories d) is))
   new (Links i) v can is = ap with_files (take_out nat_cmp_total exact_unsigned s.files i _ (none-mapped (λ (x : FileCells). x.links) (get s.files i) is))
-  new (Bytes i) v can is = absurd (false≢true (subst IsSome (none-mapped (λ (x : FileCells). x.bytes) (get s.files i) is) can))
+  new (Bytes i) v can is = absurd (false≢true (subst IsSome (none-mapped (λ (x : FileCells). x.contents) (get s.files i) is) can))
   new (Fd f) v can is = ap with_opens (take_out nat_cmp_total exact_unsigned s.opens f v is)
+  new (DirAttributes d) v can is = absurd (false≢true (subst IsSome (none-mapped (λ (x : DirCells). x.attributes) (get s.directories d) is) can))
+  new (FileAttributes i) v can is = absurd (false≢true (subst IsSome (none-mapped (λ (x : FileCells). x.attributes) (get s.files i) is) can))
 
 pub restoring : RestoringLaw
 restoring = record { again = again; new = new }

@@ -1,5 +1,5 @@
 -- The names of a directory are never set.
-use Rattle.std.proofs.Common.{ℕ, Bool, true, false, cond, not, ◌&&◌, ℤ, nat_le, List, [], ◌∷◌, map, inl, inr, Option, Some, None, Result, Ok, Err, sym, subst}
+use Rattle.std.proofs.Common.{ℕ, Bool, true, false, cond, not, ◌&&◌, ℤ, nat_le, List, [], ◌∷◌, map, inl, inr, Option, Some, None, unwrap_or, Result, Ok, Err, sym, subst}
 use Rattle.std.specs.Prelude.{◌==◌, nat_lt}
 use Rattle.ft_laws.specs.Lists.{Each, In}
 use Rattle.ft_body.specs.Bytes.{fitting}
@@ -9,27 +9,30 @@ use Rattle.ft_path.specs.FilePath.{parts_of, last_of}
 use Rattle.ft_cells.specs.declared.limits.TreeLimits.{TreeLimits}
 use Rattle.ft_cells.specs.Entries.{entry_at}
 use Rattle.ft_cells.specs.declared.cell.Cell.{Cell}
-use Rattle.ft_cells.specs.declared.cell.Cell.TheVariants.{Entry, Names, Parent, Links, Bytes, Fd}
+use Rattle.ft_cells.specs.declared.cell.Cell.TheVariants.{Entry, Names, Parent, Links, Bytes, Fd, DirAttributes, FileAttributes}
 use Rattle.ft_cells.specs.declared.node.Node.{Node}
 use Rattle.ft_cells.specs.declared.node.Form.{Form}
 use Rattle.ft_cells.specs.declared.node.Form.TheVariants.{Regular, Link as LinkForm}
 use Rattle.ft_cells.specs.declared.node.Node.TheVariants.{Dir as DirNode, File as FileNode}
 use Rattle.ft_cells.specs.declared.open_file.OpenFile.{OpenFile}
 use Rattle.ft_cells.specs.Looks.{Looks, Answer, Look, View, answer, then, or_else}
-use Rattle.ft_cells.specs.Modes.{can_write}
 use Rattle.ft_cells.specs.declared.node.Spot.{Spot}
 use Rattle.ft_cells.specs.declared.node.Spot.TheVariants.{Named, Itself}
 use Rattle.ft_tree.specs.Walk.{walk}
 use Rattle.ft_posix.specs.declared.TheConstants.{LAST_OFFSET}
 use Rattle.ft_posix.specs.declared.call.Call.{Call}
-use Rattle.ft_posix.specs.declared.call.Call.TheVariants.{Mkdir, Rmdir, List as ListDir, Open, Close, Read, Write as WriteCall, Pread, Pwrite, Lseek, Truncate, Ftruncate, Stat, Fstat, Link, Unlink, Rename, Symlink, Readlink, Lstat}
+use Rattle.ft_posix.specs.declared.call.Call.TheVariants.{Mkdir, Rmdir, List as ListDir, Open, Close, Read, Write as WriteCall, Pread, Pwrite, Lseek, Truncate, Ftruncate, Stat, Fstat, Link, Unlink, Rename, Symlink, Readlink, Lstat, Chmod, Fchmod, Chown, Lchown, Fchown, Utime, Lutime, Futime}
 use Rattle.ft_posix.specs.declared.call.OpenFlags.{OpenFlags}
 use Rattle.ft_posix.specs.declared.call.Whence.{Whence}
-use Rattle.ft_posix.specs.Outcomes.{Write, Outcome, failed, from_parts, unless}
+use Rattle.ft_posix.specs.Outcomes.{Write, Outcome, failed, from_parts, from_judged, unless}
+use Rattle.ft_path.specs.declared.errno.Errno.TheVariants.{EINVAL, ELOOP}
+use Rattle.ft_cells.specs.declared.attributes.Attributes.{Attributes}
+use Rattle.ft_cells.specs.declared.attributes.Timestamp.{Timestamp}
+use Rattle.ft_posix.specs.Attributes.{mode_fault, time_fault, with_mode, with_owner, dir_mode, file_mode, change_file, change_spot, chmod_spot, chown_spot, chown_link, lchown_spot, fchmod_open, fchown_open, set_time, time_spot, utime_spot, lutime_spot, futime_open}
 use Rattle.ft_posix.specs.Accesses.{written_cell}
 use Rattle.ft_posix.specs.Dirs.{make_dir, if_empty, remove_dir, last_fault, remove_parts, list_dir}
-use Rattle.ft_posix.specs.Symlinks.{target_fault, make_link, symlink_parts, read_link}
-use Rattle.ft_posix.specs.Files.{open_node, is_exclusive, open_spot, open_parts, to_size, cut_file, truncate_spot, truncate_parts, stat_spot}
+use Rattle.ft_posix.specs.Symlinks.{target_fault, make_link, read_link}
+use Rattle.ft_posix.specs.Files.{open_node, is_exclusive, open_spot, open_fault, open_parts, to_size, cut_file, truncate_spot, truncate_parts, stat_spot}
 use Rattle.ft_posix.specs.Descriptors.{on_open, with_open, any_open, is_readable, is_writable, close_open, read_open, not_negative, pread_at, pread_open, write_place, write_at, has_written, write_open, has_pwritten, pwrite_at, pwrite_open, seek_from, moved, sought, seek_open, ftruncate_open, fstat_open}
 use Rattle.ft_posix.specs.Links.{link_at, link_new, link_old, link_parts, unlink_spot, rename_fault, climb, unless_below, with_parent, replace_file, if_bare, replace_dir, rename_file, rename_dir, rename_old, rename_parts}
 use Rattle.ft_posix.specs.Steps.{steps}
@@ -42,6 +45,8 @@ IsSettable (Parent d) = Unit {0}
 IsSettable (Links i) = Unit {0}
 IsSettable (Bytes i) = Unit {0}
 IsSettable (Fd f) = Unit {0}
+IsSettable (DirAttributes d) = Unit {0}
+IsSettable (FileAttributes i) = Unit {0}
 
 abbrev AreSettable : List Write → Type 0
 AreSettable = Each (λ w. IsSettable w.cell)
@@ -80,15 +85,23 @@ unless-sets : (o : Option Errno) (go : Looks Outcome) → Sets go → Sets (unle
 unless-sets None go h v = h v
 unless-sets (Some e) go h v = tt
 
+from_judged-sets : (fault : Option Errno) (follow : Bool) (r : Result Parts Errno) (go : Spot → Looks Outcome) → ((spot : Spot) → Sets (go spot)) → Sets (from_judged fault follow r go)
+from_judged-sets fault follow (Err e) go h v = tt
+from_judged-sets fault follow (Ok parts) go h v = unless-sets fault (from_parts follow (Ok parts) go) (from_parts-sets follow (Ok parts) go h) v
+
 -- Directories.
 
-make_dir-sets : (stamp : ℕ) (spot : Spot) → Sets (make_dir stamp spot)
-make_dir-sets stamp (Named entry None slash) v = (tt, (tt, tt))
-make_dir-sets stamp (Named entry (Some x) slash) v = tt
-make_dir-sets stamp (Itself dir) v = tt
+dir_mode-sets : (dir : ℕ) (mode : Option ℕ) → AreSettable (dir_mode dir mode)
+dir_mode-sets dir None = tt
+dir_mode-sets dir (Some mode) = (tt, tt)
+
+make_dir-sets : (stamp : ℕ) (mode : Option ℕ) (spot : Spot) → Sets (make_dir stamp mode spot)
+make_dir-sets stamp mode (Named entry None slash) v = (tt, (tt, dir_mode-sets stamp mode))
+make_dir-sets stamp mode (Named entry (Some x) slash) v = tt
+make_dir-sets stamp mode (Itself dir) v = tt
 
 if_empty-sets : (dir : ℕ) (name : List ℕ) (number : ℕ) (names : List (List ℕ × Node)) → AreSettable (if_empty (entry_at dir name) number names).writes
-if_empty-sets dir name number [] = (tt, (tt, tt))
+if_empty-sets dir name number [] = (tt, (tt, (tt, tt)))
 if_empty-sets dir name number (e ∷ es) = tt
 
 remove_dir-sets : (spot : Spot) → Sets (remove_dir spot)
@@ -109,21 +122,22 @@ list_dir-sets (Itself dir) v = tt
 
 -- Files.
 
+file_mode-sets : (file : ℕ) (mode : Option ℕ) → AreSettable (file_mode file mode)
+file_mode-sets file None = tt
+file_mode-sets file (Some mode) = (tt, tt)
+
 open_node-sets : (stamp : ℕ) (flags : OpenFlags) (x : Node) → AreSettable (open_node stamp flags x).writes
 open_node-sets stamp flags (DirNode file) = tt
 open_node-sets stamp flags (FileNode LinkForm file) = tt
 open_node-sets stamp flags (FileNode Regular file) = (tt, one-list flags.trunc _ _ (tt, tt) tt)
 
 open_spot-sets : (stamp : ℕ) (flags : OpenFlags) (spot : Spot) → AreSettable (open_spot stamp flags spot).writes
-open_spot-sets stamp flags (Named entry None slash) = one-outcome (flags.create && not slash) _ _ (tt, (tt, (tt, (tt, tt)))) tt
+open_spot-sets stamp flags (Named entry None slash) = one-outcome (flags.create && not slash) _ _ (tt, (tt, (tt, (tt, file_mode-sets stamp flags.mode)))) tt
 open_spot-sets stamp flags (Named entry (Some x) slash) = one-outcome (is_exclusive flags) _ _ tt (open_node-sets stamp flags x)
 open_spot-sets stamp flags (Itself dir) = one-outcome (is_exclusive flags) _ _ tt tt
 
 open_parts-sets : (stamp : ℕ) (flags : OpenFlags) (r : Result Parts Errno) → Sets (open_parts stamp flags r)
-open_parts-sets stamp flags (Err e) v = tt
-open_parts-sets stamp flags (Ok parts) v =
-    let go : Spot → Looks Outcome = λ spot. Answer (open_spot stamp flags spot) in
-    one-of (flags.trunc && not (can_write flags.access)) _ (from_parts (not (is_exclusive flags)) (Ok parts) go) (λ v. tt) (from_parts-sets (not (is_exclusive flags)) (Ok parts) go (λ spot v. open_spot-sets stamp flags spot)) v
+open_parts-sets stamp flags r v = from_judged-sets (open_fault flags) (not (is_exclusive flags)) r (λ spot. Answer (open_spot stamp flags spot)) (λ spot v. open_spot-sets stamp flags spot) v
 
 truncate_spot-sets : (size : ℕ) (spot : Spot) → Sets (truncate_spot size spot)
 truncate_spot-sets size (Named entry None slash) v = tt
@@ -139,8 +153,25 @@ truncate_parts-sets limits len (Ok parts) v = or_else-sets (λ size. from_parts 
 stat_spot-sets : (spot : Spot) → Sets (stat_spot spot)
 stat_spot-sets (Named entry None slash) v = tt
 stat_spot-sets (Named entry (Some (DirNode file)) slash) v = tt
-stat_spot-sets (Named entry (Some (FileNode form file)) slash) v = tt
+stat_spot-sets (Named entry (Some (FileNode Regular file)) slash) v = tt
+stat_spot-sets (Named entry (Some (FileNode LinkForm file)) slash) v = tt
 stat_spot-sets (Itself dir) v = tt
+
+-- Attributes and times.
+
+change_spot-sets : (change : Attributes → Attributes) (at_link : Outcome) → AreSettable at_link.writes → (spot : Spot) → Sets (change_spot change at_link spot)
+change_spot-sets change at_link h (Named entry None slash) v = tt
+change_spot-sets change at_link h (Named entry (Some (DirNode dir)) slash) v = (tt, tt)
+change_spot-sets change at_link h (Named entry (Some (FileNode Regular file)) slash) v = (tt, tt)
+change_spot-sets change at_link h (Named entry (Some (FileNode LinkForm file)) slash) v = h
+change_spot-sets change at_link h (Itself dir) v = (tt, tt)
+
+time_spot-sets : (fault : Errno) (time : Timestamp) (spot : Spot) → Sets (time_spot fault time spot)
+time_spot-sets fault time (Named entry None slash) v = tt
+time_spot-sets fault time (Named entry (Some (DirNode dir)) slash) v = tt
+time_spot-sets fault time (Named entry (Some (FileNode Regular file)) slash) v = (tt, tt)
+time_spot-sets fault time (Named entry (Some (FileNode LinkForm file)) slash) v = tt
+time_spot-sets fault time (Itself dir) v = tt
 
 -- Descriptors.
 
@@ -152,7 +183,7 @@ with_open-sets : (fd : ℕ) (fits : OpenFile → Bool) (go : OpenFile → Looks 
 with_open-sets fd fits go h v = on_open-sets fits go h (v (Fd fd)) v
 
 write_at-sets : (limits : TreeLimits) (fd : ℕ) (o : OpenFile) (bytes : List ℕ) (at : ℕ) → Sets (write_at limits fd o bytes at)
-write_at-sets limits fd o bytes at = one-of (nat_le limits.file_size at) _ (Look (Bytes o.file) (λ old. Answer (has_written fd o at (fitting limits.file_size bytes at) old))) (λ v. tt) (λ v. (tt, (tt, tt)))
+write_at-sets limits fd o bytes at = one-of (nat_le limits.file_size at) _ (Look (Bytes o.file) (λ old. Answer (has_written fd o at (fitting limits.file_size bytes at) old.bytes))) (λ v. tt) (λ v. (tt, (tt, tt)))
 
 write_open-sets : (limits : TreeLimits) (fd : ℕ) (bytes : List ℕ) (o : OpenFile) → Sets (write_open limits fd bytes o)
 write_open-sets limits fd [] o v = tt
@@ -160,7 +191,7 @@ write_open-sets limits fd (first ∷ more) o v = then-sets (write_place o) (writ
 
 pwrite_at-sets : (limits : TreeLimits) (o : OpenFile) (bytes : List ℕ) (at : ℕ) → Sets (pwrite_at limits o bytes at)
 pwrite_at-sets limits o [] at v = tt
-pwrite_at-sets limits o (first ∷ more) at v = one-of (nat_le limits.file_size at) _ (Look (Bytes o.file) (λ old. Answer (has_pwritten o at (fitting limits.file_size (first ∷ more) at) old))) (λ v. tt) (λ v. (tt, tt)) v
+pwrite_at-sets limits o (first ∷ more) at v = one-of (nat_le limits.file_size at) _ (Look (Bytes o.file) (λ old. Answer (has_pwritten o at (fitting limits.file_size (first ∷ more) at) old.bytes))) (λ v. tt) (λ v. (tt, tt)) v
 
 sought-sets : (fd : ℕ) (o : OpenFile) (to : Option ℕ) → AreSettable (sought fd o to).writes
 sought-sets fd o None = tt
@@ -208,7 +239,7 @@ rename_file-sets dir name form moved (Named entry (Some (DirNode replaced)) slas
 rename_file-sets dir name form moved (Itself into) v = tt
 
 if_bare-sets : (dir : ℕ) (name : List ℕ) (moved into : ℕ) (other : List ℕ) (replaced : ℕ) (names : List (List ℕ × Node)) → AreSettable (if_bare (entry_at dir name) moved (entry_at into other) replaced names).writes
-if_bare-sets dir name moved into other replaced [] = (tt, (tt, (tt, with_parent-sets moved dir into)))
+if_bare-sets dir name moved into other replaced [] = (tt, (tt, (tt, (tt, with_parent-sets moved dir into))))
 if_bare-sets dir name moved into other replaced (e ∷ es) = tt
 
 rename_dir-sets : (most dir : ℕ) (name : List ℕ) (moved : ℕ) (spot : Spot) → Sets (rename_dir most (entry_at dir name) moved spot)
@@ -237,10 +268,6 @@ make_link-sets stamp target (Named entry None slash) v = one-outcome slash _ _ t
 make_link-sets stamp target (Named entry (Some x) slash) v = tt
 make_link-sets stamp target (Itself dir) v = tt
 
-symlink_parts-sets : (stamp : ℕ) (target : List ℕ) (r : Result Parts Errno) → Sets (symlink_parts stamp target r)
-symlink_parts-sets stamp target (Err e) v = tt
-symlink_parts-sets stamp target (Ok parts) v = unless-sets (target_fault target) (from_parts false (Ok parts) (make_link stamp target)) (from_parts-sets false (Ok parts) (make_link stamp target) (make_link-sets stamp target)) v
-
 read_link-sets : (spot : Spot) → Sets (read_link spot)
 read_link-sets (Named entry None slash) v = tt
 read_link-sets (Named entry (Some (DirNode file)) slash) v = tt
@@ -251,10 +278,10 @@ read_link-sets (Itself dir) v = tt
 -- All calls.
 
 call-sets : (limits : TreeLimits) (most stamp : ℕ) (call : Call) → Sets (steps limits most stamp call)
-call-sets limits most stamp (Mkdir path) = from_parts-sets false (parts_of path) (make_dir stamp) (make_dir-sets stamp)
+call-sets limits most stamp (Mkdir path mode) = from_judged-sets (mode_fault mode) false (parts_of path) (make_dir stamp mode) (make_dir-sets stamp mode)
 call-sets limits most stamp (Rmdir path) = remove_parts-sets (parts_of path)
 call-sets limits most stamp (ListDir path) = from_parts-sets true (parts_of path) list_dir list_dir-sets
-call-sets limits most stamp (Open path access create excl trunc append) = open_parts-sets stamp (record { access = access; create = create; excl = excl; trunc = trunc; append = append }) (parts_of path)
+call-sets limits most stamp (Open path access create excl trunc append mode) = open_parts-sets stamp (record { access = access; create = create; excl = excl; trunc = trunc; append = append; mode = mode }) (parts_of path)
 call-sets limits most stamp (Close fd) = with_open-sets fd any_open (close_open fd) (λ o v. (tt, tt))
 call-sets limits most stamp (Read fd len) = with_open-sets fd is_readable (read_open fd len) (λ o v. (tt, tt))
 call-sets limits most stamp (WriteCall fd bytes) = with_open-sets fd is_writable (write_open limits fd bytes) (write_open-sets limits fd bytes)
@@ -268,9 +295,19 @@ call-sets limits most stamp (Fstat fd) = with_open-sets fd any_open fstat_open (
 call-sets limits most stamp (Link old new) = link_parts-sets limits (parts_of old) (parts_of new)
 call-sets limits most stamp (Unlink path) = from_parts-sets false (parts_of path) unlink_spot unlink_spot-sets
 call-sets limits most stamp (Rename old new) = rename_parts-sets most (parts_of old) (parts_of new)
-call-sets limits most stamp (Symlink target path) = symlink_parts-sets stamp target (parts_of path)
+call-sets limits most stamp (Symlink target path) = from_judged-sets (target_fault target) false (parts_of path) (make_link stamp target) (make_link-sets stamp target)
 call-sets limits most stamp (Readlink path) = from_parts-sets false (parts_of path) read_link read_link-sets
 call-sets limits most stamp (Lstat path) = from_parts-sets false (parts_of path) stat_spot stat_spot-sets
+call-sets limits most stamp (Chmod mode path) = from_judged-sets (mode_fault (Some mode)) true (parts_of path) (chmod_spot mode) (change_spot-sets (with_mode mode) (failed ELOOP) tt)
+call-sets limits most stamp (Fchmod fd mode) = with_open-sets fd any_open (fchmod_open mode) (λ o. unless-sets (mode_fault (Some mode)) (change_file (with_mode mode) o.file) (λ v. (tt, tt)))
+call-sets limits most stamp (Chown owner group path) = from_parts-sets true (parts_of path) (chown_spot owner group) (change_spot-sets (with_owner owner group) (failed ELOOP) tt)
+call-sets limits most stamp (Lchown owner group path) =
+    from_parts-sets false (parts_of path) (lchown_spot owner group)
+    (change_spot-sets (with_owner owner group) (chown_link owner group) (one-outcome ((unwrap_or owner 0 == 0) && (unwrap_or group 0 == 0)) _ _ tt tt))
+call-sets limits most stamp (Fchown fd owner group) = with_open-sets fd any_open (fchown_open owner group) (λ o v. (tt, tt))
+call-sets limits most stamp (Utime time path) = from_judged-sets (time_fault time) true (parts_of path) (utime_spot time) (time_spot-sets ELOOP time)
+call-sets limits most stamp (Lutime time path) = from_judged-sets (time_fault time) false (parts_of path) (lutime_spot time) (time_spot-sets EINVAL time)
+call-sets limits most stamp (Futime fd time) = with_open-sets fd any_open (futime_open time) (λ o. unless-sets (time_fault time) (set_time time o.file) (λ v. (tt, tt)))
 
 -- none of them is the names of a directory
 no-names : (ws : List Write) → AreSettable ws → (d : ℕ) → In (Names d) (map written_cell ws) → ⊥

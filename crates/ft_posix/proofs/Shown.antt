@@ -1,7 +1,10 @@
--- Sound cells and their plain tree show the same, beside the bytes of files that nothing names.
-use Rattle.std.proofs.Common.{◌≡◌, ℕ, Bool, true, false, cond, ◌||◌, List, [], ◌∷◌, map, Some, None, unwrap_or, eqb-true, refl, sym, ap, subst, ◌∙◌}
+-- Sound cells and their plain tree show the same, beside the contents and the attributes of files
+-- that nothing names.
+use Rattle.std.proofs.Common.{◌≡◌, ℕ, Bool, true, false, cond, ◌||◌, List, [], ◌∷◌, map, Option, Some, None, eqb-true, refl, sym, ap, subst, ◌∙◌}
 use Rattle.std.specs.Prelude.{T, ◌==◌, nat_lt}
 use Rattle.std.proofs.Math.Bool.{or-true}
+use Rattle.std.proofs.lemmas.Bool.{false≢true}
+use Rattle.std.specs.Option.{option_flatten, option_map_or}
 use Rattle.std.specs.declared.cmp.Ordering.TheVariants.{Equal}
 use Rattle.std.specs.Ordering.{nat_cmp, is_lt, ordering_then}
 use Rattle.std.specs.Cmp.{unsigned_tied, nat_cmp_total, tied_itself}
@@ -13,11 +16,12 @@ use Rattle.ft_cells.specs.declared.entry.Entry.{Entry as DirEntry}
 use Rattle.ft_cells.specs.declared.node.Node.{Node}
 use Rattle.ft_cells.specs.declared.node.Node.TheVariants.{File as FileNode}
 use Rattle.ft_cells.specs.declared.cell.Cell.{Cell}
-use Rattle.ft_cells.specs.declared.cell.Cell.TheVariants.{Entry, Names, Parent, Links, Bytes, Fd}
-use Rattle.ft_cells.specs.Cells.{Cells, dir_of, dir_entry, stored_dirs, entry_of, names_of, links_of, bytes_of, has_file}
+use Rattle.ft_cells.specs.declared.cell.Cell.TheVariants.{Entry, Names, Parent, Links, Bytes, Fd, DirAttributes, FileAttributes}
+use Rattle.ft_cells.specs.Cells.{Cells, no_contents, dir_of, dir_entry, stored_dirs, entry_of, names_of, dir_attributes_of, links_of, has_dir, has_file}
 use Rattle.ft_tree.specs.Views.{view_of}
 use Rattle.ft_cells.specs.Looks.{Agree, answer, looked_at, answer-agree}
-use Rattle.ft_cells.specs.Plain.{names_in, view_in}
+use Rattle.ft_cells.specs.declared.attributes.Attributes.{Attributes}
+use Rattle.ft_cells.specs.Plain.{PlainFile, names_in, view_in}
 use Rattle.ft_tree.specs.Tidy.{tidy}
 use Rattle.ft_tree.specs.Sound.{AreSoundCells}
 use Rattle.ft_posix.specs.declared.call.Call.{Call}
@@ -31,7 +35,7 @@ use Rattle.ft_posix.proofs.Named.{Named, by_entry, by_open}
 use Rattle.ft_posix.proofs.Opens.{open-named}
 use Rattle.ft_posix.proofs.Parents.{contains-no_dir, parent-shown}
 use Rattle.ft_posix.proofs.PlainSound.{file-edge}
-use Rattle.ft_posix.proofs.Tidied.{edges_named, edges_named-find, dir_names-find, get-tidy, get-bytes, get-opens}
+use Rattle.ft_posix.proofs.Tidied.{edges_named, edges_named-find, dir_names-find, get-tidy, get-tidy_dir, file_at, get-files, get-opens}
 
 -- Lists of names in order.
 
@@ -81,9 +85,18 @@ module _ (cells : Cells) (sound : AreSoundCells cells) where
   named-there _ (by_entry d name {form} i is) = file-edge cells sound (entry_at d name) (FileNode form i) (contains-no_dir cells sound i (sound.tree.apart d name form i is)) (get-tidy cells d name ∙ is)
   named-there _ (by_open f o is) = ap (λ b. nat_lt 0 (links_of cells o.file) || b) (open-named cells f o is) ∙ or-true (nat_lt 0 (links_of cells o.file))
 
-  -- and shows its bytes
-  bytes-in : (i : ℕ) → has_file cells i ≡ true → unwrap_or (get (tidy cells).files i) [] ≡ bytes_of cells i
-  bytes-in i there = ap (λ o. unwrap_or o []) (get-bytes cells sound i ∙ ap (λ b. cond b (Some (bytes_of cells i)) None) there)
+  -- and shows what it has
+  file-in : (i : ℕ) → has_file cells i ≡ true → get (tidy cells).files i ≡ Some (file_at cells i)
+  file-in i there = get-files cells sound i ∙ ap (λ b. cond b (Some (file_at cells i)) None) there
+
+  -- a directory shows its attributes, and what is none has none
+  attributes-in : (d : ℕ) → option_flatten (get (tidy cells).dirs d) ≡ dir_attributes_of cells d
+  attributes-in d = ap option_flatten (get-tidy_dir cells d) ∙ by_there (has_dir cells d) refl (dir_attributes_of cells d) refl
+    where
+      by_there : (b : Bool) → has_dir cells d ≡ b → (a : Option Attributes) → dir_attributes_of cells d ≡ a → option_flatten (cond b (Some a) None) ≡ a
+      by_there true is a kept = refl
+      by_there false is None kept = refl
+      by_there false is (Some a) kept = absurd (false≢true (sym is ∙ sound.attributes d a kept))
 
   -- each cell that is shown shows the same
   pub cell-shown : (c : Cell) → IsShown cells c → view_in (tidy cells) c ≡ view_of cells c
@@ -91,8 +104,10 @@ module _ (cells : Cells) (sound : AreSoundCells cells) where
   cell-shown (Names d) shown = names-in d
   cell-shown (Parent d) shown = parent-shown cells sound d
   cell-shown (Links i) shown = sym (sound.links i)
-  cell-shown (Bytes i) shown = bytes-in i (named-there i shown)
+  cell-shown (Bytes i) shown = ap (λ o. option_map_or (λ (f : PlainFile). f.contents) o no_contents) (file-in i (named-there i shown))
   cell-shown (Fd f) shown = get-opens cells f
+  cell-shown (DirAttributes d) shown = attributes-in d
+  cell-shown (FileAttributes i) shown = ap (λ o. option_map_or (λ (f : PlainFile). f.attributes) o None) (file-in i (named-there i shown))
 
   -- and so do all of a list
   all-shown : (cs : List Cell) → AllShown cells cs → Agree (view_of cells) (view_in (tidy cells)) cs

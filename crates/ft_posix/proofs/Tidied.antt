@@ -1,5 +1,5 @@
 -- What the plain tree has that stored cells are.
-use Rattle.std.proofs.Common.{◌≡◌, ℕ, Bool, true, false, cond, ◌||◌, List, [], ◌∷◌, ◌++◌, map, filter, Option, Some, None, is_some, unwrap_or, Ordering, arith, refl, sym, ap, subst, ◌∙◌}
+use Rattle.std.proofs.Common.{◌≡◌, ℕ, Bool, true, false, cond, ◌||◌, List, [], ◌∷◌, ◌++◌, map, filter, Option, Some, None, IsSome, is_some, unwrap_or, Ordering, arith, refl, sym, ap, subst, ◌∙◌}
 use Rattle.std.specs.Prelude.{T, ◌==◌, nat_lt}
 use Rattle.std.proofs.lemmas.Bool.{false≢true, ltb-true}
 use Rattle.std.specs.declared.cmp.Ordering.TheVariants.{Less, Equal, Greater}
@@ -15,13 +15,14 @@ use Rattle.ft_cells.specs.Entries.{entry_at, entry_cmp, entry_cmp_total, entry_c
 use Rattle.ft_cells.specs.declared.entry.Entry.{Entry as DirEntry}
 use Rattle.ft_cells.specs.declared.node.Node.{Node}
 use Rattle.ft_cells.specs.declared.open_file.OpenFile.{OpenFile}
-use Rattle.ft_cells.specs.Cells.{Cells, DirCells, FileCells, Opens, no_dir, no_file, dir_names, dir_entry, filled, entry_of, parent_of, links_of, bytes_of, body_in, open_of, is_there, has_dir, is_open, has_file, HasDirPlace, HasFilePlace}
-use Rattle.ft_cells.specs.Plain.{PlainTree}
-use Rattle.ft_tree.specs.Tidy.{tidy, edges_at, edges_from, member, dirs_from, is_named, files_from, opens_from}
+use Rattle.ft_cells.specs.declared.attributes.Attributes.{Attributes}
+use Rattle.ft_cells.specs.Cells.{Cells, DirCells, FileCells, Opens, no_dir, no_file, file_of, dir_names, dir_entry, filled, entry_of, parent_of, dir_attributes_of, links_of, open_of, is_there, has_dir, is_open, has_file, HasDirPlace, HasFilePlace}
+use Rattle.ft_cells.specs.Plain.{PlainFile, PlainTree}
+use Rattle.ft_tree.specs.Tidy.{tidy, edges_at, edges_from, member, dirs_from, is_named, plain_file, files_from, opens_from}
 use Rattle.ft_tree.specs.Sound.{AreSoundCells}
 use Rattle.ft_posix.proofs.Conjunction.{first, second}
 use Rattle.ft_posix.proofs.Listed.{lesser}
-use Rattle.ft_posix.proofs.Places.{file_place-linked, body-place}
+use Rattle.ft_posix.proofs.Places.{file_place-linked}
 use Rattle.ft_posix.proofs.Opens.{named-open}
 use Rattle.ft_posix.proofs.Free.{has_dir-parent}
 
@@ -112,31 +113,56 @@ get-tidy cells d name =
 
 -- The directories.
 
+-- what is kept of a stored directory, where it is there
+abbrev there_dir : ℕ → Option DirCells → Option (Option Attributes)
+there_dir d None = None
+there_dir d (Some x) = cond (is_there d x) (Some x.attributes) None
+
 -- what is found among the directories that are there
-dirs_from-find : (d : ℕ) (es : List (ℕ × DirCells)) → T (is_sorted nat_cmp es) → is_some (find nat_cmp d (dirs_from es)) ≡ option_map_or (is_there d) (find nat_cmp d es) false
+dirs_from-find : (d : ℕ) (es : List (ℕ × DirCells)) → T (is_sorted nat_cmp es) → find nat_cmp d (dirs_from es) ≡ there_dir d (find nat_cmp d es)
 dirs_from-find d [] h = refl
 dirs_from-find d (e ∷ es) h = by_tie (eq_by_cmp nat_cmp d e.0) refl (is_there e.0 e.1) refl (dirs_from-find d es (second _ _ h))
   where
-    none_later : eq_by_cmp nat_cmp d e.0 ≡ true → option_map_or (is_there d) (find nat_cmp d es) false ≡ false
-    none_later tie = ap (λ o. option_map_or (is_there d) o false) (gone nat_cmp nat_cmp_total d e.0 es (tied_from _ tie) (first _ _ h))
+    none_later : eq_by_cmp nat_cmp d e.0 ≡ true → there_dir d (find nat_cmp d es) ≡ None
+    none_later tie = ap (there_dir d) (gone nat_cmp nat_cmp_total d e.0 es (tied_from _ tie) (first _ _ h))
 
-    there : eq_by_cmp nat_cmp d e.0 ≡ true → is_there d e.1 ≡ is_there e.0 e.1
-    there tie = ap (λ i. is_there i e.1) (exact_unsigned d e.0 (tied_from _ tie))
+    there : (b : Bool) → eq_by_cmp nat_cmp d e.0 ≡ true → is_there e.0 e.1 ≡ b → there_dir d (Some e.1) ≡ cond b (Some e.1.attributes) None
+    there b tie is = ap (λ t. cond t (Some e.1.attributes) None) (ap (λ i. is_there i e.1) (exact_unsigned d e.0 (tied_from _ tie)) ∙ is)
 
-    by_tie : (t : Bool) → eq_by_cmp nat_cmp d e.0 ≡ t → (b : Bool) → is_there e.0 e.1 ≡ b → is_some (find nat_cmp d (dirs_from es)) ≡ option_map_or (is_there d) (find nat_cmp d es) false
-        → is_some (find nat_cmp d (map member (cond b (e ∷ filter (λ x. is_there x.0 x.1) es) (filter (λ x. is_there x.0 x.1) es)))) ≡ option_map_or (is_there d) (cond t (Some e.1) (find nat_cmp d es)) false
-    by_tie true tie true is rest = ap (λ t. is_some (cond t (Some tt) (find nat_cmp d (dirs_from es)))) tie ∙ sym (there tie ∙ is)
-    by_tie true tie false is rest = rest ∙ none_later tie ∙ sym (there tie ∙ is)
-    by_tie false tie true is rest = ap (λ t. is_some (cond t (Some tt) (find nat_cmp d (dirs_from es)))) tie ∙ rest
+    by_tie : (t : Bool) → eq_by_cmp nat_cmp d e.0 ≡ t → (b : Bool) → is_there e.0 e.1 ≡ b → find nat_cmp d (dirs_from es) ≡ there_dir d (find nat_cmp d es)
+        → find nat_cmp d (map member (cond b (e ∷ filter (λ x. is_there x.0 x.1) es) (filter (λ x. is_there x.0 x.1) es))) ≡ there_dir d (cond t (Some e.1) (find nat_cmp d es))
+    by_tie true tie true is rest = ap (λ t. cond t (Some e.1.attributes) (find nat_cmp d (dirs_from es))) tie ∙ sym (there true tie is)
+    by_tie true tie false is rest = rest ∙ none_later tie ∙ sym (there false tie is)
+    by_tie false tie true is rest = ap (λ t. cond t (Some e.1.attributes) (find nat_cmp d (dirs_from es))) tie ∙ rest
     by_tie false tie false is rest = rest
 
--- a directory of the plain tree is one of the cells
+-- what is there of a directory is kept of it
+there-kept : (d : ℕ) (o : Option DirCells) → there_dir d o ≡ cond (option_map_or (is_there d) o false) (Some (unwrap_or o no_dir).attributes) None
+there-kept d None = refl
+there-kept d (Some x) = refl
+
+-- a directory of the plain tree is one of the cells, with its attributes
+pub get-tidy_dir : (cells : Cells) (d : ℕ) → get (tidy cells).dirs d ≡ cond (has_dir cells d) (Some (dir_attributes_of cells d)) None
+get-tidy_dir cells d =
+    get-from_entries nat_cmp_total (dirs_from (entries cells.directories)) d ∙ dirs_from-find d (entries cells.directories) (entries_sorted cells.directories)
+    ∙ ap (there_dir d) (sym (get-entries cells.directories d)) ∙ there-kept d (get cells.directories d)
+
+-- whether one of two is there
+there-some : {A : Type 0} (b : Bool) (x : A) → is_some (cond b (Some x) None) ≡ b
+there-some true x = refl
+there-some false x = refl
+
 pub contains-tidy : (cells : Cells) (d : ℕ) → contains_key (tidy cells).dirs d ≡ has_dir cells d
-contains-tidy cells d =
-    ap is_some (get-from_entries nat_cmp_total (dirs_from (entries cells.directories)) d) ∙ dirs_from-find d (entries cells.directories) (entries_sorted cells.directories)
-    ∙ ap (λ o. option_map_or (is_there d) o false) (sym (get-entries cells.directories d))
+contains-tidy cells d = ap is_some (get-tidy_dir cells d) ∙ there-some (has_dir cells d) (dir_attributes_of cells d)
+
+-- what is kept of directories with these parents: of the root, and of those that have one
+abbrev pub kept_dir : (ℕ → Option ℕ) → (ℕ → Option Attributes) → ℕ → Option (Option Attributes)
+kept_dir parent attributes d = cond ((d == 1) || is_some (parent d)) (Some (attributes d)) None
 
 -- the root or one with a parent
+pub get-dirs : (cells : Cells) → HasDirPlace cells 1 → (d : ℕ) → get (tidy cells).dirs d ≡ kept_dir (parent_of cells) (dir_attributes_of cells) d
+get-dirs cells root d = get-tidy_dir cells d ∙ ap (λ b. cond b (Some (dir_attributes_of cells d)) None) (has_dir-parent cells root d)
+
 pub contains-parent : (cells : Cells) → HasDirPlace cells 1 → (d : ℕ) → contains_key (tidy cells).dirs d ≡ ((d == 1) || is_some (parent_of cells d))
 contains-parent cells root d = contains-tidy cells d ∙ has_dir-parent cells root d
 
@@ -146,37 +172,41 @@ contains-parent cells root d = contains-tidy cells d ∙ has_dir-parent cells ro
 abbrev is_kept : Opens → ℕ → Option FileCells → Bool
 is_kept opens i o = nat_lt 0 (unwrap_or o no_file).links || is_open opens i
 
--- the bytes of what is stored, where it is there
-abbrev kept_bytes : Opens → ℕ → Option FileCells → Option (List ℕ)
-kept_bytes opens i o = cond (is_kept opens i o) (option_map (λ (f : FileCells). f.bytes) o) None
+-- a file of the cells as the plain tree has it
+abbrev pub plain_of : FileCells → PlainFile
+plain_of f = record { attributes = f.attributes; contents = f.contents }
 
--- of what is not stored there are none
-kept-none : (opens : Opens) (i : ℕ) → kept_bytes opens i None ≡ None
-kept-none opens i = elim (is_kept opens i None) as (λ b. ◌≡◌ {A = Option (List ℕ)} (cond b None None) None) [ true ↦ refl | false ↦ refl ]
+-- the file of what is stored, where it is there
+abbrev kept_file : Opens → ℕ → Option FileCells → Option PlainFile
+kept_file opens i o = cond (is_kept opens i o) (option_map plain_of o) None
+
+-- of what is not stored there is none
+kept-none : (opens : Opens) (i : ℕ) → kept_file opens i None ≡ None
+kept-none opens i = elim (is_kept opens i None) as (λ b. ◌≡◌ {A = Option PlainFile} (cond b None None) None) [ true ↦ refl | false ↦ refl ]
 
 -- what is found among the files that are there
-files_from-find : (opens : Opens) (i : ℕ) (es : List (ℕ × FileCells)) → T (is_sorted nat_cmp es) → find nat_cmp i (files_from opens es) ≡ kept_bytes opens i (find nat_cmp i es)
+files_from-find : (opens : Opens) (i : ℕ) (es : List (ℕ × FileCells)) → T (is_sorted nat_cmp es) → find nat_cmp i (files_from opens es) ≡ kept_file opens i (find nat_cmp i es)
 files_from-find opens i [] h = sym (kept-none opens i)
 files_from-find opens i (e ∷ es) h = by_tie (eq_by_cmp nat_cmp i e.0) refl (is_named opens e) refl (files_from-find opens i es (second _ _ h))
   where
-    none_later : eq_by_cmp nat_cmp i e.0 ≡ true → kept_bytes opens i (find nat_cmp i es) ≡ None
-    none_later tie = ap (kept_bytes opens i) (gone nat_cmp nat_cmp_total i e.0 es (tied_from _ tie) (first _ _ h)) ∙ kept-none opens i
+    none_later : eq_by_cmp nat_cmp i e.0 ≡ true → kept_file opens i (find nat_cmp i es) ≡ None
+    none_later tie = ap (kept_file opens i) (gone nat_cmp nat_cmp_total i e.0 es (tied_from _ tie) (first _ _ h)) ∙ kept-none opens i
 
-    kept : (b : Bool) → eq_by_cmp nat_cmp i e.0 ≡ true → is_named opens e ≡ b → kept_bytes opens i (Some e.1) ≡ cond b (Some e.1.bytes) None
-    kept b tie is = ap (λ t. cond t (Some e.1.bytes) None) (ap (λ j. is_named opens (j, e.1)) (exact_unsigned i e.0 (tied_from _ tie)) ∙ is)
+    kept : (b : Bool) → eq_by_cmp nat_cmp i e.0 ≡ true → is_named opens e ≡ b → kept_file opens i (Some e.1) ≡ cond b (Some (plain_of e.1)) None
+    kept b tie is = ap (λ t. cond t (Some (plain_of e.1)) None) (ap (λ j. is_named opens (j, e.1)) (exact_unsigned i e.0 (tied_from _ tie)) ∙ is)
 
-    by_tie : (t : Bool) → eq_by_cmp nat_cmp i e.0 ≡ t → (b : Bool) → is_named opens e ≡ b → find nat_cmp i (files_from opens es) ≡ kept_bytes opens i (find nat_cmp i es)
-        → find nat_cmp i (map (λ x. (x.0, x.1.bytes)) (cond b (e ∷ filter (is_named opens) es) (filter (is_named opens) es))) ≡ kept_bytes opens i (cond t (Some e.1) (find nat_cmp i es))
-    by_tie true tie true is rest = ap (λ t. cond t (Some e.1.bytes) (find nat_cmp i (files_from opens es))) tie ∙ sym (kept true tie is)
+    by_tie : (t : Bool) → eq_by_cmp nat_cmp i e.0 ≡ t → (b : Bool) → is_named opens e ≡ b → find nat_cmp i (files_from opens es) ≡ kept_file opens i (find nat_cmp i es)
+        → find nat_cmp i (map plain_file (cond b (e ∷ filter (is_named opens) es) (filter (is_named opens) es))) ≡ kept_file opens i (cond t (Some e.1) (find nat_cmp i es))
+    by_tie true tie true is rest = ap (λ t. cond t (Some (plain_of e.1)) (find nat_cmp i (files_from opens es))) tie ∙ sym (kept true tie is)
     by_tie true tie false is rest = rest ∙ none_later tie ∙ sym (kept false tie is)
-    by_tie false tie true is rest = ap (λ t. cond t (Some e.1.bytes) (find nat_cmp i (files_from opens es))) tie ∙ rest
+    by_tie false tie true is rest = ap (λ t. cond t (Some (plain_of e.1)) (find nat_cmp i (files_from opens es))) tie ∙ rest
     by_tie false tie false is rest = rest
 
 -- a file of the plain tree is one of the cells that an entry or a description names
-pub get-files : (cells : Cells) (i : ℕ) → get (tidy cells).files i ≡ cond (has_file cells i) (body_in cells i) None
-get-files cells i =
+pub get-there : (cells : Cells) (i : ℕ) → get (tidy cells).files i ≡ cond (has_file cells i) (option_map plain_of (get cells.files i)) None
+get-there cells i =
     get-from_entries nat_cmp_total (files_from cells.opens (entries cells.files)) i ∙ files_from-find cells.opens i (entries cells.files) (entries_sorted cells.files)
-    ∙ ap (kept_bytes cells.opens i) (sym (get-entries cells.files i))
+    ∙ ap (kept_file cells.opens i) (sym (get-entries cells.files i))
 
 -- a file that an entry or a description names is stored
 pub file_place-there : (cells : Cells) → AreSoundCells cells → (i : ℕ) → has_file cells i ≡ true → HasFilePlace cells i
@@ -186,16 +216,25 @@ file_place-there cells sound i h = by_links (nat_lt 0 (links_of cells i)) refl h
     by_links true is h = file_place-linked cells i (λ none. let above = ltb-true 0 (links_of cells i) is in absurd (omega arith))
     by_links false is h = let x = named-open cells i h in subst (HasFilePlace cells) x.3 (sound.opens x.0 x.1 x.2).0
 
--- so its bytes are those of the cells
-pub get-bytes : (cells : Cells) → AreSoundCells cells → (i : ℕ) → get (tidy cells).files i ≡ cond (has_file cells i) (Some (bytes_of cells i)) None
-get-bytes cells sound i = get-files cells i ∙ by_there (has_file cells i) refl
+-- the file of a number, as the plain tree has it
+abbrev pub file_at : Cells → ℕ → PlainFile
+file_at cells i = plain_of (file_of cells i)
+
+-- of one that is stored
+pub stored-file : (o : Option FileCells) → IsSome o → option_map plain_of o ≡ Some (plain_of (unwrap_or o no_file))
+stored-file None is = absurd (false≢true is)
+stored-file (Some x) is = refl
+
+-- so it is that of the cells
+pub get-files : (cells : Cells) → AreSoundCells cells → (i : ℕ) → get (tidy cells).files i ≡ cond (has_file cells i) (Some (file_at cells i)) None
+get-files cells sound i = get-there cells i ∙ by_there (has_file cells i) refl
   where
-    by_there : (b : Bool) → has_file cells i ≡ b → cond b (body_in cells i) None ≡ cond b (Some (bytes_of cells i)) None
-    by_there true is = body-place cells i (file_place-there cells sound i is)
+    by_there : (b : Bool) → has_file cells i ≡ b → cond b (option_map plain_of (get cells.files i)) None ≡ cond b (Some (file_at cells i)) None
+    by_there true is = stored-file (get cells.files i) (file_place-there cells sound i is)
     by_there false is = refl
 
 pub contains-files : (cells : Cells) → AreSoundCells cells → (i : ℕ) → contains_key (tidy cells).files i ≡ has_file cells i
-contains-files cells sound i = ap is_some (get-bytes cells sound i) ∙ elim (has_file cells i) as (λ b. is_some (cond b (Some (bytes_of cells i)) None) ≡ b) [ true ↦ refl | false ↦ refl ]
+contains-files cells sound i = ap is_some (get-files cells sound i) ∙ there-some (has_file cells i) (file_at cells i)
 
 -- The descriptions.
 
@@ -218,19 +257,12 @@ pub get-opens : (cells : Cells) (f : ℕ) → get (tidy cells).opens f ≡ open_
 get-opens cells f =
     get-from_entries nat_cmp_total (opens_from (entries cells.opens)) f ∙ opens_from-find f (entries cells.opens) (entries_sorted cells.opens) ∙ ap option_flatten (sym (get-entries cells.opens f))
 
--- members of sets have no value to differ in
-pub same_unit : (a b : Option (Unit {0})) → is_some a ≡ is_some b → a ≡ b
-same_unit None None h = refl
-same_unit None (Some x) h = absurd (false≢true h)
-same_unit (Some x) None h = absurd (false≢true (sym h))
-same_unit (Some x) (Some y) h = refl
-
 -- plain trees with the same limits, edges, directories, files and descriptions are one
-pub same_plain : (p q : PlainTree) → p.limits ≡ q.limits → ((d : ℕ) (name : List ℕ) → get p.edges (entry_at d name) ≡ get q.edges (entry_at d name)) → ((d : ℕ) → contains_key p.dirs d ≡ contains_key q.dirs d)
+pub same_plain : (p q : PlainTree) → p.limits ≡ q.limits → ((d : ℕ) (name : List ℕ) → get p.edges (entry_at d name) ≡ get q.edges (entry_at d name)) → ((d : ℕ) → get p.dirs d ≡ get q.dirs d)
     → ((i : ℕ) → get p.files i ≡ get q.files i) → ((f : ℕ) → get p.opens f ≡ get q.opens f) → p ≡ q
 same_plain p q limits same_edges same_dirs same_files same_opens =
     let edges = same_map entry_cmp_total entry_cmp_exact p.edges q.edges (λ e. same_edges e.dir e.name) in
-    let dirs = same_map nat_cmp_total exact_unsigned p.dirs q.dirs (λ d. same_unit _ _ (same_dirs d)) in
+    let dirs = same_map nat_cmp_total exact_unsigned p.dirs q.dirs same_dirs in
     let files = same_map nat_cmp_total exact_unsigned p.files q.files same_files in
     let opens = same_map nat_cmp_total exact_unsigned p.opens q.opens same_opens in
     λ i. record { limits = limits i; edges = edges i; dirs = dirs i; files = files i; opens = opens i }

@@ -7,12 +7,13 @@ use Rattle.ft_laws.specs.Lists.{Each, In}
 use Rattle.ft_laws.proofs.Lists.{Each-at}
 use Rattle.ft_cells.specs.Entries.{entry_at}
 use Rattle.ft_cells.specs.declared.cell.Cell.{Cell}
-use Rattle.ft_cells.specs.declared.cell.Cell.TheVariants.{Entry, Names, Parent, Links, Bytes, Fd}
+use Rattle.ft_cells.specs.declared.cell.Cell.TheVariants.{Entry, Names, Parent, Links, Bytes, Fd, DirAttributes, FileAttributes}
 use Rattle.ft_cells.specs.declared.node.Node.{Node}
 use Rattle.ft_cells.specs.declared.node.Form.{Form}
 use Rattle.ft_cells.specs.declared.node.Node.TheVariants.{File as FileNode}
 use Rattle.ft_cells.specs.declared.open_file.OpenFile.{OpenFile}
-use Rattle.ft_cells.specs.Cells.{Cells, entry_of, open_of}
+use Rattle.ft_cells.specs.declared.attributes.Attributes.{Attributes}
+use Rattle.ft_cells.specs.Cells.{Cells, Contents, entry_of, open_of}
 use Rattle.ft_posix.specs.Outcomes.{Write, sets}
 use Rattle.ft_posix.specs.Descriptors.{at_offset}
 use Rattle.ft_posix.specs.Links.{renamed}
@@ -20,7 +21,7 @@ use Rattle.ft_posix.specs.Stored.{put, put_all}
 use Rattle.ft_posix.specs.Accesses.{written_cell}
 use Rattle.ft_tree.specs.Held.{Holds, held, set_cell}
 use Rattle.ft_posix.specs.Posix.{file_of, node_names, description_names, names_file}
-use Rattle.ft_posix.proofs.Puts.{is_place, with_entry, entry_after, entry-put_entry, entry-put_parent, entry-put_all, open-put_open}
+use Rattle.ft_posix.proofs.Puts.{is_place, with_entry, entry_after, entry-put_entry, entry-put_parent, entry-put_dir_attributes, entry-put_all, open-put_open}
 use Rattle.ft_posix.proofs.Made.{same_place, own_place}
 use Rattle.ft_posix.proofs.Upon.{Upon, IsLeft}
 
@@ -44,6 +45,8 @@ entry-lost cells (Parent d) p e other i was gone = absurd (false≢true (sym gon
 entry-lost cells (Links j) links e other i was gone = absurd (false≢true (sym gone ∙ was))
 entry-lost cells (Bytes j) bytes e other i was gone = absurd (false≢true (sym gone ∙ was))
 entry-lost cells (Fd f) to e other i was gone = absurd (false≢true (sym gone ∙ was))
+entry-lost cells (DirAttributes d) to e other i was gone = absurd (false≢true (sym gone ∙ ap (λ x. node_names x i) (entry-put_dir_attributes cells d to e other) ∙ was))
+entry-lost cells (FileAttributes j) to e other i was gone = absurd (false≢true (sym gone ∙ was))
 
 -- and so is a description
 open-lost : (cells : Cells) (c : Cell) (to : Holds c) (g i : ℕ) → description_names (open_of cells g) i ≡ true → description_names (open_of (set_cell cells c to) g) i ≡ false → Empties (Fd g) i (sets c to)
@@ -52,6 +55,8 @@ open-lost cells (Names d) to g i was gone = absurd (false≢true (sym gone ∙ w
 open-lost cells (Parent d) p g i was gone = absurd (false≢true (sym gone ∙ was))
 open-lost cells (Links j) links g i was gone = absurd (false≢true (sym gone ∙ was))
 open-lost cells (Bytes j) bytes g i was gone = absurd (false≢true (sym gone ∙ was))
+open-lost cells (DirAttributes d) to g i was gone = absurd (false≢true (sym gone ∙ was))
+open-lost cells (FileAttributes j) to g i was gone = absurd (false≢true (sym gone ∙ was))
 open-lost cells (Fd f) to g i was gone = by_number (g == f) refl (sym (ap (λ x. description_names x i) (open-put_open cells f to g)) ∙ gone)
   where
     by_number : (b : Bool) → (g == f) ≡ b → description_names (cond b to (open_of cells g)) i ≡ false → Empties (Fd g) i (sets (Fd f) to)
@@ -65,6 +70,8 @@ one-lost cells w (Names d) i was gone = absurd (false≢true was)
 one-lost cells w (Parent d) i was gone = absurd (false≢true was)
 one-lost cells w (Links j) i was gone = absurd (false≢true was)
 one-lost cells w (Bytes j) i was gone = absurd (false≢true was)
+one-lost cells w (DirAttributes d) i was gone = absurd (false≢true was)
+one-lost cells w (FileAttributes j) i was gone = absurd (false≢true was)
 one-lost cells w (Fd g) i was gone = open-lost cells w.cell w.value g i was gone
 
 -- and one that names it before all writes, and not after them, is set by one of them
@@ -110,7 +117,9 @@ module _ (cells : Cells) (k : ℕ) (seen : List Cell) where
         → ((i : ℕ) → node_names (entry_of cells d name) i ≡ true → node_names to i ≡ false → MayGo all i) → IsUpon all (sets (Entry (entry_at d name)) to)
     upon_parent : (d : ℕ) (p : Option ℕ) → IsUpon all (sets (Parent d) p)
     upon_links : (i links : ℕ) → Upon cells k seen i → IsUpon all (sets (Links i) links)
-    upon_bytes : (i : ℕ) (bytes : List ℕ) → Upon cells k seen i → IsUpon all (sets (Bytes i) bytes)
+    upon_contents : (i : ℕ) (contents : Contents) → Upon cells k seen i → IsUpon all (sets (Bytes i) contents)
+    upon_dir_attributes : (d : ℕ) (to : Option Attributes) → IsUpon all (sets (DirAttributes d) to)
+    upon_file_attributes : (i : ℕ) (to : Option Attributes) → Upon cells k seen i → IsUpon all (sets (FileAttributes i) to)
     upon_open : (f : ℕ) (to : Option OpenFile) → ((i : ℕ) → description_names to i ≡ true → Upon cells k seen i)
         → ((i : ℕ) → description_names (open_of cells f) i ≡ true → description_names to i ≡ false → MayGo all i) → IsUpon all (sets (Fd f) to)
 
@@ -123,7 +132,9 @@ module _ (cells : Cells) (k : ℕ) (seen : List Cell) where
   upon-cell all _ (upon_entry d name to names goes) i is = absurd (none-some i is)
   upon-cell all _ (upon_parent d p) i is = absurd (none-some i is)
   upon-cell all _ (upon_links j links upon) i is = subst (Upon cells k seen) (same_Some j i is) upon
-  upon-cell all _ (upon_bytes j bytes upon) i is = subst (Upon cells k seen) (same_Some j i is) upon
+  upon-cell all _ (upon_contents j contents upon) i is = subst (Upon cells k seen) (same_Some j i is) upon
+  upon-cell all _ (upon_dir_attributes d to) i is = absurd (none-some i is)
+  upon-cell all _ (upon_file_attributes j to upon) i is = subst (Upon cells k seen) (same_Some j i is) upon
   upon-cell all _ (upon_open f to names goes) i is = absurd (none-some i is)
 
   -- the file that is named
@@ -131,7 +142,9 @@ module _ (cells : Cells) (k : ℕ) (seen : List Cell) where
   upon-name all _ (upon_entry d name to names goes) i is = names i is
   upon-name all _ (upon_parent d p) i is = absurd (false≢true is)
   upon-name all _ (upon_links j links upon) i is = absurd (false≢true is)
-  upon-name all _ (upon_bytes j bytes upon) i is = absurd (false≢true is)
+  upon-name all _ (upon_contents j contents upon) i is = absurd (false≢true is)
+  upon-name all _ (upon_dir_attributes d to) i is = absurd (false≢true is)
+  upon-name all _ (upon_file_attributes j to upon) i is = absurd (false≢true is)
   upon-name all _ (upon_open f to names goes) i is = names i is
 
   -- a file that was named
@@ -139,7 +152,9 @@ module _ (cells : Cells) (k : ℕ) (seen : List Cell) where
   may-go all _ (upon_entry d name to names goes) i was gone = goes i was gone
   may-go all _ (upon_parent d p) i was gone = absurd (false≢true was)
   may-go all _ (upon_links j links upon) i was gone = absurd (false≢true was)
-  may-go all _ (upon_bytes j bytes upon) i was gone = absurd (false≢true was)
+  may-go all _ (upon_contents j contents upon) i was gone = absurd (false≢true was)
+  may-go all _ (upon_dir_attributes d to) i was gone = absurd (false≢true was)
+  may-go all _ (upon_file_attributes j to upon) i was gone = absurd (false≢true was)
   may-go all _ (upon_open f to names goes) i was gone = goes i was gone
 
   -- so a name that the writes take away may go

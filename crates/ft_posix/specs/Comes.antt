@@ -6,13 +6,13 @@ use Rattle.ft_body.specs.Bytes.{bytes_at, fitting, written, resized}
 use Rattle.ft_path.specs.declared.errno.Errno.{Errno}
 use Rattle.ft_cells.specs.declared.node.Spot.{Spot}
 use Rattle.ft_cells.specs.Nodes.{with_kinds}
-use Rattle.ft_cells.specs.Cells.{Cells, bytes_of, names_of}
+use Rattle.ft_cells.specs.Cells.{Cells, untimed, timed, contents_of, bytes_of, names_of}
 use Rattle.ft_cells.specs.Looks.{Looks, answer}
 use Rattle.ft_tree.specs.Views.{view_of}
 use Rattle.ft_posix.specs.declared.call.Reply.{Reply}
 use Rattle.ft_posix.specs.declared.call.Reply.TheVariants as reply
 use Rattle.ft_posix.specs.declared.intent.Edit.{Edit}
-use Rattle.ft_posix.specs.declared.intent.Edit.TheVariants.{Entry, Parent, Links, Overwrite, Resize, Open}
+use Rattle.ft_posix.specs.declared.intent.Edit.TheVariants.{Entry, Parent, Links, Overwrite, Resize, Open, DirAttributes, FileAttributes, Time}
 use Rattle.ft_posix.specs.declared.intent.Told.{Told}
 use Rattle.ft_posix.specs.declared.intent.Told.TheVariants.{Done, Number, Info, Failed, NamesOf, BytesOf}
 use Rattle.ft_posix.specs.declared.intent.Intent.{Intent}
@@ -26,7 +26,7 @@ use Rattle.ft_posix.specs.Looking.{Looking, noted}
 abbrev pub reply_of : Cells → Told → Reply
 reply_of cells Done = reply.Done
 reply_of cells (Number n) = reply.Number n
-reply_of cells (Info kind number links size) = reply.Info kind number links size
+reply_of cells (Info kind number links size attributes time) = reply.Info kind number links size attributes time
 reply_of cells (Failed e) = reply.Failed e
 reply_of cells (NamesOf d) = reply.Names (with_kinds (names_of cells d))
 reply_of cells (BytesOf file at len) = reply.Bytes (bytes_at (bytes_of cells file) at len)
@@ -36,9 +36,12 @@ abbrev pub write_of : Cells → Edit → Write
 write_of cells (Entry entry to) = sets (cell.Entry entry) to
 write_of cells (Parent d to) = sets (cell.Parent d) to
 write_of cells (Links i to) = sets (cell.Links i) to
-write_of cells (Overwrite i at bytes) = sets (cell.Bytes i) (written (bytes_of cells i) at (fitting LARGEST_SIZE bytes.now at))
-write_of cells (Resize i size) = sets (cell.Bytes i) (resized (bytes_of cells i) size)
+write_of cells (Overwrite i at bytes) = sets (cell.Bytes i) (untimed (written (bytes_of cells i) at (fitting LARGEST_SIZE bytes.now at)))
+write_of cells (Resize i size) = sets (cell.Bytes i) (untimed (resized (bytes_of cells i) size))
 write_of cells (Open f to) = sets (cell.Fd f) to
+write_of cells (DirAttributes d to) = sets (cell.DirAttributes d) to
+write_of cells (FileAttributes i to) = sets (cell.FileAttributes i) to
+write_of cells (Time i to) = sets (cell.Bytes i) (timed (contents_of cells i) to)
 
 -- the edited cells, with their new values
 abbrev pub writes_of : Cells → List Edit → List Write

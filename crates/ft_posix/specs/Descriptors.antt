@@ -9,6 +9,7 @@ use Rattle.ft_cells.specs.declared.open_file.OpenFile.{OpenFile}
 use Rattle.ft_cells.specs.declared.limits.TreeLimits.{TreeLimits}
 use Rattle.ft_cells.specs.declared.node.Form.TheVariants.{Regular}
 use Rattle.ft_cells.specs.Modes.{can_read, can_write}
+use Rattle.ft_cells.specs.Cells.{untimed}
 use Rattle.ft_cells.specs.Looks.{Looks, Answer, Look, then, or_else}
 use Rattle.ft_posix.specs.declared.TheConstants.{LAST_OFFSET}
 use Rattle.ft_posix.specs.declared.call.Whence.{Whence}
@@ -56,7 +57,7 @@ has_read fd description bytes = record { reply = BytesReply bytes; writes = sets
 
 -- at most so many bytes from the offset on are read
 abbrev pub read_open : ℕ → ℕ → OpenFile → Looks Outcome
-read_open fd len description = Look (Bytes description.file) (λ bytes. Answer (has_read fd description (bytes_at bytes description.offset len)))
+read_open fd len description = Look (Bytes description.file) (λ contents. Answer (has_read fd description (bytes_at contents.bytes description.offset len)))
 
 -- an offset or a length below zero is EINVAL
 abbrev pub not_negative : ℤ → Result ℕ Errno
@@ -66,7 +67,7 @@ not_negative (negsuc n) = Err EINVAL
 -- pread (POSIX.1-2017, System Interfaces, pread): at most so many bytes at an offset of the call,
 -- and that of the description stays
 abbrev pub pread_at : ℕ → OpenFile → ℕ → Looks Outcome
-pread_at len description at = Look (Bytes description.file) (λ bytes. Answer (told (BytesReply (bytes_at bytes at len))))
+pread_at len description at = Look (Bytes description.file) (λ contents. Answer (told (BytesReply (bytes_at contents.bytes at len))))
 
 -- pread, once its offset is judged
 abbrev pub pread_open : ℤ → ℕ → OpenFile → Looks Outcome
@@ -76,21 +77,21 @@ pread_open off len description = or_else failed (pread_at len description) (not_
 
 -- where a write begins: at the offset, or with append at the end
 abbrev pub write_place : OpenFile → Looks ℕ
-write_place description = cond description.append (Look (Bytes description.file) (λ bytes. Answer (length bytes))) (Answer description.offset)
+write_place description = cond description.append (Look (Bytes description.file) (λ contents. Answer (length contents.bytes))) (Answer description.offset)
 
--- the bytes that were taken are written, the offset becomes their end, and the answer is their
--- count
+-- the bytes that were taken are written, the file's time goes, the offset becomes their end, and
+-- the answer is their count
 abbrev pub has_written : ℕ → OpenFile → ℕ → List ℕ → List ℕ → Outcome
 has_written fd description at taken bytes = record {
   reply = Number (length taken);
-  writes = sets (Bytes description.file) (written bytes at taken) ∷ sets (Fd fd) (Some (at_offset description (at + length taken))) ∷ [];
+  writes = sets (Bytes description.file) (untimed (written bytes at taken)) ∷ sets (Fd fd) (Some (at_offset description (at + length taken))) ∷ [];
 }
 
 -- write at a place: at or past the largest size that the tree allows it is EFBIG, and else as many
 -- bytes as have room are written; zeros fill a gap before them
 abbrev pub write_at : TreeLimits → ℕ → OpenFile → List ℕ → ℕ → Looks Outcome
 write_at limits fd description bytes at =
-    cond (nat_le limits.file_size at) (Answer (failed EFBIG)) (Look (Bytes description.file) (λ old. Answer (has_written fd description at (fitting limits.file_size bytes at) old)))
+    cond (nat_le limits.file_size at) (Answer (failed EFBIG)) (Look (Bytes description.file) (λ old. Answer (has_written fd description at (fitting limits.file_size bytes at) old.bytes)))
 
 -- to write no bytes changes nothing, and looks at the description alone, with append too
 abbrev pub write_open : TreeLimits → ℕ → List ℕ → OpenFile → Looks Outcome
@@ -100,16 +101,16 @@ write_open limits fd (first ∷ more) description = then (write_place descriptio
 -- pwrite (POSIX.1-2017, System Interfaces, pwrite): the offset of the description stays, and
 -- append has no effect, as POSIX has it, where Linux appends
 
--- the bytes that were taken are written, and the answer is their count
+-- the bytes that were taken are written, the file's time goes, and the answer is their count
 abbrev pub has_pwritten : OpenFile → ℕ → List ℕ → List ℕ → Outcome
-has_pwritten description at taken bytes = record { reply = Number (length taken); writes = sets (Bytes description.file) (written bytes at taken) ∷ [] }
+has_pwritten description at taken bytes = record { reply = Number (length taken); writes = sets (Bytes description.file) (untimed (written bytes at taken)) ∷ [] }
 
 -- pwrite at a place: to write no bytes changes nothing, and at or past the largest size that the
 -- tree allows it is EFBIG
 abbrev pub pwrite_at : TreeLimits → OpenFile → List ℕ → ℕ → Looks Outcome
 pwrite_at limits description [] at = Answer (told (Number 0))
 pwrite_at limits description (first ∷ more) at =
-    cond (nat_le limits.file_size at) (Answer (failed EFBIG)) (Look (Bytes description.file) (λ old. Answer (has_pwritten description at (fitting limits.file_size (first ∷ more) at) old)))
+    cond (nat_le limits.file_size at) (Answer (failed EFBIG)) (Look (Bytes description.file) (λ old. Answer (has_pwritten description at (fitting limits.file_size (first ∷ more) at) old.bytes)))
 
 -- pwrite, once its offset is judged
 abbrev pub pwrite_open : TreeLimits → ℤ → List ℕ → OpenFile → Looks Outcome
@@ -121,7 +122,7 @@ pwrite_open limits off bytes description = or_else failed (pwrite_at limits desc
 abbrev pub seek_from : Whence → OpenFile → Looks ℕ
 seek_from Set description = Answer 0
 seek_from Cur description = Answer description.offset
-seek_from End description = Look (Bytes description.file) (λ bytes. Answer (length bytes))
+seek_from End description = Look (Bytes description.file) (λ contents. Answer (length contents.bytes))
 
 -- where an offset leads from a place, unless below zero
 abbrev pub moved : ℕ → ℤ → Option ℕ

@@ -9,7 +9,7 @@ use Rattle.ft_path.specs.declared.path.Parts.{Parts}
 use Rattle.ft_path.specs.declared.errno.Errno.{Errno}
 use Rattle.ft_path.specs.declared.errno.Errno.TheVariants.{ENOENT, ENOTDIR, EEXIST, EINVAL, EBUSY, ENOTEMPTY}
 use Rattle.ft_cells.specs.declared.entry.Entry.{Entry as DirEntry}
-use Rattle.ft_cells.specs.declared.cell.Cell.TheVariants.{Entry, Names, Parent}
+use Rattle.ft_cells.specs.declared.cell.Cell.TheVariants.{Entry, Names, Parent, DirAttributes}
 use Rattle.ft_cells.specs.declared.node.Node.{Node}
 use Rattle.ft_cells.specs.declared.node.Node.TheVariants.{Dir as DirNode, File as FileNode}
 use Rattle.ft_cells.specs.Nodes.{with_kinds}
@@ -18,19 +18,27 @@ use Rattle.ft_cells.specs.declared.node.Spot.{Spot}
 use Rattle.ft_cells.specs.declared.node.Spot.TheVariants.{Named, Itself}
 use Rattle.ft_posix.specs.declared.call.Reply.TheVariants.{Done, Names as NamesReply}
 use Rattle.ft_posix.specs.Outcomes.{sets, Outcome, failed, told, from_parts, unless}
+use Rattle.ft_posix.specs.Attributes.{dir_mode}
 
--- mkdir where the walk ended (XSH mkdir): a missing name becomes the directory whose number is
--- the call's stamp, and what is there, a directory itself or a symbolic link included, is EEXIST. A slash behind a
--- missing name is no fault (XBD 4.13); behind a file's name it was ENOTDIR in the walk.
-abbrev pub make_dir : ℕ → Spot → Looks Outcome
-make_dir stamp (Named entry None slash) = Answer (record { reply = Done; writes = sets (Parent stamp) (Some entry.dir) ∷ sets (Entry entry) (Some (DirNode stamp)) ∷ [] })
-make_dir stamp (Named entry (Some x) slash) = Answer (failed EEXIST)
-make_dir stamp (Itself dir) = Answer (failed EEXIST)
+-- a new directory, whose number is the call's stamp, with the mode that is given (XSH mkdir)
+abbrev pub makes_dir : ℕ → Option ℕ → DirEntry → Outcome
+makes_dir stamp mode entry = record {
+  reply = Done;
+  writes = sets (Parent stamp) (Some entry.dir) ∷ sets (Entry entry) (Some (DirNode stamp)) ∷ dir_mode stamp mode;
+}
+
+-- mkdir where the walk ended (XSH mkdir): a missing name becomes the directory, and what is there,
+-- a directory itself or a symbolic link included, is EEXIST. A slash behind a missing name is no
+-- fault (XBD 4.13); behind a file's name it was ENOTDIR in the walk.
+abbrev pub make_dir : ℕ → Option ℕ → Spot → Looks Outcome
+make_dir stamp mode (Named entry None slash) = Answer (makes_dir stamp mode entry)
+make_dir stamp mode (Named entry (Some x) slash) = Answer (failed EEXIST)
+make_dir stamp mode (Itself dir) = Answer (failed EEXIST)
 
 -- rmdir of a directory with these names (XSH rmdir): where there is one it is ENOTEMPTY, for
--- which POSIX allows EEXIST too, and else the directory goes with its entry
+-- which POSIX allows EEXIST too, and else the directory goes with its entry and its attributes
 abbrev pub if_empty : DirEntry → ℕ → List (List ℕ × Node) → Outcome
-if_empty entry number [] = record { reply = Done; writes = sets (Parent number) None ∷ sets (Entry entry) None ∷ [] }
+if_empty entry number [] = record { reply = Done; writes = sets (DirAttributes number) None ∷ sets (Parent number) None ∷ sets (Entry entry) None ∷ [] }
 if_empty entry number (name ∷ names) = failed ENOTEMPTY
 
 -- rmdir where the walk ended: a missing name is ENOENT, and a file ENOTDIR. A directory itself, to

@@ -11,7 +11,7 @@ use Rattle.ft_tree.specs.Sound.{AreSoundCells}
 use Rattle.ft_posix.specs.declared.call.Call.{Call}
 use Rattle.ft_posix.specs.declared.call.Mode.TheVariants.{Write as WriteMode}
 use Rattle.ft_posix.specs.declared.intent.Edit.{Edit}
-use Rattle.ft_posix.specs.declared.intent.Edit.TheVariants.{Entry, Parent, Links, Overwrite, Resize, Open}
+use Rattle.ft_posix.specs.declared.intent.Edit.TheVariants.{Entry, Parent, Links, Overwrite, Resize, Open, DirAttributes, FileAttributes, Time}
 use Rattle.ft_posix.specs.Outcomes.{Write}
 use Rattle.ft_posix.specs.Accesses.{Modes, written_cell}
 use Rattle.ft_posix.specs.Stored.{put, put_all, outcome}
@@ -25,6 +25,9 @@ edit_cell (Links i to) = cell.Links i
 edit_cell (Overwrite i at bytes) = cell.Bytes i
 edit_cell (Resize i size) = cell.Bytes i
 edit_cell (Open f to) = cell.Fd f
+edit_cell (DirAttributes d to) = cell.DirAttributes d
+edit_cell (FileAttributes i to) = cell.FileAttributes i
+edit_cell (Time i to) = cell.Bytes i
 
 -- the edited cells are written
 abbrev pub with_edits : Modes → List Edit → Modes
@@ -54,6 +57,9 @@ CanEdit cells (Links i to) = Unit {0}
 CanEdit cells (Overwrite i at bytes) = HasFilePlace cells i × (at ≤ LARGEST_SIZE)
 CanEdit cells (Resize i size) = HasFilePlace cells i × (size ≤ LARGEST_SIZE)
 CanEdit cells (Open f to) = Unit {0}
+CanEdit cells (DirAttributes d to) = HasDirPlace cells d
+CanEdit cells (FileAttributes i to) = HasFilePlace cells i
+CanEdit cells (Time i to) = HasFilePlace cells i
 
 -- each of the edits can, once those before it are made
 abbrev pub CanEditAll : Cells → List Edit → Type 0

@@ -1,6 +1,7 @@
 -- The execution of a call on the plain tree: what a call does for who sees the tree alone.
 use Rattle.std.specs.Prelude.{ℕ, Bool, cond, ◌==◌, ◌||◌, List, [], ◌∷◌, Option, Some, None}
 use Rattle.std.specs.List.{list_any}
+use Rattle.std.specs.Option.{option_flatten}
 use Rattle.std.specs.Ordering.{nat_cmp}
 use Rattle.std.specs.FinMap as finite
 use Rattle.ft_cells.specs.declared.entry.Entry.{Entry as DirEntry}
@@ -9,10 +10,11 @@ use Rattle.ft_cells.specs.declared.node.Node.{Node}
 use Rattle.ft_cells.specs.declared.open_file.OpenFile.{OpenFile}
 use Rattle.ft_cells.specs.Nodes.{number_of}
 use Rattle.ft_cells.specs.declared.cell.Cell.{Cell}
-use Rattle.ft_cells.specs.declared.cell.Cell.TheVariants.{Entry, Names, Parent, Links, Bytes, Fd}
+use Rattle.ft_cells.specs.declared.cell.Cell.TheVariants.{Entry, Names, Parent, Links, Bytes, Fd, DirAttributes, FileAttributes}
 use Rattle.ft_tree.specs.Held.{Holds}
 use Rattle.ft_cells.specs.Looks.{answer}
-use Rattle.ft_cells.specs.Plain.{PlainTree, NumberSet, view_in}
+use Rattle.ft_cells.specs.declared.attributes.Attributes.{Attributes}
+use Rattle.ft_cells.specs.Plain.{PlainTree, PlainDirs, view_in}
 use Rattle.ft_posix.specs.declared.call.Call.{Call}
 use Rattle.ft_posix.specs.declared.call.Reply.{Reply}
 use Rattle.ft_posix.specs.Outcomes.{Write}
@@ -23,24 +25,32 @@ abbrev pub set_edge : finite.FinMap entry_cmp Node → DirEntry → Option Node 
 set_edge edges e (Some x) = finite.insert edges e x
 set_edge edges e None = finite.remove edges e
 
--- a directory comes or goes with its parent, and the root never goes
-abbrev pub set_dir : NumberSet → ℕ → Option ℕ → NumberSet
-set_dir dirs d (Some p) = finite.insert dirs d tt
+-- a directory comes or goes with its parent, and the root never goes; one that goes elsewhere
+-- keeps its attributes
+abbrev pub set_dir : PlainDirs → ℕ → Option ℕ → PlainDirs
+set_dir dirs d (Some p) = finite.insert dirs d (option_flatten (finite.get dirs d))
 set_dir dirs d None = cond (d == 1) dirs (finite.remove dirs d)
+
+-- the attributes of a directory that is there are set
+abbrev pub set_dir_attributes : PlainDirs → ℕ → Option Attributes → PlainDirs
+set_dir_attributes dirs d to = cond (finite.contains_key dirs d) (finite.insert dirs d to) dirs
 
 -- a description is set, or taken away
 abbrev pub set_open : finite.FinMap nat_cmp OpenFile → ℕ → Option OpenFile → finite.FinMap nat_cmp OpenFile
 set_open opens f (Some o) = finite.insert opens f o
 set_open opens f None = finite.remove opens f
 
--- a cell is set in a plain tree. Links are not kept: they are the count of the edges.
+-- a cell is set in a plain tree. Links are not kept: they are the count of the edges. Of a file the
+-- attributes stay where its contents are set, and the other way round.
 abbrev pub set_plain : PlainTree → (c : Cell) → Holds c → PlainTree
 set_plain p (Entry entry) to = record p { edges = set_edge p.edges entry to }
 set_plain p (Names d) to = p
 set_plain p (Parent d) parent = record p { dirs = set_dir p.dirs d parent }
 set_plain p (Links i) links = p
-set_plain p (Bytes i) bytes = record p { files = finite.insert p.files i bytes }
+set_plain p (Bytes i) contents = record p { files = finite.insert p.files i (record { attributes = view_in p (FileAttributes i); contents = contents }) }
 set_plain p (Fd f) to = record p { opens = set_open p.opens f to }
+set_plain p (DirAttributes d) to = record p { dirs = set_dir_attributes p.dirs d to }
+set_plain p (FileAttributes i) to = record p { files = finite.insert p.files i (record { attributes = to; contents = view_in p (Bytes i) }) }
 
 -- the cell of a write is set in it
 abbrev pub put_plain : PlainTree → Write → PlainTree

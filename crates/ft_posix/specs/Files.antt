@@ -1,13 +1,13 @@
 -- What the calls on files look at, and what they come to. The order of their errors is a rule of
 -- this project.
-use Rattle.std.specs.Prelude.{ℕ, Bool, true, cond, not, ◌&&◌, nat_le, ℤ, pos, negsuc, length, [], ◌∷◌, Some, None, Result, Ok, Err}
+use Rattle.std.specs.Prelude.{ℕ, Bool, true, cond, not, ◌&&◌, nat_le, ℤ, pos, negsuc, length, [], ◌∷◌, Option, Some, None, Result, Ok, Err}
 use Rattle.ft_body.specs.Bytes.{resized}
 use Rattle.ft_path.specs.declared.path.Parts.{Parts}
 use Rattle.ft_path.specs.declared.errno.Errno.{Errno}
 use Rattle.ft_path.specs.declared.errno.Errno.TheVariants.{ENOENT, EEXIST, EINVAL, EISDIR, EFBIG, ELOOP}
 use Rattle.ft_cells.specs.declared.limits.TreeLimits.{TreeLimits}
 use Rattle.ft_cells.specs.declared.entry.Entry.{Entry as DirEntry}
-use Rattle.ft_cells.specs.declared.cell.Cell.TheVariants.{Entry, Links, Bytes, Fd}
+use Rattle.ft_cells.specs.declared.cell.Cell.TheVariants.{Entry, Links, Bytes, Fd, DirAttributes, FileAttributes}
 use Rattle.ft_cells.specs.declared.node.Kind.TheVariants.{Dir as DirKind}
 use Rattle.ft_cells.specs.declared.node.Node.{Node}
 use Rattle.ft_cells.specs.declared.node.Node.TheVariants.{Dir as DirNode, File as FileNode}
@@ -16,12 +16,15 @@ use Rattle.ft_cells.specs.declared.node.Form.TheVariants.{Regular, Link as LinkF
 use Rattle.ft_cells.specs.Nodes.{kind_of_node}
 use Rattle.ft_cells.specs.declared.open_file.OpenFile.{OpenFile}
 use Rattle.ft_cells.specs.Modes.{can_write}
-use Rattle.ft_cells.specs.Looks.{Looks, Answer, Look, or_else}
+use Rattle.ft_cells.specs.declared.attributes.Attributes.{Attributes}
+use Rattle.ft_cells.specs.Cells.{untimed, no_contents}
+use Rattle.ft_cells.specs.Looks.{Looks, Answer, Look, then, or_else}
 use Rattle.ft_cells.specs.declared.node.Spot.{Spot}
 use Rattle.ft_cells.specs.declared.node.Spot.TheVariants.{Named, Itself}
 use Rattle.ft_posix.specs.declared.call.OpenFlags.{OpenFlags}
 use Rattle.ft_posix.specs.declared.call.Reply.TheVariants.{Done, Number, Info}
-use Rattle.ft_posix.specs.Outcomes.{sets, Outcome, failed, told, from_parts}
+use Rattle.ft_posix.specs.Outcomes.{sets, Outcome, failed, told, from_parts, from_judged}
+use Rattle.ft_posix.specs.Attributes.{mode_fault, file_mode}
 
 -- open (POSIX.1-2017, System Interfaces, open)
 
@@ -29,23 +32,23 @@ use Rattle.ft_posix.specs.Outcomes.{sets, Outcome, failed, told, from_parts}
 abbrev pub description : OpenFlags → ℕ → OpenFile
 description flags file = record { file = file; access = flags.access; append = flags.append; offset = 0 }
 
--- a missing file is made (O_CREAT), with one link and no bytes: its number is the call's stamp,
--- and so is the descriptor's (a rule of this project)
+-- a missing file is made (O_CREAT), with one link, no bytes and the mode that is given: its number
+-- is the call's stamp, and so is the descriptor's (a rule of this project)
 abbrev pub creates : ℕ → OpenFlags → DirEntry → Outcome
 creates stamp flags entry = record {
   reply = Number stamp;
-  writes = sets (Links stamp) 1 ∷ sets (Bytes stamp) [] ∷ sets (Fd stamp) (Some (description flags stamp)) ∷ sets (Entry entry) (Some (FileNode Regular stamp)) ∷ [];
+  writes = sets (Links stamp) 1 ∷ sets (Bytes stamp) no_contents ∷ sets (Fd stamp) (Some (description flags stamp)) ∷ sets (Entry entry) (Some (FileNode Regular stamp)) ∷ file_mode stamp flags.mode;
 }
 
 -- a descriptor for an existing file, which is cut to nothing where that is asked (O_TRUNC)
 abbrev pub opens : ℕ → OpenFlags → ℕ → Outcome
 opens stamp flags file = record {
   reply = Number stamp;
-  writes = sets (Fd stamp) (Some (description flags file)) ∷ cond flags.trunc (sets (Bytes file) [] ∷ []) [];
+  writes = sets (Fd stamp) (Some (description flags file)) ∷ cond flags.trunc (sets (Bytes file) no_contents ∷ []) [];
 }
 
--- a directory is EISDIR, in every mode: for reading a choice of this project. A link is ELOOP, which
--- no call reaches, since the walk has followed it.
+-- a directory is EISDIR, in every mode: for reading a choice of this project. A link is ELOOP,
+-- which no call reaches, since the walk has followed it.
 abbrev pub open_node : ℕ → OpenFlags → Node → Outcome
 open_node stamp flags (DirNode file) = failed EISDIR
 open_node stamp flags (FileNode Regular file) = opens stamp flags file
@@ -63,13 +66,16 @@ open_spot stamp flags (Named entry None slash) = cond (flags.create && not slash
 open_spot stamp flags (Named entry (Some x) slash) = cond (is_exclusive flags) (failed EEXIST) (open_node stamp flags x)
 open_spot stamp flags (Itself dir) = cond (is_exclusive flags) (failed EEXIST) (failed EISDIR)
 
--- open from the parts of its path on: the fault of the text, trunc without writing EINVAL (a
--- choice of this project, since POSIX leaves it undefined), and where the walk leads. It follows a
--- last link, but with create and excl, which refuse any name that is there (XSH open, O_EXCL).
+-- trunc without writing is EINVAL (a choice of this project, since POSIX leaves it undefined), and
+-- so is a mode above 07777, whether a file is made or not
+abbrev pub open_fault : OpenFlags → Option Errno
+open_fault flags = cond (flags.trunc && not (can_write flags.access)) (Some EINVAL) (mode_fault flags.mode)
+
+-- open from the parts of its path on: the fault of the text, that of the arguments, and where the
+-- walk leads. It follows a last link, but with create and excl, which refuse any name that is
+-- there (XSH open, O_EXCL).
 abbrev pub open_parts : ℕ → OpenFlags → Result Parts Errno → Looks Outcome
-open_parts stamp flags (Err e) = Answer (failed e)
-open_parts stamp flags (Ok parts) =
-    cond (flags.trunc && not (can_write flags.access)) (Answer (failed EINVAL)) (from_parts (not (is_exclusive flags)) (Ok parts) (λ spot. Answer (open_spot stamp flags spot)))
+open_parts stamp flags parts = from_judged (open_fault flags) (not (is_exclusive flags)) parts (λ spot. Answer (open_spot stamp flags spot))
 
 -- truncate (POSIX.1-2017, System Interfaces, truncate)
 
@@ -82,9 +88,9 @@ abbrev pub to_size : TreeLimits → ℤ → Result ℕ Errno
 to_size limits (pos n) = size_within limits n
 to_size limits (negsuc n) = Err EINVAL
 
--- the file is cut to a length, or zeros are added up to it
+-- the file is cut to a length, or zeros are added up to it; its time goes
 abbrev pub cut_file : ℕ → ℕ → Looks Outcome
-cut_file file size = Look (Bytes file) (λ bytes. Answer (record { reply = Done; writes = sets (Bytes file) (resized bytes size) ∷ [] }))
+cut_file file size = Look (Bytes file) (λ contents. Answer (record { reply = Done; writes = sets (Bytes file) (untimed (resized contents.bytes size)) ∷ [] }))
 
 -- truncate where the walk ended, which follows links: a missing name is ENOENT, and a directory
 -- EISDIR. A link is ELOOP, which no call reaches.
@@ -103,18 +109,25 @@ truncate_parts limits len (Ok parts) = or_else failed (λ size. from_parts true 
 
 -- stat and lstat (POSIX.1-2017, System Interfaces, stat, lstat): stat follows a last link
 
--- a directory: it has one link and size 0 (a choice of this project)
-abbrev pub dir_info : ℕ → Outcome
-dir_info file = told (Info DirKind file 1 0)
+-- a directory, with its attributes: it has one link and size 0 (a choice of this project), and no
+-- time
+abbrev pub dir_info : ℕ → Looks Outcome
+dir_info dir = Look (DirAttributes dir) (λ attributes. Answer (told (Info DirKind dir 1 0 attributes None)))
 
--- a file or a link, with its links and its size: the size of a link is that of its target (XSH
--- lstat)
+-- the attributes of a file; a link has the default ones, and no cell for them
+abbrev pub attributes_at : Form → ℕ → Looks (Option Attributes)
+attributes_at Regular file = Look (FileAttributes file) (λ attributes. Answer attributes)
+attributes_at LinkForm file = Answer None
+
+-- a file or a link, with its links, its size, its attributes and its time: the size of a link is
+-- that of its target (XSH lstat)
 abbrev pub file_info : Form → ℕ → Looks Outcome
-file_info form file = Look (Links file) (λ links. Look (Bytes file) (λ bytes. Answer (told (Info (kind_of_node (FileNode form file)) file links (length bytes)))))
+file_info form file =
+    Look (Links file) (λ links. Look (Bytes file) (λ contents. then (attributes_at form file) (λ attributes. Answer (told (Info (kind_of_node (FileNode form file)) file links (length contents.bytes) attributes contents.time)))))
 
 -- stat and lstat where the walk ended: a missing name is ENOENT
 abbrev pub stat_spot : Spot → Looks Outcome
 stat_spot (Named entry None slash) = Answer (failed ENOENT)
-stat_spot (Named entry (Some (DirNode file)) slash) = Answer (dir_info file)
+stat_spot (Named entry (Some (DirNode dir)) slash) = dir_info dir
 stat_spot (Named entry (Some (FileNode form file)) slash) = file_info form file
-stat_spot (Itself dir) = Answer (dir_info dir)
+stat_spot (Itself dir) = dir_info dir

@@ -1,4 +1,5 @@
 pub mod Outcomes
+pub mod Attributes
 pub mod Dirs
 pub mod Files
 pub mod Descriptors

@@ -9,7 +9,7 @@ use Rattle.ft_path.specs.declared.errno.Errno.{Errno}
 use Rattle.ft_path.specs.declared.errno.Errno.TheVariants.{ENOENT, ENOTDIR, EEXIST, EISDIR, ENOTEMPTY, EINVAL, EPERM, EBUSY, EMLINK}
 use Rattle.ft_cells.specs.declared.entry.Entry.{Entry as DirEntry}
 use Rattle.ft_cells.specs.declared.limits.TreeLimits.{TreeLimits}
-use Rattle.ft_cells.specs.declared.cell.Cell.TheVariants.{Entry, Names, Parent, Links}
+use Rattle.ft_cells.specs.declared.cell.Cell.TheVariants.{Entry, Names, Parent, Links, DirAttributes}
 use Rattle.ft_cells.specs.declared.node.Node.{Node}
 use Rattle.ft_cells.specs.declared.node.Node.TheVariants.{Dir as DirNode, File as FileNode}
 use Rattle.ft_cells.specs.declared.node.Form.{Form}
@@ -37,8 +37,8 @@ link_new limits form file (Named new None slash) = cond slash (Answer (failed EN
 link_new limits form file (Named new (Some x) slash) = Answer (failed EEXIST)
 link_new limits form file (Itself dir) = Answer (failed EEXIST)
 
--- where the walk of the old path ended: a missing name is ENOENT, and a directory EPERM. A link gets
--- the new entry itself, which XSH link leaves open.
+-- where the walk of the old path ended: a missing name is ENOENT, and a directory EPERM. A link
+-- gets the new entry itself, which XSH link leaves open.
 abbrev pub link_old : TreeLimits → Parts → Spot → Looks Outcome
 link_old limits new (Named old None slash) = Answer (failed ENOENT)
 link_old limits new (Named old (Some (DirNode file)) slash) = Answer (failed EPERM)
@@ -109,10 +109,10 @@ with_parent moved dir into = cond (dir == into) [] (sets (Parent moved) (Some in
 abbrev pub replace_file : DirEntry → Node → DirEntry → ℕ → Looks Outcome
 replace_file old moved new replaced = Look (Links replaced) (λ links. Answer (renamed old moved new (sets (Links replaced) (links - 1) ∷ [])))
 
--- the directory that the new name led to is gone where it has none of these names; else it is
--- ENOTEMPTY, for which POSIX allows EEXIST too
+-- the directory that the new name led to is gone, with its attributes, where it has none of these
+-- names; else it is ENOTEMPTY, for which POSIX allows EEXIST too
 abbrev pub if_bare : DirEntry → ℕ → DirEntry → ℕ → List (List ℕ × Node) → Outcome
-if_bare old moved new replaced [] = renamed old (DirNode moved) new (sets (Parent replaced) None ∷ with_parent moved old.dir new.dir)
+if_bare old moved new replaced [] = renamed old (DirNode moved) new (sets (DirAttributes replaced) None ∷ sets (Parent replaced) None ∷ with_parent moved old.dir new.dir)
 if_bare old moved new replaced (name ∷ names) = failed ENOTEMPTY
 
 -- the names of that directory are looked at

@@ -51,7 +51,7 @@ is_bare d = Look (Names d) (λ names. Answer (is_none_of names))
 
 -- the size of a file
 abbrev pub size_at : ℕ → Looks ℕ
-size_at i = Look (Bytes i) (λ bytes. Answer (length bytes))
+size_at i = Look (Bytes i) (λ contents. Answer (length contents.bytes))
 
 -- that the names of a directory are looked at
 abbrev pub names_noted : ℕ → Looks (Unit {0})

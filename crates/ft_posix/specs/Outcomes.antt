@@ -12,8 +12,9 @@ use Rattle.ft_tree.specs.Walk.{walk}
 use Rattle.ft_posix.specs.declared.call.Reply.{Reply}
 use Rattle.ft_posix.specs.declared.call.Reply.TheVariants.{Failed}
 
--- one cell with its new value: an entry, a parent, the links or the bytes of a file, the
--- description of a descriptor. The names of a directory are never written.
+-- one cell with its new value: an entry, a parent, the links, the bytes or the attributes of a
+-- file, the attributes of a directory, the description of a descriptor. The names of a directory
+-- are never written.
 abbrev pub Write : Type 0
 Write = CellWrite Cell Holds
 
@@ -45,3 +46,9 @@ from_parts follow (Ok parts) go = then (walk follow parts.names parts.trailing) 
 abbrev pub unless : Option Errno → Looks Outcome → Looks Outcome
 unless None go = go
 unless (Some e) go = Answer (failed e)
+
+-- a call on a path with arguments that may be at fault goes on where the path leads: the fault of
+-- the text is answered first, then that of the arguments, both before anything is looked at
+abbrev pub from_judged : Option Errno → Bool → Result Parts Errno → (Spot → Looks Outcome) → Looks Outcome
+from_judged fault follow (Err e) go = Answer (failed e)
+from_judged fault follow (Ok parts) go = unless fault (from_parts follow (Ok parts) go)

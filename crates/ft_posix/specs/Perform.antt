@@ -1,7 +1,7 @@
 -- What replies tell.
 use Rattle.std.specs.Prelude.{Bool, true, false}
 use Rattle.ft_posix.specs.declared.call.Call.{Call}
-use Rattle.ft_posix.specs.declared.call.Call.TheVariants.{Mkdir, Rmdir, List as ListDir, Open, Close, Read, Write, Pread, Pwrite, Lseek, Truncate, Ftruncate, Stat, Fstat, Link, Unlink, Rename, Symlink, Readlink, Lstat}
+use Rattle.ft_posix.specs.declared.call.Call.TheVariants.{Mkdir, Rmdir, List as ListDir, Open, Close, Read, Write, Pread, Pwrite, Lseek, Truncate, Ftruncate, Stat, Fstat, Link, Unlink, Rename, Symlink, Readlink, Lstat, Chmod, Fchmod, Chown, Lchown, Fchown, Utime, Lutime, Futime}
 use Rattle.ft_posix.specs.declared.call.Reply.{Reply}
 use Rattle.ft_posix.specs.declared.call.Reply.TheVariants.{Done, Names as NamesReply, Number, Bytes as BytesReply, Info, Failed}
 
@@ -11,7 +11,7 @@ IsList Done = ⊥
 IsList (NamesReply names) = Unit {0}
 IsList (Number n) = ⊥
 IsList (BytesReply bytes) = Unit {0}
-IsList (Info kind number links size) = ⊥
+IsList (Info kind number links size attributes time) = ⊥
 IsList (Failed e) = ⊥
 
 -- the reply only tells: names, what was found, or an error. It comes with no change.
@@ -20,16 +20,16 @@ OnlyTells Done = ⊥
 OnlyTells (NamesReply names) = Unit {0}
 OnlyTells (Number n) = ⊥
 OnlyTells (BytesReply bytes) = ⊥
-OnlyTells (Info kind number links size) = Unit {0}
+OnlyTells (Info kind number links size attributes time) = Unit {0}
 OnlyTells (Failed e) = Unit {0}
 
 -- the call is a read, which alone moves its descriptor's offset and answers a list; every other
 -- call that answers bytes or names changes nothing
 abbrev pub is_read : Call → Bool
-is_read (Mkdir path) = false
+is_read (Mkdir path mode) = false
 is_read (Rmdir path) = false
 is_read (ListDir path) = false
-is_read (Open path access create excl trunc append) = false
+is_read (Open path access create excl trunc append mode) = false
 is_read (Close fd) = false
 is_read (Read fd len) = true
 is_read (Write fd bytes) = false
@@ -46,3 +46,11 @@ is_read (Rename old new) = false
 is_read (Symlink target path) = false
 is_read (Readlink path) = false
 is_read (Lstat path) = false
+is_read (Chmod mode path) = false
+is_read (Fchmod fd mode) = false
+is_read (Chown owner group path) = false
+is_read (Lchown owner group path) = false
+is_read (Fchown fd owner group) = false
+is_read (Utime time path) = false
+is_read (Lutime time path) = false
+is_read (Futime fd time) = false

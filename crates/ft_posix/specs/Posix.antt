@@ -7,7 +7,7 @@ use Rattle.ft_laws.specs.Calls.{Calls}
 use Rattle.ft_laws.specs.Effects.{Access as PlaceAccess, Effect, Effects, calls_of}
 use Rattle.ft_laws.specs.Settled.{settled}
 use Rattle.ft_cells.specs.declared.cell.Cell.{Cell}
-use Rattle.ft_cells.specs.declared.cell.Cell.TheVariants.{Entry, Names, Parent, Links, Bytes, Fd}
+use Rattle.ft_cells.specs.declared.cell.Cell.TheVariants.{Entry, Names, Parent, Links, Bytes, Fd, DirAttributes, FileAttributes}
 use Rattle.ft_cells.specs.declared.node.Node.{Node}
 use Rattle.ft_cells.specs.declared.node.Node.TheVariants.{Dir as DirNode, File as FileNode}
 use Rattle.ft_cells.specs.declared.open_file.OpenFile.{OpenFile}
@@ -45,7 +45,7 @@ pub record HasSoundValues (cells : Cells) : Type 0 where
   pub sound : AreSoundCells with_places
   pub same : SameValues with_places cells
 
--- the file to which a cell belongs: its links and its bytes do
+-- the file to which a cell belongs: its links, its bytes and its attributes do
 abbrev pub file_of : Cell → Option ℕ
 file_of (Entry entry) = None
 file_of (Names d) = None
@@ -53,6 +53,8 @@ file_of (Parent d) = None
 file_of (Links i) = Some i
 file_of (Bytes i) = Some i
 file_of (Fd f) = None
+file_of (DirAttributes d) = None
+file_of (FileAttributes i) = Some i
 
 -- whether a node is this file
 abbrev pub node_names : Option Node → ℕ → Bool
@@ -74,6 +76,8 @@ names_file (Parent d) to i = false
 names_file (Links j) to i = false
 names_file (Bytes j) to i = false
 names_file (Fd f) to i = description_names to i
+names_file (DirAttributes d) to i = false
+names_file (FileAttributes j) to i = false
 
 -- what a call does, in the words of ft_laws: its accesses, its writes and its reply
 abbrev pub does : Cells → Stamped → Effect Cell Cell Holds Reply
@@ -83,7 +87,7 @@ does cells a = let o = outcome cells a.stamp a.call in record {
   reply = o.reply;
 }
 
--- the twenty calls: cells, accesses, effects, soundness, freshness, files. A file that a call
+-- the twenty-eight calls: cells, accesses, effects, soundness, freshness, files. A file that a call
 -- makes has its stamp for a number.
 abbrev pub posix : Effects
 posix = record {

@@ -1,6 +1,6 @@
 -- What symlink and readlink look at, and what they come to. The order of their errors is a rule of
 -- this project.
-use Rattle.std.specs.Prelude.{ℕ, false, cond, length, [], ◌∷◌, List, Some, None, Option, Result, Ok, Err, ◌==◌, nat_lt}
+use Rattle.std.specs.Prelude.{ℕ, false, cond, length, [], ◌∷◌, List, Some, None, Option, Result, ◌==◌, nat_lt}
 use Rattle.ft_path.specs.declared.TheConstants.{LONGEST_PATH}
 use Rattle.ft_path.specs.declared.path.Parts.{Parts}
 use Rattle.ft_path.specs.declared.errno.Errno.{Errno}
@@ -11,9 +11,10 @@ use Rattle.ft_cells.specs.declared.node.Node.TheVariants.{Dir as DirNode, File a
 use Rattle.ft_cells.specs.declared.node.Form.TheVariants.{Regular, Link as LinkForm}
 use Rattle.ft_cells.specs.declared.node.Spot.{Spot}
 use Rattle.ft_cells.specs.declared.node.Spot.TheVariants.{Named, Itself}
+use Rattle.ft_cells.specs.Cells.{untimed}
 use Rattle.ft_cells.specs.Looks.{Looks, Answer, Look}
 use Rattle.ft_posix.specs.declared.call.Reply.TheVariants.{Done, Bytes as BytesReply}
-use Rattle.ft_posix.specs.Outcomes.{sets, Outcome, failed, told, from_parts, unless}
+use Rattle.ft_posix.specs.Outcomes.{sets, Outcome, failed, told, from_judged}
 
 -- symlink (POSIX.1-2017, System Interfaces, symlink)
 
@@ -27,11 +28,11 @@ target_fault target = cond (length target == 0) (Some ENOENT) (cond (nat_lt LONG
 abbrev pub makes_link : ℕ → List ℕ → DirEntry → Outcome
 makes_link stamp target entry = record {
   reply = Done;
-  writes = sets (Links stamp) 1 ∷ sets (Bytes stamp) target ∷ sets (Entry entry) (Some (FileNode LinkForm stamp)) ∷ [];
+  writes = sets (Links stamp) 1 ∷ sets (Bytes stamp) (untimed target) ∷ sets (Entry entry) (Some (FileNode LinkForm stamp)) ∷ [];
 }
 
--- symlink where the walk ended: what is there, a link included, is EEXIST, and a missing name with a
--- slash behind it ENOENT
+-- symlink where the walk ended: what is there, a link included, is EEXIST, and a missing name with
+-- a slash behind it ENOENT
 abbrev pub make_link : ℕ → List ℕ → Spot → Looks Outcome
 make_link stamp target (Named entry None slash) = Answer (cond slash (failed ENOENT) (makes_link stamp target entry))
 make_link stamp target (Named entry (Some x) slash) = Answer (failed EEXIST)
@@ -39,8 +40,7 @@ make_link stamp target (Itself dir) = Answer (failed EEXIST)
 
 -- symlink from the parts of its path on: the fault of the text, that of the target, and the walk
 abbrev pub symlink_parts : ℕ → List ℕ → Result Parts Errno → Looks Outcome
-symlink_parts stamp target (Err e) = Answer (failed e)
-symlink_parts stamp target (Ok parts) = unless (target_fault target) (from_parts false (Ok parts) (make_link stamp target))
+symlink_parts stamp target parts = from_judged (target_fault target) false parts (make_link stamp target)
 
 -- readlink (POSIX.1-2017, System Interfaces, readlink)
 
@@ -50,5 +50,5 @@ abbrev pub read_link : Spot → Looks Outcome
 read_link (Named entry None slash) = Answer (failed ENOENT)
 read_link (Named entry (Some (DirNode file)) slash) = Answer (failed EINVAL)
 read_link (Named entry (Some (FileNode Regular file)) slash) = Answer (failed EINVAL)
-read_link (Named entry (Some (FileNode LinkForm file)) slash) = Look (Bytes file) (λ target. Answer (told (BytesReply target)))
+read_link (Named entry (Some (FileNode LinkForm file)) slash) = Look (Bytes file) (λ contents. Answer (told (BytesReply contents.bytes)))
 read_link (Itself dir) = Answer (failed EINVAL)

@@ -2,7 +2,7 @@
 use Rattle.std.specs.Prelude.{◌≤◌, List, [], ◌∷◌}
 use Rattle.ft_body.specs.declared.TheConstants.{LARGEST_SIZE}
 use Rattle.ft_posix.specs.declared.intent.Edit.{Edit}
-use Rattle.ft_posix.specs.declared.intent.Edit.TheVariants.{Entry, Parent, Links, Overwrite, Resize, Open}
+use Rattle.ft_posix.specs.declared.intent.Edit.TheVariants.{Entry, Parent, Links, Overwrite, Resize, Open, DirAttributes, FileAttributes, Time}
 
 -- bytes and sizes that are edited are within it
 abbrev pub IsWithin : Edit → Type 0
@@ -12,6 +12,9 @@ IsWithin (Links i to) = Unit {0}
 IsWithin (Overwrite i at bytes) = at ≤ LARGEST_SIZE
 IsWithin (Resize i size) = size ≤ LARGEST_SIZE
 IsWithin (Open f to) = Unit {0}
+IsWithin (DirAttributes d to) = Unit {0}
+IsWithin (FileAttributes i to) = Unit {0}
+IsWithin (Time i to) = Unit {0}
 
 -- those of all edits are
 abbrev pub AreWithin : List Edit → Type 0

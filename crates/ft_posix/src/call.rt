@@ -2,7 +2,7 @@ ghost use Rattle.std.specs.Prelude.{◌≡◌, IfOk};
 
 use ft_base::{Memory, Sequence};
 use ft_path::{Errno, FilePath, Name};
-use ft_tree::{AccessMode, Cell, Kind, OpenFile};
+use ft_tree::{AccessMode, Attributes, Cell, Kind, OpenFile, Timestamp};
 use std::alloc::Global;
 
 /// A call with its arguments.
@@ -14,19 +14,25 @@ use std::alloc::Global;
 /// the text of a target that is followed has the faults of a path's. The errors of each call are in
 /// the order in which they are tested.
 ///
-/// A symbolic link on the way or before a trailing slash is followed. `List`, `Open`, `Truncate`
-/// and `Stat` follow one that is the last component too, but for an `Open` with `create` and
-/// `excl`; to the other calls it is a file like others.
+/// A symbolic link on the way or before a trailing slash is followed. `List`, `Open`, `Truncate`,
+/// `Stat`, `Chmod`, `Chown` and `Utime` follow one that is the last component too, but for an
+/// `Open` with `create` and `excl`; to the other calls it is a file like others.
+///
+/// Nobody asks who calls: each call has appropriate privileges (Base Definitions, 4.5). A mode is
+/// the 12 bits of sys/stat.h (S_IRWXU to S_ISVTX), and one above 07777 is EINVAL, a choice of this
+/// project. An owner or a group that is not given stays.
 #[derive(Debug, PartialEq, Eq)]
 pub enum Call {
     /// Makes a directory without entries, whose number is the call's stamp, and answers `Done`
-    /// (POSIX.1-2017, System Interfaces, mkdir).
+    /// (POSIX.1-2017, System Interfaces, mkdir). Its mode is that which is given, and else 0755;
+    /// its owner and its group are 0.
     ///
-    /// Fails with the fault of the text; that of the look-up; EEXIST where the path leads to a
-    /// directory, a file or a symbolic link, the root and a last `.` or `..` included. A slash
-    /// behind a missing last name is no fault.
+    /// Fails with the fault of the text; EINVAL for a mode above 07777; the fault of the look-up;
+    /// EEXIST where the path leads to a directory, a file or a symbolic link, the root and a last
+    /// `.` or `..` included. A slash behind a missing last name is no fault.
     Mkdir {
         path: FilePath,
+        mode: Option<u16>,
     },
     /// Removes an empty directory and its entry, and answers `Done` (POSIX.1-2017, System
     /// Interfaces, rmdir).
@@ -50,15 +56,17 @@ pub enum Call {
     /// Opens a file, and answers the new descriptor as `Number`: the call's stamp. Its description
     /// is at offset 0 (POSIX.1-2017, System Interfaces, open).
     ///
-    /// With `create` a missing file is made, whose number is the stamp too; with `trunc` an
-    /// existing one is cut to nothing; with `append` each write goes to its end. `append` without
-    /// writing is kept and has no other effect.
+    /// With `create` a missing file is made, whose number is the stamp too: its mode is that which
+    /// is given, and else 0644, its owner and its group are 0, and it has no time. With `trunc` an
+    /// existing one is cut to nothing, and its time goes; with `append` each write goes to its end.
+    /// `append` without writing is kept and has no other effect, and so has a mode where no file is
+    /// made.
     ///
-    /// Fails with the fault of the text; EINVAL for `trunc` without writing; the fault of the
-    /// look-up; ENOENT where the last name is missing and `create` is not there, or a slash stands
-    /// behind it; EEXIST where it is there, with `create` and `excl`; EISDIR for a directory. That
-    /// `excl` has no effect without `create`, EINVAL, and EISDIR whatever the access, are choices
-    /// of this project.
+    /// Fails with the fault of the text; EINVAL for `trunc` without writing or a mode above 07777;
+    /// the fault of the look-up; ENOENT where the last name is missing and `create` is not there,
+    /// or a slash stands behind it; EEXIST where it is there, with `create` and `excl`; EISDIR for
+    /// a directory. That `excl` has no effect without `create`, EINVAL, and EISDIR whatever the
+    /// access, are choices of this project.
     Open {
         path: FilePath,
         access: AccessMode,
@@ -66,6 +74,7 @@ pub enum Call {
         excl: bool,
         trunc: bool,
         append: bool,
+        mode: Option<u16>,
     },
     /// Closes a descriptor, and answers `Done` (POSIX.1-2017, System Interfaces, close).
     ///
@@ -83,7 +92,8 @@ pub enum Call {
     },
     /// Writes at the offset, or with append at the end of the file, as many bytes as have room
     /// below the size limit, and answers how many as `Number`; a gap before them is filled with
-    /// zeros, and the offset becomes the end of what was written. No bytes change nothing
+    /// zeros, the offset becomes the end of what was written, and the file's time goes. No bytes
+    /// change nothing
     /// (POSIX.1-2017, System Interfaces, write).
     ///
     /// Fails with EBADF where the descriptor is not open, or not for writing; EFBIG where there are
@@ -122,8 +132,8 @@ pub enum Call {
         whence: Whence,
         off: i64,
     },
-    /// Cuts a file to a length, or adds zeros up to it, and answers `Done` (POSIX.1-2017, System
-    /// Interfaces, truncate).
+    /// Cuts a file to a length, or adds zeros up to it, and answers `Done`; the file's time goes
+    /// (POSIX.1-2017, System Interfaces, truncate).
     ///
     /// Fails with the fault of the text; EINVAL where `len` is negative; EFBIG where it is above
     /// the size limit; the fault of the look-up; ENOENT where the last name is missing; EISDIR for
@@ -190,10 +200,10 @@ pub enum Call {
     /// Makes a symbolic link that holds a target, and answers `Done`. Its number is the call's
     /// stamp. Nobody asks where the target leads (POSIX.1-2017, System Interfaces, symlink).
     ///
-    /// Fails with the fault of the text of `path`; ENOENT for a target of no bytes, and ENAMETOOLONG
-    /// for one of more than 4,095; the fault of the look-up; EEXIST where the path leads to a
-    /// directory, a file or a symbolic link; ENOENT where the last name is missing and a slash
-    /// stands behind it. ENOENT for no bytes is a choice of this project.
+    /// Fails with the fault of the text of `path`; ENOENT for a target of no bytes, and
+    /// ENAMETOOLONG for one of more than 4,095; the fault of the look-up; EEXIST where the path
+    /// leads to a directory, a file or a symbolic link; ENOENT where the last name is missing and
+    /// a slash stands behind it. ENOENT for no bytes is a choice of this project.
     Symlink {
         target: FilePath,
         path: FilePath,
@@ -213,12 +223,83 @@ pub enum Call {
     Lstat {
         path: FilePath,
     },
+    /// Sets the mode of a directory or a file, and answers `Done`; its owner and its group stay
+    /// (POSIX.1-2017, System Interfaces, chmod).
+    ///
+    /// Fails with the fault of the text; EINVAL for a mode above 07777; the fault of the look-up;
+    /// ENOENT where the last name is missing.
+    Chmod {
+        mode: u16,
+        path: FilePath,
+    },
+    /// The same of a descriptor's file (POSIX.1-2017, System Interfaces, fchmod).
+    ///
+    /// Fails with EBADF where the descriptor is not open; EINVAL for a mode above 07777.
+    Fchmod {
+        fd: u64,
+        mode: u16,
+    },
+    /// Sets the owner and the group of a directory or a file, those that are given, and answers
+    /// `Done`; its mode stays, with its bits S_ISUID and S_ISGID (POSIX.1-2017, System Interfaces,
+    /// chown).
+    ///
+    /// Fails with the fault of the text; that of the look-up; ENOENT where the last name is
+    /// missing.
+    Chown {
+        owner: Option<u32>,
+        group: Option<u32>,
+        path: FilePath,
+    },
+    /// The same, but of a last symbolic link itself, whose owner and group are 0 and stay so
+    /// (POSIX.1-2017, System Interfaces, lchown).
+    ///
+    /// Fails as `Chown` does, and then with EINVAL for a link that would get another owner or
+    /// another group.
+    Lchown {
+        owner: Option<u32>,
+        group: Option<u32>,
+        path: FilePath,
+    },
+    /// The same of a descriptor's file (POSIX.1-2017, System Interfaces, fchown).
+    ///
+    /// Fails with EBADF where the descriptor is not open.
+    Fchown {
+        fd: u64,
+        owner: Option<u32>,
+        group: Option<u32>,
+    },
+    /// Sets the time of a file's bytes, and answers `Done`. It stays until they are changed
+    /// (POSIX.1-2017, System Interfaces, utimensat, of the last data modification).
+    ///
+    /// Fails with the fault of the text; EINVAL for 1,000,000,000 nanoseconds or more; the fault of
+    /// the look-up; ENOENT where the last name is missing; EINVAL for a directory, whose time is
+    /// not kept, a choice of this project.
+    Utime {
+        time: Timestamp,
+        path: FilePath,
+    },
+    /// The same, but of a last symbolic link itself, whose time is not kept either (POSIX.1-2017,
+    /// System Interfaces, utimensat with AT_SYMLINK_NOFOLLOW).
+    ///
+    /// Fails as `Utime` does, and with EINVAL for a symbolic link too.
+    Lutime {
+        time: Timestamp,
+        path: FilePath,
+    },
+    /// The same of a descriptor's file (POSIX.1-2017, System Interfaces, futimens).
+    ///
+    /// Fails with EBADF where the descriptor is not open; EINVAL for 1,000,000,000 nanoseconds or
+    /// more.
+    Futime {
+        fd: u64,
+        time: Timestamp,
+    },
 }
 
 impl Drop for Call {
     fn drop(self) {
         match self {
-            Call::Mkdir { path: _ }
+            Call::Mkdir { path: _, mode: _ }
             | Call::Rmdir { path: _ }
             | Call::List { path: _ }
             | Call::Open {
@@ -228,6 +309,7 @@ impl Drop for Call {
                 excl: _,
                 trunc: _,
                 append: _,
+                mode: _,
             }
             | Call::Close { fd: _ }
             | Call::Read { fd: _, len: _ }
@@ -256,7 +338,27 @@ impl Drop for Call {
             | Call::Rename { old: _, new: _ }
             | Call::Symlink { target: _, path: _ }
             | Call::Readlink { path: _ }
-            | Call::Lstat { path: _ } => {}
+            | Call::Lstat { path: _ }
+            | Call::Chmod { mode: _, path: _ }
+            | Call::Fchmod { fd: _, mode: _ }
+            | Call::Chown {
+                owner: _,
+                group: _,
+                path: _,
+            }
+            | Call::Lchown {
+                owner: _,
+                group: _,
+                path: _,
+            }
+            | Call::Fchown {
+                fd: _,
+                owner: _,
+                group: _,
+            }
+            | Call::Utime { time: _, path: _ }
+            | Call::Lutime { time: _, path: _ }
+            | Call::Futime { fd: _, time: _ } => {}
         }
     }
 }
@@ -286,6 +388,8 @@ pub struct OpenFlags {
     pub trunc: bool,
     /// Each write goes to the end of the file (O_APPEND).
     pub append: bool,
+    /// The mode of a file that is made, where one is given.
+    pub mode: Option<u16>,
 }
 
 impl OpenFlags {
@@ -325,13 +429,16 @@ pub enum Reply {
     /// The bytes that were read, or the target of a symbolic link.
     Bytes(Sequence<u8>),
     /// What a path leads to or a descriptor has open: a directory, a file or a symbolic link, its
-    /// number, its count of links and its size in bytes. A directory has one link and size 0, a
-    /// choice of this project.
+    /// number, its count of links, its size in bytes, its attributes and the time of its bytes. A
+    /// directory has one link and size 0, a choice of this project. The attributes are none where
+    /// they are the default ones, and the time where none was set, or the bytes were changed then.
     Info {
         kind: Kind,
         number: u64,
         links: u64,
         size: u64,
+        attributes: Option<Attributes>,
+        time: Option<Timestamp>,
     },
     /// The call failed, with this error, and changed nothing.
     Failed(Errno),
@@ -356,11 +463,15 @@ impl Reply {
                 number,
                 links,
                 size,
+                attributes,
+                time,
             } => Ok(Reply::Info {
                 kind: *kind,
                 number: *number,
                 links: *links,
                 size: *size,
+                attributes: *attributes,
+                time: *time,
             }),
             Reply::Failed(errno) => Ok(Reply::Failed(*errno)),
         }

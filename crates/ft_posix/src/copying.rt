@@ -11,8 +11,9 @@ impl Call {
         ensures { IfOk result (λ copy. copy ≡ self.now) }
     {
         Ok(match self {
-            Call::Mkdir { path } => Call::Mkdir {
+            Call::Mkdir { path, mode } => Call::Mkdir {
                 path: path.try_clone()?,
+                mode: *mode,
             },
             Call::Rmdir { path } => Call::Rmdir {
                 path: path.try_clone()?,
@@ -27,6 +28,7 @@ impl Call {
                 excl,
                 trunc,
                 append,
+                mode,
             } => Call::Open {
                 path: path.try_clone()?,
                 access: *access,
@@ -34,6 +36,7 @@ impl Call {
                 excl: *excl,
                 trunc: *trunc,
                 append: *append,
+                mode: *mode,
             },
             Call::Close { fd } => Call::Close { fd: *fd },
             Call::Read { fd, len } => Call::Read { fd: *fd, len: *len },
@@ -85,6 +88,41 @@ impl Call {
             },
             Call::Lstat { path } => Call::Lstat {
                 path: path.try_clone()?,
+            },
+            Call::Chmod { mode, path } => Call::Chmod {
+                mode: *mode,
+                path: path.try_clone()?,
+            },
+            Call::Fchmod { fd, mode } => Call::Fchmod {
+                fd: *fd,
+                mode: *mode,
+            },
+            Call::Chown { owner, group, path } => Call::Chown {
+                owner: *owner,
+                group: *group,
+                path: path.try_clone()?,
+            },
+            Call::Lchown { owner, group, path } => Call::Lchown {
+                owner: *owner,
+                group: *group,
+                path: path.try_clone()?,
+            },
+            Call::Fchown { fd, owner, group } => Call::Fchown {
+                fd: *fd,
+                owner: *owner,
+                group: *group,
+            },
+            Call::Utime { time, path } => Call::Utime {
+                time: *time,
+                path: path.try_clone()?,
+            },
+            Call::Lutime { time, path } => Call::Lutime {
+                time: *time,
+                path: path.try_clone()?,
+            },
+            Call::Futime { fd, time } => Call::Futime {
+                fd: *fd,
+                time: *time,
             },
         })
     }

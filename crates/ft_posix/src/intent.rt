@@ -7,7 +7,7 @@ ghost use Rattle.ft_posix.specs.Within.{IsWithin, AreWithin};
 use crate::call::Reply;
 use ft_base::{Few, Memory};
 use ft_path::Errno;
-use ft_tree::{Entry, HintedFile, Kind, Node, OpenFile, Tree};
+use ft_tree::{Attributes, Entry, HintedFile, Kind, Node, OpenFile, Rare, Timestamp, Tree};
 use std::alloc::Global;
 use std::marker::Model;
 
@@ -60,13 +60,13 @@ pub enum Edit<'c> {
         file: u64,
         to: u64,
     },
-    /// Bytes of a file, those that have room from an offset on.
+    /// Bytes of a file, those that have room from an offset on; its time goes.
     Overwrite {
         file: HintedFile,
         at: u64,
         bytes: &'c [u8],
     },
-    /// The size of a file.
+    /// The size of a file; its time goes.
     Resize {
         file: HintedFile,
         size: u64,
@@ -75,6 +75,21 @@ pub enum Edit<'c> {
     Open {
         fd: u64,
         to: Option<OpenFile>,
+    },
+    /// What is kept of a directory's attributes.
+    DirAttributes {
+        dir: u64,
+        to: Rare<Attributes>,
+    },
+    /// What is kept of a file's attributes.
+    FileAttributes {
+        file: HintedFile,
+        to: Rare<Attributes>,
+    },
+    /// The time of a file's bytes, or that they have none.
+    Time {
+        file: HintedFile,
+        to: Rare<Timestamp>,
     },
 }
 
@@ -147,6 +162,8 @@ pub enum Told {
         number: u64,
         links: u64,
         size: u64,
+        attributes: Option<Attributes>,
+        time: Option<Timestamp>,
     },
     /// The call fails, with this error.
     Failed(Errno),
@@ -186,11 +203,15 @@ impl<'c> Intent<'c> {
                 number,
                 links,
                 size,
+                attributes,
+                time,
             } => Ok(Reply::Info {
                 kind: *kind,
                 number: *number,
                 links: *links,
                 size: *size,
+                attributes: *attributes,
+                time: *time,
             }),
             Told::Failed(errno) => Ok(Reply::Failed(*errno)),
             Told::NamesOf(dir) => Ok(Reply::Names(tree.names(*dir)?.into())),

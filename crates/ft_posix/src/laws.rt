@@ -50,7 +50,7 @@ pub fn others_kept()
 {}
 
 /// The calls are lawful, as `ft_laws` asks: what it proves of runs of calls holds of these. Among
-/// the laws are two of files. A call touches the links or the bytes of a file only where it made
+/// the laws are two of files. A call touches what is stored of a file only where it made
 /// the file, or an entry or a description that it accesses names it. And a call that takes an entry
 /// or a description of a file away touches the file, or leaves the name in another cell that it
 /// writes, as a rename does.

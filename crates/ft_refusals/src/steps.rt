@@ -77,7 +77,7 @@ fn make<J: Sharing, R: Wait>(
         return Err(Fault::Memory);
     };
     let txn = shared.begin(rt)?;
-    match shared.ask(rt, txn, Call::Mkdir { path }) {
+    match shared.ask(rt, txn, Call::Mkdir { path, mode: None }) {
         Ok(_) => shared.commit(rt, txn),
         Err(fault) => {
             shared.abort(rt, txn)?;

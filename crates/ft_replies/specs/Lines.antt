@@ -14,21 +14,22 @@ use Rattle.ft_waits.specs.Waits.{IsVerdict}
 use Rattle.ft_replies.specs.declared.line.Line.{Line}
 use Rattle.ft_replies.specs.declared.line.Line.TheVariants as line
 use Rattle.ft_replies.specs.declared.line.Report.{Report}
-use Rattle.ft_replies.specs.declared.line.Report.TheVariants.{Tree, Locks, Waits}
+use Rattle.ft_replies.specs.declared.line.Report.TheVariants.{Tree, Locks, Attributes, Waits}
 use Rattle.ft_replies.specs.Texts.{text_of}
 use Rattle.ft_words.specs.Texts.{tree_text}
-use Rattle.ft_replies.specs.Reports.{locks_text, waits_text}
+use Rattle.ft_replies.specs.Reports.{locks_text, attribute_locks_text, waits_text}
 
 -- a legal step of the core, under its rule of who blocks whom
 abbrev pub IsLegal : State → Request → Answer → State → Type 0
 IsLegal = IsStep exact_rule
 
 -- the text of a report, without the line feed behind it: for `tree`, of the rows of the tree of
--- the state; for `locks`, of the locks of its history in their order; for `waits`, of its
--- waits-for edges and a verdict on them
+-- the state; for `locks` and `attributes`, of the locks of its history in their order, each of the
+-- two of those that it tells of; for `waits`, of its waits-for edges and a verdict on them
 abbrev pub IsReportText : State → Report → List ℕ → Type 0
 IsReportText s Tree text = text ≡ tree_text (rows_of (tree_of s))
 IsReportText s Locks text = (locks : List LockLine) × AreLockLines s locks × (text ≡ locks_text locks)
+IsReportText s Attributes text = (locks : List LockLine) × AreLockLines s locks × (text ≡ attribute_locks_text locks)
 IsReportText s Waits text = (edges : List Edge) × (verdict : Verdict) × AreEdgesOf s edges × IsVerdict edges verdict × (text ≡ waits_text edges verdict)
 
 -- the text of the report and a line feed

@@ -1,10 +1,11 @@
 -- The text of a report: how many lines it has, and the lines. (The format is this project's own:
 -- docs/SCRIPT.md.)
-use Rattle.std.specs.Prelude.{ℕ, List, ◌∷◌, ◌++◌, length, codes}
+use Rattle.std.specs.Prelude.{ℕ, Bool, true, false, List, ◌∷◌, ◌++◌, length, codes}
+use Rattle.std.specs.Bool.{beq}
 use Rattle.std.specs.Fmt.{decimal}
-use Rattle.std.specs.List.{flat_map}
+use Rattle.std.specs.List.{flat_map, filter}
 use Rattle.ft_cells.specs.declared.cell.Cell.{Cell}
-use Rattle.ft_cells.specs.declared.cell.Cell.TheVariants.{Entry, Names, Parent, Links, Bytes, Fd}
+use Rattle.ft_cells.specs.declared.cell.Cell.TheVariants.{Entry, Names, Parent, Links, Bytes, Fd, DirAttributes, FileAttributes}
 use Rattle.ft_posix.specs.declared.call.Mode.{Mode}
 use Rattle.ft_posix.specs.declared.call.Mode.TheVariants as modes
 use Rattle.ft_moss.specs.declared.line.LockKind.{LockKind}
@@ -27,6 +28,8 @@ cell_text (Parent dir) = codes "parent " ++ decimal dir
 cell_text (Links file) = codes "links " ++ decimal file
 cell_text (Bytes file) = codes "bytes " ++ decimal file
 cell_text (Fd fd) = codes "fd " ++ decimal fd
+cell_text (DirAttributes dir) = codes "attributes " ++ decimal dir
+cell_text (FileAttributes file) = codes "attributes " ++ decimal file
 
 -- `read` or `write`
 abbrev pub mode_text : Mode → List ℕ
@@ -42,9 +45,32 @@ kind_text Retained = codes "retained"
 abbrev pub lock_text : LockLine → List ℕ
 lock_text lock = codes "lock " ++ cell_text lock.cell ++ codes " " ++ mode_text lock.mode ++ codes " " ++ decimal lock.owner ++ codes " " ++ kind_text lock.kind
 
--- `locks N`, and the locks
+-- the cell is the mode and the owners of a directory or of a file
+abbrev pub is_attributes : Cell → Bool
+is_attributes (Entry entry) = false
+is_attributes (Names dir) = false
+is_attributes (Parent dir) = false
+is_attributes (Links file) = false
+is_attributes (Bytes file) = false
+is_attributes (Fd fd) = false
+is_attributes (DirAttributes dir) = true
+is_attributes (FileAttributes file) = true
+
+-- the lock is one of attributes, or one of all else
+abbrev pub is_told : Bool → LockLine → Bool
+is_told of_attributes lock = beq (is_attributes lock.cell) of_attributes
+
+-- how many locks there are, and the locks
+abbrev pub counted_locks : List LockLine → List ℕ
+counted_locks locks = decimal (length locks) ++ lines_text lock_text locks
+
+-- `locks N`, and the locks of all but attributes
 abbrev pub locks_text : List LockLine → List ℕ
-locks_text locks = codes "locks " ++ decimal (length locks) ++ lines_text lock_text locks
+locks_text locks = codes "locks " ++ counted_locks (filter (is_told false) locks)
+
+-- `attributes N`, and the locks of attributes
+abbrev pub attribute_locks_text : List LockLine → List ℕ
+attribute_locks_text locks = codes "attributes " ++ counted_locks (filter (is_told true) locks)
 
 -- ---- who waits for whom
 

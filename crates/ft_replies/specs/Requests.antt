@@ -6,13 +6,13 @@ use Rattle.ft_core.specs.declared.request.Request.{Request}
 use Rattle.ft_core.specs.declared.request.Request.TheVariants.{Begin, Sub, Commit, Abort, Undo, Retry, Drop, Ask, Checkpoint}
 use Rattle.ft_words.specs.Spelling.{words_of_line, number_of}
 use Rattle.ft_words.specs.Calls.{look_up, call_of}
-use Rattle.ft_replies.specs.declared.line.Report.TheVariants.{Tree, Locks, Waits}
+use Rattle.ft_replies.specs.declared.line.Report.TheVariants.{Tree, Locks, Attributes, Waits}
 use Rattle.ft_replies.specs.declared.line.Line.{Line}
 use Rattle.ft_replies.specs.declared.line.Line.TheVariants as line
 
 -- what asks for something alone on its line
 abbrev pub lone_words : List (List ℕ × Line)
-lone_words = (codes "begin", line.Request Begin) ∷ (codes "checkpoint", line.Request Checkpoint) ∷ (codes "tree", line.Report Tree) ∷ (codes "locks", line.Report Locks) ∷ (codes "waits", line.Report Waits) ∷ []
+lone_words = (codes "begin", line.Request Begin) ∷ (codes "checkpoint", line.Request Checkpoint) ∷ (codes "tree", line.Report Tree) ∷ (codes "locks", line.Report Locks) ∷ (codes "waits", line.Report Waits) ∷ (codes "attributes", line.Report Attributes) ∷ []
 
 -- what asks for something of one transaction, whose number is the other word
 abbrev pub txn_words : List (List ℕ × (ℕ → Request))

@@ -10,7 +10,7 @@ mod text;
 mod wait_text;
 
 pub use line::{Line, Report};
-pub use lock_text::LocksText;
+pub use lock_text::{AttributeLocksText, LocksText};
 pub use meaning::meaning_of;
 pub use replying::{carry_out, reply_to};
 pub use reporting::whole_report_of;

@@ -19,8 +19,10 @@ pub enum Line {
 pub enum Report {
     /// What the tree holds.
     Tree,
-    /// Who has which lock.
+    /// Who has which lock, of all but attributes.
     Locks,
+    /// Who has which lock of attributes.
+    Attributes,
     /// Who waits for whom.
     Waits,
 }

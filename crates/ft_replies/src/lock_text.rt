@@ -1,7 +1,8 @@
 // The text of locks.
-ghost use Rattle.std.specs.Prelude.{◌≡◌, ◌++◌, Some};
+ghost use Rattle.std.specs.Prelude.{◌≡◌, ◌++◌, length, Some};
+ghost use Rattle.std.specs.List.{filter};
 ghost use Rattle.ft_words.specs.Texts.{lines_text};
-ghost use Rattle.ft_replies.specs.Reports.{locks_text, lock_text, cell_text, mode_text, kind_text};
+ghost use Rattle.ft_replies.specs.Reports.{locks_text, attribute_locks_text, lock_text, cell_text, is_attributes, is_told, mode_text, kind_text};
 
 use ft_calls::Mode;
 use ft_moss::{LockKind, LockLine};
@@ -9,7 +10,7 @@ use ft_tree::{Cell, Entry};
 use ft_words::Coded;
 use std::fmt;
 
-/// The locks.
+/// Those of some locks that are of all but attributes.
 #[derive(Clone, Copy)]
 pub struct LocksText<'a>(pub &'a [LockLine]);
 
@@ -17,20 +18,61 @@ impl fmt::Display for LocksText<'_> {
     ghost output = { λ text. Some (locks_text text.0.now) };
 
     fn fmt<W: fmt::Write>(&self, f: &mut fmt::Formatter<W>) -> fmt::Result {
-        write!(f, "locks {}{}", self.0.len(), LockLines(self.0))
+        let lines = LockLines {
+            locks: self.0,
+            of_attributes: false,
+        };
+        write!(f, "locks {}{lines}", lines.count())
     }
 }
 
-// Locks, each after a line feed.
+/// Those of some locks that are of attributes.
 #[derive(Clone, Copy)]
-struct LockLines<'a>(&'a [LockLine]);
+pub struct AttributeLocksText<'a>(pub &'a [LockLine]);
 
-impl fmt::Display for LockLines<'_> {
-    ghost output = { λ lines. Some (lines_text lock_text lines.0.now) };
+impl fmt::Display for AttributeLocksText<'_> {
+    ghost output = { λ text. Some (attribute_locks_text text.0.now) };
 
     fn fmt<W: fmt::Write>(&self, f: &mut fmt::Formatter<W>) -> fmt::Result {
-        for lock in self.0 {
-            write!(f, "\n{}", LockText(lock))?;
+        let lines = LockLines {
+            locks: self.0,
+            of_attributes: true,
+        };
+        write!(f, "attributes {}{lines}", lines.count())
+    }
+}
+
+// Those of some locks that are of attributes, or those that are not, each after a line feed.
+#[derive(Clone, Copy)]
+struct LockLines<'a> {
+    locks: &'a [LockLine],
+    of_attributes: bool,
+}
+
+impl LockLines<'_> {
+    // Whether this is one of them.
+    fn has(self, lock: &LockLine) -> bool
+        ensures { result ≡ is_told self.entry.of_attributes lock.now }
+    {
+        is_attributes(&lock.cell) == self.of_attributes
+    }
+
+    // How many they are.
+    fn count(self) -> usize
+        ensures { result ≡ length (filter (is_told self.entry.of_attributes) self.entry.locks.now) }
+    {
+        self.locks.iter().filter(|&lock| self.has(lock)).count()
+    }
+}
+
+impl fmt::Display for LockLines<'_> {
+    ghost output = { λ lines. Some (lines_text lock_text (filter (is_told lines.of_attributes) lines.locks.now)) };
+
+    fn fmt<W: fmt::Write>(&self, f: &mut fmt::Formatter<W>) -> fmt::Result {
+        for lock in self.locks {
+            if self.has(lock) {
+                write!(f, "\n{}", LockText(lock))?;
+            }
         }
         Ok(())
     }
@@ -73,8 +115,18 @@ impl fmt::Display for CellText<'_> {
             Cell::Links(file) => write!(f, "links {file}"),
             Cell::Bytes(file) => write!(f, "bytes {file}"),
             Cell::Fd(fd) => write!(f, "fd {fd}"),
+            Cell::DirAttributes(number) | Cell::FileAttributes(number) => {
+                write!(f, "attributes {number}")
+            }
         }
     }
+}
+
+// Whether a cell is the mode and the owners of a directory or of a file.
+fn is_attributes(cell: &Cell) -> bool
+    ensures { result ≡ is_attributes cell.now }
+{
+    matches!(cell, Cell::DirAttributes(_) | Cell::FileAttributes(_))
 }
 
 // What the lock lets its owner do.

@@ -77,6 +77,8 @@ fn asked_alone(word: &[u8]) -> Option<Line>
         Some(Line::Report(Report::Locks))
     } else if word == b"waits".as_slice() {
         Some(Line::Report(Report::Waits))
+    } else if word == b"attributes".as_slice() {
+        Some(Line::Report(Report::Attributes))
     } else {
         None
     }

@@ -3,7 +3,7 @@ ghost use Rattle.std.specs.Prelude.{IfOk, IfSome, string_bytes};
 ghost use Rattle.ft_replies.specs.Lines.{IsReport, IsWholeReport};
 
 use crate::line::Report;
-use crate::lock_text::LocksText;
+use crate::lock_text::{AttributeLocksText, LocksText};
 use crate::wait_text::WaitsText;
 use ft_base::Memory;
 use ft_core::Core;
@@ -32,6 +32,7 @@ pub fn whole_report_of(alloc: Global, report: Report, core: &Core) -> Result<Opt
     match report {
         Report::Tree => tree_report(alloc, core),
         Report::Locks => locks_report(alloc, core),
+        Report::Attributes => attributes_report(alloc, core),
         Report::Waits => waits_report(alloc, core),
     }
 }
@@ -50,13 +51,26 @@ fn tree_report(alloc: Global, core: &Core) -> Result<Option<String>, Memory>
     Ok(Some(text))
 }
 
-// Who has which lock.
+// Who has which lock, of all but attributes.
 fn locks_report(alloc: Global, core: &Core) -> Result<Option<String>, Memory>
     ensures { IfOk result (λ told. IfSome told (λ text. IsWholeReport core.now.state Report.Locks (string_bytes text))) }
 {
     match core.lock_lines() {
         Ok(locks) => {
             let text = format!(in alloc; "{}\n", LocksText(locks.as_slice()))?;
+            Ok(Some(text))
+        }
+        Err(_) => Ok(None),
+    }
+}
+
+// Who has which lock of attributes.
+fn attributes_report(alloc: Global, core: &Core) -> Result<Option<String>, Memory>
+    ensures { IfOk result (λ told. IfSome told (λ text. IsWholeReport core.now.state Report.Attributes (string_bytes text))) }
+{
+    match core.lock_lines() {
+        Ok(locks) => {
+            let text = format!(in alloc; "{}\n", AttributeLocksText(locks.as_slice()))?;
             Ok(Some(text))
         }
         Err(_) => Ok(None),

@@ -1,8 +1,9 @@
 -- A derived `==` decides whether two values of an enum are the same, where the `==` of each field
 -- does.
-use Rattle.std.proofs.Common.{◌≡◌, Bool, true, false, ◌&&◌, List, [], ◌∷◌, Decides, refl, ap}
+use Rattle.std.proofs.Common.{◌≡◌, Bool, true, false, ◌&&◌, List, [], ◌∷◌, Some, None, Decides, refl, ap}
 use Rattle.std.proofs.lemmas.Bool.{false≢true}
 use Rattle.std.proofs.lemmas.Bool.Decides.{Decides-and}
+use Rattle.std.specs.Option.{option_eq}
 use Rattle.std.proofs.Math.Logic.{inl, inr}
 use denote.Struct.Field.{Field}
 use denote.Enum.Declared.{Record, Declared, values_one}
@@ -26,6 +27,13 @@ module _ {A : Type 0} {same : A → A → Bool} (decided : Decided same) where
   field_and {B} {later} rest x y =
       let each = Decides-and (same x.0 y.0) (later x.1 y.1) (decided x.0 y.0) (rest x.1 y.1) in
       (λ is i. ((each.0 is).0 i, (each.0 is).1 i), λ is. each.1 (ap (λ (z : A × B). z.0) is, ap (λ (z : A × B). z.1) is))
+
+-- a value that may be none
+pub optional : {A : Type 0} {same : A → A → Bool} → Decided same → Decided (option_eq same)
+optional decided None None = (λ is. refl, λ is. refl)
+optional decided None (Some y) = (λ is. absurd (false≢true is), λ is. absurd (cc))
+optional decided (Some x) None = (λ is. absurd (false≢true is), λ is. absurd (cc))
+optional decided (Some x) (Some y) = (λ is. ap Some ((decided x y).0 is), λ is. (decided x y).1 (cc))
 
 -- ---- enums
 

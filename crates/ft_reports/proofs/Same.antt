@@ -1,4 +1,5 @@
 -- `==` decides whether two calls, or two replies, are the same.
+use Rattle.std.proofs.Common.{rules}
 use Rattle.std.proofs.lemmas.Bool.Decides.{Decides-eqb as number, Decides-int_eq as offset}
 use Rattle.std.proofs.lemmas.Slice.Eq.{bytes_eq-Decides as text}
 use Rattle.std.specs.Cmp.{booleans_Decides as flag}
@@ -11,18 +12,26 @@ use Rattle.ft_posix.specs.contracts.call.Call.{enum as calls}
 use Rattle.ft_posix.specs.contracts.call.CallPartialEq.TheImpl.{ghosts as for_calls}
 use Rattle.ft_posix.specs.contracts.call.Reply.{enum as replies}
 use Rattle.ft_posix.specs.contracts.call.ReplyPartialEq.TheImpl.{ghosts as for_replies}
-use Rattle.ft_reports.proofs.Deciding.{Decided, no_field, field, field_and, bare, variants}
+use Rattle.ft_cells.specs.contracts.attributes.AttributesPartialEq.TheImpl.{ghosts as for_attributes}
+use Rattle.ft_cells.specs.contracts.attributes.TimestampPartialEq.TheImpl.{ghosts as for_times}
+use Rattle.ft_reports.proofs.Deciding.{Decided, no_field, field, field_and, optional, bare, variants}
+
+attributes : Decided for_attributes.eq
+attributes x y = search rules
+
+time : Decided for_times.eq
+time x y = search rules
 
 pub same_calls : Decided for_calls.eq
 same_calls =
     variants calls _ (
-      field text,
+      field_and text (field (optional number)),
       (
         field text,
         (
           field text,
           (
-            field_and text (field_and (bare access_mode tt) (field_and flag (field_and flag (field_and flag (field flag))))),
+            field_and text (field_and (bare access_mode tt) (field_and flag (field_and flag (field_and flag (field_and flag (field (optional number))))))),
             (
               field number,
               (
@@ -55,7 +64,31 @@ same_calls =
                                           field text,
                                           (
                                             field text,
-                                            tt,
+                                            (
+                                              field_and number (field text),
+                                              (
+                                                field_and number (field number),
+                                                (
+                                                  field_and (optional number) (field_and (optional number) (field text)),
+                                                  (
+                                                    field_and (optional number) (field_and (optional number) (field text)),
+                                                    (
+                                                      field_and number (field_and (optional number) (field (optional number))),
+                                                      (
+                                                        field_and time (field text),
+                                                        (
+                                                          field_and time (field text),
+                                                          (
+                                                            field_and number (field time),
+                                                            tt,
+                                                          ),
+                                                        ),
+                                                      ),
+                                                    ),
+                                                  ),
+                                                ),
+                                              ),
+                                            ),
                                           ),
                                         ),
                                       ),
@@ -88,7 +121,7 @@ same_replies =
           (
             field text,
             (
-              field_and (bare kind tt) (field_and number (field_and number (field number))),
+              field_and (bare kind tt) (field_and number (field_and number (field_and number (field_and (optional attributes) (field (optional time)))))),
               (
                 field (bare errno tt),
                 tt,

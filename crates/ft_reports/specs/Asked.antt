@@ -66,6 +66,9 @@ on_opened ds (posix.Pwrite k off bytes) = posix.Pwrite (opened_at ds k) off byte
 on_opened ds (posix.Lseek k whence off) = posix.Lseek (opened_at ds k) whence off
 on_opened ds (posix.Ftruncate k len) = posix.Ftruncate (opened_at ds k) len
 on_opened ds (posix.Fstat k) = posix.Fstat (opened_at ds k)
+on_opened ds (posix.Fchmod k mode) = posix.Fchmod (opened_at ds k) mode
+on_opened ds (posix.Fchown k owner group) = posix.Fchown (opened_at ds k) owner group
+on_opened ds (posix.Futime k time) = posix.Futime (opened_at ds k) time
 on_opened ds call = call
 
 -- the call that a step asks for, where the steps opened these descriptors

@@ -34,6 +34,9 @@ fn on_opened(mut call: Call, descriptors: &[u64]) -> Call
         Call::Lseek { fd, .. } => *fd = opened_at(ds, *fd),
         Call::Ftruncate { fd, .. } => *fd = opened_at(ds, *fd),
         Call::Fstat { fd } => *fd = opened_at(ds, *fd),
+        Call::Fchmod { fd, .. } => *fd = opened_at(ds, *fd),
+        Call::Fchown { fd, .. } => *fd = opened_at(ds, *fd),
+        Call::Futime { fd, .. } => *fd = opened_at(ds, *fd),
         _ => {}
     }
     call

@@ -1,6 +1,7 @@
 // A directory on disk as a source.
 use ft_base::Sequence;
-use ft_copy::{FileFacts, FileId, Found, Listed, Source, Trouble, name_of};
+use ft_cells::{Attributes, MOST_NANOSECONDS, Timestamp};
+use ft_copy::{FileFacts, FileId, Found, FoundFile, Given, Listed, Source, Trouble, name_of};
 use ft_path::LONGEST_PATH;
 use ft_script::write_out;
 use ft_words::Coded;
@@ -8,6 +9,9 @@ use std::fs::{File, Metadata};
 use std::io::ErrorKind;
 use std::os::unix::fs::MetadataExt;
 use std::{fs, io, str};
+
+// How many modes there are. The system tells the kind of a file above them.
+const MODES: u32 = 0o10000;
 
 /// A directory on disk, which is read and never written. Symbolic links are not followed.
 #[derive(Drop)]
@@ -25,6 +29,14 @@ impl DiskSource<'_> {
             return Err(Trouble::BadName);
         };
         Ok(format!(in self.rt.alloc(); "{}{path}", self.dir)?)
+    }
+
+    // The same, to be looked at: a symbolic link may lead to the directory itself.
+    fn looked_at(&self, path: &[u8]) -> Result<String, Trouble> {
+        if path.is_empty() {
+            return Ok(format!(in self.rt.alloc(); "{}/", self.dir)?);
+        }
+        self.place(path)
     }
 }
 
@@ -48,7 +60,7 @@ impl Source for DiskSource<'_> {
     }
 
     fn look(&self, path: &[u8], _node: u64) -> Result<Found, Trouble> {
-        let place = self.place(path)?;
+        let place = self.looked_at(path)?;
         match fs::symlink_metadata(self.rt, place.as_str()) {
             Ok(metadata) => Ok(found(&metadata)),
             Err(error) => Err(trouble_of(place.as_str(), error)),
@@ -80,7 +92,7 @@ impl Source for DiskSource<'_> {
 // What the system tells of what stands somewhere.
 fn found(metadata: &Metadata) -> Found {
     if metadata.is_dir() {
-        return Found::Folder;
+        return Found::Folder(attributes_of(metadata));
     }
     let facts = FileFacts {
         id: FileId {
@@ -91,11 +103,33 @@ fn found(metadata: &Metadata) -> Found {
         size: metadata.len(),
     };
     if metadata.is_file() {
-        Found::File(facts)
+        let given = Given {
+            attributes: attributes_of(metadata),
+            time: Some(time_of(metadata)),
+        };
+        Found::File(FoundFile { facts, given })
     } else if metadata.is_symlink() {
         Found::Symlink(facts)
     } else {
         Found::Special
+    }
+}
+
+// The mode of what stands somewhere, without its kind, and its owners.
+fn attributes_of(metadata: &Metadata) -> Attributes {
+    Attributes {
+        mode: (metadata.mode() % MODES) as u16,
+        owner: metadata.uid(),
+        group: metadata.gid(),
+    }
+}
+
+// When its bytes were changed last.
+fn time_of(metadata: &Metadata) -> Timestamp {
+    let nanoseconds = u32::try_from(metadata.mtime_nsec()).unwrap_or(0);
+    Timestamp {
+        seconds: metadata.mtime(),
+        nanoseconds: nanoseconds.min(MOST_NANOSECONDS),
     }
 }
 

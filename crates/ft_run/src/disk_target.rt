@@ -1,43 +1,86 @@
 // A directory on disk as a target.
+use crate::giving::Giving;
 use crate::removal::Removal;
-use ft_copy::{Target, Trouble};
+use ft_cells::{Attributes, Timestamp};
+use ft_copy::{FileId, Target, Trouble};
 use ft_path::LONGEST_PATH;
-use std::fs::{File, OpenOptions};
+use ft_script::write_out;
+use std::fs::{DirBuilder, File, Metadata, OpenOptions, Permissions};
 use std::io::{ErrorKind, Write};
-use std::os::unix::fs::symlink;
+use std::os::unix::fs::{DirBuilderExt, MetadataExt, OpenOptionsExt, PermissionsExt, symlink};
 use std::{fs, io, str};
 
 // How many names beside the directory are tried.
 const MOST_TRIES: u32 = 1_000;
 
+// The modes of directories and files until they are whole: nobody else gets at them, and their owner
+// can fill them.
+const BEGUN_FOLDER: u32 = 0o700;
+
+const BEGUN_FILE: u32 = 0o600;
+
 /// A directory that is to be made on disk. It is made under another name beside its place, and gets
 /// its own when it is whole.
+///
+/// Files get their modes, owners and times when they are closed, and directories at the end, those
+/// in a directory before it, so that one that nobody may write can be filled.
 #[derive(Drop)]
 pub struct DiskTarget<'a> {
     rt: &'a HostRuntime,
     // where it is to stand, without slashes behind it
     dir: &'a str,
+    // whether owners and groups are to be kept
+    wants_owners: bool,
     // what there is until it is whole, once it was begun
     begun: Option<Begun>,
     // the file that is open
-    file: Option<File>,
+    file: Option<OpenFile>,
+}
+
+// A file that is open, and what it is to have.
+#[derive(Drop)]
+struct OpenFile {
+    file: File,
+    attributes: Attributes,
 }
 
 // A directory that was begun.
 #[derive(Drop)]
 struct Begun {
     // where it stands
-    beside: String,
+    beside: Made,
+    // the directories in it, each before those that stand in it, and what they are to have
+    folders: Vec<(Made, Attributes)>,
+    // what gives it all
+    giving: Giving,
     // what it is removed with where it is given up, also where there is no memory any more
     removal: Removal,
 }
 
+// A directory that was made: where, and what tells it from all others.
+#[derive(Drop)]
+struct Made {
+    place: String,
+    id: FileId,
+}
+
+impl Made {
+    // Whether it stands there, and no other and no symbolic link.
+    fn is_there(&self, rt: &HostRuntime) -> bool {
+        match fs::symlink_metadata(rt, self.place.as_str()) {
+            Ok(metadata) => metadata.is_dir() && id_of(&metadata) == self.id,
+            Err(_) => false,
+        }
+    }
+}
+
 impl<'a> DiskTarget<'a> {
     /// Nothing is made yet.
-    pub fn new(rt: &'a HostRuntime, dir: &'a str) -> DiskTarget<'a> {
+    pub fn new(rt: &'a HostRuntime, dir: &'a str, wants_owners: bool) -> DiskTarget<'a> {
         DiskTarget {
             rt,
             dir: dir.trim_end_matches('/'),
+            wants_owners,
             begun: None,
             file: None,
         }
@@ -49,19 +92,19 @@ impl<'a> DiskTarget<'a> {
             return Err(Trouble::BadName);
         };
         match &self.begun {
-            Some(begun) => Ok(format!(in self.rt.alloc(); "{}{path}", begun.beside)?),
+            Some(begun) => Ok(format!(in self.rt.alloc(); "{}{path}", begun.beside.place)?),
             None => Err(Trouble::Write),
         }
     }
 
     // Makes a directory beside the place, by the first name that is free.
-    fn make_beside(&self) -> Result<String, Trouble> {
+    fn make_beside(&self) -> Result<Made, Trouble> {
         for number in 0..MOST_TRIES {
-            let beside = format!(in self.rt.alloc(); "{}.part{number}", self.dir)?;
-            match fs::create_dir(self.rt, beside.as_str()) {
-                Ok(()) => return Ok(beside),
+            let place = format!(in self.rt.alloc(); "{}.part{number}", self.dir)?;
+            match make_folder(self.rt, place.as_str()) {
+                Ok(id) => return Ok(Made { place, id }),
                 Err(error) if error.kind() == ErrorKind::AlreadyExists => {}
-                Err(error) => return Err(trouble_of(beside.as_str(), error)),
+                Err(error) => return Err(trouble_of(place.as_str(), error)),
             }
         }
         Err(Trouble::Exists)
@@ -78,38 +121,62 @@ impl Target for DiskTarget<'_> {
         if self.is_taken() {
             return Err(Trouble::Exists);
         }
-        let removal = Removal::new(self.rt.alloc())?;
+        let alloc = self.rt.alloc();
+        let removal = Removal::new(alloc)?;
         let beside = self.make_beside()?;
-        self.begun = Some(Begun { beside, removal });
+        let giving = Giving::new(self.rt, self.wants_owners, beside.place.as_str());
+        self.begun = Some(Begun {
+            beside,
+            folders: Vec::new(alloc),
+            giving,
+            removal,
+        });
         Ok(())
     }
 
-    fn folder(&mut self, path: &[u8]) -> Result<(), Trouble> {
+    fn folder(&mut self, path: &[u8], attributes: Attributes) -> Result<(), Trouble> {
         let place = self.place(path)?;
-        fs::create_dir(self.rt, place.as_str()).map_err(|error| trouble_of(place.as_str(), error))
+        let id = make_folder(self.rt, place.as_str()).map_err(|error| trouble_of(
+            place.as_str(),
+            error,
+        ))?;
+        match &mut self.begun {
+            Some(begun) => Ok(begun.folders.push((Made { place, id }, attributes))?),
+            None => Err(Trouble::Write),
+        }
     }
 
-    fn open(&mut self, path: &[u8]) -> Result<(), Trouble> {
+    fn open(&mut self, path: &[u8], attributes: Attributes) -> Result<(), Trouble> {
         let place = self.place(path)?;
         let file = OpenOptions::new()
             .write(true)
             .create_new(true)
+            .mode(BEGUN_FILE)
             .open(self.rt, place.as_str())
             .map_err(|error| trouble_of(place.as_str(), error))?;
-        self.file = Some(file);
+        self.file = Some(OpenFile { file, attributes });
         Ok(())
     }
 
     fn piece(&mut self, bytes: &[u8]) -> Result<(), Trouble> {
         match &mut self.file {
-            Some(file) => file.write_all(bytes).map_err(|error| trouble_of("", error)),
+            Some(open) => open
+                .file
+                .write_all(bytes)
+                .map_err(|error| trouble_of("", error)),
             None => Err(Trouble::Write),
         }
     }
 
-    fn close(&mut self) -> Result<(), Trouble> {
-        self.file = None;
-        Ok(())
+    fn close(&mut self, time: Option<Timestamp>) -> Result<(), Trouble> {
+        let (Some(open), Some(begun)) = (self.file.take(), &mut self.begun) else {
+            return Err(Trouble::Write);
+        };
+        let giving = &mut begun.giving;
+        giving
+            .set_time(&open.file, time)
+            .and_then(|()| giving.give(&open.file, open.attributes))
+            .map_err(|error| trouble_of("", error))
     }
 
     fn link(&mut self, first: &[u8], path: &[u8]) -> Result<(), Trouble> {
@@ -129,25 +196,85 @@ impl Target for DiskTarget<'_> {
         symlink(self.rt, to, place.as_str()).map_err(|error| trouble_of(place.as_str(), error))
     }
 
-    fn finish(&mut self) -> Result<(), Trouble> {
+    fn finish(&mut self, attributes: Attributes) -> Result<(), Trouble> {
         if self.is_taken() {
             return Err(Trouble::Exists);
         }
-        let place = self.place(b"".as_slice())?;
-        fs::rename(self.rt, place.as_str(), self.dir).map_err(|error| trouble_of(
-            place.as_str(),
-            error,
-        ))?;
+        let Some(begun) = &mut self.begun else {
+            return Err(Trouble::Write);
+        };
+        begun.give_folders(self.rt, attributes)?;
+        let losses = begun.giving.losses(self.rt.alloc())?;
+        let place = begun.beside.place.as_str();
+        fs::rename(self.rt, place, self.dir).map_err(|error| trouble_of(place, error))?;
         self.begun = None;
+        let _ = write_out(&mut self.rt.stderr(), losses.as_bytes());
         Ok(())
     }
 
     fn give_up(&mut self) {
         self.file = None;
-        if let Some(begun) = &mut self.begun {
-            begun.removal.remove(self.rt, begun.beside.as_str());
+        if let Some(begun) = &mut self.begun
+            && begun.beside.is_there(self.rt)
+        {
+            begun.removal.remove(self.rt, begun.beside.place.as_str());
         }
         self.begun = None;
+    }
+}
+
+impl Begun {
+    // Gives the directories what they are to have, those in a directory before it, and the whole
+    // last.
+    fn give_folders(&mut self, rt: &HostRuntime, attributes: Attributes) -> Result<(), Trouble> {
+        let giving = &mut self.giving;
+        for (made, given) in self.folders.iter().rev() {
+            give_folder(rt, giving, made, *given)?;
+        }
+        give_folder(rt, giving, &self.beside, attributes)
+    }
+}
+
+// Gives a directory that was made what it is to have. What stands in its place and is not this
+// directory gets nothing, and is not opened.
+fn give_folder(
+    rt: &HostRuntime,
+    giving: &mut Giving,
+    made: &Made,
+    attributes: Attributes,
+) -> Result<(), Trouble> {
+    let place = made.place.as_str();
+    if !made.is_there(rt) {
+        return Err(Trouble::Write);
+    }
+    let folder = File::open(rt, place).map_err(|error| trouble_of(place, error))?;
+    let metadata = folder.metadata().map_err(|error| trouble_of(place, error))?;
+    if id_of(&metadata) != made.id {
+        return Err(Trouble::Write);
+    }
+    giving
+        .give(&folder, attributes)
+        .map_err(|error| trouble_of(place, error))
+}
+
+// Makes a directory, which only its owner gets at, whatever the umask takes away from its mode.
+fn make_folder(rt: &HostRuntime, place: &str) -> io::Result<FileId> {
+    DirBuilder::new().mode(BEGUN_FOLDER).create(rt, place)?;
+    let metadata = fs::symlink_metadata(rt, place)?;
+    if !metadata.is_dir() {
+        return Err(io::Error::from(ErrorKind::AlreadyExists));
+    }
+    if metadata.mode() % 0o1000 != BEGUN_FOLDER {
+        fs::set_permissions(rt, place, Permissions::from_mode(BEGUN_FOLDER))?;
+    }
+    Ok(id_of(&metadata))
+}
+
+// What tells something from all else.
+fn id_of(metadata: &Metadata) -> FileId {
+    FileId {
+        device: metadata.dev(),
+        number: metadata.ino(),
     }
 }
 

@@ -12,6 +12,7 @@
 
 mod disk_source;
 mod disk_target;
+mod giving;
 mod removal;
 
 ghost use Rattle.std.specs.Prelude.{◌≡◌, IfOk};
@@ -21,8 +22,8 @@ ghost use Rattle.ft_core.specs.States.{at_base};
 use crate::disk_source::DiskSource;
 use crate::disk_target::DiskTarget;
 use ft_after::core_after;
-use ft_cells::TreeLimits;
 use ft_command::{AskedLimits, Choice, choose};
+use ft_copy::CopyLimits;
 use ft_core::{Core, Limits, Rule};
 use ft_jobs::LONGEST_PLAN;
 use ft_load::needs_of;
@@ -56,10 +57,33 @@ fn main(rt: HostRuntime) -> ExitCode {
         Choice::Load {
             dir,
             skip,
+            set_id,
             quiet,
             limits,
-        } => load_dir(&rt, dir.as_str(), skip, quiet, limits),
-        Choice::Save { dir, quiet, limits } => save_dir(&rt, dir.as_str(), quiet, limits),
+        } => load_dir(
+            &rt,
+            DiskSource {
+                rt: &rt,
+                dir: dir.as_str(),
+                skip,
+            },
+            set_id,
+            quiet,
+            limits,
+        ),
+        Choice::Save {
+            dir,
+            set_id,
+            no_owners,
+            quiet,
+            limits,
+        } => save_dir(
+            &rt,
+            DiskTarget::new(&rt, dir.as_str(), !no_owners),
+            set_id,
+            quiet,
+            limits,
+        ),
         Choice::Jobs {
             file,
             turns,
@@ -167,14 +191,19 @@ fn misused(rt: &HostRuntime, text: String) -> u8 {
 // Writes a script of a directory to standard output, with what it needs on its first line: no more
 // than is asked for, or where nothing is, than a core can have that is played with flags. Where
 // standard output is a terminal, it is not shown how far it has come: the script tells.
-fn load_dir(rt: &HostRuntime, dir: &str, skip: bool, quiet: bool, asked: AskedLimits) -> u8 {
+fn load_dir(
+    rt: &HostRuntime,
+    source: DiskSource<'_>,
+    set_id: bool,
+    quiet: bool,
+    asked: AskedLimits,
+) -> u8 {
     let alloc = rt.alloc();
-    let source = DiskSource { rt, dir, skip };
     let most = asked.over(Limits {
         links: Limits::default().links,
         ..Limits::greatest()
     });
-    let Ok(needs) = needs_of(alloc, most, &source) else {
+    let Ok(needs) = needs_of(alloc, most, set_id, &source) else {
         return failed(&mut rt.stderr(), fault_line(PlayFault::Memory));
     };
     let screen = screen(rt, quiet || rt.stdout().is_terminal());
@@ -182,6 +211,7 @@ fn load_dir(rt: &HostRuntime, dir: &str, skip: bool, quiet: bool, asked: AskedLi
         rt,
         alloc,
         needs,
+        set_id,
         &source,
         screen,
         rt.stdout(),
@@ -192,14 +222,21 @@ fn load_dir(rt: &HostRuntime, dir: &str, skip: bool, quiet: bool, asked: AskedLi
 
 // Makes a directory of the tree with which standard input ends, whose files are no larger than is
 // asked for.
-fn save_dir(rt: &HostRuntime, dir: &str, quiet: bool, asked: AskedLimits) -> u8 {
+fn save_dir(
+    rt: &HostRuntime,
+    target: DiskTarget<'_>,
+    set_id: bool,
+    quiet: bool,
+    asked: AskedLimits,
+) -> u8 {
     let alloc = rt.alloc();
     let limits = asked.over(Limits::greatest());
-    let allowed = TreeLimits {
+    let allowed = CopyLimits {
         file_size: limits.file_size,
         links: limits.links,
+        set_id,
     };
-    let mut target = ShownTarget::new(rt, alloc, DiskTarget::new(rt, dir), screen(rt, quiet));
+    let mut target = ShownTarget::new(rt, alloc, target, screen(rt, quiet));
     save_status(
         alloc,
         allowed,

@@ -1,12 +1,16 @@
 // How a directory on disk is removed where there may be no memory.
 use ft_path::LONGEST_PATH;
 use std::alloc::{AllocError, Global};
-use std::fs::Files;
+use std::fs::{Files, Permissions};
 use std::io::Read;
+use std::os::unix::fs::PermissionsExt;
 use std::str;
 
 // So many bytes of names are read at once.
 const NAMES: usize = 4_096;
+
+// The mode of a directory that is emptied.
+const EMPTIED: u32 = 0o700;
 
 /// The room in which a directory on disk is removed, taken before there is anything to remove.
 #[derive(Drop)]
@@ -43,9 +47,15 @@ impl Removal {
 
     // Empties the directory at the path, up to one in it that is not empty: then the path is that
     // of this one, and the answer is false. None where that can't be done. A symbolic link is
-    // removed, and never gone through.
+    // removed, and never gone through. The directory may have its mode already, by which nobody
+    // may empty it.
     fn empty<F: Files>(&mut self, files: &F) -> Option<bool> {
-        let mut listing = files.open_dir(text_of(self.path.as_slice())?).ok()?;
+        let place = text_of(self.path.as_slice())?;
+        if !is_folder(files, place) {
+            return None;
+        }
+        let _ = files.set_permissions(place, Permissions::from_mode(EMPTIED));
+        let mut listing = files.open_dir(place).ok()?;
         for _ in 0..u64::MAX {
             let count = listing.read(self.names.as_mut_slice()).ok()?;
             if count == 0 {

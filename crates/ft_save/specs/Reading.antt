@@ -1,14 +1,16 @@
 -- How the report of what the tree holds is read with which replies end.
-use Rattle.std.specs.Prelude.{◌==◌, ◌-◌, ◌&&◌, not, nat_lt, ℕ, Bool, false, zero, suc, List, [], ◌∷◌, codes, length, if◌then◌else◌, Option, None, Some, option_and_then, option_map}
+use Rattle.std.specs.Prelude.{◌==◌, ◌-◌, ◌&&◌, not, nat_lt, ℕ, ℤ, Bool, false, zero, suc, List, [], ◌∷◌, codes, length, if◌then◌else◌, Option, None, Some, option_and_then, option_map}
 use Rattle.std.specs.List.{slice_get}
 use Rattle.std.specs.Option.{option_map_or}
 use Rattle.std.specs.Str.{bytes_eq}
 use Rattle.percent_encoding.specs.Percent.{percent_decode}
-use Rattle.ft_words.specs.Spelling.{lines_of, words_of, number_of}
+use Rattle.ft_words.specs.Spelling.{integer_of, lines_of, words_of, number_of, short_number_of}
+use Rattle.ft_words.specs.Modes.{mode_of}
 use Rattle.ft_words.specs.Calls.{both, last_word, only, three}
 use Rattle.ft_dot.specs.Reading.{behind}
 use Rattle.ft_save.specs.declared.row.Row.{Row}
-use Rattle.ft_save.specs.declared.row.Row.TheVariants.{Folder, Edge, File, Descriptor}
+use Rattle.ft_save.specs.declared.row.Row.TheVariants.{Folder, Edge, File, Attributes, Time, Descriptor}
+use Rattle.ft_cells.specs.declared.attributes.TheConstants.{MOST_NANOSECONDS}
 use Rattle.ft_cells.specs.declared.node.Form.TheVariants.{Regular, Link}
 use Rattle.ft_path.specs.declared.TheConstants.{LONGEST_PATH}
 use Rattle.ft_path.specs.Name.{has_nul}
@@ -47,6 +49,23 @@ linked node bytes = if is_target bytes then Some (File node Link bytes) else Non
 abbrev pub link_of : List (List ℕ) → Option Row
 link_of words = option_and_then (λ l. linked l.0 (percent_decode l.1)) (both number_of last_word words)
 
+-- attributes that are told of a number
+abbrev pub with_attributes : ℕ → ℕ → ℕ → ℕ → Row
+with_attributes node mode owner group = Attributes node (record { mode = mode; owner = owner; group = group })
+
+-- `NODE MODE OWNER GROUP`
+abbrev pub attributes_of : List (List ℕ) → Option Row
+attributes_of words = option_map (λ a. with_attributes a.0 a.1 a.2.0 a.2.1) (three number_of mode_of (both short_number_of (only short_number_of)) words)
+
+-- a time that can be: it has less than a second of nanoseconds
+abbrev pub timed : ℕ → ℤ → ℕ → Option Row
+timed node seconds nanoseconds =
+    if nat_lt MOST_NANOSECONDS nanoseconds then None else Some (Time node (record { seconds = seconds; nanoseconds = nanoseconds }))
+
+-- `NODE SECONDS NANOSECONDS`
+abbrev pub time_of : List (List ℕ) → Option Row
+time_of words = option_and_then (λ t. timed t.0 t.1 t.2) (three number_of integer_of (only short_number_of) words)
+
 -- `FD FILE ACCESS OFFSET`
 abbrev pub fd_of : List (List ℕ) → Option Row
 fd_of words = option_map (λ f. Descriptor) (three number_of number_of (both Some (only number_of)) words)
@@ -58,7 +77,9 @@ row_by word words =
     else (if bytes_eq word (codes "edge") then edge_of words
     else (if bytes_eq word (codes "file") then file_of words
     else (if bytes_eq word (codes "link") then link_of words
-    else (if bytes_eq word (codes "fd") then fd_of words else None))))
+    else (if bytes_eq word (codes "attributes") then attributes_of words
+    else (if bytes_eq word (codes "time") then time_of words
+    else (if bytes_eq word (codes "fd") then fd_of words else None))))))
 
 -- the row that a line tells, by its words
 abbrev pub row_of : List (List ℕ) → Option Row

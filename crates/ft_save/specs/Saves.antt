@@ -1,7 +1,7 @@
 -- What a save makes.
 use Rattle.std.specs.Prelude.{◌≡◌, ◌⊎◌, ℕ, List, Option, None, Some}
 use Rattle.std.specs.Io.KnownBytes.{Consumes, IsAtEnd}
-use Rattle.ft_cells.specs.declared.limits.TreeLimits.{TreeLimits}
+use Rattle.ft_copy.specs.declared.limits.CopyLimits.{CopyLimits}
 use Rattle.ft_copy.specs.declared.trouble.Trouble.{Trouble}
 use Rattle.ft_copy.specs.Asked.{Asked}
 use Rattle.ft_copy.specs.Runs.{Copies, GivesUp}
@@ -19,7 +19,7 @@ abbrev pub IsLast : Option (List ℕ) → Option (List ℕ) → List Row → Typ
 IsLast left left_after rows = (bytes : List ℕ) × Consumes left left_after bytes × IsAtEnd left_after × (tree_told bytes ≡ Some rows)
 
 -- The same, and the tree that they tell of was copied.
-abbrev pub Saves : {T : Type 0} → TreeLimits → Option (List ℕ) → Option (List ℕ) → (T → Asked → T → Type 0) → T → T → Type 0
+abbrev pub Saves : {T : Type 0} → CopyLimits → Option (List ℕ) → Option (List ℕ) → (T → Asked → T → Type 0) → T → T → Type 0
 Saves limits left left_after does old new = (rows : List Row) × IsLast left left_after rows × Copies limits (Tells rows) does old new
 
 -- ---- faults
@@ -38,7 +38,7 @@ FindsNone (Replies fault) left left_after = IsUnread fault left left_after
 FindsNone NoTree left left_after = HasNoTree left left_after
 FindsNone (Stopped stopped) left left_after = ⊥
 
-module _ {T : Type 0} (limits : TreeLimits) (does : T → Asked → T → Type 0) (fails : T → Asked → Trouble → T → Type 0) where
+module _ {T : Type 0} (limits : CopyLimits) (does : T → Asked → T → Type 0) (fails : T → Asked → Trouble → T → Type 0) where
   -- The tree that rows tell of was not copied: there was no memory for it, or the copy stopped.
   abbrev pub StopsRows : SaveFault → List Row → T → T → Type 0
   StopsRows (Replies fault) rows old new = (fault ≡ Memory) × (new ≡ old)

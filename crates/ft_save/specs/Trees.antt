@@ -3,10 +3,16 @@ use Rattle.std.specs.Prelude.{◌≡◌, ◌⊎◌, ◌==◌, ℕ, Bool, true, f
 use Rattle.std.specs.Option.{option_map_or, unwrap_or}
 use Rattle.std.specs.FinMap as finite
 use Rattle.ft_cells.specs.declared.TheConstants.{DEFAULT_LINKS}
+use Rattle.ft_cells.specs.Attributes.{attributes_from}
+use Rattle.ft_cells.specs.declared.attributes.Attributes.{Attributes as CellAttributes}
+use Rattle.ft_cells.specs.declared.attributes.Timestamp.{Timestamp}
+use Rattle.ft_cells.specs.declared.node.Kind.TheVariants as kinds
 use Rattle.ft_cells.specs.declared.node.Form.{Form}
 use Rattle.ft_cells.specs.declared.node.Form.TheVariants as forms
 use Rattle.ft_copy.specs.declared.found.TheConstants.{ROOT}
 use Rattle.ft_copy.specs.declared.found.FileFacts.{FileFacts}
+use Rattle.ft_copy.specs.declared.found.FoundFile.{FoundFile}
+use Rattle.ft_copy.specs.declared.found.Given.{Given}
 use Rattle.ft_copy.specs.declared.found.Found.{Found}
 use Rattle.ft_copy.specs.declared.found.Found.TheVariants as found
 use Rattle.ft_copy.specs.declared.found.Listed.{Listed}
@@ -14,7 +20,7 @@ use Rattle.ft_copy.specs.declared.trouble.Trouble.{Trouble}
 use Rattle.ft_copy.specs.declared.trouble.Trouble.TheVariants.{Memory, Read, BadName, BadTree}
 use Rattle.ft_copy.specs.Told.{Told, Lists, Finds, Holds, Leads, Omits, Keeps, Refuses, HasNoName}
 use Rattle.ft_save.specs.declared.row.Row.{Row}
-use Rattle.ft_save.specs.declared.row.Row.TheVariants.{Folder, Edge, File, Descriptor}
+use Rattle.ft_save.specs.declared.row.Row.TheVariants.{Folder, Edge, File, Attributes, Time, Descriptor}
 use Rattle.ft_save.specs.declared.index.Content.{Content}
 use Rattle.ft_save.specs.declared.index.Edge.{Edge as IndexEdge}
 use Rattle.ft_save.specs.declared.index.Index.{Index}
@@ -27,6 +33,8 @@ own_in [] node = None
 own_in (Folder other ∷ rows) node = if other == node then Some (is_some (own_in rows node)) else own_in rows node
 own_in (Edge folder name other ∷ rows) node = own_in rows node
 own_in (File other form bytes ∷ rows) node = if other == node then Some (is_some (own_in rows node)) else own_in rows node
+own_in (Attributes other attributes ∷ rows) node = own_in rows node
+own_in (Time other time ∷ rows) node = own_in rows node
 own_in (Descriptor ∷ rows) node = own_in rows node
 
 -- there is just one row of it, of a directory or a file
@@ -39,6 +47,8 @@ file_in [] node = None
 file_in (Folder other ∷ rows) node = file_in rows node
 file_in (Edge folder name other ∷ rows) node = file_in rows node
 file_in (File other form bytes ∷ rows) node = if other == node then Some (record { form = form; bytes = bytes }) else file_in rows node
+file_in (Attributes other attributes ∷ rows) node = file_in rows node
+file_in (Time other time ∷ rows) node = file_in rows node
 file_in (Descriptor ∷ rows) node = file_in rows node
 
 -- the bytes of a file: of a symbolic link, where it leads
@@ -51,6 +61,8 @@ edges_in [] node = []
 edges_in (Folder other ∷ rows) node = edges_in rows node
 edges_in (Edge folder name other ∷ rows) node = if folder == node then edges_in rows node ++ record { name = name; node = other } ∷ [] else edges_in rows node
 edges_in (File other form bytes ∷ rows) node = edges_in rows node
+edges_in (Attributes other attributes ∷ rows) node = edges_in rows node
+edges_in (Time other time ∷ rows) node = edges_in rows node
 edges_in (Descriptor ∷ rows) node = edges_in rows node
 
 -- there are names in it
@@ -63,11 +75,33 @@ named_in [] node = None
 named_in (Folder other ∷ rows) node = named_in rows node
 named_in (Edge folder name other ∷ rows) node = if other == node then Some (is_some (named_in rows node)) else named_in rows node
 named_in (File other form bytes ∷ rows) node = named_in rows node
+named_in (Attributes other attributes ∷ rows) node = named_in rows node
+named_in (Time other time ∷ rows) node = named_in rows node
 named_in (Descriptor ∷ rows) node = named_in rows node
 
 -- there is more than one name
 abbrev pub has_more : List Row → ℕ → Bool
 has_more rows node = unwrap_or (named_in rows node) false
+
+-- the attributes of something, by the first row of them
+abbrev pub attributes_in : List Row → ℕ → Option CellAttributes
+attributes_in [] node = None
+attributes_in (Folder other ∷ rows) node = attributes_in rows node
+attributes_in (Edge folder name other ∷ rows) node = attributes_in rows node
+attributes_in (File other form bytes ∷ rows) node = attributes_in rows node
+attributes_in (Attributes other attributes ∷ rows) node = if other == node then Some attributes else attributes_in rows node
+attributes_in (Time other time ∷ rows) node = attributes_in rows node
+attributes_in (Descriptor ∷ rows) node = attributes_in rows node
+
+-- the time of a file, by the first row of it
+abbrev pub time_in : List Row → ℕ → Option Timestamp
+time_in [] node = None
+time_in (Folder other ∷ rows) node = time_in rows node
+time_in (Edge folder name other ∷ rows) node = time_in rows node
+time_in (File other form bytes ∷ rows) node = time_in rows node
+time_in (Attributes other attributes ∷ rows) node = time_in rows node
+time_in (Time other time ∷ rows) node = if other == node then Some time else time_in rows node
+time_in (Descriptor ∷ rows) node = time_in rows node
 
 -- ---- what they tell of a tree
 
@@ -75,10 +109,14 @@ has_more rows node = unwrap_or (named_in rows node) false
 abbrev pub file_facts : ℕ → Bool → List ℕ → FileFacts
 file_facts node more bytes = record { id = record { device = 0; number = node }; links = if more then DEFAULT_LINKS else 1; size = length bytes }
 
--- a file as it is found, by its form
-abbrev pub found_as : Form → FileFacts → Found
-found_as forms.Regular facts = found.File facts
-found_as forms.Link facts = found.Symlink facts
+-- what a file is given: the attributes and the time of its rows, or the default attributes and none
+abbrev pub given_in : List Row → ℕ → Given
+given_in rows node = record { attributes = attributes_from kinds.File (attributes_in rows node); time = time_in rows node }
+
+-- a file as it is found, by its form; a symbolic link is given nothing
+abbrev pub found_as : Form → FoundFile → Found
+found_as forms.Regular file = found.File file
+found_as forms.Link file = found.Symlink file.facts
 
 -- the path of the root: no name leads there
 abbrev pub is_top : List ℕ → Bool
@@ -99,10 +137,11 @@ IsFile rows path node form facts =
     (bytes : List ℕ) × (file_in rows node ≡ Some (record { form = form; bytes = bytes })) × IsPlainFile rows path node × (facts ≡ file_facts node (has_more rows node) bytes)
 
 -- What stands at a path, by its number: a plain file where there is a row of a file, or of a symbolic
--- link, or else a plain directory.
+-- link, or else a plain directory; with the attributes of their rows, or the default ones.
 abbrev pub IsFound : List Row → List ℕ → ℕ → Found → Type 0
-IsFound rows path node found.Folder = (file_in rows node ≡ None) × IsPlainFolder rows path node
-IsFound rows path node (found.File facts) = IsFile rows path node forms.Regular facts
+IsFound rows path node (found.Folder attributes) =
+    (file_in rows node ≡ None) × IsPlainFolder rows path node × (attributes ≡ attributes_from kinds.Dir (attributes_in rows node))
+IsFound rows path node (found.File file) = IsFile rows path node forms.Regular file.facts × (file.given ≡ given_in rows node)
 IsFound rows path node (found.Symlink facts) = IsFile rows path node forms.Link facts
 IsFound rows path node found.Special = ⊥
 
@@ -124,13 +163,9 @@ IsRefused rows path node BadName = HasNoName (edges_in rows node)
 IsRefused rows path node BadTree = IsNothing rows path node
 IsRefused rows path node other = ⊥
 
--- the names in a directory, and at the root a directory stands
-abbrev pub AreNames : List Row → List ℕ → ℕ → List Listed → Type 0
-AreNames rows path node names = (names ≡ edges_in rows node) × (is_top path ≡ true → IsFound rows path node found.Folder)
-
 -- What the rows of a report tell. Nothing is to be left out.
 abbrev pub Tells : List Row → Told → Type 0
-Tells rows (Lists path node names) = AreNames rows path node names
+Tells rows (Lists path node names) = names ≡ edges_in rows node
 Tells rows (Finds path node found) = IsFound rows path node found
 Tells rows (Holds path node bytes) = bytes ≡ bytes_in rows node
 Tells rows (Leads path node to) = bytes_in rows node ≡ Some to
@@ -154,6 +189,8 @@ pub record Indexes (index : Index) (rows : List Row) : Type 0 where
   pub files : (node : ℕ) → finite.get index.files node ≡ file_in rows node
   pub names : (node : ℕ) → names_at index node ≡ edges_in rows node
   pub named : (node : ℕ) → finite.get index.named node ≡ named_in rows node
+  pub attributes : (node : ℕ) → finite.get index.attributes node ≡ attributes_in rows node
+  pub times : (node : ℕ) → finite.get index.times node ≡ time_in rows node
 
 -- a name was put behind those of its directory, and all else stays
 pub record PutsName (old : Index) (folder : ℕ) (edge : IndexEdge) (new : Index) : Type 0 where
@@ -161,3 +198,5 @@ pub record PutsName (old : Index) (folder : ℕ) (edge : IndexEdge) (new : Index
   pub own : new.own ≡ old.own
   pub files : new.files ≡ old.files
   pub named : new.named ≡ old.named
+  pub attributes : new.attributes ≡ old.attributes
+  pub times : new.times ≡ old.times

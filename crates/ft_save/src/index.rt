@@ -7,7 +7,7 @@ ghost use Rattle.ft_save.specs.Trees.{Indexes, PutsName};
 
 use crate::row::Row;
 use ft_base::{Memory, Sequence, Table};
-use ft_cells::Form;
+use ft_cells::{Attributes, Form, Kind, Timestamp};
 use std::alloc::Global;
 
 /// A name in a directory, which may be any bytes, and what it leads to.
@@ -36,12 +36,17 @@ pub(crate) struct Index {
     pub(crate) files: Table<Content>,
     // what has a name, and whether it has more than one
     pub(crate) named: Table<bool>,
+    // the mode and the owners of what has a row of them
+    pub(crate) attributes: Table<Attributes>,
+    // the time of each file that has one
+    pub(crate) times: Table<Timestamp>,
 }
 
 impl Index {
     ghost use Rattle.std.specs.Prelude.{List};
     ghost use Rattle.ft_save.specs.declared.row.Row.{Row};
-    ghost use Rattle.ft_save.specs.Trees.{Indexes, has_names, has_one_row};
+    ghost use Rattle.ft_cells.specs.Attributes.{attributes_from};
+    ghost use Rattle.ft_save.specs.Trees.{Indexes, attributes_in, has_names, has_one_row};
 
     /// Whether there is just one row of this number, of a directory or a file.
     pub(crate) fn has_one_row(&self, node: u64) -> bool
@@ -62,6 +67,16 @@ impl Index {
             Some(edges) => !edges.is_empty(),
         }
     }
+
+    /// The attributes of a directory or file of this kind.
+    pub(crate) fn attributes_of(&self, kind: Kind, node: u64) -> Attributes
+        ensures { (rows : List Row) → Indexes self.now rows → result ≡ attributes_from kind (attributes_in rows node) }
+    {
+        match self.attributes.get(node) {
+            None => Attributes::of(kind),
+            Some(attributes) => *attributes,
+        }
+    }
 }
 
 /// The index of rows.
@@ -74,6 +89,8 @@ pub(crate) fn index_of(alloc: Global, rows: Vec<Row>) -> Result<Index, Memory>
         edges: Table::new(alloc),
         files: Table::new(alloc),
         named: Table::new(alloc),
+        attributes: Table::new(alloc),
+        times: Table::new(alloc),
     };
     let mut rows = rows;
     while let Some(row) = rows.pop() {
@@ -96,6 +113,14 @@ fn add(index: &mut Index, row: Row) -> Result<(), Memory>
         Row::File { node, form, bytes } => {
             index.files.insert(node, Content { form, bytes })?;
             add_own(index, node)
+        }
+        Row::Attributes { node, attributes } => {
+            index.attributes.insert(node, attributes)?;
+            Ok(())
+        }
+        Row::Time { node, time } => {
+            index.times.insert(node, time)?;
+            Ok(())
         }
         Row::Descriptor => Ok(()),
     }

@@ -3,13 +3,13 @@ ghost use Rattle.std.specs.Prelude.{◌≡◌, IfOk, Some, option_map};
 ghost use Rattle.percent_encoding.specs.Percent.{percent_decode};
 ghost use Rattle.ft_words.specs.Spelling.{number_of, words_of};
 ghost use Rattle.ft_words.specs.Calls.{both, last_word, only, three};
-ghost use Rattle.ft_save.specs.Reading.{count_of, edge_of, ends_a_line, fd_of, file_of, folder_of, is_target, last_tree, link_of, row_of, rows_of, tree_told};
+ghost use Rattle.ft_save.specs.Reading.{attributes_of, count_of, edge_of, ends_a_line, fd_of, file_of, folder_of, is_target, last_tree, link_of, row_of, rows_of, time_of, tree_told};
 
 use crate::row::Row;
 use ft_base::{Memory, Sequence};
-use ft_cells::Form;
+use ft_cells::{Attributes, Form, MOST_NANOSECONDS, Timestamp};
 use ft_path::LONGEST_PATH;
-use ft_words::{Lines, Words, number_of};
+use ft_words::{Lines, Words, integer_of, mode_of, number_of, short_number_of};
 use percent_encoding::percent_decode;
 use std::alloc::Global;
 
@@ -102,6 +102,10 @@ fn row_in(alloc: Global, line: &[u8]) -> Result<Option<Row>, Memory>
         file_in(alloc, words)
     } else if word == b"link".as_slice() {
         link_in(alloc, words)
+    } else if word == b"attributes".as_slice() {
+        Ok(attributes_in(words))
+    } else if word == b"time".as_slice() {
+        Ok(time_in(words))
     } else if word == b"fd".as_slice() {
         Ok(fd_in(words))
     } else {
@@ -201,6 +205,37 @@ fn is_target(bytes: &[u8]) -> bool
     ensures { result ≡ is_target bytes.now }
 {
     !bytes.is_empty() && bytes.len() <= LONGEST_PATH && !bytes.contains(&0)
+}
+
+// `NODE MODE OWNER GROUP`
+fn attributes_in(words: Words<'_>) -> Option<Row>
+    ensures { result ≡ attributes_of words.entry }
+{
+    let mut words = words;
+    let node = number_of(words.next()?)?;
+    let mode = mode_of(words.next()?)?;
+    let owner = short_number_of(words.next()?)?;
+    let group = short_number_of(words.only()?)?;
+    let attributes = Attributes { mode, owner, group };
+    Some(Row::Attributes { node, attributes })
+}
+
+// `NODE SECONDS NANOSECONDS`
+fn time_in(words: Words<'_>) -> Option<Row>
+    ensures { result ≡ time_of words.entry }
+{
+    let mut words = words;
+    let node = number_of(words.next()?)?;
+    let seconds = integer_of(words.next()?)?;
+    let nanoseconds = short_number_of(words.only()?)?;
+    if nanoseconds > MOST_NANOSECONDS {
+        return None;
+    }
+    let time = Timestamp {
+        seconds,
+        nanoseconds,
+    };
+    Some(Row::Time { node, time })
 }
 
 // `FD FILE ACCESS OFFSET`

@@ -5,8 +5,8 @@ ghost use Rattle.ft_save.specs.Trees.{file_facts, found_as, listed};
 
 use crate::index::{Content, Edge, Index};
 use ft_base::Sequence;
-use ft_cells::{DEFAULT_LINKS, Form};
-use ft_copy::{FileFacts, FileId, Found, Listed, ROOT, Source, Trouble, name_of};
+use ft_cells::{DEFAULT_LINKS, Form, Kind};
+use ft_copy::{FileFacts, FileId, Found, FoundFile, Given, Listed, ROOT, Source, Trouble, name_of};
 use std::alloc::Global;
 
 /// The tree that a report tells of.
@@ -24,11 +24,7 @@ impl<'a> Source for Reported<'a> {
 
     ghost tells = { λ reported told. (rows : List Row) → Indexes reported.index.now rows → Tells rows told };
 
-    fn names(&self, path: &[u8], node: u64) -> Result<Vec<Listed>, Trouble> {
-        // (what stands at the root is asked nowhere else)
-        if path.is_empty() {
-            self.look(path, node)?;
-        }
+    fn names(&self, _path: &[u8], node: u64) -> Result<Vec<Listed>, Trouble> {
         let alloc = self.index.alloc;
         match self.index.edges.get(node) {
             Some(edges) => names_of(alloc, edges.as_slice()),
@@ -45,12 +41,16 @@ impl<'a> Source for Reported<'a> {
             if path.is_empty() || self.index.has_names(node) {
                 return Err(Trouble::BadTree);
             }
-            return Ok(found(node, more, content));
+            let given = Given {
+                attributes: self.index.attributes_of(Kind::File, node),
+                time: self.index.times.get(node).copied(),
+            };
+            return Ok(found(node, more, content, given));
         }
         if more || path.is_empty() != (node == ROOT) {
             return Err(Trouble::BadTree);
         }
-        Ok(Found::Folder)
+        Ok(Found::Folder(self.index.attributes_of(Kind::Dir, node)))
     }
 
     fn open(&self, _path: &[u8], node: u64) -> Result<&'a [u8], Trouble> {
@@ -76,8 +76,8 @@ impl<'a> Source for Reported<'a> {
 }
 
 // A file as it is found, which may have more names than one.
-fn found(node: u64, more: bool, content: &Content) -> Found
-    ensures { result ≡ found_as content.now.form (file_facts node more content.now.bytes) }
+fn found(node: u64, more: bool, content: &Content, given: Given) -> Found
+    ensures { result ≡ found_as content.now.form (record { facts = file_facts node more content.now.bytes; given = given }) }
 {
     let facts = FileFacts {
         id: FileId {
@@ -88,7 +88,7 @@ fn found(node: u64, more: bool, content: &Content) -> Found
         size: content.bytes.len() as u64,
     };
     match content.form {
-        Form::Regular => Found::File(facts),
+        Form::Regular => Found::File(FoundFile { facts, given }),
         Form::Link => Found::Symlink(facts),
     }
 }

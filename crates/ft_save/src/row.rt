@@ -1,6 +1,6 @@
 // The rows of a report of what a tree holds.
 use ft_base::Sequence;
-use ft_cells::Form;
+use ft_cells::{Attributes, Form, Timestamp};
 
 /// One row of a report of what a tree holds.
 #[derive(Debug, PartialEq, Eq, Drop)]
@@ -21,6 +21,16 @@ pub enum Row {
         node: u64,
         form: Form,
         bytes: Sequence<u8>,
+    },
+    /// The mode and the owners of a directory or file, where they are not the default ones.
+    Attributes {
+        node: u64,
+        attributes: Attributes,
+    },
+    /// The time of the bytes of a file.
+    Time {
+        node: u64,
+        time: Timestamp,
     },
     /// A descriptor that is open.
     Descriptor,

@@ -9,8 +9,7 @@ use crate::reading::tree_told;
 use crate::reported::Reported;
 use crate::row::Row;
 use ft_base::Memory;
-use ft_cells::TreeLimits;
-use ft_copy::{Stopped, Target, copy};
+use ft_copy::{CopyLimits, Stopped, Target, copy};
 use ft_dot::read_all;
 use ft_script::PlayFault;
 use std::alloc::Global;
@@ -33,11 +32,13 @@ pub enum SaveFault {
 
 /// Reads replies to their end, and makes the tree that the report tells of with which they end:
 /// directories, files with their bytes, further names as links, and behind all else the symbolic
-/// links. Descriptors, and files that have no name, are left out. A report behind which anything stands is not taken, and no file that
-/// is larger than these limits allow.
+/// links. Directories and files have the modes and owners of their rows, and else the default ones,
+/// files the time of theirs; S_ISUID and S_ISGID are left out where the limits say so. Descriptors,
+/// and files that have no name, are left out. A report behind which anything stands is not taken,
+/// and no file that is larger than these limits allow.
 pub fn save<R: Read, T: Target>(
     alloc: Global,
-    limits: TreeLimits,
+    limits: CopyLimits,
     reader: &mut R,
     target: &mut T,
 ) -> Result<(), SaveFault>
@@ -63,7 +64,7 @@ fn last_rows<R: Read>(alloc: Global, reader: &mut R) -> Result<Vec<Row>, SaveFau
 // Copies the tree that rows tell of.
 fn copy_rows<T: Target>(
     alloc: Global,
-    limits: TreeLimits,
+    limits: CopyLimits,
     rows: Vec<Row>,
     target: &mut T,
 ) -> Result<(), SaveFault>

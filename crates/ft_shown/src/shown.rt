@@ -3,6 +3,7 @@ ghost use Rattle.std.specs.Prelude.{◌≡◌};
 
 use crate::tally::Tally;
 use ft_base::Sequence;
+use ft_cells::{Attributes, Timestamp};
 use ft_copy::{Found, Listed, Source, Target, Trouble};
 use std::alloc::Global;
 use std::cell::RefCell;
@@ -46,7 +47,7 @@ impl<'a, R: Clock, S: Source, W: Write> ShownSource<'a, R, S, W> {
     fn count(&self, found: Found) {
         if let Ok(mut tally) = self.tally.try_borrow_mut() {
             match found {
-                Found::Folder => tally.folder(),
+                Found::Folder(_) => tally.folder(),
                 Found::File(_) | Found::Symlink(_) => tally.file(),
                 Found::Special => {}
             }
@@ -65,7 +66,10 @@ impl<R: Clock, S: Source, W: Write> Source for ShownSource<'_, R, S, W> {
 
     fn look(&self, path: &[u8], node: u64) -> Result<Found, Trouble> {
         let found = self.source.look(path, node)?;
-        self.count(found);
+        // (the root is not counted)
+        if !path.is_empty() {
+            self.count(found);
+        }
         Ok(found)
     }
 
@@ -115,22 +119,22 @@ impl<R: Clock, T: Target, W: Write> Target for ShownTarget<'_, R, T, W> {
         self.target.start()
     }
 
-    fn folder(&mut self, path: &[u8]) -> Result<(), Trouble> {
+    fn folder(&mut self, path: &[u8], attributes: Attributes) -> Result<(), Trouble> {
         self.tally.folder();
-        self.target.folder(path)
+        self.target.folder(path, attributes)
     }
 
-    fn open(&mut self, path: &[u8]) -> Result<(), Trouble> {
+    fn open(&mut self, path: &[u8], attributes: Attributes) -> Result<(), Trouble> {
         self.tally.file();
-        self.target.open(path)
+        self.target.open(path, attributes)
     }
 
     fn piece(&mut self, bytes: &[u8]) -> Result<(), Trouble> {
         self.target.piece(bytes)
     }
 
-    fn close(&mut self) -> Result<(), Trouble> {
-        self.target.close()
+    fn close(&mut self, time: Option<Timestamp>) -> Result<(), Trouble> {
+        self.target.close(time)
     }
 
     fn link(&mut self, first: &[u8], path: &[u8]) -> Result<(), Trouble> {
@@ -143,9 +147,9 @@ impl<R: Clock, T: Target, W: Write> Target for ShownTarget<'_, R, T, W> {
         self.target.symlink(to, path)
     }
 
-    fn finish(&mut self) -> Result<(), Trouble> {
+    fn finish(&mut self, attributes: Attributes) -> Result<(), Trouble> {
         self.tally.erase();
-        self.target.finish()
+        self.target.finish(attributes)
     }
 
     fn give_up(&mut self) {

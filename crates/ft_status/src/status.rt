@@ -12,8 +12,7 @@ ghost use Rattle.ft_save.specs.Saves.{IsLeft, Saves, StopsSave};
 
 use crate::faults::{fault_line, run_fault_line, trouble_name};
 use ft_after::AfterFault;
-use ft_cells::TreeLimits;
-use ft_copy::{Source, Stopped, Target};
+use ft_copy::{CopyLimits, Source, Stopped, Target};
 use ft_core::{Core, Limits};
 use ft_dot::draw;
 use ft_load::load;
@@ -130,13 +129,15 @@ pub fn after_failed<E: Write>(alloc: Global, errors: &mut E, fault: AfterFault) 
     }
 }
 
-/// Writes a script of what a source tells, for a core with these limits, and answers the writer and
-/// the status to end with: 0, or 1 after a fault, of which a line tells on `errors`, with the path
-/// where it came. How far it has come is shown on a screen meanwhile, if there is one.
+/// Writes a script of what a source tells, for a core with these limits, with the bits S_ISUID and
+/// S_ISGID of modes or without, and answers the writer and the status to end with: 0, or 1 after a
+/// fault, of which a line tells on `errors`, with the path where it came. How far it has come is
+/// shown on a screen meanwhile, if there is one.
 pub fn load_status<R: Clock, S: Source, V: Write + Drop, W: Write, E: Write>(
     rt: &R,
     alloc: Global,
     limits: Limits,
+    set_id: bool,
     source: &S,
     screen: Option<V>,
     writer: W,
@@ -144,12 +145,12 @@ pub fn load_status<R: Clock, S: Source, V: Write + Drop, W: Write, E: Write>(
 ) -> (W, u8)
     ensures status { (result.1 ≡ 0) ⊎ (result.1 ≡ 1) }
     ensures quiet { result.1 ≡ 0 → Keeps (E.contents errors.old) (E.contents errors.new) }
-    ensures ok { result.1 ≡ 0 → Loads limits (S.tells source.now) (W.contents writer) (W.contents result.0) }
-    ensures fault { result.1 ≡ 1 → (stopped : Stopped) × StopsLoad limits (S.tells source.now) stopped (W.contents writer) (W.contents result.0)
+    ensures ok { result.1 ≡ 0 → Loads limits set_id (S.tells source.now) (W.contents writer) (W.contents result.0) }
+    ensures fault { result.1 ≡ 1 → (stopped : Stopped) × StopsLoad limits set_id (S.tells source.now) stopped (W.contents writer) (W.contents result.0)
         × TellsLine (E.contents errors.old) (E.contents errors.new) (stopped_line stopped) }
 {
     let shown = ShownSource::new(rt, alloc, source, screen);
-    let (writer, loaded) = load(alloc, limits, &shown, writer);
+    let (writer, loaded) = load(alloc, limits, set_id, &shown, writer);
     shown.done();
     let status = match loaded {
         Ok(()) => 0,
@@ -163,7 +164,7 @@ pub fn load_status<R: Clock, S: Source, V: Write + Drop, W: Write, E: Write>(
 /// it came.
 pub fn save_status<R: Read, T: Target, E: Write>(
     alloc: Global,
-    limits: TreeLimits,
+    limits: CopyLimits,
     reader: &mut R,
     target: &mut T,
     errors: &mut E,

@@ -34,7 +34,7 @@ fn make<R: Wait>(
     path: &[u8],
 ) -> Result<(), Fail> {
     let path = FilePath::new(alloc, path)?;
-    let _ = shared.ask(rt, txn, Call::Mkdir { path })?;
+    let _ = shared.ask(rt, txn, Call::Mkdir { path, mode: None })?;
     Ok(())
 }
 

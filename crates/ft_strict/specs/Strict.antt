@@ -8,7 +8,7 @@ use Rattle.ft_core.specs.States.{State, has_live}
 use Rattle.ft_replies.specs.declared.line.Line.{Line}
 use Rattle.ft_replies.specs.declared.line.Line.TheVariants as line
 use Rattle.ft_replies.specs.declared.line.Report.{Report}
-use Rattle.ft_replies.specs.declared.line.Report.TheVariants.{Tree, Locks, Waits}
+use Rattle.ft_replies.specs.declared.line.Report.TheVariants.{Tree, Locks, Attributes, Waits}
 use Rattle.ft_replies.specs.Lines.{IsWholeReport}
 use Rattle.ft_replies.specs.Requests.{meaning_of}
 use Rattle.ft_replies.specs.Texts.{text_of}
@@ -42,6 +42,7 @@ may_fail bytes = option_map_or (λ behind. is_asking (meaning_of behind)) (tried
 abbrev pub Tells : Bool → State → Report → List ℕ → Type 0
 Tells well s Tree text = MatchBool (has_live s) ((well ≡ false) × (text ≡ codes "refused Live" ++ 10 ∷ [])) ((well ≡ true) × IsWholeReport s Tree text)
 Tells well s Locks text = (well ≡ true) × IsWholeReport s Locks text
+Tells well s Attributes text = (well ≡ true) × IsWholeReport s Attributes text
 Tells well s Waits text = (well ≡ true) × IsWholeReport s Waits text
 
 -- What is written for a line that is carried out, whether it did what it asks for, and the state

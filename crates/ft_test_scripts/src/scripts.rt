@@ -3,7 +3,7 @@ use ft_calls::{Call, Reply};
 use ft_core::{Answer, Core, Fault, Request, TxnId};
 use ft_path::{Errno, FilePath, Name};
 use ft_record::Recorded;
-use ft_tree::{AccessMode, Kind};
+use ft_tree::{AccessMode, Attributes, Kind, Timestamp};
 use std::alloc::Global;
 use std::test::Fail;
 
@@ -29,6 +29,11 @@ pub enum Line<'a> {
     /// At the beginning.
     Pread(u64, u64),
     Fstat(u64, u64),
+    Stat(u64, &'a [u8]),
+    /// Its mode, and then its path.
+    Chmod(u64, u16, &'a [u8]),
+    /// Its descriptor, and then whole seconds.
+    Futime(u64, u64, i64),
     Retry(u64),
     Drop(u64),
     Undo(u64),
@@ -53,6 +58,9 @@ pub enum Wanted<'a> {
     File(u64, [u64; 3]),
     /// The same of a symbolic link.
     Link(u64, [u64; 3]),
+    /// Of what there is: its mode, where it is another than the default one, and its time, in whole
+    /// seconds.
+    Attributes(u64, Option<u16>, Option<i64>),
     Waits(u64),
     Dropped,
     Committed,
@@ -66,7 +74,7 @@ fn path_call(alloc: Global, line: Line) -> Result<(u64, Call), Fail> {
     match line {
         Line::Mkdir(txn, path) => {
             let path = FilePath::new(alloc, path)?;
-            Ok((txn, Call::Mkdir { path }))
+            Ok((txn, Call::Mkdir { path, mode: None }))
         }
         Line::Rmdir(txn, path) => {
             let path = FilePath::new(alloc, path)?;
@@ -90,6 +98,13 @@ fn path_call(alloc: Global, line: Line) -> Result<(u64, Call), Fail> {
             let new = FilePath::new(alloc, new)?;
             Ok((txn, Call::Rename { old, new }))
         }
+        line => file_call(alloc, line),
+    }
+}
+
+/// A call on the path of a file.
+fn file_call(alloc: Global, line: Line) -> Result<(u64, Call), Fail> {
+    match line {
         Line::Open(txn, path) => {
             let path = FilePath::new(alloc, path)?;
             let call = Call::Open {
@@ -99,8 +114,17 @@ fn path_call(alloc: Global, line: Line) -> Result<(u64, Call), Fail> {
                 excl: false,
                 trunc: false,
                 append: false,
+                mode: None,
             };
             Ok((txn, call))
+        }
+        Line::Stat(txn, path) => {
+            let path = FilePath::new(alloc, path)?;
+            Ok((txn, Call::Stat { path }))
+        }
+        Line::Chmod(txn, mode, path) => {
+            let path = FilePath::new(alloc, path)?;
+            Ok((txn, Call::Chmod { mode, path }))
         }
         line => descriptor_call(alloc, line),
     }
@@ -120,6 +144,10 @@ fn descriptor_call(alloc: Global, line: Line) -> Result<(u64, Call), Fail> {
         Line::Read(txn, fd) => Ok((txn, Call::Read { fd, len: 9 })),
         Line::Pread(txn, fd) => Ok((txn, Call::Pread { fd, off: 0, len: 9 })),
         Line::Fstat(txn, fd) => Ok((txn, Call::Fstat { fd })),
+        Line::Futime(txn, fd, seconds) => {
+            let time = of_seconds(seconds);
+            Ok((txn, Call::Futime { fd, time }))
+        }
         _ => Err(Fail::from("no call")),
     }
 }
@@ -156,7 +184,33 @@ fn is_info(reply: &Reply, wanted: Kind, numbers: [u64; 3]) -> bool {
             number,
             links,
             size,
+            ..
         } => *kind == wanted && [*number, *links, *size] == numbers,
+        _ => false,
+    }
+}
+
+/// A time of whole seconds.
+fn of_seconds(seconds: i64) -> Timestamp {
+    Timestamp {
+        seconds,
+        nanoseconds: 0,
+    }
+}
+
+/// Whether a reply tells of this mode, with owner and group 0, and of this time.
+fn has_attributes(reply: &Reply, mode: Option<u16>, seconds: Option<i64>) -> bool {
+    let wanted = mode.map(|mode| Attributes {
+        mode,
+        owner: 0,
+        group: 0,
+    });
+    match reply {
+        Reply::Info {
+            attributes,
+            time,
+            ..
+        } => *attributes == wanted && *time == seconds.map(of_seconds),
         _ => false,
     }
 }
@@ -185,6 +239,9 @@ pub fn is_reply(stamp: u64, reply: &Reply, wanted: Wanted) -> bool {
         }
         (reply, Wanted::Link(number, wanted)) => {
             stamp == number && is_info(reply, Kind::Link, wanted)
+        }
+        (reply, Wanted::Attributes(number, mode, seconds)) => {
+            stamp == number && has_attributes(reply, mode, seconds)
         }
         _ => false,
     }

@@ -165,6 +165,29 @@ fn ended_and_unknown_transactions(rt: HostRuntime) -> Result<(), Fail> {
     Ok(())
 }
 
+#[test]
+fn abort_brings_mode_and_time_back(rt: HostRuntime) -> Result<(), Fail> {
+    let script = [
+        (Line::Begin, Wanted::Txn(1)),
+        (Line::Open(1, b"/f".as_slice()), Wanted::Number(2, 2)),
+        (Line::Write(1, 2, b"hi".as_slice()), Wanted::Number(3, 2)),
+        (Line::Chmod(1, 0o755, b"/f".as_slice()), Wanted::Done(4)),
+        (Line::Futime(1, 2, -5), Wanted::Done(5)),
+        (Line::Commit(1), Wanted::Committed),
+        (Line::Begin, Wanted::Txn(2)),
+        (Line::Write(2, 2, b"!".as_slice()), Wanted::Number(6, 1)),
+        (Line::Chmod(2, 0o644, b"/f".as_slice()), Wanted::Done(7)),
+        (Line::Fstat(2, 2), Wanted::Attributes(8, None, None)),
+        (Line::Begin, Wanted::Txn(3)),
+        (Line::Stat(3, b"/f".as_slice()), Wanted::Waits(2)),
+        (Line::Abort(2), Wanted::Aborted(3)),
+        (Line::Retry(3), Wanted::Attributes(9, Some(0o755), Some(-5))),
+        (Line::Undo(3), Wanted::Undone(9)),
+    ];
+    assert!(rt; plays_anew(rt.alloc(), &script)?);
+    Ok(())
+}
+
 /// A core that is swept before each request.
 #[derive(Drop)]
 struct SweptCore(Core);

@@ -33,7 +33,7 @@ fn make_directory<R: Wait>(rt: &R, alloc: Global, shared: &Shared) -> Result<(),
     let path = FilePath::new(alloc, b"/a".as_slice())?;
     let one = shared.begin(rt)?;
     let _two = shared.begin(rt)?;
-    let _ = shared.ask(rt, one, Call::Mkdir { path })?;
+    let _ = shared.ask(rt, one, Call::Mkdir { path, mode: None })?;
     Ok(())
 }
 
@@ -53,7 +53,7 @@ fn with_directory<R: Wait>(rt: &R, alloc: Global) -> Result<Shared, Fail> {
 fn cross<R: Wait>(rt: &R, alloc: Global, shared: &Shared) -> Result<(), Fail> {
     let path = FilePath::new(alloc, b"/b".as_slice())?;
     let looked_at = path.try_clone()?;
-    let _ = shared.ask(rt, TxnId(2), Call::Mkdir { path })?;
+    let _ = shared.ask(rt, TxnId(2), Call::Mkdir { path, mode: None })?;
     let _ = shared.ask(rt, TxnId(1), Call::Stat { path: looked_at })?;
     let _ = shared.ask(rt, TxnId(2), stat_call(alloc)?)?;
     Ok(())
@@ -243,7 +243,7 @@ fn managed<R: Wait + Clock, M: Manager>(
 /// Whether the core has its five events when it comes back.
 fn manages<R: Wait + Clock>(rt: &R, alloc: Global) -> Result<bool, Fail> {
     let path = FilePath::new(alloc, b"/a".as_slice())?;
-    let call = Call::Mkdir { path };
+    let call = Call::Mkdir { path, mode: None };
     let core = managed(rt, new_shared(alloc)?, &call)?;
     Ok(core.history().len() == 5)
 }

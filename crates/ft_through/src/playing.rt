@@ -60,7 +60,7 @@ fn reply_through<R: Wait>(
             Ok(format!(in alloc; "{}\n", AnswerText(&answer))?)
         }
         Line::Report(Report::Waits) => waits_reply(rt, alloc, shared),
-        Line::Report(Report::Tree | Report::Locks) => {
+        Line::Report(Report::Tree | Report::Locks | Report::Attributes) => {
             let mut core = core_after(rt, alloc, before)?;
             Ok(reply_to(alloc, line, &mut core)?)
         }

@@ -11,9 +11,9 @@ use Rattle.ft_cells.specs.declared.node.Node.{Node}
 use Rattle.ft_cells.specs.declared.open_file.OpenFile.{OpenFile}
 use Rattle.ft_cells.specs.declared.limits.TreeLimits.{TreeLimits}
 use Rattle.ft_cells.specs.declared.cell.Cell.{Cell}
-use Rattle.ft_cells.specs.declared.cell.Cell.TheVariants.{Entry, Names, Parent, Links, Bytes, Fd}
+use Rattle.ft_cells.specs.declared.cell.Cell.TheVariants.{Entry, Names, Parent, Links, Bytes, Fd, DirAttributes, FileAttributes}
 use Rattle.ft_cells.specs.Nodes.{number_of}
-use Rattle.ft_cells.specs.Cells.{DirCells, FileCells, no_dir, no_file, dir_of, file_of, dir_entry, entry_of, parent_of, links_of, open_of, filled, fresh_cells}
+use Rattle.ft_cells.specs.Cells.{DirCells, FileCells, no_dir, no_file, dir_of, file_of, dir_entry, entry_of, parent_of, dir_attributes_of, links_of, open_of, filled, fresh_cells}
 use Rattle.ft_tree.specs.Held.{held}
 use Rattle.ft_cells.specs.declared.entry.Entry.{Entry as DirEntry}
 use Rattle.ft_cells.specs.Entries.{entry_at, entry_cmp}
@@ -35,6 +35,9 @@ module _ (limits : TreeLimits) where
 
   fresh-parent : (d : ℕ) → parent_of (fresh_cells limits) d ≡ None
   fresh-parent d = ap (λ (x : DirCells). x.parent) (fresh-dir d)
+
+  fresh-attributes : (d : ℕ) → dir_attributes_of (fresh_cells limits) d ≡ None
+  fresh-attributes d = ap (λ (x : DirCells). x.attributes) (fresh-dir d)
 
   -- each file reads as the empty one, and no descriptor is open
   fresh-file : (i : ℕ) → file_of (fresh_cells limits) i ≡ no_file
@@ -82,6 +85,7 @@ module _ (limits : TreeLimits) where
     };
     links = fresh-links;
     opens = λ f o h. absurd (no_value _ _ (fresh-open f) h);
+    attributes = λ d a h. absurd (no_value _ _ (fresh-attributes d) h);
   }
 
   fresh-unused : (k : ℕ) (c : Cell) → SaysNothingOf k c (held (fresh_cells limits) c)
@@ -89,7 +93,9 @@ module _ (limits : TreeLimits) where
   fresh-unused k (Names d) = tt
   fresh-unused k (Parent d) = λ at. fresh-parent d
   fresh-unused k (Links i) = λ at. ap (λ (x : FileCells). x.links) (fresh-file i)
-  fresh-unused k (Bytes i) = λ at. ap (λ (x : FileCells). x.bytes) (fresh-file i)
+  fresh-unused k (Bytes i) = λ at. ap (λ (x : FileCells). x.contents) (fresh-file i)
+  fresh-unused k (DirAttributes d) = λ at. fresh-attributes d
+  fresh-unused k (FileAttributes i) = λ at. ap (λ (x : FileCells). x.attributes) (fresh-file i)
   fresh-unused k (Fd f) = (λ at. fresh-open f, λ o is. absurd (no_value _ _ (fresh-open f) is))
 
   pub fresh-free : (k : ℕ) → 2 ≤ k → IsFree (fresh_cells limits) k

@@ -11,9 +11,9 @@ use Rattle.std.proofs.lemmas.Map.Lookups.{exact_unsigned}
 use Rattle.ft_cells.specs.Entries.{entry_at}
 use Rattle.ft_cells.specs.declared.node.Node.{Node}
 use Rattle.ft_cells.specs.declared.cell.Cell.{Cell}
-use Rattle.ft_cells.specs.declared.cell.Cell.TheVariants.{Entry, Names, Parent, Links, Bytes, Fd}
+use Rattle.ft_cells.specs.declared.cell.Cell.TheVariants.{Entry, Names, Parent, Links, Bytes, Fd, DirAttributes, FileAttributes}
 use Rattle.ft_cells.specs.CellOrder.{cell_cmp, cell_cmp_total, cell_cmp_exact}
-use Rattle.ft_cells.specs.Cells.{Cells, DirCells, no_dir, dir_of, entry_of, parent_of, is_there, has_dir, links_of, put_dir, without_dir_place}
+use Rattle.ft_cells.specs.Cells.{Cells, DirCells, no_dir, dir_of, entry_of, parent_of, dir_attributes_of, is_there, has_dir, links_of, put_dir, without_dir_place}
 use Rattle.ft_tree.specs.Held.{without_place}
 use Rattle.ft_cells.specs.Plain.{view_in}
 use Rattle.ft_tree.specs.Tidy.{tidy}
@@ -25,6 +25,10 @@ use Rattle.ft_cells.proofs.Gathered.{weight, weight-insert, weight-remove}
 use Rattle.ft_descriptions.proofs.Opened.{described-open}
 use Rattle.ft_tree.proofs.Swept.{swept-none, swept-then, same_dirs, spare-before, swept-file, gone-file, swept-fd, gone-fd, swept-dir, gone-dir, dir-same, swept-entry, gone-entry, dir-other}
 use Rattle.ft_tree.proofs.SweptTidy.{tidy-file, tidy-fd, tidy-dir, tidy-entry}
+
+-- the entries of a directory
+abbrev entries_in : Cells → ℕ → FinMap (slice_cmp nat_cmp) (Option Node)
+entries_in cells d = (dir_of cells d).entries
 
 -- One place.
 
@@ -77,18 +81,18 @@ module _ (kept : Cell → Bool) where
         (λ t. by_entry (λ new. is_spare kept new (Entry (entry_at d name)) ≡ false) cells d name t (λ x is. entry-out (λ new. is_spare kept new (Entry (entry_at d name)) ≡ false) cells d name x is (gone-entry kept cells d name x is t)))
         (λ n. n)
 
-    file-dirs : (i e : ℕ) → dir_of (drop_spare kept cells (Links i)) e ≡ dir_of cells e
-    file-dirs i e = by_spare (λ new. dir_of new e ≡ dir_of cells e) cells (Links i) (λ t. refl) (λ f. refl)
+    file-dirs : (i e : ℕ) → entries_in (drop_spare kept cells (Links i)) e ≡ entries_in cells e
+    file-dirs i e = by_spare (λ new. entries_in new e ≡ entries_in cells e) cells (Links i) (λ t. refl) (λ f. refl)
 
-    fd-dirs : (f e : ℕ) → dir_of (drop_spare kept cells (Fd f)) e ≡ dir_of cells e
-    fd-dirs f e = by_spare (λ new. dir_of new e ≡ dir_of cells e) cells (Fd f) (λ t. refl) (λ n. refl)
+    fd-dirs : (f e : ℕ) → entries_in (drop_spare kept cells (Fd f)) e ≡ entries_in cells e
+    fd-dirs f e = by_spare (λ new. entries_in new e ≡ entries_in cells e) cells (Fd f) (λ t. refl) (λ n. refl)
 
-    dir-dirs : (d e : ℕ) → dir_of (drop_spare kept cells (Parent d)) e ≡ dir_of cells e
-    dir-dirs d e = by_spare (λ new. dir_of new e ≡ dir_of cells e) cells (Parent d) (λ t. dir-same kept cells d t e) (λ n. refl)
+    dir-dirs : (d e : ℕ) → entries_in (drop_spare kept cells (Parent d)) e ≡ entries_in cells e
+    dir-dirs d e = by_spare (λ new. entries_in new e ≡ entries_in cells e) cells (Parent d) (λ t. dir-same kept cells d t e) (λ n. refl)
 
-    entry-dirs : (d : ℕ) (name : List ℕ) (e : ℕ) → eq_by_cmp nat_cmp e d ≡ false → dir_of (drop_spare kept cells (Entry (entry_at d name))) e ≡ dir_of cells e
-    entry-dirs d name e other = by_spare (λ new. dir_of new e ≡ dir_of cells e) cells (Entry (entry_at d name))
-        (λ t. by_entry (λ new. dir_of new e ≡ dir_of cells e) cells d name t (λ x is. entry-out (λ new. dir_of new e ≡ dir_of cells e) cells d name x is (dir-other kept cells d name x is t e other)))
+    entry-dirs : (d : ℕ) (name : List ℕ) (e : ℕ) → eq_by_cmp nat_cmp e d ≡ false → entries_in (drop_spare kept cells (Entry (entry_at d name))) e ≡ entries_in cells e
+    entry-dirs d name e other = by_spare (λ new. entries_in new e ≡ entries_in cells e) cells (Entry (entry_at d name))
+        (λ t. by_entry (λ new. entries_in new e ≡ entries_in cells e) cells d name t (λ x is. entry-out (λ new. entries_in new e ≡ entries_in cells e) cells d name x is (ap (λ (y : DirCells). y.entries) (dir-other kept cells d name x is t e other))))
         (λ n. refl)
 
     file-tidy : (i : ℕ) → tidy (drop_spare kept cells (Links i)) ≡ tidy cells
@@ -114,6 +118,8 @@ module _ (kept : Cell → Bool) where
   at-swept cells (Links i) = file-swept cells i
   at-swept cells (Bytes i) = file-swept cells i
   at-swept cells (Fd f) = fd-swept cells f
+  at-swept cells (DirAttributes d) = dir-swept cells d
+  at-swept cells (FileAttributes i) = file-swept cells i
 
   pub at-tidy : (cells : Cells) (c : Cell) → tidy (swept_at kept cells c) ≡ tidy cells
   at-tidy cells (Entry entry) = dir-tidy (drop_spare kept cells (Entry entry)) entry.dir ∙ entry-tidy cells entry.dir entry.name
@@ -122,6 +128,8 @@ module _ (kept : Cell → Bool) where
   at-tidy cells (Links i) = file-tidy cells i
   at-tidy cells (Bytes i) = file-tidy cells i
   at-tidy cells (Fd f) = fd-tidy cells f
+  at-tidy cells (DirAttributes d) = dir-tidy cells d
+  at-tidy cells (FileAttributes i) = file-tidy cells i
 
   -- what is to drop where a directory may have gone was to drop before
   dir-back : (cells : Cells) (d : ℕ) (q : Cell) → is_spare kept (drop_spare kept cells (Parent d)) q ≡ true → is_spare kept cells q ≡ true
@@ -141,6 +149,8 @@ module _ (kept : Cell → Bool) where
   entry-back cells d name (Parent e) s = dir-other_back cells d name e s
   entry-back cells d name (Links i) s = spare-before kept cells _ (entry-swept cells d name) (Links i) tt (dir-back (drop_spare kept cells (Entry (entry_at d name))) d (Links i) s)
   entry-back cells d name (Bytes i) s = spare-before kept cells _ (entry-swept cells d name) (Bytes i) tt (dir-back (drop_spare kept cells (Entry (entry_at d name))) d (Bytes i) s)
+  entry-back cells d name (DirAttributes e) s = dir-other_back cells d name e s
+  entry-back cells d name (FileAttributes i) s = spare-before kept cells _ (entry-swept cells d name) (FileAttributes i) tt (dir-back (drop_spare kept cells (Entry (entry_at d name))) d (FileAttributes i) s)
   entry-back cells d name (Fd f) s = spare-before kept cells _ (entry-swept cells d name) (Fd f) tt (dir-back (drop_spare kept cells (Entry (entry_at d name))) d (Fd f) s)
 
   file-back : (cells : Cells) (i : ℕ) (q : Cell) → is_spare kept (drop_spare kept cells (Links i)) q ≡ true → is_spare kept cells q ≡ true
@@ -157,6 +167,8 @@ module _ (kept : Cell → Bool) where
   at-back cells (Links i) q s = file-back cells i q s
   at-back cells (Bytes i) q s = file-back cells i q s
   at-back cells (Fd f) q s = fd-back cells f q s
+  at-back cells (DirAttributes d) q s = dir-back cells d q s
+  at-back cells (FileAttributes i) q s = file-back cells i q s
 
   entry-at : (cells : Cells) (d : ℕ) (name : List ℕ) → is_spare kept (swept_at kept cells (Entry (entry_at d name))) (Entry (entry_at d name)) ≡ false
   entry-at cells d name = by_test (is_spare kept (swept_at kept cells (Entry (entry_at d name))) (Entry (entry_at d name)))
@@ -171,6 +183,8 @@ module _ (kept : Cell → Bool) where
   at-gone cells (Links i) = file-gone cells i
   at-gone cells (Bytes i) = file-gone cells i
   at-gone cells (Fd f) = fd-gone cells f
+  at-gone cells (DirAttributes d) = dir-gone cells d
+  at-gone cells (FileAttributes i) = file-gone cells i
 
   -- All that is let go.
 
@@ -209,12 +223,23 @@ module _ (kept : Cell → Bool) where
   one-of true b l r h = l refl
   one-of false b l r h = r h
 
+  -- of three, one was let go
+  one-of_three : (first : LetGo) (old now : Cells) → IsSweeping first set.empty old now → {P : Type 0} (a b c : Cell)
+      → (is_spare kept now a ≡ false → P) → (is_spare kept now b ≡ false → P) → (is_spare kept now c ≡ false → P)
+      → (set.contains first a || set.contains first b || set.contains first c) ≡ true → P
+  one-of_three first old now h a b c f g k was =
+      one-of (set.contains first a || set.contains first b) (set.contains first c)
+      (one-of (set.contains first a) (set.contains first b) (λ t. f (clean first old now h a t)) (λ t. g (clean first old now h b t)))
+      (λ t. k (clean first old now h c t)) was
+
   clean-place : (first : LetGo) (old now : Cells) → IsSweeping first set.empty old now → (c : Cell) → at_place (set.contains first) c ≡ true → is_spare kept now c ≡ false
   clean-place first old now h (Entry entry) was = clean first old now h (Entry entry) was
-  clean-place first old now h (Names d) was = one-of (set.contains first (Names d)) (set.contains first (Parent d)) (clean first old now h (Names d)) (clean first old now h (Parent d)) was
-  clean-place first old now h (Parent d) was = one-of (set.contains first (Names d)) (set.contains first (Parent d)) (clean first old now h (Names d)) (clean first old now h (Parent d)) was
-  clean-place first old now h (Links i) was = one-of (set.contains first (Links i)) (set.contains first (Bytes i)) (clean first old now h (Links i)) (clean first old now h (Bytes i)) was
-  clean-place first old now h (Bytes i) was = one-of (set.contains first (Links i)) (set.contains first (Bytes i)) (clean first old now h (Links i)) (clean first old now h (Bytes i)) was
+  clean-place first old now h (Names d) was = one-of_three first old now h (Names d) (Parent d) (DirAttributes d) (λ f. f) (λ f. f) (λ f. f) was
+  clean-place first old now h (Parent d) was = one-of_three first old now h (Names d) (Parent d) (DirAttributes d) (λ f. f) (λ f. f) (λ f. f) was
+  clean-place first old now h (DirAttributes d) was = one-of_three first old now h (Names d) (Parent d) (DirAttributes d) (λ f. f) (λ f. f) (λ f. f) was
+  clean-place first old now h (Links i) was = one-of_three first old now h (Links i) (Bytes i) (FileAttributes i) (λ f. f) (λ f. f) (λ f. f) was
+  clean-place first old now h (Bytes i) was = one-of_three first old now h (Links i) (Bytes i) (FileAttributes i) (λ f. f) (λ f. f) (λ f. f) was
+  clean-place first old now h (FileAttributes i) was = one-of_three first old now h (Links i) (Bytes i) (FileAttributes i) (λ f. f) (λ f. f) (λ f. f) was
   clean-place first old now h (Fd f) was = clean first old now h (Fd f) was
 
   pub sweeping-clean : (first : LetGo) (old now : Cells) → IsSweeping first set.empty old now → IsSweptClean kept (set.contains first) old now
@@ -235,6 +260,28 @@ module _ (kept : Cell → Bool) where
   there-root None h = absurd (false≢true h)
   there-root (Some x) h = refl
 
+  -- what a directory had where it is not stored
+  none-stored : (cells : Cells) (d : ℕ) → contains_key cells.directories d ≡ false → dir_attributes_of cells d ≡ None
+  none-stored cells d n = by_option (get cells.directories d)
+      (λ none. ap (λ o. (unwrap_or o no_dir).attributes) none)
+      (λ x is. unlike (ap is_some is) n)
+
+  no_value : {A : Type 0} (o : Option A) (x : A) → o ≡ None → o ≡ Some x → ⊥
+  no_value o x h g = cc
+
+  there-some : (cells : Cells) (d : ℕ) → has_dir cells d ≡ true → contains_key cells.directories d ≡ true
+  there-some cells d h = by_option (get cells.directories d)
+      (λ none. unlike (sym (ap (λ o. option_map_or (is_there d) o false) none) ∙ h) refl)
+      (λ x is. ap is_some is)
+
+  -- of sound cells a sweep leaves all attributes of directories
+  pub swept-dir_attributes : (old new : Cells) → IsSwept kept old new → AreSoundCells old → (d : ℕ) → dir_attributes_of new d ≡ dir_attributes_of old d
+  swept-dir_attributes old new h s d = by_test (contains_key new.directories d)
+      (λ t. h.dir_attributes d t)
+      (λ f. none-stored new d f ∙ sym (by_option (dir_attributes_of old d)
+      (λ none. none)
+      (λ a is. unlike (there-some new d (h.dirs d ∙ s.attributes d a is)) f)))
+
   pub sound-swept : (old new : Cells) → IsSwept kept old new → tidy new ≡ tidy old → AreSoundCells old → AreSoundCells new
   sound-swept old new h plain s =
       let entries : entry_of old ≡ entry_of new = λ i d name. sym (h.entries d name) i in
@@ -249,6 +296,7 @@ module _ (kept : Cell → Bool) where
             by_test (contains_key new.files o.file) (λ t. t) (λ n.
             unlike (described-open old.opens f o (sym (h.opens f) ∙ is)) (none-right (nat_lt 0 (links_of old o.file)) _ (h.files o.file (both-of _ _ was.0 (not-of _ n))).dead)) in
             (place, (was.1.0, h.parents o.file ∙ was.1.1));
+        attributes = λ d a is. h.dirs d ∙ s.attributes d a (sym (swept-dir_attributes old new h s d) ∙ is);
       }
 
 pub sweeping-step : (kept now_kept : Cell → Bool) (first left rest : LetGo) (old now new : Cells) (c : Cell) → IsSweeping kept first left old now → now_kept ≡ kept → rest ≡ set.remove left c → new ≡ swept_at now_kept now c → IsSweeping kept first rest old new
@@ -366,3 +414,5 @@ module _ (kept : Cell → Bool) where
   at-count cells (Links i) = drop-file cells i
   at-count cells (Bytes i) = drop-file cells i
   at-count cells (Fd f) = drop-fd cells f
+  at-count cells (DirAttributes d) = drop-dir cells d
+  at-count cells (FileAttributes i) = drop-file cells i

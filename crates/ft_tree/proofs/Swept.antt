@@ -11,7 +11,7 @@ use Rattle.ft_cells.specs.Entries.{entry_at}
 use Rattle.ft_cells.specs.declared.node.Node.{Node}
 use Rattle.ft_cells.specs.declared.open_file.OpenFile.{OpenFile}
 use Rattle.ft_cells.specs.declared.cell.Cell.{Cell}
-use Rattle.ft_cells.specs.declared.cell.Cell.TheVariants.{Entry, Names, Parent, Links, Bytes, Fd}
+use Rattle.ft_cells.specs.declared.cell.Cell.TheVariants.{Entry, Names, Parent, Links, Bytes, Fd, DirAttributes, FileAttributes}
 use Rattle.ft_cells.specs.Cells.{Cells, DirCells, no_dir, no_file, dir_entry, dir_of, entry_of, links_of, open_of, is_there, has_dir, has_file, is_open, without_dir_place, put_dir}
 use Rattle.ft_tree.specs.Held.{IsStored}
 use Rattle.ft_tree.specs.Sweep.{is_useless, at_place, is_spare, IsDeadFile, IsSwept}
@@ -30,7 +30,9 @@ module _ (kept : Cell → Bool) where
     parents = λ d. refl;
     links = λ i. refl;
     opens = λ f. refl;
-    bytes = λ i h. refl;
+    contents = λ i h. refl;
+    dir_attributes = λ d h. refl;
+    file_attributes = λ i h. refl;
     files = λ i h. unlike (both-left _ _ h) (not-true _ (both-right _ _ h));
     dirs = λ d. refl;
     named = λ i. refl;
@@ -46,9 +48,11 @@ module _ (kept : Cell → Bool) where
     parents = λ d. g.parents d ∙ h.parents d;
     links = λ i. g.links i ∙ h.links i;
     opens = λ f. g.opens f ∙ h.opens f;
-    bytes = λ i s. g.bytes i s ∙ h.bytes i (g.none_new (Links i) s);
+    contents = λ i s. g.contents i s ∙ h.contents i (g.none_new (Links i) s);
+    dir_attributes = λ d s. g.dir_attributes d s ∙ h.dir_attributes d (g.none_new (Names d) s);
+    file_attributes = λ i s. g.file_attributes i s ∙ h.file_attributes i (g.none_new (Links i) s);
     files = λ i gone. by_test (contains_key b.files i)
-        (λ t. let dead = g.files i (both-of _ _ t (both-right _ _ gone)) in record { dead = sym (h.named i) ∙ dead.dead; links = dead.links; bytes = dead.bytes })
+        (λ t. let dead = g.files i (both-of _ _ t (both-right _ _ gone)) in record { dead = sym (h.named i) ∙ dead.dead; links = dead.links; bytes = dead.bytes; attributes = dead.attributes })
         (λ f. h.files i (both-of _ _ (both-left _ _ gone) (not-of _ f)));
     dirs = λ d. g.dirs d ∙ h.dirs d;
     named = λ i. g.named i ∙ h.named i;
@@ -56,27 +60,31 @@ module _ (kept : Cell → Bool) where
     none_new = λ x s. h.none_new x (g.none_new x s);
   }
 
-  -- the directory of a cell, where it is one's, is the same
+  -- the entries of the directory of a cell, where it is one's, are the same
   abbrev pub SameDir : Cells → Cells → Cell → Type 0
   SameDir old new (Entry entry) = Unit {0}
-  SameDir old new (Names d) = dir_of new d ≡ dir_of old d
-  SameDir old new (Parent d) = dir_of new d ≡ dir_of old d
+  SameDir old new (Names d) = (dir_of new d).entries ≡ (dir_of old d).entries
+  SameDir old new (Parent d) = (dir_of new d).entries ≡ (dir_of old d).entries
   SameDir old new (Links i) = Unit {0}
   SameDir old new (Bytes i) = Unit {0}
   SameDir old new (Fd f) = Unit {0}
+  SameDir old new (DirAttributes d) = (dir_of new d).entries ≡ (dir_of old d).entries
+  SameDir old new (FileAttributes i) = Unit {0}
 
-  pub same_dirs : (old new : Cells) → ((d : ℕ) → dir_of new d ≡ dir_of old d) → (c : Cell) → SameDir old new c
+  pub same_dirs : (old new : Cells) → ((d : ℕ) → (dir_of new d).entries ≡ (dir_of old d).entries) → (c : Cell) → SameDir old new c
   same_dirs old new same (Entry entry) = tt
   same_dirs old new same (Names d) = same d
   same_dirs old new same (Parent d) = same d
   same_dirs old new same (Links i) = tt
   same_dirs old new same (Bytes i) = tt
   same_dirs old new same (Fd f) = tt
+  same_dirs old new same (DirAttributes d) = same d
+  same_dirs old new same (FileAttributes i) = tt
 
   -- nothing comes to be of no use, but for a directory that has less places
-  dir-before : (old new : Cells) → IsSwept kept old new → (d : ℕ) → dir_of new d ≡ dir_of old d → is_useless new (Names d) ≡ true → is_useless old (Names d) ≡ true
+  dir-before : (old new : Cells) → IsSwept kept old new → (d : ℕ) → (dir_of new d).entries ≡ (dir_of old d).entries → is_useless new (Names d) ≡ true → is_useless old (Names d) ≡ true
   dir-before old new h d same u =
-      both-of _ _ (both-of _ _ (h.none_new (Names d) (both-left _ _ (both-left _ _ u))) (ap not (sym (h.dirs d)) ∙ both-right _ _ (both-left _ _ u))) (ap (λ (x : DirCells). len x.entries == 0) (sym same) ∙ both-right _ _ u)
+      both-of _ _ (both-of _ _ (h.none_new (Names d) (both-left _ _ (both-left _ _ u))) (ap not (sym (h.dirs d)) ∙ both-right _ _ (both-left _ _ u))) (ap (λ m. len m == 0) (sym same) ∙ both-right _ _ u)
 
   file-before : (old new : Cells) → IsSwept kept old new → (i : ℕ) → is_useless new (Links i) ≡ true → is_useless old (Links i) ≡ true
   file-before old new h i u = both-of _ _ (h.none_new (Links i) (both-left _ _ u)) (ap not (sym (h.named i)) ∙ both-right _ _ u)
@@ -87,6 +95,8 @@ module _ (kept : Cell → Bool) where
   useless-before old new h (Parent d) same u = dir-before old new h d same u
   useless-before old new h (Links i) same u = file-before old new h i u
   useless-before old new h (Bytes i) same u = file-before old new h i u
+  useless-before old new h (DirAttributes d) same u = dir-before old new h d same u
+  useless-before old new h (FileAttributes i) same u = file-before old new h i u
   useless-before old new h (Fd f) same u = both-of _ _ (h.none_new (Fd f) (both-left _ _ u)) (ap is_none (sym (h.opens f)) ∙ both-right _ _ u)
 
   pub spare-before : (old new : Cells) → IsSwept kept old new → (c : Cell) → SameDir old new c → is_spare kept new c ≡ true → is_spare kept old c ≡ true
@@ -102,6 +112,15 @@ module _ (kept : Cell → Bool) where
 
     free-file : at_place kept (Links i) ≡ false
     free-file = not-true _ (both-right _ _ spare)
+
+    free-links : kept (Links i) ≡ false
+    free-links = none-left _ _ (none-left _ _ free-file)
+
+    free-bytes : kept (Bytes i) ≡ false
+    free-bytes = none-right (kept (Links i)) _ (none-left _ _ free-file)
+
+    free-attributes : kept (FileAttributes i) ≡ false
+    free-attributes = none-right (kept (Links i) || kept (Bytes i)) _ free-file
 
     file-at : (j : ℕ) → get (remove cells.files i) j ≡ cond (eq_by_cmp nat_cmp j i) None (get cells.files j)
     file-at j = get-remove nat_cmp_total cells.files i j
@@ -119,12 +138,17 @@ module _ (kept : Cell → Bool) where
 
     stays-links : (j : ℕ) → kept (Links j) ≡ true → IsSome (get cells.files j) → IsSome (get (remove cells.files i) j)
     stays-links j k s = by_test (eq_by_cmp nat_cmp j i)
-        (λ t. unlike k (ap (λ x. kept (Links x)) (tied-is exact_unsigned j i t) ∙ none-left _ _ free-file))
+        (λ t. unlike k (ap (λ x. kept (Links x)) (tied-is exact_unsigned j i t) ∙ free-links))
         (λ f. subst IsSome (sym (file-there j f)) s)
 
     stays-bytes : (j : ℕ) → kept (Bytes j) ≡ true → IsSome (get cells.files j) → IsSome (get (remove cells.files i) j)
     stays-bytes j k s = by_test (eq_by_cmp nat_cmp j i)
-        (λ t. unlike k (ap (λ x. kept (Bytes x)) (tied-is exact_unsigned j i t) ∙ none-right _ _ free-file))
+        (λ t. unlike k (ap (λ x. kept (Bytes x)) (tied-is exact_unsigned j i t) ∙ free-bytes))
+        (λ f. subst IsSome (sym (file-there j f)) s)
+
+    stays-attributes : (j : ℕ) → kept (FileAttributes j) ≡ true → IsSome (get cells.files j) → IsSome (get (remove cells.files i) j)
+    stays-attributes j k s = by_test (eq_by_cmp nat_cmp j i)
+        (λ t. unlike k (ap (λ x. kept (FileAttributes x)) (tied-is exact_unsigned j i t) ∙ free-attributes))
         (λ f. subst IsSome (sym (file-there j f)) s)
 
     file-was : (j : ℕ) → IsSome (get (remove cells.files i) j) → IsSome (get cells.files j)
@@ -139,6 +163,8 @@ module _ (kept : Cell → Bool) where
     file-kept (Links j) k s = stays-links j k s
     file-kept (Bytes j) k s = stays-bytes j k s
     file-kept (Fd f) k s = s
+    file-kept (DirAttributes d) k s = s
+    file-kept (FileAttributes j) k s = stays-attributes j k s
 
     file-none_new : (c : Cell) → IsStored no_file_left c → IsStored cells c
     file-none_new (Entry entry) s = s
@@ -147,6 +173,8 @@ module _ (kept : Cell → Bool) where
     file-none_new (Links j) s = file-was j s
     file-none_new (Bytes j) s = file-was j s
     file-none_new (Fd f) s = s
+    file-none_new (DirAttributes d) s = s
+    file-none_new (FileAttributes j) s = file-was j s
 
     pub swept-file : IsSwept kept cells no_file_left
     swept-file = record {
@@ -154,11 +182,15 @@ module _ (kept : Cell → Bool) where
       parents = λ d. refl;
       links = file-links;
       opens = λ f. refl;
-      bytes = λ j s. by_test (eq_by_cmp nat_cmp j i)
+      contents = λ j s. by_test (eq_by_cmp nat_cmp j i)
           (λ t. unlike (sym (ap is_some (file-here j t)) ∙ s) refl)
-          (λ f. ap (λ o. (unwrap_or o no_file).bytes) (file-there j f));
+          (λ f. ap (λ o. (unwrap_or o no_file).contents) (file-there j f));
+      dir_attributes = λ d s. refl;
+      file_attributes = λ j s. by_test (eq_by_cmp nat_cmp j i)
+          (λ t. unlike (sym (ap is_some (file-here j t)) ∙ s) refl)
+          (λ f. ap (λ o. (unwrap_or o no_file).attributes) (file-there j f));
       files = λ j gone. by_test (eq_by_cmp nat_cmp j i)
-          (λ t. subst (IsDeadFile kept cells) (sym (tied-is exact_unsigned j i t)) (record { dead = dead; links = none-left _ _ free-file; bytes = none-right _ _ free-file }))
+          (λ t. subst (IsDeadFile kept cells) (sym (tied-is exact_unsigned j i t)) (record { dead = dead; links = free-links; bytes = free-bytes; attributes = free-attributes }))
           (λ f. unlike (ap is_some (file-there j f) ∙ both-left _ _ gone) (not-true _ (both-right _ _ gone)));
       dirs = λ d. refl;
       named = λ j. ap (λ n. nat_lt 0 n || is_open cells.opens j) (file-links j);
@@ -201,6 +233,8 @@ module _ (kept : Cell → Bool) where
     fd-kept (Fd j) k s = by_test (eq_by_cmp nat_cmp j f)
         (λ t. unlike k (ap (λ x. kept (Fd x)) (tied-is exact_unsigned j f t) ∙ free-fd))
         (λ n. subst IsSome (sym (fd-there j n)) s)
+    fd-kept (DirAttributes d) k s = s
+    fd-kept (FileAttributes j) k s = s
 
     fd-none_new : (c : Cell) → IsStored no_fd_left c → IsStored cells c
     fd-none_new (Entry entry) s = s
@@ -211,6 +245,8 @@ module _ (kept : Cell → Bool) where
     fd-none_new (Fd j) s = by_test (eq_by_cmp nat_cmp j f)
         (λ t. unlike (sym (ap is_some (fd-here j t)) ∙ s) refl)
         (λ n. subst IsSome (fd-there j n) s)
+    fd-none_new (DirAttributes d) s = s
+    fd-none_new (FileAttributes j) s = s
 
     pub swept-fd : IsSwept kept cells no_fd_left
     swept-fd = record {
@@ -220,7 +256,9 @@ module _ (kept : Cell → Bool) where
       opens = λ j. by_test (eq_by_cmp nat_cmp j f)
           (λ t. ap option_flatten (fd-here j t) ∙ sym (ap (open_of cells) (tied-is exact_unsigned j f t) ∙ shut))
           (λ n. ap option_flatten (fd-there j n));
-      bytes = λ i s. refl;
+      contents = λ i s. refl;
+      dir_attributes = λ d s. refl;
+      file_attributes = λ i s. refl;
       files = λ i gone. unlike (both-left _ _ gone) (not-true _ (both-right _ _ gone));
       dirs = λ d. refl;
       named = λ i. ap (λ b. nat_lt 0 (links_of cells i) || b) (is_open-remove cells.opens f shut i);
@@ -247,11 +285,17 @@ module _ (kept : Cell → Bool) where
     no_parent None h = refl
     no_parent (Some x) h = by_option x.parent (λ n. n) (λ p is. unlike (ap is_some is) (none-right _ _ h))
 
-    no_entries : (dir_of cells d).entries ≡ empty
+    pub no_entries : (dir_of cells d).entries ≡ empty
     no_entries = empty_of_len (dir_of cells d).entries (eqb-true (len (dir_of cells d).entries) 0 (both-right (contains_key cells.directories d && not (has_dir cells d)) _ (both-left _ (not (at_place kept (Parent d))) spare)))
 
-    pub bare : dir_of cells d ≡ no_dir
-    bare = λ j. record { parent = no_parent (get cells.directories d) not_there j; entries = no_entries j }
+    free-names : kept (Names d) ≡ false
+    free-names = none-left _ _ (none-left _ _ free-dir)
+
+    free-parent : kept (Parent d) ≡ false
+    free-parent = none-right (kept (Names d)) _ (none-left _ _ free-dir)
+
+    free-dir_attributes : kept (DirAttributes d) ≡ false
+    free-dir_attributes = none-right (kept (Names d) || kept (Parent d)) _ free-dir
 
     dir-here : (e : ℕ) → eq_by_cmp nat_cmp e d ≡ true → get (remove cells.directories d) e ≡ None
     dir-here e t = get-remove nat_cmp_total cells.directories d e ∙ ap (λ b. cond b None (get cells.directories e)) t
@@ -259,10 +303,17 @@ module _ (kept : Cell → Bool) where
     dir-there : (e : ℕ) → eq_by_cmp nat_cmp e d ≡ false → get (remove cells.directories d) e ≡ get cells.directories e
     dir-there e f = get-remove nat_cmp_total cells.directories d e ∙ ap (λ b. cond b None (get cells.directories e)) f
 
-    pub dir-same : (e : ℕ) → dir_of no_dir_left e ≡ dir_of cells e
-    dir-same e = by_test (eq_by_cmp nat_cmp e d)
-        (λ t. ap (λ o. unwrap_or o no_dir) (dir-here e t) ∙ sym (ap (dir_of cells) (tied-is exact_unsigned e d t) ∙ bare))
-        (λ f. ap (λ o. unwrap_or o no_dir) (dir-there e f))
+    -- what a directory holds, but for the attributes of this one
+    same-part : {P : Type 0} (part : DirCells → P) → part no_dir ≡ part (dir_of cells d) → (e : ℕ) → part (dir_of no_dir_left e) ≡ part (dir_of cells e)
+    same-part part blank e = by_test (eq_by_cmp nat_cmp e d)
+        (λ t. ap (λ o. part (unwrap_or o no_dir)) (dir-here e t) ∙ blank ∙ sym (ap (λ x. part (dir_of cells x)) (tied-is exact_unsigned e d t)))
+        (λ f. ap (λ o. part (unwrap_or o no_dir)) (dir-there e f))
+
+    pub dir-same : (e : ℕ) → (dir_of no_dir_left e).entries ≡ (dir_of cells e).entries
+    dir-same = same-part (λ x. x.entries) (sym no_entries)
+
+    parent-same : (e : ℕ) → (dir_of no_dir_left e).parent ≡ (dir_of cells e).parent
+    parent-same = same-part (λ x. x.parent) (sym (no_parent (get cells.directories d) not_there))
 
     dir-stays : (e : ℕ) → (eq_by_cmp nat_cmp e d ≡ true → ⊥) → IsSome (get cells.directories e) → IsSome (get (remove cells.directories d) e)
     dir-stays e other s = by_test (eq_by_cmp nat_cmp e d) (λ t. absurd (other t)) (λ f. subst IsSome (sym (dir-there e f)) s)
@@ -273,28 +324,36 @@ module _ (kept : Cell → Bool) where
         (λ f. subst IsSome (dir-there e f) s)
 
     dir-kept : (c : Cell) → kept c ≡ true → IsStored cells c → IsStored no_dir_left c
-    dir-kept (Entry entry) k s = subst (λ (x : DirCells). IsSome (get x.entries entry.name)) (sym (dir-same entry.dir)) s
-    dir-kept (Names e) k s = dir-stays e (λ t. unlike k (ap (λ x. kept (Names x)) (tied-is exact_unsigned e d t) ∙ none-left _ _ free-dir)) s
-    dir-kept (Parent e) k s = dir-stays e (λ t. unlike k (ap (λ x. kept (Parent x)) (tied-is exact_unsigned e d t) ∙ none-right _ _ free-dir)) s
+    dir-kept (Entry entry) k s = subst (λ m. IsSome (get m entry.name)) (sym (dir-same entry.dir)) s
+    dir-kept (Names e) k s = dir-stays e (λ t. unlike k (ap (λ x. kept (Names x)) (tied-is exact_unsigned e d t) ∙ free-names)) s
+    dir-kept (Parent e) k s = dir-stays e (λ t. unlike k (ap (λ x. kept (Parent x)) (tied-is exact_unsigned e d t) ∙ free-parent)) s
     dir-kept (Links j) k s = s
     dir-kept (Bytes j) k s = s
     dir-kept (Fd f) k s = s
+    dir-kept (DirAttributes e) k s = dir-stays e (λ t. unlike k (ap (λ x. kept (DirAttributes x)) (tied-is exact_unsigned e d t) ∙ free-dir_attributes)) s
+    dir-kept (FileAttributes j) k s = s
 
     dir-none_new : (c : Cell) → IsStored no_dir_left c → IsStored cells c
-    dir-none_new (Entry entry) s = subst (λ (x : DirCells). IsSome (get x.entries entry.name)) (dir-same entry.dir) s
+    dir-none_new (Entry entry) s = subst (λ m. IsSome (get m entry.name)) (dir-same entry.dir) s
     dir-none_new (Names e) s = dir-was e s
     dir-none_new (Parent e) s = dir-was e s
     dir-none_new (Links j) s = s
     dir-none_new (Bytes j) s = s
     dir-none_new (Fd f) s = s
+    dir-none_new (DirAttributes e) s = dir-was e s
+    dir-none_new (FileAttributes j) s = s
 
     pub swept-dir : IsSwept kept cells no_dir_left
     swept-dir = record {
-      entries = λ e name. ap (λ (x : DirCells). dir_entry x name) (dir-same e);
-      parents = λ e. ap (λ (x : DirCells). x.parent) (dir-same e);
+      entries = λ e name. ap (λ m. option_flatten (get m name)) (dir-same e);
+      parents = parent-same;
       links = λ i. refl;
       opens = λ f. refl;
-      bytes = λ i s. refl;
+      contents = λ i s. refl;
+      dir_attributes = λ e s. by_test (eq_by_cmp nat_cmp e d)
+          (λ t. unlike (sym (ap is_some (dir-here e t)) ∙ s) refl)
+          (λ f. ap (λ o. (unwrap_or o no_dir).attributes) (dir-there e f));
+      file_attributes = λ i s. refl;
       files = λ i gone. unlike (both-left _ _ gone) (not-true _ (both-right _ _ gone));
       dirs = λ e. by_test (eq_by_cmp nat_cmp e d)
           (λ t. ap (λ o. option_map_or (is_there e) o false) (dir-here e t) ∙ sym (ap (has_dir cells) (tied-is exact_unsigned e d t) ∙ not_there))
@@ -384,6 +443,8 @@ module _ (kept : Cell → Bool) where
     entry-kept (Links j) k s = s
     entry-kept (Bytes j) k s = s
     entry-kept (Fd f) k s = s
+    entry-kept (DirAttributes e) k s = dir-place e ∙ s
+    entry-kept (FileAttributes j) k s = s
 
     entry-none_new : (c : Cell) → IsStored no_entry_left c → IsStored cells c
     entry-none_new (Entry entry) s = entry-was entry.dir entry.name s
@@ -392,6 +453,8 @@ module _ (kept : Cell → Bool) where
     entry-none_new (Links j) s = s
     entry-none_new (Bytes j) s = s
     entry-none_new (Fd f) s = s
+    entry-none_new (DirAttributes e) s = sym (dir-place e) ∙ s
+    entry-none_new (FileAttributes j) s = s
 
     pub swept-entry : IsSwept kept cells no_entry_left
     swept-entry = record {
@@ -401,7 +464,11 @@ module _ (kept : Cell → Bool) where
           (λ f. ap (λ o. (unwrap_or o no_dir).parent) (at-there e f));
       links = λ i. refl;
       opens = λ f. refl;
-      bytes = λ i s. refl;
+      contents = λ i s. refl;
+      dir_attributes = λ e s. by_test (eq_by_cmp nat_cmp e d)
+          (λ t. ap (λ o. (unwrap_or o no_dir).attributes) (at-here e t) ∙ sym (ap (λ o. (unwrap_or o no_dir).attributes) (was-here e t)))
+          (λ f. ap (λ o. (unwrap_or o no_dir).attributes) (at-there e f));
+      file_attributes = λ i s. refl;
       files = λ i gone. unlike (both-left _ _ gone) (not-true _ (both-right _ _ gone));
       dirs = λ e. by_test (eq_by_cmp nat_cmp e d)
           (λ t. ap (λ o. option_map_or (is_there e) o false) (at-here e t) ∙ sym (ap (λ o. option_map_or (is_there e) o false) (was-here e t)))

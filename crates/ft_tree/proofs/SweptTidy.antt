@@ -16,13 +16,15 @@ use Rattle.ft_cells.specs.declared.cell.Cell.TheVariants.{Entry, Parent, Links, 
 use Rattle.ft_cells.specs.Cells.{Cells, DirCells, FileCells, Opens, no_dir, no_file, dir_of, dir_names, filled, is_there, has_file, is_open, without_dir_place, put_dir}
 use Rattle.ft_tree.specs.Held.{without_place}
 use Rattle.ft_cells.specs.declared.entry.Entry.{Entry as DirEntry}
-use Rattle.ft_tree.specs.Tidy.{tidy, edges_at, edges_from, member, dirs_from, is_named, files_from, opens_from}
+use Rattle.ft_cells.specs.declared.attributes.Attributes.{Attributes}
+use Rattle.ft_cells.specs.Plain.{PlainFile}
+use Rattle.ft_tree.specs.Tidy.{tidy, edges_at, edges_from, member, dirs_from, plain_file, is_named, files_from, opens_from}
 use Rattle.ft_tree.specs.Sweep.{at_place, is_spare}
 use Rattle.ft_cells.proofs.CellViews.{entries-empty}
 use Rattle.ft_cells.proofs.Splits.{by_option, unlike, both-left, both-right, not-true, tied-itself}
 use Rattle.ft_cells.proofs.Gathered.{gather, part, gather-insert, gather-remove}
 use Rattle.ft_descriptions.proofs.Opened.{is_open-remove}
-use Rattle.ft_tree.proofs.Swept.{bare, not_there}
+use Rattle.ft_tree.proofs.Swept.{no_entries, not_there}
 
 -- The lists as they are gathered, entry by entry.
 
@@ -37,23 +39,19 @@ if_kept : {A B : Type 0} (f : A → B) (b : Bool) (e : A) (es : List A) → map 
 if_kept f true e es = refl
 if_kept f false e es = refl
 
-abbrev dir_of_entry : ℕ × DirCells → List (ℕ × Unit {0}) → List (ℕ × Unit {0})
+abbrev dir_of_entry : ℕ × DirCells → List (ℕ × Option Attributes) → List (ℕ × Option Attributes)
 dir_of_entry e r = cond (is_there e.0 e.1) (member e ∷ r) r
 
 dirs-gather : (es : List (ℕ × DirCells)) → dirs_from es ≡ gather nat_cmp_total exact_unsigned dir_of_entry [] es
 dirs-gather [] = refl
 dirs-gather (e ∷ es) = if_kept member (is_there e.0 e.1) e (filter (λ x. is_there x.0 x.1) es) ∙ ap (λ r. cond (is_there e.0 e.1) (member e ∷ r) r) (dirs-gather es)
 
--- a file as the plain tree has it
-abbrev stored : ℕ × FileCells → ℕ × List ℕ
-stored e = (e.0, e.1.bytes)
-
-abbrev file_of_entry : Opens → ℕ × FileCells → List (ℕ × List ℕ) → List (ℕ × List ℕ)
-file_of_entry opens e r = cond (is_named opens e) (stored e ∷ r) r
+abbrev file_of_entry : Opens → ℕ × FileCells → List (ℕ × PlainFile) → List (ℕ × PlainFile)
+file_of_entry opens e r = cond (is_named opens e) (plain_file e ∷ r) r
 
 files-gather : (opens : Opens) (es : List (ℕ × FileCells)) → files_from opens es ≡ gather nat_cmp_total exact_unsigned (file_of_entry opens) [] es
 files-gather opens [] = refl
-files-gather opens (e ∷ es) = if_kept stored (is_named opens e) e (filter (is_named opens) es) ∙ ap (λ r. cond (is_named opens e) (stored e ∷ r) r) (files-gather opens es)
+files-gather opens (e ∷ es) = if_kept plain_file (is_named opens e) e (filter (is_named opens) es) ∙ ap (λ r. cond (is_named opens e) (plain_file e ∷ r) r) (files-gather opens es)
 
 module _ {K X : Type 0} where
   -- what stands in a place, with its key
@@ -102,7 +100,7 @@ module _ (kept : Cell → Bool) (cells : Cells) where
       ap (λ o. nat_lt 0 (unwrap_or o no_file).links || is_open cells.opens i) (sym is) ∙ not-true (has_file cells i) (both-right (contains_key cells.files i) _ (both-left _ (not (at_place kept (Links i))) spare)) in
       let same : files_from cells.opens (entries (remove cells.files i)) ≡ files_from cells.opens (entries cells.files) =
       files-gather cells.opens (entries (remove cells.files i))
-      ∙ gather-remove nat_cmp_total exact_unsigned (file_of_entry cells.opens) [] cells.files i x (tied-itself nat_cmp_total i) is (λ r. ap (λ b. cond b (stored (i, x) ∷ r) r) unnamed)
+      ∙ gather-remove nat_cmp_total exact_unsigned (file_of_entry cells.opens) [] cells.files i x (tied-itself nat_cmp_total i) is (λ r. ap (λ b. cond b (plain_file (i, x) ∷ r) r) unnamed)
       ∙ sym (files-gather cells.opens (entries cells.files)) in
       λ k. record { limits = cells.limits; edges = (tidy cells).edges; dirs = (tidy cells).dirs; files = from_entries (same k); opens = (tidy cells).opens })
 
@@ -115,7 +113,7 @@ module _ (kept : Cell → Bool) (cells : Cells) where
         limits = cells.limits;
         edges = (tidy cells).edges;
         dirs = (tidy cells).dirs;
-        files = from_entries (map stored (filter (λ (e : ℕ × FileCells). nat_lt 0 e.1.links || same e.0 k) (entries cells.files)));
+        files = from_entries (map plain_file (filter (λ (e : ℕ × FileCells). nat_lt 0 e.1.links || same e.0 k) (entries cells.files)));
         opens = from_entries (opens k);
       }
 
@@ -124,7 +122,7 @@ module _ (kept : Cell → Bool) (cells : Cells) where
       (λ n. unlike (both-left (contains_key cells.directories d) _ (both-left _ _ (both-left _ (not (at_place kept (Parent d))) spare))) (ap is_some n))
       (λ x is.
       let nameless : dir_names x ≡ [] =
-      ap (λ o. dir_names (unwrap_or o no_dir)) (sym is) ∙ ap dir_names (bare kept cells d spare) ∙ ap (filter_map filled) (entries-empty (slice_cmp nat_cmp) (Option Node)) in
+      ap (λ o. dir_names (unwrap_or o no_dir)) (sym is) ∙ ap (λ m. filter_map filled (entries m)) (no_entries kept cells d spare) ∙ ap (filter_map filled) (entries-empty (slice_cmp nat_cmp) (Option Node)) in
       let away : is_there d x ≡ false = ap (λ o. option_map_or (is_there d) o false) (sym is) ∙ not_there kept cells d spare in
       let edges : edges_from (entries (remove cells.directories d)) ≡ edges_from (entries cells.directories) =
       edges-gather (entries (remove cells.directories d))

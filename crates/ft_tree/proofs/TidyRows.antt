@@ -16,8 +16,8 @@ use Rattle.ft_cells.specs.declared.open_file.OpenFile.{OpenFile}
 use Rattle.ft_cells.specs.declared.row.TreeRow.TheVariants.{Edge as EdgeRow}
 use Rattle.std.specs.List.{filter_map}
 use Rattle.ft_cells.specs.Cells.{Cells, DirCells, FileCells, Opens, dir_names, filled, is_there}
-use Rattle.ft_tree.specs.Tidy.{tidy, edges_at, edges_from, dirs_from, member, is_named, files_from, opens_from}
-use Rattle.ft_cells.specs.Rows.{dir_rows, edge_rows, named_rows, file_rows, open_rows, rows_of}
+use Rattle.ft_tree.specs.Tidy.{tidy, edges_at, edges_from, dirs_from, member, plain_file, is_named, files_from, opens_from}
+use Rattle.ft_cells.specs.Rows.{dir_rows, edge_rows, named_rows, file_rows, dir_attributes_rows, file_attributes_rows, time_rows, open_rows, rows_of}
 use Rattle.ft_cells.proofs.Conjunction.{both, first, second}
 use Rattle.ft_cells.proofs.InOrder.{entries-in_order}
 
@@ -98,15 +98,11 @@ edges_sorted (e ∷ es) h =
 
 -- The files.
 
--- a file as the plain tree has it
-abbrev stored : ℕ × FileCells → ℕ × List ℕ
-stored e = (e.0, e.1.bytes)
-
 files_below : (opens : Opens) (k : ℕ) (es : List (ℕ × FileCells)) → T (below_all nat_cmp k es) → T (below_all nat_cmp k (files_from opens es))
 files_below opens k [] h = tt
 files_below opens k (e ∷ es) h = by_test (is_named opens e) (files_below opens k es (second _ _ h))
   where
-    by_test : (b : Bool) → T (below_all nat_cmp k (files_from opens es)) → T (below_all nat_cmp k (map stored (cond b (e ∷ filter (is_named opens) es) (filter (is_named opens) es))))
+    by_test : (b : Bool) → T (below_all nat_cmp k (files_from opens es)) → T (below_all nat_cmp k (map plain_file (cond b (e ∷ filter (is_named opens) es) (filter (is_named opens) es))))
     by_test true rest = both _ _ (first _ _ h) rest
     by_test false rest = rest
 
@@ -114,7 +110,7 @@ files_sorted : (opens : Opens) (es : List (ℕ × FileCells)) → T (is_sorted n
 files_sorted opens [] h = tt
 files_sorted opens (e ∷ es) h = by_test (is_named opens e) (files_sorted opens es (second _ _ h))
   where
-    by_test : (b : Bool) → T (is_sorted nat_cmp (files_from opens es)) → T (is_sorted nat_cmp (map stored (cond b (e ∷ filter (is_named opens) es) (filter (is_named opens) es))))
+    by_test : (b : Bool) → T (is_sorted nat_cmp (files_from opens es)) → T (is_sorted nat_cmp (map plain_file (cond b (e ∷ filter (is_named opens) es) (filter (is_named opens) es))))
     by_test true rest = both _ _ (files_below opens e.0 es (first _ _ h)) rest
     by_test false rest = rest
 
@@ -132,7 +128,9 @@ opens_sorted ((f, Some o) ∷ es) h = both _ _ (opens_below f es (first _ _ h)) 
 
 -- the rows of the directories, edges, files and descriptions as they are stored
 pub rows-tidy : (cells : Cells)
-    → dir_rows (dirs_from (entries cells.directories)) ++ edge_rows (edges_from (entries cells.directories)) ++ file_rows (files_from cells.opens (entries cells.files)) ++ open_rows (opens_from (entries cells.opens))
+    → dir_rows (dirs_from (entries cells.directories)) ++ edge_rows (edges_from (entries cells.directories)) ++ file_rows (files_from cells.opens (entries cells.files))
+    ++ dir_attributes_rows (dirs_from (entries cells.directories)) ++ file_attributes_rows (files_from cells.opens (entries cells.files)) ++ time_rows (files_from cells.opens (entries cells.files))
+    ++ open_rows (opens_from (entries cells.opens))
     ≡ rows_of (tidy cells)
 rows-tidy cells =
     let up = entries_sorted cells.directories in
@@ -140,7 +138,7 @@ rows-tidy cells =
     let edges = entries-in_order entry_cmp entry_cmp_total entry_cmp_exact (edges_from (entries cells.directories)) (edges_sorted (entries cells.directories) up) in
     let files = entries-in_order nat_cmp nat_cmp_total exact_unsigned (files_from cells.opens (entries cells.files)) (files_sorted cells.opens (entries cells.files) (entries_sorted cells.files)) in
     let opens = entries-in_order nat_cmp nat_cmp_total exact_unsigned (opens_from (entries cells.opens)) (opens_sorted (entries cells.opens) (entries_sorted cells.opens)) in
-    sym (λ i. dir_rows (dirs i) ++ edge_rows (edges i) ++ file_rows (files i) ++ open_rows (opens i))
+    sym (λ i. dir_rows (dirs i) ++ edge_rows (edges i) ++ file_rows (files i) ++ dir_attributes_rows (dirs i) ++ file_attributes_rows (files i) ++ time_rows (files i) ++ open_rows (opens i))
 
 -- the rows of one directory's edges are those of its names
 pub edge_rows-at : (e : ℕ × DirCells) (es : List (Entry × Node)) → edge_rows (edges_at e ++ es) ≡ named_rows e.0 (dir_names e.1) ++ edge_rows es

@@ -2,17 +2,18 @@
 -- descriptions that belong to it (POSIX.1-2017, Base Definitions, 3 and 4.13). That a directory
 -- has one edge is a rule of this project, since POSIX leaves hard links of directories open
 -- (System Interfaces, link, EPERM).
-use Rattle.std.specs.Prelude.{◌≡◌, ◌≢◌, ◌≤◌, ℕ, true, false, List, [], Option, Some, None}
+use Rattle.std.specs.Prelude.{◌≡◌, ◌≢◌, ◌≤◌, ℕ, true, false, List, Option, Some, None}
 use Rattle.std.specs.FinMap as finite
 use Rattle.ft_cells.specs.declared.node.Node.{Node}
 use Rattle.ft_cells.specs.declared.node.Node.TheVariants.{Dir as DirNode, File as FileNode}
 use Rattle.ft_cells.specs.declared.node.Form.{Form}
 use Rattle.ft_cells.specs.declared.entry.Entry.{Entry as DirEntry}
 use Rattle.ft_cells.specs.declared.cell.Cell.{Cell}
-use Rattle.ft_cells.specs.declared.cell.Cell.TheVariants.{Entry, Names, Parent, Links, Bytes, Fd}
+use Rattle.ft_cells.specs.declared.cell.Cell.TheVariants.{Entry, Names, Parent, Links, Bytes, Fd, DirAttributes, FileAttributes}
+use Rattle.ft_cells.specs.declared.attributes.Attributes.{Attributes}
 use Rattle.ft_cells.specs.declared.open_file.OpenFile.{OpenFile}
 use Rattle.ft_cells.specs.Nodes.{number_of}
-use Rattle.ft_cells.specs.Cells.{Cells, entry_of, parent_of, links_of, open_of, HasDirPlace, HasFilePlace}
+use Rattle.ft_cells.specs.Cells.{Cells, no_contents, entry_of, parent_of, dir_attributes_of, links_of, open_of, has_dir, HasDirPlace, HasFilePlace}
 use Rattle.ft_tree.specs.Held.{Holds, held, IsStored}
 use Rattle.ft_cells.specs.Plain.{PlainTree, parent_in, view_in}
 use Rattle.ft_tree.specs.Tidy.{tidy}
@@ -66,12 +67,14 @@ pub record IsTree (entry : ℕ → List ℕ → Option Node) (parent : ℕ → O
   pub hangs : (d p : ℕ) → parent d ≡ Some p → Hangs parent d
 
 -- Stored cells that are those of a sound tree: the root is stored, the links that are kept are
--- the count of the edges, and each description is of a stored file, which is no directory.
+-- the count of the edges, each description is of a stored file, which is no directory, and only a
+-- directory that is there has attributes.
 pub record AreSoundCells (cells : Cells) : Type 0 where
   pub root_is : HasDirPlace cells 1
   pub tree : IsTree (entry_of cells) (parent_of cells)
   pub links : (i : ℕ) → links_of cells i ≡ view_in (tidy cells) (Links i)
   pub opens : (f : ℕ) (o : OpenFile) → open_of cells f ≡ Some o → HasFilePlace cells o.file × IsNoDir (parent_of cells) o.file
+  pub attributes : (d : ℕ) (a : Attributes) → dir_attributes_of cells d ≡ Some a → has_dir cells d ≡ true
 
 -- what a cell holds says nothing of number k: no entry and no description names it, and nothing
 -- is stored of it
@@ -80,8 +83,10 @@ SaysNothingOf k (Entry entry) to = (x : Node) → to ≡ Some x → number_of x 
 SaysNothingOf k (Names d) to = Unit {0}
 SaysNothingOf k (Parent d) to = d ≡ k → to ≡ None
 SaysNothingOf k (Links i) to = i ≡ k → to ≡ 0
-SaysNothingOf k (Bytes i) to = i ≡ k → to ≡ []
+SaysNothingOf k (Bytes i) to = i ≡ k → to ≡ no_contents
 SaysNothingOf k (Fd f) to = (f ≡ k → to ≡ None) × ((o : OpenFile) → to ≡ Some o → o.file ≢ k)
+SaysNothingOf k (DirAttributes d) to = d ≡ k → to ≡ None
+SaysNothingOf k (FileAttributes i) to = i ≡ k → to ≡ None
 
 -- k may number something new (a rule of this project): the root is 1, and no cell says anything
 -- of k

@@ -3,9 +3,9 @@ use Rattle.std.specs.Prelude.{◌≡◌, ℕ, Bool, true, false, cond, not, ◌=
 use Rattle.std.specs.FinMap as map
 use Rattle.std.specs.FinSet as set
 use Rattle.ft_cells.specs.declared.cell.Cell.{Cell}
-use Rattle.ft_cells.specs.declared.cell.Cell.TheVariants.{Entry, Names, Parent, Links, Bytes, Fd}
+use Rattle.ft_cells.specs.declared.cell.Cell.TheVariants.{Entry, Names, Parent, Links, Bytes, Fd, DirAttributes, FileAttributes}
 use Rattle.ft_cells.specs.CellOrder.{cell_cmp}
-use Rattle.ft_cells.specs.Cells.{Cells, DirCells, entry_of, parent_of, links_of, bytes_of, open_of, dir_of, has_dir, has_file, HasFilePlace}
+use Rattle.ft_cells.specs.Cells.{Cells, DirCells, entry_of, parent_of, dir_attributes_of, links_of, file_attributes_of, contents_of, open_of, dir_of, has_dir, has_file, HasDirPlace, HasFilePlace}
 use Rattle.ft_tree.specs.Held.{IsStored, without_place}
 
 -- the place of a cell is there and of no use: there is no entry or description in it, its
@@ -18,16 +18,21 @@ is_useless cells (Parent d) = map.contains_key cells.directories d && not (has_d
 is_useless cells (Links i) = map.contains_key cells.files i && not (has_file cells i)
 is_useless cells (Bytes i) = map.contains_key cells.files i && not (has_file cells i)
 is_useless cells (Fd f) = map.contains_key cells.opens f && is_none (open_of cells f)
+is_useless cells (DirAttributes d) = map.contains_key cells.directories d && not (has_dir cells d) && (map.len (dir_of cells d).entries == 0)
+is_useless cells (FileAttributes i) = map.contains_key cells.files i && not (has_file cells i)
 
--- one of the cells that have their place with this one is among these: the names of a directory
--- and its parent have one place, and so have the links and the bytes of a file
+-- one of the cells that have their place with this one is among these: the names of a directory,
+-- its parent and its attributes have one place, and so have the links, the bytes and the attributes
+-- of a file
 abbrev pub at_place : (Cell → Bool) → Cell → Bool
 at_place among (Entry entry) = among (Entry entry)
-at_place among (Names d) = among (Names d) || among (Parent d)
-at_place among (Parent d) = among (Names d) || among (Parent d)
-at_place among (Links i) = among (Links i) || among (Bytes i)
-at_place among (Bytes i) = among (Links i) || among (Bytes i)
+at_place among (Names d) = among (Names d) || among (Parent d) || among (DirAttributes d)
+at_place among (Parent d) = among (Names d) || among (Parent d) || among (DirAttributes d)
+at_place among (Links i) = among (Links i) || among (Bytes i) || among (FileAttributes i)
+at_place among (Bytes i) = among (Links i) || among (Bytes i) || among (FileAttributes i)
 at_place among (Fd f) = among (Fd f)
+at_place among (DirAttributes d) = among (Names d) || among (Parent d) || among (DirAttributes d)
+at_place among (FileAttributes i) = among (Links i) || among (Bytes i) || among (FileAttributes i)
 
 -- one for each that is
 abbrev pub one_if : Bool → ℕ
@@ -49,6 +54,8 @@ swept_at kept cells (Parent d) = drop_spare kept cells (Parent d)
 swept_at kept cells (Links i) = drop_spare kept cells (Links i)
 swept_at kept cells (Bytes i) = drop_spare kept cells (Bytes i)
 swept_at kept cells (Fd f) = drop_spare kept cells (Fd f)
+swept_at kept cells (DirAttributes d) = drop_spare kept cells (DirAttributes d)
+swept_at kept cells (FileAttributes i) = drop_spare kept cells (FileAttributes i)
 
 -- how many places a cell takes with it: that of an entry may take that of its directory
 abbrev pub dropped_at : (Cell → Bool) → Cells → Cell → ℕ
@@ -58,6 +65,8 @@ dropped_at kept cells (Parent d) = one_if (is_spare kept cells (Parent d))
 dropped_at kept cells (Links i) = one_if (is_spare kept cells (Links i))
 dropped_at kept cells (Bytes i) = one_if (is_spare kept cells (Bytes i))
 dropped_at kept cells (Fd f) = one_if (is_spare kept cells (Fd f))
+dropped_at kept cells (DirAttributes d) = one_if (is_spare kept cells (DirAttributes d))
+dropped_at kept cells (FileAttributes i) = one_if (is_spare kept cells (FileAttributes i))
 
 -- how many places directories take: each its own, and those of its entries
 abbrev pub places_of_dirs : List (ℕ × DirCells) → ℕ
@@ -78,16 +87,20 @@ pub record IsDeadFile (kept : Cell → Bool) (cells : Cells) (i : ℕ) : Type 0 
   pub dead : has_file cells i ≡ false
   pub links : kept (Links i) ≡ false
   pub bytes : kept (Bytes i) ≡ false
+  pub attributes : kept (FileAttributes i) ≡ false
 
 -- What a sweep changes: places went, and nothing else happened. Each cell holds what it held, but
--- for the bytes of dead files, and what is kept has its place.
+-- for the bytes and the attributes of dead files, and for the attributes of directories that are not
+-- there, which have none in a sound tree; and what is kept has its place.
 pub record IsSwept (kept : Cell → Bool) (old new : Cells) : Type 0 where
   pub limits : new.limits ≡ old.limits
   pub entries : (d : ℕ) (name : List ℕ) → entry_of new d name ≡ entry_of old d name
   pub parents : (d : ℕ) → parent_of new d ≡ parent_of old d
   pub links : (i : ℕ) → links_of new i ≡ links_of old i
   pub opens : (f : ℕ) → open_of new f ≡ open_of old f
-  pub bytes : (i : ℕ) → HasFilePlace new i → bytes_of new i ≡ bytes_of old i
+  pub contents : (i : ℕ) → HasFilePlace new i → contents_of new i ≡ contents_of old i
+  pub dir_attributes : (d : ℕ) → HasDirPlace new d → dir_attributes_of new d ≡ dir_attributes_of old d
+  pub file_attributes : (i : ℕ) → HasFilePlace new i → file_attributes_of new i ≡ file_attributes_of old i
   pub files : (i : ℕ) → is_dropped old new i ≡ true → IsDeadFile kept old i
   pub dirs : (d : ℕ) → has_dir new d ≡ has_dir old d
   pub named : (i : ℕ) → has_file new i ≡ has_file old i

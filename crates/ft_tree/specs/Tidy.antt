@@ -7,9 +7,10 @@ use Rattle.std.specs.FinMap as finite
 use Rattle.ft_cells.specs.declared.entry.Entry.{Entry}
 use Rattle.ft_cells.specs.Entries.{entry_at}
 use Rattle.ft_cells.specs.declared.node.Node.{Node}
+use Rattle.ft_cells.specs.declared.attributes.Attributes.{Attributes}
 use Rattle.ft_cells.specs.declared.open_file.OpenFile.{OpenFile}
 use Rattle.ft_cells.specs.Cells.{Cells, DirCells, FileCells, Opens, dir_names, is_there, is_open}
-use Rattle.ft_cells.specs.Plain.{PlainTree}
+use Rattle.ft_cells.specs.Plain.{PlainFile, PlainTree}
 
 -- the entries of one stored directory, as edges
 abbrev pub edges_at : ℕ × DirCells → List (Entry × Node)
@@ -20,21 +21,25 @@ abbrev pub edges_from : List (ℕ × DirCells) → List (Entry × Node)
 edges_from [] = []
 edges_from (e ∷ es) = edges_at e ++ edges_from es
 
--- as a member of a set of numbers
-abbrev pub member : ℕ × DirCells → ℕ × Unit {0}
-member e = (e.0, tt)
+-- a directory as the plain tree has it: its number, with its attributes
+abbrev pub member : ℕ × DirCells → ℕ × Option Attributes
+member e = (e.0, e.1.attributes)
 
 -- the stored directories that are there
-abbrev pub dirs_from : List (ℕ × DirCells) → List (ℕ × Unit {0})
+abbrev pub dirs_from : List (ℕ × DirCells) → List (ℕ × Option Attributes)
 dirs_from es = map member (filter (λ e. is_there e.0 e.1) es)
 
 -- a stored file is there while an entry or a description names it
 abbrev pub is_named : Opens → ℕ × FileCells → Bool
 is_named opens e = nat_lt 0 e.1.links || is_open opens e.0
 
--- the stored files that are there, with their bytes
-abbrev pub files_from : Opens → List (ℕ × FileCells) → List (ℕ × List ℕ)
-files_from opens es = map (λ e. (e.0, e.1.bytes)) (filter (is_named opens) es)
+-- a file as the plain tree has it: its number, with its attributes and what it holds
+abbrev pub plain_file : ℕ × FileCells → ℕ × PlainFile
+plain_file e = (e.0, record { attributes = e.1.attributes; contents = e.1.contents })
+
+-- the stored files that are there
+abbrev pub files_from : Opens → List (ℕ × FileCells) → List (ℕ × PlainFile)
+files_from opens es = map plain_file (filter (is_named opens) es)
 
 -- the description that stands in a place, if there is one
 abbrev pub opened : ℕ × Option OpenFile → Option (ℕ × OpenFile)

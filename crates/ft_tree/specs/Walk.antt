@@ -105,7 +105,7 @@ way_behind dir names slash target = way_of dir names slash target (target_parts 
 abbrev pub onward : (ℕ → List (List ℕ) → Bool → Looks (Result Spot Errno)) → Bool → Leg → Looks (Result Spot Errno)
 onward go slash (Ends end) = Answer end
 onward go slash (Meets link dir names) =
-    Look (Bytes link) (λ target. or_else Err (λ (way : Way). go way.start way.names way.slash) (way_behind dir names slash target))
+    Look (Bytes link) (λ target. or_else Err (λ (way : Way). go way.start way.names way.slash) (way_behind dir names slash target.bytes))
 
 -- the end of a walk that may follow no link any more: one that is met is ELOOP
 abbrev pub ended : Leg → Result Spot Errno

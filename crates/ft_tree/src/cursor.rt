@@ -1,13 +1,13 @@
 // A tree that is read, one place after another.
 ghost use Rattle.std.specs.Prelude.{◌≡◌, ◌↔◌, [], IsTrue, IfOk, refl};
 ghost use Rattle.std.specs.Option.{option_copied};
-ghost use Rattle.ft_cells.specs.Cells.{entry_of, parent_of, links_of, names_of, bytes_of, body_in, open_of};
+ghost use Rattle.ft_cells.specs.Cells.{entry_of, parent_of, dir_attributes_of, links_of, file_attributes_of, names_of, bytes_of, time_of, body_in, open_of};
 
 use crate::reader::Reader;
 use crate::tree::Tree;
 use ft_base::Memory;
 use ft_body::Body;
-use ft_cells::{Hint, Node, OpenFile};
+use ft_cells::{Attributes, Hint, Node, OpenFile, Timestamp};
 use ft_path::Name;
 use std::marker::Model;
 
@@ -79,11 +79,32 @@ impl<'t> Cursor<'t> {
         self.tree.parent_near(dir, self.near)
     }
 
+    /// The attributes that are kept of a directory, as `Tree::dir_attributes`.
+    pub fn dir_attributes(&self, dir: u64) -> Option<Attributes>
+        ensures { result ≡ dir_attributes_of self.now dir }
+    {
+        self.tree.dir_attributes_near(dir, self.near)
+    }
+
     /// How many entries name a file, as `Tree::links`.
     pub fn links(&self, file: u64) -> u64
         ensures { result ≡ links_of self.now file }
     {
         self.tree.links_near(file, self.near)
+    }
+
+    /// The attributes that are kept of a file, as `Tree::file_attributes`.
+    pub fn file_attributes(&self, file: u64) -> Option<Attributes>
+        ensures { result ≡ file_attributes_of self.now file }
+    {
+        self.tree.file_attributes_near(file, self.near)
+    }
+
+    /// The time of a file's bytes, as `Tree::time`.
+    pub fn time(&self, file: u64) -> Option<Timestamp>
+        ensures { result ≡ time_of self.now file }
+    {
+        self.tree.time_near(file, self.near)
     }
 
     /// The bytes of a file, where it is stored, as `Tree::body`.

@@ -15,8 +15,10 @@ mod tree;
 
 pub use cursor::{Cursor, HintedFile};
 pub use ft_cells::{
-    AccessMode, Cell, Entry, EntryRef, Form, Found, Kind, Node, OpenFile, Spot, TreeLimits, TreeRow,
+    AccessMode, Attributes, Cell, Entry, EntryRef, Form, Found, Kind, MOST_MODE, MOST_NANOSECONDS,
+    Node, OpenFile, Rare, Spot, Timestamp, TreeLimits, TreeRow,
 };
+pub use ft_inodes::FileUndo;
 pub use keeps::Keeps;
 pub use reader::{Halt, MOST_FOLLOWED, Reader, Way, walk};
 pub use tree::{ROOT, Tree};

@@ -149,8 +149,8 @@ fn walk_on<R: Reader>(
     }
 }
 
-/// Where a walk leads from a symbolic link on that is followed, with a slash behind the last name or
-/// none.
+/// Where a walk leads from a symbolic link on that is followed, with a slash behind the last name
+/// or none.
 #[cycle(walking)]
 fn onward<R: Reader>(
     alloc: Global,

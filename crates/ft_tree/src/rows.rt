@@ -1,7 +1,7 @@
 // The rows of a tree are put one behind the other.
 ghost use Rattle.std.specs.Prelude.{◌≡◌, ◌++◌, OnOk};
 ghost use Rattle.std.specs.FinMap as finite;
-ghost use Rattle.ft_cells.specs.Rows.{dir_rows, edge_rows, file_rows, open_rows};
+ghost use Rattle.ft_cells.specs.Rows.{dir_rows, edge_rows, file_rows, dir_attributes_rows, file_attributes_rows, time_rows, open_rows};
 ghost use Rattle.ft_tree.specs.Tidy.{dirs_from, edges_from, files_from, opens_from};
 
 use crate::tree::ROOT;
@@ -50,6 +50,56 @@ pub(crate) fn push_files(
                 size,
                 bytes: bytes.into(),
             })?;
+        }
+    }
+    Ok(())
+}
+
+/// Puts the attributes that are kept of directories that are there behind the rows.
+pub(crate) fn push_dir_attributes(rows: &mut Vec<TreeRow>, inodes: &Inodes) -> Result<(), Memory>
+    ensures { OnOk result (rows.new.items ≡ rows.old.items ++ dir_attributes_rows (dirs_from (finite.entries inodes.now.directories))) }
+{
+    for (number, directory) in inodes.directories() {
+        if number == ROOT || directory.parent().is_some() {
+            if let Some(attributes) = directory.attributes() {
+                rows.push(TreeRow::Attributes { number, attributes })?;
+            }
+        }
+    }
+    Ok(())
+}
+
+/// Puts the attributes that are kept of files that are there behind the rows.
+pub(crate) fn push_file_attributes(
+    rows: &mut Vec<TreeRow>,
+    inodes: &Inodes,
+    opens: &Descriptions,
+) -> Result<(), Memory>
+    ensures { OnOk result (rows.new.items ≡ rows.old.items ++ file_attributes_rows (files_from opens.now (finite.entries inodes.now.files))) }
+{
+    for (number, file) in inodes.files() {
+        if file.links() > 0 || opens.is_open(number) {
+            if let Some(attributes) = file.attributes() {
+                rows.push(TreeRow::Attributes { number, attributes })?;
+            }
+        }
+    }
+    Ok(())
+}
+
+/// Puts the times of the files that are there behind the rows.
+pub(crate) fn push_times(
+    rows: &mut Vec<TreeRow>,
+    inodes: &Inodes,
+    opens: &Descriptions,
+) -> Result<(), Memory>
+    ensures { OnOk result (rows.new.items ≡ rows.old.items ++ time_rows (files_from opens.now (finite.entries inodes.now.files))) }
+{
+    for (number, file) in inodes.files() {
+        if file.links() > 0 || opens.is_open(number) {
+            if let Some(time) = file.time() {
+                rows.push(TreeRow::Time { file: number, time })?;
+            }
         }
     }
     Ok(())

@@ -8,7 +8,7 @@ ghost use Rattle.ft_tree.specs.Views.{view_of};
 ghost use Rattle.ft_tree.specs.Walk.{walk, found};
 ghost use Rattle.ft_body.specs.declared.TheConstants.{LARGEST_SIZE};
 ghost use Rattle.ft_body.specs.Bytes.{fitting, written, resized};
-ghost use Rattle.ft_cells.specs.Cells.{entry_of, names_of, parent_of, links_of, bytes_of, body_in, open_of, kind_of, has_dir, has_file, put_entry, put_parent, put_links, put_bytes, put_open, stored_dirs, HasEntryPlace, HasDirPlace, HasFilePlace, HasOpenPlace, fresh_cells};
+ghost use Rattle.ft_cells.specs.Cells.{entry_of, names_of, parent_of, dir_attributes_of, links_of, file_attributes_of, contents_of, bytes_of, time_of, untimed, timed, body_in, open_of, kind_of, has_dir, has_file, put_entry, put_parent, put_dir_attributes, put_links, put_file_attributes, put_contents, put_open, stored_dirs, HasEntryPlace, HasDirPlace, HasFilePlace, HasOpenPlace, fresh_cells};
 ghost use Rattle.ft_cells.specs.declared.cell.Cell.TheVariants.{Entry as EntryCell, Parent, Links, Fd};
 ghost use Rattle.ft_tree.specs.Held.{place_at, without_place};
 ghost use Rattle.ft_cells.specs.Limits.{default_limits};
@@ -21,12 +21,18 @@ ghost use Rattle.ft_tree.specs.Sweep.{is_useless, is_spare, one_if, at_place, dr
 use crate::cursor::{Cursor, HintedFile};
 use crate::keeps::Keeps;
 use crate::reader::walk;
-use crate::rows::{push_dirs, push_edges, push_files, push_opens};
+use crate::rows::{
+    push_dir_attributes, push_dirs, push_edges, push_file_attributes, push_files, push_opens,
+    push_times,
+};
 use ft_base::Memory;
-use ft_body::{Body, BodyUndo};
-use ft_cells::{Cell, Entry, Form, Found, Hint, Kind, Node, OpenFile, Spot, TreeLimits, TreeRow};
+use ft_body::Body;
+use ft_cells::{
+    Attributes, Cell, Entry, Form, Found, Hint, Kind, Node, OpenFile, Rare, Spot, Timestamp,
+    TreeLimits, TreeRow,
+};
 use ft_descriptions::Descriptions;
-use ft_inodes::{Directory, File, Inodes};
+use ft_inodes::{Directory, File, FileUndo, Inodes};
 use ft_path::{Errno, Name, Parts};
 use std::alloc::Global;
 use std::marker::Model;
@@ -36,10 +42,11 @@ pub const ROOT: u64 = 1;
 
 /// A tree of directories and files with its open file descriptions, in memory.
 ///
-/// Clauses see its stored cells: for each directory its parent, and a place for each of its
-/// entries, which may be empty; for each file the count of its links, and its bytes; and a place
-/// for the open file description of each descriptor, which may be empty; and what the tree allows,
-/// which never changes. Its plain tree is what they are when tidied, without the empty places and without files that neither an entry nor a
+/// Clauses see its stored cells: for each directory its parent, its attributes, and a place for
+/// each of its entries, which may be empty; for each file the count of its links, its attributes,
+/// and its bytes with their time; and a place for the open file description of each descriptor,
+/// which may be empty; and what the tree allows, which never changes. Its plain tree is what they
+/// are when tidied, without the empty places and without files that neither an entry nor a
 /// description names. It may have any number of each, and keeps the allocator that it was made
 /// with.
 pub struct Tree {
@@ -143,6 +150,16 @@ impl Tree {
         self.parent_near(dir, self.near)
     }
 
+    /// The attributes that are kept of a directory: none, where they are those that a directory has
+    /// anyway. A number that is no directory has none.
+    ///
+    /// POSIX.1-2017, Base Definitions, sys/stat.h.
+    pub fn dir_attributes(&self, dir: u64) -> Option<Attributes>
+        ensures { result ≡ dir_attributes_of self.now dir }
+    {
+        self.dir_attributes_near(dir, self.near)
+    }
+
     /// What a number stands for: a directory where it is the root or has a parent, a file where an
     /// entry or a description names one, and else nothing.
     pub fn kind(&self, number: u64) -> Option<Kind>
@@ -164,6 +181,26 @@ impl Tree {
         ensures { result ≡ links_of self.now file }
     {
         self.links_near(file, self.near)
+    }
+
+    /// The attributes that are kept of a file: none, where they are those that a file has anyway. A
+    /// number that is no file has none.
+    ///
+    /// POSIX.1-2017, Base Definitions, sys/stat.h.
+    pub fn file_attributes(&self, file: u64) -> Option<Attributes>
+        ensures { result ≡ file_attributes_of self.now file }
+    {
+        self.file_attributes_near(file, self.near)
+    }
+
+    /// The time of a file's bytes, where one was set since they were written last.
+    ///
+    /// POSIX.1-2017, Base Definitions, 4.9 (File Times Update); that no clock is read is a rule of
+    /// this project.
+    pub fn time(&self, file: u64) -> Option<Timestamp>
+        ensures { result ≡ time_of self.now file }
+    {
+        self.time_near(file, self.near)
     }
 
     /// The bytes of a file, where it is stored.
@@ -245,9 +282,9 @@ impl Tree {
     }
 
     /// Sets the directory that has a directory's entry, or that there is none. A directory that was
-    /// not stored comes without entries, and no other cell changes: that the tree stays one is the
-    /// caller's part. Answers which parent was stored, or nothing where the directory's place is
-    /// new.
+    /// not stored comes without attributes and entries, and no other cell changes: that the tree
+    /// stays one is the caller's part. Answers which parent was stored, or nothing where the
+    /// directory's place is new.
     ///
     /// Only a place that is new can want memory, and then nothing has changed. A directory whose
     /// parent is taken away leaves its place, so that it can be set again without memory.
@@ -274,9 +311,24 @@ impl Tree {
         }
     }
 
-    /// Sets how many entries name a file. A file that was not stored comes without bytes, and no
-    /// other cell changes: that the count is right is the caller's part. Answers which count was
-    /// stored, or nothing where the file's place is new.
+    /// Sets the attributes that are kept of a directory, or that none are. It has to be stored, and
+    /// no other cell changes: that it is there is the caller's part. Answers those that were kept.
+    /// Takes no memory.
+    pub fn set_dir_attributes(&mut self, dir: u64, to: Rare<Attributes>) -> Rare<Attributes>
+        requires { HasDirPlace self.old dir }
+        ensures was { result ≡ dir_attributes_of self.old dir }
+        ensures set { self.new ≡ put_dir_attributes self.old dir to }
+    {
+        self.near = self.inodes.hint_of(Node::Dir(dir), self.near);
+        match self.inodes.directory_mut(dir, self.near) {
+            Some(directory) => directory.set_attributes(to),
+            None => unreachable!(),
+        }
+    }
+
+    /// Sets how many entries name a file. A file that was not stored comes without attributes and
+    /// bytes, and no other cell changes: that the count is right is the caller's part. Answers
+    /// which count was stored, or nothing where the file's place is new.
     ///
     /// Only a place that is new can want memory, and then nothing has changed.
     pub fn set_links(&mut self, file: u64, links: u64) -> Result<Option<u64>, Memory>
@@ -296,23 +348,61 @@ impl Tree {
         }
     }
 
+    /// Sets the attributes that are kept of a file, or that none are. It has to be stored, and no
+    /// other cell changes. Answers those that were kept. Takes no memory.
+    pub fn set_file_attributes(
+        &mut self,
+        file: HintedFile,
+        to: Rare<Attributes>,
+    ) -> Rare<Attributes>
+        requires { HasFilePlace self.old file }
+        ensures was { result ≡ file_attributes_of self.old file }
+        ensures set { self.new ≡ put_file_attributes self.old file to }
+    {
+        let number = file.number;
+        self.near = self
+            .inodes
+            .hint_of(Node::File(Form::Regular, number), self.hint_at(&file));
+        match self.inodes.file_mut(number, self.near) {
+            Some(stored) => stored.set_attributes(to),
+            None => unreachable!(),
+        }
+    }
+
+    /// Sets the time of a file's bytes, or that they have none. It has to be stored, and no other
+    /// cell changes. Answers the time that they had. Takes no memory.
+    pub fn set_time(&mut self, file: HintedFile, to: Rare<Timestamp>) -> Rare<Timestamp>
+        requires { HasFilePlace self.old file }
+        ensures was { result ≡ time_of self.old file }
+        ensures set { self.new ≡ put_contents self.old file (timed (contents_of self.old file) to) }
+    {
+        let number = file.number;
+        self.near = self
+            .inodes
+            .hint_of(Node::File(Form::Regular, number), self.hint_at(&file));
+        match self.inodes.file_mut(number, self.near) {
+            Some(stored) => stored.set_time(to),
+            None => unreachable!(),
+        }
+    }
+
     /// Writes bytes to a file at an offset, as many as have room below the size limit, with zeros
-    /// in a gap before them; where none has room, nothing changes. The file has to be stored, and
-    /// no other cell changes. Answers how many were taken, and what takes the write back.
+    /// in a gap before them; where none has room, its bytes stay. They have no time from then on.
+    /// The file has to be stored, and no other cell changes. Answers how many were taken, and what
+    /// takes the write back.
     ///
-    /// Refuses want of memory, and then nothing has changed. A write that changes nothing takes
-    /// none.
+    /// Refuses want of memory, and then nothing has changed. A write of nothing takes none.
     pub fn write_bytes(
         &mut self,
         file: HintedFile,
         offset: u64,
         bytes: &[u8],
-    ) -> Result<(u64, BodyUndo), Memory>
+    ) -> Result<(u64, FileUndo), Memory>
         requires place { HasFilePlace self.old file }
         requires limit { offset ≤ LARGEST_SIZE }
         ensures taken { IfOk result (λ done. done.0 ≡ length (fitting LARGEST_SIZE bytes.now offset)) }
-        ensures ok { OnOk result (self.new ≡ put_bytes self.old file (written (bytes_of self.old file) offset (fitting LARGEST_SIZE bytes.now offset))) }
-        ensures undo { IfOk result (λ done. done.1 ≡ record { before = bytes_of self.old file; after = bytes_of self.new file }) }
+        ensures ok { OnOk result (self.new ≡ put_contents self.old file (untimed (written (bytes_of self.old file) offset (fitting LARGEST_SIZE bytes.now offset)))) }
+        ensures undo { IfOk result (λ done. done.1 ≡ record { before = contents_of self.old file; after = contents_of self.new file }) }
         ensures err { OnErr result (self.new ≡ self.old) }
         ensures nothing { fitting LARGEST_SIZE bytes.now offset ≡ [] → IsOk result }
     {
@@ -326,16 +416,16 @@ impl Tree {
         }
     }
 
-    /// Cuts a file to a size, or adds zeros up to it. The file has to be stored, and no other cell
-    /// changes. Answers what takes the change back.
+    /// Cuts a file to a size, or adds zeros up to it. Its bytes have no time from then on. The file
+    /// has to be stored, and no other cell changes. Answers what takes the change back.
     ///
     /// Refuses want of memory, and then nothing has changed. A file that has the size already takes
     /// none.
-    pub fn set_size(&mut self, file: HintedFile, size: u64) -> Result<BodyUndo, Memory>
+    pub fn set_size(&mut self, file: HintedFile, size: u64) -> Result<FileUndo, Memory>
         requires place { HasFilePlace self.old file }
         requires limit { size ≤ LARGEST_SIZE }
-        ensures ok { OnOk result (self.new ≡ put_bytes self.old file (resized (bytes_of self.old file) size)) }
-        ensures undo { IfOk result (λ undo. undo ≡ record { before = bytes_of self.old file; after = bytes_of self.new file }) }
+        ensures ok { OnOk result (self.new ≡ put_contents self.old file (untimed (resized (bytes_of self.old file) size))) }
+        ensures undo { IfOk result (λ undo. undo ≡ record { before = contents_of self.old file; after = contents_of self.new file }) }
         ensures err { OnErr result (self.new ≡ self.old) }
         ensures same { length (bytes_of self.old file) ≡ size → IsOk result }
     {
@@ -349,12 +439,11 @@ impl Tree {
         }
     }
 
-    /// Takes a change of a file's bytes back, where they are as the change left them. Takes no
-    /// memory.
-    pub fn undo_bytes(&mut self, file: u64, undo: BodyUndo)
+    /// Takes a change of a file's bytes back, where it holds what the change left. Takes no memory.
+    pub fn undo_bytes(&mut self, file: u64, undo: FileUndo)
         requires place { HasFilePlace self.old file }
-        requires left { bytes_of self.old file ≡ undo.after }
-        ensures { self.new ≡ put_bytes self.old file undo.before }
+        requires left { contents_of self.old file ≡ undo.after }
+        ensures { self.new ≡ put_contents self.old file undo.before }
     {
         self.near = self
             .inodes
@@ -389,9 +478,9 @@ impl Tree {
         self.opens.set(fd, to, self.near)
     }
 
-    /// Takes the place of a cell away, with all that stands in it: a directory's with its entries,
-    /// and a file's with its links and bytes. The names of a directory have no place of their own.
-    /// That the tree stays one is the caller's part.
+    /// Takes the place of a cell away, with all that stands in it: a directory's with its
+    /// attributes and entries, and a file's with its links, attributes and bytes. The names of a
+    /// directory have no place of their own. That the tree stays one is the caller's part.
     pub fn drop_place(&mut self, cell: &Cell)
         ensures { self.new ≡ without_place self.old cell.now }
     {
@@ -402,10 +491,10 @@ impl Tree {
                 }
             }
             Cell::Names(_) => {}
-            Cell::Parent(dir) => {
+            Cell::Parent(dir) | Cell::DirAttributes(dir) => {
                 self.inodes.drop_directory(*dir);
             }
-            Cell::Links(file) | Cell::Bytes(file) => {
+            Cell::Links(file) | Cell::Bytes(file) | Cell::FileAttributes(file) => {
                 self.inodes.drop_file(*file);
                 self.opens.forget(*file);
             }
@@ -418,10 +507,10 @@ impl Tree {
     /// Drops the places that are of no use any more and that nobody keeps, where they are those of
     /// cells that were let go: of entries and descriptors the empty ones, of directories those that
     /// are not there and have no place of an entry, and of files those that neither an entry nor a
-    /// description names. A directory's place is kept while one of its entries' places is, and a
-    /// file's while its links or its bytes are. The tree stays what it is. Answers how many places
-    /// it dropped, or the largest number where there were more. Takes no memory, and the time of
-    /// what was let go.
+    /// description names. A directory's place is kept while its attributes or one of its entries'
+    /// places are, and a file's while its links, its attributes or its bytes are. The tree stays
+    /// what it is. Answers how many places it dropped, or the largest number where there were more.
+    /// Takes no memory, and the time of what was let go.
     ///
     /// POSIX.1-2017, System Interfaces, unlink and close: a file that no name and no description
     /// leads to is gone.
@@ -485,6 +574,8 @@ impl Tree {
             Cell::Links(file) => self.is_dead_file(*file),
             Cell::Bytes(file) => self.is_dead_file(*file),
             Cell::Fd(fd) => self.is_empty_descriptor(*fd),
+            Cell::DirAttributes(dir) => self.is_bare_dir(*dir),
+            Cell::FileAttributes(file) => self.is_dead_file(*file),
         }
     }
 
@@ -542,8 +633,9 @@ impl Tree {
     }
 
     /// What the tree holds: the directories by number, then the entries by directory and name, the
-    /// names by their bytes, then the files by number and the open descriptors by theirs. Empty
-    /// places, and files that nothing names, are left out. Refuses want of memory.
+    /// names by their bytes, then the files by number, what is kept of attributes, of directories
+    /// and then of files by number, the times of files by number, and the open descriptors by
+    /// theirs. Empty places, and files that nothing names, are left out. Refuses want of memory.
     ///
     /// The order is a rule of this project.
     pub fn rows(&self) -> Result<Vec<TreeRow>, Memory>
@@ -553,6 +645,9 @@ impl Tree {
         push_dirs(&mut rows, &self.inodes)?;
         push_edges(&mut rows, &self.inodes)?;
         push_files(&mut rows, &self.inodes, &self.opens)?;
+        push_dir_attributes(&mut rows, &self.inodes)?;
+        push_file_attributes(&mut rows, &self.inodes, &self.opens)?;
+        push_times(&mut rows, &self.inodes, &self.opens)?;
         push_opens(self.alloc, &mut rows, self.opens.places())?;
         Ok(rows)
     }
@@ -593,6 +688,27 @@ impl Tree {
         ensures { result ≡ parent_of self.now dir }
     {
         self.inodes.directory(dir, near)?.parent()
+    }
+
+    /// What `dir_attributes` answers, where the directory may stand at `near`.
+    pub(crate) fn dir_attributes_near(&self, dir: u64, near: Hint) -> Option<Attributes>
+        ensures { result ≡ dir_attributes_of self.now dir }
+    {
+        self.inodes.directory(dir, near)?.attributes()
+    }
+
+    /// What `file_attributes` answers, where the file may stand at `near`.
+    pub(crate) fn file_attributes_near(&self, file: u64, near: Hint) -> Option<Attributes>
+        ensures { result ≡ file_attributes_of self.now file }
+    {
+        self.inodes.file(file, near)?.attributes()
+    }
+
+    /// What `time` answers, where the file may stand at `near`.
+    pub(crate) fn time_near(&self, file: u64, near: Hint) -> Option<Timestamp>
+        ensures { result ≡ time_of self.now file }
+    {
+        self.inodes.file(file, near)?.time()
     }
 
     /// What `links` answers, where the file may stand at `near`.
@@ -675,11 +791,16 @@ fn keeps_place<K: Keeps>(keeps: &K, cell: &Cell) -> bool
     ensures { result ≡ at_place (K.kept keeps.now) cell.now }
 {
     match cell {
-        Cell::Entry(_) => keeps.keeps(cell),
-        Cell::Names(dir) => keeps.keeps(cell) || keeps.keeps(&Cell::Parent(*dir)),
-        Cell::Parent(dir) => keeps.keeps(&Cell::Names(*dir)) || keeps.keeps(cell),
-        Cell::Links(file) => keeps.keeps(cell) || keeps.keeps(&Cell::Bytes(*file)),
-        Cell::Bytes(file) => keeps.keeps(&Cell::Links(*file)) || keeps.keeps(cell),
-        Cell::Fd(_) => keeps.keeps(cell),
+        Cell::Entry(_) | Cell::Fd(_) => keeps.keeps(cell),
+        Cell::Names(dir) | Cell::Parent(dir) | Cell::DirAttributes(dir) => {
+            keeps.keeps(&Cell::Names(*dir))
+                || keeps.keeps(&Cell::Parent(*dir))
+                || keeps.keeps(&Cell::DirAttributes(*dir))
+        }
+        Cell::Links(file) | Cell::Bytes(file) | Cell::FileAttributes(file) => {
+            keeps.keeps(&Cell::Links(*file))
+                || keeps.keeps(&Cell::Bytes(*file))
+                || keeps.keeps(&Cell::FileAttributes(*file))
+        }
     }
 }

@@ -7,10 +7,10 @@ use Rattle.ft_cells.specs.declared.cell.Cell.{Cell}
 use Rattle.ft_cells.specs.declared.cell.Cell.TheVariants as cell
 use Rattle.std.specs.Cmp.{eq_by_cmp_equiv}
 use Rattle.ft_cells.specs.CellOrder.{cell_cmp_total, same_cell}
-use Rattle.ft_cells.specs.Cells.{Cells, DirCells, FileCells, no_dir, no_file, entry_of, parent_of, links_of, bytes_of, open_of}
+use Rattle.ft_cells.specs.Cells.{Cells, DirCells, FileCells, no_dir, no_file, entry_of, parent_of, links_of, contents_of, open_of, dir_attributes_of, file_attributes_of}
 use Rattle.ft_tree.specs.Held.{Holds, held, place_at, IsStored}
 use Rattle.ft_posix.specs.declared.intent.Edit.{Edit}
-use Rattle.ft_posix.specs.declared.intent.Edit.TheVariants.{Entry, Parent, Links, Overwrite, Resize, Open}
+use Rattle.ft_posix.specs.declared.intent.Edit.TheVariants.{Entry, Parent, Links, Overwrite, Resize, Open, DirAttributes, FileAttributes, Time}
 use Rattle.ft_posix.specs.Outcomes.{Write, sets}
 use Rattle.ft_posix.specs.Accesses.{written_cell}
 use Rattle.ft_posix.specs.Stored.{put}
@@ -28,9 +28,12 @@ abbrev pub was_in : Cells → Edit → Write
 was_in s (Entry entry to) = sets (cell.Entry entry) (entry_of s entry.dir entry.name)
 was_in s (Parent d to) = sets (cell.Parent d) (parent_of s d)
 was_in s (Links i to) = sets (cell.Links i) (links_of s i)
-was_in s (Overwrite i at bytes) = sets (cell.Bytes i) (bytes_of s i)
-was_in s (Resize i size) = sets (cell.Bytes i) (bytes_of s i)
+was_in s (Overwrite i at bytes) = sets (cell.Bytes i) (contents_of s i)
+was_in s (Resize i size) = sets (cell.Bytes i) (contents_of s i)
 was_in s (Open f to) = sets (cell.Fd f) (open_of s f)
+was_in s (DirAttributes d to) = sets (cell.DirAttributes d) (dir_attributes_of s d)
+was_in s (FileAttributes i to) = sets (cell.FileAttributes i) (file_attributes_of s i)
+was_in s (Time i to) = sets (cell.Bytes i) (contents_of s i)
 
 parent-place : (o : Option DirCells) → option_flatten (option_map (λ (x : DirCells). x.parent) o) ≡ (unwrap_or o no_dir).parent
 parent-place None = refl
@@ -47,6 +50,9 @@ back-was s (Links i to) = ap (sets (cell.Links i)) (links-place (get s.files i))
 back-was s (Overwrite i at bytes) = refl
 back-was s (Resize i size) = refl
 back-was s (Open f to) = refl
+back-was s (DirAttributes d to) = refl
+back-was s (FileAttributes i to) = refl
+back-was s (Time i to) = refl
 
 back-cell : (s : Cells) (e : Edit) → written_cell (given_back (back_of s e)) ≡ edit_cell e
 back-cell s (Entry entry to) = refl
@@ -55,6 +61,9 @@ back-cell s (Links i to) = refl
 back-cell s (Overwrite i at bytes) = refl
 back-cell s (Resize i size) = refl
 back-cell s (Open f to) = refl
+back-cell s (DirAttributes d to) = refl
+back-cell s (FileAttributes i to) = refl
+back-cell s (Time i to) = refl
 
 -- the value that a cell had depends on it alone
 was-same : (s t : Cells) (e : Edit) → held s (edit_cell e) ≡ held t (edit_cell e) → was_in s e ≡ was_in t e
@@ -64,6 +73,9 @@ was-same s t (Links i to) h = ap (sets (cell.Links i)) h
 was-same s t (Overwrite i at bytes) h = ap (sets (cell.Bytes i)) h
 was-same s t (Resize i size) h = ap (sets (cell.Bytes i)) h
 was-same s t (Open f to) h = ap (sets (cell.Fd f)) h
+was-same s t (DirAttributes d to) h = ap (sets (cell.DirAttributes d)) h
+was-same s t (FileAttributes i to) h = ap (sets (cell.FileAttributes i)) h
+was-same s t (Time i to) h = ap (sets (cell.Bytes i)) h
 
 -- each of them holds what it held
 pub same-on : (s : Cells) (es : List Edit) → SameOn s s es
@@ -78,6 +90,9 @@ write-cell s (Links i to) = refl
 write-cell s (Overwrite i at bytes) = refl
 write-cell s (Resize i size) = refl
 write-cell s (Open f to) = refl
+write-cell s (DirAttributes d to) = refl
+write-cell s (FileAttributes i to) = refl
+write-cell s (Time i to) = refl
 
 pub written-edits : (s : Cells) (es : List Edit) → map written_cell (writes_of s es) ≡ map edit_cell es
 written-edits s [] = refl
@@ -99,6 +114,9 @@ was-before cells (Links i to) = refl
 was-before cells (Overwrite i at bytes) = refl
 was-before cells (Resize i size) = refl
 was-before cells (Open f to) = refl
+was-before cells (DirAttributes d to) = refl
+was-before cells (FileAttributes i to) = refl
+was-before cells (Time i to) = refl
 
 was-all : (cells : Cells) (es : List Edit) → map (was_in cells) es ≡ before posix cells (writes_of cells es)
 was-all cells [] = refl
@@ -112,10 +130,13 @@ undo-before editing cells es apart = backs-before editing cells cells es apart (
 same_cell-sym : (x y : Cell) → same_cell x y ≡ same_cell y x
 same_cell-sym = (eq_by_cmp_equiv cell_cmp_total).symm
 
--- the bytes of a stored file stand in its place
-body-there : (o : Option FileCells) → IsSome o → option_map (λ (x : FileCells). x.bytes) o ≡ Some (unwrap_or o no_file).bytes
-body-there None h = absurd (false≢true h)
-body-there (Some x) h = refl
+-- what is stored of a file, or a directory, stands in its place
+stored-there : {A B : Type 0} (f : A → B) (none : A) (o : Option A) → IsSome o → option_map f o ≡ Some (f (unwrap_or o none))
+stored-there f none None h = absurd (false≢true h)
+stored-there f none (Some x) h = refl
+
+contents-there : (o : Option FileCells) → IsSome o → option_map (λ (x : FileCells). x.contents) o ≡ Some (unwrap_or o no_file).contents
+contents-there o h = stored-there (λ (x : FileCells). x.contents) no_file o h
 
 module _ (setting : SettingLaw) where
   -- a write keeps every place
@@ -136,6 +157,9 @@ module _ (setting : SettingLaw) where
   give-put t w s (Overwrite i at bytes) h can = (stays t w (cell.Bytes i) can.0, put-kept t w (cell.Bytes i) h ∙ can.1)
   give-put t w s (Resize i size) h can = (stays t w (cell.Bytes i) can.0, put-kept t w (cell.Bytes i) h ∙ can.1)
   give-put t w s (Open f to) h can = stays t w (cell.Fd f) can
+  give-put t w s (DirAttributes d to) h can = stays t w (cell.DirAttributes d) can
+  give-put t w s (FileAttributes i to) h can = stays t w (cell.FileAttributes i) can
+  give-put t w s (Time i to) h can = (stays t w (cell.Bytes i) can.0, put-kept t w (cell.Bytes i) h ∙ can.1)
 
   -- an edit that was made can be taken back
   pub give-edited : (s : Cells) (e : Edit) → CanEdit s e → CanGiveBack (put s (write_of s e)) (back_of s e)
@@ -145,6 +169,9 @@ module _ (setting : SettingLaw) where
   give-edited s (Overwrite i at bytes) can = (setting.stored s (cell.Bytes i) _ can.0, setting.written s (cell.Bytes i) _)
   give-edited s (Resize i size) can = (setting.stored s (cell.Bytes i) _ can.0, setting.written s (cell.Bytes i) _)
   give-edited s (Open f to) can = setting.stored s (cell.Fd f) to tt
+  give-edited s (DirAttributes d to) can = setting.stored s (cell.DirAttributes d) to can
+  give-edited s (FileAttributes i to) can = setting.stored s (cell.FileAttributes i) to can
+  give-edited s (Time i to) can = (setting.stored s (cell.Bytes i) _ can, setting.written s (cell.Bytes i) _)
 
   -- what was edited has its place
   stored-edit : (s : Cells) (e : Edit) → CanEdit s e → IsStored (put s (write_of s e)) (edit_cell e)
@@ -154,6 +181,9 @@ module _ (setting : SettingLaw) where
   stored-edit s (Overwrite i at bytes) can = setting.stored s (cell.Bytes i) _ can.0
   stored-edit s (Resize i size) can = setting.stored s (cell.Bytes i) _ can.0
   stored-edit s (Open f to) can = setting.stored s (cell.Fd f) to tt
+  stored-edit s (DirAttributes d to) can = setting.stored s (cell.DirAttributes d) to can
+  stored-edit s (FileAttributes i to) can = setting.stored s (cell.FileAttributes i) to can
+  stored-edit s (Time i to) can = setting.stored s (cell.Bytes i) _ can
 
   stays-edited : (s : Cells) (es : List Edit) (c : Cell) → IsStored s c → IsStored (edited s es) c
   stays-edited s [] c h = h
@@ -188,6 +218,9 @@ module _ (setting : SettingLaw) where
   give-left t s (Overwrite i at bytes) stored h = (stored, h ∙ setting.written s (cell.Bytes i) _)
   give-left t s (Resize i size) stored h = (stored, h ∙ setting.written s (cell.Bytes i) _)
   give-left t s (Open f to) stored h = stored
+  give-left t s (DirAttributes d to) stored h = stored
+  give-left t s (FileAttributes i to) stored h = stored
+  give-left t s (Time i to) stored h = (stored, h ∙ setting.written s (cell.Bytes i) _)
 
   pub as-left : (t s : Cells) (es : List Edit) → Apart es → AreAsLeft t (edited s es) (map edit_cell es) → IsLeft t s es
   as-left t s [] apart h = tt
@@ -214,13 +247,16 @@ module _ (setting : SettingLaw) (restoring : RestoringLaw) where
       by_place : (p : Option ℕ) → place_at s (cell.Links i) ≡ p → restore (put s (sets (cell.Links i) to)) (back.Links i p) ≡ s
       by_place None is = restoring.new s (cell.Links i) to tt is
       by_place (Some was) is = restoring.again s (cell.Links i) to was is
-  restore-edit s (Overwrite i at bytes) can = restoring.again s (cell.Bytes i) _ (bytes_of s i) (body-there (get s.files i) can.0)
-  restore-edit s (Resize i size) can = restoring.again s (cell.Bytes i) _ (bytes_of s i) (body-there (get s.files i) can.0)
+  restore-edit s (Overwrite i at bytes) can = restoring.again s (cell.Bytes i) _ (contents_of s i) (contents-there (get s.files i) can.0)
+  restore-edit s (Resize i size) can = restoring.again s (cell.Bytes i) _ (contents_of s i) (contents-there (get s.files i) can.0)
   restore-edit s (Open f to) can = by_place (place_at s (cell.Fd f)) refl
     where
       by_place : (p : Option (Holds (cell.Fd f))) → place_at s (cell.Fd f) ≡ p → restore (put s (sets (cell.Fd f) to)) (back.Open f p) ≡ s
       by_place None is = restoring.new s (cell.Fd f) to tt is
       by_place (Some was) is = restoring.again s (cell.Fd f) to was is
+  restore-edit s (DirAttributes d to) can = restoring.again s (cell.DirAttributes d) to (dir_attributes_of s d) (stored-there (λ (x : DirCells). x.attributes) no_dir (get s.directories d) can)
+  restore-edit s (FileAttributes i to) can = restoring.again s (cell.FileAttributes i) to (file_attributes_of s i) (stored-there (λ (x : FileCells). x.attributes) no_file (get s.files i) can)
+  restore-edit s (Time i to) can = restoring.again s (cell.Bytes i) _ (contents_of s i) (contents-there (get s.files i) can)
 
   -- and all of them, the last one first
   pub restored-edited : (s : Cells) (es : List Edit) → CanEditAll s es → restored (edited s es) (backs_of s es) ≡ s

@@ -7,10 +7,10 @@ use Rattle.ft_body.specs.declared.TheConstants.{LARGEST_SIZE}
 use Rattle.ft_body.specs.Bytes.{fitting, written, resized}
 use Rattle.ft_cells.specs.declared.cell.Cell.{Cell}
 use Rattle.ft_cells.specs.declared.cell.Cell.TheVariants as cell
-use Rattle.ft_cells.specs.Cells.{Cells, bytes_of, put_entry, put_parent, put_links, put_bytes, put_open, HasDirPlace, HasEntryPlace, HasFilePlace, HasOpenPlace}
+use Rattle.ft_cells.specs.Cells.{Cells, untimed, timed, contents_of, bytes_of, dir_attributes_of, file_attributes_of, put_entry, put_parent, put_links, put_contents, put_open, put_dir_attributes, put_file_attributes, HasDirPlace, HasEntryPlace, HasFilePlace, HasOpenPlace}
 use Rattle.ft_tree.specs.Held.{held, place_at, without_place, IsStored}
 use Rattle.ft_posix.specs.declared.intent.Edit.{Edit}
-use Rattle.ft_posix.specs.declared.intent.Edit.TheVariants.{Entry, Parent, Links, Overwrite, Resize, Open}
+use Rattle.ft_posix.specs.declared.intent.Edit.TheVariants.{Entry, Parent, Links, Overwrite, Resize, Open, DirAttributes, FileAttributes, Time}
 use Rattle.ft_posix.specs.Outcomes.{Write, sets}
 use Rattle.ft_posix.specs.Stored.{put}
 use Rattle.ft_posix.specs.Comes.{write_of}
@@ -19,14 +19,17 @@ use Rattle.ft_undo.specs.declared.undo.Back.{Back}
 use Rattle.ft_undo.specs.declared.undo.Back.TheVariants as back
 
 -- what takes an edit back: the cell, and what stood in its place before, or nothing where the
--- place was new; of bytes those before the change and after it
+-- place was new; of what a file holds that before the change and after it
 abbrev pub back_of : Cells → Edit → Back
 back_of cells (Entry entry to) = back.Entry entry (place_at cells (cell.Entry entry))
 back_of cells (Parent d to) = back.Parent d (place_at cells (cell.Parent d))
 back_of cells (Links i to) = back.Links i (place_at cells (cell.Links i))
-back_of cells (Overwrite i at bytes) = back.Bytes i (record { before = bytes_of cells i; after = written (bytes_of cells i) at (fitting LARGEST_SIZE bytes.now at) })
-back_of cells (Resize i size) = back.Bytes i (record { before = bytes_of cells i; after = resized (bytes_of cells i) size })
+back_of cells (Overwrite i at bytes) = back.Bytes i (record { before = contents_of cells i; after = untimed (written (bytes_of cells i) at (fitting LARGEST_SIZE bytes.now at)) })
+back_of cells (Resize i size) = back.Bytes i (record { before = contents_of cells i; after = untimed (resized (bytes_of cells i) size) })
 back_of cells (Open f to) = back.Open f (place_at cells (cell.Fd f))
+back_of cells (DirAttributes d to) = back.DirAttributes d (dir_attributes_of cells d)
+back_of cells (FileAttributes i to) = back.FileAttributes i (file_attributes_of cells i)
+back_of cells (Time i to) = back.Time i (record { before = contents_of cells i; after = timed (contents_of cells i) to })
 
 -- what takes each of the edits back, as each is made on the cells after those before it
 abbrev pub backs_of : Cells → List Edit → List Back
@@ -40,15 +43,21 @@ given_back (back.Parent d was) = sets (cell.Parent d) (option_flatten was)
 given_back (back.Links i was) = sets (cell.Links i) (unwrap_or was 0)
 given_back (back.Bytes i change) = sets (cell.Bytes i) change.before
 given_back (back.Open f was) = sets (cell.Fd f) (option_flatten was)
+given_back (back.DirAttributes d was) = sets (cell.DirAttributes d) was
+given_back (back.FileAttributes i was) = sets (cell.FileAttributes i) was
+given_back (back.Time i change) = sets (cell.Bytes i) change.before
 
--- where that write may be made: the cell has its place, and a file's
--- bytes are as the change left them
+-- where that write may be made: the cell has its place, and a file
+-- holds what the change left
 abbrev pub CanGiveBack : Cells → Back → Type 0
 CanGiveBack cells (back.Entry entry was) = HasEntryPlace cells entry.dir entry.name × HasDirPlace cells entry.dir
 CanGiveBack cells (back.Parent d was) = HasDirPlace cells d
 CanGiveBack cells (back.Links i was) = HasFilePlace cells i
-CanGiveBack cells (back.Bytes i change) = HasFilePlace cells i × (bytes_of cells i ≡ change.after)
+CanGiveBack cells (back.Bytes i change) = HasFilePlace cells i × (contents_of cells i ≡ change.after)
 CanGiveBack cells (back.Open f was) = HasOpenPlace cells f
+CanGiveBack cells (back.DirAttributes d was) = HasDirPlace cells d
+CanGiveBack cells (back.FileAttributes i was) = HasFilePlace cells i
+CanGiveBack cells (back.Time i change) = HasFilePlace cells i × (contents_of cells i ≡ change.after)
 
 -- where all of them may be made, one after another
 abbrev pub CanGiveAllBack : Cells → List Back → Type 0
@@ -64,9 +73,12 @@ restore cells (back.Parent d None) = without_place cells (cell.Parent d)
 restore cells (back.Parent d (Some was)) = put_parent cells d was
 restore cells (back.Links i None) = without_place cells (cell.Links i)
 restore cells (back.Links i (Some was)) = put_links cells i was
-restore cells (back.Bytes i change) = put_bytes cells i change.before
+restore cells (back.Bytes i change) = put_contents cells i change.before
 restore cells (back.Open f None) = without_place cells (cell.Fd f)
 restore cells (back.Open f (Some was)) = put_open cells f was
+restore cells (back.DirAttributes d was) = put_dir_attributes cells d was
+restore cells (back.FileAttributes i was) = put_file_attributes cells i was
+restore cells (back.Time i change) = put_contents cells i change.before
 
 -- all of them are taken back, the last one first
 abbrev pub restored : Cells → List Back → Cells

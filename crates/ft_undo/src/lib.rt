@@ -3,8 +3,10 @@
 
 mod action;
 mod logs;
+mod time_undo;
 mod undo;
 
 pub use action::perform;
 pub use logs::{Logged, Logs};
+pub use time_undo::TimeUndo;
 pub use undo::{Back, Undo, apply, revert};

@@ -2,17 +2,20 @@
 ghost use Rattle.std.specs.Prelude.{◌≡◌, [], length, map, IfOk, OnOk, OnErr};
 ghost use Rattle.ft_posix.specs.Stored.{put, put_all};
 ghost use Rattle.ft_laws.specs.Effects.{before};
-ghost use Rattle.ft_cells.specs.Cells.{Cells};
+ghost use Rattle.ft_cells.specs.Cells.{Cells, contents_of, timed, put_dir_attributes, put_file_attributes, put_contents, HasDirPlace, HasFilePlace};
+ghost use Rattle.ft_posix.specs.declared.intent.Edit.TheVariants.{DirAttributes, FileAttributes, Time};
 ghost use Rattle.ft_posix.specs.Accesses.{written_cell};
 ghost use Rattle.ft_posix.specs.Posix.{posix};
 ghost use Rattle.ft_posix.specs.Comes.{write_of, writes_of};
 ghost use Rattle.ft_posix.specs.Edits.{CanEdit, CanEditAll, Apart};
 ghost use Rattle.ft_undo.specs.Undone.{back_of, given_back, restore, restored, CanGiveBack, CanGiveAllBack, CanRestoreAll, AreAsLeft, IsApplied};
 
+use crate::time_undo::TimeUndo;
 use ft_base::Memory;
-use ft_body::BodyUndo;
 use ft_calls::{Edit, Edits, Intent};
-use ft_tree::{Cell, Entry, Node, OpenFile, Tree};
+use ft_tree::{
+    Attributes, Cell, Entry, FileUndo, HintedFile, Node, OpenFile, Rare, Timestamp, Tree,
+};
 use std::alloc::Global;
 use std::marker::Model;
 
@@ -34,15 +37,30 @@ pub enum Back {
         file: u64,
         was: Option<u64>,
     },
-    /// What a change of a file's bytes destroyed.
+    /// What a change of a file's bytes destroyed, with the time that they had.
     Bytes {
         file: u64,
-        undo: BodyUndo,
+        undo: FileUndo,
     },
     /// The open file description of a descriptor.
     Open {
         fd: u64,
         was: Option<Option<OpenFile>>,
+    },
+    /// What was kept of a directory's attributes.
+    DirAttributes {
+        dir: u64,
+        was: Rare<Attributes>,
+    },
+    /// What was kept of a file's attributes.
+    FileAttributes {
+        file: u64,
+        was: Rare<Attributes>,
+    },
+    /// The time that a file's bytes had.
+    Time {
+        file: u64,
+        undo: TimeUndo,
     },
 }
 
@@ -189,7 +207,43 @@ fn set(tree: &mut Tree, edit: Edit<'_>) -> Result<Back, Memory>
             let was = tree.set_open_file(fd, to)?;
             Ok(Back::Open { fd, was })
         }
+        Edit::DirAttributes { dir, to } => Ok(set_dir_attributes(tree, dir, to)),
+        Edit::FileAttributes { file, to } => Ok(set_file_attributes(tree, file, to)),
+        Edit::Time { file, to } => Ok(set_time(tree, file, to)),
     }
+}
+
+/// Sets what is kept of a directory's attributes, and answers what takes that back. Takes no
+/// memory.
+fn set_dir_attributes(tree: &mut Tree, dir: u64, to: Rare<Attributes>) -> Back
+    requires { HasDirPlace tree.old dir }
+    ensures after { tree.new ≡ put_dir_attributes tree.old dir to }
+    ensures back { result ≡ back_of tree.old (DirAttributes dir to) }
+{
+    let was = tree.set_dir_attributes(dir, to);
+    Back::DirAttributes { dir, was }
+}
+
+/// Sets what is kept of a file's attributes, and answers what takes that back. Takes no memory.
+fn set_file_attributes(tree: &mut Tree, file: HintedFile, to: Rare<Attributes>) -> Back
+    requires { HasFilePlace tree.old file }
+    ensures after { tree.new ≡ put_file_attributes tree.old file to }
+    ensures back { result ≡ back_of tree.old (FileAttributes file to) }
+{
+    let number = file.number();
+    let was = tree.set_file_attributes(file, to);
+    Back::FileAttributes { file: number, was }
+}
+
+/// Sets the time of a file's bytes, and answers what takes that back. Takes no memory.
+fn set_time(tree: &mut Tree, file: HintedFile, to: Rare<Timestamp>) -> Back
+    requires { HasFilePlace tree.old file }
+    ensures after { tree.new ≡ put_contents tree.old file (timed (contents_of tree.old file) to) }
+    ensures back { result ≡ back_of tree.old (Time file to) }
+{
+    let number = file.number();
+    let undo = TimeUndo::set(tree, file, to);
+    Back::Time { file: number, undo }
 }
 
 /// Takes back all that is kept, the last edit first, and keeps nothing. Takes no memory.
@@ -217,6 +271,18 @@ fn give_back(tree: &mut Tree, back: Back)
             false
         }
         Back::Open { fd, was } => tree.set_open_file(fd, was.flatten()).is_err(),
+        Back::DirAttributes { dir, was } => {
+            tree.set_dir_attributes(dir, was);
+            false
+        }
+        Back::FileAttributes { file, was } => {
+            tree.set_file_attributes(HintedFile::new(file), was);
+            false
+        }
+        Back::Time { file, undo } => {
+            undo.take_back(tree, file);
+            false
+        }
     };
     if is_refused {
         unreachable!();
@@ -246,5 +312,8 @@ fn restore(tree: &mut Tree, back: Back)
             None => tree.drop_place(&Cell::Fd(fd)),
             Some(_) => give_back(tree, Back::Open { fd, was }),
         },
+        Back::DirAttributes { dir, was } => give_back(tree, Back::DirAttributes { dir, was }),
+        Back::FileAttributes { file, was } => give_back(tree, Back::FileAttributes { file, was }),
+        Back::Time { file, undo } => give_back(tree, Back::Time { file, undo }),
     }
 }

@@ -6,16 +6,16 @@ use Rattle.std.specs.FinMap as finite
 use Rattle.std.specs.FinSet as set
 use Rattle.std.specs.Ordering.{eq_by_cmp}
 use Rattle.ft_cells.specs.declared.cell.Cell.{Cell}
-use Rattle.ft_cells.specs.declared.cell.Cell.TheVariants.{Entry, Names, Parent, Links, Bytes, Fd}
+use Rattle.ft_cells.specs.declared.cell.Cell.TheVariants.{Entry, Names, Parent, Links, Bytes, Fd, DirAttributes, FileAttributes}
 use Rattle.ft_cells.specs.CellOrder.{cell_cmp, cell_cmp_total, cell_cmp_exact, same_cell, same_cell-is}
-use Rattle.ft_cells.specs.Cells.{Cells, FileCells, no_file, bytes_of}
+use Rattle.ft_cells.specs.Cells.{Cells, DirCells, FileCells, no_dir, no_file, dir_attributes_of, file_attributes_of, contents_of}
 use Rattle.ft_cells.proofs.Splits.{none-left, none-right, tied-itself}
 use Rattle.ft_tree.specs.Sound.{IsFree}
 use Rattle.ft_tree.specs.Sweep.{IsSwept, IsSweptClean, is_useless, is_spare, at_place}
 use Rattle.ft_posix.specs.declared.call.Access.{Access}
 use Rattle.ft_posix.specs.Leaving.{accesses_cell}
 use Rattle.ft_posix.specs.Posix.{as_place}
-use Rattle.ft_posix.proofs.Free.{made_free, no_parent, no_links, no_bytes, no_open, no_entry, no_file as no_description}
+use Rattle.ft_posix.proofs.Free.{made_free, no_parent, no_dir_attributes, no_links, no_file_attributes, no_contents_yet, no_open, no_entry, no_file as no_description}
 use Rattle.ft_view.specs.Cleared.{passed, is_met, DropsMet}
 
 -- the cell is among those to be told
@@ -49,17 +49,19 @@ taken-told old result new is gone =
     subst (λ (n : Option Cell). IfSome result (λ cell. passed n ≡ set.remove (passed old) cell)) (sym gone)
     (subst (λ (o : Option Cell). IfSome o (λ cell. passed None ≡ set.remove (passed old) cell)) (sym is) (told old))
 
--- a file that has no place has no bytes
-bytes-swept : (old : List ℕ) (file : Option FileCells) → old ≡ [] → (IsSome file → (unwrap_or file no_file).bytes ≡ old) → (unwrap_or file no_file).bytes ≡ []
-bytes-swept old None e same = refl
-bytes-swept old (Some f) e same = same refl ∙ e
+-- of what has no place nothing is stored
+still-none : {A B : Type 0} (what : A → B) (none : A) (place : Option A) (old : B) → old ≡ what none → (IsSome place → what (unwrap_or place none) ≡ old) → what (unwrap_or place none) ≡ what none
+still-none what none None old e same = refl
+still-none what none (Some x) old e same = same refl ∙ e
 
 -- a number that is free stays so in a sweep
 pub swept-free : (kept : Cell → Bool) (old new : Cells) → IsSwept kept old new → (k : ℕ) → IsFree old k → IsFree new k
 swept-free kept old new swept k free = made_free new k free.above_root
     (swept.parents k ∙ no_parent free)
+    (still-none (λ (d : DirCells). d.attributes) no_dir (finite.get new.directories k) (dir_attributes_of old k) (no_dir_attributes free) (swept.dir_attributes k))
     (swept.links k ∙ no_links free)
-    (bytes-swept (bytes_of old k) (finite.get new.files k) (no_bytes free) (swept.bytes k))
+    (still-none (λ (f : FileCells). f.attributes) no_file (finite.get new.files k) (file_attributes_of old k) (no_file_attributes free) (swept.file_attributes k))
+    (still-none (λ (f : FileCells). f.contents) no_file (finite.get new.files k) (contents_of old k) (no_contents_yet free) (swept.contents k))
     (swept.opens k ∙ no_open free)
     (λ d name x is. no_entry free d name x (sym (swept.entries d name) ∙ is))
     (λ f o is. no_description free f o (sym (swept.opens f) ∙ is))
@@ -70,13 +72,32 @@ or_more : (a b c d : Bool) → (a ≡ true → c ≡ true) → (b ≡ true → d
 or_more true b c d f g h = or_left c d (f refl)
 or_more false b c d f g h = or_right c d (g h)
 
+or_three : (a b c x y z : Bool) → (a ≡ true → x ≡ true) → (b ≡ true → y ≡ true) → (c ≡ true → z ≡ true) → (a || b || c) ≡ true → (x || y || z) ≡ true
+or_three a b c x y z f g h = or_more (a || b) c (x || y) z (or_more a b x y f g) h
+
+rest-dir : (p q r : Cell → Bool) → ((x : Cell) → q x ≡ false → p x ≡ true → r x ≡ true) → (d : ℕ) → at_place q (Names d) ≡ false → at_place p (Names d) ≡ true → at_place r (Names d) ≡ true
+rest-dir p q r f d n =
+    let first = none-left (q (Names d) || q (Parent d)) (q (DirAttributes d)) n in
+    or_three (p (Names d)) (p (Parent d)) (p (DirAttributes d)) (r (Names d)) (r (Parent d)) (r (DirAttributes d))
+    (f (Names d) (none-left (q (Names d)) (q (Parent d)) first)) (f (Parent d) (none-right (q (Names d)) (q (Parent d)) first))
+    (f (DirAttributes d) (none-right (q (Names d) || q (Parent d)) (q (DirAttributes d)) n))
+
+rest-file : (p q r : Cell → Bool) → ((x : Cell) → q x ≡ false → p x ≡ true → r x ≡ true) → (i : ℕ) → at_place q (Links i) ≡ false → at_place p (Links i) ≡ true → at_place r (Links i) ≡ true
+rest-file p q r f i n =
+    let first = none-left (q (Links i) || q (Bytes i)) (q (FileAttributes i)) n in
+    or_three (p (Links i)) (p (Bytes i)) (p (FileAttributes i)) (r (Links i)) (r (Bytes i)) (r (FileAttributes i))
+    (f (Links i) (none-left (q (Links i)) (q (Bytes i)) first)) (f (Bytes i) (none-right (q (Links i)) (q (Bytes i)) first))
+    (f (FileAttributes i) (none-right (q (Links i) || q (Bytes i)) (q (FileAttributes i)) n))
+
 rest-at : (p q r : Cell → Bool) → ((x : Cell) → q x ≡ false → p x ≡ true → r x ≡ true) → (c : Cell) → at_place q c ≡ false → at_place p c ≡ true → at_place r c ≡ true
 rest-at p q r f (Entry e) n h = f (Entry e) n h
-rest-at p q r f (Names d) n h = or_more (p (Names d)) (p (Parent d)) (r (Names d)) (r (Parent d)) (f (Names d) (none-left (q (Names d)) (q (Parent d)) n)) (f (Parent d) (none-right (q (Names d)) (q (Parent d)) n)) h
-rest-at p q r f (Parent d) n h = or_more (p (Names d)) (p (Parent d)) (r (Names d)) (r (Parent d)) (f (Names d) (none-left (q (Names d)) (q (Parent d)) n)) (f (Parent d) (none-right (q (Names d)) (q (Parent d)) n)) h
-rest-at p q r f (Links i) n h = or_more (p (Links i)) (p (Bytes i)) (r (Links i)) (r (Bytes i)) (f (Links i) (none-left (q (Links i)) (q (Bytes i)) n)) (f (Bytes i) (none-right (q (Links i)) (q (Bytes i)) n)) h
-rest-at p q r f (Bytes i) n h = or_more (p (Links i)) (p (Bytes i)) (r (Links i)) (r (Bytes i)) (f (Links i) (none-left (q (Links i)) (q (Bytes i)) n)) (f (Bytes i) (none-right (q (Links i)) (q (Bytes i)) n)) h
+rest-at p q r f (Names d) n h = rest-dir p q r f d n h
+rest-at p q r f (Parent d) n h = rest-dir p q r f d n h
+rest-at p q r f (Links i) n h = rest-file p q r f i n h
+rest-at p q r f (Bytes i) n h = rest-file p q r f i n h
 rest-at p q r f (Fd k) n h = f (Fd k) n h
+rest-at p q r f (DirAttributes d) n h = rest-dir p q r f d n h
+rest-at p q r f (FileAttributes i) n h = rest-file p q r f i n h
 
 one_rest : (a b : Bool) → a ≡ false → (a || b) ≡ true → b ≡ true
 one_rest true b f h = absurd (false≢true (sym f))
@@ -98,6 +119,8 @@ none_at (Parent d) = refl
 none_at (Links i) = refl
 none_at (Bytes i) = refl
 none_at (Fd f) = refl
+none_at (DirAttributes d) = refl
+none_at (FileAttributes i) = refl
 
 spare-of : (cells : Cells) (c : Cell) → is_useless cells c ≡ true → is_spare (λ _. false) cells c ≡ true
 spare-of cells c h = and_from (is_useless cells c) (not (at_place (λ _. false) c)) h (ap not (none_at c))

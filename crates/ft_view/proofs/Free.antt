@@ -1,7 +1,8 @@
 -- When a number is free in sound cells.
-use Rattle.std.proofs.Common.{◌≡◌, ◌≢◌, ◌≤◌, ℕ, Bool, true, false, cond, is_some, nat_lt, ◌||◌, ◌==◌, List, [], Option, Some, None, refl, sym, ◌∙◌, subst, eq-eqb, arith}
+use Rattle.std.proofs.Common.{◌≡◌, ◌≢◌, ◌≤◌, ℕ, Bool, true, false, cond, is_some, nat_lt, ◌||◌, ◌==◌, List, Option, Some, None, refl, sym, ap, ◌∙◌, subst, eq-eqb, arith}
 use Rattle.std.proofs.lemmas.Bool.{false≢true}
 use Rattle.std.proofs.lemmas.Bool.Decides.{nat_tests}
+use Rattle.ft_laws.proofs.Tests.{by_option}
 use Rattle.std.specs.FinMap as finite
 use Rattle.std.specs.Option.{option_map, unwrap_or}
 use Rattle.ft_cells.specs.declared.cell.Cell.TheVariants.{Entry, Fd}
@@ -9,7 +10,7 @@ use Rattle.ft_cells.specs.declared.node.Node.{Node}
 use Rattle.ft_cells.specs.declared.node.Node.TheVariants.{Dir as DirNode, File as FileNode}
 use Rattle.ft_cells.specs.declared.node.Kind.{Kind}
 use Rattle.ft_cells.specs.declared.open_file.OpenFile.{OpenFile}
-use Rattle.ft_cells.specs.Cells.{Cells, FileCells, no_file, entry_of, parent_of, links_of, body_in, open_of, has_dir, has_file, kind_of}
+use Rattle.ft_cells.specs.Cells.{Cells, FileCells, no_file, entry_of, parent_of, dir_attributes_of, links_of, body_in, open_of, has_dir, has_file, kind_of}
 use Rattle.ft_cells.specs.Nodes.{number_of}
 use Rattle.ft_tree.specs.Sound.{AreSoundCells, IsFree}
 use Rattle.ft_posix.specs.Posix.{node_names, description_names}
@@ -43,12 +44,14 @@ no_links n b e = by_count (nat_lt 0 n) refl e
     by_count true is e = absurd (false≢true (sym e))
     by_count false is e = grind (arith, nat_tests)
 
-no_bytes : (file : Option FileCells) → option_map (λ (f : FileCells). f.bytes) file ≡ None → (unwrap_or file no_file).bytes ≡ []
-no_bytes None e = refl
-no_bytes (Some f) e = absurd cc
+not_stored : (file : Option FileCells) → option_map (λ (f : FileCells). f.contents.bytes) file ≡ None → unwrap_or file no_file ≡ no_file
+not_stored None e = refl
+not_stored (Some f) e = absurd cc
 
 pub free_number : (cells : Cells) → AreSoundCells cells → (k : ℕ) → 2 ≤ k → kind_of cells k ≡ None → body_in cells k ≡ None → open_of cells k ≡ None → IsFree cells k
-free_number cells sound k above kind body closed = made_free cells k above parent (no_links (links_of cells k) _ file) (no_bytes (finite.get cells.files k) body) closed entries files
+free_number cells sound k above kind body closed =
+    let stored = not_stored (finite.get cells.files k) body in
+    made_free cells k above parent attributes (no_links (links_of cells k) _ file) (ap (λ (f : FileCells). f.attributes) stored) (ap (λ (f : FileCells). f.contents) stored) closed entries files
   where
     dir : has_dir cells k ≡ false
     dir = no_dir_there (has_dir cells k) (has_file cells k) _ _ kind
@@ -58,6 +61,9 @@ free_number cells sound k above kind body closed = made_free cells k above paren
 
     parent : parent_of cells k ≡ None
     parent = no_parent (k == 1) (parent_of cells k) (sym dir ∙ has_dir-parent cells sound.root_is k)
+
+    attributes : dir_attributes_of cells k ≡ None
+    attributes = by_option (dir_attributes_of cells k) (λ none. none) (λ a is. absurd (false≢true (sym dir ∙ sound.attributes k a is)))
 
     entries : (d : ℕ) (name : List ℕ) (x : Node) → entry_of cells d name ≡ Some x → number_of x ≢ k
     entries d name (DirNode i) is e = absurd (cc (sym parent ∙ subst (λ (j : ℕ). parent_of cells j ≡ Some d) e (sound.tree.leads d name i is)))

@@ -26,7 +26,7 @@ use Rattle.ft_posix.specs.declared.call.Call.TheVariants.{Read as ReadCall}
 use Rattle.ft_posix.specs.declared.call.Reply.{Reply}
 use Rattle.ft_posix.specs.declared.call.Reply.TheVariants.{Number, Bytes as BytesReply}
 use Rattle.ft_posix.specs.declared.intent.Edit.{Edit}
-use Rattle.ft_posix.specs.declared.intent.Edit.TheVariants.{Entry, Parent, Links, Overwrite, Resize, Open}
+use Rattle.ft_posix.specs.declared.intent.Edit.TheVariants.{Entry, Parent, Links, Overwrite, Resize, Open, DirAttributes, FileAttributes, Time}
 use Rattle.ft_posix.specs.declared.intent.Told.{Told}
 use Rattle.ft_posix.specs.declared.intent.Intent.{Intent}
 use Rattle.ft_posix.specs.Comes.{reply_of, writes_of, outcome_of}
@@ -43,7 +43,7 @@ use Rattle.ft_view.specs.Reading.{open_to_read, read_whole, contents_on, opened_
 
 -- the flags of an Open for reading
 abbrev flags : OpenFlags
-flags = record { access = ReadOnly; create = false; excl = false; trunc = false; append = false }
+flags = record { access = ReadOnly; create = false; excl = false; trunc = false; append = false; mode = None }
 
 -- an Open for reading fails, or opens one file
 abbrev Opens : ℕ → Outcome → Type 0
@@ -72,6 +72,8 @@ opened_by (cell.Links i) to = None
 opened_by (cell.Bytes i) to = None
 opened_by (cell.Fd f) None = None
 opened_by (cell.Fd f) (Some o) = Some o.file
+opened_by (cell.DirAttributes d) to = None
+opened_by (cell.FileAttributes i) to = None
 
 abbrev first_opened : List Write → Option ℕ
 first_opened [] = None
@@ -91,6 +93,9 @@ opened_alike cells (Overwrite i at bytes ∷ es) = refl
 opened_alike cells (Resize i size ∷ es) = refl
 opened_alike cells (Open f None ∷ es) = refl
 opened_alike cells (Open f (Some o) ∷ es) = refl
+opened_alike cells (DirAttributes d to ∷ es) = refl
+opened_alike cells (FileAttributes i to ∷ es) = refl
+opened_alike cells (Time i to ∷ es) = refl
 
 told_alike : (cells : Cells) (file : Option ℕ) (told : Told) → reply_of cells (whole_told file told) ≡ through cells file (reply_of cells told)
 told_alike cells None told = refl

@@ -19,9 +19,9 @@ use Rattle.ft_view.specs.declared.answering.Question.{Question}
 use Rattle.ft_view.specs.declared.answering.Question.TheVariants.{Stat, Lstat, Link, List as ListDir, File}
 use Rattle.ft_view.specs.Replay.{reply_on}
 
--- the call that opens a file for reading, with no flag
+-- the call that opens a file for reading, with no flag and no mode
 abbrev pub open_to_read : List ℕ → Call
-open_to_read path = OpenCall path ReadOnly false false false false
+open_to_read path = OpenCall path ReadOnly false false false false None
 
 -- what a `read` of as many bytes as a file may have replies after an `open` that has replied
 -- this, or the error of the `open`

@@ -79,6 +79,7 @@ fn contents(alloc: Global, tree: &Tree, path: &FilePath) -> Result<Reply, Memory
         excl: false,
         trunc: false,
         append: false,
+        mode: None,
     };
     let Prepared {
         accesses: _,

@@ -54,7 +54,7 @@ fn make<J: Sharing, R: Wait>(
         let text = format!(in alloc; "/{number}")?;
         let path = FilePath::new(alloc, text.as_bytes())?;
         let txn = shared.begin(rt)?;
-        let _ = shared.ask(rt, txn, Call::Mkdir { path })?;
+        let _ = shared.ask(rt, txn, Call::Mkdir { path, mode: None })?;
         shared.commit(rt, txn)?;
         if counts.publishes_at(number + 1) {
             shared.publish(rt)?;

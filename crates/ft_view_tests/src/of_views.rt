@@ -174,6 +174,8 @@ impl Steps for LearntByAnother {
             number: 2,
             links: 1,
             size: 0,
+            attributes: None,
+            time: None,
         };
         let told = another.stat(&path) == Ok((3, info));
         let read = another.read_file(&path) == Ok((3, Reply::Failed(Errno::EISDIR)));
@@ -327,7 +329,7 @@ fn views_right_after_a_checkpoint(rt: HostRuntime) -> Result<(), Fail> {
     Ok(())
 }
 
-/// A file with two bytes is published and read, and a symbolic link to it.
+/// A file with two bytes, a mode and a time is published and read, and a symbolic link to it.
 struct FileRead;
 
 impl Steps for FileRead {
@@ -346,18 +348,24 @@ impl Steps for FileRead {
                 Line::Symlink(1, b"f".as_slice(), b"/l".as_slice()),
                 Wanted::Done(4),
             ),
+            (Line::Chmod(1, 0o600, b"/l".as_slice()), Wanted::Done(5)),
+            (Line::Futime(1, 2, 9), Wanted::Done(6)),
             (Line::Commit(1), Wanted::Committed),
         ];
         let path = FilePath::new(alloc, b"/f".as_slice())?;
         let link = FilePath::new(alloc, b"/l".as_slice())?;
         let played = plays(alloc, &mut Through { rt, shared }, &script)?;
         let calls = published(rt, shared)?;
-        let hi = Wanted::Bytes(3, b"hi".as_slice());
+        let hi = Wanted::Bytes(5, b"hi".as_slice());
         let read = is_told(&reader.read_file(&path), hi) && is_told(&reader.read_file(&link), hi);
-        let followed = is_told(&reader.stat(&link), Wanted::File(3, [2, 1, 2]));
-        let itself = is_told(&reader.lstat(&link), Wanted::Link(3, [4, 1, 1]));
-        let target = is_told(&reader.read_link(&link), Wanted::Bytes(3, b"f".as_slice()));
-        Ok(played && calls == 3 && read && followed && itself && target)
+        let followed = is_told(&reader.stat(&link), Wanted::File(5, [2, 1, 2]));
+        let set = is_told(
+            &reader.stat(&path),
+            Wanted::Attributes(5, Some(0o600), Some(9)),
+        );
+        let itself = is_told(&reader.lstat(&link), Wanted::Link(5, [4, 1, 1]));
+        let target = is_told(&reader.read_link(&link), Wanted::Bytes(5, b"f".as_slice()));
+        Ok(played && calls == 5 && read && followed && set && itself && target)
     }
 }
 
@@ -385,7 +393,7 @@ fn publish_one<J: Sharing, R: Wait>(
     let text = format!(in alloc; "/{number}").ok()?;
     let path = FilePath::new(alloc, text.as_bytes()).ok()?;
     let txn = shared.begin(rt).ok()?;
-    let _ = shared.ask(rt, txn, Call::Mkdir { path }).ok()?;
+    let _ = shared.ask(rt, txn, Call::Mkdir { path, mode: None }).ok()?;
     shared.commit(rt, txn).ok()?;
     published(rt, shared).ok()
 }

@@ -3,8 +3,9 @@
 use Rattle.std.specs.Prelude.{ℕ, List, [], ◌∷◌, ◌++◌, codes, Option, None}
 use Rattle.std.specs.Fmt.{decimal, signed_decimal}
 use Rattle.ft_words.specs.declared.call_text.Argument.{Argument}
-use Rattle.ft_words.specs.declared.call_text.Argument.TheVariants.{Absent, Number, Integer, Whence, Flags, Path, Last}
+use Rattle.ft_words.specs.declared.call_text.Argument.TheVariants.{Absent, Number, Integer, Whence, Flags, Mode, Owner, Path, Last}
 use Rattle.ft_words.specs.Texts.{coded, data_text}
+use Rattle.ft_words.specs.Modes.{mode_text, owner_text}
 use Rattle.ft_words.specs.CallTexts.{flags_text, whence_text}
 
 -- the first of some words, as a reader of words reads it
@@ -23,6 +24,8 @@ argument_text Absent = []
 argument_text (Number number) = codes " " ++ decimal number
 argument_text (Integer number) = codes " " ++ signed_decimal number
 argument_text (Whence whence) = codes " " ++ whence_text whence
-argument_text (Flags flags) = codes " " ++ flags_text flags.access flags.create flags.excl flags.trunc flags.append
+argument_text (Flags flags) = codes " " ++ flags_text flags.access flags.create flags.excl flags.trunc flags.append flags.mode
+argument_text (Mode mode) = codes " " ++ mode_text mode
+argument_text (Owner owner) = codes " " ++ owner_text owner
 argument_text (Path path) = codes " " ++ coded path.now
 argument_text (Last bytes) = data_text bytes.now

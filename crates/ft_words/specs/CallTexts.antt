@@ -1,18 +1,26 @@
 -- The text of a call: its name and its arguments, as a line of words has them (docs/SCRIPT.md).
--- An empty last word is left out with the space before it.
-use Rattle.std.specs.Prelude.{ℕ, Bool, List, ◌++◌, codes}
+-- An empty last word is left out with the space before it, but for the path behind the mode of a
+-- `mkdir`: a mode alone would be a path.
+use Rattle.std.specs.Prelude.{ℕ, Bool, List, [], ◌++◌, codes, Option, None, Some}
 use Rattle.std.specs.Fmt.{decimal, signed_decimal}
 use Rattle.ft_cells.specs.declared.open_file.AccessMode.{AccessMode}
 use Rattle.ft_posix.specs.declared.call.Call.{Call}
 use Rattle.ft_posix.specs.declared.call.Call.TheVariants as calls
 use Rattle.ft_posix.specs.declared.call.Whence.{Whence}
 use Rattle.ft_posix.specs.declared.call.Whence.TheVariants.{Set, Cur, End}
+use Rattle.ft_words.specs.Modes.{mode_text, owner_text, time_text}
 use Rattle.ft_words.specs.Texts.{access_text, coded, data_text, flag_text}
 
--- FLAGS: `r`, `w` or `rw`, and a letter for each flag
-abbrev pub flags_text : AccessMode → Bool → Bool → Bool → Bool → List ℕ
-flags_text access create excl trunc append =
+-- the mode of a file that is made, where one is given
+abbrev pub given_mode_text : Option ℕ → List ℕ
+given_mode_text None = []
+given_mode_text (Some mode) = codes "=" ++ mode_text mode
+
+-- FLAGS: `r`, `w` or `rw`, a letter for each flag, and the mode that is given
+abbrev pub flags_text : AccessMode → Bool → Bool → Bool → Bool → Option ℕ → List ℕ
+flags_text access create excl trunc append mode =
     access_text access ++ flag_text create (codes "c") ++ flag_text excl (codes "x") ++ flag_text trunc (codes "t") ++ flag_text append (codes "a")
+    ++ given_mode_text mode
 
 -- WHENCE: from where an offset counts
 abbrev pub whence_text : Whence → List ℕ
@@ -22,10 +30,11 @@ whence_text End = codes "end"
 
 -- the name of a call, and each of its arguments after a space
 abbrev pub call_text : Call → List ℕ
-call_text (calls.Mkdir path) = codes "mkdir" ++ data_text path
+call_text (calls.Mkdir path None) = codes "mkdir" ++ data_text path
+call_text (calls.Mkdir path (Some mode)) = codes "mkdir " ++ mode_text mode ++ codes " " ++ coded path
 call_text (calls.Rmdir path) = codes "rmdir" ++ data_text path
 call_text (calls.List path) = codes "list" ++ data_text path
-call_text (calls.Open path access create excl trunc append) = codes "open " ++ flags_text access create excl trunc append ++ data_text path
+call_text (calls.Open path access create excl trunc append mode) = codes "open " ++ flags_text access create excl trunc append mode ++ data_text path
 call_text (calls.Close fd) = codes "close " ++ decimal fd
 call_text (calls.Read fd len) = codes "read " ++ decimal fd ++ codes " " ++ decimal len
 call_text (calls.Write fd bytes) = codes "write " ++ decimal fd ++ data_text bytes
@@ -42,3 +51,11 @@ call_text (calls.Rename old new) = codes "rename " ++ coded old ++ data_text new
 call_text (calls.Symlink target path) = codes "symlink " ++ coded target ++ data_text path
 call_text (calls.Readlink path) = codes "readlink" ++ data_text path
 call_text (calls.Lstat path) = codes "lstat" ++ data_text path
+call_text (calls.Chmod mode path) = codes "chmod " ++ mode_text mode ++ data_text path
+call_text (calls.Fchmod fd mode) = codes "fchmod " ++ decimal fd ++ codes " " ++ mode_text mode
+call_text (calls.Chown owner group path) = codes "chown " ++ owner_text owner ++ codes " " ++ owner_text group ++ data_text path
+call_text (calls.Lchown owner group path) = codes "lchown " ++ owner_text owner ++ codes " " ++ owner_text group ++ data_text path
+call_text (calls.Fchown fd owner group) = codes "fchown " ++ decimal fd ++ codes " " ++ owner_text owner ++ codes " " ++ owner_text group
+call_text (calls.Utime time path) = codes "utime " ++ time_text time ++ data_text path
+call_text (calls.Lutime time path) = codes "lutime " ++ time_text time ++ data_text path
+call_text (calls.Futime fd time) = codes "futime " ++ decimal fd ++ codes " " ++ time_text time

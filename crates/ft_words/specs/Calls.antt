@@ -11,7 +11,8 @@ use Rattle.ft_posix.specs.declared.call.Whence.{Whence}
 use Rattle.ft_posix.specs.declared.call.Whence.TheVariants.{Set, Cur, End}
 use Rattle.ft_words.specs.declared.unread.Unread.{Unread}
 use Rattle.ft_words.specs.declared.unread.Unread.TheVariants.{Misspelt, NoMemory}
-use Rattle.ft_words.specs.Spelling.{number_of, integer_of, path_of, data_of}
+use Rattle.ft_words.specs.Spelling.{number_of, short_number_of, integer_of, path_of, data_of}
+use Rattle.ft_words.specs.Modes.{mode_of, owner_of}
 
 -- what stands behind a word in a table of words
 abbrev pub look_up : {A : Type 0} → List (List ℕ × A) → List ℕ → Option A
@@ -48,6 +49,22 @@ both read others (word ∷ words) = option_and_then (λ a. option_map (λ b. (a,
 abbrev pub three : {A B C : Type 0} → (List ℕ → Option A) → (List ℕ → Option B) → (List (List ℕ) → Option C) → List (List ℕ) → Option (A × B × C)
 three first second others words = option_map (λ p. (p.0, p.1.0, p.1.1)) (both first (both second others) words)
 
+-- a path alone
+abbrev pub without_mode : List ℕ → Option (Option ℕ × List ℕ)
+without_mode path = option_map (λ p. (None, p)) (path_of path)
+
+-- a mode and a path, each by its word
+abbrev pub with_mode : List ℕ → List ℕ → Option (Option ℕ × List ℕ)
+with_mode mode path = option_and_then (λ m. option_map (λ p. (Some m, p)) (path_of path)) (mode_of mode)
+
+-- `P` or `MODE P`: one word alone is a path, also one that might be a mode, and of two words the
+-- first is a mode. So a path behind a mode may be empty, but not absent.
+abbrev pub optional_mode_path : List (List ℕ) → Option (Option ℕ × List ℕ)
+optional_mode_path [] = without_mode []
+optional_mode_path (word ∷ []) = without_mode word
+optional_mode_path (word ∷ other ∷ []) = with_mode word other
+optional_mode_path (word ∷ other ∷ more ∷ words) = None
+
 -- whether a text begins with a letter, and what stands behind it
 abbrev pub split_letter : ℕ → List ℕ → Bool × List ℕ
 split_letter letter [] = (false, [])
@@ -60,13 +77,13 @@ access_of true false = Some ReadOnly
 access_of false true = Some WriteOnly
 access_of false false = None
 
--- the value, where no letter is left
-abbrev pub if_none_left : {A : Type 0} → List ℕ → Option A → Option A
-if_none_left [] value = value
-if_none_left (b ∷ bs) value = None
+-- the mode that `=MODE` gives, behind the letters; none where nothing stands there
+abbrev pub given_mode : List ℕ → Option (Option ℕ)
+given_mode [] = Some None
+given_mode (b ∷ bs) = if b == 61 then option_map Some (mode_of bs) else None
 
 -- FLAGS: `r`, `w` or `rw`, and then any of `c`, `x`, `t` and `a`, each at most once, in this
--- order, and nothing else
+-- order, and behind them nothing or `=MODE`, the mode of a file that is made
 abbrev pub flags_of : List ℕ → Option OpenFlags
 flags_of word =
     let read = split_letter 114 word in
@@ -75,7 +92,7 @@ flags_of word =
     let excl = split_letter 120 create.1 in
     let trunc = split_letter 116 excl.1 in
     let append = split_letter 97 trunc.1 in
-    if_none_left append.1 (option_map (λ access. record { access = access; create = create.0; excl = excl.0; trunc = trunc.0; append = append.0 }) (access_of read.0 write.0))
+    option_and_then (λ mode. option_map (λ access. record { access = access; create = create.0; excl = excl.0; trunc = trunc.0; append = append.0; mode = mode }) (access_of read.0 write.0)) (given_mode append.1)
 
 -- WHENCE: from where an offset counts
 abbrev pub whence_words : List (List ℕ × Whence)
@@ -98,9 +115,9 @@ row name arguments make = (name, λ words. option_map make (arguments words))
 -- the calls on paths
 abbrev pub path_calls : List CallRow
 path_calls =
-    row (codes "mkdir") (last path_of) calls.Mkdir
+    row (codes "mkdir") optional_mode_path (λ a. calls.Mkdir a.1 a.0)
     ∷ row (codes "rmdir") (last path_of) calls.Rmdir
-    ∷ row (codes "open") (both flags_of (last path_of)) (λ a. calls.Open a.1 a.0.access a.0.create a.0.excl a.0.trunc a.0.append)
+    ∷ row (codes "open") (both flags_of (last path_of)) (λ a. calls.Open a.1 a.0.access a.0.create a.0.excl a.0.trunc a.0.append a.0.mode)
     ∷ row (codes "truncate") (both integer_of (last path_of)) (λ a. calls.Truncate a.0 a.1)
     ∷ row (codes "stat") (last path_of) calls.Stat
     ∷ row (codes "link") (both path_of (last path_of)) (λ a. calls.Link a.0 a.1)
@@ -120,6 +137,9 @@ descriptor_calls =
     ∷ row (codes "lseek") (three number_of whence_of (only integer_of)) (λ a. calls.Lseek a.0 a.1 a.2)
     ∷ row (codes "ftruncate") (both number_of (only integer_of)) (λ a. calls.Ftruncate a.0 a.1)
     ∷ row (codes "fstat") (only number_of) calls.Fstat
+    ∷ row (codes "fchmod") (both number_of (only mode_of)) (λ a. calls.Fchmod a.0 a.1)
+    ∷ row (codes "fchown") (three number_of owner_of (only owner_of)) (λ a. calls.Fchown a.0 a.1 a.2)
+    ∷ row (codes "futime") (three number_of integer_of (only short_number_of)) (λ a. calls.Futime a.0 (record { seconds = a.1; nanoseconds = a.2 }))
     ∷ []
 
 -- the calls on symbolic links
@@ -130,13 +150,23 @@ link_calls =
     ∷ row (codes "lstat") (last path_of) calls.Lstat
     ∷ []
 
+-- the calls on paths that set modes, owners and times
+abbrev pub attribute_calls : List CallRow
+attribute_calls =
+    row (codes "chmod") (both mode_of (last path_of)) (λ a. calls.Chmod a.0 a.1)
+    ∷ row (codes "chown") (three owner_of owner_of (last path_of)) (λ a. calls.Chown a.0 a.1 a.2)
+    ∷ row (codes "lchown") (three owner_of owner_of (last path_of)) (λ a. calls.Lchown a.0 a.1 a.2)
+    ∷ row (codes "utime") (three integer_of short_number_of (last path_of)) (λ a. calls.Utime (record { seconds = a.0; nanoseconds = a.1 }) a.2)
+    ∷ row (codes "lutime") (three integer_of short_number_of (last path_of)) (λ a. calls.Lutime (record { seconds = a.0; nanoseconds = a.1 }) a.2)
+    ∷ []
+
 -- the call of a name in a table, by the words of its arguments
 abbrev pub read_by : List CallRow → List ℕ → List (List ℕ) → Option Call
 read_by rows name words = option_and_then (λ arguments. arguments words) (look_up rows name)
 
 -- the call that a name and the words of its arguments spell
 abbrev pub call_of : List ℕ → List (List ℕ) → Option Call
-call_of name words = read_by (path_calls ++ descriptor_calls ++ link_calls) name words
+call_of name words = read_by (path_calls ++ descriptor_calls ++ link_calls ++ attribute_calls) name words
 
 -- ---- how words are read
 

@@ -1,4 +1,5 @@
 pub mod Spelling
+pub mod Modes
 pub mod Calls
 pub mod Verbs
 pub mod Texts

@@ -52,6 +52,14 @@ is_number word = nat_lt 0 (length word) && nat_le (length word) 20 && list_all i
 abbrev pub number_of : List ℕ → Option ℕ
 number_of word = if is_number word then Some (digits_value 10 word) else None
 
+-- a number below 2^32, as it is
+abbrev pub short : ℕ → Option ℕ
+short number = if nat_lt number (2 ^ 32) then Some number else None
+
+-- A short number has at most 10 digits, and a value below 2^32.
+abbrev pub short_number_of : List ℕ → Option ℕ
+short_number_of word = if nat_le (length word) 10 then option_and_then short (number_of word) else None
+
 -- a number below 2^63, as an integer
 abbrev pub not_negative : ℕ → Option ℤ
 not_negative number = if nat_lt number (2 ^ 63) then Some (pos number) else None

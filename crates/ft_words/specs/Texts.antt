@@ -14,8 +14,11 @@ use Rattle.ft_cells.specs.declared.open_file.AccessMode.{AccessMode}
 use Rattle.ft_cells.specs.declared.open_file.AccessMode.TheVariants.{ReadOnly, WriteOnly, ReadWrite}
 use Rattle.ft_cells.specs.declared.row.TreeRow.{TreeRow}
 use Rattle.ft_cells.specs.declared.row.TreeRow.TheVariants as rows
+use Rattle.ft_cells.specs.declared.attributes.Attributes.{Attributes}
+use Rattle.ft_cells.specs.declared.attributes.Timestamp.{Timestamp}
 use Rattle.ft_posix.specs.declared.call.Reply.{Reply}
 use Rattle.ft_posix.specs.declared.call.Reply.TheVariants.{Done, Names, Number, Bytes, Info, Failed}
+use Rattle.ft_words.specs.Modes.{attributes_text, time_text}
 
 -- The bytes 0 to 32, `%`, and those from 127 on are printed as `%` and two upper-case hexadecimal
 -- digits.
@@ -41,11 +44,21 @@ abbrev pub data_text : List ℕ → List ℕ
 data_text [] = []
 data_text (first ∷ more) = codes " " ++ coded (first ∷ more)
 
--- a directory, a file or a symbolic link, with a space behind
+-- a directory, a file or a symbolic link
 abbrev pub kind_text : Kind → List ℕ
-kind_text Dir = codes "dir "
-kind_text File = codes "file "
-kind_text Link = codes "link "
+kind_text Dir = codes "dir"
+kind_text File = codes "file"
+kind_text Link = codes "link"
+
+-- attributes after their name, where they are not the default ones
+abbrev pub attributes_tail : Option Attributes → List ℕ
+attributes_tail None = []
+attributes_tail (Some attributes) = codes " attributes " ++ attributes_text attributes
+
+-- the time of bytes after its name, where there is one
+abbrev pub time_tail : Option Timestamp → List ℕ
+time_tail None = []
+time_tail (Some time) = codes " time " ++ time_text time
 
 -- what a call replied: `ok` with what it tells, or the name of the error
 abbrev pub reply_text : Reply → List ℕ
@@ -53,7 +66,9 @@ reply_text Done = codes "ok"
 reply_text (Names names) = codes "ok " ++ decimal (length names) ++ listing names
 reply_text (Number number) = codes "ok " ++ decimal number
 reply_text (Bytes bytes) = codes "ok " ++ decimal (length bytes) ++ data_text bytes
-reply_text (Info kind number links size) = codes "ok " ++ kind_text kind ++ decimal number ++ codes " " ++ decimal links ++ codes " " ++ decimal size
+reply_text (Info kind number links size attributes time) =
+    codes "ok " ++ kind_text kind ++ codes " " ++ decimal number ++ codes " " ++ decimal links ++ codes " " ++ decimal size
+    ++ attributes_tail attributes ++ time_tail time
 reply_text (Failed errno) = errno_name errno
 
 -- each of some lines after a line feed
@@ -78,12 +93,14 @@ abbrev pub file_text : Bool → ℕ → ℕ → List ℕ → List ℕ
 file_text true number size bytes = codes "link " ++ decimal number ++ data_text bytes
 file_text false number size bytes = codes "file " ++ decimal number ++ codes " " ++ decimal size ++ data_text bytes
 
--- a row of a tree: a directory, an edge, a file, or a descriptor. Which numbers are those of
--- symbolic links the row itself does not say.
+-- a row of a tree: a directory, an edge, a file, attributes that are not the default ones, the time
+-- of bytes, or a descriptor. Which numbers are those of symbolic links the row itself does not say.
 abbrev pub row_text : (ℕ → Bool) → TreeRow → List ℕ
 row_text is_link (rows.Dir number) = codes "dir " ++ decimal number
 row_text is_link (rows.Edge entry node) = codes "edge " ++ decimal entry.dir ++ codes " " ++ coded entry.name ++ codes " " ++ decimal (number_of node)
 row_text is_link (rows.File number size bytes) = file_text (is_link number) number size bytes
+row_text is_link (rows.Attributes number attributes) = codes "attributes " ++ decimal number ++ codes " " ++ attributes_text attributes
+row_text is_link (rows.Time file time) = codes "time " ++ decimal file ++ codes " " ++ time_text time
 row_text is_link (rows.Fd fd file access append offset) = codes "fd " ++ decimal fd ++ codes " " ++ decimal file ++ codes " " ++ access_text access ++ flag_text append (codes "a") ++ codes " " ++ decimal offset
 
 -- how many rows there are, and the rows
@@ -101,6 +118,8 @@ abbrev pub link_in : TreeRow → Option ℕ
 link_in (rows.Dir number) = None
 link_in (rows.Edge entry node) = link_of node
 link_in (rows.File number size bytes) = None
+link_in (rows.Attributes number attributes) = None
+link_in (rows.Time file time) = None
 link_in (rows.Fd fd file access append offset) = None
 
 -- an edge leads to a symbolic link of this number

@@ -1,18 +1,20 @@
 // The text of a call.
 ghost use Rattle.std.specs.Prelude.{◌≡◌, ◌++◌, Some};
-ghost use Rattle.ft_words.specs.CallTexts.{call_text, flags_text, whence_text};
+ghost use Rattle.ft_words.specs.CallTexts.{call_text, flags_text, given_mode_text, whence_text};
 ghost use Rattle.ft_words.specs.Arguments.{argument_text};
 ghost use Rattle.ft_words.specs.Verbs.{word, verb_of};
 
+use crate::modes::{ModeText, OwnerText};
 use crate::text::{Coded, Data};
 use crate::tree_text::{access_text, flag_text};
 use crate::verbs::Verb;
-use ft_calls::{Call, OpenFlags, Whence};
+use ft_posix::{Call, OpenFlags, Whence};
 use std::fmt;
 
 /// A call: its name and its arguments, as a line of words has them.
 ///
-/// An empty last word is left out with the space before it.
+/// An empty last word is left out with the space before it, but for the path behind the mode of a
+/// `mkdir`, since a mode alone would be read as a path.
 #[derive(Clone, Copy)]
 pub struct CallText<'a>(pub &'a Call);
 
@@ -34,6 +36,8 @@ enum Argument<'a> {
     Integer(i64),
     Whence(Whence),
     Flags(OpenFlags),
+    Mode(u16),
+    Owner(Option<u32>),
     Path(&'a [u8]),
     // A path or bytes, left out where they are empty.
     Last(&'a [u8]),
@@ -49,6 +53,8 @@ impl fmt::Display for Argument<'_> {
             Argument::Integer(number) => write!(f, " {number}"),
             Argument::Whence(whence) => write!(f, " {}", whence_text(*whence)),
             Argument::Flags(flags) => write!(f, " {}", FlagsText(*flags)),
+            Argument::Mode(mode) => write!(f, " {}", ModeText(*mode)),
+            Argument::Owner(owner) => write!(f, " {}", OwnerText(*owner)),
             Argument::Path(path) => write!(f, " {}", Coded(path)),
             Argument::Last(bytes) => Data(bytes).fmt(f),
         }
@@ -59,9 +65,13 @@ impl fmt::Display for Argument<'_> {
 fn arguments(call: &Call) -> (Argument<'_>, Argument<'_>, Argument<'_>)
     ensures { word (verb_of call.now) ++ argument_text result.0 ++ argument_text result.1 ++ argument_text result.2 ≡ call_text call.now }
 {
-    use Argument::{Absent, Flags, Integer, Last, Number, Path};
+    use Argument::{Absent, Flags, Integer, Last, Mode, Number, Owner, Path};
     match call {
-        Call::Mkdir { path }
+        Call::Mkdir {
+            path,
+            mode: Some(mode),
+        } => (Absent, Mode(*mode), Path(path.as_bytes())),
+        Call::Mkdir { path, mode: None }
         | Call::Rmdir { path }
         | Call::List { path }
         | Call::Stat { path }
@@ -81,6 +91,7 @@ fn arguments(call: &Call) -> (Argument<'_>, Argument<'_>, Argument<'_>)
             excl,
             trunc,
             append,
+            mode,
         } => {
             let flags = OpenFlags {
                 access: *access,
@@ -88,6 +99,7 @@ fn arguments(call: &Call) -> (Argument<'_>, Argument<'_>, Argument<'_>)
                 excl: *excl,
                 trunc: *trunc,
                 append: *append,
+                mode: *mode,
             };
             (Absent, Flags(flags), Last(path.as_bytes()))
         }
@@ -101,6 +113,22 @@ fn arguments(call: &Call) -> (Argument<'_>, Argument<'_>, Argument<'_>)
         }
         Call::Write { fd, bytes } => (Absent, Number(*fd), Last(bytes.as_slice())),
         Call::Pwrite { fd, off, bytes } => (Number(*fd), Integer(*off), Last(bytes.as_slice())),
+        Call::Chmod { mode, path } => (Absent, Mode(*mode), Last(path.as_bytes())),
+        Call::Fchmod { fd, mode } => (Absent, Number(*fd), Mode(*mode)),
+        Call::Chown { owner, group, path } | Call::Lchown { owner, group, path } => {
+            (Owner(*owner), Owner(*group), Last(path.as_bytes()))
+        }
+        Call::Fchown { fd, owner, group } => (Number(*fd), Owner(*owner), Owner(*group)),
+        Call::Utime { time, path } | Call::Lutime { time, path } => (
+            Integer(time.seconds),
+            Number(u64::from(time.nanoseconds)),
+            Last(path.as_bytes()),
+        ),
+        Call::Futime { fd, time } => (
+            Number(*fd),
+            Integer(time.seconds),
+            Number(u64::from(time.nanoseconds)),
+        ),
     }
 }
 
@@ -109,7 +137,7 @@ fn arguments(call: &Call) -> (Argument<'_>, Argument<'_>, Argument<'_>)
 struct FlagsText(OpenFlags);
 
 impl fmt::Display for FlagsText {
-    ghost output = { λ text. Some (flags_text text.0.access text.0.create text.0.excl text.0.trunc text.0.append) };
+    ghost output = { λ text. Some (flags_text text.0.access text.0.create text.0.excl text.0.trunc text.0.append text.0.mode) };
 
     fn fmt<W: fmt::Write>(&self, f: &mut fmt::Formatter<W>) -> fmt::Result {
         let access = access_text(self.0.access);
@@ -117,7 +145,23 @@ impl fmt::Display for FlagsText {
         let excl = flag_text(self.0.excl, "x");
         let trunc = flag_text(self.0.trunc, "t");
         let append = flag_text(self.0.append, "a");
-        write!(f, "{access}{create}{excl}{trunc}{append}")
+        let mode = GivenMode(self.0.mode);
+        write!(f, "{access}{create}{excl}{trunc}{append}{mode}")
+    }
+}
+
+// The mode of a file that is made, where one is given.
+#[derive(Clone, Copy)]
+struct GivenMode(Option<u16>);
+
+impl fmt::Display for GivenMode {
+    ghost output = { λ given. Some (given_mode_text given.0) };
+
+    fn fmt<W: fmt::Write>(&self, f: &mut fmt::Formatter<W>) -> fmt::Result {
+        match self.0 {
+            Some(mode) => write!(f, "={}", ModeText(mode)),
+            None => Ok(()),
+        }
     }
 }
 

@@ -4,14 +4,16 @@ ghost use Rattle.ft_words.specs.Calls.{call_of, read_by, descriptor_calls, Reads
 ghost use Rattle.ft_words.specs.Verbs.{call_by, descriptor_call};
 
 use crate::arguments::{
-    flags_path, integer_path, number, number_data, number_integer, number_integer_data,
-    number_integer_number, number_number, number_whence_integer, path, path_path,
+    flags_path, integer_path, mode_path, number, number_data, number_integer, number_integer_data,
+    number_integer_number, number_mode, number_number, number_owner_group, number_time,
+    number_whence_integer, optional_mode_path, owner_group_path, path, path_path, time_path,
 };
 use crate::unread::Unread;
 use crate::verbs::{DESCRIPTOR_VERBS, DescriptorVerb, VERBS, Verb, spelled};
 use crate::words::Words;
-use ft_calls::{Call, OpenFlags};
 use ft_path::FilePath;
+use ft_posix::{Call, OpenFlags};
+use ft_tree::Timestamp;
 use std::alloc::Global;
 
 /// The call of this name, with the arguments that the words behind it spell.
@@ -45,6 +47,10 @@ fn read_call(alloc: Global, verb: Verb, words: Words<'_>) -> Result<Call, Unread
             let path = path(alloc, words)?;
             Ok(verb.on(path))
         }
+        Verb::Mkdir => {
+            let (mode, path) = optional_mode_path(alloc, words)?;
+            Ok(Call::Mkdir { path, mode })
+        }
         Verb::Open => {
             let (flags, path) = flags_path(alloc, words)?;
             Ok(open(flags, path))
@@ -56,6 +62,24 @@ fn read_call(alloc: Global, verb: Verb, words: Words<'_>) -> Result<Call, Unread
         Verb::OnPaths(verb) => {
             let (first, second) = path_path(alloc, words)?;
             Ok(verb.on(first, second))
+        }
+        Verb::Chmod => {
+            let (mode, path) = mode_path(alloc, words)?;
+            Ok(Call::Chmod { mode, path })
+        }
+        Verb::Owning(verb) => {
+            let (owner, group, path) = owner_group_path(alloc, words)?;
+            Ok(verb.with(owner, group, path))
+        }
+        Verb::Timing(verb) => {
+            let (seconds, nanoseconds, path) = time_path(alloc, words)?;
+            Ok(verb.with(
+                Timestamp {
+                    seconds,
+                    nanoseconds,
+                },
+                path,
+            ))
         }
         Verb::OnDescriptor(verb) => read_descriptor_call(alloc, verb, words),
     }
@@ -102,12 +126,28 @@ fn read_descriptor_call(
             let fd = number(words).ok_or(Unread::Misspelt)?;
             Ok(Call::Fstat { fd })
         }
+        DescriptorVerb::Fchmod => {
+            let (fd, mode) = number_mode(words).ok_or(Unread::Misspelt)?;
+            Ok(Call::Fchmod { fd, mode })
+        }
+        DescriptorVerb::Fchown => {
+            let (fd, owner, group) = number_owner_group(words).ok_or(Unread::Misspelt)?;
+            Ok(Call::Fchown { fd, owner, group })
+        }
+        DescriptorVerb::Futime => {
+            let (fd, seconds, nanoseconds) = number_time(words).ok_or(Unread::Misspelt)?;
+            let time = Timestamp {
+                seconds,
+                nanoseconds,
+            };
+            Ok(Call::Futime { fd, time })
+        }
     }
 }
 
 // A call that opens a file.
 fn open(flags: OpenFlags, path: FilePath) -> Call
-    ensures { result ≡ Call.Open path flags.access flags.create flags.excl flags.trunc flags.append }
+    ensures { result ≡ Call.Open path flags.access flags.create flags.excl flags.trunc flags.append flags.mode }
 {
     Call::Open {
         path,
@@ -116,5 +156,6 @@ fn open(flags: OpenFlags, path: FilePath) -> Call
         excl: flags.excl,
         trunc: flags.trunc,
         append: flags.append,
+        mode: flags.mode,
     }
 }

@@ -1,12 +1,14 @@
 // The words that say how a file is opened, and from where an offset counts.
 ghost use Rattle.std.specs.Prelude.{◌≡◌, ◌==◌, ℕ, List, Option, codes, if◌then◌else◌, true, false, Some, None};
 ghost use Rattle.std.specs.Str.{bytes_eq};
-ghost use Rattle.ft_words.specs.Calls.{flags_of, whence_of, split_letter, access_of};
+ghost use Rattle.ft_words.specs.Calls.{flags_of, whence_of, split_letter, given_mode, access_of};
 
-use ft_calls::{OpenFlags, Whence};
+use crate::modes::mode_of;
+use ft_posix::{OpenFlags, Whence};
 use ft_tree::AccessMode;
 
-/// `r`, `w` or `rw`, and then any of `c`, `x`, `t` and `a`, each at most once, in this order.
+/// `r`, `w` or `rw`, then any of `c`, `x`, `t` and `a`, each at most once, in this order, and then
+/// nothing or `=MODE`, the mode of a file that is made.
 pub fn flags_of(word: &[u8]) -> Option<OpenFlags>
     ensures { result ≡ flags_of word.now }
 {
@@ -16,9 +18,7 @@ pub fn flags_of(word: &[u8]) -> Option<OpenFlags>
     let (excl, rest) = split_letter(b'x', rest);
     let (trunc, rest) = split_letter(b't', rest);
     let (append, rest) = split_letter(b'a', rest);
-    if !rest.is_empty() {
-        return None;
-    }
+    let mode = given_mode(rest)?;
     let access = access_of(read, write)?;
     Some(OpenFlags {
         access,
@@ -26,6 +26,7 @@ pub fn flags_of(word: &[u8]) -> Option<OpenFlags>
         excl,
         trunc,
         append,
+        mode,
     })
 }
 
@@ -36,6 +37,17 @@ fn split_letter(letter: u8, text: &[u8]) -> (bool, &[u8])
     match text.split_first() {
         Some((first, rest)) if *first == letter => (true, rest),
         _ => (false, text),
+    }
+}
+
+// The mode that is given behind the letters: none where nothing stands there.
+fn given_mode(rest: &[u8]) -> Option<Option<u16>>
+    ensures { result ≡ given_mode rest.now }
+{
+    match rest {
+        [] => Some(None),
+        [b'=', word @ ..] => Some(Some(mode_of(word)?)),
+        _ => None,
     }
 }
 

@@ -1,7 +1,7 @@
 // Numbers.
 ghost use Rattle.std.specs.Prelude.{◌≡◌, ◌+◌, ◌*◌, ◌^◌, ◌&&◌, nat_lt, if◌then◌else◌, Some, None};
 ghost use Rattle.std.specs.Char.{is_ascii_digit, digit_value};
-ghost use Rattle.ft_words.specs.Spelling.{number_of, integer_of, not_negative, negative};
+ghost use Rattle.ft_words.specs.Spelling.{number_of, short_number_of, integer_of, not_negative, negative};
 
 /// The number that a word of 1 to 20 digits stands for, where it is below 2^64.
 pub fn number_of(word: &[u8]) -> Option<u64>
@@ -27,6 +27,16 @@ fn with_digit(number: u64, byte: u8) -> Option<u64>
         return None;
     }
     number.checked_mul(10)?.checked_add(u64::from(byte - b'0'))
+}
+
+/// The same of at most 10 digits, where it is below 2^32.
+pub fn short_number_of(word: &[u8]) -> Option<u32>
+    ensures { result ≡ short_number_of word.now }
+{
+    if word.len() > 10 {
+        return None;
+    }
+    u32::try_from(number_of(word)?).ok()
 }
 
 /// The integer that such a word stands for, with `-` before it where it is negative.

@@ -1,11 +1,12 @@
 // The text of what a call replied.
-ghost use Rattle.std.specs.Prelude.{Some};
-ghost use Rattle.ft_words.specs.Texts.{reply_text, coded, data_text, listing, listed};
+ghost use Rattle.std.specs.Prelude.{◌≡◌, Some};
+ghost use Rattle.ft_words.specs.Texts.{reply_text, kind_text, attributes_tail, time_tail, coded, data_text, listing, listed};
 
 use crate::coding::{CODED_PIECE, PIECE, put_coded};
-use ft_calls::Reply;
+use crate::modes::{AttributesText, TimeText};
 use ft_path::Name;
-use ft_tree::Kind;
+use ft_posix::Reply;
+use ft_tree::{Attributes, Kind, Timestamp};
 use percent_encoding::ascii_str;
 use std::fmt;
 
@@ -23,24 +24,61 @@ impl fmt::Display for ReplyText<'_> {
             Reply::Number(number) => write!(f, "ok {number}"),
             Reply::Bytes(bytes) => write!(f, "ok {}{}", bytes.len(), Data(bytes.as_slice())),
             Reply::Info {
-                kind: Kind::Dir,
+                kind,
                 number,
                 links,
                 size,
-            } => write!(f, "ok dir {number} {links} {size}"),
-            Reply::Info {
-                kind: Kind::File,
-                number,
-                links,
-                size,
-            } => write!(f, "ok file {number} {links} {size}"),
-            Reply::Info {
-                kind: Kind::Link,
-                number,
-                links,
-                size,
-            } => write!(f, "ok link {number} {links} {size}"),
+                attributes,
+                time,
+            } => write!(
+                f,
+                "ok {} {number} {links} {size}{}{}",
+                kind_text(*kind),
+                AttributesTail(*attributes),
+                TimeTail(*time)
+            ),
             Reply::Failed(errno) => errno.fmt(f),
+        }
+    }
+}
+
+// A directory, a file or a symbolic link.
+fn kind_text(kind: Kind) -> &'static str
+    ensures { result.now ≡ kind_text kind }
+{
+    match kind {
+        Kind::Dir => "dir",
+        Kind::File => "file",
+        Kind::Link => "link",
+    }
+}
+
+// Attributes after a space and their name, where they are not those that one has anyway.
+#[derive(Clone, Copy)]
+struct AttributesTail(Option<Attributes>);
+
+impl fmt::Display for AttributesTail {
+    ghost output = { λ tail. Some (attributes_tail tail.0) };
+
+    fn fmt<W: fmt::Write>(&self, f: &mut fmt::Formatter<W>) -> fmt::Result {
+        match self.0 {
+            Some(attributes) => write!(f, " attributes {}", AttributesText(attributes)),
+            None => Ok(()),
+        }
+    }
+}
+
+// The time of bytes after a space and its name, where there is one.
+#[derive(Clone, Copy)]
+struct TimeTail(Option<Timestamp>);
+
+impl fmt::Display for TimeTail {
+    ghost output = { λ tail. Some (time_tail tail.0) };
+
+    fn fmt<W: fmt::Write>(&self, f: &mut fmt::Formatter<W>) -> fmt::Result {
+        match self.0 {
+            Some(time) => write!(f, " time {}", TimeText(time)),
+            None => Ok(()),
         }
     }
 }

@@ -3,6 +3,7 @@ ghost use Rattle.std.specs.Prelude.{◌≡◌, ◌++◌, ℕ, List, Some, IfOk};
 ghost use Rattle.std.specs.FinMap as finite;
 ghost use Rattle.ft_words.specs.Texts.{tree_text, rows_text, row_text, lines_text, is_link, link_in, access_text, flag_text};
 
+use crate::modes::{AttributesText, TimeText};
 use crate::text::{Coded, Data};
 use ft_base::{Memory, Table};
 use ft_tree::{AccessMode, Entry, Form, Node, TreeRow};
@@ -116,6 +117,10 @@ impl fmt::Display for RowText<'_> {
                 size,
                 bytes,
             } => write!(f, "file {number} {size}{}", Data(bytes.as_slice())),
+            TreeRow::Attributes { number, attributes } => {
+                write!(f, "attributes {number} {}", AttributesText(*attributes))
+            }
+            TreeRow::Time { file, time } => write!(f, "time {file} {}", TimeText(*time)),
             TreeRow::Fd {
                 fd,
                 file,

@@ -1,27 +1,33 @@
 // The names of calls.
 ghost use Rattle.std.specs.Prelude.{◌≡◌};
 ghost use Rattle.ft_words.specs.Calls.{look_up};
-ghost use Rattle.ft_words.specs.Verbs.{word, verb_of, words_of, on_path, on_paths};
+ghost use Rattle.ft_words.specs.Verbs.{word, verb_of, words_of, on_path, on_paths, with_owners, with_time};
 
-use ft_calls::Call;
 use ft_path::FilePath;
+use ft_posix::Call;
+use ft_tree::Timestamp;
 
 /// What a call is named after.
 #[derive(Clone, Copy)]
 pub(crate) enum Verb {
     /// A call on one path alone.
     OnPath(PathVerb),
+    Mkdir,
     Open,
     Truncate,
     /// A call on two paths.
     OnPaths(PathsVerb),
+    Chmod,
+    /// A call that sets the owner and the group of what a path leads to.
+    Owning(OwningVerb),
+    /// A call that sets the time of the file to which a path leads.
+    Timing(TimingVerb),
     /// A call on a descriptor.
     OnDescriptor(DescriptorVerb),
 }
 
 #[derive(Clone, Copy)]
 pub(crate) enum PathVerb {
-    Mkdir,
     Rmdir,
     List,
     Stat,
@@ -38,6 +44,18 @@ pub(crate) enum PathsVerb {
 }
 
 #[derive(Clone, Copy)]
+pub(crate) enum OwningVerb {
+    Chown,
+    Lchown,
+}
+
+#[derive(Clone, Copy)]
+pub(crate) enum TimingVerb {
+    Utime,
+    Lutime,
+}
+
+#[derive(Clone, Copy)]
 pub(crate) enum DescriptorVerb {
     Close,
     Read,
@@ -47,11 +65,14 @@ pub(crate) enum DescriptorVerb {
     Lseek,
     Ftruncate,
     Fstat,
+    Fchmod,
+    Fchown,
+    Futime,
 }
 
 /// Those of all calls.
-pub(crate) const VERBS: [Verb; 20] = [
-    Verb::OnPath(PathVerb::Mkdir),
+pub(crate) const VERBS: [Verb; 28] = [
+    Verb::Mkdir,
     Verb::OnPath(PathVerb::Rmdir),
     Verb::Open,
     Verb::Truncate,
@@ -68,13 +89,21 @@ pub(crate) const VERBS: [Verb; 20] = [
     Verb::OnDescriptor(DescriptorVerb::Lseek),
     Verb::OnDescriptor(DescriptorVerb::Ftruncate),
     Verb::OnDescriptor(DescriptorVerb::Fstat),
+    Verb::OnDescriptor(DescriptorVerb::Fchmod),
+    Verb::OnDescriptor(DescriptorVerb::Fchown),
+    Verb::OnDescriptor(DescriptorVerb::Futime),
     Verb::OnPaths(PathsVerb::Symlink),
     Verb::OnPath(PathVerb::Readlink),
     Verb::OnPath(PathVerb::Lstat),
+    Verb::Chmod,
+    Verb::Owning(OwningVerb::Chown),
+    Verb::Owning(OwningVerb::Lchown),
+    Verb::Timing(TimingVerb::Utime),
+    Verb::Timing(TimingVerb::Lutime),
 ];
 
 /// Those of calls on a descriptor.
-pub(crate) const DESCRIPTOR_VERBS: [Verb; 8] = [
+pub(crate) const DESCRIPTOR_VERBS: [Verb; 11] = [
     Verb::OnDescriptor(DescriptorVerb::Close),
     Verb::OnDescriptor(DescriptorVerb::Read),
     Verb::OnDescriptor(DescriptorVerb::Write),
@@ -83,6 +112,9 @@ pub(crate) const DESCRIPTOR_VERBS: [Verb; 8] = [
     Verb::OnDescriptor(DescriptorVerb::Lseek),
     Verb::OnDescriptor(DescriptorVerb::Ftruncate),
     Verb::OnDescriptor(DescriptorVerb::Fstat),
+    Verb::OnDescriptor(DescriptorVerb::Fchmod),
+    Verb::OnDescriptor(DescriptorVerb::Fchown),
+    Verb::OnDescriptor(DescriptorVerb::Futime),
 ];
 
 impl Verb {
@@ -91,7 +123,7 @@ impl Verb {
         ensures { result ≡ verb_of call.now }
     {
         match call {
-            Call::Mkdir { .. } => Verb::OnPath(PathVerb::Mkdir),
+            Call::Mkdir { .. } => Verb::Mkdir,
             Call::Rmdir { .. } => Verb::OnPath(PathVerb::Rmdir),
             Call::List { .. } => Verb::OnPath(PathVerb::List),
             Call::Open { .. } => Verb::Open,
@@ -111,6 +143,14 @@ impl Verb {
             Call::Symlink { .. } => Verb::OnPaths(PathsVerb::Symlink),
             Call::Readlink { .. } => Verb::OnPath(PathVerb::Readlink),
             Call::Lstat { .. } => Verb::OnPath(PathVerb::Lstat),
+            Call::Chmod { .. } => Verb::Chmod,
+            Call::Fchmod { .. } => Verb::OnDescriptor(DescriptorVerb::Fchmod),
+            Call::Chown { .. } => Verb::Owning(OwningVerb::Chown),
+            Call::Lchown { .. } => Verb::Owning(OwningVerb::Lchown),
+            Call::Fchown { .. } => Verb::OnDescriptor(DescriptorVerb::Fchown),
+            Call::Utime { .. } => Verb::Timing(TimingVerb::Utime),
+            Call::Lutime { .. } => Verb::Timing(TimingVerb::Lutime),
+            Call::Futime { .. } => Verb::OnDescriptor(DescriptorVerb::Futime),
         }
     }
 
@@ -119,7 +159,7 @@ impl Verb {
         ensures { result.now ≡ word self }
     {
         match self {
-            Verb::OnPath(PathVerb::Mkdir) => "mkdir",
+            Verb::Mkdir => "mkdir",
             Verb::OnPath(PathVerb::Rmdir) => "rmdir",
             Verb::OnPath(PathVerb::List) => "list",
             Verb::Open => "open",
@@ -139,6 +179,14 @@ impl Verb {
             Verb::OnPaths(PathsVerb::Symlink) => "symlink",
             Verb::OnPath(PathVerb::Readlink) => "readlink",
             Verb::OnPath(PathVerb::Lstat) => "lstat",
+            Verb::Chmod => "chmod",
+            Verb::OnDescriptor(DescriptorVerb::Fchmod) => "fchmod",
+            Verb::Owning(OwningVerb::Chown) => "chown",
+            Verb::Owning(OwningVerb::Lchown) => "lchown",
+            Verb::OnDescriptor(DescriptorVerb::Fchown) => "fchown",
+            Verb::Timing(TimingVerb::Utime) => "utime",
+            Verb::Timing(TimingVerb::Lutime) => "lutime",
+            Verb::OnDescriptor(DescriptorVerb::Futime) => "futime",
         }
     }
 }
@@ -149,7 +197,6 @@ impl PathVerb {
         ensures { result ≡ on_path self path }
     {
         match self {
-            PathVerb::Mkdir => Call::Mkdir { path },
             PathVerb::Rmdir => Call::Rmdir { path },
             PathVerb::List => Call::List { path },
             PathVerb::Stat => Call::Stat { path },
@@ -178,6 +225,30 @@ impl PathsVerb {
                 target: first,
                 path: second,
             },
+        }
+    }
+}
+
+impl OwningVerb {
+    /// The call that sets these of what this path leads to.
+    pub(crate) fn with(self, owner: Option<u32>, group: Option<u32>, path: FilePath) -> Call
+        ensures { result ≡ with_owners self owner group path }
+    {
+        match self {
+            OwningVerb::Chown => Call::Chown { owner, group, path },
+            OwningVerb::Lchown => Call::Lchown { owner, group, path },
+        }
+    }
+}
+
+impl TimingVerb {
+    /// The call that sets this time of what this path leads to.
+    pub(crate) fn with(self, time: Timestamp, path: FilePath) -> Call
+        ensures { result ≡ with_time self time path }
+    {
+        match self {
+            TimingVerb::Utime => Call::Utime { time, path },
+            TimingVerb::Lutime => Call::Lutime { time, path },
         }
     }
 }

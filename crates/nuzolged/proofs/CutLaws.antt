@@ -5,7 +5,7 @@ use Rattle.ft_laws.specs.Lists as lists
 use Rattle.ft_cells.specs.Rows.{rows_of}
 use Rattle.ft_cells.specs.declared.limits.TreeLimits.{TreeLimits}
 use Rattle.ft_posix.specs.declared.call.Call.{Call}
-use Rattle.ft_posix.specs.declared.call.Call.TheVariants.{Mkdir, Rmdir, List as ListDir, Open, Close, Read, Write, Pread, Pwrite, Lseek, Truncate, Ftruncate, Stat, Fstat, Link, Unlink, Rename, Symlink, Readlink, Lstat}
+use Rattle.ft_posix.specs.declared.call.Call.TheVariants.{Mkdir, Rmdir, List as ListDir, Open, Close, Read, Write, Pread, Pwrite, Lseek, Truncate, Ftruncate, Stat, Fstat, Link, Unlink, Rename, Symlink, Readlink, Lstat, Chmod, Fchmod, Chown, Lchown, Fchown, Utime, Lutime, Futime}
 use Rattle.ft_moss.specs.declared.line.LockLine.{LockLine}
 use Rattle.ft_waits.specs.declared.edge.Edge.{Edge}
 use Rattle.ft_waits.specs.declared.edge.EdgeKind.{EdgeKind}
@@ -15,13 +15,13 @@ use Rattle.ft_words.specs.Texts.{tree_text}
 use Rattle.ft_core.specs.States.{State, Base}
 use Rattle.ft_core.specs.Reports.{AreLockLines}
 use Rattle.ft_replies.specs.declared.line.Report.{Report}
-use Rattle.ft_replies.specs.declared.line.Report.TheVariants.{Tree, Locks, Waits}
+use Rattle.ft_replies.specs.declared.line.Report.TheVariants.{Tree, Locks, Attributes, Waits}
 use Rattle.ft_replies.specs.Lines.{IsReportText}
 use Rattle.ft_core.specs.declared.request.Request.TheVariants.{Ask}
 use Rattle.ft_session.specs.declared.session.Session.{Session}
 use Rattle.nuzolged.specs.declared.told.Told.{Told}
 use Rattle.nuzolged.specs.Asked.{IsAsked, IsCallAsked, limits_of}
-use Rattle.nuzolged.specs.Cuts.{cut_path, most_at, most_of, cut_of, cut_event, limits_in, AreAlike, CutLaw}
+use Rattle.nuzolged.specs.Cuts.{cut_path, cut_mode, most_at, most_of, cut_of, cut_event, limits_in, AreAlike, CutLaw}
 use Rattle.nuzolged.proofs.CutStates.{left, alike_ask, tree-same, lock-same, fate-same, children-same, blockers-same, accesses-same, calls, requests}
 
 -- ---- what is left of what is left
@@ -29,11 +29,18 @@ use Rattle.nuzolged.proofs.CutStates.{left, alike_ask, tree-same, lock-same, fat
 path-left : (path : List ℕ) → cut_path (cut_path path) ≡ cut_path path
 path-left path = take-take 4096 4096 path (omega arith)
 
+mode-left : (mode : ℕ) → cut_mode (cut_mode mode) ≡ cut_mode mode
+mode-left mode = omega arith
+
+modes-left : (mode : Option ℕ) → option_map cut_mode (option_map cut_mode mode) ≡ option_map cut_mode mode
+modes-left None = refl
+modes-left (Some mode) = ap Some (mode-left mode)
+
 left-left : (limits : TreeLimits) (call : Call) → cut_of limits (cut_of limits call) ≡ cut_of limits call
-left-left limits (Mkdir path) = ap Mkdir (path-left path)
+left-left limits (Mkdir path mode) = λ i. Mkdir (path-left path i) (modes-left mode i)
 left-left limits (Rmdir path) = ap Rmdir (path-left path)
 left-left limits (ListDir path) = ap ListDir (path-left path)
-left-left limits (Open path access create excl trunc append) = ap (λ p. Open p access create excl trunc append) (path-left path)
+left-left limits (Open path access create excl trunc append mode) = λ i. Open (path-left path i) access create excl trunc append (modes-left mode i)
 left-left limits (Close fd) = refl
 left-left limits (Read fd len) = refl
 left-left limits (Write fd bytes) = ap (Write fd) (take-take (most_of limits) (most_of limits) bytes (omega arith))
@@ -50,6 +57,14 @@ left-left limits (Rename old new) = λ i. Rename (path-left old i) (path-left ne
 left-left limits (Symlink target path) = λ i. Symlink (path-left target i) (path-left path i)
 left-left limits (Readlink path) = ap Readlink (path-left path)
 left-left limits (Lstat path) = ap Lstat (path-left path)
+left-left limits (Chmod mode path) = λ i. Chmod (mode-left mode i) (path-left path i)
+left-left limits (Fchmod fd mode) = ap (Fchmod fd) (mode-left mode)
+left-left limits (Chown owner group path) = ap (Chown owner group) (path-left path)
+left-left limits (Lchown owner group path) = ap (Lchown owner group) (path-left path)
+left-left limits (Fchown fd owner group) = refl
+left-left limits (Utime time path) = ap (Utime time) (path-left path)
+left-left limits (Lutime time path) = ap (Lutime time) (path-left path)
+left-left limits (Futime fd time) = refl
 
 -- ---- reports
 
@@ -87,6 +102,7 @@ edges-alike s s' alike edges are = record {
 reports-alike : (s s' : State) → AreAlike s s' → (report : Report) (text : List ℕ) → IsReportText s report text → IsReportText s' report text
 reports-alike s s' alike Tree text is = is ∙ sym (ap (λ tree. tree_text (rows_of tree)) (tree-same s s' alike))
 reports-alike s s' alike Locks text is = (is.0, locks-alike s s' alike is.0 is.1, is.2)
+reports-alike s s' alike Attributes text is = (is.0, locks-alike s s' alike is.0 is.1, is.2)
 reports-alike s s' alike Waits text is = (is.0, is.1, edges-alike s s' alike is.0 is.2, is.3, is.4)
 
 -- ---- the law

@@ -1,6 +1,7 @@
 -- What a request through a handle came to.
-use Rattle.std.specs.Prelude.{◌≡◌, ◌⊎◌, ◌||◌, ℕ, Bool, true, false, List, Option, Some, None, Result, Ok, Err, suc, zero}
+use Rattle.std.specs.Prelude.{◌≡◌, ◌⊎◌, ◌||◌, ◌==◌, ℕ, ℤ, Bool, true, false, cond, List, Option, Some, None, Result, Ok, Err, suc, zero}
 use Rattle.ft_path.specs.Name.{has_nul}
+use Rattle.ft_cells.specs.declared.attributes.Timestamp.{Timestamp}
 use Rattle.ft_cells.specs.declared.open_file.AccessMode.{AccessMode}
 use Rattle.ft_cells.specs.declared.open_file.AccessMode.TheVariants.{ReadOnly, WriteOnly, ReadWrite}
 use Rattle.ft_cells.specs.declared.limits.TreeLimits.{TreeLimits}
@@ -72,6 +73,15 @@ access_of zero = Some ReadOnly
 access_of (suc zero) = Some WriteOnly
 access_of (suc (suc zero)) = Some ReadWrite
 access_of (suc (suc (suc number))) = None
+
+-- the owner or the group of a number: the greatest one says that it stays, as (uid_t)-1 does
+-- (POSIX.1-2017, System Interfaces, chown)
+abbrev pub given_of : ℕ → Option ℕ
+given_of number = cond (number == 4294967295) None (Some number)
+
+-- a time of these seconds and nanoseconds
+abbrev pub time_given : ℤ → ℕ → Timestamp
+time_given seconds nanoseconds = record { seconds = seconds; nanoseconds = nanoseconds }
 
 -- from where an offset counts, as SEEK_SET, SEEK_CUR and SEEK_END
 abbrev pub whence_of : ℕ → Option Whence

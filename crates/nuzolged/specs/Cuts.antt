@@ -1,12 +1,14 @@
 -- What is cut from a call before it is made, which nobody can tell from what it answers: more of a
--- path than tells that it is too long, and more bytes than could have room.
-use Rattle.std.specs.Prelude.{◌≡◌, ℕ, ◌+◌, max, ℤ, pos, negsuc, List, take, map, option_map}
+-- path than tells that it is too long, more bytes than could have room, and more of a mode than
+-- tells that it is none.
+use Rattle.std.specs.Prelude.{◌≡◌, ℕ, ◌+◌, min, max, ℤ, pos, negsuc, List, take, map, option_map}
 use Rattle.std.specs.FinMap as finite
 use Rattle.ft_path.specs.declared.TheConstants.{LONGEST_PATH}
 use Rattle.ft_body.specs.Bytes.{room_at}
+use Rattle.ft_cells.specs.declared.attributes.TheConstants.{MOST_MODE}
 use Rattle.ft_cells.specs.declared.limits.TreeLimits.{TreeLimits}
 use Rattle.ft_posix.specs.declared.call.Call.{Call}
-use Rattle.ft_posix.specs.declared.call.Call.TheVariants.{Mkdir, Rmdir, List as ListDir, Open, Close, Read, Write, Pread, Pwrite, Lseek, Truncate, Ftruncate, Stat, Fstat, Link, Unlink, Rename, Symlink, Readlink, Lstat}
+use Rattle.ft_posix.specs.declared.call.Call.TheVariants.{Mkdir, Rmdir, List as ListDir, Open, Close, Read, Write, Pread, Pwrite, Lseek, Truncate, Ftruncate, Stat, Fstat, Link, Unlink, Rename, Symlink, Readlink, Lstat, Chmod, Fchmod, Chown, Lchown, Fchown, Utime, Lutime, Futime}
 use Rattle.ft_core.specs.declared.request.Event.{Event}
 use Rattle.ft_core.specs.declared.request.Event.TheVariants.{Begin, Call as CallEvent, Undo, Commit, Abort}
 use Rattle.ft_core.specs.declared.request.Answer.{Answer}
@@ -21,6 +23,11 @@ use Rattle.ft_replies.specs.Lines.{IsReportText}
 -- ENAMETOOLONG, whatever stands behind (POSIX.1-2017, System Interfaces, 2.3 and symlink)
 abbrev pub cut_path : List ℕ → List ℕ
 cut_path path = take (LONGEST_PATH + 1) path
+
+-- one more than the greatest mode, of those above it: each of them is EINVAL (a rule of this
+-- project, since POSIX leaves other bits open)
+abbrev pub cut_mode : ℕ → ℕ
+cut_mode mode = min mode (MOST_MODE + 1)
 
 -- how many bytes a file of the tree may have, or one where it may have none
 abbrev pub most_of : TreeLimits → ℕ
@@ -39,10 +46,10 @@ most_at limits (negsuc n) = 1
 
 -- what is left of a call on a tree with these limits
 abbrev pub cut_of : TreeLimits → Call → Call
-cut_of limits (Mkdir path) = Mkdir (cut_path path)
+cut_of limits (Mkdir path mode) = Mkdir (cut_path path) (option_map cut_mode mode)
 cut_of limits (Rmdir path) = Rmdir (cut_path path)
 cut_of limits (ListDir path) = ListDir (cut_path path)
-cut_of limits (Open path access create excl trunc append) = Open (cut_path path) access create excl trunc append
+cut_of limits (Open path access create excl trunc append mode) = Open (cut_path path) access create excl trunc append (option_map cut_mode mode)
 cut_of limits (Close fd) = Close fd
 cut_of limits (Read fd len) = Read fd len
 cut_of limits (Write fd bytes) = Write fd (cut_bytes limits bytes)
@@ -59,6 +66,14 @@ cut_of limits (Rename old new) = Rename (cut_path old) (cut_path new)
 cut_of limits (Symlink target path) = Symlink (cut_path target) (cut_path path)
 cut_of limits (Readlink path) = Readlink (cut_path path)
 cut_of limits (Lstat path) = Lstat (cut_path path)
+cut_of limits (Chmod mode path) = Chmod (cut_mode mode) (cut_path path)
+cut_of limits (Fchmod fd mode) = Fchmod fd (cut_mode mode)
+cut_of limits (Chown owner group path) = Chown owner group (cut_path path)
+cut_of limits (Lchown owner group path) = Lchown owner group (cut_path path)
+cut_of limits (Fchown fd owner group) = Fchown fd owner group
+cut_of limits (Utime time path) = Utime time (cut_path path)
+cut_of limits (Lutime time path) = Lutime time (cut_path path)
+cut_of limits (Futime fd time) = Futime fd time
 
 -- ---- what a core keeps
 

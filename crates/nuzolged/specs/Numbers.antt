@@ -1,7 +1,10 @@
 -- Answers in numbers.
-use Rattle.std.specs.Prelude.{ℕ, length}
+use Rattle.std.specs.Prelude.{ℕ, pos, false, length, Option, is_some, unwrap_or}
 use Rattle.ft_path.specs.declared.errno.Errno.{Errno}
 use Rattle.ft_path.specs.declared.errno.Errno.TheVariants as errno
+use Rattle.ft_cells.specs.Attributes.{attributes_from}
+use Rattle.ft_cells.specs.declared.attributes.Attributes.{Attributes}
+use Rattle.ft_cells.specs.declared.attributes.Timestamp.{Timestamp}
 use Rattle.ft_cells.specs.declared.node.Kind.{Kind}
 use Rattle.ft_cells.specs.declared.node.Kind.TheVariants as kind
 use Rattle.ft_posix.specs.declared.call.Reply.{Reply}
@@ -14,13 +17,40 @@ use Rattle.ft_session.specs.declared.last.Last.{Last}
 use Rattle.ft_session.specs.declared.last.Last.TheVariants as last
 use Rattle.nuzolged.specs.declared.told.Told.{Told}
 
+-- 1 for a directory, 2 for a file, 3 for a symbolic link
+abbrev pub kind_number : Kind → ℕ
+kind_number kind.Dir = 1
+kind_number kind.File = 2
+kind_number kind.Link = 3
+
+-- what is told where no call has looked at a directory or file
+abbrev pub told_of_none : ℕ → ℕ → ℕ → ℕ → ℕ → Told
+told_of_none code kind stamp number size = record {
+  code = code;
+  kind = kind;
+  stamp = stamp;
+  number = number;
+  links = 0;
+  size = size;
+  mode = 0;
+  owner = 0;
+  group = 0;
+  has_time = false;
+  seconds = pos 0;
+  nanoseconds = 0;
+}
+
 -- a code, a stamp and a number, and nothing else
 abbrev pub told : ℕ → ℕ → ℕ → Told
-told code stamp number = record { code = code; kind = 0; stamp = stamp; number = number; links = 0; size = 0 }
+told code stamp number = told_of_none code 0 stamp number 0
 
 -- it is done, and there are so many bytes
 abbrev pub told_size : ℕ → Told
-told_size size = record { code = 0; kind = 0; stamp = 0; number = 0; links = 0; size = size }
+told_size size = told_of_none 0 0 0 0 size
+
+-- the same of a name, with the kind of what it leads to
+abbrev pub told_name : Kind → ℕ → Told
+told_name kind size = told_of_none 0 (kind_number kind) 0 0 size
 
 -- there was no memory
 abbrev pub no_memory : Told
@@ -33,12 +63,6 @@ closed = told 1200 0 0
 -- an argument is none that there is
 abbrev pub bad : Told
 bad = told 1201 0 0
-
--- 1 for a directory, 2 for a file, 3 for a symbolic link
-abbrev pub kind_number : Kind → ℕ
-kind_number kind.Dir = 1
-kind_number kind.File = 2
-kind_number kind.Link = 3
 
 -- the numbers of errors, as Linux has them (errno.h)
 abbrev pub errno_number : Errno → ℕ
@@ -72,6 +96,28 @@ fault_number fault.NoAsk = 1010
 fault_number fault.NoViews = 1011
 fault_number fault.BadLimits = 1012
 
+-- what is told for a time where there is none
+abbrev pub epoch : Timestamp
+epoch = record { seconds = pos 0; nanoseconds = 0 }
+
+-- what `stat` tells: the attributes also where they are those that one has anyway, and whether
+-- there is a time
+abbrev pub told_of_info : ℕ → Kind → ℕ → ℕ → ℕ → Attributes → Option Timestamp → Told
+told_of_info stamp kind number links size attributes time = record {
+  code = 0;
+  kind = kind_number kind;
+  stamp = stamp;
+  number = number;
+  links = links;
+  size = size;
+  mode = attributes.mode;
+  owner = attributes.owner;
+  group = attributes.group;
+  has_time = is_some time;
+  seconds = (unwrap_or time epoch).seconds;
+  nanoseconds = (unwrap_or time epoch).nanoseconds;
+}
+
 -- a reply: its stamp, and code 0 with a number, with how many names or bytes there are, or with
 -- what `stat` tells; or the number of its error
 abbrev pub told_of_reply : ℕ → Reply → Told
@@ -79,7 +125,7 @@ told_of_reply stamp Done = told 0 stamp 0
 told_of_reply stamp (Names names) = told 0 stamp (length names)
 told_of_reply stamp (Number number) = told 0 stamp number
 told_of_reply stamp (Bytes bytes) = told 0 stamp (length bytes)
-told_of_reply stamp (Info kind number links size) = record { code = 0; kind = kind_number kind; stamp = stamp; number = number; links = links; size = size }
+told_of_reply stamp (Info kind number links size attributes time) = told_of_info stamp kind number links size (attributes_from kind attributes) time
 told_of_reply stamp (Failed errno) = told (errno_number errno) stamp 0
 
 -- an answer: the code 1100 says that the call waits, and the number for how many transactions

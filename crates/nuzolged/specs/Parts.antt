@@ -5,14 +5,14 @@ use Rattle.ft_session.specs.declared.last.Last.{Last}
 use Rattle.ft_session.specs.declared.session.Session.{Session}
 use Rattle.ft_session.specs.Parts.{names_in, blockers_in, bytes_in}
 use Rattle.nuzolged.specs.declared.told.Told.{Told}
-use Rattle.nuzolged.specs.Numbers.{told, told_size, kind_number, closed, bad}
+use Rattle.nuzolged.specs.Numbers.{told, told_size, told_name, closed, bad}
 
 -- ---- a name of a list
 
 -- its kind, and how many bytes it has; `bad` where there is none
 abbrev pub named : Option (List ℕ × Kind) → Told
 named None = bad
-named (Some name) = record { code = 0; kind = kind_number name.1; stamp = 0; number = 0; links = 0; size = length name.0 }
+named (Some name) = told_name name.1 (length name.0)
 
 -- of the name at this place
 abbrev pub name_at : Last → ℕ → Told

@@ -3,7 +3,7 @@ ghost use Rattle.std.specs.Prelude.{◌≡◌, ◌≢◌, ℤ, Bool, IfOk, take}
 ghost use Rattle.ft_posix.specs.declared.call.Call.{Call as CallOf};
 ghost use Rattle.ft_core.specs.declared.request.Request.TheVariants.{Ask, Checkpoint};
 ghost use Rattle.nuzolged.specs.Asked.{limits_of, IsAsked, IsCallAsked, IsCalled, IsBad, IsPath, ArePaths, is_bad};
-ghost use Rattle.nuzolged.specs.Cuts.{cut_of, most_at, most_of};
+ghost use Rattle.nuzolged.specs.Cuts.{cut_mode, cut_of, most_at, most_of};
 ghost use Rattle.nuzolged.specs.Numbers.{no_memory};
 
 use crate::handle::Handle;
@@ -12,7 +12,7 @@ use ft_base::{Memory, Sequence};
 use ft_calls::Call;
 use ft_core::{Limits, Request, TxnId};
 use ft_path::{FilePath, LONGEST_PATH, PathFault};
-use ft_tree::TreeLimits;
+use ft_tree::{MOST_MODE, TreeLimits};
 use std::alloc::Global;
 
 /// Why a call could not be asked for.
@@ -129,6 +129,13 @@ pub(crate) fn paths_of(
         (Err(Unasked::Bad), _) | (_, Err(Unasked::Bad)) => Err(Unasked::Bad),
         (Err(Unasked::Memory), _) | (_, Err(Unasked::Memory)) => Err(Unasked::Memory),
     }
+}
+
+/// A mode of these bits. One above the largest stands for all that are.
+pub(crate) fn mode_of(bits: u32) -> u16
+    ensures { result ≡ cut_mode bits }
+{
+    bits.min(MOST_MODE as u32 + 1) as u16
 }
 
 /// A copy of at most so many of these bytes.

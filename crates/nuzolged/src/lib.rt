@@ -5,6 +5,7 @@
 #![tactic(auto)]
 
 mod asking;
+mod attributes;
 mod calls;
 mod handle;
 pub mod laws;
@@ -16,6 +17,9 @@ mod told;
 mod transactions;
 mod trees;
 
+pub use attributes::{
+    nuz_chmod, nuz_chown, nuz_fchmod, nuz_fchown, nuz_futime, nuz_lchown, nuz_lutime, nuz_utime,
+};
 pub use calls::{
     nuz_close, nuz_fstat, nuz_ftruncate, nuz_lseek, nuz_pread, nuz_pwrite, nuz_read, nuz_write,
 };
@@ -24,8 +28,8 @@ pub use limits::Limits;
 pub use lines::{nuz_reply, nuz_request};
 pub use parts::{nuz_blocker, nuz_bytes, nuz_name};
 pub use paths::{
-    nuz_link, nuz_list, nuz_lstat, nuz_mkdir, nuz_open, nuz_readlink, nuz_rename, nuz_rmdir,
-    nuz_stat, nuz_symlink, nuz_truncate, nuz_unlink,
+    nuz_link, nuz_list, nuz_lstat, nuz_mkdir, nuz_mkdir_mode, nuz_open, nuz_open_mode,
+    nuz_readlink, nuz_rename, nuz_rmdir, nuz_stat, nuz_symlink, nuz_truncate, nuz_unlink,
 };
 pub use told::Told;
 pub use transactions::{

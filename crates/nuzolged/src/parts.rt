@@ -5,7 +5,7 @@ ghost use Rattle.ft_session.specs.Parts.{bytes_in};
 ghost use Rattle.nuzolged.specs.Parts.{name_bytes, name_told, name_at, name_bytes_at, blocker_told, blocker_at, bytes_held, bytes_told, bytes_count};
 
 use crate::handle::Handle;
-use crate::told::{BAD, CLOSED, Told, kind_number};
+use crate::told::{BAD, CLOSED, Told};
 use ft_session::{Last, copy_into};
 use std::alloc::Global;
 
@@ -75,10 +75,7 @@ fn name_at(last: &Last, index: usize, buffer: &mut [u8]) -> Told
         None => Told::of(BAD, 0, 0),
         Some((name, kind)) => {
             let size = copy_into(name.as_bytes(), buffer);
-            Told {
-                kind: kind_number(*kind),
-                ..Told::of_size(size)
-            }
+            Told::of_name(*kind, size)
         }
     }
 }

@@ -1,12 +1,12 @@
 // The calls on paths.
-ghost use Rattle.std.specs.Prelude.{◌≡◌, ◌||◌, MatchOption, None, cond};
+ghost use Rattle.std.specs.Prelude.{◌≡◌, ◌||◌, MatchOption, Some, None, cond};
 ghost use Rattle.ft_path.specs.Name.{has_nul};
 ghost use Rattle.ft_posix.specs.declared.call.Call.TheVariants as calls;
 ghost use Rattle.ft_session.specs.Buffers.{filled_by};
 ghost use Rattle.nuzolged.specs.Asked.{IsBad, IsCalled, access_of};
 ghost use Rattle.nuzolged.specs.Parts.{bytes_held};
 
-use crate::asking::{Unasked, bad_argument, call, path_of, paths_of, refuse, turn_away};
+use crate::asking::{Unasked, bad_argument, call, mode_of, path_of, paths_of, refuse, turn_away};
 use crate::handle::Handle;
 use crate::parts::nuz_bytes;
 use crate::told::Told;
@@ -14,15 +14,26 @@ use ft_calls::Call;
 use ft_tree::AccessMode;
 use std::alloc::Global;
 
-/// Makes a directory.
+/// Makes a directory. Its mode is the default one.
 #[unsafe(no_mangle)]
 pub extern "C" fn nuz_mkdir(alloc: Global, tree: &mut Handle, txn: u64, path: &[u8]) -> Told
-    ensures { IsCalled (has_nul path.now) tree.old.session txn (calls.Mkdir path.now) result tree.new.session }
+    ensures { IsCalled (has_nul path.now) tree.old.session txn (calls.Mkdir path.now None) result tree.new.session }
 {
-    match path_of(alloc, path) {
-        Ok(path) => call(alloc, tree, txn, Call::Mkdir { path }),
-        Err(why) => turn_away(alloc, tree, txn, why),
-    }
+    make_dir(alloc, tree, txn, path, None)
+}
+
+/// Makes a directory with a mode.
+#[unsafe(no_mangle)]
+pub extern "C" fn nuz_mkdir_mode(
+    alloc: Global,
+    tree: &mut Handle,
+    txn: u64,
+    path: &[u8],
+    mode: u32,
+) -> Told
+    ensures { IsCalled (has_nul path.now) tree.old.session txn (calls.Mkdir path.now (Some mode)) result tree.new.session }
+{
+    make_dir(alloc, tree, txn, path, Some(mode))
 }
 
 /// Removes an empty directory.
@@ -171,6 +182,7 @@ pub extern "C" fn nuz_lstat(alloc: Global, tree: &mut Handle, txn: u64, path: &[
 }
 
 /// Opens a file, whose descriptor is told. `access` is 0 for reading, 1 for writing and 2 for both.
+/// The mode of a file that is made is the default one.
 #[unsafe(no_mangle)]
 pub extern "C" fn nuz_open(
     alloc: Global,
@@ -183,20 +195,90 @@ pub extern "C" fn nuz_open(
     trunc: bool,
     append: bool,
 ) -> Told
-    ensures { MatchOption (access_of access) (IsBad tree.old.session result tree.new.session) (λ mode. IsCalled (has_nul path.now) tree.old.session txn (calls.Open path.now mode create excl trunc append) result tree.new.session) }
+    ensures { MatchOption (access_of access) (IsBad tree.old.session result tree.new.session) (λ access. IsCalled (has_nul path.now) tree.old.session txn (calls.Open path.now access create excl trunc append None) result tree.new.session) }
 {
     let Some(access) = access_of(access) else {
         return bad_argument(alloc, tree);
     };
+    let opening = Opening {
+        access,
+        create,
+        excl,
+        trunc,
+        append,
+        mode: None,
+    };
+    open(alloc, tree, txn, path, opening)
+}
+
+/// Opens a file, as `nuz_open` does. A file that is made has this mode.
+#[unsafe(no_mangle)]
+pub extern "C" fn nuz_open_mode(
+    alloc: Global,
+    tree: &mut Handle,
+    txn: u64,
+    path: &[u8],
+    access: u32,
+    create: bool,
+    excl: bool,
+    trunc: bool,
+    append: bool,
+    mode: u32,
+) -> Told
+    ensures { MatchOption (access_of access) (IsBad tree.old.session result tree.new.session) (λ access. IsCalled (has_nul path.now) tree.old.session txn (calls.Open path.now access create excl trunc append (Some mode)) result tree.new.session) }
+{
+    let Some(access) = access_of(access) else {
+        return bad_argument(alloc, tree);
+    };
+    let opening = Opening {
+        access,
+        create,
+        excl,
+        trunc,
+        append,
+        mode: Some(mode),
+    };
+    open(alloc, tree, txn, path, opening)
+}
+
+// How a file is opened.
+#[derive(Clone, Copy, Debug)]
+struct Opening {
+    access: AccessMode,
+    create: bool,
+    excl: bool,
+    trunc: bool,
+    append: bool,
+    mode: Option<u32>,
+}
+
+// Makes a directory, with a mode where one is given.
+fn make_dir(alloc: Global, tree: &mut Handle, txn: u64, path: &[u8], mode: Option<u32>) -> Told
+    ensures { IsCalled (has_nul path.now) tree.old.session txn (calls.Mkdir path.now mode) result tree.new.session }
+{
+    match path_of(alloc, path) {
+        Ok(path) => {
+            let mode = mode.map(mode_of);
+            call(alloc, tree, txn, Call::Mkdir { path, mode })
+        }
+        Err(why) => turn_away(alloc, tree, txn, why),
+    }
+}
+
+// Opens a file.
+fn open(alloc: Global, tree: &mut Handle, txn: u64, path: &[u8], opening: Opening) -> Told
+    ensures { IsCalled (has_nul path.now) tree.old.session txn (calls.Open path.now opening.access opening.create opening.excl opening.trunc opening.append opening.mode) result tree.new.session }
+{
     match path_of(alloc, path) {
         Ok(path) => {
             let opens = Call::Open {
                 path,
-                access,
-                create,
-                excl,
-                trunc,
-                append,
+                access: opening.access,
+                create: opening.create,
+                excl: opening.excl,
+                trunc: opening.trunc,
+                append: opening.append,
+                mode: opening.mode.map(mode_of),
             };
             call(alloc, tree, txn, opens)
         }

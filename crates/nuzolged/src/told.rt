@@ -1,12 +1,12 @@
 // Answers in numbers.
 ghost use Rattle.std.specs.Prelude.{◌≡◌};
-ghost use Rattle.nuzolged.specs.Numbers.{told, told_of, told_of_answer, told_of_reply, told_size, errno_number, fault_number, kind_number};
+ghost use Rattle.nuzolged.specs.Numbers.{told, told_of, told_of_answer, told_of_reply, told_name, told_size, errno_number, fault_number, kind_number};
 
 use ft_calls::Reply;
 use ft_core::{Answer, Fault};
 use ft_path::Errno;
 use ft_session::Last;
-use ft_tree::Kind;
+use ft_tree::{Attributes, Kind, Timestamp};
 
 /// There was no memory.
 pub(crate) const MEMORY: u32 = 1001;
@@ -19,6 +19,12 @@ pub(crate) const CLOSED: u32 = 1200;
 
 /// An argument is none that there is.
 pub(crate) const BAD: u32 = 1201;
+
+/// What is told for a time where there is none.
+const EPOCH: Timestamp = Timestamp {
+    seconds: 0,
+    nanoseconds: 0,
+};
 
 /// What a request came to, in numbers: `nuz_answer` of the header.
 #[repr(C)]
@@ -37,6 +43,18 @@ pub struct Told {
     pub links: u64,
     /// How many bytes there are.
     pub size: u64,
+    /// The mode of what a name leads to, or a descriptor has open.
+    pub mode: u32,
+    /// The user that owns that.
+    pub owner: u32,
+    /// The group of that.
+    pub group: u32,
+    /// Whether its bytes have a time.
+    pub has_time: bool,
+    /// The seconds of that time.
+    pub seconds: i64,
+    /// The nanoseconds beside them.
+    pub nanoseconds: u32,
 }
 
 impl Told {
@@ -51,6 +69,12 @@ impl Told {
             number,
             links: 0,
             size: 0,
+            mode: 0,
+            owner: 0,
+            group: 0,
+            has_time: false,
+            seconds: 0,
+            nanoseconds: 0,
         }
     }
 
@@ -61,6 +85,16 @@ impl Told {
         Told {
             size: size as u64,
             ..Told::of(0, 0, 0)
+        }
+    }
+
+    /// The same of a name, with the kind of what it leads to.
+    pub(crate) fn of_name(kind: Kind, size: usize) -> Told
+        ensures { result ≡ told_name kind size }
+    {
+        Told {
+            kind: kind_number(kind),
+            ..Told::of_size(size)
         }
     }
 }
@@ -104,20 +138,35 @@ fn told_of_reply(stamp: u64, reply: &Reply) -> Told
             number,
             links,
             size,
-        } => Told {
-            code: 0,
-            kind: kind_number(*kind),
-            stamp,
-            number: *number,
-            links: *links,
-            size: *size,
-        },
+            attributes,
+            time,
+        } => {
+            let Attributes { mode, owner, group } = attributes.unwrap_or(Attributes::of(*kind));
+            let Timestamp {
+                seconds,
+                nanoseconds,
+            } = time.unwrap_or(EPOCH);
+            Told {
+                code: 0,
+                kind: kind_number(*kind),
+                stamp,
+                number: *number,
+                links: *links,
+                size: *size,
+                mode: mode as u32,
+                owner,
+                group,
+                has_time: time.is_some(),
+                seconds,
+                nanoseconds,
+            }
+        }
         Reply::Failed(errno) => Told::of(errno_number(*errno), stamp, 0),
     }
 }
 
-/// The number of a kind.
-pub(crate) fn kind_number(kind: Kind) -> u32
+// The number of a kind.
+fn kind_number(kind: Kind) -> u32
     ensures { result ≡ kind_number kind }
 {
     match kind {

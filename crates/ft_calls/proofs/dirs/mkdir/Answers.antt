@@ -1,15 +1,18 @@
 use Rattle.std.proofs.Common.{false}
 use Rattle.std.proofs.lemmas.Result.{err_from_is_err_and}
 use Rattle.ft_path.specs.FilePath.{parts_of}
+use Rattle.ft_posix.specs.Attributes.{mode_fault}
 use Rattle.ft_posix.specs.Dirs.{make_dir}
 use Rattle.ft_posix.specs.Intended.{intended}
-use Rattle.ft_posix.proofs.Looking.{comes_lost, comes_on}
+use Rattle.ft_calls.proofs.PathsJudged.{judged_lost, judged_on}
 use Rattle.ft_calls.proofs.dirs.mkdir.Goals as goal
 
 pub returns-in_err-spot : goal.returns-in_err-spot
 returns-in_err-spot c =
-    let p = err_from_is_err_and c.from_residual-in_err-spot.result c.from_residual-in_err-spot.ensures.1 in
-    rw (p.1, p.2) (comes_lost c.args.look.now (parts_of c.args.path.now) (make_dir c.args.stamp) false c.in_ok-parts.parts c.in_ok-parts.ensures c.walk.new.self _ c.in_err-spot.ensures)
+    let p = err_from_is_err_and c.from_residual.result c.from_residual.ensures.1 in
+    rw (p.1, p.2) (judged_lost c.args.look.now false (parts_of c.args.path.now) (make_dir c.args.stamp c.args.mode) c.find_spot.new.look c.mode_fault.result (mode_fault c.args.mode) c.mode_fault.ensures c.in_err-spot.field-0.0 c.in_err-spot.ensures)
 
 pub returns : goal.returns
-returns c = comes_on c.args.look.now (parts_of c.args.path.now) (make_dir c.args.stamp) false c.in_ok-parts.parts c.in_ok-parts.ensures c.walk.new.self c.in_ok-spot.spot c.in_ok-spot.ensures c.make_dir.new.look (intended c.make_dir.new.edits c.make_dir.result) c.make_dir.ensures
+returns c =
+    judged_on c.args.look.now false (parts_of c.args.path.now) (make_dir c.args.stamp c.args.mode) c.find_spot.new.look c.mode_fault.result (mode_fault c.args.mode) c.mode_fault.ensures c.in_ok-spot.spot c.in_ok-spot.ensures
+    c.make_dir.new.look (intended c.make_dir.new.edits c.make_dir.result) c.make_dir.ensures

@@ -76,3 +76,12 @@ pub returns-in-Lstat : goal.returns-in-Lstat
 returns-in-Lstat c =
     told_alone c.args.look.now c.stat-in-Lstat.new.look (steps c.args.look.now.cells.limits (stored_dirs c.args.look.now.cells) c.args.stamp c.args.call.now) c.args.edits.now c.stat-in-Lstat.result c.requires.none
     (named c.args.look.now c.args.stamp _ _ c.in-Lstat.is c.stat-in-Lstat.new.look (intended [] c.stat-in-Lstat.result) c.stat-in-Lstat.ensures)
+
+pub returns-in-Mkdir : goal.returns-in-Mkdir
+returns-in-Mkdir c = named c.args.look.now c.args.stamp _ _ c.in-Mkdir.is c.mkdir.new.look (intended c.mkdir.new.edits c.mkdir.result) c.mkdir.ensures
+
+pub returns-in-Chown : goal.returns-in-Chown
+returns-in-Chown c = named c.args.look.now c.args.stamp _ _ c.in-Chown.is c.chown.new.look (intended c.chown.new.edits c.chown.result) c.chown.ensures
+
+pub returns-in-Lchown : goal.returns-in-Lchown
+returns-in-Lchown c = named c.args.look.now c.args.stamp _ _ c.in-Lchown.is c.lchown.new.look (intended c.lchown.new.edits c.lchown.result) c.lchown.ensures

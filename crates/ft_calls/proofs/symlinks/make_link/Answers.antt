@@ -6,7 +6,7 @@ use Rattle.ft_cells.specs.declared.node.Form.TheVariants.{Link as LinkForm}
 use Rattle.ft_cells.specs.declared.node.Node.TheVariants.{File as FileNode}
 use Rattle.ft_cells.specs.declared.node.Spot.{Spot}
 use Rattle.ft_cells.specs.declared.node.Spot.TheVariants.{Named}
-use Rattle.ft_cells.specs.Cells.{bytes_of}
+use Rattle.ft_cells.specs.Cells.{bytes_of, untimed}
 use Rattle.ft_cells.specs.Looks.{answer}
 use Rattle.ft_tree.specs.Views.{view_of}
 use Rattle.ft_posix.specs.declared.call.Reply.TheVariants as reply
@@ -28,7 +28,7 @@ returns c =
     let old = c.args.look.now in
     let spot : c.args.spot ≡ Named at.entry None false = search rules in
     let edits : c.push-3.new.self ≡ Links k 1 ∷ Overwrite k 0 c.args.target ∷ Entry at.entry (Some (FileNode LinkForm k)) ∷ [] = search rules in
-    let new : List ℕ → Outcome = λ bytes. record { reply = reply.Done; writes = sets (cell.Links k) 1 ∷ sets (cell.Bytes k) bytes ∷ sets (cell.Entry at.entry) (Some (FileNode LinkForm k)) ∷ [] } in
+    let new : List ℕ → Outcome = λ bytes. record { reply = reply.Done; writes = sets (cell.Links k) 1 ∷ sets (cell.Bytes k) (untimed bytes) ∷ sets (cell.Entry at.entry) (Some (FileNode LinkForm k)) ∷ [] } in
     let target : written (bytes_of old.cells k) 0 (fitting LARGEST_SIZE c.args.target.now 0) ≡ c.args.target.now = ap (λ was. written was 0 (fitting LARGEST_SIZE c.args.target.now 0)) c.requires.fresh ∙ written-new c.args.target.now (omega (arith, c.requires.short)) in (
       ap (λ (es : List Edit). outcome_of old.cells (record { told = Done; edits = es })) edits ∙ ap new target ∙ ap (λ (s : Spot). answer (make_link k c.args.target.now s) (view_of old.cells)) (sym spot),
       ap (λ (s : Spot). noted old (make_link k c.args.target.now s)) (sym spot),

@@ -6,8 +6,10 @@ use Rattle.ft_command.proofs.choice.save_choice.Goals as goal
 pub returns-in-Some : goal.returns-in-Some
 returns-in-Some c =
     let found = found_of c.args.found.now in
+    let set_id = flag_read found (codes "set-id") c.get_flag-set_id.result c.get_flag-set_id.ensures.none c.get_flag-set_id.ensures.value c.get_flag-set_id.ensures.other in
+    let no_owners = flag_read found (codes "no-owners") c.get_flag-no_owners.result c.get_flag-no_owners.ensures.none c.get_flag-no_owners.ensures.value c.get_flag-no_owners.ensures.other in
     let quiet = flag_read found (codes "quiet") c.get_flag-quiet.result c.get_flag-quiet.ensures.none c.get_flag-quiet.ensures.value c.get_flag-quiet.ensures.other in
-    (rows_of found, refl, c.in-Some.ensures, quiet, c.in-Ok.ensures.ok)
+    (rows_of found, refl, c.in-Some.ensures, set_id, no_owners, quiet, c.in-Ok.ensures.ok)
 
 pub returns-in-Err : goal.returns-in-Err
 returns-in-Err c = c.misused.ensures (codes "save") c.in-Err.ensures.err

@@ -1,21 +1,18 @@
-use Rattle.std.proofs.Common.{◌≡◌, ◌⊎◌, ℕ, List, [], ◌∷◌, subst}
-use Rattle.ft_copy.specs.declared.trouble.Trouble.TheVariants.{Memory}
-use Rattle.ft_copy.specs.declared.found.TheConstants.{ROOT}
-use Rattle.ft_copy.specs.Told.{Refuses}
-use Rattle.ft_copy.specs.declared.trouble.Trouble.{Trouble}
+use Rattle.std.proofs.Common.{[], ◌∷◌}
 use Rattle.ft_copy.specs.Asked.{Start}
 use Rattle.ft_copy.specs.Stops.{IsCauseAtRoot}
 use Rattle.ft_copy.proofs.Doing.{does_one}
-use Rattle.ft_copy.proofs.Stopping.{if_err, stops_after, stops_nothing}
+use Rattle.ft_copy.proofs.Stopping.{at_fault, root_unread, stops_after, stops_nothing}
 use Rattle.ft_copy.proofs.copying.begin.Goals as goal
 
-pub returns-clause-err : goal.returns-clause-err
-returns-clause-err g c =
+pub returns-in_err-enter-clause-err : goal.returns-in_err-enter-clause-err
+returns-in_err-enter-clause-err g c =
     let does = g.T.Target.does in
     let fails = g.T.Target.fails in
+    let tells = g.S.Source.tells c.args.source.now in
     let target = c.start.new.self in
-    let cause = λ (t : Trouble). IsCauseAtRoot (g.S.Source.tells c.args.source.now) t in
-    if_err c.enter.result
-    (λ t refused. stops_after does fails (cause t) t (Start ∷ []) [] c.args.target.now target target (does_one does c.args.target.now target Start c.in_ok-start.ensures.ok) (stops_nothing does fails (cause t) t [] target
-    (subst (λ (p : List ℕ). (t ≡ Memory) ⊎ g.S.Source.tells c.args.source.now (Refuses p ROOT t)) c.as_slice.ensures refused)))
-    c.enter.ensures.err
+    let old = c.args.target.now in
+    let begun = does_one does old target Start c.in_ok-start.ensures.ok in
+    at_fault c.from_residual-in_err-enter.result c.from_residual-in_err-enter.ensures.1
+    (λ t is. stops_after does fails (IsCauseAtRoot tells t) t (Start ∷ []) [] old target target begun (stops_nothing does fails (IsCauseAtRoot tells t) t [] target
+    (root_unread tells c.as_slice.result.now t _ c.as_slice.ensures is c.in_err-enter.ensures.err)))

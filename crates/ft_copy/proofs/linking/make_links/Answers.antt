@@ -1,4 +1,4 @@
-use Rattle.std.proofs.Common.{◌≡◌, [], ◌∷◌, ◌++◌, sym, subst, ap, ◌∙◌}
+use Rattle.std.proofs.Common.{[], ◌∷◌, ◌++◌, sym, subst}
 use Rattle.std.specs.List.{flat_map}
 use Rattle.ft_copy.specs.Asked.{DoesAll}
 use Rattle.ft_copy.specs.Runs.{asked_of}

@@ -1,4 +1,4 @@
-use Rattle.std.proofs.Common.{◌≡◌, List, length}
+use Rattle.std.proofs.Common.{List, length}
 use Rattle.std.specs.List.{flat_map}
 use Rattle.ft_copy.specs.Asked.{DoesAll}
 use Rattle.ft_copy.specs.Runs.{LinksTo, Visit, asked_of}

@@ -4,7 +4,7 @@ use Rattle.ft_save.proofs.Indexing.{adds_nothing}
 use Rattle.ft_save.proofs.index.index_of.Goals as goal
 
 pub loop-row-init : goal.loop-row-init
-loop-row-init c = ([], sym (append-nil c.args.rows.items), adds_nothing _ c.new.ensures c.new-3.ensures c.new-2.ensures c.new-4.ensures)
+loop-row-init c = ([], sym (append-nil c.args.rows.items), adds_nothing _ c.new.ensures c.new-3.ensures c.new-2.ensures c.new-4.ensures c.new-5.ensures c.new-6.ensures)
 
 pub loop-row-preserved : goal.loop-row-preserved
 loop-row-preserved c =

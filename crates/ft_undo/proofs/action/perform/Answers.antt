@@ -12,7 +12,7 @@ use Rattle.ft_undo.specs.Undone.{AreAsLeft}
 use Rattle.ft_posix.proofs.Changes.{call-changes, only_tells-none}
 use Rattle.ft_posix.proofs.Executed.{tidying}
 use Rattle.ft_posix.proofs.Kept.{soundness, freshness}
-use Rattle.ft_posix.proofs.Free.{no_bytes}
+use Rattle.ft_undo.proofs.Fresh.{no_bytes}
 use Rattle.ft_undo.proofs.action.perform.Goals as goal
 
 -- the number of the call is free, so nothing is stored of it

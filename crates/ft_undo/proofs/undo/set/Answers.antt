@@ -1,7 +1,6 @@
-use Rattle.std.proofs.Common.{◌≡◌, ℕ, List, ap, sym, ◌∙◌, rules}
-use Rattle.ft_body.specs.Bytes.{BodyChange}
+use Rattle.std.proofs.Common.{◌≡◌, ℕ, ap, sym, ◌∙◌, rules}
 use Rattle.ft_cells.specs.declared.cell.Cell.TheVariants.{Bytes}
-use Rattle.ft_cells.specs.Cells.{Cells, bytes_of, put_entry, put_bytes}
+use Rattle.ft_cells.specs.Cells.{Cells, Contents, ContentsChange, contents_of, put_entry, put_contents}
 use Rattle.ft_posix.specs.declared.intent.Edit.{Edit}
 use Rattle.ft_posix.specs.CellLaws.{SettingLaw}
 use Rattle.ft_posix.specs.Comes.{write_of}
@@ -11,12 +10,12 @@ use Rattle.ft_undo.specs.Undone.{back_of}
 use Rattle.ft_posix.proofs.Setting.{setting}
 use Rattle.ft_undo.proofs.undo.set.Goals as goal
 
--- the bytes that are set are the ones after the change
-abbrev change : List ℕ → List ℕ → BodyChange
+-- what is set is what the file holds after the change
+abbrev change : Contents → Contents → ContentsChange
 change before after = record { before = before; after = after }
 
-after_set : SettingLaw → (old new : Cells) (i : ℕ) (bytes : List ℕ) → new ≡ put_bytes old i bytes → change (bytes_of old i) (bytes_of new i) ≡ change (bytes_of old i) bytes
-after_set setting old new i bytes is = ap (change (bytes_of old i)) (ap (λ (s : Cells). bytes_of s i) is ∙ setting.written old (Bytes i) bytes)
+after_set : SettingLaw → (old new : Cells) (i : ℕ) (to : Contents) → new ≡ put_contents old i to → change (contents_of old i) (contents_of new i) ≡ change (contents_of old i) to
+after_set setting old new i to is = ap (change (contents_of old i)) (ap (λ (s : Cells). contents_of s i) is ∙ setting.written old (Bytes i) to)
 
 pub returns-in_ok-undo-in-Overwrite-clause-back : goal.returns-in_ok-undo-in-Overwrite-clause-back
 returns-in_ok-undo-in-Overwrite-clause-back c =
@@ -52,3 +51,12 @@ returns-in_ok-undo-in-Resize-clause-after c = puts c.args.tree.now _ c.args.edit
 
 pub returns-in_ok-was-in-Open-clause-after : goal.returns-in_ok-was-in-Open-clause-after
 returns-in_ok-was-in-Open-clause-after c = puts c.args.tree.now _ c.args.edit _ c.in-Open.is c.in_ok-was-in-Open.ensures.ok
+
+pub returns-in-DirAttributes-clause-after : goal.returns-in-DirAttributes-clause-after
+returns-in-DirAttributes-clause-after c = puts c.args.tree.now _ c.args.edit _ c.in-DirAttributes.is c.set_dir_attributes.ensures.after
+
+pub returns-in-FileAttributes-clause-after : goal.returns-in-FileAttributes-clause-after
+returns-in-FileAttributes-clause-after c = puts c.args.tree.now _ c.args.edit _ c.in-FileAttributes.is c.set_file_attributes.ensures.after
+
+pub returns-in-Time-clause-after : goal.returns-in-Time-clause-after
+returns-in-Time-clause-after c = puts c.args.tree.now _ c.args.edit _ c.in-Time.is c.set_time.ensures.after

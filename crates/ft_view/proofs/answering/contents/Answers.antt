@@ -4,7 +4,7 @@ use Rattle.ft_posix.specs.declared.call.Reply.{Reply}
 use Rattle.ft_posix.specs.declared.intent.Told.{Told}
 use Rattle.ft_posix.specs.Comes.{reply_of}
 use Rattle.ft_posix.specs.Stored.{outcome}
-use Rattle.ft_posix.proofs.Free.{no_bytes}
+use Rattle.ft_undo.proofs.Fresh.{no_bytes}
 use Rattle.ft_view.specs.declared.TheConstants.{READING}
 use Rattle.ft_view.specs.Reading.{open_to_read, contents_on}
 use Rattle.ft_view.proofs.Reading.{contents_are}

@@ -4,7 +4,7 @@ use Rattle.ft_posix.specs.declared.call.Reply.{Reply}
 use Rattle.ft_posix.specs.Comes.{reply_of}
 use Rattle.ft_posix.specs.Outcomes.{Outcome}
 use Rattle.ft_posix.proofs.Executed.{tidying}
-use Rattle.ft_posix.proofs.Free.{no_bytes}
+use Rattle.ft_undo.proofs.Fresh.{no_bytes}
 use Rattle.ft_view.specs.Replay.{reply_on}
 use Rattle.ft_view.specs.declared.TheConstants.{READING}
 use Rattle.ft_view.proofs.answering.reply.Goals as goal

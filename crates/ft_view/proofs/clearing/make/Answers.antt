@@ -10,7 +10,7 @@ use Rattle.ft_posix.specs.Outcomes.{Outcome}
 use Rattle.ft_posix.specs.Stored.{after, put_all}
 use Rattle.ft_posix.proofs.Executed.{tidying}
 use Rattle.ft_posix.proofs.Kept.{soundness, freshness}
-use Rattle.ft_posix.proofs.Free.{no_bytes}
+use Rattle.ft_undo.proofs.Fresh.{no_bytes}
 use Rattle.ft_view.specs.Cleared.{DropsMet}
 use Rattle.ft_view.proofs.Useless.{left-by-call}
 use Rattle.ft_view.proofs.clearing.make.Goals as goal

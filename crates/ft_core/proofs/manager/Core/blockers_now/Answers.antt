@@ -3,7 +3,7 @@ use Rattle.ft_posix.specs.Accesses.{accesses_of}
 use Rattle.ft_moss.specs.Locks.{AreBlockers}
 use Rattle.ft_moss.specs.Rules.{is_strict}
 use Rattle.ft_core.specs.Reports.{blockers_now}
-use Rattle.ft_posix.proofs.Free.{no_bytes}
+use Rattle.ft_undo.proofs.Fresh.{no_bytes}
 use Rattle.ft_core.proofs.Asks.{blocked, next-free}
 use Rattle.ft_core.proofs.Gathered.{state-is}
 use Rattle.ft_core.proofs.Known.{call_laws, lock_laws}

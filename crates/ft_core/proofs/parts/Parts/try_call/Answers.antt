@@ -2,7 +2,7 @@ use Rattle.std.proofs.Common.{[], eqb-true, vec_len, ap, sym, subst, ◌∙◌}
 use Rattle.std.proofs.lemmas.List.{nil_from_length}
 use Rattle.ft_posix.specs.Outcomes.{Outcome}
 use Rattle.ft_posix.specs.Stored.{outcome}
-use Rattle.ft_posix.proofs.Free.{no_bytes}
+use Rattle.ft_undo.proofs.Fresh.{no_bytes}
 use Rattle.ft_moss.specs.Locks.{AreBlockers}
 use Rattle.ft_core.specs.Makes.{IsMadeOn}
 use Rattle.ft_core.proofs.parts.Parts.try_call.Goals as goal

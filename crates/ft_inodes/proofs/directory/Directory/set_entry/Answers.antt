@@ -14,7 +14,7 @@ returns-clause-was c =
 
 pub returns-clause-ok : goal.returns-clause-ok
 returns-clause-ok c =
-    ap (λ m. record { parent = c.self.inside.parent; entries = m }) (view-put nat_list_cmp_total exact_bytes c.self.inside.entries.entries c.insert.new.self.entries c.args.name c.with_hint.result c.in_ok-insert.ensures.updates.0)
+    ap (λ m. record { parent = c.self.inside.parent; attributes = c.self.inside.attributes; entries = m }) (view-put nat_list_cmp_total exact_bytes c.self.inside.entries.entries c.insert.new.self.entries c.args.name c.with_hint.result c.in_ok-insert.ensures.updates.0)
     ∙ (λ i. put_dir_entry (c.self.view_is i) c.args.name (c.with_hint.ensures i))
 
 pub returns-in_err-insert-clause-place : goal.returns-in_err-insert-clause-place

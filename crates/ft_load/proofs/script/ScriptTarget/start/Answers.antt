@@ -1,7 +1,9 @@
-use Rattle.std.proofs.Common.{◌≡◌, ℕ, List, [], ◌∷◌, ◌++◌, codes, append_assoc, inl, subst, sym, ◌∙◌}
+use Rattle.std.proofs.Common.{◌≡◌, ℕ, List, [], ◌∷◌, ◌++◌, codes, append_assoc, inl, refl, subst, sym, ◌∙◌}
 use Rattle.std.proofs.lemmas.Result.{on_ok_weaker}
 use Rattle.std.specs.Io.KnownBytes.{Appends}
-use Rattle.ft_copy.proofs.Stopping.{if_err}
+use Rattle.ft_copy.specs.Asked.{Start}
+use Rattle.ft_copy.proofs.Stopping.{at_fault, if_err}
+use Rattle.ft_load.proofs.Scripting.{breaks_before}
 use Rattle.ft_needs.specs.Lines.{needs_text}
 use Rattle.ft_script.specs.Runs.{WritesPart}
 use Rattle.ft_load.proofs.script.ScriptTarget.start.Goals as goal
@@ -21,3 +23,8 @@ returns-clause-err g c =
     let old = g.W.Write.contents c.args.self.now.writer in
     let new = g.W.Write.contents c.say.new.self.writer in
     if_err c.say.result (λ trouble failed. inl (failed.0, subst (λ (t : List ℕ). WritesPart old new t) text failed.1)) c.say.ensures.err
+
+pub returns-in_err-line-clause-err : goal.returns-in_err-line-clause-err
+returns-in_err-line-clause-err g c =
+    let self = c.args.self.now in
+    at_fault c.from_residual.result c.from_residual.ensures.1 (λ t is. breaks_before self.limits t _ Start self.next self.fd (g.W.Write.contents self.writer) is (inl refl))

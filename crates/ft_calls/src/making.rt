@@ -1,0 +1,49 @@
+// The modes that new directories and files get.
+ghost use Rattle.std.specs.Prelude.{◌≡◌, ◌++◌, OnOk};
+ghost use Rattle.ft_cells.specs.Cells.{Cells};
+ghost use Rattle.ft_posix.specs.Attributes.{dir_mode, file_mode};
+ghost use Rattle.ft_posix.specs.Comes.{writes_of};
+
+use crate::attributes::Change;
+use ft_base::Memory;
+use ft_posix::{Edit, Edits};
+use ft_tree::{HintedFile, Kind, Rare};
+use std::alloc::Global;
+
+/// A new directory gets the mode that is given, if there is one.
+pub(crate) fn set_dir_mode(
+    alloc: Global,
+    edits: &mut Edits<'_>,
+    dir: u64,
+    mode: Option<u16>,
+) -> Result<(), Memory>
+    ensures { (cells : Cells) → OnOk result (writes_of cells edits.new ≡ writes_of cells edits.old ++ dir_mode dir mode) }
+{
+    let Some(mode) = mode else {
+        return Ok(());
+    };
+    edits.push(Edit::DirAttributes {
+        dir,
+        to: Rare::new(alloc, Change::Mode(mode).changed(Kind::Dir, None))?,
+    })?;
+    Ok(())
+}
+
+/// A new file gets the mode that is given, if there is one.
+pub(crate) fn set_file_mode(
+    alloc: Global,
+    edits: &mut Edits<'_>,
+    file: u64,
+    mode: Option<u16>,
+) -> Result<(), Memory>
+    ensures { (cells : Cells) → OnOk result (writes_of cells edits.new ≡ writes_of cells edits.old ++ file_mode file mode) }
+{
+    let Some(mode) = mode else {
+        return Ok(());
+    };
+    edits.push(Edit::FileAttributes {
+        file: HintedFile::new(file),
+        to: Rare::new(alloc, Change::Mode(mode).changed(Kind::File, None))?,
+    })?;
+    Ok(())
+}

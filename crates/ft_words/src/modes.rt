@@ -1,0 +1,104 @@
+// Modes, and their owners.
+ghost use Rattle.std.specs.Prelude.{◌≡◌, ◌+◌, ◌*◌, ◌^◌, ◌≤◌, ◌&&◌, nat_lt, if◌then◌else◌, Some, None};
+ghost use Rattle.std.specs.Char.{digit_value};
+ghost use Rattle.ft_words.specs.Modes.{is_octal_digit, mode_of, owner_of, mode_text, owner_text, attributes_text, time_text};
+
+use crate::numbers::short_number_of;
+use ft_tree::{Attributes, MOST_MODE, Timestamp};
+use std::fmt;
+
+/// The mode that a word of 1 to 5 octal digits stands for, where it is at most 07777.
+pub fn mode_of(word: &[u8]) -> Option<u16>
+    ensures { result ≡ mode_of word.now }
+{
+    if word.is_empty() || word.len() > 5 {
+        return None;
+    }
+    let mut mode = 0;
+    for byte in word {
+        mode = with_octal_digit(mode, *byte)?;
+    }
+    Some(mode)
+}
+
+// The mode with this digit behind its own, where the byte is an octal digit and the mode then at
+// most 07777.
+fn with_octal_digit(mode: u16, byte: u8) -> Option<u16>
+    requires { mode ≤ MOST_MODE }
+    ensures { result ≡ (if is_octal_digit byte && nat_lt (mode * 8 + digit_value byte) (8 ^ 4)
+        then Some (mode * 8 + digit_value byte) else None) }
+{
+    if !matches!(byte, b'0'..=b'7') {
+        return None;
+    }
+    let more = mode * 8 + u16::from(byte - b'0');
+    (more <= MOST_MODE).then_some(more)
+}
+
+/// The owner or the group that a word names: a number below 2^32 of at most 10 digits. `-` names
+/// none, so that the one that is there stays. 4294967295 is none either and no such word, since
+/// POSIX.1-2017 (System Interfaces, chown) has it stand for the one that is there.
+pub fn owner_of(word: &[u8]) -> Option<Option<u32>>
+    ensures { result ≡ owner_of word.now }
+{
+    if word == b"-".as_slice() {
+        return Some(None);
+    }
+    match short_number_of(word)? {
+        u32::MAX => None,
+        owner => Some(Some(owner)),
+    }
+}
+
+/// A mode, in four octal digits.
+#[derive(Clone, Copy)]
+pub struct ModeText(pub u16);
+
+impl fmt::Display for ModeText {
+    ghost output = { λ mode. Some (mode_text mode.0) };
+
+    #[tactic(auto, using(crate::proofs::ModeTexts::padded_mode))]
+    fn fmt<W: fmt::Write>(&self, f: &mut fmt::Formatter<W>) -> fmt::Result {
+        write!(f, "{:04o}", self.0)
+    }
+}
+
+/// An owner or a group, and `-` for the one that is there.
+#[derive(Clone, Copy)]
+pub struct OwnerText(pub Option<u32>);
+
+impl fmt::Display for OwnerText {
+    ghost output = { λ owner. Some (owner_text owner.0) };
+
+    fn fmt<W: fmt::Write>(&self, f: &mut fmt::Formatter<W>) -> fmt::Result {
+        match self.0 {
+            Some(owner) => write!(f, "{owner}"),
+            None => f.write_str("-"),
+        }
+    }
+}
+
+/// A mode, an owner and a group.
+#[derive(Clone, Copy)]
+pub(crate) struct AttributesText(pub(crate) Attributes);
+
+impl fmt::Display for AttributesText {
+    ghost output = { λ text. Some (attributes_text text.0) };
+
+    fn fmt<W: fmt::Write>(&self, f: &mut fmt::Formatter<W>) -> fmt::Result {
+        let Attributes { mode, owner, group } = self.0;
+        write!(f, "{} {owner} {group}", ModeText(mode))
+    }
+}
+
+/// The time of bytes.
+#[derive(Clone, Copy)]
+pub(crate) struct TimeText(pub(crate) Timestamp);
+
+impl fmt::Display for TimeText {
+    ghost output = { λ text. Some (time_text text.0) };
+
+    fn fmt<W: fmt::Write>(&self, f: &mut fmt::Formatter<W>) -> fmt::Result {
+        write!(f, "{} {}", self.0.seconds, self.0.nanoseconds)
+    }
+}
