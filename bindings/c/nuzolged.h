@@ -57,6 +57,12 @@ typedef struct nuz_answer {
     uint64_t number; /* a transaction, a descriptor, an offset, a count, or the number of a file */
     uint64_t links;  /* how many names a file or symbolic link has */
     uint64_t size;   /* how many bytes there are */
+    uint32_t mode;   /* of a directory, file or link: the 12 bits of sys/stat.h, and no kind */
+    uint32_t owner;  /* its owner, a user ID */
+    uint32_t group;  /* and its group ID */
+    bool has_time;   /* whether the bytes of a file have a time */
+    int64_t seconds; /* that time, since the Epoch: whole seconds, less than 0 before it */
+    uint32_t nanoseconds; /* and nanoseconds beside them, which always count forward */
 } nuz_answer;
 
 /* The codes of an answer.
@@ -121,6 +127,10 @@ enum { NUZ_READ_ONLY = 0, NUZ_WRITE_ONLY = 1, NUZ_READ_WRITE = 2 };
 
 /* The whence of nuz_lseek, as SEEK_SET, SEEK_CUR and SEEK_END. */
 enum { NUZ_SET = 0, NUZ_CUR = 1, NUZ_END = 2 };
+
+/* As an owner or a group of nuz_chown, nuz_lchown and nuz_fchown: the one that is there stays. It
+ * is the (uid_t)-1 of chown. */
+#define NUZ_STAYS UINT32_MAX
 
 /* A C string as the two arguments of a path, a line or bytes. It is told twice: so give it a name,
  * and no call. */
@@ -212,18 +222,25 @@ nuz_answer nuz_checkpoint(nuz_tree *tree);
  * Throughout, tree is a handle, txn the number of the transaction that makes the call, path a path
  * of len bytes, and fd the number of a descriptor.
  *
- * Each makes one call inside txn, and is what POSIX.1-2017 says of the function of that name.
+ * Each makes one call inside txn, and does what POSIX.1-2017 says of the function of that name
+ * (nuz_list: readdir; nuz_utime and nuz_lutime: utimensat; nuz_futime: futimens).
  * Each answers NUZ_CLOSED; NUZ_BAD where a path has a null byte; the refusals NUZ_NO_TXN,
  * NUZ_ENDED, NUZ_FULL and NUZ_MEMORY, in this order; NUZ_WAITS; or was granted, with its stamp: 0,
  * or one of the errnos that it names. A path also gives ENOENT, ENOTDIR, ENAMETOOLONG and ELOOP.
  *
  * A symbolic link is followed where more of the path, or a slash, stands behind it. A last one is
- * followed by nuz_stat, nuz_list, nuz_truncate and nuz_open (but with create and excl), and by no
- * other call, for which it is what the path leads to. A path through more than 40 links, as where
- * they lead to each other, is ELOOP. */
+ * followed by nuz_stat, nuz_list, nuz_truncate, nuz_open (except with create and excl), nuz_chmod,
+ * nuz_chown and nuz_utime, and by no other call, for which it is what the path leads to. A path
+ * through more than 40 links, as where they lead to each other, is ELOOP. */
 
-/** Makes a directory. EEXIST. */
+/** Makes a directory with mode 0755, owner 0 and group 0. EEXIST. */
 nuz_answer nuz_mkdir(nuz_tree *tree, uint64_t txn, const uint8_t *path, size_t len);
+
+/** The same with this mode, whose 12 bits are all set as they are given: there is no umask. EINVAL
+ * for one above 07777, EEXIST.
+ * @param mode the mode of the directory */
+nuz_answer nuz_mkdir_mode(nuz_tree *tree, uint64_t txn, const uint8_t *path, size_t len,
+                          uint32_t mode);
 
 /** Removes an empty directory. EINVAL, ENOTEMPTY, EBUSY. */
 nuz_answer nuz_rmdir(nuz_tree *tree, uint64_t txn, const uint8_t *path, size_t len);
@@ -231,18 +248,20 @@ nuz_answer nuz_rmdir(nuz_tree *tree, uint64_t txn, const uint8_t *path, size_t l
 /** The names of a directory, without . and ..: number is how many, and nuz_name tells each. */
 nuz_answer nuz_list(nuz_tree *tree, uint64_t txn, const uint8_t *path, size_t len);
 
-/** What a path leads to: kind, number, links and size. A directory has one link and size 0. A last
- * symbolic link is followed: kind is never NUZ_LINK. */
+/** What a path leads to: kind, number, links and size; mode, owner and group, the default ones too;
+ * and, if has_time is true, the time of a file's bytes in seconds and nanoseconds. A directory has
+ * one link and size 0, and no time. A last symbolic link is followed: kind is never NUZ_LINK. */
 nuz_answer nuz_stat(nuz_tree *tree, uint64_t txn, const uint8_t *path, size_t len);
 
-/** The same, but a last symbolic link is not followed: size is then how long its target is. */
+/** The same, but a last symbolic link is not followed: its size is the length of its target, its
+ * mode 0777, and its owner and group are 0. It has no time. */
 nuz_answer nuz_lstat(nuz_tree *tree, uint64_t txn, const uint8_t *path, size_t len);
 
 /** Removes a name of a file or symbolic link. A file lives while a descriptor has it open.
  * EPERM. */
 nuz_answer nuz_unlink(nuz_tree *tree, uint64_t txn, const uint8_t *path, size_t len);
 
-/** Cuts a file to size bytes, or adds zeros up to them. EINVAL, EFBIG, EISDIR.
+/** Cuts a file to size bytes, or adds zeros up to them. Its time goes. EINVAL, EFBIG, EISDIR.
  * @param size how many bytes the file has then */
 nuz_answer nuz_truncate(nuz_tree *tree, uint64_t txn, const uint8_t *path, size_t len,
                         int64_t size);
@@ -289,21 +308,29 @@ nuz_answer nuz_readlink(nuz_tree *tree, uint64_t txn, const uint8_t *path, size_
  * and O_APPEND, and are 0 or 1. A descriptor is the tree's: any transaction may use it once that of
  * its open has committed. The caller closes it. EINVAL, EEXIST, EISDIR.
  * @param access NUZ_READ_ONLY, NUZ_WRITE_ONLY or NUZ_READ_WRITE
- * @param create makes the file where it is missing, as O_CREAT; also where a symbolic link leads to
- * it
+ * @param create makes the file where it is missing, as O_CREAT, with mode 0644, owner 0 and group
+ * 0; also where a symbolic link leads to it
  * @param excl with create: it has to be missing, as O_EXCL, and so has a symbolic link there
- * @param trunc cuts it to nothing, as O_TRUNC
+ * @param trunc cuts it to nothing, as O_TRUNC, and its time goes
  * @param append each write is at its end, as O_APPEND */
 nuz_answer nuz_open(nuz_tree *tree, uint64_t txn, const uint8_t *path, size_t len, uint32_t access,
                     bool create, bool excl, bool trunc, bool append);
 
+/** The same with a mode for the file that it makes, without a umask; a file that is there keeps its
+ * own. EINVAL also for a mode above 07777, whether or not a file would be made.
+ * @param mode the mode of a file that is made */
+nuz_answer nuz_open_mode(nuz_tree *tree, uint64_t txn, const uint8_t *path, size_t len,
+                         uint32_t access, bool create, bool excl, bool trunc, bool append,
+                         uint32_t mode);
+
 /** Closes a descriptor. EBADF. */
 nuz_answer nuz_close(nuz_tree *tree, uint64_t txn, uint64_t fd);
 
-/** What a descriptor has open: kind, number, links and size. EBADF. */
+/** What a descriptor has open, as nuz_stat tells it. EBADF. */
 nuz_answer nuz_fstat(nuz_tree *tree, uint64_t txn, uint64_t fd);
 
-/** Cuts the file of a descriptor to size bytes, or adds zeros up to them. EBADF, EINVAL, EFBIG.
+/** Cuts the file of a descriptor to size bytes, or adds zeros up to them. Its time goes. EBADF,
+ * EINVAL, EFBIG.
  * @param size how many bytes the file has then */
 nuz_answer nuz_ftruncate(nuz_tree *tree, uint64_t txn, uint64_t fd, int64_t size);
 
@@ -327,7 +354,8 @@ nuz_answer nuz_pread(nuz_tree *tree, uint64_t txn, uint64_t fd, uint8_t *buffer,
                      int64_t off);
 
 /** Writes at the offset, or at the end of a file that is open for appending, as many bytes as have
- * room in the file, and moves the offset: number is how many. EBADF, EFBIG.
+ * room in the file, and moves the offset: number is how many. Where there are some, the file's time
+ * goes. EBADF, EFBIG.
  * @param bytes what is written
  * @param len how many bytes that has */
 nuz_answer nuz_write(nuz_tree *tree, uint64_t txn, uint64_t fd, const uint8_t *bytes, size_t len);
@@ -336,6 +364,60 @@ nuz_answer nuz_write(nuz_tree *tree, uint64_t txn, uint64_t fd, const uint8_t *b
  * @param off where it begins to write */
 nuz_answer nuz_pwrite(nuz_tree *tree, uint64_t txn, uint64_t fd, const uint8_t *bytes, size_t len,
                       int64_t off);
+
+/* ---- modes, owners and times
+ *
+ * No mode and no owner forbids a call anything. A mode has 12 bits, those of S_IRWXU, S_IRWXG,
+ * S_IRWXO, S_ISUID, S_ISGID and S_ISVTX, and one above 07777 is EINVAL. Only nuz_chmod and
+ * nuz_fchmod change a mode: what changes the owner or the bytes leaves S_ISUID and S_ISGID.
+ *
+ * A file has a time if one was set for the bytes that it has: a write, a cut or nuz_open with trunc
+ * takes it away, even if the bytes stay the same, and an undo or an abort brings it back. No clock
+ * is read. A directory and a symbolic link have no time, and to set one is EINVAL, as are
+ * 1,000,000,000 nanoseconds or more, so that UTIME_NOW and UTIME_OMIT are too.
+ *
+ * A last symbolic link is followed, except by nuz_lchown and nuz_lutime. The calls on a descriptor
+ * take any that is open, for reading alone too. */
+
+/** Sets the mode of a directory or file. EINVAL.
+ * @param mode the mode that it has then */
+nuz_answer nuz_chmod(nuz_tree *tree, uint64_t txn, const uint8_t *path, size_t len, uint32_t mode);
+
+/** Sets the mode of the file of a descriptor. EBADF, EINVAL.
+ * @param mode the mode that it has then */
+nuz_answer nuz_fchmod(nuz_tree *tree, uint64_t txn, uint64_t fd, uint32_t mode);
+
+/** Sets the owner and the group of a directory or file; with NUZ_STAYS that one stays.
+ * @param owner the owner that it has then, or NUZ_STAYS
+ * @param group the group that it has then, or NUZ_STAYS */
+nuz_answer nuz_chown(nuz_tree *tree, uint64_t txn, const uint8_t *path, size_t len, uint32_t owner,
+                     uint32_t group);
+
+/** The same, but a last symbolic link is not followed: its owner and its group are 0, and to set
+ * others is EINVAL. */
+nuz_answer nuz_lchown(nuz_tree *tree, uint64_t txn, const uint8_t *path, size_t len,
+                      uint32_t owner, uint32_t group);
+
+/** Sets the owner and the group of the file of a descriptor; with NUZ_STAYS that one stays. EBADF.
+ * @param owner the owner that it has then, or NUZ_STAYS
+ * @param group the group that it has then, or NUZ_STAYS */
+nuz_answer nuz_fchown(nuz_tree *tree, uint64_t txn, uint64_t fd, uint32_t owner, uint32_t group);
+
+/** Sets the time of a file's bytes. EINVAL.
+ * @param seconds whole seconds since the Epoch, less than 0 before it
+ * @param nanoseconds those beside them, at most 999,999,999 */
+nuz_answer nuz_utime(nuz_tree *tree, uint64_t txn, const uint8_t *path, size_t len, int64_t seconds,
+                     uint32_t nanoseconds);
+
+/** The same, but a last symbolic link is not followed, and is EINVAL. */
+nuz_answer nuz_lutime(nuz_tree *tree, uint64_t txn, const uint8_t *path, size_t len,
+                      int64_t seconds, uint32_t nanoseconds);
+
+/** Sets the time of the bytes of a descriptor's file. EBADF, EINVAL.
+ * @param seconds whole seconds since the Epoch, less than 0 before it
+ * @param nanoseconds those beside them, at most 999,999,999 */
+nuz_answer nuz_futime(nuz_tree *tree, uint64_t txn, uint64_t fd, int64_t seconds,
+                      uint32_t nanoseconds);
 
 /* ---- parts of the last answer
  *
@@ -367,12 +449,12 @@ nuz_answer nuz_bytes(nuz_tree *tree, uint8_t *buffer, size_t room);
  *
  * The same requests as text, and reports, which have no other form (docs/SCRIPT.md). */
 
-/** Carries out one line, without its line feed. A request is answered as its function answers it. A
- * report, `tree`, `locks` or `waits`, changes nothing of the tree, and is answered 0; so is an
- * empty line or a comment, which asks for nothing: size is how long the reply is. NUZ_BAD: the line
- * asks for none of these. NUZ_MEMORY too where there was none for the words of the line, or for the
- * text of a report: then the last answer stays. Where there was none for what a report tells of,
- * its reply is `refused Memory`.
+/** Carries out one line, without its line feed. A request is answered as its function answers it.
+ * A report, `tree`, `locks`, `attributes` or `waits`, changes nothing of the tree, and is answered
+ * 0; so is an empty line or a comment, which asks for nothing: size is how long the reply is.
+ * NUZ_BAD: the line asks for none of these. NUZ_MEMORY too where there was none for the words of
+ * the line, or for the text of a report: then the last answer stays. Where there was none for what
+ * a report tells of, its reply is `refused Memory`.
  * @param line the line
  * @param len how many bytes that has */
 nuz_answer nuz_request(nuz_tree *tree, const uint8_t *line, size_t len);

@@ -130,6 +130,16 @@ static bool closed_handle_is_told(void) {
     CHECK(nuz_readlink(&t, 1, p, 2, b, sizeof b).code == NUZ_CLOSED);
     CHECK(nuz_lstat(&t, 1, p, 2).code == NUZ_CLOSED);
     CHECK(nuz_open(&t, 1, p, 2, 0, false, false, false, false).code == NUZ_CLOSED);
+    CHECK(nuz_mkdir_mode(&t, 1, p, 2, 0755).code == NUZ_CLOSED);
+    CHECK(nuz_open_mode(&t, 1, p, 2, 0, true, false, false, false, 0644).code == NUZ_CLOSED);
+    CHECK(nuz_chmod(&t, 1, p, 2, 0).code == NUZ_CLOSED);
+    CHECK(nuz_fchmod(&t, 1, 1, 0).code == NUZ_CLOSED);
+    CHECK(nuz_chown(&t, 1, p, 2, 0, 0).code == NUZ_CLOSED);
+    CHECK(nuz_lchown(&t, 1, p, 2, 0, 0).code == NUZ_CLOSED);
+    CHECK(nuz_fchown(&t, 1, 1, 0, 0).code == NUZ_CLOSED);
+    CHECK(nuz_utime(&t, 1, p, 2, 0, 0).code == NUZ_CLOSED);
+    CHECK(nuz_lutime(&t, 1, p, 2, 0, 0).code == NUZ_CLOSED);
+    CHECK(nuz_futime(&t, 1, 1, 0, 0).code == NUZ_CLOSED);
     CHECK(nuz_close(&t, 1, 1).code == NUZ_CLOSED && nuz_fstat(&t, 1, 1).code == NUZ_CLOSED);
     CHECK(nuz_ftruncate(&t, 1, 1, 0).code == NUZ_CLOSED);
     CHECK(nuz_lseek(&t, 1, 1, 0, NUZ_SET).code == NUZ_CLOSED);
@@ -491,6 +501,14 @@ static bool bad_arguments_are_told(void) {
     CHECK(nuz_lstat(&t, 1, nul, 4).code == NUZ_BAD);
     CHECK(nuz_open(&t, 1, nul, 4, 0, false, false, false, false).code == NUZ_BAD);
     CHECK(nuz_open(&t, 1, p, 2, 3, true, false, false, false).code == NUZ_BAD);
+    CHECK(nuz_mkdir_mode(&t, 1, nul, 4, 0755).code == NUZ_BAD);
+    CHECK(nuz_open_mode(&t, 1, nul, 4, 0, true, false, false, false, 0644).code == NUZ_BAD);
+    CHECK(nuz_open_mode(&t, 1, p, 2, 3, true, false, false, false, 0644).code == NUZ_BAD);
+    CHECK(nuz_chmod(&t, 1, nul, 4, 0).code == NUZ_BAD);
+    CHECK(nuz_chown(&t, 1, nul, 4, 0, 0).code == NUZ_BAD);
+    CHECK(nuz_lchown(&t, 1, nul, 4, 0, 0).code == NUZ_BAD);
+    CHECK(nuz_utime(&t, 1, nul, 4, 0, 0).code == NUZ_BAD);
+    CHECK(nuz_lutime(&t, 1, nul, 4, 0, 0).code == NUZ_BAD);
     CHECK(nuz_lseek(&t, 1, 1, 0, 3).code == NUZ_BAD);
     nuz_answer bad = nuz_mkdir(&t, 9, nul, 4);
     CHECK(bad.code == NUZ_BAD && bad.stamp == 0 && bad.number == 0);
@@ -673,6 +691,207 @@ static bool forty_links_are_followed(void) {
     return true;
 }
 
+/* ---- modes, owners and times */
+
+/* Whether an answer tells of these, and of no time. */
+static bool has(nuz_answer told, uint32_t mode, uint32_t owner, uint32_t group) {
+    return told.code == 0 && told.mode == mode && told.owner == owner && told.group == group
+        && !told.has_time && told.seconds == 0 && told.nanoseconds == 0;
+}
+
+/* Whether it tells of this time. */
+static bool is_of(nuz_answer told, int64_t seconds, uint32_t nanoseconds) {
+    return told.code == 0 && told.has_time && told.seconds == seconds
+        && told.nanoseconds == nanoseconds;
+}
+
+static bool attributes_of_what_is_new_are_told(void) {
+    nuz_tree t = NUZ_TREE_INIT;
+    CHECK(opened_with_links(&t) && has(nuz_stat(&t, 1, NUZ_S("/")), 0755, 0, 0));
+    CHECK(has(nuz_stat(&t, 1, NUZ_S("/d")), 0755, 0, 0));
+    CHECK(has(nuz_stat(&t, 1, NUZ_S("/to_f")), 0644, 0, 0));
+    CHECK(has(nuz_lstat(&t, 1, NUZ_S("/to_f")), 0777, 0, 0));
+    uint64_t fd = open_file(&t, 1, "/d/f");
+    nuz_answer told = nuz_fstat(&t, 1, fd);
+    CHECK(has(told, 0644, 0, 0) && told.size == 4 && told.kind == NUZ_FILE && told.links == 1);
+    CHECK(has(nuz_close(&t, 1, fd), 0, 0, 0));
+    nuz_tree_close(&t);
+    return true;
+}
+
+static bool modes_are_set(void) {
+    nuz_tree t = NUZ_TREE_INIT;
+    CHECK(opened_with_links(&t));
+    nuz_answer set = nuz_chmod(&t, 1, NUZ_S("/d"), 07421);
+    CHECK(set.code == 0 && set.stamp == 9 && set.mode == 0 && set.number == 0);
+    CHECK(nuz_chmod(&t, 1, NUZ_S("/to_f"), 0).code == 0);
+    CHECK(has(nuz_stat(&t, 1, NUZ_S("/d")), 07421, 0, 0));
+    CHECK(has(nuz_stat(&t, 1, NUZ_S("/d/f")), 0, 0, 0));
+    CHECK(has(nuz_lstat(&t, 1, NUZ_S("/to_f")), 0777, 0, 0));
+    uint64_t fd = open_file(&t, 1, "/d/f");
+    CHECK(nuz_fchmod(&t, 1, fd, 04711).code == 0 && has(nuz_fstat(&t, 1, fd), 04711, 0, 0));
+    CHECK(nuz_fchmod(&t, 1, 99, 010000).code == EBADF);
+    CHECK(nuz_fchmod(&t, 1, fd, 010000).code == EINVAL);
+    CHECK(nuz_chmod(&t, 1, NUZ_S("/none"), 010000).code == EINVAL);
+    CHECK(nuz_chmod(&t, 1, NUZ_S(""), 010000).code == ENOENT);
+    CHECK(nuz_chmod(&t, 1, NUZ_S("/d"), UINT32_C(0x10000)).code == EINVAL);
+    CHECK(nuz_chmod(&t, 1, NUZ_S("/d"), UINT32_MAX).code == EINVAL);
+    CHECK(nuz_chmod(&t, 1, NUZ_S("/to_none"), 0).code == ENOENT);
+    CHECK(nuz_chmod(&t, 1, NUZ_S("/d/f/"), 0).code == ENOTDIR);
+    CHECK(nuz_chmod(&t, 1, NUZ_S("/to_d/"), 01777).code == 0);
+    CHECK(has(nuz_stat(&t, 1, NUZ_S("/d")), 01777, 0, 0));
+    nuz_tree_close(&t);
+    return true;
+}
+
+/* Opens /f with a mode, and closes it: the code of the open. */
+static uint32_t open_with(nuz_tree *t, bool create, uint32_t mode) {
+    nuz_answer got =
+        nuz_open_mode(t, 1, NUZ_S("/f"), NUZ_WRITE_ONLY, create, false, false, false, mode);
+    nuz_close(t, 1, got.number);
+    return got.code;
+}
+
+static bool modes_are_given_to_what_is_made(void) {
+    nuz_tree t = NUZ_TREE_INIT;
+    CHECK(opened(&t) && nuz_begin(&t).number == 1);
+    CHECK(nuz_mkdir_mode(&t, 1, NUZ_S("/a"), 02700).code == 0);
+    CHECK(nuz_mkdir_mode(&t, 1, NUZ_S("/a"), 0777).code == EEXIST);
+    CHECK(nuz_mkdir_mode(&t, 1, NUZ_S("/a"), 010000).code == EINVAL);
+    CHECK(nuz_mkdir_mode(&t, 1, NUZ_S("/b"), 0x10000 | 0755).code == EINVAL);
+    CHECK(nuz_mkdir_mode(&t, 1, NUZ_S("/b"), 0755).code == 0);
+    CHECK(open_with(&t, false, 0600) == ENOENT && open_with(&t, true, 010000) == EINVAL);
+    CHECK(open_with(&t, true, 0600) == 0 && open_with(&t, true, 0777) == 0);
+    CHECK(open_with(&t, false, 010000) == EINVAL);
+    CHECK(has(nuz_stat(&t, 1, NUZ_S("/a")), 02700, 0, 0));
+    CHECK(has(nuz_stat(&t, 1, NUZ_S("/b")), 0755, 0, 0));
+    CHECK(has(nuz_stat(&t, 1, NUZ_S("/f")), 0600, 0, 0));
+    nuz_tree_close(&t);
+    return true;
+}
+
+static bool owners_are_set(void) {
+    nuz_tree t = NUZ_TREE_INIT;
+    CHECK(opened_with_links(&t) && nuz_chmod(&t, 1, NUZ_S("/d/f"), 06755).code == 0);
+    CHECK(nuz_chown(&t, 1, NUZ_S("/to_d"), 1, UINT32_MAX - 1).code == 0);
+    CHECK(has(nuz_stat(&t, 1, NUZ_S("/d")), 0755, 1, UINT32_MAX - 1));
+    CHECK(nuz_chown(&t, 1, NUZ_S("/d"), NUZ_STAYS, 3).code == 0);
+    CHECK(nuz_chown(&t, 1, NUZ_S("/d"), 4, NUZ_STAYS).code == 0);
+    CHECK(nuz_chown(&t, 1, NUZ_S("/d"), NUZ_STAYS, NUZ_STAYS).code == 0);
+    CHECK(has(nuz_stat(&t, 1, NUZ_S("/d")), 0755, 4, 3));
+    uint64_t fd = open_file(&t, 1, "/d/f");
+    CHECK(nuz_fchown(&t, 1, fd, 5, 6).code == 0 && has(nuz_fstat(&t, 1, fd), 06755, 5, 6));
+    CHECK(nuz_fchown(&t, 1, 99, 5, 6).code == EBADF);
+    CHECK(nuz_chown(&t, 1, NUZ_S("/none"), 0, 0).code == ENOENT);
+    CHECK(nuz_lchown(&t, 1, NUZ_S("/to_d"), 1, NUZ_STAYS).code == EINVAL);
+    CHECK(nuz_lchown(&t, 1, NUZ_S("/to_d"), NUZ_STAYS, 1).code == EINVAL);
+    CHECK(nuz_lchown(&t, 1, NUZ_S("/to_d"), 0, NUZ_STAYS).code == 0);
+    CHECK(nuz_lchown(&t, 1, NUZ_S("/to_d/"), 7, 8).code == 0);
+    CHECK(has(nuz_stat(&t, 1, NUZ_S("/d")), 0755, 7, 8));
+    CHECK(nuz_lchown(&t, 1, NUZ_S("/none"), 0, 0).code == ENOENT);
+    nuz_tree_close(&t);
+    return true;
+}
+
+static bool times_are_set(void) {
+    nuz_tree t = NUZ_TREE_INIT;
+    CHECK(opened_with_links(&t) && nuz_utime(&t, 1, NUZ_S("/to_f"), 12, 999999999).code == 0);
+    CHECK(is_of(nuz_stat(&t, 1, NUZ_S("/d/f")), 12, 999999999));
+    CHECK(nuz_lutime(&t, 1, NUZ_S("/d/f"), INT64_MIN, 0).code == 0);
+    CHECK(is_of(nuz_stat(&t, 1, NUZ_S("/d/f")), INT64_MIN, 0));
+    uint64_t fd = open_file(&t, 1, "/d/f");
+    CHECK(nuz_futime(&t, 1, fd, INT64_MAX, 1).code == 0);
+    CHECK(is_of(nuz_fstat(&t, 1, fd), INT64_MAX, 1));
+    CHECK(nuz_futime(&t, 1, 99, 0, 1000000000).code == EBADF);
+    CHECK(nuz_futime(&t, 1, fd, 0, 1000000000).code == EINVAL);
+    CHECK(nuz_utime(&t, 1, NUZ_S("/none"), 0, UINT32_MAX).code == EINVAL);
+    CHECK(nuz_lutime(&t, 1, NUZ_S("/none"), 0, UINT32_MAX).code == EINVAL);
+    CHECK(nuz_utime(&t, 1, NUZ_S("/none"), 0, 0).code == ENOENT);
+    CHECK(nuz_utime(&t, 1, NUZ_S("/d"), 0, 0).code == EINVAL);
+    CHECK(nuz_utime(&t, 1, NUZ_S("/"), 0, 0).code == EINVAL);
+    CHECK(nuz_utime(&t, 1, NUZ_S("/to_none"), 0, 0).code == ENOENT);
+    CHECK(nuz_lutime(&t, 1, NUZ_S("/to_none"), 0, 0).code == EINVAL);
+    CHECK(is_of(nuz_stat(&t, 1, NUZ_S("/d/f")), INT64_MAX, 1));
+    nuz_tree_close(&t);
+    return true;
+}
+
+/* Whether the file of a descriptor lost the time 7 by its last call, which an undo takes back. */
+static bool was_taken_away(nuz_tree *t, uint64_t fd) {
+    CHECK(!nuz_fstat(t, 1, fd).has_time && nuz_undo(t, 1).code == 0 && nuz_undo(t, 1).code == 0);
+    return is_of(nuz_fstat(t, 1, fd), 7, 0);
+}
+
+static bool new_bytes_have_no_time(void) {
+    nuz_tree t = NUZ_TREE_INIT;
+    CHECK(opened(&t) && nuz_begin(&t).number == 1 && make_file(&t, 1, "/f", "four"));
+    uint64_t fd = open_file(&t, 1, "/f");
+    CHECK(nuz_futime(&t, 1, fd, 7, 0).code == 0);
+    CHECK(nuz_write(&t, 1, fd, NUZ_S("x")).number == 1 && was_taken_away(&t, fd));
+    CHECK(nuz_pwrite(&t, 1, fd, NUZ_S("x"), 9).number == 1 && was_taken_away(&t, fd));
+    CHECK(nuz_ftruncate(&t, 1, fd, 4).code == 0 && was_taken_away(&t, fd));
+    CHECK(nuz_truncate(&t, 1, NUZ_S("/f"), 0).code == 0 && was_taken_away(&t, fd));
+    CHECK(nuz_open(&t, 1, NUZ_S("/f"), 1, true, false, true, false).code == 0);
+    CHECK(was_taken_away(&t, fd));
+    CHECK(nuz_write(&t, 1, fd, NUZ_S("")).code == 0 && is_of(nuz_fstat(&t, 1, fd), 7, 0));
+    CHECK(nuz_link(&t, 1, NUZ_S("/f"), NUZ_S("/g")).code == 0);
+    CHECK(nuz_rename(&t, 1, NUZ_S("/f"), NUZ_S("/h")).code == 0);
+    CHECK(nuz_chmod(&t, 1, NUZ_S("/h"), 0).code == 0);
+    CHECK(is_of(nuz_stat(&t, 1, NUZ_S("/g")), 7, 0));
+    nuz_tree_close(&t);
+    return true;
+}
+
+static bool attributes_are_taken_back(void) {
+    nuz_tree t = NUZ_TREE_INIT;
+    CHECK(opened_with_links(&t) && nuz_chmod(&t, 1, NUZ_S("/d"), 0700).code == 0);
+    CHECK(nuz_chown(&t, 1, NUZ_S("/d/f"), 1, 2).code == 0);
+    CHECK(nuz_chmod(&t, 1, NUZ_S("/d"), 0711).code == 0 && nuz_undo(&t, 1).code == 0);
+    CHECK(has(nuz_stat(&t, 1, NUZ_S("/d")), 0700, 0, 0));
+    CHECK(nuz_utime(&t, 1, NUZ_S("/d/f"), 7, 0).code == 0 && nuz_undo(&t, 1).code == 0);
+    CHECK(has(nuz_stat(&t, 1, NUZ_S("/d/f")), 0644, 1, 2));
+    CHECK(nuz_sub(&t, 1).number == 2 && nuz_chown(&t, 2, NUZ_S("/d"), 9, 9).code == 0);
+    CHECK(nuz_utime(&t, 2, NUZ_S("/d/f"), 7, 0).code == 0);
+    CHECK(nuz_unlink(&t, 2, NUZ_S("/d/f")).code == 0 && nuz_rmdir(&t, 2, NUZ_S("/d")).code == 0);
+    CHECK(nuz_mkdir_mode(&t, 2, NUZ_S("/d"), 01777).code == 0 && nuz_abort(&t, 2).number == 5);
+    CHECK(has(nuz_stat(&t, 1, NUZ_S("/d")), 0700, 0, 0));
+    CHECK(has(nuz_stat(&t, 1, NUZ_S("/d/f")), 0644, 1, 2));
+    nuz_tree_close(&t);
+    return true;
+}
+
+static bool directory_that_goes_takes_its_attributes_with_it(void) {
+    nuz_tree t = NUZ_TREE_INIT;
+    CHECK(opened(&t) && nuz_begin(&t).number == 1);
+    CHECK(nuz_mkdir_mode(&t, 1, NUZ_S("/a"), 0700).code == 0);
+    CHECK(nuz_mkdir_mode(&t, 1, NUZ_S("/b"), 0711).code == 0);
+    CHECK(nuz_chown(&t, 1, NUZ_S("/b"), 1, 2).code == 0);
+    CHECK(nuz_rename(&t, 1, NUZ_S("/a"), NUZ_S("/b")).code == 0);
+    CHECK(has(nuz_stat(&t, 1, NUZ_S("/b")), 0700, 0, 0));
+    CHECK(says(&t, "tree", "tree 4\ndir 1\ndir 2\nedge 1 b 2\nattributes 2 0700 0 0\n"));
+    CHECK(nuz_undo(&t, 1).code == 0 && nuz_undo(&t, 1).code == 0);
+    CHECK(has(nuz_stat(&t, 1, NUZ_S("/b")), 0711, 1, 2));
+    CHECK(nuz_rmdir(&t, 1, NUZ_S("/b")).code == 0 && nuz_mkdir(&t, 1, NUZ_S("/b")).code == 0);
+    CHECK(has(nuz_stat(&t, 1, NUZ_S("/b")), 0755, 0, 0));
+    nuz_tree_close(&t);
+    return true;
+}
+
+static bool others_wait_for_attributes(void) {
+    nuz_tree t = NUZ_TREE_INIT;
+    CHECK(opened_with_links(&t) && nuz_commit(&t, 1).code == 0);
+    CHECK(nuz_begin(&t).number == 2 && nuz_begin(&t).number == 3);
+    CHECK(nuz_chmod(&t, 2, NUZ_S("/d/f"), 0600).code == 0);
+    CHECK(nuz_chown(&t, 2, NUZ_S("/d"), 1, 2).code == 0);
+    CHECK(nuz_list(&t, 3, NUZ_S("/d")).number == 1);
+    CHECK(nuz_chown(&t, 3, NUZ_S("/d"), 3, 3).code == NUZ_WAITS);
+    CHECK(nuz_stat(&t, 3, NUZ_S("/d/f")).code == NUZ_WAITS && nuz_blocker(&t, 0).number == 2);
+    CHECK(nuz_commit(&t, 2).code == 0 && has(nuz_retry(&t, 3), 0600, 0, 0));
+    CHECK(has(nuz_stat(&t, 3, NUZ_S("/d")), 0755, 1, 2));
+    nuz_tree_close(&t);
+    return true;
+}
+
 /* ---- calls on descriptors */
 
 static bool files_are_written_and_read(void) {
@@ -797,6 +1016,16 @@ static bool paths_that_are_too_long_are_told(void) {
 static bool constants_are_those_of_the_system(void) {
     CHECK(NUZ_READ_ONLY == O_RDONLY && NUZ_WRITE_ONLY == O_WRONLY && NUZ_READ_WRITE == O_RDWR);
     CHECK(NUZ_SET == SEEK_SET && NUZ_CUR == SEEK_CUR && NUZ_END == SEEK_END);
+    CHECK(NUZ_STAYS == (uid_t)-1 && NUZ_STAYS == (gid_t)-1);
+    return true;
+}
+
+/* The wrappers in Rust and Python have this layout of an answer. */
+static bool answer_has_its_layout(void) {
+    CHECK(offsetof(nuz_answer, size) == 32 && offsetof(nuz_answer, mode) == 40);
+    CHECK(offsetof(nuz_answer, owner) == 44 && offsetof(nuz_answer, group) == 48);
+    CHECK(offsetof(nuz_answer, has_time) == 52 && offsetof(nuz_answer, seconds) == 56);
+    CHECK(offsetof(nuz_answer, nanoseconds) == 64 && sizeof(nuz_answer) == 72);
     return true;
 }
 
@@ -963,6 +1192,27 @@ static bool lines_of_links_are_carried_out(void) {
     return true;
 }
 
+static bool lines_of_attributes_are_carried_out(void) {
+    nuz_tree t = NUZ_TREE_INIT;
+    CHECK(opened(&t) && nuz_begin(&t).number == 1);
+    CHECK(says(&t, "1 mkdir 700 /d", "2 ok\n") && says(&t, "1 open wc=4711 /f", "3 ok 3\n"));
+    CHECK(says(&t, "1 stat /d", "4 ok dir 2 1 0 attributes 0700 0 0\n"));
+    CHECK(says(&t, "1 chown 5 - /d", "5 ok\n") && says(&t, "1 fchown 3 - 6", "6 ok\n"));
+    CHECK(says(&t, "1 futime 3 -1 5", "7 ok\n"));
+    CHECK(says(&t, "1 fstat 3", "8 ok file 3 1 0 attributes 4711 0 6 time -1 5\n"));
+    CHECK(is_of(nuz_request(&t, NUZ_S("1 stat /f")), -1, 5));
+    CHECK(says(&t, "1 fchmod 3 644", "10 ok\n") && says(&t, "1 fchown 3 0 0", "11 ok\n"));
+    CHECK(says(&t, "1 stat /f", "12 ok file 3 1 0 time -1 5\n"));
+    CHECK(says(&t, "1 lchown 0 0 /f", "13 ok\n") && says(&t, "1 lutime 0 1 /d", "14 EINVAL\n"));
+    CHECK(says(&t, "1 chmod 0755 /d", "15 ok\n") && says(&t, "1 utime 1 2 /f", "16 ok\n"));
+    CHECK(nuz_request(&t, NUZ_S("1 chmod 010000 /d")).code == NUZ_BAD);
+    CHECK(nuz_request(&t, NUZ_S("1 chown 4294967295 0 /d")).code == NUZ_BAD);
+    CHECK(says(&t, "tree", "tree 8\ndir 1\ndir 2\nedge 1 d 2\nedge 1 f 3\nfile 3 0\n"
+                           "attributes 2 0755 5 0\ntime 3 1 2\nfd 3 3 w 0\n"));
+    nuz_tree_close(&t);
+    return true;
+}
+
 static bool reports_are_told(void) {
     nuz_tree t = NUZ_TREE_INIT;
     uint8_t b[12] = "............";
@@ -971,6 +1221,10 @@ static bool reports_are_told(void) {
     CHECK(nuz_reply(&t, b, 6).size == 30 && memcmp(b, "tree 3......", 12) == 0);
     CHECK(says(&t, "locks",
                "locks 2\nlock entry 1 a write 1 held\nlock parent 2 write 1 held\n"));
+    CHECK(says(&t, "attributes", "attributes 0\n"));
+    CHECK(nuz_chmod(&t, 1, NUZ_S("/a"), 0).code == 0);
+    CHECK(says(&t, "attributes", "attributes 1\nlock attributes 2 write 1 held\n"));
+    CHECK(nuz_undo(&t, 1).code == 0);
     CHECK(nuz_begin(&t).number == 2 && nuz_stat(&t, 2, NUZ_S("/a")).code == NUZ_WAITS);
     CHECK(says(&t, "waits", "edges 1\nedge 2 1 lock\nranks 1:0 2:1\n"));
     CHECK(nuz_blocker(&t, 0).code == NUZ_BAD);
@@ -989,6 +1243,17 @@ static bool are_refused(nuz_tree *t, uint64_t fd) {
     CHECK(nuz_symlink(t, 1, NUZ_S("f"), NUZ_S("/g")).code == NUZ_MEMORY);
     CHECK(nuz_readlink(t, 9, NUZ_S("/f"), (uint8_t[1]){ 0 }, 1).code == NUZ_NO_TXN);
     CHECK(nuz_pwrite(t, 1, fd, NUZ_S("new"), 0).code == NUZ_MEMORY);
+    CHECK(nuz_mkdir_mode(t, 1, NUZ_S("/d"), 0700).code == NUZ_MEMORY);
+    CHECK(nuz_open_mode(t, 1, NUZ_S("/g"), 1, true, false, false, false, 0).code == NUZ_MEMORY);
+    CHECK(nuz_chmod(t, 1, NUZ_S("/f"), 0).code == NUZ_MEMORY);
+    CHECK(nuz_fchmod(t, 1, fd, 0).code == NUZ_MEMORY);
+    CHECK(nuz_chown(t, 1, NUZ_S("/f"), 1, 1).code == NUZ_MEMORY);
+    CHECK(nuz_lchown(t, 1, NUZ_S("/f"), 1, 1).code == NUZ_MEMORY);
+    CHECK(nuz_fchown(t, 1, fd, 1, 1).code == NUZ_MEMORY);
+    CHECK(nuz_utime(t, 1, NUZ_S("/f"), 1, 1).code == NUZ_MEMORY);
+    CHECK(nuz_lutime(t, 1, NUZ_S("/f"), 1, 1).code == NUZ_MEMORY);
+    CHECK(nuz_futime(t, 1, fd, 1, 1).code == NUZ_MEMORY);
+    CHECK(nuz_chmod(t, 9, NUZ_S("/f"), 0).code == NUZ_NO_TXN);
     CHECK(nuz_request(t, NUZ_S("tree")).code == NUZ_MEMORY);
     return true;
 }
@@ -1024,8 +1289,10 @@ static const char *const LINES[] = {
     "begin",           "3 stat /g",         "1 pread 3 0 99",  "1 ftruncate 3 5000",
     "commit 2",        "1 symlink h /d/l",  "1 readlink /d/l", "1 pwrite 3 4096 x",
     "1 unlink /g",     "commit 1",          "retry 3",         "3 unlink /d/h",
-    "undo 3",          "3 lstat /d/l",      "3 truncate 4 /d/l", "3 close 3",
-    "commit 3",
+    "undo 3",          "3 lstat /d/l",      "3 truncate 4 /d/l", "3 mkdir 0700 /e",
+    "3 chmod 0711 /d", "3 chown 1 2 /d/h",  "3 utime 5 6 /d/h", "3 open wc=0600 /d/i",
+    "3 rmdir /e",      "3 unlink /d/i",     "undo 3",           "undo 3",
+    "undo 3",          "3 close 3",         "commit 3",
 };
 
 /* Carries out the lines, and makes again, with memory, the first for which there was none: whether
@@ -1070,8 +1337,10 @@ static bool request_is_made_again_after_want_of_memory(void) {
         has = has_run_out(&t, &sum);
         allocations_left = -1;
         CHECK(n == 0 || sum == wanted);
-        CHECK(says(&t, "tree", "tree 7\ndir 1\ndir 2\nedge 1 d 2\nedge 2 h 3\nedge 2 l 10\n"
-                               "file 3 4 some\nlink 10 h\n"));
+        CHECK(says(&t, "tree",
+                   "tree 13\ndir 1\ndir 2\ndir 18\nedge 1 d 2\nedge 1 e 18\nedge 2 h 3\n"
+                   "edge 2 l 10\nfile 3 4 some\nlink 10 h\nattributes 2 0711 0 0\n"
+                   "attributes 18 0700 0 0\nattributes 3 0644 1 2\ntime 3 5 6\n"));
         nuz_tree_close(&t);
     }
     CHECK(n > 10);
@@ -1112,11 +1381,21 @@ static const struct {
     TEST(last_link_is_followed),
     TEST(last_link_is_not_followed),
     TEST(forty_links_are_followed),
+    TEST(attributes_of_what_is_new_are_told),
+    TEST(modes_are_set),
+    TEST(modes_are_given_to_what_is_made),
+    TEST(owners_are_set),
+    TEST(times_are_set),
+    TEST(new_bytes_have_no_time),
+    TEST(attributes_are_taken_back),
+    TEST(directory_that_goes_takes_its_attributes_with_it),
+    TEST(others_wait_for_attributes),
     TEST(files_are_written_and_read),
     TEST(flags_of_open_are_kept_apart),
     TEST(bytes_without_room_are_not_copied),
     TEST(paths_that_are_too_long_are_told),
     TEST(constants_are_those_of_the_system),
+    TEST(answer_has_its_layout),
     TEST(error_numbers_are_those_of_the_system),
     TEST(codes_have_texts),
     TEST(blockers_are_told),
@@ -1126,6 +1405,7 @@ static const struct {
     TEST(parents_are_in_the_way_under_moss),
     TEST(lines_are_carried_out),
     TEST(lines_of_links_are_carried_out),
+    TEST(lines_of_attributes_are_carried_out),
     TEST(reports_are_told),
     TEST(want_of_memory_changes_nothing),
     TEST(checkpoint_takes_no_memory),

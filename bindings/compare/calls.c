@@ -51,6 +51,10 @@ static void make_pwrite(void) { must(nuz_pwrite(&tree, txn, fd, bytes, 64, 0)); 
 
 static void make_pwrite_page(void) { must(nuz_pwrite(&tree, txn, fd, bytes, PAGE, 0)); }
 
+static void make_chmod(void) { must(nuz_chmod(&tree, txn, NUZ_S("/a/b/c"), 0700)); }
+
+static void make_futime(void) { must(nuz_futime(&tree, txn, fd, 1, 0)); }
+
 static void make_sub(void) {
     nuz_answer sub = nuz_sub(&tree, txn);
     must(sub);
@@ -66,6 +70,7 @@ static const struct {
     { "mkdir", make_mkdir },         { "pread", make_pread },
     { "pread-page", make_pread_page }, { "pwrite", make_pwrite },
     { "pwrite-page", make_pwrite_page }, { "sub", make_sub },
+    { "chmod", make_chmod },         { "futime", make_futime },
 };
 
 /* The transaction, which is 1, with four directories and a file of a page. */

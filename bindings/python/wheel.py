@@ -59,7 +59,7 @@ def files_of(version: str, library: Path, tag: str) -> dict[str, bytes]:
     """The files of the wheel but for the list of them."""
     package = sorted((HERE / "nuzolged").glob("*.py")) + [HERE / "nuzolged" / "py.typed"]
     files = {f"nuzolged/{file.name}": file.read_bytes() for file in package}
-    files["nuzolged/libnuzolged.so.0"] = library.read_bytes()
+    files["nuzolged/libnuzolged.so.1"] = library.read_bytes()
     readme = (HERE / "README.md").read_text()
     info = f"nuzolged-{version}.dist-info"
     files[f"{info}/METADATA"] = METADATA.format(version=version, readme=readme).encode()

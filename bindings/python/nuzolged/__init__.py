@@ -19,7 +19,7 @@ file a ValueError.
 A path is absolute or not, which is the same here: there is no working directory but the root. A
 symbolic link with a relative target leads on from its own directory.
 """
-from ._disk import Modes, copy_in, copy_out
+from ._disk import copy_in, copy_out
 from ._errors import Deadlock, Error, Refused, Waits
 from ._file import RawFile
 from ._limits import Limits
@@ -36,7 +36,6 @@ __all__ = [
     "Error",
     "Info",
     "Limits",
-    "Modes",
     "Path",
     "RawFile",
     "Refused",

@@ -7,6 +7,7 @@ import os
 from typing import IO, TYPE_CHECKING, Any, BinaryIO, TextIO, overload
 
 from . import _file, _library
+from ._attributes import DIRECTORY_MODE, Nanoseconds, Times, mode_of, owner_of, time_of
 from ._errors import AnyPath
 from ._library import Answer
 from ._session import Parts
@@ -44,19 +45,26 @@ class Calls:
         """Makes a request."""
         raise NotImplementedError
 
-    def mkdir(self, path: AnyPath, exist_ok: bool = False) -> None:
+    def mkdir(self, path: AnyPath, mode: int = DIRECTORY_MODE, *, exist_ok: bool = False) -> None:
         """Makes a directory.
 
         Args:
             path: Its path. What is above it has to be there.
-            exist_ok: Whether it may be there already.
+            mode: Its mode, at most 0o7777: there is no umask. The kind that `st_mode` has too is
+                passed over.
+            exist_ok: Whether it may be there already; then its mode stays.
 
         Raises:
             FileExistsError: The path leads to something; with `exist_ok`, to a file.
             FileNotFoundError: What is above it is missing.
+            OSError: EINVAL if the mode is above 0o7777.
         """
+        bits = mode_of(mode)
         try:
-            self._on("nuz_mkdir", path)
+            if bits == DIRECTORY_MODE:
+                self._on("nuz_mkdir", path)
+            else:
+                self._on("nuz_mkdir_mode", path, bits)
         except FileExistsError:
             if not exist_ok or not self.isdir(path):
                 raise
@@ -188,6 +196,82 @@ class Calls:
         """
         self._on("nuz_unlink", path)
 
+    def chmod(self, path: AnyPath, mode: int) -> None:
+        """Sets the mode of a file or directory. A last symbolic link is followed: the mode of a
+        link is always 0o777. In the tree a mode forbids nothing.
+
+        Args:
+            path: Its path.
+            mode: At most 0o7777; the kind that `st_mode` has too is passed over.
+
+        Raises:
+            OSError: EINVAL if the mode is above 0o7777.
+        """
+        self._on("nuz_chmod", path, mode_of(mode))
+
+    def fchmod(self, file: Any, mode: int) -> None:
+        """Sets the mode of an open file, as `chmod` does."""
+        _file.below(file)._ask_by(self, "nuz_fchmod", mode_of(mode))
+
+    def chown(
+        self, path: AnyPath, uid: int, gid: int, *, follow_symlinks: bool = True
+    ) -> None:
+        """Sets the owner and the group of a file or directory. Its mode stays, also the bits by
+        which a file runs as its owner or group.
+
+        Args:
+            path: Its path.
+            uid: The owner; with -1 it stays.
+            gid: The group; with -1 it stays.
+            follow_symlinks: Whether a last symbolic link is followed.
+
+        Raises:
+            OSError: EINVAL if a symbolic link that is not followed would get another owner or
+                group: they are 0.
+            OverflowError: The owner or the group is no number below 2^32 - 1, and not -1.
+        """
+        function = "nuz_chown" if follow_symlinks else "nuz_lchown"
+        self._on(function, path, owner_of(uid), owner_of(gid))
+
+    def lchown(self, path: AnyPath, uid: int, gid: int) -> None:
+        """The same as `chown`, but a last symbolic link is not followed."""
+        self.chown(path, uid, gid, follow_symlinks=False)
+
+    def fchown(self, file: Any, uid: int, gid: int) -> None:
+        """Sets the owner and the group of an open file, as `chown` does."""
+        _file.below(file)._ask_by(self, "nuz_fchown", owner_of(uid), owner_of(gid))
+
+    def utime(
+        self,
+        path: AnyPath,
+        times: Times = None,
+        *,
+        ns: Nanoseconds = None,
+        follow_symlinks: bool = True,
+    ) -> None:
+        """Sets the time of a file's bytes: what writes to the file later, or gives it a length,
+        takes the time away, even if the bytes stay the same. A tree reads no clock, and a file that
+        nobody gave a time has none.
+
+        Args:
+            path: Its path.
+            times: The time of access, which is not kept, and that of the bytes, in seconds.
+            ns: The same in nanoseconds. If neither is given, the time is that at which this is
+                called.
+            follow_symlinks: Whether a last symbolic link is followed.
+
+        Raises:
+            OSError: EINVAL if it is a directory, or a symbolic link that is not followed: they have
+                no time.
+        """
+        function = "nuz_utime" if follow_symlinks else "nuz_lutime"
+        self._on(function, path, *time_of(times, ns))
+
+    def futime(self, file: Any, times: Times = None, *, ns: Nanoseconds = None) -> None:
+        """Sets the time of an open file's bytes, as `utime` does. What is buffered is written
+        first; what is written after that takes the time away."""
+        _file.below(file)._ask_by(self, "nuz_futime", *time_of(times, ns))
+
     def truncate(self, path: AnyPath, size: int) -> None:
         """Cuts a file to `size` bytes, or adds zeros up to them. A last symbolic link is followed.
 
@@ -227,10 +311,19 @@ class Calls:
         encoding: str | None = None,
         errors: str | None = None,
         newline: str | None = None,
+        *,
+        permissions: int | None = None,
     ) -> TextIO: ...
 
     @overload
-    def open(self, path: AnyPath, mode: BinaryMode, buffering: int = -1) -> BinaryIO: ...
+    def open(
+        self,
+        path: AnyPath,
+        mode: BinaryMode,
+        buffering: int = -1,
+        *,
+        permissions: int | None = None,
+    ) -> BinaryIO: ...
 
     @overload
     def open(
@@ -241,6 +334,8 @@ class Calls:
         encoding: str | None = None,
         errors: str | None = None,
         newline: str | None = None,
+        *,
+        permissions: int | None = None,
     ) -> IO[Any]: ...
 
     def open(
@@ -251,6 +346,8 @@ class Calls:
         encoding: str | None = None,
         errors: str | None = None,
         newline: str | None = None,
+        *,
+        permissions: int | None = None,
     ) -> IO[Any]:
         """Opens a file, as Python's `open` does, with the classes of `io`.
 
@@ -264,12 +361,16 @@ class Calls:
             encoding: That of a text: UTF-8 where none is given.
             errors: For a text, as of Python's `open`.
             newline: For a text, as of Python's `open`.
+            permissions: What `os.open` calls its mode: those of a file that is made, 0o644 if none
+                are given; there is no umask. A file that is there keeps its own.
 
         Raises:
             FileNotFoundError, FileExistsError, IsADirectoryError: As of Python's `open`.
+            OSError: EINVAL if the permissions are above 0o7777.
             ValueError: The mode is none.
         """
-        return _file.opened(self, path, mode, buffering, (encoding, errors, newline))
+        text = (encoding, errors, newline)
+        return _file.opened(self, path, mode, buffering, text, permissions)
 
     def _on(
         self, function: str, path: AnyPath, *args: object, parts: Parts = None

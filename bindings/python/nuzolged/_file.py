@@ -8,6 +8,7 @@ import weakref
 from typing import IO, TYPE_CHECKING, Any, Iterator, Optional
 
 from . import _library
+from ._attributes import mode_of
 from ._errors import AnyPath, Refused
 from ._library import Answer
 from ._modes import Mode
@@ -27,7 +28,9 @@ class RawFile(io.RawIOBase):
     #: None until it is open.
     _fd: int | None = None
 
-    def __init__(self, calls: Calls, path: AnyPath, mode: str) -> None:
+    def __init__(
+        self, calls: Calls, path: AnyPath, mode: str, permissions: int | None = None
+    ) -> None:
         self.name = path
         self._asked = Mode.of(mode)
         self.mode = self._asked.raw_name
@@ -37,7 +40,12 @@ class RawFile(io.RawIOBase):
         self._is_dropped = False
         asked = self._asked
         flags = (asked.creates, asked.is_new, asked.cuts, asked.appends)
-        calls._on("nuz_open", path, asked.access, *flags, parts=self._take_descriptor)
+        args: tuple[object, ...] = (asked.access, *flags)
+        if permissions is None:
+            calls._on("nuz_open", path, *args, parts=self._take_descriptor)
+        else:
+            args += (mode_of(permissions),)
+            calls._on("nuz_open_mode", path, *args, parts=self._take_descriptor)
 
     def _take_descriptor(self, answer: Answer) -> None:
         if answer.code == 0:
@@ -49,9 +57,15 @@ class RawFile(io.RawIOBase):
         return f"<RawFile name={self.name!r} {state} of {self._transaction!r}>"
 
     def _ask(self, function: str, *args: object) -> Answer:
+        return self._ask_by(self._calls, function, *args)
+
+    def _ask_by(self, calls: Calls, function: str, *args: object) -> Answer:
+        """Makes a request about it, in the name of a transaction of its tree."""
         if self.closed:
             raise ValueError("I/O operation on closed file")
-        return self._calls._ask(function, self._fd, *args, paths=(self.name,))
+        if calls.transaction.session is not self._transaction.session:
+            raise ValueError("a file of another tree")
+        return calls._ask(function, self._fd, *args, paths=(self.name,))
 
     def _has_to(self, can: bool, what: str) -> None:
         if not can:
@@ -80,7 +94,9 @@ class RawFile(io.RawIOBase):
     def readall(self) -> bytes:
         """All bytes from the offset to the end, as many as there are now."""
         self._has_to(self._asked.reads, "read")
-        left = max(self.stat().size - self.tell(), 0)
+        here = self.tell()
+        left = max(self.seek(0, os.SEEK_END) - here, 0)
+        self.seek(here)
         data = bytearray(left)
         count = self.readinto(data)
         return bytes(data[:count])
@@ -95,8 +111,8 @@ class RawFile(io.RawIOBase):
 
     def pieces(self) -> Iterator[bytes]:
         """All bytes from its beginning to its end, in pieces that have room in memory."""
+        left = self.seek(0, os.SEEK_END)
         self.seek(0)
-        left = self.stat().size
         while left > 0:
             piece = self.read(min(left, _library.MOST_WRITTEN)) or b""
             left = left - len(piece) if piece else 0
@@ -197,14 +213,31 @@ class RawFile(io.RawIOBase):
 Text = tuple[Optional[str], Optional[str], Optional[str]]
 
 
-def opened(calls: Calls, path: AnyPath, mode: str, buffering: int, text: Text) -> IO[Any]:
+def below(file: Any) -> RawFile:
+    """The file that is below a buffer, or below a text, which is written to it first.
+
+    Raises:
+        TypeError: It is no open file of a transaction.
+    """
+    if hasattr(file, "flush"):
+        file.flush()
+    for name in ("buffer", "raw"):
+        file = getattr(file, name, file)
+    if not isinstance(file, RawFile):
+        raise TypeError(f"no open file of a transaction: {file!r}")
+    return file
+
+
+def opened(
+    calls: Calls, path: AnyPath, mode: str, buffering: int, text: Text, permissions: int | None
+) -> IO[Any]:
     """Opens a file, as `open` of a transaction does."""
     asked = Mode.of(mode)
     if not asked.is_text and any(part is not None for part in text):
         raise ValueError("binary mode takes no encoding, errors or newline")
     if asked.is_text and buffering == 0:
         raise ValueError("can't have unbuffered text I/O")
-    raw: Any = RawFile(calls, path, mode)
+    raw: Any = RawFile(calls, path, mode, permissions)
     try:
         if asked.appends:
             raw.seek(0, os.SEEK_END)

@@ -8,11 +8,14 @@ from pathlib import Path
 from typing import Iterator
 
 #: The file of the library.
-_NAME = "libnuzolged.so.0"
+_NAME = "libnuzolged.so.1"
 
 DIR, FILE, LINK = 1, 2, 3
 READ_ONLY, WRITE_ONLY, READ_WRITE = 0, 1, 2
 PROFILE, MOSS = 0, 1
+
+#: An owner or a group that stays.
+STAYS = (1 << 32) - 1
 
 #: How many bytes a request writes at most: a copy is made of them.
 MOST_WRITTEN = 1 << 26
@@ -79,6 +82,12 @@ class Answer(ctypes.Structure):
     number: int
     links: int
     size: int
+    mode: int
+    owner: int
+    group: int
+    has_time: bool
+    seconds: int
+    nanoseconds: int
     _fields_ = [
         ("code", c_uint32),
         ("kind", c_uint32),
@@ -86,11 +95,20 @@ class Answer(ctypes.Structure):
         ("number", c_uint64),
         ("links", c_uint64),
         ("size", c_uint64),
+        ("mode", c_uint32),
+        ("owner", c_uint32),
+        ("group", c_uint32),
+        ("has_time", c_bool),
+        ("seconds", c_int64),
+        ("nanoseconds", c_uint32),
     ]
 
 
 _BYTES = (c_char_p, c_size_t)
 _BUFFER = (c_void_p, c_size_t)
+_OPENING = (c_uint32, c_bool, c_bool, c_bool, c_bool)
+_OWNERS = (c_uint32, c_uint32)
+_TIME = (c_int64, c_uint32)
 
 #: What each function takes behind the handle. All of these answer an `Answer`.
 _FUNCTIONS: dict[str, tuple[type, ...]] = {
@@ -101,6 +119,7 @@ _FUNCTIONS: dict[str, tuple[type, ...]] = {
     "nuz_drop": (c_uint64,),
     "nuz_checkpoint": (),
     "nuz_mkdir": (c_uint64, *_BYTES),
+    "nuz_mkdir_mode": (c_uint64, *_BYTES, c_uint32),
     "nuz_rmdir": (c_uint64, *_BYTES),
     "nuz_list": (c_uint64, *_BYTES),
     "nuz_stat": (c_uint64, *_BYTES),
@@ -111,7 +130,8 @@ _FUNCTIONS: dict[str, tuple[type, ...]] = {
     "nuz_truncate": (c_uint64, *_BYTES, c_int64),
     "nuz_link": (c_uint64, *_BYTES, *_BYTES),
     "nuz_rename": (c_uint64, *_BYTES, *_BYTES),
-    "nuz_open": (c_uint64, *_BYTES, c_uint32, c_bool, c_bool, c_bool, c_bool),
+    "nuz_open": (c_uint64, *_BYTES, *_OPENING),
+    "nuz_open_mode": (c_uint64, *_BYTES, *_OPENING, c_uint32),
     "nuz_close": (c_uint64, c_uint64),
     "nuz_fstat": (c_uint64, c_uint64),
     "nuz_ftruncate": (c_uint64, c_uint64, c_int64),
@@ -120,6 +140,14 @@ _FUNCTIONS: dict[str, tuple[type, ...]] = {
     "nuz_pread": (c_uint64, c_uint64, *_BUFFER, c_int64),
     "nuz_write": (c_uint64, c_uint64, *_BYTES),
     "nuz_pwrite": (c_uint64, c_uint64, *_BYTES, c_int64),
+    "nuz_chmod": (c_uint64, *_BYTES, c_uint32),
+    "nuz_fchmod": (c_uint64, c_uint64, c_uint32),
+    "nuz_chown": (c_uint64, *_BYTES, *_OWNERS),
+    "nuz_lchown": (c_uint64, *_BYTES, *_OWNERS),
+    "nuz_fchown": (c_uint64, c_uint64, *_OWNERS),
+    "nuz_utime": (c_uint64, *_BYTES, *_TIME),
+    "nuz_lutime": (c_uint64, *_BYTES, *_TIME),
+    "nuz_futime": (c_uint64, c_uint64, *_TIME),
     "nuz_name": (c_size_t, *_BUFFER),
     "nuz_blocker": (c_size_t,),
     "nuz_request": _BYTES,

@@ -5,6 +5,7 @@ import os
 from pathlib import PurePosixPath
 from typing import IO, TYPE_CHECKING, Any, Iterator, Union
 
+from ._attributes import DIRECTORY_MODE
 from ._errors import AnyPath
 from ._told import Info
 
@@ -135,13 +136,18 @@ class Path:
     def rglob(self, pattern: str) -> list[Path]:
         return self.glob(f"**/{pattern}")
 
-    def mkdir(self, parents: bool = False, exist_ok: bool = False) -> None:
+    def mkdir(
+        self, mode: int = DIRECTORY_MODE, parents: bool = False, exist_ok: bool = False
+    ) -> None:
         make = self._calls.makedirs if parents else self._calls.mkdir
-        make(self, exist_ok)
+        make(self, mode, exist_ok=exist_ok)
 
-    def touch(self, exist_ok: bool = True) -> None:
-        """Makes a file of no bytes, where it is missing."""
-        self.open("ab" if exist_ok else "xb", 0).close()
+    def touch(self, mode: int = 0o644, exist_ok: bool = True) -> None:
+        """Makes a file of no bytes, if it is missing. The time of one that is there stays."""
+        self.open("ab" if exist_ok else "xb", 0, permissions=mode).close()
+
+    def chmod(self, mode: int) -> None:
+        self._calls.chmod(self, mode)
 
     def rmdir(self) -> None:
         self._calls.rmdir(self)
@@ -176,8 +182,11 @@ class Path:
         encoding: str | None = None,
         errors: str | None = None,
         newline: str | None = None,
+        *,
+        permissions: int | None = None,
     ) -> IO[Any]:
-        return self._calls.open(self, mode, buffering, encoding, errors, newline)
+        text = (encoding, errors, newline)
+        return self._calls.open(self, mode, buffering, *text, permissions=permissions)
 
     def read_bytes(self) -> bytes:
         return self._calls.read_bytes(self)

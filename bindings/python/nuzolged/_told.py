@@ -3,7 +3,7 @@ from __future__ import annotations
 
 import os
 import stat
-from typing import TYPE_CHECKING, Generic, NamedTuple, TypeVar
+from typing import TYPE_CHECKING, Generic, NamedTuple, Optional, TypeVar
 
 from . import _library
 from ._library import Answer
@@ -29,6 +29,13 @@ class Info(NamedTuple):
     size: int
     #: Whether it is a symbolic link, of which only `lstat` tells.
     is_link: bool = False
+    #: Its permissions, at most 0o7777: those of a symbolic link are 0o777.
+    mode: int = 0o644
+    owner: int = 0
+    group: int = 0
+    #: The time of a file's bytes, in nanoseconds since the Epoch, if one was set for them; none of
+    #: a directory or a symbolic link.
+    time_ns: Optional[int] = None
 
     @property
     def is_file(self) -> bool:
@@ -36,10 +43,10 @@ class Info(NamedTuple):
 
     @property
     def st_mode(self) -> int:
-        """The kind alone: a tree holds no permissions."""
+        """The kind and the permissions."""
         if self.is_link:
-            return stat.S_IFLNK
-        return stat.S_IFDIR if self.is_dir else stat.S_IFREG
+            return stat.S_IFLNK | self.mode
+        return (stat.S_IFDIR if self.is_dir else stat.S_IFREG) | self.mode
 
     @property
     def st_ino(self) -> int:
@@ -53,11 +60,31 @@ class Info(NamedTuple):
     def st_size(self) -> int:
         return self.size
 
+    @property
+    def st_uid(self) -> int:
+        return self.owner
+
+    @property
+    def st_gid(self) -> int:
+        return self.group
+
+    @property
+    def st_mtime(self) -> float | None:
+        """The time in seconds, or None if there is none."""
+        return None if self.time_ns is None else self.time_ns / 1e9
+
+    @property
+    def st_mtime_ns(self) -> int | None:
+        """The time in nanoseconds, or None if there is none."""
+        return self.time_ns
+
 
 def info_of(answer: Answer) -> Info:
     """What an answer tells of what a path leads to."""
     is_dir, is_link = answer.kind == _library.DIR, answer.kind == _library.LINK
-    return Info(is_dir, answer.number, answer.links, answer.size, is_link)
+    time_ns = answer.seconds * 1_000_000_000 + answer.nanoseconds if answer.has_time else None
+    attributes = answer.mode, answer.owner, answer.group, time_ns
+    return Info(is_dir, answer.number, answer.links, answer.size, is_link, *attributes)
 
 
 class Entry(Generic[Name]):

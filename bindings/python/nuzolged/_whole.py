@@ -10,6 +10,7 @@ import shutil
 from typing import Iterator
 
 from . import _file
+from ._attributes import DIRECTORY_MODE
 from ._calls import Calls
 from ._errors import AnyPath, os_error
 from ._path import Path
@@ -68,11 +69,14 @@ class Whole(Calls):
         """The target of a path that is a symbolic link."""
         return self.readlink(path) if self.islink(path) else None
 
-    def makedirs(self, path: AnyPath, exist_ok: bool = False) -> None:
+    def makedirs(
+        self, path: AnyPath, mode: int = DIRECTORY_MODE, exist_ok: bool = False
+    ) -> None:
         """Makes a directory, and those above it, where they are missing.
 
         Args:
             path: Its path.
+            mode: Its mode; those above it have that of a new directory.
             exist_ok: Whether it may be there already, as those above it may.
 
         Raises:
@@ -82,7 +86,7 @@ class Whole(Calls):
         above = posixpath.dirname(whole)
         if above.strip("/") and not self.exists(above):
             self.makedirs(above, exist_ok=True)
-        self.mkdir(path, exist_ok)
+        self.mkdir(path, mode, exist_ok=exist_ok)
 
     def read_bytes(self, path: AnyPath) -> bytes:
         """All bytes of a file."""
@@ -106,8 +110,8 @@ class Whole(Calls):
         """Makes a file of a text, in place of what it had."""
         self.write_bytes(path, text.encode(encoding, errors))
 
-    def _raw(self, path: AnyPath, mode: str) -> _file.RawFile:
-        return _file.RawFile(self, path, mode)
+    def _raw(self, path: AnyPath, mode: str, permissions: int | None = None) -> _file.RawFile:
+        return _file.RawFile(self, path, mode, permissions)
 
     def remove(self, path: AnyPath) -> None:
         """The same as `unlink`."""
@@ -192,7 +196,8 @@ class Whole(Calls):
         self.rmdir(path)
 
     def copyfile(self, old: AnyPath, new: AnyPath, *, follow_symlinks: bool = True) -> None:
-        """Makes a file of the bytes of another, in place of those that it had.
+        """Makes a file of the bytes of another, in place of those that it had. A new file has mode
+        0o644, and one that is there keeps its own.
 
         Args:
             old: The file.
@@ -213,9 +218,36 @@ class Whole(Calls):
             for piece in source.pieces():
                 target.write_all(piece)
 
+    def copy(self, old: AnyPath, new: AnyPath, *, follow_symlinks: bool = True) -> str:
+        """Copies a file with its mode, into `new` if that is a directory, and answers the path of
+        the copy. For the rest it is as `copyfile`."""
+        return self._copy(old, new, follow_symlinks, with_time=False)
+
+    def copy2(self, old: AnyPath, new: AnyPath, *, follow_symlinks: bool = True) -> str:
+        """The same, with its time too, if it has one."""
+        return self._copy(old, new, follow_symlinks, with_time=True)
+
+    def _copy(self, old: AnyPath, new: AnyPath, follow_symlinks: bool, with_time: bool) -> str:
+        target = os.fsdecode(new)
+        if self.isdir(target):
+            target = os.path.join(target, posixpath.basename(os.fsdecode(old)))
+        if not follow_symlinks and self.islink(old):
+            self.copyfile(old, target, follow_symlinks=False)
+        else:
+            self._copied(old, target, with_time)
+        return target
+
+    def _copied(self, old: AnyPath, new: str, with_time: bool) -> None:
+        """Copies a file with its mode, and with its time, if it has one and that is asked for."""
+        told = self.stat(old)
+        self.copyfile(old, new)
+        self.chmod(new, told.mode)
+        if with_time and told.time_ns is not None:
+            self.utime(new, ns=(told.time_ns, told.time_ns))
+
     def copytree(self, old: AnyPath, new: AnyPath, dirs_exist_ok: bool = False) -> None:
-        """Copies a directory with all below it. Files with several names below it stay such, and
-        symbolic links stay symbolic links, with the same targets.
+        """Copies a directory with all below it, as `copy2` copies each file. Files with several
+        names below it stay such, and symbolic links stay symbolic links, with the same targets.
 
         Args:
             old: The directory.
@@ -234,7 +266,8 @@ class Whole(Calls):
 
     def _copy_folder(self, old: str, new: str, exist_ok: bool, names: dict[int, str]) -> None:
         entries = self.scandir(old)
-        self.makedirs(new, exist_ok)
+        self.makedirs(new, exist_ok=exist_ok)
+        self.chmod(new, self.stat(old).mode)
         for entry in entries:
             to = os.path.join(new, entry.name)
             if entry.is_dir(follow_symlinks=False):
@@ -252,7 +285,7 @@ class Whole(Calls):
         elif entry.is_symlink():
             self.symlink(self.readlink(entry.path), new)
         else:
-            self.copyfile(entry.path, new)
+            self._copied(entry.path, new, with_time=True)
 
     def _make_room(self, path: str) -> None:
         """Removes a file or symbolic link, if there is one."""

@@ -75,7 +75,8 @@ class NuzolgedFileSystem(AbstractFileSystem):  # type: ignore[misc]
     def _told(path: str, info: Info) -> dict[str, Any]:
         kind = "link" if info.is_link else "directory" if info.is_dir else "file"
         told = {"name": path, "size": info.size, "type": kind, "islink": info.is_link}
-        return {**told, "ino": info.number, "nlink": info.links}
+        told |= {"ino": info.number, "nlink": info.links, "mode": info.st_mode}
+        return {**told, "uid": info.owner, "gid": info.group, "mtime": info.st_mtime}
 
     def info(self, path: str, **_: Any) -> dict[str, Any]:
         """What there is to tell of a path, of a last symbolic link itself: so what goes through
@@ -112,7 +113,7 @@ class NuzolgedFileSystem(AbstractFileSystem):  # type: ignore[misc]
             self.at.mkdir(path)
 
     def makedirs(self, path: str, exist_ok: bool = False) -> None:
-        self.at.makedirs(self._strip_protocol(path), exist_ok)
+        self.at.makedirs(self._strip_protocol(path), exist_ok=exist_ok)
 
     def rmdir(self, path: str) -> None:
         self.at.rmdir(self._strip_protocol(path))

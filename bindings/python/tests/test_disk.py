@@ -7,11 +7,34 @@ import stat
 import tempfile
 import threading
 import time
+import traceback
 import unittest
 from pathlib import Path
 from unittest import mock
 
 from nuzolged import Limits, Tree, _disk, copy_in, copy_out
+
+
+IS_ROOT = os.geteuid() == 0
+
+
+def as_nobody(run):
+    """Runs something in a process of nobody's, or of who runs the tests, unless that is root: its
+    exit status is 0 if it ended well."""
+    child = os.fork()
+    if child:
+        return os.waitpid(child, 0)[1]
+    try:
+        if IS_ROOT:
+            os.setgroups([])
+            os.setgid(65534)
+            os.setuid(65534)
+        run()
+        os._exit(0)
+    except BaseException:
+        traceback.print_exc()
+    finally:
+        os._exit(1)
 
 
 def make_socket(path):
@@ -53,34 +76,124 @@ class DiskTest(unittest.TestCase):
         self.assertEqual(found[Path("a/one")].read_bytes(), b"\0\xff\n")
         self.assertTrue(os.path.samefile(found[Path("a/one")], found[Path("three")]))
 
-    def test_modes_are_kept_beside_the_tree(self):
-        source, target, modes = self.make(), self.disk / "target", {}
+    def test_modes_are_kept_in_the_tree(self):
+        source, target = self.make(), self.disk / "target"
         os.chmod(source / "a" / "one", 0o4755)
         os.chmod(source / "a" / "b" / "two", 0o600)
         os.chmod(source / "a" / "b", 0o500)
         os.chmod(source, 0o751)
-        copy_in(self.job, source, modes=modes)
+        copy_in(self.job, source)
         self.job.rename("/a/b", "/b")
         self.job.write_bytes("/a/one", b"other bytes")
         self.job.write_bytes("/new", b"")
-        copy_out(self.job, target, modes=modes)
+        copy_out(self.job, target)
         told = [self.mode(target / name) for name in ("", "a/one", "b", "b/two", "new")]
-        self.assertEqual(list(map(oct, told)), ["0o751", "0o755", "0o500", "0o600", "0o600"])
+        self.assertEqual(list(map(oct, told)), ["0o751", "0o755", "0o500", "0o600", "0o644"])
 
-    def test_what_has_no_mode_is_private(self):
-        self.job.makedirs("/etc")
-        self.job.write_bytes("/etc/shadow", b"secret")
+    def test_what_was_made_in_the_tree_has_the_modes_of_the_tree(self):
+        self.job.makedirs("/etc", mode=0o700)
+        self.job.mkdir("/lib")
+        with self.job.open("/etc/shadow", "x", permissions=0o600) as file:
+            file.write("secret")
         copy_out(self.job, self.disk / "target")
-        paths = [self.disk / "target" / name for name in ("", "etc", "etc/shadow")]
-        self.assertEqual([self.mode(path) for path in paths], [0o700, 0o700, 0o600])
+        paths = [self.disk / "target" / name for name in ("", "etc", "lib", "etc/shadow")]
+        self.assertEqual([self.mode(path) for path in paths], [0o755, 0o700, 0o755, 0o600])
 
     def test_mode_of_what_was_there_stays(self):
-        one, two, modes = self.disk / "one", self.disk / "two", {}
+        one, two = self.disk / "one", self.disk / "two"
         for folder, mode in ((one, 0o700), (two, 0o755)):
             (folder / "etc").mkdir(parents=True)
             os.chmod(folder / "etc", mode)
-            copy_in(self.job, folder, modes=modes)
-        self.assertEqual(modes[self.job.stat("/etc").number], 0o700)
+            os.chmod(folder, mode)
+            copy_in(self.job, folder)
+        self.assertEqual([self.job.stat(path).mode for path in ("/etc", "/")], [0o700, 0o700])
+
+    def test_root_that_is_in_use_keeps_its_mode(self):
+        source = self.make()
+        os.chmod(source, 0o700)
+        self.job.mkdir("/mine")
+        copy_in(self.job, source)
+        self.assertEqual(self.job.stat("/").mode, 0o755)
+        with Tree() as tree, tree.begin() as job:
+            job.chmod("/", 0o711)
+            copy_in(job, source)
+            self.assertEqual(job.stat("/").mode, 0o711)
+        with Tree() as tree, tree.begin() as job:
+            job.mkdir("/in")
+            copy_in(job, source, "/in")
+            copy_in(job, source, "/made")
+            told = [job.stat(path).mode for path in ("/", "/in", "/made")]
+            self.assertEqual(told, [0o755, 0o755, 0o700])
+
+    def test_bits_by_which_a_file_runs_as_another_are_asked_for(self):
+        source = self.make()
+        paths = ("a/one", "a/b/two", "empty")
+        for path, mode in zip(paths, (0o4755, 0o2711, 0o3775)):
+            os.chmod(source / path, mode)
+        for number, (into, out) in enumerate(((True, True), (True, False), (False, True))):
+            target = self.disk / str(number)
+            with Tree() as tree, tree.begin() as job:
+                copy_in(job, source, set_id=into)
+                copy_out(job, target, set_id=out)
+            whole = [0o4755, 0o2711, 0o3775] if into and out else [0o755, 0o711, 0o1775]
+            self.assertEqual([self.mode(target / path) for path in paths], whole)
+
+    def test_times_are_kept(self):
+        source, target = self.make(), self.disk / "target"
+        os.utime(source / "a" / "one", ns=(0, 1_234_567_890_987_654_321))
+        os.utime(source / "a" / "b" / "two", ns=(0, -1_500_000_000))
+        copy_in(self.job, source)
+        self.assertEqual(self.job.stat("/three").st_mtime_ns, 1_234_567_890_987_654_321)
+        self.assertIsNone(self.job.stat("/a").st_mtime_ns)
+        self.job.rename("/a/b", "/b")
+        copy_out(self.job, target, sync=True)
+        told = [os.stat(target / path).st_mtime_ns for path in ("a/one", "three", "b/two")]
+        self.assertEqual(told, [1_234_567_890_987_654_321] * 2 + [-1_500_000_000])
+
+    def test_files_without_a_time_have_that_of_the_copy(self):
+        for name in "abcd":
+            self.job.write_bytes(f"/{name}", b"bytes")
+        self.job.utime("/a", ns=(0, 7))
+        self.job.utime("/b", ns=(0, 8))
+        self.job.write_bytes("/b", b"other bytes")
+        begun = time.time_ns()
+        copy_out(self.job, self.disk / "target")
+        times = [os.stat(self.disk / "target" / name).st_mtime_ns for name in "abcd"]
+        self.assertEqual((times[0], len(set(times[1:]))), (7, 1))
+        self.assertTrue(begun <= times[1] <= time.time_ns())
+
+    @unittest.skipUnless(IS_ROOT, "nobody but root sets owners")
+    def test_owners_are_kept_by_root(self):
+        source, target = self.make(), self.disk / "target"
+        for path, owner in {"": (1, 2), "a": (3, 4), "a/one": (5, 6), "empty": (0, 7)}.items():
+            os.chown(source / path, *owner)
+        os.chmod(source / "a/one", 0o4755)
+        copy_in(self.job, source, set_id=True)
+        told = self.job.stat("/three")
+        self.assertEqual((told.st_uid, told.st_gid, told.mode), (5, 6, 0o4755))
+        copy_out(self.job, target, set_id=True)
+        for path in ("", "a", "a/one", "a/b", "empty"):
+            here, there = os.stat(target / path), os.stat(source / path)
+            self.assertEqual((here.st_uid, here.st_gid), (there.st_uid, there.st_gid), path)
+        self.assertEqual(self.mode(target / "three"), 0o4755)
+
+    def test_owner_that_may_not_be_set_is_passed_over(self):
+        self.job.write_bytes("/f", b"")
+        for number, code in enumerate((errno.EPERM, errno.EINVAL, errno.EIO)):
+            fails = OSError(code, "no")
+            with mock.patch.object(_disk.os, "fchown", side_effect=fails) as chown:
+                with mock.patch.object(_disk.os, "geteuid", return_value=0):
+                    came = contextlib.nullcontext()
+                    if code == errno.EIO:
+                        came = self.assertRaises(OSError)
+                    with came:
+                        copy_out(self.job, self.disk / str(number))
+            self.assertTrue(chown.called)
+        self.assertEqual(sorted(os.listdir(self.disk)), ["0", "1"])
+        with mock.patch.object(_disk.os, "fchown") as chown:
+            with mock.patch.object(_disk.os, "geteuid", return_value=1):
+                copy_out(self.job, self.disk / "other")
+        self.assertFalse(chown.called)
 
     def test_copy_in_keeps_what_is_there(self):
         source = self.make()
@@ -147,10 +260,10 @@ class DiskTest(unittest.TestCase):
         self.assertEqual(os.listdir(self.disk / "secret"), ["file"])
 
     def test_links_in_a_directory_that_nobody_writes(self):
-        source, target, modes = self.make_links(), self.disk / "target", {}
+        source, target = self.make_links(), self.disk / "target"
         os.chmod(source / "empty", 0o500)
-        copy_in(self.job, source, modes=modes)
-        copy_out(self.job, target, modes=modes)
+        copy_in(self.job, source)
+        copy_out(self.job, target)
         self.assertEqual(self.mode(target / "empty"), 0o500)
         self.assertEqual(self.links_of(target), self.links_of(source))
         for folder in (source, target):
@@ -175,14 +288,54 @@ class DiskTest(unittest.TestCase):
         self.assertEqual(self.mode(victim), 0o755)
         self.assertEqual((target / "b" / "file").read_bytes(), b"of the tree")
 
+    def test_link_in_place_of_a_directory_is_not_followed(self):
+        """A directory that has been made is replaced by a link, before it gets its mode."""
+        victim, target = self.disk / "victim", self.disk / "target"
+        victim.mkdir(mode=0o755)
+        self.job.mkdir("/d", 0o700)
+        self.job.chown("/d", 1, 1)
+        self.job.symlink("x", "/link")
+
+        def symlink(_, name, dir_fd):
+            os.rmdir("d", dir_fd=dir_fd)
+            os.link(self.disk / "to_victim", "d", dst_dir_fd=dir_fd, follow_symlinks=False)
+
+        os.symlink(victim, self.disk / "to_victim")
+        with mock.patch.object(_disk.os, "symlink", symlink), self.assertRaises(OSError):
+            copy_out(self.job, target)
+        self.assertEqual((self.mode(victim), victim.stat().st_uid), (0o755, os.geteuid()))
+        self.assertEqual(sorted(os.listdir(self.disk)), ["to_victim", "victim"])
+
+    def test_link_in_place_of_the_copy_is_not_followed(self):
+        """The directory of the copy is replaced by a link, before all is made in it."""
+        victim, moved = self.disk / "victim", self.disk / "moved"
+        (victim / "d").mkdir(parents=True)
+        os.chmod(victim / "d", 0o755)
+        self.job.mkdir("/d", 0o700)
+        self.job.symlink("x", "/d/a")
+        self.job.link("/d/a", "/d/b")
+        make_link = os.symlink
+
+        def symlink(target, name, dir_fd):
+            (whole,) = self.disk.glob(".target.*")
+            os.rename(whole, moved)
+            make_link(victim, whole)
+            make_link(target, name, dir_fd=dir_fd)
+
+        with mock.patch.object(_disk.os, "symlink", symlink):
+            copy_out(self.job, self.disk / "target")
+        self.assertEqual((self.mode(victim / "d"), os.listdir(victim / "d")), (0o755, []))
+        self.assertEqual((self.mode(moved / "d"), os.listdir(victim)), (0o700, ["d"]))
+        self.assertEqual(os.lstat(moved / "d" / "b").st_nlink, 2)
+
     def test_links_are_made_last(self):
         self.job.symlink("b", "/a")
         self.job.mkdir("/b")
         self.job.write_bytes("/b/file", b"")
         made = []
 
-        def symlink(target, path):
-            made.append((target, sorted(os.listdir(Path(path).parent / "b"))))
+        def symlink(target, name, dir_fd):
+            made.append((target, sorted(os.listdir(f"/proc/self/fd/{dir_fd}/b"))))
 
         with mock.patch.object(_disk.os, "symlink", symlink):
             copy_out(self.job, self.disk / "target")
@@ -296,6 +449,124 @@ class DiskTest(unittest.TestCase):
             with self.assertRaises(OSError):
                 copy_out(self.job, target, replace=True)
         self.assertEqual((os.listdir(self.disk), os.listdir(target)), (["target"], ["old"]))
+
+
+class NobodyTest(unittest.TestCase):
+    """Copies by a process that modes keep from things."""
+
+    def setUp(self):
+        folder = tempfile.TemporaryDirectory()
+        self.addCleanup(folder.cleanup)
+        self.disk = Path(folder.name)
+        os.chmod(self.disk, 0o777)
+        self.addCleanup(_disk._let_owner_below, str(self.disk), None)
+
+    def assert_nobody(self, run):
+        self.assertEqual(as_nobody(run), 0)
+
+    def make(self):
+        """Directories that nobody may write in, or read, with files and links in them, and one to a
+        directory beside."""
+        for folder in ("source/shut/below", "source/open", "beside"):
+            (self.disk / folder).mkdir(parents=True)
+        for file in ("source/shut/file", "source/shut/below/file", "beside/file"):
+            (self.disk / file).write_bytes(b"bytes")
+            os.utime(self.disk / file, ns=(0, 1_000_000_007))
+        os.symlink(self.disk / "beside", self.disk / "source/shut/link")
+        os.symlink("shut/file", self.disk / "source/link")
+        for path, mode in {
+            "beside/file": 0o400,
+            "beside": 0o500,
+            "source/shut/below/file": 0o400,
+            "source/shut/file": 0o600,
+            "source/shut/below": 0o500,
+            "source/shut": 0o555,
+            "source": 0o511,
+        }.items():
+            os.chmod(self.disk / path, mode)
+
+    def told(self, top):
+        """The mode and the time of each file, the mode of each directory, the target of a link."""
+        found = {"": stat.S_IMODE(os.stat(top).st_mode)}
+        for above, folders, files in os.walk(top):
+            for path in (os.path.join(above, name) for name in folders + files):
+                found[os.path.relpath(path, top)] = self.told_of(path)
+        return found
+
+    def told_of(self, path):
+        if os.path.islink(path):
+            return os.readlink(path)
+        status = os.stat(path)
+        is_file = stat.S_ISREG(status.st_mode)
+        return stat.S_IMODE(status.st_mode), status.st_mtime_ns if is_file else None
+
+    def copy(self, target, **options):
+        with Tree() as tree, tree.begin() as job:
+            copy_in(job, self.disk / "source")
+            copy_out(job, self.disk / target, **options)
+
+    def test_directories_that_nobody_writes(self):
+        def run():
+            self.make()
+            self.copy("target")
+            assert self.told(self.disk / "target") == self.told(self.disk / "source")
+            assert len(self.told(self.disk / "target")) == 8
+            for _ in range(2):
+                self.copy("target", replace=True, sync=True)
+            assert self.told(self.disk / "target") == self.told(self.disk / "source")
+            assert self.told_of(self.disk / "beside") == (0o500, None)
+            assert sorted(os.listdir(self.disk)) == ["beside", "source", "target"]
+
+        self.assert_nobody(run)
+
+    def test_umask_that_shuts_the_owner_out(self):
+        def run():
+            self.make()
+            for number, umask in enumerate((0o100, 0o200, 0o300, 0o400, 0o777)):
+                os.umask(umask)
+                self.copy(str(number))
+                os.umask(0)
+                target = self.disk / str(number)
+                assert self.told(target) == self.told(self.disk / "source"), oct(umask)
+
+        self.assert_nobody(run)
+
+    def test_copy_that_fails_is_removed(self):
+        def run():
+            self.make()
+            for name in ("utime", "symlink", "fchmod"):
+                fails = mock.patch.object(_disk.os, name, side_effect=OSError(errno.EIO, "no"))
+                with fails, contextlib.suppress(OSError):
+                    self.copy("target")
+                    raise AssertionError(f"no {name}")
+            with mock.patch.object(_disk, "_name", side_effect=OSError(errno.EIO, "no")):
+                with contextlib.suppress(OSError):
+                    self.copy("target")
+            assert sorted(os.listdir(self.disk)) == ["beside", "source"]
+            assert self.told_of(self.disk / "beside") == (0o500, None)
+
+        self.assert_nobody(run)
+
+    @unittest.skipUnless(IS_ROOT, "what is another's is made by root")
+    def test_what_is_anothers(self):
+        """A tree of root's, which everybody may read, is copied by nobody, whose own it is then."""
+        self.make()
+        for path in ("source/shut/below", "source/shut", "source"):
+            os.chmod(self.disk / path, 0o755)
+        for path in ("source/shut/below/file", "source/shut/file"):
+            os.chown(self.disk / path, 1, 2)
+            os.chmod(self.disk / path, 0o4754)
+
+        def run():
+            with Tree() as tree, tree.begin() as job:
+                copy_in(job, self.disk / "source", set_id=True)
+                told = job.stat("/shut/file")
+                assert (told.owner, told.group, told.mode) == (1, 2, 0o4754)
+                copy_out(job, self.disk / "target", set_id=True)
+            assert {os.lstat(path).st_uid for path in (self.disk / "target").rglob("*")} == {65534}
+            assert self.told_of(self.disk / "target/shut/file") == (0o754, 1_000_000_007)
+
+        self.assert_nobody(run)
 
 
 if __name__ == "__main__":

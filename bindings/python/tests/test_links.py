@@ -82,7 +82,7 @@ class Looks(LinksTest):
         self.assert_alike(self.job.readlink, os.readlink)
         self.assertEqual(self.job.readlink(b"/to_f"), b"d/f")
         told = self.job.lstat("/to_f")
-        self.assertEqual(told, Info(False, told.number, links=1, size=3, is_link=True))
+        self.assertEqual(told, Info(False, told.number, links=1, size=3, is_link=True, mode=0o777))
         self.assertFalse(told.is_dir or told.is_file)
 
     def test_names(self):

@@ -210,7 +210,8 @@ class Paths(TreeTest):
         self.assertEqual((a.name, a.path, a.is_dir(), a.is_file()), ("a", "/a", False, True))
         self.assertEqual((b.name, b.path, b.is_dir(), b.is_file()), ("b", "/b", True, False))
         self.assertEqual(a.stat().st_size, 4)
-        self.assertEqual(self.job.stat("/b"), Info(is_dir=True, number=2, links=1, size=0))
+        info = Info(is_dir=True, number=2, links=1, size=0, mode=0o755)
+        self.assertEqual(self.job.stat("/b"), info)
         self.job.rmdir("/b")
         self.assertEqual(self.job.listdir("/"), ["a"])
 

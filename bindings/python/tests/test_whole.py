@@ -95,7 +95,7 @@ class Trees(WholeTest):
         self.assertEqual(self.job.listdir("/a"), ["b"])
         told = self.job.stat("/c/.hidden")
         self.assertEqual((told.st_size, told.st_nlink, told.st_ino), (9, 1, told.number))
-        self.assertEqual((told.st_mode, self.job.stat("/").st_mode), (0o100000, 0o040000))
+        self.assertEqual((told.st_mode, self.job.stat("/").st_mode), (0o100644, 0o040755))
 
 
 class Paths(WholeTest):
@@ -161,7 +161,10 @@ class Fsspec(WholeTest):
         self.assertEqual([top for top, _, _ in fs.walk("/w")], ["/w", "/w/y"])
         with fs.open("/t", "w") as file:
             file.write("text")
-        self.assertEqual(fs.info("/t")["size"], 4)
+        self.job.utime("/t", (0, 7))
+        told = fs.info("/t")
+        self.assertEqual((told["size"], told["mode"], told["mtime"]), (4, 0o100644, 7))
+        self.assertEqual((told["uid"], told["gid"]), (0, 0))
         self.assertFalse(fs.exists("/z"))
 
     def test_links(self):

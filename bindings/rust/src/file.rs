@@ -1,7 +1,8 @@
 //! Open files.
 
+use crate::attributes::Permissions;
 use crate::error::{Error, Result};
-use crate::sys::{Answer, Flags, Handle};
+use crate::sys::{self, Answer, Flags, Handle};
 use crate::transaction::{signed, Metadata, Transaction};
 use crate::tree::Reach;
 use std::io::{self, SeekFrom};
@@ -18,6 +19,7 @@ pub struct OpenOptions {
     truncate: bool,
     create: bool,
     create_new: bool,
+    mode: Option<u32>,
 }
 
 impl OpenOptions {
@@ -60,6 +62,19 @@ impl OpenOptions {
     pub fn create_new(&mut self, create_new: bool) -> &mut OpenOptions {
         self.create_new = create_new;
         self
+    }
+
+    /// The mode of a file that is made, as [`Permissions::from_mode`] takes it; a file that is
+    /// there keeps its own. If no mode is given, a file is made with 0o644; there is no umask. A
+    /// mode above 0o7777 is the error EINVAL, whether a file is made or not.
+    pub fn mode(&mut self, mode: u32) -> &mut OpenOptions {
+        self.mode = Some(Permissions::from_mode(mode).mode());
+        self
+    }
+
+    /// The mode, if it is given.
+    pub(crate) fn given_mode(&self) -> Option<u32> {
+        self.mode
     }
 
     /// The access as the library takes it. Neither reading nor writing is invalid.
@@ -146,7 +161,10 @@ impl<H: Holder> OpenFile<H> {
     }
 
     /// Makes a request about the file.
-    fn ask(&self, mut ask: impl FnMut(&mut Handle, u64, u64) -> Answer) -> Result<Answer> {
+    pub(crate) fn ask(
+        &self,
+        mut ask: impl FnMut(&mut Handle, u64, u64) -> Answer,
+    ) -> Result<Answer> {
         let transaction = self.holder.transaction();
         transaction
             .ask(|handle, txn| ask(handle, txn, self.fd))
@@ -156,6 +174,13 @@ impl<H: Holder> OpenFile<H> {
     /// The path by which it was opened.
     pub fn path(&self) -> &Path {
         &self.path
+    }
+
+    /// Sets its offset to its end, and answers that: how many bytes it has. (`metadata` would also
+    /// wait for whoever changes its mode or its owner.)
+    pub(crate) fn seek_end(&self) -> Result<u64> {
+        let told = self.ask(|handle, txn, fd| handle.lseek(txn, fd, 0, sys::END))?;
+        Ok(told.number)
     }
 
     /// What there is to tell of it.
@@ -236,7 +261,7 @@ impl<H: Holder> io::Seek for &OpenFile<H> {
         let (off, whence) = match to {
             SeekFrom::Start(offset) => (signed(offset)?, 0),
             SeekFrom::Current(distance) => (distance, 1),
-            SeekFrom::End(distance) => (distance, 2),
+            SeekFrom::End(distance) => (distance, sys::END),
         };
         let moved = self.ask(|handle, txn, fd| handle.lseek(txn, fd, off, whence))?;
         Ok(moved.number)

@@ -81,6 +81,7 @@
 //! ```
 #![warn(missing_docs)]
 
+mod attributes;
 mod builder;
 mod error;
 mod file;
@@ -98,6 +99,7 @@ compile_error!("nuzolged takes paths as Unix has them");
 #[doc = include_str!("../README.md")]
 struct Readme;
 
+pub use attributes::{FileTimes, Permissions};
 pub use builder::Builder;
 pub use error::{Error, Refusal, Result};
 pub use file::{File, Holder, OpenFile, OpenOptions, OwnedFile};

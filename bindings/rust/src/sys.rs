@@ -27,6 +27,12 @@ pub struct Answer {
     pub number: u64,
     pub links: u64,
     pub size: u64,
+    pub mode: u32,
+    pub owner: u32,
+    pub group: u32,
+    pub has_time: bool,
+    pub seconds: i64,
+    pub nanoseconds: u32,
 }
 
 /// `nuz_limits`: what a tree allows.
@@ -55,6 +61,12 @@ pub const CLOSED: u32 = 1200;
 pub const BAD: u32 = 1201;
 pub const DIR: u32 = 1;
 pub const LINK: u32 = 3;
+
+/// `NUZ_END`: from the end of a file.
+pub const END: u32 = 2;
+
+/// `NUZ_STAYS`: an owner or a group that stays.
+pub const STAYS: u32 = u32::MAX;
 
 extern "C" {
     fn nuz_tree_open_with(tree: &mut Handle, rule: u32, limits: Limits) -> u32;
@@ -112,6 +124,8 @@ functions! {
 
     mkdir(txn: u64, path: &[u8]) =
         nuz_mkdir(txn => u64, path.as_ptr() => Bytes, path.len() => usize);
+    mkdir_mode(txn: u64, path: &[u8], mode: u32) =
+        nuz_mkdir_mode(txn => u64, path.as_ptr() => Bytes, path.len() => usize, mode => u32);
     rmdir(txn: u64, path: &[u8]) =
         nuz_rmdir(txn => u64, path.as_ptr() => Bytes, path.len() => usize);
     list(txn: u64, path: &[u8]) =
@@ -141,6 +155,10 @@ functions! {
         nuz_open(txn => u64, path.as_ptr() => Bytes, path.len() => usize, access => u32,
                  flags.create => bool, flags.excl => bool, flags.trunc => bool,
                  flags.append => bool);
+    open_file_mode(txn: u64, path: &[u8], access: u32, flags: Flags, mode: u32) =
+        nuz_open_mode(txn => u64, path.as_ptr() => Bytes, path.len() => usize, access => u32,
+                      flags.create => bool, flags.excl => bool, flags.trunc => bool,
+                      flags.append => bool, mode => u32);
     close_file(txn: u64, fd: u64) = nuz_close(txn => u64, fd => u64);
     fstat(txn: u64, fd: u64) = nuz_fstat(txn => u64, fd => u64);
     ftruncate(txn: u64, fd: u64, size: i64) = nuz_ftruncate(txn => u64, fd => u64, size => i64);
@@ -156,6 +174,26 @@ functions! {
     pwrite(txn: u64, fd: u64, bytes: &[u8], off: i64) =
         nuz_pwrite(txn => u64, fd => u64, bytes.as_ptr() => Bytes, bytes.len() => usize,
                    off => i64);
+
+    chmod(txn: u64, path: &[u8], mode: u32) =
+        nuz_chmod(txn => u64, path.as_ptr() => Bytes, path.len() => usize, mode => u32);
+    fchmod(txn: u64, fd: u64, mode: u32) = nuz_fchmod(txn => u64, fd => u64, mode => u32);
+    chown(txn: u64, path: &[u8], owner: u32, group: u32) =
+        nuz_chown(txn => u64, path.as_ptr() => Bytes, path.len() => usize, owner => u32,
+                  group => u32);
+    lchown(txn: u64, path: &[u8], owner: u32, group: u32) =
+        nuz_lchown(txn => u64, path.as_ptr() => Bytes, path.len() => usize, owner => u32,
+                   group => u32);
+    fchown(txn: u64, fd: u64, owner: u32, group: u32) =
+        nuz_fchown(txn => u64, fd => u64, owner => u32, group => u32);
+    utime(txn: u64, path: &[u8], seconds: i64, nanoseconds: u32) =
+        nuz_utime(txn => u64, path.as_ptr() => Bytes, path.len() => usize, seconds => i64,
+                  nanoseconds => u32);
+    lutime(txn: u64, path: &[u8], seconds: i64, nanoseconds: u32) =
+        nuz_lutime(txn => u64, path.as_ptr() => Bytes, path.len() => usize, seconds => i64,
+                   nanoseconds => u32);
+    futime(txn: u64, fd: u64, seconds: i64, nanoseconds: u32) =
+        nuz_futime(txn => u64, fd => u64, seconds => i64, nanoseconds => u32);
 
     name(index: usize, buffer: &mut [u8]) =
         nuz_name(index => usize, buffer.as_mut_ptr() => Buffer, buffer.len() => usize);

@@ -1,5 +1,6 @@
 //! Transactions, and their calls on paths.
 
+use crate::attributes::time_of;
 use crate::error::{Error, Refusal, Result};
 use crate::file::{File, OpenFile, OpenOptions, OwnedFile};
 use crate::sys::{self, Answer, Handle};
@@ -8,7 +9,7 @@ use std::ffi::{OsStr, OsString};
 use std::os::unix::ffi::{OsStrExt, OsStringExt};
 use std::path::{Path, PathBuf};
 use std::sync::{Arc, Mutex, MutexGuard, PoisonError};
-use std::time::Duration;
+use std::time::{Duration, SystemTime};
 
 /// A live transaction: of a tree, or, as a step, of the transaction around it.
 ///
@@ -57,6 +58,15 @@ pub struct Metadata {
     pub links: u64,
     /// How many bytes a file has, or the target of a symbolic link.
     pub len: u64,
+    /// Its mode without the kind: at most 0o7777, and 0o777 for a symbolic link.
+    pub mode: u32,
+    /// Its owner.
+    pub uid: u32,
+    /// Its group.
+    pub gid: u32,
+    /// The time of a file's bytes, if one was set for them. Directories and symbolic links have
+    /// none.
+    pub modified: Option<SystemTime>,
 }
 
 /// A name of a directory.
@@ -96,17 +106,16 @@ impl Kind {
 
 impl Metadata {
     pub(crate) fn of(answer: Answer) -> Metadata {
-        let Answer {
-            number,
-            links,
-            size,
-            ..
-        } = answer;
+        let modified = || time_of(answer.seconds, answer.nanoseconds);
         Metadata {
             kind: Kind::of(answer),
-            number,
-            links,
-            len: size,
+            number: answer.number,
+            links: answer.links,
+            len: answer.size,
+            mode: answer.mode,
+            uid: answer.owner,
+            gid: answer.group,
+            modified: answer.has_time.then(modified).flatten(),
         }
     }
 
@@ -214,7 +223,7 @@ impl<R: Reach> Transaction<R> {
     }
 
     /// Makes a request about a path.
-    fn on(
+    pub(crate) fn on(
         &self,
         path: &Path,
         mut ask: impl FnMut(&mut Handle, u64, &[u8]) -> Answer,
@@ -327,7 +336,7 @@ impl<R: Reach> Transaction<R> {
         Ok(())
     }
 
-    /// Makes a directory.
+    /// Makes a directory, with mode 0o755.
     ///
     /// # Errors
     ///
@@ -521,8 +530,9 @@ impl<R: Reach> Transaction<R> {
 
     fn opened(&self, path: &Path, options: &OpenOptions) -> Result<(PathBuf, u64)> {
         let (access, flags) = (options.access()?, options.flags()?);
-        let opened = self.on(path, |handle, txn, path| {
-            handle.open_file(txn, path, access, flags)
+        let opened = self.on(path, |handle, txn, path| match options.given_mode() {
+            Some(mode) => handle.open_file_mode(txn, path, access, flags, mode),
+            None => handle.open_file(txn, path, access, flags),
         })?;
         Ok((path.to_path_buf(), opened.number))
     }

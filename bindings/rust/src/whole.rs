@@ -113,7 +113,7 @@ impl<R: Reach> Transaction<R> {
     /// EISDIR where it is a directory, or one of the path.
     pub fn read(&self, path: impl AsRef<Path>) -> Result<Vec<u8>> {
         let file = self.open(path, OpenOptions::new().read(true))?;
-        let mut bytes = vec![0; file.metadata()?.len as usize];
+        let mut bytes = vec![0; file.seek_end()? as usize];
         let mut count = 0;
         for piece in bytes.chunks_mut(PIECE) {
             count += file.read_at(piece, count as u64)?;
@@ -149,8 +149,8 @@ impl<R: Reach> Transaction<R> {
         self.open(path, &options)
     }
 
-    /// Makes a file of the bytes of another, in place of those that it had, and answers how many
-    /// they are. Where both are the same file, it stays as it is.
+    /// Makes a file of the bytes and the permissions of another, in place of those that it had, and
+    /// answers how many bytes there are. If both are the same file, it stays as it is.
     ///
     /// # Errors
     ///
@@ -162,6 +162,7 @@ impl<R: Reach> Transaction<R> {
             return source.close().map(|()| told.len);
         }
         let target = self.created(to)?;
+        target.set_permissions(told.permissions())?;
         let mut piece = vec![0; PIECE.min(told.len as usize)];
         let mut copied = 0;
         while copied < told.len {
