@@ -50,6 +50,15 @@ KINDS = {"E": "file", "G": "dir", "L": "link"}
 
 NAMES = [b"a", b"b", b"c", b"a", b"b", b"c", b"%", b"\xc3\xa9 x"]
 
+# More than a directory has without an index; many begin alike, and some are just too long to stand
+# in place.
+MANY_NAMES = (
+    [b"a", b"b", b"c"]
+    + [b"name-%d" % number for number in range(16)]
+    + [b"n" * length for length in (7, 8, 9, 15, 16, 17, 21, 22, 23, 24, 254)]
+    + [b"n" * 21 + last for last in (b"a", b"b", b"aa", b"ab")]
+)
+
 ODD_PATHS = [
     b"",
     b"/",
@@ -222,6 +231,7 @@ class Chooser:
     def __init__(self, random, is_at_limits):
         self.random = random
         self.is_at_limits = is_at_limits
+        self.names = random.choice([NAMES, MANY_NAMES])
         self.known = Paths()
         self.descriptors = []
 
@@ -311,7 +321,7 @@ class Chooser:
         return self.random.choice(there or [b"/a", b"/b/c"])
 
     def deeper(self, path):
-        return path + b"/" + self.random.choice(NAMES)
+        return path + b"/" + self.random.choice(self.names)
 
     def through(self, path):
         """The last name of a path behind a link, or behind a circle, which is followed often."""

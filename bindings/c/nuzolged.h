@@ -172,6 +172,12 @@ uint32_t nuz_tree_open(nuz_tree *tree, uint32_t rule);
  * @param limits what the tree allows, each at most the greatest */
 uint32_t nuz_tree_open_with(nuz_tree *tree, uint32_t rule, nuz_limits limits);
 
+/** Mixes a number into the hashes by which the tree finds names, so that whoever can't guess it
+ * can't choose names that take long to find. To be called once, right after the tree was opened,
+ * with a number of getrandom(2) or the like, if names come from strangers; without it the number is
+ * 0. It changes no answer, and takes no memory. A closed handle stays so. */
+void nuz_tree_seed(nuz_tree *tree, uint64_t seed);
+
 /** Frees the tree, with all transactions, live ones too. The handle is closed; a closed one stays
  * so, so that closing twice does no harm. */
 void nuz_tree_close(nuz_tree *tree);

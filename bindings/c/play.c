@@ -11,6 +11,7 @@
 
 #include <stdio.h>
 #include <stdlib.h>
+#include <unistd.h>
 
 /* Prints the reply to the last request, in a buffer that grows where it is too short. */
 static bool print_reply(nuz_tree *tree) {
@@ -92,7 +93,13 @@ static bool open_tree(nuz_tree *tree, char **words) {
             return false;
         }
     }
-    return nuz_tree_open_with(tree, rule, limits) == 0;
+    if (nuz_tree_open_with(tree, rule, limits) != 0) {
+        return false;
+    }
+    uint64_t seed = 0; /* (where the system gives none, it stays so) */
+    (void)!getentropy(&seed, sizeof seed);
+    nuz_tree_seed(tree, seed);
+    return true;
 }
 
 int main(int argc, char **argv) {

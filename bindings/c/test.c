@@ -170,6 +170,21 @@ static bool handle_is_closed_twice(void) {
     return true;
 }
 
+static bool seed_changes_no_answer(void) {
+    nuz_tree t = NUZ_TREE_INIT;
+    nuz_tree_seed(&t, 1);
+    CHECK(t.at == NULL);
+    CHECK(opened(&t));
+    nuz_tree_seed(&t, UINT64_MAX);
+    CHECK(nuz_begin(&t).number == 1 && nuz_mkdir(&t, 1, NUZ_S("/a")).code == 0);
+    nuz_tree_seed(&t, 7);
+    CHECK(nuz_mkdir(&t, 1, NUZ_S("/a")).code == EEXIST);
+    CHECK(nuz_rmdir(&t, 1, NUZ_S("/a")).code == 0);
+    CHECK(nuz_stat(&t, 1, NUZ_S("/a")).code == ENOENT);
+    nuz_tree_close(&t);
+    return true;
+}
+
 static bool open_handle_is_opened_anew(void) {
     nuz_tree t = NUZ_TREE_INIT;
     CHECK(nuz_tree_open(&t, 2) == NUZ_BAD && t.at == NULL);
@@ -1356,6 +1371,7 @@ static const struct {
 #define TEST(name) { #name, name }
     TEST(closed_handle_is_told),
     TEST(handle_is_closed_twice),
+    TEST(seed_changes_no_answer),
     TEST(open_handle_is_opened_anew),
     TEST(trees_are_closed_in_flat_memory),
     TEST(trees_are_apart),

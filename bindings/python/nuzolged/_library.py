@@ -195,6 +195,8 @@ def _load() -> ctypes.CDLL:
         function.restype = Answer
     library.nuz_tree_open_with.argtypes = [POINTER(Handle), c_uint32, Limits]
     library.nuz_tree_open_with.restype = c_uint32
+    library.nuz_tree_seed.argtypes = [POINTER(Handle), c_uint64]
+    library.nuz_tree_seed.restype = None
     library.nuz_tree_close.argtypes = [POINTER(Handle)]
     library.nuz_tree_close.restype = None
     return library

@@ -9,6 +9,7 @@ from __future__ import annotations
 import collections
 import ctypes
 import os
+import secrets
 import threading
 import time
 import weakref
@@ -53,6 +54,7 @@ class Session:
         code = library.nuz_tree_open_with(self._at, rule, limits)
         if code:
             raise error_of(code)
+        library.nuz_tree_seed(self._at, secrets.randbits(64))
         _register(self)
 
     def _renew_lock(self) -> None:

@@ -4,6 +4,8 @@
 //! has it alone (`&mut`), a slice is a pointer that is not null with its length, and a buffer is
 //! borrowed by nobody else.
 
+use std::collections::hash_map::RandomState;
+use std::hash::{BuildHasher, Hasher};
 use std::os::raw::c_void;
 use std::ptr;
 
@@ -70,6 +72,7 @@ pub const STAYS: u32 = u32::MAX;
 
 extern "C" {
     fn nuz_tree_open_with(tree: &mut Handle, rule: u32, limits: Limits) -> u32;
+    fn nuz_tree_seed(tree: &mut Handle, seed: u64);
     fn nuz_tree_close(tree: &mut Handle);
 }
 
@@ -81,10 +84,13 @@ impl Handle {
         }
     }
 
-    /// Opens a tree: 0, or the code of what stood in the way.
+    /// Opens a tree, with random keys of its own: 0, or the code of what stood in the way.
     pub fn open(&mut self, rule: u32, limits: Limits) -> u32 {
         // SAFETY: see the head of this module.
-        unsafe { nuz_tree_open_with(self, rule, limits) }
+        let code = unsafe { nuz_tree_open_with(self, rule, limits) };
+        // SAFETY: as above. (A random state has its keys from the system.)
+        unsafe { nuz_tree_seed(self, RandomState::new().build_hasher().finish()) };
+        code
     }
 }
 

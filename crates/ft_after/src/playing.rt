@@ -15,14 +15,15 @@ use ft_strict::{is_well, try_carry_out};
 use ft_words::Lines;
 use std::alloc::Global;
 
-/// A core that grants calls by this rule and has these limits: a new one, or where there is a
-/// script, one on which that was played first.
+/// A core that grants calls by this rule and has these limits: a new one, or if there is a script,
+/// one on which that was played first. It is seeded before, as `Core::seed` says.
 ///
 /// Limits that a core can't have are refused.
 pub fn core_after(
     alloc: Global,
     rule: Rule,
     limits: Limits,
+    seed: u64,
     script: Option<&[u8]>,
 ) -> Result<Core, AfterFault>
     ensures state { IfOk result (λ core. Begins rule limits (option_copied script.entry) core.state) }
@@ -31,7 +32,7 @@ pub fn core_after(
     ensures base { IfOk result (λ core. core.state ≡ at_base core.state.rule core.state.limits core.state.base) }
     ensures fault { IfErr result (λ fault. StopsBegin fault rule limits (option_copied script.entry)) }
 {
-    let mut core = new_core(alloc, rule, limits)?;
+    let mut core = new_core(alloc, rule, limits, seed)?;
     match script {
         None => Ok(core),
         Some(text) => {
@@ -41,14 +42,18 @@ pub fn core_after(
     }
 }
 
-// A new core that has these limits, if a core may have them.
-fn new_core(alloc: Global, rule: Rule, limits: Limits) -> Result<Core, AfterFault>
+// A new core that has these limits, if a core may have them, and is seeded.
+fn new_core(alloc: Global, rule: Rule, limits: Limits, seed: u64) -> Result<Core, AfterFault>
     ensures state { IfOk result (λ core. core.state ≡ first_state rule limits) }
     ensures within { OnOk result (are_within limits greatest_limits ≡ true) }
     ensures fault { IfErr result (λ fault. fault ≡ no_core limits) }
 {
     match Core::with(alloc, rule, limits) {
-        Ok(core) => Ok(core),
+        Ok(core) => {
+            let mut core = core;
+            core.seed(seed);
+            Ok(core)
+        }
         Err(Fault::BadLimits) => Err(AfterFault::BadLimits),
         Err(_) => Err(AfterFault::Memory),
     }

@@ -190,7 +190,7 @@ module _ {V : Type 0} where
       by_test false e = absurd (false≢true (subst IsSome (sym (ap (λ n. get n q) is) ∙ found-none z skipped xs q least (ltb-false skipped q e)) some))
 
   -- a number that has no value loses none
-  absent : (xs : List (Option V)) (k : ℕ) → get_or xs k None ≡ None → dense xs ≡ remove (dense xs) k
+  pub absent : (xs : List (Option V)) (k : ℕ) → get_or xs k None ≡ None → dense xs ≡ remove (dense xs) k
   absent xs k none = view-remove (numbered 0 xs) (numbered 0 xs) (dense xs) k refl (λ q. by_test (k == q) q refl)
     where
       by_test : (b : Bool) (q : ℕ) → (k == q) ≡ b → at (numbered 0 xs) q ≡ cond b None (at (numbered 0 xs) q)

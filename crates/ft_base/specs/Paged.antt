@@ -1,9 +1,9 @@
 -- A map from numbers whose values stand in pages, each at the place of its number.
-use Rattle.std.specs.Prelude.{◌≡◌, ◌≤◌, ◌⊎◌, ◌-◌, ◌*◌, ℕ, suc, List, [], ◌∷◌, ◌++◌, length, replicate, Option, Some, None}
+use Rattle.std.specs.Prelude.{◌≡◌, ◌≤◌, ◌⊎◌, ◌+◌, ◌-◌, ◌*◌, ℕ, suc, drop, List, [], ◌∷◌, ◌++◌, length, replicate, Option, Some, None}
 use Rattle.std.specs.Ordering.{nat_cmp}
 use Rattle.std.specs.List.{AllByRecursion}
 use Rattle.std.specs.FinMap as finite
-use Rattle.ft_base.specs.declared.TheConstants.{PAGE_LEN, GROUP_LEN, GROUP_PAGES}
+use Rattle.ft_base.specs.declared.TheConstants.{PAGE_LEN, GROUP_LEN, GROUP_PAGES, MOST_GROUPS}
 
 module _ {V : Type 0} where
   -- the values of the places, from this number on, with their numbers
@@ -77,3 +77,21 @@ module _ {V : Type 0} where
   pub record IsPagedTable (groups : List (List (Option V))) (page group : List (Option V)) : Type 0 where
     pub whole : HaveLen GROUP_LEN groups
     pub unused : IsSpare page group
+
+  -- all groups have all their places, and no number has more than 32 bits
+  pub record AreGroups (groups : List (List (Option V))) : Type 0 where
+    pub whole : HaveLen GROUP_LEN groups
+    pub few : length groups ≤ MOST_GROUPS
+
+  -- so many numbers have a value, and the spare page and group have none
+  pub record IsPagedMap (count : ℕ) (groups : List (List (Option V))) (page group : List (Option V)) : Type 0 where
+    pub whole : AreGroups groups
+    pub counted : count ≡ valued (joined_places groups)
+    pub unused : IsSpare page group
+
+  -- the first place with a value, from one on, and its value: with its number it stands before the
+  -- numbers after it. Where there is none, no number is left.
+  abbrev pub IsFirstFrom : List (Option V) → ℕ → Option (ℕ × V) → Type 0
+  IsFirstFrom places from None = (base : ℕ) → numbered (base + from) (drop from places) ≡ []
+  IsFirstFrom places from (Some (place, value)) =
+      (base : ℕ) → numbered (base + from) (drop from places) ≡ (base + place, value) ∷ numbered (base + place + 1) (drop (place + 1) places)

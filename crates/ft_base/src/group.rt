@@ -1,12 +1,12 @@
 // A group of pages of a table from numbers.
-ghost use Rattle.std.specs.Prelude.{◌≡◌, ◌<◌, ◌≤◌, ◌+◌, ◌*◌, ◌++◌, None, Some, length, set, get_or, replicate, IsSome, IsOk, OnOk, OnErr};
+ghost use Rattle.std.specs.Prelude.{◌≡◌, ◌<◌, ◌≤◌, ◌+◌, ◌*◌, ◌++◌, None, Some, length, set, get_or, replicate, IsSome, IsOk, IfSome, IfOk, OnOk, OnErr};
 ghost use Rattle.ft_base.specs.declared.TheConstants.{PAGE_LEN as page_len, GROUP_LEN as group_len, GROUP_PAGES as group_pages};
-ghost use Rattle.ft_base.specs.Paged.{blank, blank_group, valued, joined_places, group_places, HaveLen, IsSpare};
+ghost use Rattle.ft_base.specs.Paged.{blank, blank_group, valued, joined_places, group_places, HaveLen, IsFirstFrom, IsSpare};
 
 use crate::PAGE_LEN;
 use crate::memory::Memory;
 use crate::page::Page;
-use std::alloc::Global;
+use std::alloc::{AllocError, Global};
 use std::marker::Model;
 use std::mem::{replace, swap};
 
@@ -112,6 +112,33 @@ impl<V: Copy> Group<V> {
         }
     }
 
+    /// The first place with a value, from this one on, and its value.
+    pub(crate) fn first_from(&self, from: usize) -> Option<(usize, V)>
+        ensures first { IsFirstFrom self.now from result }
+        ensures place { IfSome result (λ found. found.0 < group_len) }
+    {
+        for place in from..self.pages.len() * PAGE_LEN {
+            if let Some(value) = self.get(place) {
+                return Some((place, value));
+            }
+        }
+        None
+    }
+
+    /// Another group of the same values.
+    pub(crate) fn copied(&self) -> Result<Group<V>, AllocError>
+        ensures { IfOk result (λ copy. copy ≡ self.now) }
+    {
+        let mut pages = Vec::with_capacity(*self.pages.allocator(), self.pages.len())?;
+        for page in &self.pages {
+            pages.push_reserved(page.copied()?);
+        }
+        Ok(Group {
+            used: self.used,
+            pages,
+        })
+    }
+
     /// Gives the list of the pages, none of which has a value, to the spare group, or back where
     /// that has one. Takes no memory.
     fn free(&mut self, spare: &mut Group<V>)
@@ -198,6 +225,19 @@ fn add_pages<V: Copy>(pages: &mut Vec<Page<V>>, count: usize) -> Result<(), Memo
     pages.reserve(count)?;
     for _ in 0..count {
         pages.push_reserved(Page::new(alloc));
+    }
+    Ok(())
+}
+
+/// Makes groups without values behind all others.
+pub(crate) fn add_groups<V: Copy>(groups: &mut Vec<Group<V>>, count: usize) -> Result<(), Memory>
+    ensures ok { OnOk result (groups.new.items ≡ groups.old.items ++ replicate count blank_group) }
+    ensures err { OnErr result (groups.new.items ≡ groups.old.items) }
+{
+    let alloc = *groups.allocator();
+    groups.reserve(count)?;
+    for _ in 0..count {
+        groups.push_reserved(Group::new(alloc));
     }
     Ok(())
 }

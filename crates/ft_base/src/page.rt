@@ -1,11 +1,11 @@
 // A page of a table from numbers.
-ghost use Rattle.std.specs.Prelude.{◌≡◌, ◌<◌, ◌≤◌, ◌+◌, ◌++◌, None, Some, length, set, get_or, replicate, IsSome, IsOk, OnOk, OnErr};
+ghost use Rattle.std.specs.Prelude.{◌≡◌, ◌<◌, ◌≤◌, ◌+◌, ◌++◌, None, Some, length, set, get_or, replicate, IsSome, IsOk, IfOk, OnOk, OnErr};
 ghost use Rattle.ft_base.specs.declared.TheConstants.{PAGE_LEN as page_len};
 ghost use Rattle.ft_base.specs.Paged.{blank, all_places, valued, IsWhole};
 
 use crate::PAGE_LEN;
 use crate::memory::Memory;
-use std::alloc::Global;
+use std::alloc::{AllocError, Global};
 use std::marker::Model;
 use std::mem::{replace, swap};
 
@@ -103,6 +103,17 @@ impl<V: Copy> Page<V> {
 }
 
 impl<V: Copy> Page<V> {
+    /// Another page of the same values.
+    pub(crate) fn copied(&self) -> Result<Page<V>, AllocError>
+        ensures { IfOk result (λ copy. copy ≡ self.now) }
+    {
+        let places = Vec::from_slice(*self.places.allocator(), &self.places)?;
+        Ok(Page {
+            used: self.used,
+            places,
+        })
+    }
+
     /// Gives the memory of the places, none of which has a value, to the spare page, or back where
     /// that has some. Takes no memory.
     fn free(&mut self, spare: &mut Page<V>)

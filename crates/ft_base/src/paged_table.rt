@@ -5,7 +5,7 @@ ghost use Rattle.ft_base.specs.declared.TheConstants.{GROUP_LEN as group_len};
 ghost use Rattle.ft_base.specs.Paged.{dense, spread, blank_group, HaveLen};
 
 use crate::GROUP_LEN;
-use crate::group::{Group, Spare};
+use crate::group::{Group, Spare, add_groups};
 use crate::memory::Memory;
 use crate::page::Page;
 use std::alloc::Global;
@@ -202,18 +202,5 @@ fn make_group<V: Copy>(groups: &mut Vec<Group<V>>, group: usize) -> Result<(), M
     }
     let more = group + 1 - groups.len();
     add_groups(groups, more)?;
-    Ok(())
-}
-
-/// Makes groups without values behind all others.
-fn add_groups<V: Copy>(groups: &mut Vec<Group<V>>, count: usize) -> Result<(), Memory>
-    ensures ok { OnOk result (groups.new.items ≡ groups.old.items ++ replicate count blank_group) }
-    ensures err { OnErr result (groups.new.items ≡ groups.old.items) }
-{
-    let alloc = *groups.allocator();
-    groups.reserve(count)?;
-    for _ in 0..count {
-        groups.push_reserved(Group::new(alloc));
-    }
     Ok(())
 }

@@ -15,7 +15,7 @@ use crate::judging::{find_spot, mode_fault};
 use crate::making::set_dir_mode;
 use ft_base::Memory;
 use ft_looks::{Look, text_parts};
-use ft_path::{Errno, FilePath, LastName, Parts};
+use ft_path::{Errno, FilePath, JudgedPath, LastName};
 use ft_posix::{Edit, Edits, Stop, Told};
 use ft_tree::{Entry, Node, Rare, Spot};
 use std::alloc::Global;
@@ -78,7 +78,7 @@ pub(crate) fn rmdir(
     requires { edits.old ≡ [] }
     ensures { Comes look.old (remove_parts (parts_of path.now)) look.new (intended edits.new result) }
 {
-    let parts = text_parts(alloc, path)?;
+    let parts = text_parts(path)?;
     remove_parts(alloc, look, edits, &parts)
 }
 
@@ -87,7 +87,7 @@ fn remove_parts(
     alloc: Global,
     look: &mut Look<'_>,
     edits: &mut Edits<'_>,
-    parts: &Parts,
+    parts: &JudgedPath<'_>,
 ) -> Result<Told, Stop>
     requires { edits.old ≡ [] }
     ensures { Comes look.old (remove_parts (Ok parts.now)) look.new (intended edits.new result) }
@@ -160,7 +160,7 @@ pub(crate) fn dir_gone(edits: &mut Edits<'_>, dir: u64) -> Result<(), Memory>
 pub(crate) fn list(alloc: Global, look: &mut Look<'_>, path: &FilePath) -> Result<Told, Stop>
     ensures { Comes look.old (from_parts true (parts_of path.now) list_dir) look.new (intended [] result) }
 {
-    let parts = text_parts(alloc, path)?;
+    let parts = text_parts(path)?;
     let spot = look.walk(alloc, true, &parts)?;
     list_dir(look, spot)
 }

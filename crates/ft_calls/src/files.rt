@@ -15,7 +15,7 @@ use crate::making::set_file_mode;
 use crate::offsets::to_size;
 use ft_base::Memory;
 use ft_looks::{Look, text_parts};
-use ft_path::{Errno, FilePath, Parts};
+use ft_path::{Errno, FilePath, JudgedPath};
 use ft_posix::{Edit, Edits, OpenFlags, Stop, Told};
 use ft_tree::{Attributes, Entry, Form, HintedFile, Kind, Node, Spot};
 use std::alloc::Global;
@@ -146,7 +146,7 @@ pub(crate) fn truncate(
     requires { edits.old ≡ [] }
     ensures { Comes look.old (truncate_parts look.old.cells.limits length (parts_of path.now)) look.new (intended edits.new result) }
 {
-    let parts = text_parts(alloc, path)?;
+    let parts = text_parts(path)?;
     let size = to_size(look.limits(), length)?;
     truncate_to(alloc, look, edits, size, &parts)
 }
@@ -157,7 +157,7 @@ fn truncate_to(
     look: &mut Look<'_>,
     edits: &mut Edits<'_>,
     size: u64,
-    parts: &Parts,
+    parts: &JudgedPath<'_>,
 ) -> Result<Told, Stop>
     requires size { size ≤ LARGEST_SIZE }
     requires none { edits.old ≡ [] }
@@ -220,7 +220,7 @@ pub(crate) fn stat(
 ) -> Result<Told, Stop>
     ensures { Comes look.old (from_parts follow (parts_of path.now) stat_spot) look.new (intended [] result) }
 {
-    let parts = text_parts(alloc, path)?;
+    let parts = text_parts(path)?;
     let spot = look.walk(alloc, follow, &parts)?;
     stat_spot(look, spot)
 }

@@ -22,7 +22,7 @@ pub(crate) fn find_spot(
 ) -> Result<Spot, Stop>
     ensures { Leads look.old (judged fault follow (parts_of path.now)) look.new result }
 {
-    let parts = text_parts(alloc, path)?;
+    let parts = text_parts(path)?;
     if let Some(errno) = fault {
         return Err(Stop::Errno(errno));
     }

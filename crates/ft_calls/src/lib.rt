@@ -19,4 +19,4 @@ pub use ft_posix::{
     Access, Call, Edit, Edits, Intent, LAST_OFFSET, Mode, OpenFlags, Reply, StampedCall, Told,
     Whence,
 };
-pub use preparing::{Prepared, accesses, prepare};
+pub use preparing::{Looked, Prepared, accesses, look_behind, look_over, prepare};

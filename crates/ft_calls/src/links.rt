@@ -13,7 +13,7 @@ ghost use Rattle.ft_posix.specs.Intended.{intended};
 use crate::dirs::dir_gone;
 use ft_base::Memory;
 use ft_looks::{Look, text_parts};
-use ft_path::{Errno, FilePath, LastName, Parts};
+use ft_path::{Errno, FilePath, JudgedPath, LastName};
 use ft_posix::{Edit, Edits, Stop, Told};
 use ft_tree::{Entry, Form, Node, Spot, TreeLimits};
 use std::alloc::Global;
@@ -28,7 +28,7 @@ pub(crate) fn unlink(
     requires { edits.old ≡ [] }
     ensures { Comes look.old (from_parts false (parts_of path.now) unlink_spot) look.new (intended edits.new result) }
 {
-    let parts = text_parts(alloc, path)?;
+    let parts = text_parts(path)?;
     let spot = look.walk(alloc, false, &parts)?;
     unlink_spot(look, edits, spot)
 }
@@ -67,8 +67,8 @@ pub(crate) fn link(
     requires { edits.old ≡ [] }
     ensures { Comes look.old (link_parts look.old.cells.limits (parts_of old.now) (parts_of new.now)) look.new (intended edits.new result) }
 {
-    let from = text_parts(alloc, old)?;
-    let to = text_parts(alloc, new)?;
+    let from = text_parts(old)?;
+    let to = text_parts(new)?;
     let limits = look.limits();
     link_parts(alloc, look, edits, limits, &from, &to)
 }
@@ -79,8 +79,8 @@ fn link_parts(
     look: &mut Look<'_>,
     edits: &mut Edits<'_>,
     limits: TreeLimits,
-    old: &Parts,
-    new: &Parts,
+    old: &JudgedPath<'_>,
+    new: &JudgedPath<'_>,
 ) -> Result<Told, Stop>
     requires { edits.old ≡ [] }
     ensures { Comes look.old (link_parts limits (Ok old.now) (Ok new.now)) look.new (intended edits.new result) }
@@ -95,7 +95,7 @@ fn link_old(
     look: &mut Look<'_>,
     edits: &mut Edits<'_>,
     limits: TreeLimits,
-    new: &Parts,
+    new: &JudgedPath<'_>,
     spot: Spot,
 ) -> Result<Told, Stop>
     requires { edits.old ≡ [] }
@@ -119,7 +119,7 @@ fn link_file(
     limits: TreeLimits,
     form: Form,
     file: u64,
-    new: &Parts,
+    new: &JudgedPath<'_>,
 ) -> Result<Told, Stop>
     requires { edits.old ≡ [] }
     ensures { Comes look.old (from_parts false (Ok new.now) (link_new limits form file)) look.new (intended edits.new result) }
@@ -177,8 +177,8 @@ pub(crate) fn rename(
     requires { edits.old ≡ [] }
     ensures { Comes look.old (rename_parts (stored_dirs look.old.cells) (parts_of old.now) (parts_of new.now)) look.new (intended edits.new result) }
 {
-    let from = text_parts(alloc, old)?;
-    let to = text_parts(alloc, new)?;
+    let from = text_parts(old)?;
+    let to = text_parts(new)?;
     rename_parts(alloc, look, edits, &from, &to)
 }
 
@@ -187,8 +187,8 @@ fn rename_parts(
     alloc: Global,
     look: &mut Look<'_>,
     edits: &mut Edits<'_>,
-    old: &Parts,
-    new: &Parts,
+    old: &JudgedPath<'_>,
+    new: &JudgedPath<'_>,
 ) -> Result<Told, Stop>
     requires { edits.old ≡ [] }
     ensures { Comes look.old (rename_parts (stored_dirs look.old.cells) (Ok old.now) (Ok new.now)) look.new (intended edits.new result) }
@@ -218,7 +218,7 @@ fn rename_old(
     alloc: Global,
     look: &mut Look<'_>,
     edits: &mut Edits<'_>,
-    new: &Parts,
+    new: &JudgedPath<'_>,
     spot: Spot,
 ) -> Result<Told, Stop>
     requires { edits.old ≡ [] }
@@ -242,7 +242,7 @@ fn rename_file_to(
     old: Entry,
     form: Form,
     file: u64,
-    new: &Parts,
+    new: &JudgedPath<'_>,
 ) -> Result<Told, Stop>
     requires { edits.old ≡ [] }
     ensures { Comes look.old (from_parts false (Ok new.now) (rename_file old form file)) look.new (intended edits.new result) }
@@ -313,7 +313,7 @@ fn rename_dir_to(
     edits: &mut Edits<'_>,
     old: Entry,
     number: u64,
-    new: &Parts,
+    new: &JudgedPath<'_>,
 ) -> Result<Told, Stop>
     requires { edits.old ≡ [] }
     ensures { Comes look.old (from_parts false (Ok new.now) (rename_dir (stored_dirs look.old.cells) old number)) look.new (intended edits.new result) }

@@ -1,11 +1,15 @@
 // What a call touches and comes to, found out in one go.
-ghost use Rattle.std.specs.Prelude.{◌≡◌, [], IfOk, OnOk};
+ghost use Rattle.std.specs.Prelude.{◌≡◌, [], None, IfOk, OnOk};
+ghost use Rattle.std.specs.Option.{option_copied};
 ghost use Rattle.ft_cells.specs.Cells.{bytes_of, stored_dirs};
 ghost use Rattle.ft_tree.specs.Sound.{AreSoundCells};
 ghost use Rattle.ft_posix.specs.Edits.{CanEditAll, Apart};
 ghost use Rattle.ft_posix.specs.Steps.{steps};
 ghost use Rattle.ft_posix.specs.Stored.{outcome};
 ghost use Rattle.ft_posix.specs.Accesses.{accesses_of};
+ghost use Rattle.ft_tree.specs.Views.{view_of};
+ghost use Rattle.ft_tree.specs.Fronts.{LeadsIfAny, entries_of};
+ghost use Rattle.ft_posix.specs.Besides.{AreAlikeBut};
 ghost use Rattle.ft_posix.specs.Looking.{noted};
 ghost use Rattle.ft_posix.specs.Comes.{Comes, outcome_of};
 ghost use Rattle.ft_posix.specs.Intended.{intended};
@@ -19,7 +23,7 @@ use crate::symlinks::{readlink, symlink};
 use ft_base::Memory;
 use ft_looks::Look;
 use ft_posix::{Access, Call, Edits, Intent, OpenFlags, Stop, Told};
-use ft_tree::Tree;
+use ft_tree::{Front, Tree};
 use std::alloc::Global;
 use std::mem;
 
@@ -43,12 +47,62 @@ pub fn prepare<'c>(
     ensures places { AreSoundCells tree.now → IfOk result (λ call_made. CanEditAll tree.now call_made.intent.edits) }
     ensures apart { AreSoundCells tree.now → IfOk result (λ call_made. Apart call_made.intent.edits) }
 {
-    let mut look = Look::new(alloc, tree);
     let mut edits = Edits::new(alloc);
-    let told = tell_or_fail(alloc, &mut look, &mut edits, stamp, call)?;
-    let accesses = look.into_accesses(&edits)?;
+    let Looked { accesses, told } = look_over(alloc, tree, stamp, call, &mut edits)?;
     let intent = Intent { told, edits };
     Ok(Prepared { accesses, intent })
+}
+
+/// What a call that was looked at touches, and what it answers.
+#[derive(Drop)]
+pub struct Looked {
+    pub accesses: Vec<Access>,
+    pub told: Told,
+}
+
+/// Looks at all that a call looks at, as `prepare` does, and puts its edits into a list of the
+/// caller's. Changes nothing besides, and refuses want of memory.
+pub fn look_over<'c>(
+    alloc: Global,
+    tree: &Tree,
+    stamp: u64,
+    call: &'c Call,
+    edits: &mut Edits<'c>,
+) -> Result<Looked, Memory>
+    requires none { edits.old ≡ [] }
+    requires fresh { bytes_of tree.now stamp ≡ [] }
+    ensures accesses { IfOk result (λ looked. looked.accesses.items ≡ accesses_of tree.now stamp call.now) }
+    ensures outcome { IfOk result (λ looked. outcome_of tree.now (record { told = looked.told; edits = edits.new }) ≡ outcome tree.now stamp call.now) }
+    ensures places { AreSoundCells tree.now → OnOk result (CanEditAll tree.now edits.new) }
+    ensures apart { AreSoundCells tree.now → OnOk result (Apart edits.new) }
+{
+    look_behind(alloc, tree, None, stamp, call, edits)
+}
+
+/// Looks at all that a call looks at, as `look_over` does, where a front is known, if there is one:
+/// a path that goes on behind it is walked from where it leads. Reads of the entries on the front's
+/// way may be missing among the accesses, and nothing else.
+pub fn look_behind<'c>(
+    alloc: Global,
+    tree: &Tree,
+    front: Option<&Front>,
+    stamp: u64,
+    call: &'c Call,
+    edits: &mut Edits<'c>,
+) -> Result<Looked, Memory>
+    requires none { edits.old ≡ [] }
+    requires fresh { bytes_of tree.now stamp ≡ [] }
+    requires leads { LeadsIfAny (view_of tree.now) (option_copied front) }
+    ensures accesses { IfOk result (λ looked. AreAlikeBut (entries_of (option_copied front.entry)) looked.accesses.items (accesses_of tree.now stamp call.now)) }
+    ensures exact { option_copied front.entry ≡ None → IfOk result (λ looked. looked.accesses.items ≡ accesses_of tree.now stamp call.now) }
+    ensures outcome { IfOk result (λ looked. outcome_of tree.now (record { told = looked.told; edits = edits.new }) ≡ outcome tree.now stamp call.now) }
+    ensures places { AreSoundCells tree.now → OnOk result (CanEditAll tree.now edits.new) }
+    ensures apart { AreSoundCells tree.now → OnOk result (Apart edits.new) }
+{
+    let mut look = Look::behind(alloc, tree, front);
+    let told = tell_or_fail(alloc, &mut look, edits, stamp, call)?;
+    let accesses = look.into_accesses(edits)?;
+    Ok(Looked { accesses, told })
 }
 
 /// What a call answers, and the edits that it makes out; a fault is an answer like others.

@@ -9,7 +9,7 @@ ghost use Rattle.ft_posix.specs.Comes.{Comes};
 ghost use Rattle.ft_posix.specs.Intended.{intended};
 
 use ft_looks::{Look, text_parts};
-use ft_path::{Errno, FilePath, LONGEST_PATH, Parts};
+use ft_path::{Errno, FilePath, JudgedPath, LONGEST_PATH};
 use ft_posix::{Edit, Edits, Stop, Told};
 use ft_tree::{Form, HintedFile, Node, Spot};
 use std::alloc::Global;
@@ -27,7 +27,7 @@ pub(crate) fn symlink<'c>(
     requires fresh { bytes_of look.old.cells stamp ≡ [] }
     ensures { Comes look.old (symlink_parts stamp target.now (parts_of path.now)) look.new (intended edits.new result) }
 {
-    let parts = text_parts(alloc, path)?;
+    let parts = text_parts(path)?;
     symlink_parts(alloc, look, edits, stamp, target.as_bytes(), &parts)
 }
 
@@ -38,7 +38,7 @@ fn symlink_parts<'c>(
     edits: &mut Edits<'c>,
     stamp: u64,
     target: &'c [u8],
-    parts: &Parts,
+    parts: &JudgedPath<'_>,
 ) -> Result<Told, Stop>
     requires none { edits.old ≡ [] }
     requires fresh { bytes_of look.old.cells stamp ≡ [] }
@@ -105,7 +105,7 @@ fn make_link<'c>(
 pub(crate) fn readlink(alloc: Global, look: &mut Look<'_>, path: &FilePath) -> Result<Told, Stop>
     ensures { Comes look.old (from_parts false (parts_of path.now) read_link) look.new (intended [] result) }
 {
-    let parts = text_parts(alloc, path)?;
+    let parts = text_parts(path)?;
     let spot = look.walk(alloc, false, &parts)?;
     read_link(look, spot)
 }

@@ -9,12 +9,13 @@ use Rattle.ft_path.proofs.name.Name.TheSendSync as name
 use Rattle.ft_body.proofs.Crossing.{BodyUndo-send}
 use Rattle.ft_cells.proofs.rare.Rare.TheSendSync as rare
 use Rattle.ft_inodes.specs.contracts.file.FileUndo as FileUndo
-use Rattle.ft_cells.proofs.node.Node.TheSendSync as node
 use Rattle.ft_cells.proofs.open_file.OpenFile.TheSendSync as open_file
 use Rattle.ft_tree.proofs.tree.Tree.TheSendSync as tree
 use Rattle.ft_posix.proofs.call.Call.TheSendSync as call
 use Rattle.ft_forest.proofs.forest.Forest.TheSendSync as forest
 use Rattle.ft_locks.proofs.locks.Locks.TheSendSync as locks
+use Rattle.ft_undo.proofs.entry_was.EntryWas.TheSendSync as entry_was
+use Rattle.ft_undo.specs.contracts.bytes_undo.BytesUndo as BytesUndo
 use Rattle.ft_undo.specs.contracts.time_undo.TimeUndo as TimeUndo
 use Rattle.ft_undo.specs.contracts.undo.Back as Back
 use Rattle.ft_undo.specs.contracts.undo.Undo as Undo
@@ -29,11 +30,14 @@ use Rattle.ft_core.specs.contracts.manager.Core as Core
 FileUndo-send : IsSend FileUndo.the_row
 FileUndo-send = search (BodyUndo-send, rare.the_send, crosses, sendable) depth 40
 
+BytesUndo-send : IsSend BytesUndo.the_row
+BytesUndo-send = search (FileUndo-send, crosses, sendable) depth 40
+
 TimeUndo-send : IsSend TimeUndo.the_row
 TimeUndo-send = search (rare.the_send, crosses, sendable) depth 40
 
 Back-send : IsSend Back.the_row
-Back-send = search (FileUndo-send, TimeUndo-send, rare.the_send, name.the_send, node.the_field_send, open_file.the_field_send, sendable) depth 40
+Back-send = search (BytesUndo-send, TimeUndo-send, rare.the_send, name.the_send, entry_was.the_send, open_file.the_field_send, sendable) depth 40
 
 Undo-send : IsSend Undo.the_row
 Undo-send = search (Back-send, crosses, sendable) depth 40

@@ -137,7 +137,7 @@ module _ (W : CallLaws) (K : LockLaws) {base : Base} {h : History} {asks : Asks}
       past-last : (i : ℕ) → nat_le i last_number ≡ false → last_number < i
       past-last i e = leb-false i last_number e
 
-  -- That of one that is is gone.
+  -- the cells of a file whose place was dropped hold nothing
   file-gone : {A : Type 0} (what : FileCells → A) (i : ℕ) → (HasFilePlace new i → what (stored_file new i) ≡ what (stored_file cells i)) → (hidden i ≡ true → what (stored_file cells i) ≡ what no_file)
       → more i ≡ true → what (stored_file new i) ≡ what no_file
   file-gone what i stays was_gone unseen = by_test (finite.contains_key new.files i)

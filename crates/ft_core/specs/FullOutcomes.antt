@@ -1,6 +1,7 @@
 -- What became of a call that was asked for, with all that was made of it.
-use Rattle.std.specs.Prelude.{◌≡◌, Bool, true, cond, Some, None}
+use Rattle.std.specs.Prelude.{◌≡◌, Bool, cond, Some, None}
 use Rattle.ft_posix.specs.declared.call.Call.{Call}
+use Rattle.ft_core.specs.declared.parts.Made.{Made}
 use Rattle.ft_core.specs.declared.parts.Tried.{Tried}
 use Rattle.ft_core.specs.declared.parts.Tried.TheVariants.{Made as WasMade, Blocked}
 use Rattle.ft_core.specs.declared.request.Outcome.{Outcome}
@@ -20,17 +21,12 @@ outcome_of (full.Waits blockers) = outcome.Waits blockers
 abbrev pub full_answer : FullOutcome → Answer
 full_answer w = outcome_answer (outcome_of w)
 
--- if it was made: the call, a copy of its reply where that was wanted, and its accesses on the tree
--- of the state
-abbrev pub IsTold : Bool → State → Call → FullOutcome → Type 0
-IsTold twice s call (full.Granted k made reply kept accesses) = (made ≡ call) × (kept ≡ cond twice (Some reply) None) × (accesses.items ≡ accesses_now s call)
-IsTold twice s call (full.Waits blockers) = Unit {0}
-
--- the same where the copy was wanted
+-- if it was made: the call, a copy of its reply, and its accesses on the tree of the state
 abbrev pub IsToldInFull : State → Call → FullOutcome → Type 0
-IsToldInFull = IsTold true
+IsToldInFull s call (full.Granted k made reply kept accesses) = (made ≡ call) × (kept ≡ Some reply) × (accesses.items ≡ accesses_now s call)
+IsToldInFull s call (full.Waits blockers) = Unit {0}
 
 -- the reply of a call that was tried and made, a second time where that was wanted
-abbrev pub IsTwice : Bool → Tried → Type 0
-IsTwice twice (WasMade made) = made.kept ≡ cond twice (Some made.reply) None
-IsTwice twice (Blocked blockers) = Unit {0}
+abbrev pub IsTwice : Bool → Made → Tried → Type 0
+IsTwice twice made WasMade = made.kept ≡ cond twice (Some made.reply) None
+IsTwice twice made (Blocked blockers) = Unit {0}

@@ -25,7 +25,7 @@ pub record IsBlocked (rule : Rule) (old new : Parts) (t k : ℕ) (call : Call) (
   pub are : AreBlockers rule old.locks old.forest t (accesses_of old.tree k call) blockers
   pub unmade : IsUnmade old new
 
--- one of the two
-abbrev pub IsTried : Rule → Parts → Parts → ℕ → ℕ → Call → Tried → Type 0
-IsTried rule old new t k call (WasMade made) = IsMade rule old new t k call made
-IsTried rule old new t k call (Blocked blockers) = IsBlocked rule old new t k call blockers.items
+-- one of the two, where this was written of what is made
+abbrev pub IsTried : Rule → Parts → Parts → ℕ → ℕ → Call → Made → Tried → Type 0
+IsTried rule old new t k call made WasMade = IsMade rule old new t k call made
+IsTried rule old new t k call made (Blocked blockers) = IsBlocked rule old new t k call blockers.items

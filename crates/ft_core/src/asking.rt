@@ -7,10 +7,11 @@ ghost use Rattle.ft_core.specs.declared.fault.Fault.TheVariants.{Memory as Memor
 ghost use Rattle.ft_core.specs.declared.request.Request.TheVariants.{Ask, Retry};
 ghost use Rattle.ft_core.specs.Journals.{asked_for};
 ghost use Rattle.ft_core.specs.States.{fate_of, has_most_calls};
-ghost use Rattle.ft_core.specs.FullOutcomes.{IsTold, IsToldInFull, full_answer};
+ghost use Rattle.ft_core.specs.FullOutcomes.{IsToldInFull, full_answer};
 ghost use Rattle.ft_core.specs.Steps.{IsStep, IsAsked, exact_rule, refusal_of, refused_with, answer_with, outcome_answer};
 
 use crate::fault::Fault;
+use crate::journal::asked_or;
 use crate::manager::Core;
 use crate::parts::{Asker, Made, Tried};
 use crate::request::{FullOutcome, Outcome};
@@ -40,7 +41,7 @@ impl Core {
         ensures told { IfOk result (IsToldInFull self.old.state call) }
     {
         self.may_ask(txn)?;
-        self.request_in_full(txn, Some(call), true)
+        self.request_in_full(txn, Some(call))
     }
 
     /// Refuses what `ask` refuses whatever the call is, in its order: all but being out of memory.
@@ -84,7 +85,7 @@ impl Core {
         ensures told { IfOk result (λ outcome. (call : CallOf) × (finite.get self.old.state.asks txn ≡ Some call) × IsToldInFull self.old.state call outcome) }
     {
         self.may_retry(txn)?;
-        self.request_in_full(txn, None, true)
+        self.request_in_full(txn, None)
     }
 
     /// Refuses what `retry` refuses, in its order, except for being out of memory.
@@ -121,41 +122,71 @@ impl Core {
         ensures memory { IfErr result (λ fault. fault ≡ MemoryFault) }
         ensures same { OnErr result (self.new.state ≡ self.old.state) }
     {
-        let outcome = self.request_in_full(txn, asked, false)?;
-        Ok(outcome.shortened())
+        let stamp = self.journal.next_stamp();
+        let rule = self.journal.rule();
+        let call = self.journal.wanted(txn, &asked);
+        let asker = Asker {
+            txn,
+            stamp,
+            twice: false,
+        };
+        let mut made = Made::nothing(self.alloc);
+        match self
+            .parts
+            .try_call(self.alloc, asker, call, rule, &mut made)?
+        {
+            Tried::Made => {
+                let Made {
+                    reply,
+                    kept,
+                    accesses,
+                } = made;
+                let pending = self.journal.grant(txn, &asked, &reply, accesses.as_slice());
+                drop(asked_or(asked, pending));
+                drop(kept);
+                Ok(Outcome::Granted { stamp, reply })
+            }
+            Tried::Blocked(blockers) => {
+                self.journal.wait(txn, asked)?;
+                let blockers = Sequence::from(blockers);
+                Ok(Outcome::Waits { blockers })
+            }
+        }
     }
 
     /// Makes a call, or notes that the transaction waits for it, as `request` does, and hands out
-    /// all that was made of it, with the reply twice where that is wanted.
-    fn request_in_full(
-        &mut self,
-        txn: TxnId,
-        asked: Option<Call>,
-        twice: bool,
-    ) -> Result<FullOutcome, Fault>
+    /// all that was made of it, with the reply twice.
+    fn request_in_full(&mut self, txn: TxnId, asked: Option<Call>) -> Result<FullOutcome, Fault>
         requires few { has_most_calls self.old.state ≡ false }
         requires live { fate_of self.old.state txn ≡ Some Live }
         requires some { IsSome (asked_for asked (finite.get self.old.state.asks txn)) }
-        ensures asked { IfOk result (λ outcome. (call : CallOf) × (asked_for asked (finite.get self.old.state.asks txn) ≡ Some call) × IsAsked exact_rule self.old.state txn call (full_answer outcome) self.new.state × IsTold twice self.old.state call outcome) }
+        ensures asked { IfOk result (λ outcome. (call : CallOf) × (asked_for asked (finite.get self.old.state.asks txn) ≡ Some call) × IsAsked exact_rule self.old.state txn call (full_answer outcome) self.new.state × IsToldInFull self.old.state call outcome) }
         ensures memory { IfErr result (λ fault. fault ≡ MemoryFault) }
         ensures same { OnErr result (self.new.state ≡ self.old.state) }
     {
         let stamp = self.journal.next_stamp();
         let rule = self.journal.rule();
         let call = self.journal.wanted(txn, &asked);
-        let asker = Asker { txn, stamp, twice };
-        match self.parts.try_call(self.alloc, asker, call, rule)? {
-            Tried::Made(
-                Made {
+        let asker = Asker {
+            txn,
+            stamp,
+            twice: true,
+        };
+        let mut made = Made::nothing(self.alloc);
+        match self
+            .parts
+            .try_call(self.alloc, asker, call, rule, &mut made)?
+        {
+            Tried::Made => {
+                let Made {
                     reply,
                     kept,
                     accesses,
-                },
-            ) => {
-                let call = self.journal.grant(txn, asked, &reply, accesses.as_slice());
+                } = made;
+                let pending = self.journal.grant(txn, &asked, &reply, accesses.as_slice());
                 Ok(FullOutcome::Granted {
                     stamp,
-                    call,
+                    call: asked_or(asked, pending),
                     reply,
                     kept,
                     accesses,

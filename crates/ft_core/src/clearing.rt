@@ -3,6 +3,7 @@ ghost use Rattle.std.specs.Prelude.{◌≡◌, None, OnOk, IfErr};
 ghost use Rattle.ft_core.specs.declared.fault.Fault.TheVariants.{Live as LiveFault};
 ghost use Rattle.ft_core.specs.declared.request.Request.TheVariants.{Checkpoint};
 ghost use Rattle.ft_core.specs.declared.request.Answer.TheVariants.{Cleared};
+ghost use Rattle.ft_moss.specs.Locks.{no_locks as without_locks};
 ghost use Rattle.ft_core.specs.Living.{NoneIsLive};
 ghost use Rattle.ft_core.specs.States.{after_checkpoint};
 ghost use Rattle.ft_core.specs.Steps.{IsStep, exact_rule, refusal_of, refused_with, answer_with};
@@ -12,6 +13,7 @@ use crate::journal::Journal;
 use crate::manager::Core;
 use ft_locks::Locks;
 use ft_undo::Logs;
+use std::alloc::Global;
 
 impl Core {
     /// Makes the tree as it stands the base, and forgets the transactions and all that has
@@ -49,7 +51,16 @@ impl Core {
         let stamp = self.journal.last_stamp();
         self.journal = Journal::new(self.alloc, terms, &self.parts.tree, stamp);
         self.parts.forest.restart();
-        self.parts.locks = Locks::new(self.alloc);
+        self.parts.locks = no_locks(self.alloc, self.seed);
         self.parts.logs = Logs::new(self.alloc);
     }
+}
+
+/// The locks of nobody, under a seed. Takes no memory.
+fn no_locks(alloc: Global, seed: u64) -> Locks
+    ensures { result ≡ without_locks }
+{
+    let mut locks = Locks::new(alloc);
+    locks.seed(seed);
+    locks
 }

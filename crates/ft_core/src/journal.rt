@@ -165,33 +165,29 @@ impl Journal {
     }
 
     /// Tells that a call was granted: the one that was asked for now, or without one the call that
-    /// the transaction waits for. It waits for nothing then. Hands the call back.
+    /// the transaction waits for. It waits for nothing then. Hands out the call that it waited for.
     pub(crate) fn grant(
         &mut self,
         txn: TxnId,
-        asked: Option<Call>,
+        asked: &Option<Call>,
         reply: &Reply,
         accesses: &[Access],
-    ) -> Call
+    ) -> Option<Call>
         requires few { is_full self.old ≡ false }
-        requires some { IsSome (asked_for asked (finite.get self.old.asks txn)) }
-        ensures call { asked_for asked (finite.get self.old.asks txn) ≡ Some result }
-        ensures told { (call : CallOf) → asked_for asked (finite.get self.old.asks txn) ≡ Some call → self.new ≡ with_call self.old txn call reply.now accesses.now }
+        requires some { IsSome (asked_for asked.now (finite.get self.old.asks txn)) }
+        ensures pending { result ≡ finite.get self.old.asks txn }
+        ensures told { (call : CallOf) → asked_for asked.now (finite.get self.old.asks txn) ≡ Some call → self.new ≡ with_call self.old txn call reply.now accesses.now }
     {
-        let pending = self.take_ask(txn);
-        let Some(call) = asked.or(pending) else {
-            unreachable!();
-        };
         let stamp = self.last_stamp + 1;
         self.past = self.past.and(&Grant {
             stamp,
             txn,
-            call: &call,
+            call: self.wanted(txn, asked),
             reply,
             accesses,
         });
         self.last_stamp = stamp;
-        call
+        self.take_ask(txn)
     }
 
     /// Notes that a transaction waits for a call that was asked for now. Without one it waits on.
@@ -249,4 +245,15 @@ impl Journal {
             self.subs.set(txn.0, Some(self.last_stamp));
         }
     }
+}
+
+/// The call that is asked for now, or without one the call that was waited for.
+pub(crate) fn asked_or(asked: Option<Call>, pending: Option<Call>) -> Call
+    requires { IsSome (asked_for asked pending) }
+    ensures { asked_for asked pending ≡ Some result }
+{
+    let Some(call) = asked.or(pending) else {
+        unreachable!();
+    };
+    call
 }

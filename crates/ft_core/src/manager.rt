@@ -43,6 +43,8 @@ use std::marker::Model;
 /// order of their stamps.
 pub struct Core {
     pub(crate) alloc: Global,
+    /// What the hashes of cells and names are mixed with.
+    pub(crate) seed: u64,
     pub(crate) journal: Journal,
     pub(crate) parts: Parts,
 }
@@ -51,6 +53,7 @@ impl Drop for Core {
     fn drop(self) {
         let Core {
             alloc: _,
+            seed: _,
             journal: _,
             parts: _,
         } = self;
@@ -115,6 +118,7 @@ impl Core {
         let journal = Journal::new(alloc, terms, &tree, 1);
         Ok(Core {
             alloc,
+            seed: 0,
             journal,
             parts: Parts {
                 tree,
@@ -123,6 +127,17 @@ impl Core {
                 logs: Logs::new(alloc),
             },
         })
+    }
+
+    /// Mixes a number into the hashes by which cells and names are found, so that whoever can't
+    /// guess it can't choose names that collide. It is to be called before the first request: later
+    /// it may change nothing. Nothing is seen of it.
+    pub fn seed(&mut self, seed: u64)
+        ensures { self.new ≡ self.old }
+    {
+        self.seed = seed;
+        self.parts.tree.seed(seed);
+        self.parts.locks.seed(seed);
     }
 
     /// Where its memory comes from.

@@ -2,7 +2,7 @@
 ghost use Rattle.std.specs.Prelude.{◌≡◌, ◌<◌, ◌≤◌, ◌^◌, ◌+◌, ◌∷◌, ℕ, List, [], Some, None, cond, true, false, length, take, map, IfOk, OnOk, OnErr};
 ghost use Rattle.ft_base.specs.Chains.{list_in};
 ghost use Rattle.ft_tree.specs.Sound.{AreSoundCells, IsFree};
-ghost use Rattle.ft_posix.specs.Comes.{outcome_of};
+ghost use Rattle.ft_posix.specs.Comes.{reply_of, writes_of};
 ghost use Rattle.ft_posix.specs.Edits.{CanEditAll, Apart};
 ghost use Rattle.ft_posix.specs.Stored.{put_all};
 ghost use Rattle.ft_undo.specs.declared.logs.Logged.{Logged as LoggedOf};
@@ -20,7 +20,7 @@ ghost use Rattle.ft_core.specs.Tries.{IsTried};
 ghost use Rattle.ft_core.specs.FullOutcomes.{IsTwice};
 
 use ft_base::Memory;
-use ft_calls::{Access, Call, Prepared, Reply, prepare};
+use ft_calls::{Access, Call, Edits, Looked, Reply, Told, look_over};
 use ft_forest::{Forest, TxnId};
 use ft_locks::{Locks, Survey};
 use ft_moss::Rule;
@@ -45,7 +45,7 @@ pub(crate) struct Asker {
     pub twice: bool,
 }
 
-/// The reply of a call that was made, a second time where that was wanted, and its accesses.
+/// What is made of a call: its reply, a second time where that is wanted, and its accesses.
 #[derive(Drop)]
 pub(crate) struct Made {
     pub reply: Reply,
@@ -57,9 +57,35 @@ pub(crate) struct Made {
 #[derive(Drop)]
 pub(crate) enum Tried {
     /// It is made, and the asker has its locks.
-    Made(Made),
+    Made,
     /// These are in the way of it, in rising order. Nothing has changed.
     Blocked(Vec<TxnId>),
+}
+
+impl Made {
+    /// What a call leaves that comes to nothing. Takes no memory.
+    pub(crate) fn nothing(alloc: Global) -> Made
+        ensures { result.kept ≡ None }
+    {
+        Made {
+            reply: Reply::Done,
+            kept: None,
+            accesses: Vec::new(alloc),
+        }
+    }
+
+    /// Writes the reply that a call was told, a second time too if that is wanted.
+    fn tell(&mut self, alloc: Global, tree: &Tree, told: &Told, twice: bool) -> Result<(), Memory>
+        requires { self.old.kept ≡ None }
+        ensures reply { OnOk result (self.new.reply ≡ reply_of tree.now told.now) }
+        ensures kept { OnOk result (self.new.kept ≡ cond twice (Some self.new.reply) None) }
+    {
+        self.reply = told.reply(alloc, tree)?;
+        if twice {
+            self.kept = Some(self.reply.copy(alloc)?);
+        }
+        Ok(())
+    }
 }
 
 impl Parts {
@@ -85,13 +111,15 @@ impl Parts {
         self.locks.survey(&self.forest, txn, accesses, rule)
     }
 
-    /// Makes a call where nobody is in the way of it. Where memory is wanting nothing has changed.
+    /// Makes a call where nobody is in the way of it, and writes into `made` what is made of it. Where
+    /// memory is wanting nothing has changed but that.
     pub(crate) fn try_call(
         &mut self,
         alloc: Global,
         asker: Asker,
         call: &Call,
         rule: Rule,
+        made: &mut Made,
     ) -> Result<Tried, Memory>
         requires sound { AreSoundCells self.old.tree }
         requires free { IsFree self.old.tree asker.stamp }
@@ -99,67 +127,79 @@ impl Parts {
         requires log { is_open self.old.logs asker.txn ≡ true }
         requires alone { IsAloneIfChildless self.old.locks self.old.forest asker.txn }
         requires no_holder { is_strict rule ≡ true → HasNoHolderAbove self.old.locks self.old.forest }
-        ensures twice { IfOk result (IsTwice asker.twice) }
-        ensures tried { IfOk result (IsTried rule self.old self.new asker.txn asker.stamp call.now) }
+        requires none_kept { made.old.kept ≡ None }
+        ensures twice { IfOk result (IsTwice asker.twice made.new) }
+        ensures tried { IfOk result (IsTried rule self.old self.new asker.txn asker.stamp call.now made.new) }
         ensures unmade { OnErr result (IsUnmade self.old self.new) }
     {
-        let prepared = prepare(alloc, &self.tree, asker.stamp, call)?;
-        let Survey { blockers, held } = self.survey(asker.txn, prepared.accesses.as_slice(), rule)?;
+        // (they are let go in one place, behind all that may end the call)
+        let mut edits = Edits::new(alloc);
+        self.try_with(alloc, asker, call, rule, &mut edits, made)
+    }
+
+    /// Makes a call as `try_call` does, with its edits put into a list.
+    fn try_with<'c>(
+        &mut self,
+        alloc: Global,
+        asker: Asker,
+        call: &'c Call,
+        rule: Rule,
+        edits: &mut Edits<'c>,
+        made: &mut Made,
+    ) -> Result<Tried, Memory>
+        requires sound { AreSoundCells self.old.tree }
+        requires free { IsFree self.old.tree asker.stamp }
+        requires locks { is_opened self.old.locks asker.txn ≡ true }
+        requires log { is_open self.old.logs asker.txn ≡ true }
+        requires alone { IsAloneIfChildless self.old.locks self.old.forest asker.txn }
+        requires no_holder { is_strict rule ≡ true → HasNoHolderAbove self.old.locks self.old.forest }
+        requires no_edits { edits.old ≡ [] }
+        requires none_kept { made.old.kept ≡ None }
+        ensures twice { IfOk result (IsTwice asker.twice made.new) }
+        ensures tried { IfOk result (IsTried rule self.old self.new asker.txn asker.stamp call.now made.new) }
+        ensures unmade { OnErr result (IsUnmade self.old self.new) }
+    {
+        let Looked { accesses, told } = look_over(alloc, &self.tree, asker.stamp, call, edits)?;
+        let Survey { blockers, held } = self.survey(asker.txn, accesses.as_slice(), rule)?;
         if !blockers.is_empty() {
             return Ok(Tried::Blocked(blockers));
         }
-        let made = self.make(alloc, asker, prepared, held)?;
-        Ok(Tried::Made(made))
+        // (what wants memory is made before any edit)
+        made.tell(alloc, &self.tree, &told, asker.twice)?;
+        self.make(alloc, asker, edits, accesses.as_slice(), held)?;
+        made.accesses = accesses;
+        Ok(Tried::Made)
     }
 
-    /// Makes a call on the tree, gives its asker its locks, of which it holds those of so many
-    /// accesses, from the first on, already, and keeps what takes it back. Where memory is wanting
-    /// nothing has changed.
+    /// Makes the edits of a call on the tree, gives its asker its locks, of which it holds those of
+    /// so many accesses, from the first on, already, and keeps what takes it back. Where memory is
+    /// wanting nothing has changed.
     fn make(
         &mut self,
         alloc: Global,
         asker: Asker,
-        prepared: Prepared<'_>,
+        edits: &Edits<'_>,
+        accesses: &[Access],
         held: usize,
-    ) -> Result<Made, Memory>
-        requires places { CanEditAll self.old.tree prepared.intent.edits }
-        requires apart { Apart prepared.intent.edits }
+    ) -> Result<(), Memory>
+        requires places { CanEditAll self.old.tree edits.now }
+        requires apart { Apart edits.now }
         requires locks { is_opened self.old.locks asker.txn ≡ true }
         requires log { is_open self.old.logs asker.txn ≡ true }
-        requires within { held ≤ length prepared.accesses.items }
-        requires held { AreGranted self.old.locks self.old.locks asker.txn (take held prepared.accesses.items) }
-        ensures twice { IfOk result (λ made. made.kept ≡ cond asker.twice (Some made.reply) None) }
-        ensures reply { IfOk result (λ made. made.reply ≡ (outcome_of self.old.tree prepared.entry.intent).reply) }
-        ensures accesses { IfOk result (λ made. made.accesses.items ≡ prepared.entry.accesses.items) }
-        ensures made { OnOk result (IsMadeOn self.old self.new (outcome_of self.old.tree prepared.entry.intent).writes asker.txn asker.stamp prepared.entry.accesses.items) }
+        requires within { held ≤ length accesses.now }
+        requires held { AreGranted self.old.locks self.old.locks asker.txn (take held accesses.now) }
+        ensures made { OnOk result (IsMadeOn self.old self.new (writes_of self.old.tree edits.now) asker.txn asker.stamp accesses.now) }
         ensures unmade { OnErr result (IsUnmade self.old self.new) }
     {
-        let Prepared {
-            accesses,
-            mut intent,
-        } = prepared;
-        // (what wants memory is made before any edit)
-        let reply = intent.reply(alloc, &self.tree)?;
-        let kept = second(alloc, &reply, asker.twice)?;
-        self.logs.apply(
-            alloc,
-            asker.txn.0,
-            asker.stamp,
-            &mut self.tree,
-            &mut intent.edits,
-        )?;
-        let wanted = &accesses.as_slice()[held..];
-        if self.locks.grant(asker.txn, wanted).is_err() {
+        self.logs
+            .apply(alloc, asker.txn.0, asker.stamp, &mut self.tree, edits)?;
+        if self.locks.grant(asker.txn, &accesses[held..]).is_err() {
             if let Some(Logged { stamp: _, undo }) = self.logs.take_last(asker.txn.0) {
                 undo.take_back(&mut self.tree);
             }
             return Err(Memory);
         }
-        Ok(Made {
-            reply,
-            kept,
-            accesses,
-        })
+        Ok(())
     }
 
     /// Takes a transaction's list back, from its newest end, and answers how many calls that were.
@@ -216,14 +256,4 @@ impl Parts {
             }
         }
     }
-}
-
-/// A reply a second time, where that is wanted.
-fn second(alloc: Global, reply: &Reply, twice: bool) -> Result<Option<Reply>, Memory>
-    ensures { IfOk result (λ kept. kept ≡ cond twice (Some reply.now) None) }
-{
-    if !twice {
-        return Ok(None);
-    }
-    Ok(Some(reply.copy(alloc)?))
 }

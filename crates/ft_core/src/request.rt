@@ -1,6 +1,4 @@
 // What is asked of a core, what it answers, and what has happened.
-ghost use Rattle.std.specs.Prelude.{◌≡◌};
-ghost use Rattle.ft_core.specs.FullOutcomes.{outcome_of};
 
 use crate::fault::Fault;
 use ft_base::Sequence;
@@ -78,18 +76,6 @@ pub enum FullOutcome {
     Waits {
         blockers: Sequence<TxnId>,
     },
-}
-
-impl FullOutcome {
-    /// The outcome without what else was made.
-    pub(crate) fn shortened(self) -> Outcome
-        ensures { result ≡ outcome_of self }
-    {
-        match self {
-            FullOutcome::Granted { stamp, reply, .. } => Outcome::Granted { stamp, reply },
-            FullOutcome::Waits { blockers } => Outcome::Waits { blockers },
-        }
-    }
 }
 
 /// What an abort has ended.

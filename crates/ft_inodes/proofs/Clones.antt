@@ -1,5 +1,5 @@
--- A clone of a slab or an index whose values are cloned to equal ones is the same.
-use Rattle.std.proofs.Common.{◌≡◌, ℕ, List, [], ◌∷◌, Option, Some, None, refl, ap}
+-- A clone of a slab whose values are cloned to equal ones is the same.
+use Rattle.std.proofs.Common.{◌≡◌, List, [], ◌∷◌, Option, Some, None, refl, ap}
 use Rattle.std.specs.List.{AllZip}
 use Rattle.slab.specs.Slab.{IsSlotClone}
 
@@ -14,9 +14,3 @@ module _ {X : Type 0} where
   same-slots [] (y ∷ ys) h = absurd h
   same-slots (x ∷ xs) [] h = absurd h
   same-slots (x ∷ xs) (y ∷ ys) h = (λ i. same-slot x y h.0 i ∷ same-slots xs ys h.1 i)
-
-pub same-entries : (xs ys : List (ℕ × ℕ)) → AllZip (λ p q. (q.0 ≡ p.0) × (q.1 ≡ p.1)) xs ys → ys ≡ xs
-same-entries [] [] h = refl
-same-entries [] (y ∷ ys) h = absurd h
-same-entries (x ∷ xs) [] h = absurd h
-same-entries (x ∷ xs) (y ∷ ys) h = (λ i. (h.0.0 i, h.0.1 i) ∷ same-entries xs ys h.1 i)

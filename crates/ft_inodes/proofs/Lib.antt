@@ -1,5 +1,8 @@
 mod Clones
-mod Places
 mod Keys
 mod Slots
 mod Shown
+pub mod Seats
+pub mod Indexed
+pub mod Mapped
+pub mod Ordered

@@ -1,14 +1,15 @@
 -- Directories and files in their slots.
-use Rattle.std.proofs.Common.{◌≡◌, ℕ, Bool, true, false, List, [], Option, Some, None, eqb-true, is_some, IsSome, refl, sym, ap, ◌∙◌}
+use Rattle.std.proofs.Common.{◌≡◌, ℕ, Bool, true, false, [], Option, Some, None, eqb-true, is_some, IsSome, refl, sym, ap, ◌∙◌}
 use Rattle.std.proofs.lemmas.Bool.{false≢true}
 use Rattle.std.specs.Prelude.{slice_index_or}
+use Rattle.std.specs.Ordering.{nat_cmp}
 use Rattle.std.specs.FinMap as finite
 use Rattle.slab.specs.Slab.{Slab, get, Updates, with_value}
 use Rattle.slab.proofs.SlabLemmas.{Updates-with_value}
 use Rattle.ft_cells.specs.Cells.{DirCells, FileCells}
 use Rattle.ft_inodes.specs.declared.inode.Inode.{Inode}
 use Rattle.ft_inodes.specs.declared.inode.Inode.TheVariants.{Directory, File}
-use Rattle.ft_inodes.specs.Keyed.{dir_at, file_at, dir_in, file_in, is_dir, is_file, key_in, shown_by, Leads, IsAdded}
+use Rattle.ft_inodes.specs.Keyed.{dir_at, file_at, dir_in, file_in, is_dir, is_file, Index, key_in, shown_by, Leads, IsAdded}
 use Rattle.ft_inodes.specs.Lending.{set_dir, set_file}
 use Rattle.ft_inodes.proofs.Keys.{PutsKey, KeepsRest, KeepsAll, puts-same, shown-same, shown-put, shown-out, kept-slot, leads-same, leads-put, leads-out, alone, one_key, nowhere}
 
@@ -78,9 +79,9 @@ set_file-own n (File i f) to own = own
 module _ {X Y : Type 0} (seen : Option Inode → X) (is_own : ℕ → Option Inode → Bool) (seen_other : Option Inode → Y) (is_other : ℕ → Option Inode → Bool)
     (one : (n m : ℕ) (o : Option Inode) → is_own n o ≡ true → is_own m o ≡ true → n ≡ m) (apart : (n m : ℕ) (o : Option Inode) → is_own n o ≡ true → is_other m o ≡ true → ⊥)
     (no_own : (n : ℕ) → is_own n None ≡ false) (no_other : (n : ℕ) → is_other n None ≡ false)
-    (s : Slab Inode) (own other : List (ℕ × ℕ)) (lead : Leads is_own s own) (lead_other : Leads is_other s other) where
+    (s : Slab Inode) (own other : Index) (lead : Leads is_own s own) (lead_other : Leads is_other s other) where
   -- One comes.
-  module _ (s' : Slab Inode) (own' : List (ℕ × ℕ)) (n : ℕ) (inode : Inode) (added : IsAdded s s' own own' n inode) where
+  module _ (s' : Slab Inode) (own' : Index) (n : ℕ) (inode : Inode) (added : IsAdded s s' own own' n inode) where
     rest : KeepsRest n own s s'
     rest q key e at = kept-slot is_own s s' own added.key q key lead added.slots.others (λ is. false≢true (sym (no_own q) ∙ ap (is_own q) (sym added.free) ∙ is)) at
 
@@ -128,7 +129,7 @@ module _ {X Y : Type 0} (seen : Option Inode → X) (is_own : ℕ → Option Ino
     )
 
   -- One goes.
-  module _ (s' : Slab Inode) (own' : List (ℕ × ℕ)) (n : ℕ) (slots : (key : ℕ) → (key_in own n ≡ Some key → ⊥) → get s' key ≡ get s key) (keys : PutsKey n None own own') where
+  module _ (s' : Slab Inode) (own' : Index) (n : ℕ) (slots : (key : ℕ) → (key_in own n ≡ Some key → ⊥) → get s' key ≡ get s key) (keys : PutsKey n None own own') where
     stays : KeepsRest n own s s'
     stays q key e at = slots key (λ is. alone is_own one n q (get s key) e ((lead n key).0 is) ((lead q key).0 at))
 
@@ -149,8 +150,8 @@ module _ {X Y : Type 0} (seen : Option Inode → X) (is_own : ℕ → Option Ino
     )
 
 -- no inode and no number
-pub leads-none : (is_own : ℕ → Option Inode → Bool) → ((n : ℕ) → is_own n None ≡ false) → (s : Slab Inode) (index : List (ℕ × ℕ)) → s.slots ≡ [] → index ≡ [] → Leads is_own s index
+pub leads-none : (is_own : ℕ → Option Inode → Bool) → ((n : ℕ) → is_own n None ≡ false) → (s : Slab Inode) (index : Index) → s.slots ≡ [] → index ≡ finite.empty → Leads is_own s index
 leads-none is_own no_own s index empty none n key = (
-  λ at. nowhere key (sym (ap (λ es. key_in es n) none) ∙ at),
+  λ at. nowhere key (sym (ap (λ m. key_in m n) none ∙ finite.get-empty nat_cmp n) ∙ at),
   λ own. absurd (false≢true (sym (no_own n) ∙ ap (λ slots. is_own n (slice_index_or slots key None)) (sym empty) ∙ own)),
 )

@@ -3,7 +3,6 @@ use Rattle.std.specs.Prelude.{◌≡◌, ◌↔◌, ℕ, Bool, true, false, ◌=
 use Rattle.std.specs.Ordering.{nat_cmp}
 use Rattle.std.specs.List.{AllByRecursion}
 use Rattle.std.specs.BTreeMap.{is_at}
-use Rattle.std.specs.Map.{lookup}
 use Rattle.std.specs.FinMap as finite
 use Rattle.slab.specs.Slab.{Slab, get, Updates}
 use Rattle.ft_cells.specs.declared.node.Node.{Node}
@@ -57,20 +56,24 @@ abbrev pub is_node : Node → Option Inode → Bool
 is_node (DirNode n) o = is_dir n o
 is_node (FileNode form n) o = is_file n o
 
--- the key of a number
-abbrev pub key_in : List (ℕ × ℕ) → ℕ → Option ℕ
-key_in index n = lookup (is_at (nat_cmp n)) index
+-- which number has which key
+abbrev pub Index : Type 0
+Index = finite.FinMap nat_cmp ℕ
 
--- the numbers of an index, each with what is seen under its key, in the order of the index
+-- the key of a number
+abbrev pub key_in : Index → ℕ → Option ℕ
+key_in index n = finite.get index n
+
+-- numbers, each with what is seen under its key, in their order
 abbrev pub listed_by : {X : Type 0} → (Option Inode → X) → Slab Inode → List (ℕ × ℕ) → List (ℕ × X)
 listed_by seen s index = map (λ e. (e.0, seen (get s e.1))) index
 
 -- the same as a map: by number what is seen under its key
-abbrev pub shown_by : {X : Type 0} → (Option Inode → X) → Slab Inode → List (ℕ × ℕ) → finite.FinMap nat_cmp X
-shown_by seen s index = finite.from_entries (listed_by seen s index)
+abbrev pub shown_by : {X : Type 0} → (Option Inode → X) → Slab Inode → Index → finite.FinMap nat_cmp X
+shown_by seen s index = finite.from_entries (listed_by seen s (finite.entries index))
 
 -- a number has a key where its own stands under that key
-abbrev pub Leads : (ℕ → Option Inode → Bool) → Slab Inode → List (ℕ × ℕ) → Type 0
+abbrev pub Leads : (ℕ → Option Inode → Bool) → Slab Inode → Index → Type 0
 Leads is_own s index = (n key : ℕ) → (key_in index n ≡ Some key) ↔ (is_own n (get s key) ≡ true)
 
 -- under each key of a list stands its number's own
@@ -78,7 +81,7 @@ abbrev pub AllLead : (ℕ → Option Inode → Bool) → Slab Inode → List (�
 AllLead is_own s index = AllByRecursion (λ e. is_own e.0 (get s e.1) ≡ true) index
 
 -- an inode came under a key that was free, and its number leads there
-pub record IsAdded (old new : Slab Inode) (index index' : List (ℕ × ℕ)) (n : ℕ) (inode : Inode) : Type 0 where
+pub record IsAdded (old new : Slab Inode) (index index' : Index) (n : ℕ) (inode : Inode) : Type 0 where
   pub key : ℕ
   pub free : get old key ≡ None
   pub slots : Updates old new key (Some inode)

@@ -1,3 +1,4 @@
 pub mod Stored
 pub mod Keyed
 pub mod Lending
+pub mod Named

@@ -1,22 +1,21 @@
 // One directory: the directory that has its entry, its attributes, and the places of its entries.
 ghost use Rattle.std.specs.Prelude.{◌≡◌, ◌↔◌, [], ◌++◌, ◌==◌, ◌&&◌, None, IsTrue, IsOk, is_some, is_none, IfOk, OnOk, OnErr, Option};
-ghost use Rattle.std.specs.List.{list_all, filter_map};
-ghost use Rattle.std.specs.Ordering.{nat_cmp};
-ghost use Rattle.std.specs.Cmp.Lexicographic.{slice_cmp};
-ghost use Rattle.std.specs.BTreeMap.{IsOrdered, values};
+ghost use Rattle.std.specs.List.{filter_map};
+ghost use Rattle.ft_inodes.specs.Named.{shown};
 ghost use Rattle.std.specs.FinMap as map;
 ghost use Rattle.ft_cells.specs.Nodes.{with_kinds};
 ghost use Rattle.ft_cells.specs.Rows.{named_rows};
 ghost use Rattle.std.specs.Option.{option_flatten, option_map, option_copied};
 ghost use Rattle.ft_cells.specs.Cells.{DirCells, coded_dir_cells, dir_entry, put_dir_entry, put_dir_parent, put_kept_of_dir, without_dir_place, HasPlace, filled, dir_names};
 
+use crate::place::Place;
+use crate::places::Places;
 use ft_base::Memory;
 use ft_cells::{
     Attributes, EntryRef, Hint, Hinted, Kind, Node, Rare, TreeRow, seen_in, value_in, with_hint,
 };
 use ft_path::Name;
 use std::alloc::{AllocError, Global};
-use std::collections::BTreeMap;
 use std::marker::Model;
 use std::mem;
 
@@ -26,7 +25,7 @@ use std::mem;
 pub struct Directory {
     parent: Option<u64>,
     attributes: Rare<Attributes>,
-    entries: BTreeMap<Name, Option<Hinted<Node>>>,
+    entries: Places,
 }
 
 impl Model for Directory {
@@ -34,7 +33,7 @@ impl Model for Directory {
 
     ghost coded = { coded_dir_cells };
 
-    ghost view = { λ a. record { parent = a.parent; attributes = a.attributes; entries = map.from_entries a.entries.entries } };
+    ghost view = { λ a. record { parent = a.parent; attributes = a.attributes; entries = a.entries } };
 }
 
 impl Directory {
@@ -45,7 +44,7 @@ impl Directory {
         Directory {
             parent,
             attributes: Rare::none(),
-            entries: BTreeMap::new(alloc),
+            entries: Places::new(alloc),
         }
     }
 
@@ -97,19 +96,21 @@ impl Directory {
     }
 
     /// Sets an entry, with where what it leads to may stand, and answers what stood in its place,
-    /// if that was there. Only a place that is new can want memory.
+    /// if that was there. Only a place that is new can want memory. With many places an index of the
+    /// names is made, under the seed.
     pub fn set_entry(
         &mut self,
         name: Name,
         to: Option<Node>,
         near: Hint,
+        seed: u64,
     ) -> Result<Option<Option<Node>>, Memory>
         ensures was { IfOk result (λ was. was ≡ map.get self.old.entries name) }
         ensures ok { OnOk result (self.new ≡ put_dir_entry self.old name to) }
         ensures err { OnErr result (self.new ≡ self.old) }
         ensures place { HasPlace self.old name → IsOk result }
     {
-        Ok(value_in(self.entries.insert(name, with_hint(to, near))?))
+        Ok(value_in(self.entries.insert(name, with_hint(to, near), seed)?))
     }
 
     /// Takes the place of an entry away.
@@ -137,21 +138,22 @@ impl Directory {
     pub fn names(&self, alloc: Global) -> Result<Vec<(Name, Kind)>, Memory>
         ensures { IfOk result (λ names. names.items ≡ with_kinds (dir_names self.now)) }
     {
-        full_places(alloc, &self.entries)
+        full_places(alloc, &self.entries.sorted(alloc)?)
     }
 
     /// Whether it has no entry.
     pub fn is_empty(&self) -> bool
         ensures { IsTrue result ↔ (dir_names self.now ≡ []) }
     {
-        all_empty(&self.entries)
+        self.entries.are_empty()
     }
 
     /// Puts its entries behind the rows, as those of directory `number`.
     pub fn push_edges(&self, number: u64, rows: &mut Vec<TreeRow>) -> Result<(), Memory>
         ensures { OnOk result (rows.new.items ≡ rows.old.items ++ named_rows number (dir_names self.now)) }
     {
-        push_places(number, &self.entries, rows)
+        let places = self.entries.sorted(*rows.allocator())?;
+        push_places(number, &places, rows)
     }
 }
 
@@ -176,42 +178,26 @@ fn is_empty_place(place: Option<&Option<Hinted<Node>>>) -> bool
     matches!(place, Some(None))
 }
 
-/// Whether each place is empty.
-fn all_empty(places: &BTreeMap<Name, Option<Hinted<Node>>>) -> bool
-    ensures all { result ≡ list_all (λ place. is_none place) (values places.now) }
-    ensures ordered { IsOrdered (slice_cmp nat_cmp) places.now }
-{
-    places.values().all(|place| place.is_none())
-}
-
-/// The names that stand in places, in order, with the kinds of what they lead to.
-fn full_places(
-    alloc: Global,
-    places: &BTreeMap<Name, Option<Hinted<Node>>>,
-) -> Result<Vec<(Name, Kind)>, Memory>
-    ensures names { IfOk result (λ names. names.items ≡ with_kinds (filter_map filled places.now.entries)) }
-    ensures ordered { OnOk result (IsOrdered (slice_cmp nat_cmp) places.now) }
+/// The names that stand in places, in their order, with the kinds of what they lead to.
+fn full_places(alloc: Global, places: &[&Place]) -> Result<Vec<(Name, Kind)>, Memory>
+    ensures { IfOk result (λ names. names.items ≡ with_kinds (filter_map filled (shown places.now))) }
 {
     let mut names = Vec::new(alloc);
-    for (name, place) in places {
-        if let Some(child) = place {
-            names.push((name.clone()?, child.value().kind()))?;
+    for place in places {
+        if let Some(child) = &place.child {
+            names.push((place.name.clone()?, child.value().kind()))?;
         }
     }
     Ok(names)
 }
 
-/// Puts the entries that stand in places of directory `dir` behind the rows.
-fn push_places(
-    dir: u64,
-    places: &BTreeMap<Name, Option<Hinted<Node>>>,
-    rows: &mut Vec<TreeRow>,
-) -> Result<(), Memory>
-    ensures rows { OnOk result (rows.new.items ≡ rows.old.items ++ named_rows dir (filter_map filled places.now.entries)) }
-    ensures ordered { OnOk result (IsOrdered (slice_cmp nat_cmp) places.now) }
+/// Puts the entries that stand in places of directory `dir`, in their order, behind the rows.
+fn push_places(dir: u64, places: &[&Place], rows: &mut Vec<TreeRow>) -> Result<(), Memory>
+    ensures { OnOk result (rows.new.items ≡ rows.old.items ++ named_rows dir (filter_map filled (shown places.now))) }
 {
-    for (name, place) in places {
-        if let Some(child) = place {
+    for place in places {
+        if let Some(child) = &place.child {
+            let name = &place.name;
             rows.push(TreeRow::Edge {
                 entry: EntryRef { dir, name }.to_entry()?,
                 node: child.value(),

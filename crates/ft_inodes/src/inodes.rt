@@ -3,7 +3,7 @@ ghost use Rattle.std.specs.Prelude.{◌≡◌, ◌↔◌, ℕ, true, cond, is_so
 ghost use Rattle.std.specs.Option.{option_copied_mut};
 ghost use Rattle.std.specs.Ordering.{nat_cmp};
 ghost use Rattle.std.specs.Borrow.{sem};
-ghost use Rattle.std.specs.BTreeMap.{is_at, IsUnchanged};
+ghost use Rattle.std.specs.BTreeMap.{is_at};
 ghost use Rattle.std.specs.FinMap as map;
 ghost use Rattle.slab.specs.Slab.{get, SameValues};
 ghost use Rattle.ft_inodes.specs.Stored.{no_inode, is_stored, with_directory, with_file, without_directory, without_file};
@@ -14,24 +14,22 @@ use crate::directory::Directory;
 use crate::file::File;
 use crate::inode::Inode;
 use crate::listed::{Directories, Files};
-use ft_base::Memory;
+use ft_base::{Memory, PagedMap};
 use ft_cells::{Form, Hint, Node};
 use slab::Slab;
 use std::alloc::{AllocError, Global};
-use std::collections::BTreeMap;
 use std::marker::Model;
 
 /// The directories and files of a tree, each under its number.
 ///
-/// All stand in one slab, whose keys are used again, and an index in the order of the numbers has
-/// the key of each. To find one of them takes constant time where the hint is right, and else, as
-/// to add one or to take one out, the time to look its number up: the logarithm of how many there
-/// are.
+/// All stand in one slab, whose keys are used again, and an index by number has the key of each. To
+/// find one of them, to add one or to take one out takes constant time, and a right hint spares the
+/// look into the index. A number, or a key, of more than 32 bits is refused for want of memory.
 #[derive(Drop)]
 pub struct Inodes {
     slab: Slab<Inode>,
-    directories: BTreeMap<u64, usize>,
-    files: BTreeMap<u64, usize>,
+    directories: PagedMap<u32>,
+    files: PagedMap<u32>,
 }
 
 impl Model for Inodes {
@@ -42,9 +40,9 @@ impl Model for Inodes {
 
     ghost coded = { coded_inode_cells };
 
-    ghost view = { λ a. record { directories = shown_by dir_in a.slab a.directories.entries; files = shown_by file_in a.slab a.files.entries } };
+    ghost view = { λ a. record { directories = shown_by dir_in a.slab a.directories; files = shown_by file_in a.slab a.files } };
 
-    ghost invariant = { λ a. Leads is_dir a.slab a.directories.entries × Leads is_file a.slab a.files.entries };
+    ghost invariant = { λ a. Leads is_dir a.slab a.directories × Leads is_file a.slab a.files };
 }
 
 impl Inodes {
@@ -56,13 +54,12 @@ impl Inodes {
     {
         Inodes {
             slab: Slab::new(alloc),
-            directories: BTreeMap::new(alloc),
-            files: BTreeMap::new(alloc),
+            directories: PagedMap::new(alloc),
+            files: PagedMap::new(alloc),
         }
     }
 
-    /// Where a directory or a file stands; nothing, where it is not stored. A number above all
-    /// others, as what is new has, is not looked up.
+    /// Where a directory or a file stands; nothing, where it is not stored.
     pub fn find(&self, node: Node, near: Hint) -> Option<Hint>
         ensures { is_some result ≡ is_stored self.now node }
     {
@@ -177,7 +174,7 @@ impl Inodes {
     {
         Directories {
             slab: &self.slab,
-            keys: self.directories.iter(),
+            keys: self.directories.entries(),
         }
     }
 
@@ -187,7 +184,7 @@ impl Inodes {
     {
         Files {
             slab: &self.slab,
-            keys: self.files.iter(),
+            keys: self.files.entries(),
         }
     }
 }
@@ -208,52 +205,45 @@ impl Clone for Inodes {
 }
 
 /// The key of a directory or file, through its index: the one hinted at where it stands there.
-fn key_of(slab: &Slab<Inode>, index: &BTreeMap<u64, usize>, node: Node, near: Hint) -> Option<usize>
-    requires { (key : ℕ) → (key_in index.now.entries (number_of node) ≡ Some key) ↔ (is_node node (get slab.now key) ≡ true) }
-    ensures { result ≡ key_in index.now.entries (number_of node) }
+fn key_of(slab: &Slab<Inode>, index: &PagedMap<u32>, node: Node, near: Hint) -> Option<usize>
+    requires { (key : ℕ) → (key_in index.now (number_of node) ≡ Some key) ↔ (is_node node (get slab.now key) ≡ true) }
+    ensures { result ≡ key_in index.now (number_of node) }
 {
     match slab.get(near.key) {
         Some(inode) if inode.is(node) => Some(near.key),
-        _ => looked_up(index, node.number()),
+        _ => Some(index.get(node.number())? as usize),
     }
-}
-
-/// The key of a number. One that is above all others is not looked for.
-fn looked_up(index: &BTreeMap<u64, usize>, number: u64) -> Option<usize>
-    ensures { result ≡ key_in index.now.entries number }
-{
-    let (last, _) = index.last_key_value()?;
-    if number > *last {
-        return None;
-    }
-    index.get(&number).copied()
 }
 
 /// Puts an inode under a key that was free, to which its number leads from then on. Want of memory
 /// changes nothing.
 fn add(
     slab: &mut Slab<Inode>,
-    index: &mut BTreeMap<u64, usize>,
+    index: &mut PagedMap<u32>,
     number: u64,
     inode: Inode,
 ) -> Result<Hint, Memory>
-    ensures ok { OnOk result (IsAdded slab.old slab.new index.old.entries index.new.entries number inode) }
+    requires { key_in index.old number ≡ None }
+    ensures ok { OnOk result (IsAdded slab.old slab.new index.old index.new number inode) }
     ensures err { OnErr result (SameValues slab.old slab.new) }
-    ensures err_index { OnErr result (IsUnchanged index.old index.new) }
+    ensures err_index { OnErr result (index.new ≡ index.old) }
 {
     slab.reserve(1)?;
-    index.insert(number, slab.vacant_key())?;
+    let Ok(key) = u32::try_from(slab.vacant_key()) else {
+        return Err(Memory);
+    };
+    index.insert(number, key)?;
     let key = slab.insert_reserved(inode);
     Ok(Hint { key })
 }
 
 /// Takes a number with its inode out, where it leads to one.
-fn take_out(slab: &mut Slab<Inode>, index: &mut BTreeMap<u64, usize>, number: u64)
-    ensures slots { (key : ℕ) → (key_in index.old.entries number ≡ Some key → ⊥) → get slab.new key ≡ get slab.old key }
-    ensures emptied { (key : ℕ) → key_in index.old.entries number ≡ Some key → get slab.new key ≡ None }
-    ensures index { (q : ℕ) → key_in index.new.entries q ≡ cond (is_at (nat_cmp number) q) None (key_in index.old.entries q) }
+fn take_out(slab: &mut Slab<Inode>, index: &mut PagedMap<u32>, number: u64)
+    ensures slots { (key : ℕ) → (key_in index.old number ≡ Some key → ⊥) → get slab.new key ≡ get slab.old key }
+    ensures emptied { (key : ℕ) → key_in index.old number ≡ Some key → get slab.new key ≡ None }
+    ensures index { (q : ℕ) → key_in index.new q ≡ cond (is_at (nat_cmp number) q) None (key_in index.old q) }
 {
-    if let Some(key) = index.remove(&number) {
-        slab.try_remove(key);
+    if let Some(key) = index.remove(number) {
+        slab.try_remove(key as usize);
     }
 }

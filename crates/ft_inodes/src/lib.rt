@@ -9,8 +9,14 @@ mod file;
 mod inode;
 mod inodes;
 mod listed;
+mod name_index;
+mod place;
+mod places;
 
 pub use directory::Directory;
 pub use file::{File, FileUndo};
 pub use inodes::Inodes;
 pub use listed::{Directories, Files};
+
+/// How many places of a directory are searched one after another, without an index.
+const FEW_PLACES: usize = 8;

@@ -4,15 +4,15 @@ ghost use Rattle.std.specs.Iterator.{YieldsFirstBy, item_count};
 use crate::directory::Directory;
 use crate::file::File;
 use crate::inode::Inode;
+use ft_base::PagedEntries;
 use slab::Slab;
-use std::collections::btree_map::Iter;
 use std::marker::Model;
 
 /// The directories of a store with their numbers, seen as the list of those that are left.
 #[derive(Drop)]
 pub struct Directories<'a> {
     pub(crate) slab: &'a Slab<Inode>,
-    pub(crate) keys: Iter<'a, u64, usize>,
+    pub(crate) keys: PagedEntries<'a, u32>,
 }
 
 impl<'a> Model for Directories<'a> {
@@ -39,8 +39,8 @@ impl<'a> Iterator for Directories<'a> {
 
     fn next(&mut self) -> Option<(u64, &'a Directory)> {
         let (number, key) = self.keys.next()?;
-        let directory = self.slab.get(*key)?.directory()?;
-        Some((*number, directory))
+        let directory = self.slab.get(key as usize)?.directory()?;
+        Some((number, directory))
     }
 }
 
@@ -48,7 +48,7 @@ impl<'a> Iterator for Directories<'a> {
 #[derive(Drop)]
 pub struct Files<'a> {
     pub(crate) slab: &'a Slab<Inode>,
-    pub(crate) keys: Iter<'a, u64, usize>,
+    pub(crate) keys: PagedEntries<'a, u32>,
 }
 
 impl<'a> Model for Files<'a> {
@@ -75,7 +75,7 @@ impl<'a> Iterator for Files<'a> {
 
     fn next(&mut self) -> Option<(u64, &'a File)> {
         let (number, key) = self.keys.next()?;
-        let file = self.slab.get(*key)?.file()?;
-        Some((*number, file))
+        let file = self.slab.get(key as usize)?.file()?;
+        Some((number, file))
     }
 }

@@ -296,7 +296,7 @@ fn line_that_is_too_long(rt: HostRuntime) -> Result<(), Fail> {
 fn writes_that_fail(rt: HostRuntime) -> Result<(), Fail> {
     for at_end in [AtEnd::Nothing, AtEnd::Fails, AtEnd::Interrupts] {
         let mut writer = Narrow::new(rt.alloc(), 8, at_end);
-        let end = (Err(PlayFault::Write), 3);
+        let end = (Err(PlayFault::Write), 4);
         let script = "begin\nbegin\nbegin\n";
         assert!(rt; gives_narrow(rt.alloc(), script, &mut writer, end, "txn 1\ntx")?);
     }

@@ -66,7 +66,7 @@ fn ends_with<R: Read>(
     held: &str,
 ) -> bool {
     let mut replies = Narrow::new(alloc, 100);
-    let Ok(core) = core_after(alloc, Rule::Profile, Limits::default(), None) else {
+    let Ok(core) = core_after(alloc, Rule::Profile, Limits::default(), 1, None) else {
         return false;
     };
     let status = play_status(alloc, core, reader, &mut replies, errors);

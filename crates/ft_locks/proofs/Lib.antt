@@ -1,4 +1,5 @@
 pub mod Slots
+pub mod Hashed
 pub mod Loans
 pub mod EntryKeys
 pub mod Nameless

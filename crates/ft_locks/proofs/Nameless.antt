@@ -1,10 +1,10 @@
 -- That the names of no directory are in the table, as cells come and go.
-use Rattle.std.proofs.Common.{◌≡◌, ℕ, Bool, true, false, cond, not, ◌&&◌, ◌||◌, List, [], ◌∷◌, length, arith, get_or, Option, Some, None, is_some, refl, sym, ap, subst, ◌∙◌}
-use Rattle.std.proofs.lemmas.Bool.{false≢true}
+use Rattle.std.proofs.Common.{◌≡◌, ℕ, Bool, true, false, cond, not, ◌&&◌, ◌||◌, ◌==◌, List, [], get_or, Option, Some, None, is_some, refl, sym, ap, subst, ◌∙◌}
+use Rattle.std.proofs.lemmas.Bool.{false≢true, eqb-true}
 use Rattle.std.specs.Ordering.{nat_cmp, eq_by_cmp}
 use Rattle.std.specs.Cmp.{nat_cmp_total}
 use Rattle.std.specs.FinMap as finite
-use Rattle.slab.specs.Slab.{Slab}
+use Rattle.slab.specs.Slab.{Slab, slab_len}
 use Rattle.ft_cells.specs.declared.cell.Cell.{Cell}
 use Rattle.ft_cells.specs.declared.cell.Cell.TheVariants.{Names}
 use Rattle.ft_posix.specs.declared.call.Mode.{Mode}
@@ -16,6 +16,7 @@ use Rattle.ft_moss.proofs.CellViews.{key_in}
 use Rattle.ft_moss.proofs.Paired.{the_one}
 use Rattle.ft_moss.proofs.Places.{marks-missing}
 use Rattle.ft_locks.proofs.Slots.{at-none, seen-key}
+use Rattle.ft_locks.proofs.Hashed.{nothing_in}
 
 pub nameless-none : (s : Slab Locked) → s.slots ≡ [] → HaveNoNames (at_of s)
 nameless-none s empty k c is = absurd (false≢true (ap is_some (sym (at-none s k (ap (λ slots. get_or slots k None) empty)) ∙ is)))
@@ -43,16 +44,16 @@ nameless-out at at' k is none j c there = by_key (eq_by_cmp nat_cmp j k) refl
     by_key true e = absurd (false≢true (ap is_some (sym (stands ∙ ap (λ b. cond b None (finite.get at j)) e) ∙ there)))
     by_key false e = none j c (sym (stands ∙ ap (λ b. cond b None (finite.get at j)) e) ∙ there)
 
--- no cell is in the table
-nameless-empty : (at : CellKeys) (index : List (Cell × ℕ)) → AreKeyed at index → index ≡ [] → HaveNoNames at
-nameless-empty at index keyed none k c there = absurd (false≢true (ap is_some (sym (ap (λ es. key_in es c) none) ∙ (keyed c k).1 there)))
-
 -- a cell goes, and it is noted where it was the last
-pub nameless-left : (at at' : CellKeys) (k : ℕ) (index : List (Cell × ℕ)) (has is_last : Bool) → at' ≡ finite.remove at k → AreKeyed at' index → (is_last ≡ true → index ≡ []) → (has ≡ false → HaveNoNames at)
+pub nameless-left : (at at' : CellKeys) (k : ℕ) (has is_last : Bool) → at' ≡ finite.remove at k → (is_last ≡ true → HaveNoNames at') → (has ≡ false → HaveNoNames at)
     → (has && not is_last) ≡ false → HaveNoNames at'
-nameless-left at at' k index false is_last gone keyed last none has_none = nameless-out at at' k gone (none refl)
-nameless-left at at' k index true true gone keyed last none has_none = nameless-empty at' index keyed (last refl)
-nameless-left at at' k index true false gone keyed last none has_none = absurd (false≢true (sym has_none))
+nameless-left at at' k false is_last gone last none has_none = nameless-out at at' k gone (none refl)
+nameless-left at at' k true true gone last none has_none = last refl
+nameless-left at at' k true false gone last none has_none = absurd (false≢true (sym has_none))
+
+-- nothing stands in the slab
+pub nameless-empty : (s : Slab Locked) → (slab_len s == 0) ≡ true → HaveNoNames (at_of s)
+nameless-empty s empty k c there = absurd (false≢true (ap is_some (sym (at-none s k (nothing_in s k (eqb-true (slab_len s) 0 empty))) ∙ there)))
 
 pub no-left : (a b : Bool) → (a || b) ≡ false → a ≡ false
 no-left false b h = refl
@@ -61,10 +62,6 @@ no-left true b h = h
 pub no-right : (a b : Bool) → (a || b) ≡ false → b ≡ false
 no-right false b h = h
 no-right true b h = absurd (false≢true (sym h))
-
-pub no_length : {A : Type 0} (xs : List A) → length xs ≡ 0 → xs ≡ []
-no_length [] h = refl
-no_length (x ∷ xs) h = absurd (omega (arith, h))
 
 nothing : {A : Type 0} (o : Option A) → is_some o ≡ false → o ≡ None
 nothing None h = refl

@@ -16,13 +16,13 @@ use Rattle.ft_cells.specs.CellOrder.{cell_cmp, cell_cmp_total, same_cell, same_c
 use Rattle.ft_locks.specs.declared.cells.Locked.{Locked}
 use Rattle.ft_moss.specs.Holders.{Owners}
 use Rattle.ft_moss.specs.Cells.{Cells, CellKeys, Keyed, marks_at, holders_of, holders_under}
-use Rattle.ft_locks.specs.Slots.{owners_of, cells_of, at_of, AreKeyed, shown, ShowSame}
+use Rattle.ft_locks.specs.Slots.{owners_of, cells_of, at_of, keys_in, keyed_of, AreKeyed, shown, ShowSame}
 use Rattle.ft_locks.specs.Lending.{with_holders_of, with_holders}
 use Rattle.ft_moss.proofs.Paired.{the_one, tie, no_tie, tied, untied, paired-put, paired-out, paired-same}
 use Rattle.ft_moss.proofs.CellViews.{key_in, same_cells, turned_cell}
 use Rattle.ft_moss.proofs.Places.{put_back}
 
-same_itself : (c : Cell) → same_cell c c ≡ true
+pub same_itself : (c : Cell) → same_cell c c ≡ true
 same_itself c = (eq_by_cmp_equiv cell_cmp_total).refl c
 
 -- the cell in a slot
@@ -51,6 +51,10 @@ get-at s k = finite.get-from_entries nat_cmp_total (keyed_from 0 s.slots) k ∙ 
 
 pub at-there : (s : Slab Locked) (k : ℕ) (l : Locked) → get s k ≡ Some l → finite.get (at_of s) k ≡ Some l.cell
 at-there s k l there = get-at s k ∙ ap cell_in there
+
+-- only the cell that stands under a key does
+pub stands_if : (s : Slab Locked) (k : ℕ) (l : Locked) (c : Cell) → get s k ≡ Some l → finite.get (at_of s) k ≡ Some c → same_cell l.cell c ≡ true
+stands_if s k l c there is = ap (same_cell l.cell) (sym (the_one l.cell c (sym (at-there s k l there) ∙ is))) ∙ same_itself l.cell
 
 pub at-none : (s : Slab Locked) (k : ℕ) → get s k ≡ None → finite.get (at_of s) k ≡ None
 at-none s k there = get-at s k ∙ ap cell_in there
@@ -265,6 +269,13 @@ module _ (s : Slab Locked) (index : List (Cell × ℕ)) (seen : Keyed) (is : rec
           (λ i. record { cells = cells-changed s lent_slab k (Some (record l { holders = holders })) lent_changes index keyed l.cell (at-there s k l there) i; at = lent-at i })
           ∙ ap (λ o. record { cells = with_holders_of (cells_of s index) o holders; at = at_of s }) (sym (at-there s k l there))
           ∙ ap (λ (m : Keyed). with_holders m k holders) is
+
+-- the same of the keys that the slab itself has
+pub lent-keyed : (s : Slab Locked) (seen : Keyed) (is : keyed_of s ≡ seen) (keyed : AreKeyed (at_of s) (keys_in (at_of s))) (k : ℕ) (l : Locked) (there : get s k ≡ Some l) (holders : Owners)
+    → keyed_of (with_value s k (record l { holders = holders })) ≡ with_holders seen k holders
+lent-keyed s seen is keyed k l there holders =
+    ap (λ at. record { cells = cells_of (lent_slab s (keys_in (at_of s)) seen is keyed k l there holders) (keys_in at); at = at_of (lent_slab s (keys_in (at_of s)) seen is keyed k l there holders) }) (lent-at s (keys_in (at_of s)) seen is keyed k l there holders)
+    ∙ lent-seen s (keys_in (at_of s)) seen is keyed k l there holders
 
 -- Something stands in a slot where it is among the entries.
 pub any_there : (p : Locked → Bool) (slots : List (Option Locked)) (n d : ℕ) (l : Locked) → get_or slots d None ≡ Some l → p l ≡ true → list_any (λ e. p e.1) (entries_from n slots) ≡ true

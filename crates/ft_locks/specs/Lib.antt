@@ -1,3 +1,4 @@
+pub mod Hashes
 pub mod EntryKeys
 pub mod Slots
 pub mod Lending

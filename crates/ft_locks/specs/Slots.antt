@@ -1,5 +1,6 @@
 -- The cells in the table: each stands in a slab under its key, and an index has the key of each.
 use Rattle.std.specs.Prelude.{◌≡◌, ◌↔◌, ◌&&◌, ℕ, Bool, true, false, cond, List, map, Option, Some, None}
+use Rattle.std.specs.Ordering.{nat_cmp}
 use Rattle.std.specs.FinMap as finite
 use Rattle.std.specs.Map.{lookup}
 use Rattle.slab.specs.Slab.{Slab, get, entries}
@@ -10,7 +11,8 @@ use Rattle.ft_locks.specs.declared.cells.Locked.{Locked}
 use Rattle.ft_moss.specs.Holders.{Owners}
 use Rattle.ft_moss.specs.declared.line.LockLine.{LockLine}
 use Rattle.ft_moss.specs.Seen.{has_mark_of}
-use Rattle.ft_moss.specs.Cells.{Cells, CellKeys}
+use Rattle.ft_moss.specs.Cells.{Cells, CellKeys, Keyed}
+use Rattle.ft_locks.specs.Hashes.{AreHashed}
 use Rattle.ft_locks.specs.EntryKeys.{EntryKeys, key_at, spot_of, same_spot}
 
 -- the holders of what stands under a key, if something does
@@ -26,7 +28,15 @@ cells_of s index = finite.from_entries (map (λ e. (e.0, owners_of (get s e.1)))
 abbrev pub at_of : Slab Locked → CellKeys
 at_of s = finite.from_entries (map (λ e. (e.0, e.1.cell)) (entries s))
 
--- a cell has a key in the index where it stands under that key
+-- each cell with its key
+abbrev pub keys_in : CellKeys → List (Cell × ℕ)
+keys_in at = map (λ e. (e.1, e.0)) (finite.entries at)
+
+-- what callers see: the cells with their holders, and the key of each
+abbrev pub keyed_of : Slab Locked → Keyed
+keyed_of s = record { cells = cells_of s (keys_in (at_of s)); at = at_of s }
+
+-- a cell has a key where it stands under that key
 abbrev pub AreKeyed : CellKeys → List (Cell × ℕ) → Type 0
 AreKeyed at index = (c : Cell) (key : ℕ) → (lookup (same_cell c) index ≡ Some key) ↔ (finite.get at key ≡ Some c)
 
@@ -79,3 +89,11 @@ HaveNoNames at = (key : ℕ) (c : Cell) → finite.get at key ≡ Some c → is_
 -- the line's lock is one of the owners' on the cell
 abbrev pub is_on : LockLine → Locked → Bool
 is_on l locked = same_cell l.cell locked.cell && has_mark_of (finite.get locked.holders l.owner) l
+
+-- what is kept of a table: no cell stands twice in the slab, the index and the lists of entries
+-- have its cells, and a flag tells where the names of no directory are among them
+pub record AreKept (s : Slab Locked) (index : finite.FinMap nat_cmp ℕ) (seed : ℕ) (entries : EntryKeys) (has_names : Bool) : Type 0 where
+  pub keyed : AreKeyed (at_of s) (keys_in (at_of s))
+  pub hashed : AreHashed index seed (at_of s)
+  pub placed : ArePlaced (get s) entries
+  pub nameless : has_names ≡ false → HaveNoNames (at_of s)

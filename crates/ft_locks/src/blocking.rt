@@ -185,6 +185,9 @@ pub(crate) fn noted(alloc: Global, found: &Table<()>) -> Result<Vec<TxnId>, Memo
     ensures { IfOk result (λ owners. owners.items ≡ finite.keys found.now) }
 {
     let mut owners = Vec::new(alloc);
+    if found.is_empty() {
+        return Ok(owners);
+    }
     for (owner, _) in found.sorted(alloc)? {
         owners.push(TxnId(owner))?;
     }

@@ -1,5 +1,5 @@
 // The cells on which anybody has a place: each stands in a slab, and an index has its key.
-ghost use Rattle.std.specs.Prelude.{◌≡◌, ◌≢◌, ℕ, cond, ◌==◌, false, None, Some, IsSome, IsSomeAnd, is_some, OnOk, OnErr, IfOk, IfSome, IfNone};
+ghost use Rattle.std.specs.Prelude.{◌≡◌, ◌≢◌, ℕ, cond, ◌==◌, true, false, None, Some, IsSome, IsSomeAnd, is_some, OnOk, OnErr, IfOk, IfSome, IfNone};
 ghost use Rattle.std.specs.Option.{option_map, option_copied, option_copied_mut};
 ghost use Rattle.std.specs.FinMap as finite;
 ghost use Rattle.std.specs.Borrow.{sem};
@@ -9,12 +9,14 @@ ghost use Rattle.ft_cells.specs.CellOrder.{same_cell};
 ghost use Rattle.ft_moss.specs.Marks.{with_marks};
 ghost use Rattle.slab.specs.Slab.{get};
 ghost use Rattle.ft_moss.specs.Blocking.{AreEntriesOf};
-ghost use Rattle.ft_locks.specs.EntryKeys.{key_at, listed_keys};
+ghost use Rattle.ft_locks.specs.Hashes.{cell_hash};
+ghost use Rattle.ft_locks.specs.EntryKeys.{key_at, listed_keys, spot_of, is_spot};
 ghost use Rattle.ft_locks.specs.Slots.{ArePlaced, HaveGap, ShowSame, with_place, is_names};
 ghost use Rattle.ft_moss.specs.Cells.{is_at, marks_at, passed_to, after_hand, holders_under, Keeps};
 ghost use Rattle.ft_moss.specs.Listing.{AreAdded, once};
 ghost use Rattle.ft_moss.specs.Seen.{has_line};
 
+use crate::cell_index::CellIndex;
 use crate::entry_keys::EntryKeys;
 use crate::listing::list_cells;
 use ft_base::Memory;
@@ -22,7 +24,6 @@ use ft_moss::{Holders, LockLine, Marks};
 use ft_tree::Cell;
 use slab::Slab;
 use std::alloc::Global;
-use std::collections::HashMap;
 use std::marker::Model;
 
 /// A cell in the table with its holders.
@@ -43,7 +44,7 @@ pub(crate) struct Locked {
 pub(crate) struct LockedCells {
     alloc: Global,
     locked: Slab<Locked>,
-    keys: HashMap<Cell, usize>,
+    index: CellIndex,
     entries: EntryKeys,
     /// Whether the names of a directory came into the table since it was last empty. (A count would
     /// have to be kept at each removal.)
@@ -51,18 +52,16 @@ pub(crate) struct LockedCells {
 }
 
 impl Model for LockedCells {
-    ghost use Rattle.slab.specs.Slab.{get};
     ghost use Rattle.ft_moss.specs.Cells.{Keyed, coded_keyed};
-    ghost use Rattle.std.specs.Prelude.{◌≡◌, false};
-    ghost use Rattle.ft_locks.specs.Slots.{cells_of, at_of, AreKeyed, ArePlaced, HaveNoNames};
+    ghost use Rattle.ft_locks.specs.Slots.{keyed_of, AreKept};
 
     ghost Value = { Keyed };
 
     ghost coded = { coded_keyed };
 
-    ghost view = { λ a. record { cells = cells_of a.locked a.keys.entries; at = at_of a.locked } };
+    ghost view = { λ a. keyed_of a.locked };
 
-    ghost invariant = { λ a. AreKeyed (at_of a.locked) a.keys.entries × (ArePlaced (get a.locked) a.entries.keys × (a.has_names ≡ false → HaveNoNames (at_of a.locked))) };
+    ghost invariant = { λ a. AreKept a.locked a.index.index a.index.seed a.entries.keys a.has_names };
 }
 
 /// A place of an owner on a cell.
@@ -116,6 +115,30 @@ fn close_gap(locked: &mut Slab<Locked>, entries: &mut EntryKeys, dir: u64, place
     }
 }
 
+/// Notes the key of a cell in the index and in its directory's list, and answers its place there.
+/// Want of memory changes nothing.
+fn note_key(
+    index: &mut CellIndex,
+    entries: &mut EntryKeys,
+    key: usize,
+    cell: &Cell,
+) -> Result<usize, Memory>
+    requires { finite.get index.old.index key ≡ None }
+    ensures seed { index.new.seed ≡ index.old.seed }
+    ensures hashed { OnOk result (index.new.index ≡ finite.insert index.old.index key (cell_hash index.old.seed cell.now)) }
+    ensures free { IfOk result (λ place. (t : ℕ × ℕ) → is_spot (spot_of cell.now place) t ≡ true → key_at entries.old.keys t.0 t.1 ≡ None) }
+    ensures listed { IfOk result (λ place. (t : ℕ × ℕ) → key_at entries.new.keys t.0 t.1 ≡ cond (is_spot (spot_of cell.now place) t) (Some key) (key_at entries.old.keys t.0 t.1)) }
+    ensures index_kept { OnErr result (index.new.index ≡ index.old.index) }
+    ensures lists_kept { OnErr result ((t : ℕ × ℕ) → key_at entries.new.keys t.0 t.1 ≡ key_at entries.old.keys t.0 t.1) }
+{
+    index.add(key, cell)?;
+    let noted = entries.note(cell, key);
+    if noted.is_err() {
+        index.remove(key, cell);
+    }
+    noted
+}
+
 impl LockedCells {
     ghost use Rattle.ft_locks.specs.Lending.{LendsHolders};
 
@@ -127,9 +150,18 @@ impl LockedCells {
         LockedCells {
             alloc,
             locked: Slab::new(alloc),
-            keys: HashMap::new(alloc),
+            index: CellIndex::new(alloc),
             entries: EntryKeys::new(alloc),
             has_names: false,
+        }
+    }
+
+    /// Takes a seed for the hashes of cells, where the table is empty. Nothing is seen of it.
+    pub(crate) fn seed(&mut self, seed: u64)
+        ensures { self.new ≡ self.old }
+    {
+        if self.locked.is_empty() {
+            self.index.seed = seed;
         }
     }
 
@@ -138,7 +170,7 @@ impl LockedCells {
         ensures at { IfSome result (λ key. finite.get self.now.at key ≡ Some cell.now) }
         ensures there { is_some result ≡ finite.contains_key self.now.cells cell.now }
     {
-        self.keys.get(cell).copied()
+        self.index.find(&self.locked, cell)
     }
 
     /// The holders of the cell under a key, if there is one.
@@ -261,27 +293,18 @@ impl LockedCells {
         ensures at { IfOk result (λ key. self.new.at ≡ finite.insert self.old.at key cell.now) }
         ensures err { OnErr result (self.new ≡ self.old) }
     {
-        let name = cell.clone()?;
         let cell = cell.clone()?;
         self.locked.reserve(1)?;
         let key = self.locked.vacant_key();
-        self.keys.insert(name, key)?;
-        match self.entries.note(&cell, key) {
-            Ok(place) => {
-                self.has_names |= is_names(&cell);
-                Ok(
-                    self.locked.insert_reserved(Locked {
-                        cell,
-                        holders,
-                        place,
-                    }),
-                )
-            }
-            Err(refused) => {
-                self.keys.remove(&cell);
-                Err(refused)
-            }
-        }
+        let place = note_key(&mut self.index, &mut self.entries, key, &cell)?;
+        self.has_names |= is_names(&cell);
+        Ok(
+            self.locked.insert_reserved(Locked {
+                cell,
+                holders,
+                place,
+            }),
+        )
     }
 
     /// Takes the cell under a key, if there is one, out of the table. Takes no memory.
@@ -295,8 +318,8 @@ impl LockedCells {
             holders: _,
             place,
         } = self.locked.try_remove(key)?;
-        self.keys.remove(&cell);
-        self.has_names &= !self.keys.is_empty();
+        self.index.remove(key, &cell);
+        self.has_names &= !self.locked.is_empty();
         if let Cell::Entry(entry) = &cell {
             close_gap(&mut self.locked, &mut self.entries, entry.dir, place);
         }

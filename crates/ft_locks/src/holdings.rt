@@ -87,6 +87,13 @@ impl Holdings {
         }
     }
 
+    /// Takes a seed for the hashes of cells, where no owner has a place. Nothing is seen of it.
+    pub(crate) fn seed(&mut self, seed: u64)
+        ensures { self.new ≡ self.old }
+    {
+        self.cells.seed(seed);
+    }
+
     /// Whether an owner is open.
     pub(crate) fn is_open(&self, owner: u64) -> bool
         ensures { result ≡ finite.contains_key self.now.lists owner }

@@ -5,6 +5,7 @@
 #![tactic(auto)]
 
 mod blocking;
+mod cell_index;
 mod cells;
 mod entry_keys;
 mod holdings;

@@ -69,6 +69,15 @@ impl Locks {
         Locks { alloc, holdings }
     }
 
+    /// Takes a seed for the hashes by which cells are found, where no transaction has a lock and no
+    /// cell was let go. Nothing is seen of it: by a seed that nobody knows, cells can't be chosen
+    /// whose hashes are the same. Until one is taken it is 0.
+    pub fn seed(&mut self, seed: u64)
+        ensures { self.new ≡ self.old }
+    {
+        self.holdings.seed(seed);
+    }
+
     /// Whether a transaction is open: it was opened, and neither released nor its locks inherited
     /// since.
     pub fn is_open(&self, txn: TxnId) -> bool

@@ -1,3 +1,4 @@
 pub mod Searching
 pub mod Noted
 pub mod Merging
+pub mod Resting

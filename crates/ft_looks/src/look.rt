@@ -1,58 +1,90 @@
 // A tree that is looked at, cell by cell, and which cells were.
-ghost use Rattle.std.specs.Prelude.{◌≡◌, ◌≤◌, length, option_copied, IfOk, OnOk};
+ghost use Rattle.std.specs.Prelude.{◌≡◌, ◌≤◌, [], length, option_copied, IfOk, IfSome, OnOk};
 ghost use Rattle.std.specs.Option.{option_to_list};
 ghost use Rattle.std.specs.FinMap as finite;
 ghost use Rattle.ft_body.specs.declared.TheConstants.{LARGEST_SIZE};
 ghost use Rattle.ft_path.specs.FilePath.{parts_of};
 ghost use Rattle.ft_cells.specs.declared.cell.Cell.TheVariants.{Links, Names, Fd, DirAttributes, FileAttributes};
 ghost use Rattle.ft_cells.specs.Cells.{bytes_of, stored_dirs};
-ghost use Rattle.ft_tree.specs.Walk.{walk};
+ghost use Rattle.ft_tree.specs.Views.{view_of};
+ghost use Rattle.ft_tree.specs.Fronts.{LeadsIfAny, entries_of};
+ghost use Rattle.ft_tree.specs.Walk.{walk, walk_from};
 ghost use Rattle.ft_posix.specs.Links.{climb};
 ghost use Rattle.ft_posix.specs.declared.call.Mode.TheVariants.{Write as WriteMode};
-ghost use Rattle.ft_posix.specs.Looking.{Looking, Finds, look_at, size_at, is_bare, names_noted};
+ghost use Rattle.ft_posix.specs.Looking.{Looking, Finds, look_at, size_at, is_bare, names_noted, noted_at};
 ghost use Rattle.ft_posix.specs.Comes.{Leads, Says};
-ghost use Rattle.ft_posix.specs.Accesses.{listed};
+ghost use Rattle.ft_posix.specs.Accesses.{with_looks};
+ghost use Rattle.ft_posix.specs.Besides.{AreListedBut};
 ghost use Rattle.ft_posix.specs.Within.{AreWithin};
 ghost use Rattle.ft_posix.specs.Edits.{edit_cell, with_edits};
+ghost use Rattle.ft_looks.specs.Rests.{IsRest};
 ghost use Rattle.ft_looks.specs.Sizes.{size_and_time_at};
 
 use crate::touched::Touched;
 use ft_base::Memory;
-use ft_path::{FilePath, Name, Parts, PartsFault};
+use ft_path::{FilePath, JudgedPath, Name};
 use ft_posix::{Access, Edit, Edits, Stop};
 use ft_tree::{
-    Attributes, Cell, Cursor, EntryRef, HintedFile, Node, OpenFile, ROOT, Reader, Spot, Timestamp,
-    Tree, TreeLimits, walk,
+    Attributes, Cell, Cursor, EntryRef, Front, HintedFile, Node, OpenFile, ROOT, Reader, Route,
+    Spot, Timestamp, Tree, TreeLimits, walk_from,
 };
 use std::alloc::Global;
 use std::marker::Model;
 
 /// A tree that is looked at, and which of its cells were.
+///
+/// Where the front of a path leads may be known: a path that goes on behind it is walked from there.
+/// So the entries on its way are seen as read, whether they are looked at or not.
 #[derive(Drop)]
 pub struct Look<'t> {
     cursor: Cursor<'t>,
     touched: Touched,
+    front: Option<&'t Front>,
 }
 
 impl<'t> Model for Look<'t> {
+    ghost use Rattle.std.specs.Option.{option_copied};
+    ghost use Rattle.ft_tree.specs.Views.{view_of};
+    ghost use Rattle.ft_tree.specs.Fronts.{LeadsIfAny, entries_of};
+    ghost use Rattle.ft_posix.specs.Accesses.{with_looks};
+    ghost use Rattle.ft_posix.specs.Besides.{AreReads};
     ghost use Rattle.ft_posix.specs.Looking.{Looking, coded_looking};
 
     ghost Value = { Looking };
 
     ghost coded = { coded_looking };
 
-    ghost view = { λ a. record { cells = a.cursor; modes = a.touched } };
+    ghost view = { λ a. record { cells = a.cursor; modes = with_looks a.touched (entries_of (option_copied a.front)); front = entries_of (option_copied a.front) } };
+
+    ghost invariant = { λ a. LeadsIfAny (view_of a.cursor) (option_copied a.front) × AreReads a.touched };
 }
 
 impl<'t> Look<'t> {
     /// Nothing was looked at yet.
     pub fn new(alloc: Global, tree: &'t Tree) -> Look<'t>
-        ensures { result ≡ record { cells = tree.entry.now; modes = finite.empty } }
+        ensures { result ≡ record { cells = tree.entry.now; modes = finite.empty; front = [] } }
+    {
+        Look::behind(alloc, tree, None)
+    }
+
+    /// Nothing was looked at yet; where this front leads, if there is one, is known.
+    pub fn behind(alloc: Global, tree: &'t Tree, front: Option<&'t Front>) -> Look<'t>
+        requires { LeadsIfAny (view_of tree.now) (option_copied front) }
+        ensures { result ≡ record { cells = tree.entry.now; modes = with_looks finite.empty (entries_of (option_copied front.entry)); front = entries_of (option_copied front.entry) } }
     {
         Look {
             cursor: Cursor::new(tree),
             touched: Touched::new(alloc),
+            front,
         }
+    }
+
+    /// Notes that a cell is looked at.
+    fn note(&mut self, cell: Cell) -> Result<(), Memory>
+        ensures noted { OnOk result (self.new ≡ noted_at self.old cell) }
+        ensures same { self.new.cells ≡ self.old.cells }
+    {
+        self.touched.read(cell)
     }
 
     /// What the tree allows.
@@ -67,7 +99,7 @@ impl<'t> Look<'t> {
     pub fn links(&mut self, file: u64) -> Result<u64, Memory>
         ensures { Finds self.old (look_at (Links file)) self.new result }
     {
-        self.touched.read(Cell::Links(file))?;
+        self.note(Cell::Links(file))?;
         Ok(self.cursor.links(file))
     }
 
@@ -75,7 +107,7 @@ impl<'t> Look<'t> {
     pub fn dir_attributes(&mut self, dir: u64) -> Result<Option<Attributes>, Memory>
         ensures { Finds self.old (look_at (DirAttributes dir)) self.new result }
     {
-        self.touched.read(Cell::DirAttributes(dir))?;
+        self.note(Cell::DirAttributes(dir))?;
         Ok(self.cursor.dir_attributes(dir))
     }
 
@@ -83,7 +115,7 @@ impl<'t> Look<'t> {
     pub fn file_attributes(&mut self, file: u64) -> Result<Option<Attributes>, Memory>
         ensures { Finds self.old (look_at (FileAttributes file)) self.new result }
     {
-        self.touched.read(Cell::FileAttributes(file))?;
+        self.note(Cell::FileAttributes(file))?;
         Ok(self.cursor.file_attributes(file))
     }
 
@@ -91,7 +123,7 @@ impl<'t> Look<'t> {
     pub fn open_file(&mut self, fd: u64) -> Result<Option<OpenFile>, Memory>
         ensures { Finds self.old (look_at (Fd fd)) self.new result }
     {
-        self.touched.read(Cell::Fd(fd))?;
+        self.note(Cell::Fd(fd))?;
         Ok(self.cursor.open_file(fd))
     }
 
@@ -99,7 +131,7 @@ impl<'t> Look<'t> {
     pub fn is_empty_dir(&mut self, dir: u64) -> Result<bool, Memory>
         ensures { Finds self.old (is_bare dir) self.new result }
     {
-        self.touched.read(Cell::Names(dir))?;
+        self.note(Cell::Names(dir))?;
         Ok(self.cursor.is_empty_dir(dir))
     }
 
@@ -107,7 +139,7 @@ impl<'t> Look<'t> {
     pub fn note_names(&mut self, dir: u64) -> Result<(), Memory>
         ensures { Finds self.old (names_noted dir) self.new result }
     {
-        self.touched.read(Cell::Names(dir))?;
+        self.note(Cell::Names(dir))?;
         Ok(())
     }
 
@@ -116,7 +148,7 @@ impl<'t> Look<'t> {
         ensures found { Finds self.old (size_at file) self.new result }
         ensures limit { IfOk result (λ size. size ≤ LARGEST_SIZE) }
     {
-        self.touched.read(Cell::Bytes(file))?;
+        self.note(Cell::Bytes(file))?;
         Ok(size_of(&self.cursor, file))
     }
 
@@ -124,7 +156,7 @@ impl<'t> Look<'t> {
     pub fn size_and_time(&mut self, file: u64) -> Result<(u64, Option<Timestamp>), Memory>
         ensures { Finds self.old (size_and_time_at file) self.new result }
     {
-        self.touched.read(Cell::Bytes(file))?;
+        self.note(Cell::Bytes(file))?;
         Ok((size_of(&self.cursor, file), self.cursor.time(file)))
     }
 
@@ -136,13 +168,45 @@ impl<'t> Look<'t> {
     }
 
     /// Where a path's components lead, through a last symbolic link where that is to be followed.
-    pub fn walk(&mut self, alloc: Global, follow: bool, parts: &Parts) -> Result<Spot, Stop>
-        ensures { Leads self.old (walk follow parts.now.names parts.now.trailing) self.new result }
+    pub fn walk(&mut self, alloc: Global, follow: bool, path: &JudgedPath<'_>) -> Result<Spot, Stop>
+        ensures { Leads self.old (walk follow path.now.names path.now.trailing) self.new result }
     {
-        match walk(alloc, self, follow, parts.names.as_slice(), parts.trailing)? {
+        match self.rest_of(path) {
+            Some((start, rest)) => self.walk_from(alloc, follow, start, &rest),
+            None => self.walk_from(alloc, follow, ROOT, path),
+        }
+    }
+
+    /// Where a path's components lead from a directory on.
+    fn walk_from(
+        &mut self,
+        alloc: Global,
+        follow: bool,
+        start: u64,
+        path: &JudgedPath<'_>,
+    ) -> Result<Spot, Stop>
+        ensures { Leads self.old (walk_from follow start path.now.names path.now.trailing) self.new result }
+    {
+        let parts = path.parts(alloc)?;
+        let route = Route {
+            start,
+            names: parts.names.as_slice(),
+            slash: parts.trailing,
+        };
+        match walk_from(alloc, self, follow, route)? {
             Ok(spot) => Ok(spot),
             Err(errno) => Err(Stop::Errno(errno)),
         }
+    }
+
+    /// What is behind the front in a path, if it goes on behind that, and the directory to which the
+    /// front leads.
+    fn rest_of<'p>(&self, path: &JudgedPath<'p>) -> Option<(u64, JudgedPath<'p>)>
+        ensures { IfSome result (λ found. IsRest self.now path.now found.0 found.1) }
+    {
+        let front = self.front?;
+        let rest = path.behind(front.text.as_slice())?;
+        Some((front.end(), rest))
     }
 
     /// Whether directory `moved` is met on the way up from directory `dir` to the root.
@@ -162,14 +226,16 @@ impl<'t> Look<'t> {
         Ok(at == moved)
     }
 
-    /// The accesses of a call that looked so, and that makes these edits.
+    /// The accesses of a call that looked so, and that makes these edits; reads of entries on the
+    /// front's way may be missing.
     pub fn into_accesses(self, edits: &Edits<'_>) -> Result<Vec<Access>, Memory>
-        ensures list { IfOk result (λ list. list.items ≡ listed (with_edits self.entry.modes edits.now)) }
+        ensures list { IfOk result (λ list. AreListedBut self.entry.front (with_edits self.entry.modes edits.now) list.items) }
         ensures within { AreWithin edits.now }
     {
         let Look {
             cursor: _,
             mut touched,
+            front: _,
         } = self;
         note_edits(&mut touched, edits)?;
         touched.into_accesses()
@@ -193,12 +259,12 @@ impl<'t> Reader for Look<'t> {
     }
 
     fn parent(&mut self, dir: u64) -> Result<Option<u64>, Memory> {
-        self.touched.read(Cell::Parent(dir))?;
+        self.note(Cell::Parent(dir))?;
         Ok(self.cursor.parent(dir))
     }
 
     fn target(&mut self, link: u64) -> Result<Vec<u8>, Memory> {
-        self.touched.read(Cell::Bytes(link))?;
+        self.note(Cell::Bytes(link))?;
         self.cursor.target(link)
     }
 }
@@ -214,14 +280,13 @@ fn size_of(cursor: &Cursor<'_>, file: u64) -> u64
     }
 }
 
-/// The parts of a path, or the fault of its text.
-pub fn text_parts(alloc: Global, path: &FilePath) -> Result<Parts, Stop>
+/// The path, or the fault of its text.
+pub fn text_parts(path: &FilePath) -> Result<JudgedPath<'_>, Stop>
     ensures { Says (parts_of path.now) result }
 {
-    match path.parts(alloc) {
-        Ok(parts) => Ok(parts),
-        Err(PartsFault::Errno(errno)) => Err(Stop::Errno(errno)),
-        Err(PartsFault::Memory) => Err(Stop::Memory),
+    match path.judged() {
+        Ok(judged) => Ok(judged),
+        Err(errno) => Err(Stop::Errno(errno)),
     }
 }
 

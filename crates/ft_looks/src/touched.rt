@@ -1,5 +1,5 @@
 // The cells that a call touches, as they are found out.
-ghost use Rattle.std.specs.Prelude.{◌≡◌, true, false, IfOk, OnOk, if◌then◌else◌};
+ghost use Rattle.std.specs.Prelude.{◌≡◌, true, false, IfOk, OnOk, OnErr, if◌then◌else◌};
 ghost use Rattle.std.specs.FinMap as finite;
 ghost use Rattle.ft_cells.specs.Entries.{entry_in};
 ghost use Rattle.ft_cells.specs.CellOrder.{same_cell};
@@ -62,14 +62,16 @@ impl Touched {
 
     /// Notes that a cell is looked at.
     pub(crate) fn read(&mut self, cell: Cell) -> Result<(), Memory>
-        ensures { OnOk result (self.new ≡ finite.insert self.old cell ReadMode) }
+        ensures noted { OnOk result (self.new ≡ finite.insert self.old cell ReadMode) }
+        ensures wanting { OnErr result (self.new ≡ self.old) }
     {
         self.note(cell, Mode::Read)
     }
 
     /// Notes that an entry is looked at.
     pub(crate) fn read_entry(&mut self, entry: EntryRef<'_>) -> Result<(), Memory>
-        ensures { OnOk result (self.new ≡ finite.insert self.old (Entry (entry_in entry.entry)) ReadMode) }
+        ensures noted { OnOk result (self.new ≡ finite.insert self.old (Entry (entry_in entry.entry)) ReadMode) }
+        ensures wanting { OnErr result (self.new ≡ self.old) }
     {
         self.note(entry, Mode::Read)
     }
@@ -106,7 +108,8 @@ impl Touched {
 
     /// Notes how a cell is touched.
     fn note<T: Touch>(&mut self, touched: T, mode: Mode) -> Result<(), Memory>
-        ensures { OnOk result (self.new ≡ finite.insert self.old (T.cell touched) mode) }
+        ensures noted { OnOk result (self.new ≡ finite.insert self.old (T.cell touched) mode) }
+        ensures wanting { OnErr result (self.new ≡ self.old) }
     {
         if !self.is_in_order {
             let cell = touched.into_cell()?;
@@ -224,6 +227,7 @@ fn put(
     requires missing { is_noted access.cell list.old.items ≡ false }
     ensures order { AreInOrderIf is_in_order.new list.new.items }
     ensures noted { OnOk result (with_notes finite.empty list.new.items ≡ finite.insert (with_notes finite.empty list.old.items) access.cell access.mode) }
+    ensures wanting { OnErr result (list.new.items ≡ list.old.items) }
 {
     let behind = list.len() - at;
     if behind == 0 {

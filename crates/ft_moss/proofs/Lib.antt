@@ -1,6 +1,7 @@
 pub mod HolderLists
 pub mod HolderPlaces
 pub mod HolderReaders
+pub mod Lone
 pub mod Cases
 pub mod Paired
 pub mod CellViews

@@ -18,6 +18,10 @@ Owners = finite.FinMap nat_cmp Marks
 abbrev pub coded_owners : Coded Owners
 coded_owners = finite.code coded_ℕ marks.the_row.coded
 
+-- one owner with its locks, and nobody else
+abbrev pub alone : Holding → Owners
+alone h = finite.insert finite.empty h.owner h.marks
+
 -- the list as owners with their locks
 abbrev pub as_entries : List Holding → List (ℕ × Marks)
 as_entries list = map (λ h. (h.owner, h.marks)) list

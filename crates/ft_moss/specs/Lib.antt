@@ -2,6 +2,7 @@ pub mod Ranks
 pub mod Rules
 pub mod Marks
 pub mod Holders
+pub mod Groups
 pub mod Cells
 pub mod Holdings
 pub mod Locks

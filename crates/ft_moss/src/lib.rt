@@ -9,6 +9,7 @@
 //! are there to be cited by the crate that keeps the locks.
 #![tactic(auto)]
 
+mod crowd;
 mod holder_index;
 mod holders;
 pub mod laws;

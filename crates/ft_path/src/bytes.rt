@@ -1,11 +1,14 @@
 // The bytes of a name as they are kept.
-ghost use Rattle.std.specs.Prelude.{◌≡◌, ◌≤◌, length, IfOk, IsOk};
-ghost use Rattle.ft_path.specs.Front.{front_of};
+ghost use Rattle.std.specs.Prelude.{◌≡◌, ◌≤◌, length, nat_eq, IfOk, IsOk};
+ghost use Rattle.std.specs.Ordering.{nat_cmp};
+ghost use Rattle.std.specs.Cmp.Lexicographic.{pointwise, slice_cmp};
 ghost use Rattle.ft_path.specs.Kept.{kept, Fits};
+ghost use Rattle.ft_path.specs.Hashed.{hashed};
+ghost use Rattle.ft_path.specs.Name.{is_dot, is_dot_dot, IsNulFree};
 
-use crate::SHORT_NAME;
-use crate::front::front_of;
+use crate::{SHORT_NAME, hash, words};
 use std::alloc::{AllocError, Global};
+use std::cmp::Ordering;
 
 /// The bytes of a name: few of them in place, behind their number and with zeros behind them, or
 /// more on the heap.
@@ -56,23 +59,66 @@ impl Bytes {
         }
     }
 
-    /// How they begin. In place the zeros behind them stand for those that are missing.
-    pub(crate) fn front(&self) -> u64
-        requires { Fits self.now }
-        ensures { result ≡ front_of (kept self.now) }
+    /// Whether they are the same as others.
+    pub(crate) fn is_same(&self, other: &Bytes) -> bool
+        requires fits { Fits self.now }
+        requires other_fits { Fits other.now }
+        ensures { result ≡ pointwise nat_eq (kept self.now) (kept other.now) }
     {
-        match self {
-            Bytes::Short(_, place) => first_eight(place),
-            Bytes::Long(long) => front_of(long.as_slice()),
+        match (self, other) {
+            (Bytes::Short(len, place), Bytes::Short(other_len, other_place)) => {
+                len == other_len && words::are_same(place, other_place)
+            }
+            _ => self.as_slice() == other.as_slice(),
         }
     }
-}
 
-/// The first eight bytes of a place as the digits of a number.
-fn first_eight(place: &[u8; SHORT_NAME]) -> u64
-    ensures { result ≡ front_of place.now }
-{
-    u64::from_be_bytes([
-        place[0], place[1], place[2], place[3], place[4], place[5], place[6], place[7],
-    ])
+    /// How they compare to others. In place the zeros behind them come before all other bytes.
+    pub(crate) fn order(&self, other: &Bytes) -> Ordering
+        requires fits { Fits self.now }
+        requires other_fits { Fits other.now }
+        requires nul_free { IsNulFree (kept self.now) }
+        requires other_nul_free { IsNulFree (kept other.now) }
+        ensures { result ≡ slice_cmp nat_cmp (kept self.now) (kept other.now) }
+    {
+        match (self, other) {
+            (Bytes::Short(_, place), Bytes::Short(_, other_place)) => {
+                words::order(place, other_place)
+            }
+            _ => self.as_slice().cmp(other.as_slice()),
+        }
+    }
+
+    /// Their hash under a seed.
+    pub(crate) fn hashed(&self, seed: u64) -> u64
+        requires { Fits self.now }
+        ensures { result ≡ hashed seed (kept self.now) }
+    {
+        match self {
+            Bytes::Short(len, place) => hash::of_place(seed, *len, place),
+            Bytes::Long(long) => hash::of_text(seed, long.as_slice()),
+        }
+    }
+
+    /// Whether they are `.`.
+    pub(crate) fn is_dot(&self) -> bool
+        requires { Fits self.now }
+        ensures { result ≡ is_dot (kept self.now) }
+    {
+        match self {
+            Bytes::Short(1, place) => place[0] == b'.',
+            _ => false,
+        }
+    }
+
+    /// Whether they are `..`.
+    pub(crate) fn is_dot_dot(&self) -> bool
+        requires { Fits self.now }
+        ensures { result ≡ is_dot_dot (kept self.now) }
+    {
+        match self {
+            Bytes::Short(2, place) => place[0] == b'.' && place[1] == b'.',
+            _ => false,
+        }
+    }
 }

@@ -7,12 +7,16 @@
 mod bytes;
 mod errno;
 mod front;
+mod hash;
+mod judged;
 mod name;
 mod names;
 mod path;
 mod slashes;
+mod words;
 
 pub use errno::Errno;
+pub use judged::JudgedPath;
 pub use name::Name;
 pub use names::Names;
 pub use path::{FilePath, LastName, Parts, PartsFault, PathFault, begins_with_slash, target_parts};

@@ -4,12 +4,11 @@ ghost use Rattle.std.proofs.Common.{ap};
 ghost use Rattle.std.specs.Ordering.{nat_cmp};
 ghost use Rattle.std.specs.Cmp.{partial_equiv_from_equiv};
 ghost use Rattle.std.specs.Cmp.Lexicographic.{slice_cmp, pointwise, bytes_decides, nat_list_cmp_total, nat_list_eq_equiv, texts_ties, texts_po};
-ghost use Rattle.ft_path.specs.Front.{front_of, AreBytes};
 ghost use Rattle.ft_path.specs.Name.{IsName, is_dot, is_dot_dot};
+ghost use Rattle.ft_path.specs.Hashed.{hashed};
 
 use crate::SHORT_NAME;
 use crate::bytes::Bytes;
-use crate::front::FRONT;
 use ft_base::Memory;
 use std::alloc::{AllocError, Global};
 use std::cmp::Ordering;
@@ -28,14 +27,13 @@ pub struct Name {
 impl Model for Name {
     ghost use Rattle.std.specs.Prelude.{◌≡◌, ℕ, List};
     ghost use Rattle.ft_path.specs.Name.{IsName};
-    ghost use Rattle.ft_path.specs.Front.{AreBytes};
     ghost use Rattle.ft_path.specs.Kept.{kept, Fits};
 
     ghost Value = { List ℕ };
 
     ghost view = { λ a. kept a.bytes };
 
-    ghost invariant = { λ a. IsName (kept a.bytes) × AreBytes (kept a.bytes) × Fits a.bytes };
+    ghost invariant = { λ a. IsName (kept a.bytes) × Fits a.bytes };
 }
 
 impl Name {
@@ -61,14 +59,14 @@ impl Name {
     pub fn is_dot(&self) -> bool
         ensures { result ≡ is_dot self.now }
     {
-        self.as_bytes() == b".".as_slice()
+        self.bytes.is_dot()
     }
 
     /// Whether it is `..`, the name of a directory's parent.
     pub fn is_dot_dot(&self) -> bool
         ensures { result ≡ is_dot_dot self.now }
     {
-        self.as_bytes() == b"..".as_slice()
+        self.bytes.is_dot_dot()
     }
 
     /// Another name of the same bytes. Up to `SHORT_NAME` of them take no memory.
@@ -79,20 +77,11 @@ impl Name {
         Ok(self.copied()?)
     }
 
-    /// Whether its front has all its bytes.
-    fn is_front(&self) -> bool
-        ensures { IsTrue result ↔ (length self.now ≤ 8) }
+    /// Its hash under a seed, by which an index finds it: the same for the same name.
+    pub fn hashed(&self, seed: u64) -> u64
+        ensures { result ≡ hashed seed self.now }
     {
-        self.as_bytes().len() <= FRONT
-    }
-
-    /// How it begins, as a number.
-    fn front(&self) -> u64
-        ensures value { result ≡ front_of self.now }
-        ensures bytes { AreBytes self.now }
-        ensures valid { IsName self.now }
-    {
-        self.bytes.front()
+        self.bytes.hashed(seed)
     }
 
     fn copied(&self) -> Result<Name, AllocError>
@@ -131,7 +120,7 @@ impl PartialEq for Name {
     ghost laws = { partial_equiv_from_equiv nat_list_eq_equiv };
 
     fn eq(&self, other: &Name) -> bool {
-        self.as_bytes() == other.as_bytes()
+        self.bytes.is_same(&other.bytes)
     }
 }
 
@@ -169,10 +158,6 @@ impl Ord for Name {
     ghost matches_eq = { texts_ties };
 
     fn cmp(&self, other: &Name) -> Ordering {
-        match self.front().cmp(&other.front()) {
-            Ordering::Equal if self.is_front() && other.is_front() => Ordering::Equal,
-            Ordering::Equal => self.as_bytes().cmp(other.as_bytes()),
-            order => order,
-        }
+        self.bytes.order(&other.bytes)
     }
 }

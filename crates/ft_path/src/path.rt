@@ -210,7 +210,7 @@ fn text_parts(alloc: Global, bytes: &[u8]) -> Result<Parts, PartsFault>
 }
 
 /// Whether a component has more bytes than a name.
-fn has_long_component(bytes: &[u8]) -> bool
+pub(crate) fn has_long_component(bytes: &[u8]) -> bool
     ensures { result ≡ list_any is_long (components bytes.now) }
 {
     if bytes.len() <= LONGEST_NAME {
@@ -225,7 +225,7 @@ fn has_long_component(bytes: &[u8]) -> bool
 }
 
 /// The components as names.
-fn component_names(alloc: Global, bytes: &[u8]) -> Result<Names, Memory>
+pub(crate) fn component_names(alloc: Global, bytes: &[u8]) -> Result<Names, Memory>
     requires nul_free { IsNulFree bytes.now }
     requires short { list_any is_long (components bytes.now) ≡ false }
     ensures { IfOk result (λ names. names ≡ components bytes.now) }

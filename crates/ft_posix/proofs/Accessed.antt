@@ -56,7 +56,7 @@ in-cells : (c : Cell) (cs : List Cell) → In c cs → any (same_cell c) cs ≡ 
 in-cells c cs i = in-any (same_cell c) c cs i (same_cell-refl c)
 
 -- and what passes it somewhere is a member
-cells-in : (c : Cell) (cs : List Cell) → any (same_cell c) cs ≡ true → In c cs
+pub cells-in : (c : Cell) (cs : List Cell) → any (same_cell c) cs ≡ true → In c cs
 cells-in c cs h = let found = any-in (same_cell c) cs h in subst (λ x. In x cs) (sym (same_cell-is c found.0 found.2)) found.1
 
 -- The map of modes.
@@ -75,11 +75,11 @@ abbrev pub access : Cell → Mode → Access
 access c x = record { cell = c; mode = x }
 
 -- what the map has at a cell is listed
-listed-at : (m : Modes) (c : Cell) (x : Mode) → get m c ≡ Some x → In (access c x) (listed m)
+pub listed-at : (m : Modes) (c : Cell) (x : Mode) → get m c ≡ Some x → In (access c x) (listed m)
 listed-at m c x h = in-map (λ (e : Cell × Mode). access e.0 e.1) (c, x) (entries m) (found-in c x (entries m) (sym (get-entries m c) ∙ h))
 
 -- and what is listed is what the map has there
-at-listed : (m : Modes) (a : Access) → In a (listed m) → get m a.cell ≡ Some a.mode
+pub at-listed : (m : Modes) (a : Access) → In a (listed m) → get m a.cell ≡ Some a.mode
 at-listed m a i =
     let found = map-in (λ (e : Cell × Mode). access e.0 e.1) (entries m) a i in
     subst (λ (b : Access). get m b.cell ≡ Some b.mode) (sym found.2) (all-at (λ (e : Cell × Mode). get m e.0 ≡ Some e.1) (entries m) found.0 (entries-get cell_cmp cell_cmp_total m) found.1)
@@ -91,7 +91,7 @@ either true false x y = refl
 either false b x y = refl
 
 -- the map with cells that are looked at has them to be read
-get-with_looks : (cs : List Cell) (m : Modes) (c : Cell) → get (with_looks m cs) c ≡ cond (any (same_cell c) cs) (Some ReadMode) (get m c)
+pub get-with_looks : (cs : List Cell) (m : Modes) (c : Cell) → get (with_looks m cs) c ≡ cond (any (same_cell c) cs) (Some ReadMode) (get m c)
 get-with_looks [] m c = refl
 get-with_looks (d ∷ cs) m c =
     get-with_looks cs (insert m d ReadMode) c ∙ ap (cond (any (same_cell c) cs) (Some ReadMode)) (get-insert cell_cmp_total m d ReadMode c)

@@ -48,6 +48,7 @@ pub mod Moving
 pub mod Held
 pub mod Restoring
 pub mod Noting
+pub mod Fronted
 pub mod Withins
 pub mod Applying
 pub mod SoundPlaces

@@ -24,7 +24,7 @@ pub noted-then : {A B : Type 0} (old : Looking) (s : Looks A) (f : A → Looks B
 noted-then old s f x mid is looks =
     ap (λ (l : Looking). noted l (f x)) looks
     ∙ ap (λ y. noted (noted old s) (f y)) is
-    ∙ ap (λ m. record { cells = old.cells; modes = m }) (sym (with_looks-then old.modes s f (view_of old.cells)))
+    ∙ ap (λ m. record { cells = old.cells; modes = m; front = old.front }) (sym (with_looks-then old.modes s f (view_of old.cells)))
 
 -- and what is answered behind it
 pub answer-on : {A B : Type 0} (old : Looking) (s : Looks A) (f : A → Looks B) (x : A) (mid : Looking) → x ≡ answer s (view_of old.cells) → mid ≡ noted old s

@@ -23,7 +23,7 @@ with_accesses-split : (s : Looks Outcome) (m : Modes) (v : View) → with_access
 with_accesses-split (Answer o) m v = refl
 with_accesses-split (Look c next) m v = with_accesses-split (next (v c)) (finite.insert m c ReadMode) v
 
-with_edits-writes : (cells : Cells) (es : List Edit) (m : Modes) → with_edits m es ≡ with_writes m (writes_of cells es)
+pub with_edits-writes : (cells : Cells) (es : List Edit) (m : Modes) → with_edits m es ≡ with_writes m (writes_of cells es)
 with_edits-writes cells [] m = refl
 with_edits-writes cells (Entry entry to ∷ es) m = with_edits-writes cells es _
 with_edits-writes cells (Parent d to ∷ es) m = with_edits-writes cells es _
@@ -35,7 +35,7 @@ with_edits-writes cells (DirAttributes d to ∷ es) m = with_edits-writes cells 
 with_edits-writes cells (FileAttributes i to ∷ es) m = with_edits-writes cells es _
 with_edits-writes cells (Time i to ∷ es) m = with_edits-writes cells es _
 
-pub accesses-noted : (cells : Cells) (old mid : Looking) (k : ℕ) (call : Call) (x : Intent) → old ≡ record { cells = cells; modes = finite.empty } → outcome_of old.cells x ≡ outcome old.cells k call → mid ≡ noted old (steps old.cells.limits (stored_dirs old.cells) k call)
+pub accesses-noted : (cells : Cells) (old mid : Looking) (k : ℕ) (call : Call) (x : Intent) → old ≡ record { cells = cells; modes = finite.empty; front = [] } → outcome_of old.cells x ≡ outcome old.cells k call → mid ≡ noted old (steps old.cells.limits (stored_dirs old.cells) k call)
     → listed (with_edits mid.modes x.edits) ≡ accesses_of cells k call
 accesses-noted cells old mid k call x start comes looks =
     let s = steps old.cells.limits (stored_dirs old.cells) k call in

@@ -13,6 +13,6 @@ with_looks-then m (Answer x) f v = refl
 with_looks-then m (Look c next) f v = with_looks-then (finite.insert m c ReadMode) (next (v c)) f v
 
 -- cell by cell, and all at once
-pub all_noted-is : (old : Looking) (cs : List Cell) → all_noted noted_at old cs ≡ record { cells = old.cells; modes = with_looks old.modes cs }
+pub all_noted-is : (old : Looking) (cs : List Cell) → all_noted noted_at old cs ≡ record { cells = old.cells; modes = with_looks old.modes cs; front = old.front }
 all_noted-is old [] = refl
 all_noted-is old (c ∷ cs) = all_noted-is (noted_at old c) cs

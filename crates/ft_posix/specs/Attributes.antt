@@ -41,7 +41,8 @@ abbrev pub with_mode : ℕ → Attributes → Attributes
 with_mode mode a = record { mode = mode; owner = a.owner; group = a.group }
 
 -- with another owner and another group, where they are given; else they stay (XSH chown, of -1).
--- The bits S_ISUID and S_ISGID stay, which POSIX leaves to who has appropriate privileges.
+-- The bits S_ISUID and S_ISGID stay: POSIX leaves that open for a process with appropriate
+-- privileges.
 abbrev pub with_owner : Option ℕ → Option ℕ → Attributes → Attributes
 with_owner owner group a = record { mode = a.mode; owner = unwrap_or owner a.owner; group = unwrap_or group a.group }
 

@@ -20,3 +20,4 @@ pub mod Edits
 pub mod CellLaws
 pub mod Within
 pub mod Leaving
+pub mod Besides

@@ -1,6 +1,6 @@
 -- A tree that is looked at, and what was looked at.
 use Rattle.std.specs.Prelude.{◌≡◌, ℕ, Bool, true, false, List, [], ◌∷◌, length, Result, Ok, Err, refl}
-use Rattle.std.specs.Coded.{Coded, code_by, coded×}
+use Rattle.std.specs.Coded.{Coded, code_by, coded×, coded_list}
 use Rattle.std.specs.FinMap as finite
 use Rattle.ft_base.specs.declared.memory.Memory.{Memory}
 use Rattle.ft_cells.specs.declared.cell.Cell.{Cell}
@@ -13,22 +13,26 @@ use Rattle.ft_posix.specs.contracts.call.Mode as mode
 use Rattle.ft_posix.specs.declared.call.Mode.TheVariants.{Read as ReadMode}
 use Rattle.ft_posix.specs.Accesses.{Modes, with_looks}
 
--- the cells that are looked at, and how they are accessed so far
+-- the cells that are looked at, how they are accessed so far, and of which of them it was known in
+-- advance that they are read: the entries on the way of a path's front
 pub record Looking : Type 0 where
   pub cells : Cells
   pub modes : Modes
+  pub front : List Cell
 
 -- how that is coded. Nothing a reader has to know.
 abbrev pub coded_looking : Coded Looking
-coded_looking = code_by (Cells × Modes) (coded× coded_cells (finite.code cell.the_row.coded mode.the_row.coded)) (λ l. (l.cells, l.modes)) (λ p. record { cells = p.0; modes = p.1 }) (λ _. refl)
+coded_looking =
+    code_by (Cells × (Modes × List Cell)) (coded× coded_cells (coded× (finite.code cell.the_row.coded mode.the_row.coded) (coded_list cell.the_row.coded)))
+    (λ l. (l.cells, (l.modes, l.front))) (λ p. record { cells = p.0; modes = p.1.0; front = p.1.1 }) (λ _. refl)
 
 -- with a look at one cell noted
 abbrev pub noted_at : Looking → Cell → Looking
-noted_at old c = record { cells = old.cells; modes = finite.insert old.modes c ReadMode }
+noted_at old c = record { cells = old.cells; modes = finite.insert old.modes c ReadMode; front = old.front }
 
 -- with what is looked at noted
 abbrev pub noted : {A : Type 0} → Looking → Looks A → Looking
-noted old looks = record { cells = old.cells; modes = with_looks old.modes (looked_at looks (view_of old.cells)) }
+noted old looks = record { cells = old.cells; modes = with_looks old.modes (looked_at looks (view_of old.cells)); front = old.front }
 
 -- the looks were made: this is what they answer, and they are noted. Or memory was wanting, and
 -- the cells are the same.

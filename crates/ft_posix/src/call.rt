@@ -15,8 +15,8 @@ use std::alloc::Global;
 /// the order in which they are tested.
 ///
 /// A symbolic link on the way or before a trailing slash is followed. `List`, `Open`, `Truncate`,
-/// `Stat`, `Chmod`, `Chown` and `Utime` follow one that is the last component too, but for an
-/// `Open` with `create` and `excl`; to the other calls it is a file like others.
+/// `Stat`, `Chmod`, `Chown` and `Utime` follow one that is the last component too, except for an
+/// `Open` with `create` and `excl`. The other calls go about a last symbolic link itself.
 ///
 /// Nobody asks who calls: each call has appropriate privileges (Base Definitions, 4.5). A mode is
 /// the 12 bits of sys/stat.h (S_IRWXU to S_ISVTX), and one above 07777 is EINVAL, a choice of this
@@ -59,8 +59,8 @@ pub enum Call {
     /// With `create` a missing file is made, whose number is the stamp too: its mode is that which
     /// is given, and else 0644, its owner and its group are 0, and it has no time. With `trunc` an
     /// existing one is cut to nothing, and its time goes; with `append` each write goes to its end.
-    /// `append` without writing is kept and has no other effect, and so has a mode where no file is
-    /// made.
+    /// `append` without writing is kept and has no other effect. If no file is made, a mode has no
+    /// effect.
     ///
     /// Fails with the fault of the text; EINVAL for `trunc` without writing or a mode above 07777;
     /// the fault of the look-up; ENOENT where the last name is missing and `create` is not there,
@@ -92,9 +92,8 @@ pub enum Call {
     },
     /// Writes at the offset, or with append at the end of the file, as many bytes as have room
     /// below the size limit, and answers how many as `Number`; a gap before them is filled with
-    /// zeros, the offset becomes the end of what was written, and the file's time goes. No bytes
-    /// change nothing
-    /// (POSIX.1-2017, System Interfaces, write).
+    /// zeros, the offset becomes the end of what was written, and the file's time goes. A write of
+    /// no bytes changes nothing (POSIX.1-2017, System Interfaces, write).
     ///
     /// Fails with EBADF where the descriptor is not open, or not for writing; EFBIG where there are
     /// bytes and the place is at the size limit or past it.
@@ -250,8 +249,8 @@ pub enum Call {
         group: Option<u32>,
         path: FilePath,
     },
-    /// The same, but of a last symbolic link itself, whose owner and group are 0 and stay so
-    /// (POSIX.1-2017, System Interfaces, lchown).
+    /// Does what `Chown` does, except that a last symbolic link is not followed. The owner and the
+    /// group of a link are 0 and stay so (POSIX.1-2017, System Interfaces, lchown).
     ///
     /// Fails as `Chown` does, and then with EINVAL for a link that would get another owner or
     /// another group.
@@ -278,8 +277,8 @@ pub enum Call {
         time: Timestamp,
         path: FilePath,
     },
-    /// The same, but of a last symbolic link itself, whose time is not kept either (POSIX.1-2017,
-    /// System Interfaces, utimensat with AT_SYMLINK_NOFOLLOW).
+    /// Does what `Utime` does, except that a last symbolic link is not followed. The time of a link
+    /// is not kept either (POSIX.1-2017, System Interfaces, utimensat with AT_SYMLINK_NOFOLLOW).
     ///
     /// Fails as `Utime` does, and with EINVAL for a symbolic link too.
     Lutime {
@@ -431,7 +430,7 @@ pub enum Reply {
     /// What a path leads to or a descriptor has open: a directory, a file or a symbolic link, its
     /// number, its count of links, its size in bytes, its attributes and the time of its bytes. A
     /// directory has one link and size 0, a choice of this project. The attributes are none where
-    /// they are the default ones, and the time where none was set, or the bytes were changed then.
+    /// they are the default ones, and the time where none was set, or the bytes have changed since.
     Info {
         kind: Kind,
         number: u64,

@@ -1,5 +1,5 @@
 // What a call comes to, before it is made.
-ghost use Rattle.std.specs.Prelude.{◌≡◌, [], ◌∷◌, ◌++◌, OnOk, IfOk, IfSome, IfNone};
+ghost use Rattle.std.specs.Prelude.{◌≡◌, [], ◌∷◌, ◌++◌, length, slice_get, option_copied, OnOk, OnErr, IfOk};
 ghost use Rattle.ft_body.specs.Bytes.{bytes_at};
 ghost use Rattle.ft_cells.specs.Cells.{bytes_of};
 ghost use Rattle.ft_posix.specs.Within.{IsWithin, AreWithin};
@@ -130,13 +130,28 @@ impl<'c> Edits<'c> {
         &self.items
     }
 
-    /// Takes out the first edit, where there is one. Takes no memory.
-    pub fn pop_front(&mut self) -> Option<Edit<'c>>
-        ensures some { IfSome result (λ edit. self.old ≡ edit ∷ self.new) }
-        ensures none { IfNone result (self.old ≡ []) }
-        ensures left { IfNone result (self.new ≡ []) }
+    /// How many there are.
+    pub fn len(&self) -> usize
+        ensures { result ≡ length self.now }
     {
-        self.items.pop_front()
+        if self.items.first().is_none() {
+            return 0;
+        }
+        if self.items.second().is_none() {
+            return 1;
+        }
+        2 + self.items.others().len()
+    }
+
+    /// The edit at an index, if there is one.
+    pub fn get(&self, index: usize) -> Option<&Edit<'c>>
+        ensures { option_copied result ≡ slice_get self.now index }
+    {
+        match index {
+            0 => self.items.first(),
+            1 => self.items.second(),
+            _ => self.items.others().get(index - 2),
+        }
     }
 
     /// Puts one more behind the others; the first two take no memory.
@@ -195,7 +210,22 @@ impl<'c> Intent<'c> {
         ensures reply { IfOk result (λ reply. reply ≡ reply_of tree.now self.now.told) }
         ensures lists { OnErr result (IsList (reply_of tree.now self.now.told)) }
     {
-        match &self.told {
+        self.told.reply(alloc, tree)
+    }
+}
+
+impl Told {
+    ghost use Rattle.std.specs.Prelude.{◌≡◌, IfOk, OnErr};
+    ghost use Rattle.ft_posix.specs.Comes.{reply_of};
+    ghost use Rattle.ft_posix.specs.Perform.{IsList};
+
+    /// The reply that it stands for. A list is read off the tree, which is as it was looked at. Only
+    /// a list takes memory, and want of it is the one refusal.
+    pub fn reply(&self, alloc: Global, tree: &Tree) -> Result<Reply, Memory>
+        ensures reply { IfOk result (λ reply. reply ≡ reply_of tree.now self.now) }
+        ensures lists { OnErr result (IsList (reply_of tree.now self.now)) }
+    {
+        match self {
             Told::Done => Ok(Reply::Done),
             Told::Number(number) => Ok(Reply::Number(*number)),
             Told::Info {

@@ -12,7 +12,7 @@ mod wait_text;
 pub use line::{Line, Report};
 pub use lock_text::{AttributeLocksText, LocksText};
 pub use meaning::meaning_of;
-pub use replying::{carry_out, reply_to};
+pub use replying::{carry_out, reply_into, reply_to};
 pub use reporting::whole_report_of;
 pub use text::{AnswerText, fault_name};
 pub use wait_text::WaitsText;

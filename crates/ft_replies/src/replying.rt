@@ -1,5 +1,5 @@
 // One line of a script, carried out.
-ghost use Rattle.std.specs.Prelude.{◌≡◌, ◌⊎◌, ℕ, List, string_bytes, IfOk, OnErr};
+ghost use Rattle.std.specs.Prelude.{◌≡◌, ◌⊎◌, ℕ, List, string_bytes, IfOk, OnErr, OnOk};
 ghost use Rattle.ft_replies.specs.Requests.{meaning_of};
 ghost use Rattle.ft_replies.specs.Lines.{GivesText, IsLegal};
 
@@ -11,9 +11,6 @@ use ft_base::Memory;
 use ft_core::{Answer, Core, Request};
 use std::alloc::Global;
 
-// The bytes of most replies.
-const SHORT_REPLY: usize = 32;
-
 /// Carries out one line of a script, without its line feed, and gives the text of its reply. What a
 /// commit or an abort has let go is swept, where it is not refused.
 ///
@@ -23,15 +20,33 @@ pub fn reply_to(alloc: Global, line: &[u8], core: &mut Core) -> Result<String, M
     ensures ok { IfOk result (λ reply. GivesText core.old.state (meaning_of line.now) (string_bytes reply) core.new.state) }
     ensures err { OnErr result ((core.new.state ≡ core.old.state) ⊎ ((text : List ℕ) × GivesText core.old.state (meaning_of line.now) text core.new.state)) }
 {
+    let mut reply = String::new(alloc);
+    reply_into(alloc, line, core, &mut reply)?;
+    Ok(reply)
+}
+
+/// The same, with the text of the reply in the place of another text.
+pub fn reply_into(
+    alloc: Global,
+    line: &[u8],
+    core: &mut Core,
+    reply: &mut String,
+) -> Result<(), Memory>
+    ensures ok { OnOk result (GivesText core.old.state (meaning_of line.now) (string_bytes reply.new) core.new.state) }
+    ensures err { OnErr result ((core.new.state ≡ core.old.state) ⊎ ((text : List ℕ) × GivesText core.old.state (meaning_of line.now) text core.new.state)) }
+{
+    reply.clear();
     match meaning_of(alloc, line)? {
-        Line::Silent => Ok(String::new(alloc)),
-        Line::Bad => Ok(String::from_str(alloc, "bad line\n")?),
-        Line::Report(report) => report_of(alloc, report, core),
+        Line::Silent => Ok(()),
+        Line::Bad => Ok(reply.push_str("bad line\n")?),
+        Line::Report(report) => {
+            *reply = report_of(alloc, report, core)?;
+            Ok(())
+        }
         Line::Request(request) => {
-            let mut reply = String::with_capacity(alloc, SHORT_REPLY)?;
             let answer = carry_out(core, request);
             writeln!(reply, "{}", AnswerText(&answer))?;
-            Ok(reply)
+            Ok(())
         }
     }
 }

@@ -38,6 +38,7 @@ use ft_status::{
 use std::fs::{File, Files};
 use std::io::{ErrorKind, IsTerminal, Read, Stderr};
 use std::process::ExitCode;
+use std::random::RandomSource;
 use std::{env, io};
 
 fn main(rt: HostRuntime) -> ExitCode {
@@ -261,12 +262,13 @@ fn core_for(
     ensures base { IfOk result (λ core. core.state ≡ at_base core.state.rule core.state.limits core.state.base) }
 {
     let alloc = rt.alloc();
+    let seed = random_number(rt);
     let begun = match after {
-        None => core_after(alloc, rule, asked.over(needed), None),
+        None => core_after(alloc, rule, asked.over(needed), seed, None),
         Some(file) => match read_file(rt, file.as_str(), u64::MAX) {
             Ok(script) => {
                 let limits = asked.over(raised_for(needed, script.as_slice()));
-                core_after(alloc, rule, limits, Some(script.as_slice()))
+                core_after(alloc, rule, limits, seed, Some(script.as_slice()))
             }
             Err(fault) => return Err(failed(&mut rt.stderr(), fault_line(fault))),
         },
@@ -274,6 +276,15 @@ fn core_for(
     match begun {
         Ok(core) => Ok(core),
         Err(fault) => Err(after_failed(alloc, &mut rt.stderr(), fault)),
+    }
+}
+
+// A number that nobody can guess; 0 if the system has none to give.
+fn random_number(rt: &HostRuntime) -> u64 {
+    let mut bytes = [0; 8];
+    match rt.fill_bytes(&mut bytes) {
+        Ok(()) => u64::from_le_bytes(bytes),
+        Err(_) => 0,
     }
 }
 

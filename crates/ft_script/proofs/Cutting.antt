@@ -35,6 +35,14 @@ cuts_none bytes = record { whole = refl; each = tt; fits = tt }
 pub cuts_read : (bytes : List ℕ) (lines : List (List ℕ)) (rest more : List ℕ) → Cuts bytes lines rest → Cuts (bytes ++ more) lines (rest ++ more)
 cuts_read bytes lines rest more h = record { whole = ap (λ bs. bs ++ more) h.whole ∙ append_assoc (flat_map ended lines) rest more; each = h.each; fits = h.fits }
 
+-- lines are cut from what is left
+pub cuts_more : (bytes : List ℕ) (lines : List (List ℕ)) (rest : List ℕ) (more : List (List ℕ)) (behind : List ℕ) → Cuts bytes lines rest → Cuts rest more behind → Cuts bytes (lines ++ more) behind
+cuts_more bytes lines rest more behind h k = record {
+  whole = h.whole ∙ ap (λ bs. flat_map ended lines ++ bs) k.whole ∙ sym (append_assoc (flat_map ended lines) (flat_map ended more) behind) ∙ ap (λ bs. bs ++ behind) (sym (flat_map-append ended lines more));
+  each = each-append (IsFreeOf 10) lines more h.each k.each;
+  fits = each-append Fits lines more h.fits k.fits;
+}
+
 -- one more line ends
 pub cuts_line : (bytes : List ℕ) (lines : List (List ℕ)) (line behind : List ℕ) → Cuts bytes lines (line ++ 10 ∷ behind) → IsFreeOf 10 line → Fits line → Cuts bytes (lines ++ line ∷ []) behind
 cuts_line bytes lines line behind h free fits = record {

@@ -1,4 +1,5 @@
 pub mod Cutting
+pub mod Gathered
 pub mod Reading
 pub mod Running
 pub mod Stopping

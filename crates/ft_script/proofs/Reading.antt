@@ -1,5 +1,5 @@
 -- How a script is cut into lines while it is read.
-use Rattle.std.proofs.Common.{◌≡◌, ◌⊎◌, ℕ, ◌+◌, ◌-◌, ◌<◌, ◌≤◌, List, ◌∷◌, ◌++◌, length, take, drop, Result, Ok, Err, IsErr, IfErr, inl, inr, sym, ap, ◌∙◌, subst, append_assoc, length-append, arith}
+use Rattle.std.proofs.Common.{Bool, true, false, [], refl, if◌then◌else◌, ◌≡◌, ◌⊎◌, ℕ, ◌+◌, ◌-◌, ◌<◌, ◌≤◌, List, ◌∷◌, ◌++◌, length, take, drop, Result, Ok, Err, IsErr, IfErr, inl, inr, sym, ap, ◌∙◌, subst, append_assoc, length-append, arith}
 use Rattle.std.specs.Result.{IsErrAnd}
 use Rattle.std.proofs.lemmas.List.{drop-take, drop-drop, length-take, length-drop}
 use Rattle.std.proofs.Math.Seq.{drop-append-add}
@@ -37,3 +37,8 @@ stops_lengthening fault begun piece behind h k (inl is) long =
     subst (λ f. StopsCutting f (begun ++ (piece ++ behind))) (sym is)
     (begun ++ piece, behind, sym (append_assoc begun piece behind), free-append 10 begun piece h k, subst (λ n. LONGEST_LINE < n) (sym (length-append begun piece)) (long is))
 stops_lengthening fault begun piece behind h k (inr is) long = subst (λ f. StopsCutting f (begun ++ (piece ++ behind))) (sym is) tt
+
+-- a line that has begun has no line feed in it
+pub free_begun : (cut : Bool) (line : List ℕ) → IsFreeOf 10 line → IsFreeOf 10 (if cut then [] else line)
+free_begun true line h = refl
+free_begun false line h = h

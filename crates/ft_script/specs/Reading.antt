@@ -1,15 +1,21 @@
 -- How a script is cut into lines while it is read. `left` is what the reader has left.
-use Rattle.std.specs.Prelude.{◌≡◌, ◌⊎◌, ◌-◌, ◌<◌, ℕ, Bool, true, false, List, [], ◌∷◌, ◌++◌, length, take, drop, Option}
-use Rattle.std.specs.Io.KnownBytes.{Consumes, IsAtEnd}
+use Rattle.std.specs.Prelude.{◌≡◌, ◌⊎◌, ◌+◌, ◌*◌, ◌-◌, ◌<◌, ◌≤◌, ℕ, Bool, if◌then◌else◌, List, [], ◌∷◌, ◌++◌, take, drop, Option}
+use Rattle.std.specs.Io.KnownBytes.{Consumes}
+use Rattle.ft_script.specs.declared.lines.TheConstants.{CHUNK}
 use Rattle.ft_script.specs.declared.lines.ScriptLines.{ScriptLines}
 use Rattle.ft_script.specs.declared.playing.PlayFault.{PlayFault}
 use Rattle.ft_script.specs.declared.playing.PlayFault.TheVariants.{Memory, Read, Write, TooLong, Turns}
+use Rattle.ft_script.specs.declared.playing.TheConstants.{MOST_READS}
 use Rattle.ft_script.specs.Cutting.{BeginsTooLong, Fits}
 use Rattle.ft_words.specs.Spelling.{IsFreeOf}
 
--- what was read and is not cut yet
+-- the line that has begun, and has not ended in what was read
+abbrev pub begun : ScriptLines → List ℕ
+begun lines = if lines.is_cut then [] else lines.line.items
+
+-- what was read and is not cut yet: the line that has begun, and what stands in no line
 abbrev pub uncut : ScriptLines → List ℕ
-uncut lines = take (lines.end - lines.start) (drop lines.start lines.chunk.items)
+uncut lines = begun lines ++ take (lines.end - lines.start) (drop lines.start lines.chunk.items)
 
 -- the line that was cut last
 abbrev pub cut_line : ScriptLines → List ℕ
@@ -19,22 +25,23 @@ cut_line lines = lines.line.items
 abbrev pub cut_count : ScriptLines → ℕ
 cut_count lines = lines.count
 
--- whether the last line of the script was cut
-abbrev pub is_over : ScriptLines → Bool
-is_over lines = lines.is_over
+-- how many bytes were read that stand in no line yet
+abbrev pub unscanned : ScriptLines → ℕ
+unscanned lines = lines.end - lines.start
 
--- A line was cut from what was not cut and what was read: up to its line feed; or all of it, where
--- the script ends there.
-pub record GivesLine (left left_after : Option (List ℕ)) (uncut uncut_after line : List ℕ) (over : Bool) : Type 0 where
-  pub read : List ℕ
-  pub consumes : Consumes left left_after read
+-- no more than so many bytes can still be cut
+abbrev pub to_read : ScriptLines → ℕ
+to_read lines = unscanned lines + (CHUNK + 1) * lines.reads_left
+
+-- all that was read stands in lines, and one more can be counted
+abbrev pub HasRoom : ScriptLines → Type 0
+HasRoom lines = (lines.start ≡ lines.end) × (lines.count + 1 + lines.end + CHUNK * lines.reads_left ≤ CHUNK * MOST_READS + lines.start)
+
+-- A line was cut from what was read, up to its line feed.
+pub record GivesLine (uncut uncut_after line : List ℕ) : Type 0 where
   pub free : IsFreeOf 10 line
   pub fits : Fits line
-  pub ended : ((over ≡ false) × (uncut ++ read ≡ line ++ 10 ∷ uncut_after)) ⊎ ((over ≡ true) × IsAtEnd left_after × (uncut ++ read ≡ line) × (0 < length line))
-
--- The script ends, and nothing was left of it to be cut.
-abbrev pub GivesNone : Option (List ℕ) → Option (List ℕ) → List ℕ → Type 0
-GivesNone left left_after uncut = Consumes left left_after [] × IsAtEnd left_after × (uncut ≡ [])
+  pub ended : uncut ≡ line ++ 10 ∷ uncut_after
 
 -- Why no line could be cut from these bytes: there was no memory; a read failed, or none was left,
 -- before a line feed came; or they begin with a line that is too long.

@@ -3,10 +3,11 @@
 -- a writer whose bytes no contract knows, as standard input and output. So the clauses of `play`
 -- say for those that some bytes were read and that what was handed to the writer is the text of a
 -- run of their lines, as far as the writer's own contract says what it took.
-use Rattle.std.specs.Prelude.{◌≡◌, ◌⊎◌, ℕ, suc, Bool, true, false, List, [], ◌∷◌, ◌++◌, length, Option, string_bytes}
+use Rattle.std.specs.Prelude.{◌≡◌, ◌⊎◌, ◌<◌, ℕ, suc, Bool, true, false, List, [], ◌∷◌, ◌++◌, length, Option, string_bytes}
 use Rattle.std.specs.List.{AllByRecursion}
 use Rattle.std.specs.Io.KnownBytes.{Appends, Consumes, IsAtEnd, Keeps}
 use Rattle.ft_core.specs.States.{State}
+use Rattle.ft_script.specs.declared.gathering.TheConstants.{MOST_GATHERED}
 use Rattle.ft_script.specs.declared.playing.PlayFault.{PlayFault}
 use Rattle.ft_script.specs.declared.playing.PlayFault.TheVariants.{Memory, Read, Write, TooLong, Turns}
 use Rattle.ft_script.specs.declared.strictly.FailedLine.{FailedLine}
@@ -49,29 +50,52 @@ WritesPart before after text = (front : List ℕ) × (next : ℕ) × (back : Lis
 abbrev pub WritesFront : Option (List ℕ) → Option (List ℕ) → List ℕ → Type 0
 WritesFront before after text = Appends before after text ⊎ WritesPart before after text
 
+-- The line was carried out, or not.
+abbrev pub MayAnswer : Answers → List ℕ → State → State → Type 0
+MayAnswer answers bytes old new = (new ≡ old) ⊎ ((on : Bool) × (text : List ℕ) × answers on old bytes text new)
+
 -- ---- faults
 
--- What became of the line at which a fault came. At Memory (for the line or for its reply's text)
--- nothing of its reply was written, and it was carried out or not. At Write it was carried out,
--- and a part of its reply was written.
+-- What became of the line at which a fault came, where its reply was to be written alone. At Memory
+-- (for the line or for its reply's text) nothing of its reply was written, and it was carried out
+-- or not. At Write it was carried out, and a part of its reply was written.
 abbrev pub StopsLine : Answers → PlayFault → List ℕ → Option (List ℕ) → Option (List ℕ) → State → State → Type 0
-StopsLine answers Memory bytes before after old new = Keeps before after × ((new ≡ old) ⊎ ((on : Bool) × (text : List ℕ) × answers on old bytes text new))
+StopsLine answers Memory bytes before after old new = Keeps before after × MayAnswer answers bytes old new
 StopsLine answers Write bytes before after old new = (on : Bool) × (text : List ℕ) × answers on old bytes text new × WritesPart before after text
 StopsLine answers Read bytes before after old new = ⊥
 StopsLine answers TooLong bytes before after old new = ⊥
 StopsLine answers Turns bytes before after old new = ⊥
 
+-- Replies that were gathered were not written, or a part of them: those to these lines, with their
+-- line feeds, which come next in the bytes, and then to one more line. All of them were carried
+-- out. Without the last reply they have fewer than `MOST_GATHERED` bytes.
+pub record LosesReplies (answers : Answers) (ends : Type 0) (bytes : List ℕ) (before after : Option (List ℕ)) (old new : State) : Type 0 where
+  pub lines : List (List ℕ)
+  pub rest : List ℕ
+  pub cuts : Cuts bytes lines rest
+  pub line : List ℕ
+  pub next : IsNext ends rest line
+  pub state : State
+  pub text : List ℕ
+  pub run : IsTextOfRun answers old lines text state
+  pub few : length text < MOST_GATHERED
+  pub on : Bool
+  pub reply : List ℕ
+  pub answered : answers on state line reply new
+  pub wrote : WritesPart before after (text ++ reply)
+
 -- nothing was written, and nothing carried out
 abbrev pub Stays : Option (List ℕ) → Option (List ℕ) → State → State → Type 0
 Stays before after old new = Keeps before after × (new ≡ old)
 
--- What a fault left of the bytes behind the lines that were taken before it. At Memory and Write:
--- as `StopsLine` says of the next line, or, at Memory, nothing more. At Read and Turns: there is
--- no line feed in them, and nothing more was taken or written. At TooLong: they begin with a line
--- that is too long, and nothing more was taken or written.
+-- What a fault left of the bytes behind the lines that were taken before it, whose replies were
+-- written. At Memory: nothing more, or the next line was carried out or not. At Write: the replies
+-- to more lines were lost. At Read and Turns: there is no line feed in them, and nothing more was
+-- taken or written. At TooLong: they begin with a line that is too long, and nothing more was taken
+-- or written.
 abbrev pub StopsIn : Answers → PlayFault → Type 0 → List ℕ → Option (List ℕ) → Option (List ℕ) → State → State → Type 0
-StopsIn answers Memory ends rest before after old new = Stays before after old new ⊎ ((bytes : List ℕ) × IsNext ends rest bytes × StopsLine answers Memory bytes before after old new)
-StopsIn answers Write ends rest before after old new = (bytes : List ℕ) × IsNext ends rest bytes × StopsLine answers Write bytes before after old new
+StopsIn answers Memory ends rest before after old new = Stays before after old new ⊎ ((bytes : List ℕ) × IsNext ends rest bytes × Keeps before after × MayAnswer answers bytes old new)
+StopsIn answers Write ends rest before after old new = LosesReplies answers ends rest before after old new
 StopsIn answers Read ends rest before after old new = IsFreeOf 10 rest × Stays before after old new
 StopsIn answers Turns ends rest before after old new = IsFreeOf 10 rest × Stays before after old new
 StopsIn answers TooLong ends rest before after old new = BeginsTooLong rest × Stays before after old new

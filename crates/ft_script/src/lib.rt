@@ -2,6 +2,7 @@
 //! answered.
 #![tactic(auto)]
 
+mod gathering;
 mod lines;
 mod playing;
 mod strictly;

@@ -1,5 +1,5 @@
 // The lines of a script, as a reader gives them.
-ghost use Rattle.std.specs.Prelude.{◌≡◌, ◌⊎◌, ◌↔◌, ◌+◌, ◌*◌, ◌<◌, ◌≤◌, ◌++◌, ◌∷◌, [], Ok, false, length, take, true, vec_len, IfErr, IfOk, IsErrOf, OnErr, OnOk};
+ghost use Rattle.std.specs.Prelude.{◌≡◌, ◌⊎◌, ◌↔◌, ℕ, List, ◌+◌, ◌*◌, ◌<◌, ◌≤◌, ◌++◌, ◌∷◌, [], false, length, take, true, vec_len, if◌then◌else◌, IfErr, IfOk, IsErrOf, OnErr, OnOk};
 ghost use Rattle.std.specs.Io.{ReadsAtMost};
 ghost use Rattle.std.specs.Io.KnownBytes.{Consumes, IsAtEnd, Keeps};
 ghost use Rattle.ft_words.specs.Spelling.{IsFreeOf};
@@ -22,40 +22,41 @@ const CHUNK: usize = 65_536;
 pub(crate) struct ScriptLines {
     // what was read last
     chunk: Vec<u8>,
-    // where what is not cut yet stands in it
+    // where what was read and is in no line yet stands in it
     start: usize,
     end: usize,
     // the line that has begun, or was cut last
     line: Vec<u8>,
+    // whether it was cut, so that the next one begins anew
+    is_cut: bool,
     // how many lines were cut
     count: u64,
     // how many reads are left
     reads_left: u32,
-    // whether the last line was cut
-    is_over: bool,
     ghost room: { vec_len chunk ≡ CHUNK },
     ghost in_order: { start ≤ end },
     ghost within: { end ≤ CHUNK },
+    ghost free: { IsFreeOf 10 line.items },
+    ghost fits: { Fits line.items },
     ghost counted: { count + end + CHUNK * reads_left ≤ CHUNK * MOST_READS + start },
 }
 
 impl ScriptLines {
-    ghost use Rattle.ft_script.specs.Reading.{GivesLine, GivesNone, StopsCutting, StopsReading, cut_count, cut_line, is_over, uncut};
+    ghost use Rattle.ft_script.specs.Reading.{GivesLine, HasRoom, StopsCutting, StopsReading, begun, cut_count, cut_line, to_read, unscanned, uncut};
 
     /// Nothing is read yet.
     pub(crate) fn new(alloc: Global) -> Result<ScriptLines, Memory>
         ensures uncut { IfOk result (λ lines. uncut lines ≡ []) }
         ensures count { IfOk result (λ lines. cut_count lines ≡ 0) }
-        ensures over { IfOk result (λ lines. is_over lines ≡ false) }
     {
         Ok(ScriptLines {
             chunk: vec![in alloc; 0; CHUNK]?,
             start: 0,
             end: 0,
             line: Vec::new(alloc),
+            is_cut: false,
             count: 0,
             reads_left: MOST_READS,
-            is_over: false,
         })
     }
 
@@ -80,47 +81,43 @@ impl ScriptLines {
         self.line
     }
 
-    /// Cuts the next line, and answers whether there is one. No more is read than it takes, and
-    /// nothing behind the end of the script.
-    pub(crate) fn advance<R: Read>(&mut self, reader: &mut R) -> Result<bool, PlayFault>
-        ensures over { is_over self.old ≡ true → (result ≡ Ok false) × (R.remaining reader.new ≡ R.remaining reader.old) }
-        ensures line { IfOk result (λ found. found ≡ true → GivesLine (R.remaining reader.old) (R.remaining reader.new) (uncut self.old) (uncut self.new) (cut_line self.new) (is_over self.new)) }
-        ensures none { IfOk result (λ found. found ≡ false → is_over self.old ≡ false → GivesNone (R.remaining reader.old) (R.remaining reader.new) (uncut self.old)) }
-        ensures count { IfOk result (λ found. found ≡ true → cut_count self.new ≡ cut_count self.old + 1) }
+    /// Reads more, if all that was read stands in lines. Answers whether there is something to cut;
+    /// if not, the script has ended.
+    pub(crate) fn read_more<R: Read>(&mut self, reader: &mut R) -> Result<bool, PlayFault>
+        ensures bytes { OnOk result ((read : List ℕ) × Consumes (R.remaining reader.old) (R.remaining reader.new) read × (uncut self.new ≡ uncut self.old ++ read)) }
+        ensures more { IfOk result (λ more. more ≡ true → (0 < unscanned self.new) × (to_read self.new ≤ to_read self.old)) }
+        ensures end { IfOk result (λ more. more ≡ false → IsAtEnd (R.remaining reader.new) × HasRoom self.new) }
+        ensures count { cut_count self.new ≡ cut_count self.old }
         ensures fault { IfErr result (λ fault. StopsReading fault (R.remaining reader.old) (R.remaining reader.new) (uncut self.old)) }
     {
-        if self.is_over {
-            return Ok(false);
+        if self.start < self.end {
+            return Ok(true);
         }
-        self.line.clear();
-        while !self.cut()? {
-            if !self.read_more(reader)? {
-                return Ok(self.cut_last());
-            }
-        }
-        Ok(true)
+        let count = read_some(reader, self.chunk.as_mut_slice(), &mut self.reads_left)?;
+        self.start = 0;
+        self.end = count;
+        Ok(count > 0)
     }
 
-    // Goes on with the line that has begun, up to a line feed, or with all that was read. Answers
-    // whether the line has ended.
-    fn cut(&mut self) -> Result<bool, PlayFault>
-        requires { IsFreeOf 10 self.old.line.items }
-        ensures ended { IfOk result (λ ended. ended ≡ true → self.old.line.items ++ uncut self.old ≡ self.new.line.items ++ 10 ∷ uncut self.new) }
-        ensures on { IfOk result (λ ended. ended ≡ false → (self.new.line.items ≡ self.old.line.items ++ uncut self.old) × (self.new.start ≡ self.new.end)) }
-        ensures free { OnOk result (IsFreeOf 10 self.new.line.items) }
-        ensures fits { OnOk result (Fits self.new.line.items) }
-        ensures count { IfOk result (λ ended. ended ≡ true → self.new.count ≡ self.old.count + 1) }
-        ensures same { IfOk result (λ ended. ended ≡ false → self.new.count ≡ self.old.count) }
+    /// Cuts the next line of what was read, and answers whether there is one that has ended.
+    pub(crate) fn cut(&mut self) -> Result<bool, PlayFault>
+        ensures line { IfOk result (λ found. found ≡ true → GivesLine (uncut self.old) (uncut self.new) (cut_line self.new)) }
+        ensures count { IfOk result (λ found. found ≡ true → cut_count self.new ≡ cut_count self.old + 1) }
+        ensures none { IfOk result (λ found. found ≡ false → (uncut self.new ≡ uncut self.old) × (cut_count self.new ≡ cut_count self.old) × (unscanned self.new ≡ 0)) }
+        ensures scanned { IfOk result (λ found. found ≡ true → unscanned self.new < unscanned self.old) }
         ensures reads { self.new.reads_left ≡ self.old.reads_left }
-        ensures over { self.new.is_over ≡ self.old.is_over }
-        ensures fault { IfErr result (λ fault. StopsCutting fault (self.old.line.items ++ uncut self.old)) }
+        ensures fault { IfErr result (λ fault. StopsCutting fault (uncut self.old)) }
+        ensures cause { IfErr result (λ fault. (fault ≡ PlayFault.TooLong) ⊎ (fault ≡ PlayFault.Memory)) }
     {
+        drop_cut(&mut self.line, self.is_cut);
+        self.is_cut = false;
         let rest = &self.chunk[self.start..self.end];
         match split_once(b'\n', rest) {
             Some((piece, behind)) => {
                 lengthen(&mut self.line, piece)?;
                 self.start = self.end - behind.len();
                 self.count += 1;
+                self.is_cut = true;
                 Ok(true)
             }
             None => {
@@ -131,35 +128,15 @@ impl ScriptLines {
         }
     }
 
-    // Reads more, where all that was read is cut. Answers whether there was more.
-    fn read_more<R: Read>(&mut self, reader: &mut R) -> Result<bool, PlayFault>
-        requires { self.old.start ≡ self.old.end }
-        ensures bytes { OnOk result (Consumes (R.remaining reader.old) (R.remaining reader.new) (uncut self.new)) }
-        ensures none { IfOk result (λ more. more ≡ false → IsAtEnd (R.remaining reader.new) × (uncut self.new ≡ [])) }
-        ensures counts { OnOk result (self.new.reads_left < self.old.reads_left) }
-        ensures room { IfOk result (λ more. more ≡ false → self.new.count + 1 + self.new.end + CHUNK * self.new.reads_left ≤ CHUNK * MOST_READS + self.new.start) }
-        ensures line { self.new.line ≡ self.old.line }
-        ensures same { self.new.count ≡ self.old.count }
-        ensures over { self.new.is_over ≡ self.old.is_over }
-        ensures err { OnErr result (Keeps (R.remaining reader.old) (R.remaining reader.new)) }
-        ensures cause { IfErr result (λ fault. (fault ≡ PlayFault.Read) ⊎ (fault ≡ PlayFault.Turns)) }
+    /// Cuts the last line, which has no line feed, if it has a byte. Answers whether it has.
+    pub(crate) fn cut_last(&mut self) -> bool
+        requires { HasRoom self.old }
+        ensures some { result ≡ true → (uncut self.old ≡ cut_line self.new) × (0 < length (cut_line self.new)) × IsFreeOf 10 (cut_line self.new) × Fits (cut_line self.new) }
+        ensures count { result ≡ true → cut_count self.new ≡ cut_count self.old + 1 }
+        ensures none { result ≡ false → uncut self.old ≡ [] }
     {
-        let count = read_some(reader, self.chunk.as_mut_slice(), &mut self.reads_left)?;
-        self.start = 0;
-        self.end = count;
-        Ok(count > 0)
-    }
-
-    // Cuts the last line, which has no line feed, if it has a byte. Answers whether it has. The
-    // script is over.
-    fn cut_last(&mut self) -> bool
-        requires { self.old.count + 1 + self.old.end + CHUNK * self.old.reads_left ≤ CHUNK * MOST_READS + self.old.start }
-        ensures some { result ≡ true → (0 < length self.new.line.items) × (self.new.count ≡ self.old.count + 1) }
-        ensures none { result ≡ false → self.old.line.items ≡ [] }
-        ensures line { self.new.line ≡ self.old.line }
-        ensures over { self.new.is_over ≡ true }
-    {
-        self.is_over = true;
+        drop_cut(&mut self.line, self.is_cut);
+        self.is_cut = true;
         if self.line.is_empty() {
             return false;
         }
@@ -198,12 +175,22 @@ fn read_some<R: Read>(
     Err(PlayFault::Turns)
 }
 
+// Drops a line if it was cut, and leaves one that has begun.
+fn drop_cut(line: &mut Vec<u8>, is_cut: bool)
+    ensures { line.new.items ≡ if is_cut then [] else line.old.items }
+{
+    if is_cut {
+        line.clear();
+    }
+}
+
 // Puts bytes behind those of a line that has begun.
 fn lengthen(begun: &mut Vec<u8>, piece: &[u8]) -> Result<(), PlayFault>
     ensures ok { OnOk result (begun.new.items ≡ begun.old.items ++ piece.now) }
     ensures fits { OnOk result (Fits begun.new.items) }
     ensures too_long { IsErrOf result PlayFault.TooLong ↔ (LONGEST_LINE < length begun.old.items + length piece.now) }
     ensures cause { IfErr result (λ fault. (fault ≡ PlayFault.TooLong) ⊎ (fault ≡ PlayFault.Memory)) }
+    ensures kept { OnErr result (begun.new.items ≡ begun.old.items) }
 {
     if begun.len().saturating_add(piece.len()) > LONGEST_LINE {
         return Err(PlayFault::TooLong);

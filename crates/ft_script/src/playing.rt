@@ -1,12 +1,15 @@
 // Runs a script: reads lines, carries them out, and writes the replies.
-ghost use Rattle.std.specs.Prelude.{IfErr, OnOk};
-ghost use Rattle.ft_script.specs.Runs.{AnswersFreely, PlaysAll, StopsAt};
+ghost use Rattle.std.specs.Prelude.{◌≡◌, ◌<◌, ℕ, List, [], true, IfErr, OnOk};
+ghost use Rattle.std.specs.Io.KnownBytes.{Appends};
+ghost use Rattle.ft_script.specs.Gathering.{Gathers, StopsGathering};
+ghost use Rattle.ft_script.specs.Reading.{cut_count, to_read, uncut, unscanned};
+ghost use Rattle.ft_script.specs.Runs.{AnswersFreely, PlaysAll, StopsAt, StopsLine};
 
-use crate::lines::ScriptLines;
+use crate::gathering::Script;
 use crate::writing::write_out;
 use ft_base::Memory;
 use ft_core::Core;
-use ft_replies::reply_to;
+use ft_replies::{reply_into, reply_to};
 use std::alloc::{AllocError, Global};
 use std::io::{Read, Write};
 use thiserror::Error;
@@ -61,18 +64,20 @@ impl From<AllocError> for PlayFault {
 
 /// Runs the script that a reader gives, up to its end, and writes the replies.
 ///
-/// The script is read in pieces of up to 65,536 bytes. A line is carried out as soon as it has come
-/// whole, and its reply is written before the next line is carried out or more is read. After each
-/// commit and abort that is not refused, the core sweeps what it has let go.
+/// The script is read in pieces of up to 65,536 bytes. All lines that have come whole are carried
+/// out, and their replies are written together, before more is read. Where they have 65,536 bytes
+/// or more they are written before the next line is carried out. After each commit and abort that
+/// is not refused, the core sweeps what it has let go.
 ///
-/// A fault ends the run early. All lines before the one at which it came were taken, and their
-/// replies written whole; no later line was taken.
+/// A fault ends the run early. Unless it is Write, all lines before the one at which it came were
+/// taken, and their replies written whole; no later line was taken.
 /// - Memory: there was none for a line or for the text of a reply, of which nothing was written.
 ///   The line was carried out or not. (Want of memory in a request or for what a report tells of
 ///   is a refusal, and is replied.)
 /// - Read: a read failed. A line that had not ended was not taken.
-/// - Write: a write failed, was interrupted or took nothing. The line was carried out, and its
-///   reply was not written, or a part of it.
+/// - Write: a write failed, was interrupted or took nothing. Of the replies that were to be written
+///   together a beginning was written, or nothing; all lines to which they reply were carried out.
+///   Without the last of them they have fewer than 65,536 bytes.
 /// - TooLong: a line has more than `LONGEST_LINE` bytes. It was not taken.
 /// - Turns: `MOST_READS` reads did not reach the end. An interrupted read counts, and is tried
 ///   again. A line that had not ended was not taken.
@@ -87,10 +92,43 @@ pub fn play<R: Read, W: Write>(
     ensures fault { IfErr result (λ fault. StopsAt AnswersFreely fault (R.remaining reader.old)
         (R.remaining reader.new) (W.contents writer.old) (W.contents writer.new) core.old.state core.new.state) }
 {
-    let mut lines = ScriptLines::new(alloc)?;
-    while lines.advance(reader)? {
-        let reply = reply_to(alloc, lines.line(), core)?;
-        write_out(writer, reply.as_bytes())?;
+    let mut script = Script::new(alloc)?;
+    while script.read_more(reader)? {
+        let answered = answer_lines(alloc, &mut script, core);
+        script.write_replies(writer)?;
+        answered?;
+    }
+    if !script.lines.cut_last() {
+        return Ok(());
+    }
+    play_last(alloc, script.lines.line(), writer, core)
+}
+
+// Carries out the lines that were read, until enough replies are gathered.
+fn answer_lines(alloc: Global, script: &mut Script, core: &mut Core) -> Result<(), PlayFault>
+    requires { script.old.replies.items ≡ [] }
+    ensures ok { OnOk result (Gathers AnswersFreely (uncut script.old.lines) (uncut script.new.lines) (cut_count script.old.lines) (cut_count script.new.lines) script.new.replies.items core.old.state core.new.state) }
+    ensures fault { IfErr result (λ fault. StopsGathering AnswersFreely fault (uncut script.old.lines) script.new.replies.items core.old.state core.new.state) }
+    ensures less { OnOk result (0 < unscanned script.old.lines → to_read script.new.lines < to_read script.old.lines) }
+{
+    let mut reply = String::new(alloc);
+    while script.may_gather() && script.lines.cut()? {
+        reply_into(alloc, script.lines.line(), core, &mut reply)?;
+        script.gather(reply.as_bytes())?;
     }
     Ok(())
+}
+
+// Carries out the last line, and writes its reply.
+fn play_last<W: Write>(
+    alloc: Global,
+    line: &[u8],
+    writer: &mut W,
+    core: &mut Core,
+) -> Result<(), PlayFault>
+    ensures ok { OnOk result ((text : List ℕ) × AnswersFreely true core.old.state line.now text core.new.state × Appends (W.contents writer.old) (W.contents writer.new) text) }
+    ensures fault { IfErr result (λ fault. StopsLine AnswersFreely fault line.now (W.contents writer.old) (W.contents writer.new) core.old.state core.new.state) }
+{
+    let reply = reply_to(alloc, line, core)?;
+    write_out(writer, reply.as_bytes())
 }

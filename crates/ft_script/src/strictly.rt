@@ -1,8 +1,12 @@
 // Runs a strict script: each line has to do what it asks for.
-ghost use Rattle.std.specs.Prelude.{IfErr, OnOk};
+ghost use Rattle.std.specs.Prelude.{◌≡◌, ◌<◌, ℕ, List, [], true, string_bytes, IfErr, IfOk, MatchOption, OnOk};
+ghost use Rattle.std.specs.Io.KnownBytes.{Appends};
+ghost use Rattle.ft_script.specs.Gathering.{FailsGathering, Gathers, StopsGathering, StopsLastStrictly};
+ghost use Rattle.ft_script.specs.Reading.{cut_count, cut_line, to_read, uncut, unscanned};
 ghost use Rattle.ft_script.specs.Runs.{PlaysAll, StopsStrictly};
 ghost use Rattle.ft_strict.specs.Strict.{AnswersStrictly};
 
+use crate::gathering::Script;
 use crate::lines::ScriptLines;
 use crate::playing::PlayFault;
 use crate::writing::write_out;
@@ -73,17 +77,66 @@ pub fn play_strictly<R: Read, W: Write>(
     ensures fault { IfErr result (λ fault. StopsStrictly fault (R.remaining reader.old)
         (R.remaining reader.new) (W.contents writer.old) (W.contents writer.new) core.old.state core.new.state) }
 {
-    let mut lines = ScriptLines::new(alloc)?;
-    while lines.advance(reader)? {
-        let reply = strict_reply_to(alloc, lines.line(), core)?;
-        write_out(writer, reply.text.as_bytes())?;
-        if !reply.goes_on {
+    let mut script = Script::new(alloc)?;
+    while script.read_more(reader)? {
+        let answered = answer_strictly(alloc, &mut script, core);
+        script.write_replies(writer)?;
+        if let Some(reply) = answered? {
             return Err(StrictFault::Line(FailedLine {
-                number: lines.count(),
-                line: lines.into_line(),
-                reply: reply.text,
+                number: script.lines.count(),
+                line: script.lines.into_line(),
+                reply,
             }));
         }
     }
-    Ok(())
+    if !script.lines.cut_last() {
+        return Ok(());
+    }
+    play_last_strictly(alloc, script.lines, writer, core)
+}
+
+// Carries out the lines that were read, until enough replies are gathered, or up to the first that
+// did not do what it asks for, and answers the reply to that.
+fn answer_strictly(
+    alloc: Global,
+    script: &mut Script,
+    core: &mut Core,
+) -> Result<Option<String>, PlayFault>
+    requires { script.old.replies.items ≡ [] }
+    ensures ok { IfOk result (λ failed. MatchOption failed
+        (Gathers AnswersStrictly (uncut script.old.lines) (uncut script.new.lines) (cut_count script.old.lines) (cut_count script.new.lines) script.new.replies.items core.old.state core.new.state)
+        (λ reply. FailsGathering (uncut script.old.lines) (cut_count script.old.lines) (cut_count script.new.lines) (cut_line script.new.lines) (string_bytes reply) script.new.replies.items core.old.state core.new.state)) }
+    ensures fault { IfErr result (λ fault. StopsGathering AnswersStrictly fault (uncut script.old.lines) script.new.replies.items core.old.state core.new.state) }
+    ensures less { OnOk result (0 < unscanned script.old.lines → to_read script.new.lines < to_read script.old.lines) }
+{
+    while script.may_gather() && script.lines.cut()? {
+        let reply = strict_reply_to(alloc, script.lines.line(), core)?;
+        script.gather(reply.text.as_bytes())?;
+        if !reply.goes_on {
+            return Ok(Some(reply.text));
+        }
+    }
+    Ok(None)
+}
+
+// Carries out the last line, and writes its reply.
+fn play_last_strictly<W: Write>(
+    alloc: Global,
+    lines: ScriptLines,
+    writer: &mut W,
+    core: &mut Core,
+) -> Result<(), StrictFault>
+    ensures ok { OnOk result ((text : List ℕ) × AnswersStrictly true core.old.state (cut_line lines) text core.new.state × Appends (W.contents writer.old) (W.contents writer.new) text) }
+    ensures fault { IfErr result (λ fault. StopsLastStrictly fault (cut_count lines) (cut_line lines) (W.contents writer.old) (W.contents writer.new) core.old.state core.new.state) }
+{
+    let reply = strict_reply_to(alloc, lines.line(), core)?;
+    write_out(writer, reply.text.as_bytes())?;
+    if reply.goes_on {
+        return Ok(());
+    }
+    Err(StrictFault::Line(FailedLine {
+        number: lines.count(),
+        line: lines.into_line(),
+        reply: reply.text,
+    }))
 }

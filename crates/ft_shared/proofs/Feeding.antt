@@ -47,6 +47,32 @@ told_more told fed held more long = ⊎_elim (λ (e : told ≡ fed). absurd (ome
 pub nothing-first : {A : Type 0} (all xs : List A) → xs ≡ [] → IsPrefix xs all
 nothing-first all xs e = (all, ap (λ l. l ++ all) e)
 
+-- where nothing was given, both copies are the base
+pub nothing_given : (opened : Views) (shows : Calls → Type 0) (book : Book) (shown first : Shown) (behind : ℕ) (log : List Published) (fed told : Fronted) (commits : GoneOver)
+    → book ≡ opened.book → told.book ≡ opened.book → told.calls ≡ [] → fed ≡ told → first ≡ record { tree = opened.base; front = told } → shows []
+    → shown ≡ first → drop behind log ≡ [] → commits.given ≡ [] → IsPublishing opened shows book shown behind log fed told None commits
+nothing_given opened shows book shown first behind log fed told commits book_is told_is empty fed_is first_is whole shown_is pending given =
+    let base : shown ≡ record { tree = opened.base; front = told } = shown_is ∙ first_is in
+    let calls : shown.front.calls ≡ [] = ap (λ (s : Shown). s.front.calls) base ∙ empty in
+    let fed_calls : fed.calls ≡ [] = ap (λ (f : Fronted). f.calls) fed_is ∙ empty in
+    let now : ahead shown behind log ≡ shown = ap (fold step shown) pending in
+    let replay : IsReplayOf opened shown = record {
+      book = ap (λ (s : Shown). s.front.book) base ∙ told_is;
+      tree = ap (λ (s : Shown). s.tree) base ∙ sym (ap (replayed opened.base) calls);
+    } in
+    record {
+      of_book = book_is;
+      fed_of = ap (λ (f : Fronted). f.book) fed_is ∙ told_is;
+      told_of = told_is;
+      view = record { replay = replay; whole = subst shows (sym calls) whole };
+      next = subst (λ (s : Shown). IsReplayOf opened s) (sym now) replay;
+      pending = ap (λ (s : Shown). s.front.calls) now ∙ (calls ∙ sym fed_calls);
+      shorter = nothing-first fed.calls shown.front.calls calls;
+      more = inl (ap (λ (f : Fronted). f.calls) (sym fed_is));
+      given = given ∙ sym (ap (λ (l : Calls). l ++ []) fed_calls);
+      stands = nothing-first (committed_in commits.events) commits.given given;
+    }
+
 -- what is shown has committed
 pub stands_by : (opened : Views) (shows : Calls → Type 0) (book : Book) (shown : Shown) (behind : ℕ) (log : List Published) (fed told : Fronted) (held : Option StampedCall) (commits : GoneOver)
     → IsPublishing opened shows book shown behind log fed told held commits → IsPrefix shown.front.calls (committed_in commits.events)

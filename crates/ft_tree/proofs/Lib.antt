@@ -1,5 +1,7 @@
 pub mod Reading
 pub mod Following
+pub mod Fronting
+pub mod Learning
 pub mod TidyRows
 pub mod Fresh
 pub mod Swept

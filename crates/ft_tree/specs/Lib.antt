@@ -4,3 +4,4 @@ pub mod Walk
 pub mod Tidy
 pub mod Sound
 pub mod Sweep
+pub mod Fronts

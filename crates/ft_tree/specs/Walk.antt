@@ -117,10 +117,14 @@ abbrev pub walk_on : ℕ → Bool → ℕ → List (List ℕ) → Bool → Looks
 walk_on zero follow dir names slash = then (leg dir names follow slash) (λ end. Answer (ended end))
 walk_on (suc left) follow dir names slash = then (leg dir names follow slash) (onward (walk_on left follow) slash)
 
--- the walk of a path's components, from the root: it follows 40 links at most ({SYMLOOP_MAX}), and
--- the last component where the call says so
+-- the walk of components from a directory on: it follows 40 links at most ({SYMLOOP_MAX}), and the
+-- last component where the call says so
+abbrev pub walk_from : Bool → ℕ → List (List ℕ) → Bool → Looks (Result Spot Errno)
+walk_from follow dir names slash = walk_on MOST_FOLLOWED follow dir names slash
+
+-- the walk of a path's components, from the root
 abbrev pub walk : Bool → List (List ℕ) → Bool → Looks (Result Spot Errno)
-walk follow names slash = walk_on MOST_FOLLOWED follow 1 names slash
+walk follow names slash = walk_from follow 1 names slash
 
 -- a place with the number that stands there, or a whole directory
 abbrev pub found_at : Spot → Found

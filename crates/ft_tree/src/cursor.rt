@@ -167,6 +167,16 @@ impl HintedFile {
         HintedFile { number, near: None }
     }
 
+    /// Another one like it.
+    pub fn again(&self) -> HintedFile
+        ensures { result ≡ self.now }
+    {
+        HintedFile {
+            number: self.number,
+            near: self.near,
+        }
+    }
+
     /// The number.
     pub fn number(&self) -> u64
         ensures { result ≡ self.now }

@@ -8,17 +8,19 @@
 #![tactic(auto)]
 
 mod cursor;
+mod front;
 mod keeps;
 mod reader;
 mod rows;
 mod tree;
 
 pub use cursor::{Cursor, HintedFile};
+pub use front::Front;
 pub use ft_cells::{
     AccessMode, Attributes, Cell, Entry, EntryRef, Form, Found, Kind, MOST_MODE, MOST_NANOSECONDS,
     Node, OpenFile, Rare, Spot, Timestamp, TreeLimits, TreeRow,
 };
 pub use ft_inodes::FileUndo;
 pub use keeps::Keeps;
-pub use reader::{Halt, MOST_FOLLOWED, Reader, Way, walk};
+pub use reader::{Halt, MOST_FOLLOWED, Reader, Route, Way, walk, walk_from};
 pub use tree::{ROOT, Tree};

@@ -5,7 +5,7 @@ ghost use Rattle.ft_cells.specs.declared.cell.Cell.TheVariants.{Entry as EntryCe
 ghost use Rattle.ft_cells.specs.Cells.{entry_of, parent_of, bytes_of};
 ghost use Rattle.ft_cells.specs.Looks.{answer, looked_at, all_noted};
 ghost use Rattle.ft_tree.specs.Views.{view_of};
-ghost use Rattle.ft_tree.specs.Walk.{Meets, up, inner, last, halted, leg, leg_in, start_of, slash_after, way_behind, onward, walk_on, walk};
+ghost use Rattle.ft_tree.specs.Walk.{Meets, up, inner, last, halted, leg, leg_in, start_of, slash_after, way_behind, onward, walk_on, walk_from, walk};
 
 use crate::tree::ROOT;
 use ft_base::Memory;
@@ -33,10 +33,10 @@ pub struct Way {
 
 /// Components that are walked from a directory, and whether a slash is behind them.
 #[derive(Clone, Copy)]
-struct Route<'a> {
-    start: u64,
-    names: &'a [Name],
-    slash: bool,
+pub struct Route<'a> {
+    pub start: u64,
+    pub names: &'a [Name],
+    pub slash: bool,
 }
 
 /// Which symbolic links a walk follows: how many more at most, and whether one to which the last
@@ -118,6 +118,19 @@ pub fn walk<R: Reader>(
         names,
         slash,
     };
+    walk_from(alloc, reader, follow, route)
+}
+
+/// Where components lead from a directory on, as `walk` leads from the root.
+pub fn walk_from<R: Reader>(
+    alloc: Global,
+    reader: &mut R,
+    follow: bool,
+    route: Route<'_>,
+) -> Result<Result<Spot, Errno>, Memory>
+    ensures end { IfOk result (λ end. end ≡ answer (walk_from follow route.entry.start route.entry.names.now route.entry.slash) (view_of (R.cells reader.old))) }
+    ensures noted { OnOk result (reader.new ≡ all_noted R.noted reader.old (looked_at (walk_from follow route.entry.start route.entry.names.now route.entry.slash) (view_of (R.cells reader.old)))) }
+{
     let links = Following {
         left: MOST_FOLLOWED,
         last: follow,

@@ -58,6 +58,8 @@ pub struct Tree {
     near: Hint,
     /// Where the directory stands of which an entry was changed last.
     home: Hint,
+    /// What the hashes of names are mixed with.
+    seed: u64,
 }
 
 impl Drop for Tree {
@@ -69,6 +71,7 @@ impl Drop for Tree {
             opens: _,
             near: _,
             home: _,
+            seed: _,
         } = self;
     }
 }
@@ -115,7 +118,17 @@ impl Tree {
             opens: Descriptions::new(alloc),
             near,
             home: near,
+            seed: 0,
         })
+    }
+
+    /// Mixes a number into the hashes by which names are found, so that whoever can't guess it can't
+    /// choose names that collide. It is to be set before the first entry is: a directory that has
+    /// many keeps the number that it found. Nothing is seen of it. Until one is set it is 0.
+    pub fn seed(&mut self, seed: u64)
+        ensures { self.new ≡ self.old }
+    {
+        self.seed = seed;
     }
 
     /// What the tree allows.
@@ -276,7 +289,7 @@ impl Tree {
         let leads = self.hint_to(to, self.near);
         self.home = self.inodes.hint_of(Node::Dir(dir), self.home);
         match self.inodes.directory_mut(dir, self.home) {
-            Some(directory) => directory.set_entry(name, to, leads),
+            Some(directory) => directory.set_entry(name, to, leads, self.seed),
             None => unreachable!(),
         }
     }
@@ -666,6 +679,7 @@ impl Tree {
             opens,
             near: self.near,
             home: self.home,
+            seed: self.seed,
         })
     }
 

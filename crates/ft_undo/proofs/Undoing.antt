@@ -1,13 +1,16 @@
 -- Edits that are made one after the other can be taken back.
-use Rattle.std.proofs.Common.{◌≡◌, ℕ, false, List, [], ◌∷◌, ◌++◌, map, Option, None, Some, IsSome, unwrap_or, refl, sym, ap, subst, ◌∙◌}
+use Rattle.std.proofs.Common.{◌≡◌, ℕ, suc, false, List, [], ◌∷◌, ◌++◌, length, map, drop, slice_get, Option, None, Some, is_some, IsSome, unwrap_or, inl, inr, refl, sym, ap, subst, ◌∙◌}
 use Rattle.std.specs.Option.{option_flatten, option_map}
 use Rattle.std.specs.FinMap.{get}
+use Rattle.std.proofs.Math.ListN.{drop_of_length-le}
+use Rattle.std.proofs.Math.Seq.{drop-cons}
 use Rattle.std.proofs.lemmas.Bool.{false≢true}
+use Rattle.std.proofs.lemmas.Option.{slice_get_within, slice_get_cases, get_or_from_slice_get}
 use Rattle.ft_cells.specs.declared.cell.Cell.{Cell}
 use Rattle.ft_cells.specs.declared.cell.Cell.TheVariants as cell
 use Rattle.std.specs.Cmp.{eq_by_cmp_equiv}
 use Rattle.ft_cells.specs.CellOrder.{cell_cmp_total, same_cell}
-use Rattle.ft_cells.specs.Cells.{Cells, DirCells, FileCells, no_dir, no_file, entry_of, parent_of, links_of, contents_of, open_of, dir_attributes_of, file_attributes_of}
+use Rattle.ft_cells.specs.Cells.{Cells, DirCells, FileCells, Contents, ContentsChange, no_dir, no_file, entry_of, parent_of, links_of, contents_of, open_of, dir_attributes_of, file_attributes_of, put_contents, HasFilePlace}
 use Rattle.ft_tree.specs.Held.{Holds, held, place_at, IsStored}
 use Rattle.ft_posix.specs.declared.intent.Edit.{Edit}
 use Rattle.ft_posix.specs.declared.intent.Edit.TheVariants.{Entry, Parent, Links, Overwrite, Resize, Open, DirAttributes, FileAttributes, Time}
@@ -258,6 +261,15 @@ module _ (setting : SettingLaw) (restoring : RestoringLaw) where
   restore-edit s (FileAttributes i to) can = restoring.again s (cell.FileAttributes i) to (file_attributes_of s i) (stored-there (λ (x : FileCells). x.attributes) no_file (get s.files i) can)
   restore-edit s (Time i to) can = restoring.again s (cell.Bytes i) _ (contents_of s i) (contents-there (get s.files i) can)
 
+  -- a change of a file's bytes leaves the file its place
+  pub placed-still : (old new : Cells) (i k : ℕ) (to : Contents) → HasFilePlace old i → new ≡ put_contents old i to → k ≡ i → HasFilePlace new k
+  placed-still old new i k to there set same = subst (HasFilePlace new) (sym same) (subst (λ (s : Cells). HasFilePlace s i) (sym set) (setting.stored old (cell.Bytes i) to there))
+
+  -- and gives the cells back as they were
+  pub changed-back : (old new : Cells) (i k : ℕ) (to : Contents) (undo : ContentsChange) → HasFilePlace old i → new ≡ put_contents old i to → k ≡ i → undo ≡ record { before = contents_of old i; after = contents_of new i } → put_contents new k undo.before ≡ old
+  changed-back old new i k to undo there set same is =
+      (λ j. put_contents (set j) (same j) (is j).before) ∙ restoring.again old (cell.Bytes i) to (contents_of old i) (contents-there (get old.files i) there)
+
   -- and all of them, the last one first
   pub restored-edited : (s : Cells) (es : List Edit) → CanEditAll s es → restored (edited s es) (backs_of s es) ≡ s
   restored-edited s [] can = refl
@@ -278,6 +290,10 @@ can-last (x ∷ xs) b s can =
     let rest = can-last xs b s can.0 in (rest.0, (rest.1, subst (λ (t : Cells). CanGiveBack t x) (restored-last xs b s) can.1))
 
 -- On the way through the edits.
+
+-- the edit at a place is the first of those from there on
+pub from-place : (es : List Edit) (k : ℕ) (e : Edit) → slice_get es k ≡ Some e → drop k es ≡ e ∷ drop (suc k) es
+from-place es k e is = drop-cons es k e (slice_get_within es k e is) ∙ ap (λ d. d ∷ drop (suc k) es) (get_or_from_slice_get es k e e is)
 
 -- some were made, and these are left
 pub record IsUnderWay (old : Cells) (all : List Edit) (now : Cells) (undo : List Back) (rest : List Edit) : Type 0 where
@@ -342,3 +358,32 @@ pub under-way-end : (old : Cells) (all : List Edit) (now : Cells) (undo : List B
 under-way-end old all now undo on =
     let all_made = sym (append-nil on.made) ∙ on.split in
     (on.cells ∙ ap (edited old) all_made, on.backs ∙ ap (backs_of old) all_made)
+
+-- The edits are gone through by their places.
+
+past-all : (es : List Edit) (k : ℕ) → slice_get es k ≡ None → drop k es ≡ []
+past-all es k none = elim (slice_get_cases es k).1 [
+  | inl here ↦ absurd (false≢true (ap is_some (sym none ∙ here.2)))
+  | inr past ↦ drop_of_length-le es past.0
+]
+
+pub one-longer : (bs : List Back) (b : Back) → suc (length bs) ≡ length (bs ++ b ∷ [])
+one-longer [] b = refl
+one-longer (x ∷ xs) b = ap suc (one-longer xs b)
+
+module _ (old : Cells) (all : List Edit) (now : Cells) (undo : List Back) (on : IsUnderWay old all now undo (drop (length undo) all)) where
+  next-is : (e : Edit) → slice_get all (length undo) ≡ Some e → IsUnderWay old all now undo (e ∷ drop (suc (length undo)) all)
+  next-is e is = subst (IsUnderWay old all now undo) (from-place all (length undo) e is) on
+
+  -- the next one can be made
+  pub next-can : (e : Edit) → slice_get all (length undo) ≡ Some e → CanEditAll old all → CanEdit now e
+  next-can e is can = under-way-can old all now undo e (drop (suc (length undo)) all) can (next-is e is)
+
+  -- and is made
+  pub next-made : (e : Edit) → slice_get all (length undo) ≡ Some e → (new : Cells) (more : List Back) → new ≡ put now (write_of now e) → more ≡ undo ++ back_of now e ∷ [] → IsUnderWay old all new more (drop (length more) all)
+  next-made e is new more cells backs =
+      subst (λ n. IsUnderWay old all new more (drop n all)) (one-longer undo (back_of now e) ∙ sym (ap length backs)) (under-way-on old all now undo e (drop (suc (length undo)) all) (next-is e is) new more cells backs)
+
+  -- where none is left all were made
+  pub none-left : slice_get all (length undo) ≡ None → (now ≡ edited old all) × (undo ≡ backs_of old all)
+  none-left none = under-way-end old all now undo (subst (IsUnderWay old all now undo) (past-all all (length undo) none) on)

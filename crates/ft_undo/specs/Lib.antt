@@ -1,3 +1,4 @@
+pub mod Was
 pub mod Undone
 pub mod Logs
 pub mod Logged

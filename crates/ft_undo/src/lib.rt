@@ -2,11 +2,15 @@
 #![tactic(auto)]
 
 mod action;
+mod bytes_undo;
+mod entry_was;
 mod logs;
 mod time_undo;
 mod undo;
 
 pub use action::perform;
+pub use bytes_undo::BytesUndo;
+pub use entry_was::EntryWas;
 pub use logs::{Logged, Logs};
 pub use time_undo::TimeUndo;
 pub use undo::{Back, Undo, apply, revert};

@@ -96,9 +96,8 @@ impl Logs {
         }
     }
 
-    /// Takes out the edits of a call that was looked at and makes them, and keeps what takes them
-    /// back as the newest of a transaction's list, in its place there. Each written cell has its
-    /// place then.
+    /// Makes the edits of a call that was looked at, and keeps what takes them back as the newest of
+    /// a transaction's list, in its place there. Each written cell has its place then.
     ///
     /// The one refusal is want of memory: what was done is taken back, and nothing has changed.
     pub fn apply(
@@ -107,13 +106,12 @@ impl Logs {
         txn: u64,
         stamp: u64,
         tree: &mut Tree,
-        edits: &mut Edits<'_>,
+        edits: &Edits<'_>,
     ) -> Result<(), Memory>
         requires open { is_open self.old txn ≡ true }
-        requires places { CanEditAll tree.old edits.old }
-        requires apart { Apart edits.old }
-        ensures made { OnOk result (IsLogged tree.old tree.new (writes_of tree.old edits.old) self.old self.new txn stamp) }
-        ensures taken { OnOk result (edits.new ≡ []) }
+        requires places { CanEditAll tree.old edits.now }
+        requires apart { Apart edits.now }
+        ensures made { OnOk result (IsLogged tree.old tree.new (writes_of tree.old edits.now) self.old self.new txn stamp) }
         ensures refused { OnErr result (tree.new ≡ tree.old) }
         ensures kept { OnErr result (AreLists self.new (list_in self.old)) }
         ensures opened { AreOpen self.new (is_open self.old) }

@@ -2,20 +2,20 @@
 ghost use Rattle.std.specs.Prelude.{◌≡◌, [], length, map, IfOk, OnOk, OnErr};
 ghost use Rattle.ft_posix.specs.Stored.{put, put_all};
 ghost use Rattle.ft_laws.specs.Effects.{before};
-ghost use Rattle.ft_cells.specs.Cells.{Cells, contents_of, timed, put_dir_attributes, put_file_attributes, put_contents, HasDirPlace, HasFilePlace};
-ghost use Rattle.ft_posix.specs.declared.intent.Edit.TheVariants.{DirAttributes, FileAttributes, Time};
+ghost use Rattle.ft_cells.specs.Cells.{Cells, contents_of, timed, put_entry, put_dir_attributes, put_file_attributes, put_contents, HasDirPlace, HasFilePlace};
+ghost use Rattle.ft_posix.specs.declared.intent.Edit.TheVariants.{Entry as EntryEdit, DirAttributes, FileAttributes, Time};
 ghost use Rattle.ft_posix.specs.Accesses.{written_cell};
 ghost use Rattle.ft_posix.specs.Posix.{posix};
 ghost use Rattle.ft_posix.specs.Comes.{write_of, writes_of};
 ghost use Rattle.ft_posix.specs.Edits.{CanEdit, CanEditAll, Apart};
 ghost use Rattle.ft_undo.specs.Undone.{back_of, given_back, restore, restored, CanGiveBack, CanGiveAllBack, CanRestoreAll, AreAsLeft, IsApplied};
 
+use crate::bytes_undo::BytesUndo;
+use crate::entry_was::EntryWas;
 use crate::time_undo::TimeUndo;
 use ft_base::Memory;
 use ft_calls::{Edit, Edits, Intent};
-use ft_tree::{
-    Attributes, Cell, Entry, FileUndo, HintedFile, Node, OpenFile, Rare, Timestamp, Tree,
-};
+use ft_tree::{Attributes, Cell, Entry, HintedFile, Node, OpenFile, Rare, Timestamp, Tree};
 use std::alloc::Global;
 use std::marker::Model;
 
@@ -25,7 +25,7 @@ pub enum Back {
     /// What an entry led to.
     Entry {
         entry: Entry,
-        was: Option<Option<Node>>,
+        was: EntryWas,
     },
     /// The directory that had a directory's entry.
     Parent {
@@ -40,7 +40,7 @@ pub enum Back {
     /// What a change of a file's bytes destroyed, with the time that they had.
     Bytes {
         file: u64,
-        undo: FileUndo,
+        undo: BytesUndo,
     },
     /// The open file description of a descriptor.
     Open {
@@ -92,15 +92,15 @@ impl Undo {
 
     /// Makes edits one after the other, and keeps what takes them back. Where memory is wanting,
     /// what was done is taken back, and nothing is kept.
-    pub(crate) fn fill(&mut self, tree: &mut Tree, edits: &mut Edits<'_>) -> Result<(), Memory>
+    pub(crate) fn fill(&mut self, tree: &mut Tree, edits: &Edits<'_>) -> Result<(), Memory>
         requires empty { self.old ≡ [] }
-        requires places { CanEditAll tree.old edits.old }
-        ensures applied { IsApplied tree.old edits.old tree.new self.new result }
-        ensures taken { OnOk result (edits.new ≡ []) }
+        requires places { CanEditAll tree.old edits.now }
+        ensures { IsApplied tree.old edits.now tree.new self.new result }
     {
-        self.items.reserve_exact(count(edits))?;
-        while let Some(edit) = edits.pop_front() {
-            match set(tree, edit) {
+        let alloc = *self.items.allocator();
+        self.items.reserve_exact(edits.len())?;
+        while let Some(edit) = edits.get(self.items.len()) {
+            match set(alloc, tree, edit) {
                 Ok(back) => self.items.push_reserved(back),
                 Err(memory) => {
                     unwind(tree, &mut self.items);
@@ -139,9 +139,8 @@ pub fn apply(alloc: Global, tree: &mut Tree, intent: Intent<'_>) -> Result<Undo,
     ensures can_take_back { IfOk result (λ undo. CanRestoreAll tree.new undo) }
     ensures taken_back { IfOk result (λ undo. restored tree.new undo ≡ tree.old) }
 {
-    let Intent { told: _, mut edits } = intent;
     let mut undo = Undo::new(alloc);
-    undo.fill(tree, &mut edits)?;
+    undo.fill(tree, &intent.edits)?;
     Ok(undo)
 }
 
@@ -158,92 +157,96 @@ pub fn revert(tree: &mut Tree, undo: Undo)
     }
 }
 
-/// How many edits there are.
-fn count(edits: &Edits<'_>) -> usize
-    ensures { result ≡ length edits.now }
-{
-    let items = edits.as_items();
-    if items.first().is_none() {
-        return 0;
-    }
-    if items.second().is_none() {
-        return 1;
-    }
-    2 + items.others().len()
-}
-
 /// Makes one edit, and answers what takes it back. Where memory is wanting nothing has changed.
-fn set(tree: &mut Tree, edit: Edit<'_>) -> Result<Back, Memory>
-    requires { CanEdit tree.old edit }
-    ensures after { OnOk result (tree.new ≡ put tree.old (write_of tree.old edit.entry)) }
-    ensures back { IfOk result (λ back. back ≡ back_of tree.old edit.entry) }
+fn set(alloc: Global, tree: &mut Tree, edit: &Edit<'_>) -> Result<Back, Memory>
+    requires { CanEdit tree.old edit.now }
+    ensures after { OnOk result (tree.new ≡ put tree.old (write_of tree.old edit.now)) }
+    ensures back { IfOk result (λ back. back ≡ back_of tree.old edit.now) }
     ensures err { OnErr result (tree.new ≡ tree.old) }
 {
     match edit {
-        Edit::Entry { entry, to } => {
-            let place = entry.clone()?;
-            let was = tree.set_entry(place, to)?;
-            Ok(Back::Entry { entry, was })
-        }
+        Edit::Entry { entry, to } => set_entry(tree, entry, *to),
         Edit::Parent { dir, to } => {
-            let was = tree.set_parent(dir, to)?;
-            Ok(Back::Parent { dir, was })
+            let was = tree.set_parent(*dir, *to)?;
+            Ok(Back::Parent { dir: *dir, was })
         }
         Edit::Links { file, to } => {
-            let was = tree.set_links(file, to)?;
-            Ok(Back::Links { file, was })
+            let was = tree.set_links(*file, *to)?;
+            Ok(Back::Links { file: *file, was })
         }
         Edit::Overwrite { file, at, bytes } => {
-            let number = file.number();
-            let (_, undo) = tree.write_bytes(file, at, bytes)?;
-            Ok(Back::Bytes { file: number, undo })
+            let undo = BytesUndo::write(alloc, tree, file, *at, bytes)?;
+            let file = file.number();
+            Ok(Back::Bytes { file, undo })
         }
         Edit::Resize { file, size } => {
-            let number = file.number();
-            let undo = tree.set_size(file, size)?;
-            Ok(Back::Bytes { file: number, undo })
+            let undo = BytesUndo::resize(alloc, tree, file, *size)?;
+            let file = file.number();
+            Ok(Back::Bytes { file, undo })
         }
         Edit::Open { fd, to } => {
-            let was = tree.set_open_file(fd, to)?;
-            Ok(Back::Open { fd, was })
+            let was = tree.set_open_file(*fd, *to)?;
+            Ok(Back::Open { fd: *fd, was })
         }
-        Edit::DirAttributes { dir, to } => Ok(set_dir_attributes(tree, dir, to)),
-        Edit::FileAttributes { file, to } => Ok(set_file_attributes(tree, file, to)),
-        Edit::Time { file, to } => Ok(set_time(tree, file, to)),
+        Edit::DirAttributes { dir, to } => set_dir_attributes(tree, *dir, to),
+        Edit::FileAttributes { file, to } => set_file_attributes(tree, file, to),
+        Edit::Time { file, to } => set_time(tree, file, to),
     }
 }
 
-/// Sets what is kept of a directory's attributes, and answers what takes that back. Takes no
-/// memory.
-fn set_dir_attributes(tree: &mut Tree, dir: u64, to: Rare<Attributes>) -> Back
+/// Sets what an entry leads to, and answers what takes that back. Where memory is wanting nothing
+/// has changed.
+fn set_entry(tree: &mut Tree, entry: &Entry, to: Option<Node>) -> Result<Back, Memory>
+    requires { HasDirPlace tree.old entry.now.dir }
+    ensures after { OnOk result (tree.new ≡ put_entry tree.old entry.now.dir entry.now.name to) }
+    ensures back { IfOk result (λ back. back ≡ back_of tree.old (EntryEdit entry.now to)) }
+    ensures err { OnErr result (tree.new ≡ tree.old) }
+{
+    let kept = entry.clone()?;
+    let was = EntryWas::new(tree.set_entry(entry.clone()?, to)?);
+    Ok(Back::Entry { entry: kept, was })
+}
+
+/// Sets what is kept of a directory's attributes, and answers what takes that back. Where memory is
+/// wanting nothing has changed.
+fn set_dir_attributes(tree: &mut Tree, dir: u64, to: &Rare<Attributes>) -> Result<Back, Memory>
     requires { HasDirPlace tree.old dir }
-    ensures after { tree.new ≡ put_dir_attributes tree.old dir to }
-    ensures back { result ≡ back_of tree.old (DirAttributes dir to) }
+    ensures after { OnOk result (tree.new ≡ put_dir_attributes tree.old dir to.now) }
+    ensures back { IfOk result (λ back. back ≡ back_of tree.old (DirAttributes dir to.now)) }
+    ensures err { OnErr result (tree.new ≡ tree.old) }
 {
-    let was = tree.set_dir_attributes(dir, to);
-    Back::DirAttributes { dir, was }
+    let was = tree.set_dir_attributes(dir, to.clone()?);
+    Ok(Back::DirAttributes { dir, was })
 }
 
-/// Sets what is kept of a file's attributes, and answers what takes that back. Takes no memory.
-fn set_file_attributes(tree: &mut Tree, file: HintedFile, to: Rare<Attributes>) -> Back
-    requires { HasFilePlace tree.old file }
-    ensures after { tree.new ≡ put_file_attributes tree.old file to }
-    ensures back { result ≡ back_of tree.old (FileAttributes file to) }
+/// Sets what is kept of a file's attributes, and answers what takes that back. Where memory is
+/// wanting nothing has changed.
+fn set_file_attributes(
+    tree: &mut Tree,
+    file: &HintedFile,
+    to: &Rare<Attributes>,
+) -> Result<Back, Memory>
+    requires { HasFilePlace tree.old file.now }
+    ensures after { OnOk result (tree.new ≡ put_file_attributes tree.old file.now to.now) }
+    ensures back { IfOk result (λ back. back ≡ back_of tree.old (FileAttributes file.now to.now)) }
+    ensures err { OnErr result (tree.new ≡ tree.old) }
 {
-    let number = file.number();
-    let was = tree.set_file_attributes(file, to);
-    Back::FileAttributes { file: number, was }
+    let was = tree.set_file_attributes(file.again(), to.clone()?);
+    let file = file.number();
+    Ok(Back::FileAttributes { file, was })
 }
 
-/// Sets the time of a file's bytes, and answers what takes that back. Takes no memory.
-fn set_time(tree: &mut Tree, file: HintedFile, to: Rare<Timestamp>) -> Back
-    requires { HasFilePlace tree.old file }
-    ensures after { tree.new ≡ put_contents tree.old file (timed (contents_of tree.old file) to) }
-    ensures back { result ≡ back_of tree.old (Time file to) }
+/// Sets the time of a file's bytes, and answers what takes that back. Where memory is wanting
+/// nothing has changed.
+fn set_time(tree: &mut Tree, file: &HintedFile, to: &Rare<Timestamp>) -> Result<Back, Memory>
+    requires { HasFilePlace tree.old file.now }
+    ensures after { OnOk result (tree.new ≡ put_contents tree.old file.now (timed (contents_of tree.old file.now) to.now)) }
+    ensures back { IfOk result (λ back. back ≡ back_of tree.old (Time file.now to.now)) }
+    ensures err { OnErr result (tree.new ≡ tree.old) }
 {
-    let number = file.number();
-    let undo = TimeUndo::set(tree, file, to);
-    Back::Time { file: number, undo }
+    let undo = TimeUndo::set(tree, file.again(), to.clone()?);
+    let file = file.number();
+    Ok(Back::Time { file, undo })
 }
 
 /// Takes back all that is kept, the last edit first, and keeps nothing. Takes no memory.
@@ -263,11 +266,11 @@ fn give_back(tree: &mut Tree, back: Back)
     ensures { tree.new ≡ put tree.old (given_back back) }
 {
     let is_refused = match back {
-        Back::Entry { entry, was } => tree.set_entry(entry, was.flatten()).is_err(),
+        Back::Entry { entry, was } => tree.set_entry(entry, was.get().flatten()).is_err(),
         Back::Parent { dir, was } => tree.set_parent(dir, was.flatten()).is_err(),
         Back::Links { file, was } => tree.set_links(file, was.unwrap_or(0)).is_err(),
         Back::Bytes { file, undo } => {
-            tree.undo_bytes(file, undo);
+            undo.take_back(tree, file);
             false
         }
         Back::Open { fd, was } => tree.set_open_file(fd, was.flatten()).is_err(),
@@ -295,7 +298,7 @@ fn restore(tree: &mut Tree, back: Back)
     ensures { tree.new ≡ restore tree.old back }
 {
     match back {
-        Back::Entry { entry, was } => match was {
+        Back::Entry { entry, was } => match was.get() {
             None => tree.drop_place(&Cell::Entry(entry)),
             Some(_) => give_back(tree, Back::Entry { entry, was }),
         },

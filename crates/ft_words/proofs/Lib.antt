@@ -5,3 +5,4 @@ pub mod LinkRows
 pub mod ModeTexts
 pub mod PercentCoding
 pub mod Reading
+pub mod SixteenBytes

@@ -1,6 +1,6 @@
 -- Bytes, percent-coded, and the bytes that words code.
-use Rattle.std.proofs.Common.{◌≡◌, ℕ, ◌<◌, false, cond, List, [], ◌∷◌, ◌++◌, IsAscii, All, refl, sym, ap, ◌∙◌, append-nil, arith}
-use Rattle.std.proofs.lemmas.Bool.{cond_both, eq-eqb, false≢true}
+use Rattle.std.proofs.Common.{◌≡◌, ℕ, zero, suc, ◌+◌, ◌<◌, ◌≤◌, false, true, cond, List, [], ◌∷◌, ◌++◌, length, get_or, take, IsAscii, All, refl, sym, ap, ◌∙◌, append-nil, append_assoc, arith}
+use Rattle.std.proofs.lemmas.Bool.{cond_both, eq-eqb, eqb-true, false≢true}
 use Rattle.std.proofs.lemmas.Bool.Decides.{nat_tests}
 use Rattle.std.proofs.lemmas.List.Concat.{flat_map-append}
 use Rattle.std.proofs.lemmas.List.Elements.{All-nil, All-cons, All-append, All-weaker}
@@ -9,7 +9,9 @@ use Rattle.std.specs.Prelude.{◌==◌}
 use Rattle.percent_encoding.specs.Percent.{percent_encode_byte, percent_decode}
 use Rattle.percent_encoding.proofs.PercentLemmas.{IsEscapeByte, All-percent_encode_byte, percent_decode_not_percent}
 use Rattle.ft_words.specs.Spelling.{IsFreeOf}
-use Rattle.ft_words.specs.Texts.{is_coded, coded}
+use Rattle.std.proofs.Math.Seq.{take-append-add}
+use Rattle.std.proofs.lemmas.List.{length-take-le, take-append-le}
+use Rattle.ft_words.specs.Texts.{coded, coded_byte, is_coded}
 use Rattle.ft_words.proofs.Bytes.{neither}
 
 abbrev IsLow : ℕ → Type 0
@@ -54,3 +56,37 @@ decode_done done rest all none whole = sym (append-nil done) ∙ ap (λ bytes. d
 -- the text of bytes in two pieces
 pub coded_cut : (bytes piece behind : List ℕ) → piece ++ behind ≡ bytes → coded piece ++ coded behind ≡ coded bytes
 coded_cut bytes piece behind whole = sym (flat_map-append _ piece behind) ∙ ap coded whole
+
+-- bytes that are printed as they are
+pub coded_printed : (bytes : List ℕ) (n : ℕ) → ((k : ℕ) → k < n → is_coded (get_or bytes k 0) ≡ false) → coded (take n bytes) ≡ take n bytes
+coded_printed [] zero h = refl
+coded_printed [] (suc n) h = refl
+coded_printed (b ∷ bs) zero h = refl
+coded_printed (b ∷ bs) (suc n) h =
+    ap (λ c. cond c (percent_encode_byte b) (b ∷ []) ++ coded (take n bs)) (h 0 (omega arith)) ∙ ap (λ bytes. b ∷ bytes) (coded_printed bs n (λ k below. h (suc k) (omega arith)))
+
+-- what was put behind the front of a place
+pub put_behind : (place sub tail : List ℕ) (end made : ℕ) → end ≤ length place → made ≤ length sub → take (end + made) (take end place ++ (sub ++ tail)) ≡ take end place ++ take made sub
+put_behind place sub tail end made within fits =
+    let long : end ≡ length (take end place) = sym (length-take-le end place within) in
+    ap (λ n. take (n + made) (take end place ++ (sub ++ tail))) long ∙ take-append-add (take end place) (sub ++ tail) made ∙ ap (λ bytes. take end place ++ bytes) (take-append-le made sub tail fits)
+
+-- the text of a front that is printed as it is, and of the byte behind it
+pub coded_next : (bytes front behind : List ℕ) (b : ℕ) → coded front ≡ front → front ++ b ∷ behind ≡ bytes → (front ++ coded_byte b) ++ coded behind ≡ coded bytes
+coded_next bytes front behind b printed whole =
+    append_assoc front (coded_byte b) (coded behind) ∙ ap (λ text. text ++ coded (b ∷ behind)) (sym printed) ∙ coded_cut bytes front (b ∷ behind) whole
+
+-- the bytes that a front without `%` codes, and the one behind it
+pub decoded_next : (word front rest behind : List ℕ) (b : ℕ) → IsFreeOf 37 front → front ++ rest ≡ word → percent_decode rest ≡ b ∷ percent_decode behind → (front ++ b ∷ []) ++ percent_decode behind ≡ percent_decode word
+decoded_next word front rest behind b free whole next =
+    append_assoc front (b ∷ []) (percent_decode behind) ∙ ap (λ bytes. front ++ bytes) (sym next) ∙ decode_cut word front rest free whole
+
+-- and what more of them is
+pub put_more : (place new tail text rest all : List ℕ) (end made : ℕ) → end ≤ length place → made ≤ length new → take made new ++ rest ≡ text → take end place ++ text ≡ all → take (end + made) (take end place ++ (new ++ tail)) ++ rest ≡ all
+put_more place new tail text rest all end made within fits more whole =
+    ap (λ bytes. bytes ++ rest) (put_behind place new tail end made within fits) ∙ append_assoc (take end place) (take made new) rest ∙ ap (λ bytes. take end place ++ bytes) more ∙ whole
+
+-- nothing is left
+pub none_left : (bytes : List ℕ) → true ≡ (length bytes == 0) → bytes ≡ []
+none_left [] h = refl
+none_left (b ∷ bs) h = absurd (omega (arith, eqb-true (length (b ∷ bs)) 0 (sym h)))

@@ -25,9 +25,13 @@ use Rattle.ft_words.specs.Modes.{attributes_text, time_text}
 abbrev pub is_coded : ℕ → Bool
 is_coded b = nat_le b 32 || (b == 37) || nat_le 127 b
 
--- the bytes so printed, any other byte as itself
+-- a byte so printed, any other byte as itself
+abbrev pub coded_byte : ℕ → List ℕ
+coded_byte b = if is_coded b then percent_encode_byte b else b ∷ []
+
+-- all of some bytes
 abbrev pub coded : List ℕ → List ℕ
-coded bytes = flat_map (λ b. if is_coded b then percent_encode_byte b else b ∷ []) bytes
+coded bytes = flat_map coded_byte bytes
 
 -- a name after a space; behind a directory's a slash, and behind a symbolic link's `@`
 abbrev pub listed : List ℕ → Kind → List ℕ

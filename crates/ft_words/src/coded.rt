@@ -1,10 +1,11 @@
 // Percent-coded words.
-ghost use Rattle.std.specs.Prelude.{◌≡◌, ◌<◌, ◌≤◌, ◌∷◌, [], length, take, IfOk, MatchOption, Some, None, if◌then◌else◌};
+ghost use Rattle.std.specs.Prelude.{◌≡◌, ◌+◌, ◌<◌, ◌≤◌, ◌∷◌, ◌++◌, [], length, take, IfOk, MatchOption, Some, None, if◌then◌else◌};
 ghost use Rattle.percent_encoding.specs.Percent.{percent_decode, SplitsEscape};
 ghost use Rattle.ft_path.specs.Name.{has_nul};
 ghost use Rattle.ft_words.specs.Calls.{Reads};
 ghost use Rattle.ft_words.specs.Spelling.{IsFreeOf, path_of, data_of};
 
+use crate::lanes::put_plain;
 use crate::unread::Unread;
 use bstr::ByteSlice;
 use ft_base::Sequence;
@@ -38,15 +39,46 @@ fn path(alloc: Global, bytes: &[u8]) -> Result<FilePath, Unread>
 pub fn data_of(alloc: Global, word: &[u8]) -> Result<Sequence<u8>, Unread>
     ensures { Reads result (data_of word.now) }
 {
-    let (front, behind) = word.split_at(front_len(word));
-    let mut bytes = Vec::with_capacity(alloc, word.len())?;
-    bytes.extend_from_slice(front)?;
-    let mut rest = behind;
-    while let Some((byte, behind)) = split_coded(rest) {
-        bytes.push_reserved(byte);
+    let mut bytes = vec![in alloc; 0; word.len()]?;
+    let end = put_decoded(word, bytes.as_mut_slice());
+    bytes.truncate(end);
+    Ok(bytes.into())
+}
+
+// Puts the bytes that a word codes at the front of a place, and tells how many they are.
+fn put_decoded(word: &[u8], place: &mut [u8]) -> usize
+    requires { length word.now ≤ length place.old }
+    ensures len { length place.new ≡ length place.old }
+    ensures bytes { take result place.new ≡ percent_decode word.now }
+{
+    let mut end = 0;
+    let mut rest = word;
+    while !rest.is_empty() {
+        let (made, behind) = put_next(rest, &mut place[end..]);
+        end += made;
         rest = behind;
     }
-    Ok(bytes.into())
+    end
+}
+
+// Puts what the front of a word codes: up to sixteen bytes that stand before a `%`, and what is
+// coded next. Tells how many bytes that makes, and what is left of the word.
+fn put_next<'a>(word: &'a [u8], place: &mut [u8]) -> (usize, &'a [u8])
+    requires some { 0 < length word.now }
+    requires room { length word.now ≤ length place.old }
+    ensures bytes { take result.0 place.new ++ percent_decode result.1.now ≡ percent_decode word.now }
+    ensures fewer { length result.1.now < length word.now }
+    ensures room { result.0 + length result.1.now ≤ length word.now }
+    ensures len { length place.new ≡ length place.old }
+{
+    let plain = put_plain(word, place);
+    match split_coded(&word[plain..]) {
+        None => (plain, &word[plain..]),
+        Some((byte, behind)) => {
+            place[plain] = byte;
+            (plain + 1, behind)
+        }
+    }
 }
 
 // How many bytes of a word stand before the first `%`.

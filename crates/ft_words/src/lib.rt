@@ -8,6 +8,7 @@ mod calls;
 mod coded;
 mod coding;
 mod flags;
+mod lanes;
 mod lines;
 mod modes;
 mod numbers;

@@ -35,4 +35,4 @@ pub use told::Told;
 pub use transactions::{
     nuz_abort, nuz_begin, nuz_checkpoint, nuz_commit, nuz_drop, nuz_retry, nuz_sub, nuz_undo,
 };
-pub use trees::{nuz_tree_close, nuz_tree_open, nuz_tree_open_with};
+pub use trees::{nuz_tree_close, nuz_tree_open, nuz_tree_open_with, nuz_tree_seed};

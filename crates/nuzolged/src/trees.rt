@@ -37,6 +37,19 @@ pub extern "C" fn nuz_tree_open_with(
     open(alloc, tree, rule, limits_given(limits))
 }
 
+/// Mixes a number into the hashes by which the tree finds names, as `Core::seed` says. A closed
+/// handle stays so.
+#[unsafe(no_mangle)]
+pub extern "C" fn nuz_tree_seed(alloc: Global, tree: &mut Handle, seed: u64)
+    ensures { tree.new.session ≡ tree.old.session }
+{
+    if let Some(session) = tree.take(alloc) {
+        let mut session = session;
+        session.core.seed(seed);
+        tree.put(session);
+    }
+}
+
 /// Ends the tree, if the handle holds one, with all its transactions.
 #[unsafe(no_mangle)]
 pub extern "C" fn nuz_tree_close(alloc: Global, tree: &mut Handle)

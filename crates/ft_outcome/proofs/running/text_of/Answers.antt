@@ -1,7 +1,7 @@
 use Rattle.std.proofs.Common.{List, ◌∙◌, ap}
 use Rattle.ft_plan.specs.declared.job.Job.{Job}
 use Rattle.ft_outcome.specs.Runs.{text_of_outcome}
-use Rattle.ft_outcome.proofs.Unrun.{no_bad_plan}
+use Rattle.ft_outcome.proofs.Unrun.{bad_before, no_bad_plan}
 use Rattle.ft_outcome.proofs.running.text_of.Goals as goal
 
 pub returns-clause-ok : goal.returns-clause-ok
@@ -18,3 +18,6 @@ returns-clause-ok g c =
 
 pub returns-in_err-told-clause-bad_plan : goal.returns-in_err-told-clause-bad_plan
 returns-in_err-told-clause-bad_plan g c = λ is jobs plan. no_bad_plan c.from_residual-in_err-told.result c.from_residual-in_err-told.ensures is
+
+pub returns-in_err-plan-clause-bad_plan : goal.returns-in_err-plan-clause-bad_plan
+returns-in_err-plan-clause-bad_plan g c = λ is jobs plan. c.in_err-plan.ensures.bad_plan (bad_before c.from_residual.result c.in_err-plan.field-0.0 c.from_residual.ensures is) jobs plan

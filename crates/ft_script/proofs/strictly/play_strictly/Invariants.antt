@@ -1,16 +1,15 @@
-use Rattle.std.proofs.Common.{◌-◌, ◌*◌}
-use Rattle.ft_script.specs.declared.lines.TheConstants.{CHUNK}
-use Rattle.ft_script.specs.declared.playing.TheConstants.{MOST_READS}
-use Rattle.ft_script.specs.Reading.{cut_count, is_over, uncut}
+use Rattle.std.proofs.Common.{◌≡◌, []}
+use Rattle.ft_script.specs.Reading.{cut_count, to_read, uncut}
 use Rattle.ft_strict.specs.Strict.{AnswersStrictly}
 use Rattle.ft_script.proofs.Stopping.{Taken}
 use Rattle.ft_script.proofs.strictly.play_strictly.Given as goal
 
--- of what was read, the lines that were cut were taken
-abbrev pub invariant-loop-lines : goal.invariant-loop-lines
-invariant-loop-lines g l =
-    Taken AnswersStrictly (is_over l.lines) (g.R.Read.remaining l.initial.reader) (g.R.Read.remaining l.reader) (uncut l.lines) (cut_count l.lines)
+-- of what was read, the lines that were cut were taken, and their replies written
+abbrev pub invariant-loop-script : goal.invariant-loop-script
+invariant-loop-script g l =
+    Taken AnswersStrictly (g.R.Read.remaining l.initial.reader) (g.R.Read.remaining l.reader) (uncut l.script.lines) (cut_count l.script.lines)
     (g.W.Write.contents l.initial.writer) (g.W.Write.contents l.writer) l.initial.core.state l.core.state
+    × (l.script.replies.items ≡ [])
 
-abbrev pub decreases-loop-lines : goal.decreases-loop-lines
-decreases-loop-lines g l = CHUNK * MOST_READS - cut_count l.lines
+abbrev pub decreases-loop-script : goal.decreases-loop-script
+decreases-loop-script g l = to_read l.script.lines

@@ -1,10 +1,10 @@
-use Rattle.std.proofs.Common.{◌≡◌, ◌∙◌, ◌+◌, length, ap, arith}
-use borrow.Rule.Slice.PartMut.{mid_len}
-use Rattle.percent_encoding.specs.Percent.{percent_encode_byte}
+use Rattle.std.proofs.Common.{arith}
+use Rattle.ft_words.specs.Texts.{coded}
+use Rattle.ft_words.proofs.PercentCoding.{put_more}
 use Rattle.ft_words.proofs.coding.put_coded.Goals as goal
 
-pub copy_from_slice-requires : goal.copy_from_slice-requires
-unfolding percent_encode_byte
-copy_from_slice-requires c =
-    let three : length c.as_bytes.result.now ≡ 3 = ap length (c.as_bytes.ensures.value ∙ c.percent_encode_byte.ensures) in
-    omega (arith, three, mid_len c.loop-byte.end (c.loop-byte.end + 3) c.loop-byte.place (omega arith))
+pub loop-rest-preserved : goal.loop-rest-preserved
+loop-rest-preserved c = record {
+  text = put_more c.loop-rest.place c.put_next-made.new.place _ (coded c.loop-rest.rest.now) (coded c.put_next-made.result.1.now) (coded c.args.bytes.now) c.loop-rest.end c.put_next-made.result.0 (omega arith) (omega arith) c.put_next-made.ensures.text c.loop-rest.invariant.text;
+  room = omega (arith, c.loop-rest.invariant.room, c.put_next-made.ensures.room);
+}

@@ -1,4 +1,4 @@
-use Rattle.std.proofs.Common.{◌≡◌, Some, refl, sym, ap, subst, ◌∙◌}
+use Rattle.std.proofs.Common.{◌≡◌, true, Some, IsSome, refl, sym, ap, subst, ◌∙◌}
 use Rattle.std.specs.FinMap as finite
 use Rattle.ft_moss.specs.Rules.{is_strict}
 use Rattle.ft_core.specs.States.{State, fate_of, has_most_calls, accesses_now, after_wait}
@@ -26,18 +26,18 @@ pub try_call-requires-clause-no_holder : goal.try_call-requires-clause-no_holder
 try_call-requires-clause-no_holder c strict = c.self.invariant.no_holder (sym (ap is_strict (c.rule-rule.ensures)) ∙ strict)
 
 pub invariant_of-self : goal.invariant_of-self
-invariant_of-self c = core-unmade call_laws lock_laws c.self.inside.parts c.self.inside.journal c.self.invariant c.try_call.new.self c.self.inside.journal c.in_err-reply.ensures.unmade refl
+invariant_of-self c = core-unmade call_laws lock_laws c.self.inside.parts c.self.inside.journal c.self.invariant c.try_call.new.self c.self.inside.journal c.in_err-try_call.ensures.unmade refl
 
 pub invariant_of-self-in-Made : goal.invariant_of-self-in-Made
 invariant_of-self-in-Made c =
     let i = c.self.inside in
     let call = c.wanted-call.result.now in
     let stamp = c.next_stamp-stamp.ensures in
-    let tried = subst (λ r. IsTried r i.parts c.try_call.new.self c.args.txn c.next_stamp-stamp.result call c.in_ok-reply.field-0) c.rule-rule.ensures c.in_ok-reply.ensures.tried in
-    let made = subst (IsTried i.journal.rule i.parts c.try_call.new.self c.args.txn c.next_stamp-stamp.result call) c.in-Made.is tried in
+    let tried = subst (λ r. IsTried r i.parts c.try_call.new.self c.args.txn c.next_stamp-stamp.result call c.try_call.new.made c.in_ok-try_call.field-0) c.rule-rule.ensures c.in_ok-try_call.ensures.tried in
+    let made = subst (IsTried i.journal.rule i.parts c.try_call.new.self c.args.txn c.next_stamp-stamp.result call c.try_call.new.made) c.in-Made.is tried in
     let few = full-same call_laws lock_laws i.parts i.journal c.self.invariant ∙ ap has_most_calls (state-is c.self.view_is) ∙ c.requires.few in
-    let told = tried-made call_laws lock_laws i.parts i.journal c.self.invariant c.args.self.now.state (state-is c.self.view_is) c.args.txn call c.requires.live few c.next_stamp-stamp.result stamp c.try_call.new.self c.in-Made.field-0 made
-    c.grant-call.new.self (c.grant-call.ensures.told call c.wanted-call.ensures ∙ ap (with_call i.journal c.args.txn call c.in-Made.field-0.reply) c.as_slice.ensures.value) in
+    let told = tried-made call_laws lock_laws i.parts i.journal c.self.invariant c.args.self.now.state (state-is c.self.view_is) c.args.txn call c.requires.live few c.next_stamp-stamp.result stamp c.try_call.new.self c.try_call.new.made made
+    c.grant-pending.new.self (c.grant-pending.ensures.told call c.wanted-call.ensures ∙ ap (with_call i.journal c.args.txn call c.try_call.new.made.reply) c.as_slice.ensures.value) in
     told.0
 
 pub returns-in-Made-clause-asked : goal.returns-in-Made-clause-asked
@@ -45,17 +45,17 @@ returns-in-Made-clause-asked c =
     let i = c.self.inside in
     let call = c.wanted-call.result.now in
     let stamp = c.next_stamp-stamp.ensures in
-    let tried = subst (λ r. IsTried r i.parts c.try_call.new.self c.args.txn c.next_stamp-stamp.result call c.in_ok-reply.field-0) c.rule-rule.ensures c.in_ok-reply.ensures.tried in
-    let made = subst (IsTried i.journal.rule i.parts c.try_call.new.self c.args.txn c.next_stamp-stamp.result call) c.in-Made.is tried in
+    let tried = subst (λ r. IsTried r i.parts c.try_call.new.self c.args.txn c.next_stamp-stamp.result call c.try_call.new.made c.in_ok-try_call.field-0) c.rule-rule.ensures c.in_ok-try_call.ensures.tried in
+    let made = subst (IsTried i.journal.rule i.parts c.try_call.new.self c.args.txn c.next_stamp-stamp.result call c.try_call.new.made) c.in-Made.is tried in
     let few = full-same call_laws lock_laws i.parts i.journal c.self.invariant ∙ ap has_most_calls (state-is c.self.view_is) ∙ c.requires.few in
-    let told = tried-made call_laws lock_laws i.parts i.journal c.self.invariant c.args.self.now.state (state-is c.self.view_is) c.args.txn call c.requires.live few c.next_stamp-stamp.result stamp c.try_call.new.self c.in-Made.field-0 made
-    c.grant-call.new.self (c.grant-call.ensures.told call c.wanted-call.ensures ∙ ap (with_call i.journal c.args.txn call c.in-Made.field-0.reply) c.as_slice.ensures.value) in (
+    let told = tried-made call_laws lock_laws i.parts i.journal c.self.invariant c.args.self.now.state (state-is c.self.view_is) c.args.txn call c.requires.live few c.next_stamp-stamp.result stamp c.try_call.new.self c.try_call.new.made made
+    c.grant-pending.new.self (c.grant-pending.ensures.told call c.wanted-call.ensures ∙ ap (with_call i.journal c.args.txn call c.try_call.new.made.reply) c.as_slice.ensures.value) in (
       call,
       ap (λ (q : State). asked_for c.args.asked (finite.get q.asks c.args.txn)) (sym (state-is c.self.view_is)) ∙ c.wanted-call.ensures,
       told.1,
       (
-        one (sym c.grant-call.ensures.call ∙ c.wanted-call.ensures),
-        subst (IsTwice c.args.twice) c.in-Made.is c.in_ok-reply.ensures.twice,
+        one (sym c.asked_or.ensures ∙ ap (asked_for c.args.asked) c.grant-pending.ensures.pending ∙ c.wanted-call.ensures),
+        subst (IsTwice true c.try_call.new.made) c.in-Made.is c.in_ok-try_call.ensures.twice,
         made.accesses ∙ ap (λ n. accesses_of i.parts.tree n call) stamp ∙ touched-now call_laws lock_laws i.parts i.journal c.self.invariant call ∙ ap (λ (q : State). accesses_now q call) (state-is c.self.view_is),
       ),
     )
@@ -64,17 +64,17 @@ pub invariant_of-self-in_err-wait-in-Blocked : goal.invariant_of-self-in_err-wai
 invariant_of-self-in_err-wait-in-Blocked c =
     let i = c.self.inside in
     let call = c.wanted-call.result.now in
-    let tried = subst (λ r. IsTried r i.parts c.try_call.new.self c.args.txn c.next_stamp-stamp.result call c.in_ok-reply.field-0) c.rule-rule.ensures c.in_ok-reply.ensures.tried in
-    let blocked = subst (IsTried i.journal.rule i.parts c.try_call.new.self c.args.txn c.next_stamp-stamp.result call) c.in-Blocked.is tried in
+    let tried = subst (λ r. IsTried r i.parts c.try_call.new.self c.args.txn c.next_stamp-stamp.result call c.try_call.new.made c.in_ok-try_call.field-0) c.rule-rule.ensures c.in_ok-try_call.ensures.tried in
+    let blocked = subst (IsTried i.journal.rule i.parts c.try_call.new.self c.args.txn c.next_stamp-stamp.result call c.try_call.new.made) c.in-Blocked.is tried in
     core-unmade call_laws lock_laws i.parts i.journal c.self.invariant c.try_call.new.self c.wait.new.self blocked.unmade
     c.in_err-wait-in-Blocked.ensures.err
 
-pub invariant_of-self-in-Blocked : goal.invariant_of-self-in-Blocked
-invariant_of-self-in-Blocked c =
+pub invariant_of-self-in-Blocked-1 : goal.invariant_of-self-in-Blocked-1
+invariant_of-self-in-Blocked-1 c =
     let i = c.self.inside in
     let call = c.wanted-call.result.now in
-    let tried = subst (λ r. IsTried r i.parts c.try_call.new.self c.args.txn c.next_stamp-stamp.result call c.in_ok-reply.field-0) c.rule-rule.ensures c.in_ok-reply.ensures.tried in
-    let blocked = subst (IsTried i.journal.rule i.parts c.try_call.new.self c.args.txn c.next_stamp-stamp.result call) c.in-Blocked.is tried in
+    let tried = subst (λ r. IsTried r i.parts c.try_call.new.self c.args.txn c.next_stamp-stamp.result call c.try_call.new.made c.in_ok-try_call.field-0) c.rule-rule.ensures c.in_ok-try_call.ensures.tried in
+    let blocked = subst (IsTried i.journal.rule i.parts c.try_call.new.self c.args.txn c.next_stamp-stamp.result call c.try_call.new.made) c.in-Blocked.is tried in
     let live = (λ x. fate_of (state_of (blocked.unmade.forest x) i.journal) c.args.txn) ∙ ap (λ (q : State). fate_of q c.args.txn) (state-is c.self.view_is) ∙ c.requires.live in
     core-waits call_laws lock_laws c.try_call.new.self i.journal (core-unmade call_laws lock_laws i.parts i.journal c.self.invariant c.try_call.new.self i.journal blocked.unmade refl) c.args.txn c.args.asked live
     c.wait.new.self c.in_ok-wait-in-Blocked.ensures.ok
@@ -84,8 +84,8 @@ returns-in_ok-wait-in-Blocked-clause-asked c =
     let i = c.self.inside in
     let call = c.wanted-call.result.now in
     let stamp = c.next_stamp-stamp.ensures in
-    let tried = subst (λ r. IsTried r i.parts c.try_call.new.self c.args.txn c.next_stamp-stamp.result call c.in_ok-reply.field-0) c.rule-rule.ensures c.in_ok-reply.ensures.tried in
-    let blocked = subst (IsTried i.journal.rule i.parts c.try_call.new.self c.args.txn c.next_stamp-stamp.result call) c.in-Blocked.is tried in
+    let tried = subst (λ r. IsTried r i.parts c.try_call.new.self c.args.txn c.next_stamp-stamp.result call c.try_call.new.made c.in_ok-try_call.field-0) c.rule-rule.ensures c.in_ok-try_call.ensures.tried in
+    let blocked = subst (IsTried i.journal.rule i.parts c.try_call.new.self c.args.txn c.next_stamp-stamp.result call c.try_call.new.made) c.in-Blocked.is tried in
     let same : state_of c.try_call.new.self.forest i.journal ≡ c.args.self.now.state = (λ x. state_of (blocked.unmade.forest x) i.journal) ∙ state-is c.self.view_is in (
       call,
       ap (λ (q : State). asked_for c.args.asked (finite.get q.asks c.args.txn)) (sym same) ∙ c.wanted-call.ensures,
@@ -96,3 +96,7 @@ returns-in_ok-wait-in-Blocked-clause-asked c =
       ),
       tt,
     )
+
+pub asked_or-requires : goal.asked_or-requires
+asked_or-requires c =
+    subst IsSome (ap (λ (q : State). asked_for c.args.asked (finite.get q.asks c.args.txn)) (sym (state-is c.self.view_is)) ∙ ap (asked_for c.args.asked) (sym c.grant-pending.ensures.pending)) c.requires.some

@@ -27,7 +27,7 @@ invariant_of-self c =
     let useless : (x : Cell) → is_useless i.parts.tree x ≡ false = subst (λ (v : StoredState). HasNoUselessPlace v.cells) (sym c.self.view_is) (c.sweep.ensures.none_left (subst NoneIsLive same none)) in
     core-restarted call_laws lock_laws i.parts i.journal c.self.invariant none useless
     c.restart.new.self c.restart.ensures i.parts.tree refl c.terms-terms.result.rule c.terms-terms.ensures.rule c.terms-terms.result.calls c.terms-terms.ensures.calls c.last_stamp-stamp.result c.last_stamp-stamp.ensures.stamp
-    c.new-2.result c.new-2.ensures c.new-3.result c.new-3.ensures.lists c.new.result c.new.ensures
+    c.no_locks.result c.no_locks.ensures c.new-2.result c.new-2.ensures.lists c.new.result c.new.ensures
 
 pub returns : goal.returns
 returns c =

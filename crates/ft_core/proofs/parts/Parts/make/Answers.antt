@@ -1,4 +1,4 @@
-use Rattle.std.proofs.Common.{◌-◌, length, drop, arith, refl, ap, subst, ◌∙◌}
+use Rattle.std.proofs.Common.{◌-◌, length, drop, arith, refl, subst}
 use Rattle.std.specs.Prelude.{slice_range}
 use Rattle.std.proofs.lemmas.List.{take_all, length-drop}
 use Rattle.ft_base.specs.Chains.{list_in}
@@ -12,9 +12,8 @@ use Rattle.ft_core.proofs.parts.Parts.make.Goals as goal
 pub returns-clause-made : goal.returns-clause-made
 returns-clause-made c =
     let old = c.args.self.now in
-    let xs = c.args.prepared.accesses.items in
+    let ys = c.args.accesses.now in
     let k = c.args.held in
-    let ys = c.as_slice.result.now in
     let size = length-drop k ys in
     let granted = on-ok c.grant.result (AreGranted old.locks c.grant.new.self c.args.asker.txn (slice_range ys k (length ys))) c.if-is_err.ensures.value c.grant.ensures.ok in
     let made = c.in_ok-apply.ensures.made in
@@ -25,8 +24,8 @@ returns-clause-made c =
       left = made.left;
       inverse = made.inverse;
       may = made.may_revert;
-      granted = granted-rest old.locks c.grant.new.self c.args.asker.txn xs k c.requires.held
-          (subst (AreGranted old.locks c.grant.new.self c.args.asker.txn) (take_all (length ys - k) (drop k ys) (omega (arith, size)) ∙ ap (drop k) c.as_slice.ensures.value) granted);
+      granted = granted-rest old.locks c.grant.new.self c.args.asker.txn ys k c.requires.held
+          (subst (AreGranted old.locks c.grant.new.self c.args.asker.txn) (take_all (length ys - k) (drop k ys) (omega (arith, size))) granted);
       listed = subst (λ (a : Asker). AreLists c.apply.new.self (pushed (list_in old.logs) a.txn (record { stamp = a.stamp; undo = made.undo }))) c.asker.view_is made.listed;
       open_still = c.apply.ensures.opened;
     }

@@ -7,5 +7,5 @@ use Rattle.ft_inodes.proofs.inodes.Inodes.directory_count.Goals as goal
 
 pub returns : goal.returns
 returns c =
-    c.len.ensures.len ∙ len-shown dir_in c.self.inside.slab c.self.inside.directories.entries c.len.ensures.ordered
+    c.len.ensures ∙ len-shown dir_in c.self.inside.slab c.self.inside.directories
     ∙ ap (λ (m : InodeCells). finite.len m.directories) c.self.view_is

@@ -18,7 +18,7 @@ returns-in_err-key c = (
   (λ i. inr (c.self.view_is i)) ∙ ap (λ (o : Option (MutBor DirCells)). read_of (ghost_name_of o) (with_directory c.args.self.now c.args.number) c.args.self.now) (sym c.from_residual.ensures),
   record {
     writes_back = tt;
-    value = ap option_copied_mut c.from_residual.ensures ∙ shown-none dir_in c.self.inside.slab c.self.inside.directories.entries _ (ap (λ (m : InodeCells). m.directories) c.self.view_is) c.args.number c.in_err-key.ensures;
+    value = ap option_copied_mut c.from_residual.ensures ∙ shown-none dir_in c.self.inside.slab c.self.inside.directories _ (ap (λ (m : InodeCells). m.directories) c.self.view_is) c.args.number c.in_err-key.ensures;
   },
 )
 
@@ -35,7 +35,7 @@ pub invariant_of-self-lent : goal.invariant_of-self-lent
 invariant_of-self-lent c w =
     let there = sym c.get_mut.ensures.value ∙ ap option_copied_mut c.unwrap-inode.ensures in
     let own : is_dir c.args.number (Some c.unwrap-inode.result.now) ≡ true = ap (is_dir c.args.number) (sym there) ∙ (c.self.invariant.0 c.args.number c.in_ok-key.key).0 (sym c.in_ok-key.ensures) in
-    let led = written-leads dir_in is_dir file_in is_file one-dir not-both (λ n. refl) (λ n. refl) c.self.inside.slab c.self.inside.directories.entries c.self.inside.files.entries c.self.invariant.0 c.self.invariant.1
+    let led = written-leads dir_in is_dir file_in is_file one-dir not-both (λ n. refl) (λ n. refl) c.self.inside.slab c.self.inside.directories c.self.inside.files c.self.invariant.0 c.self.invariant.1
     c.args.number c.in_ok-key.key c.unwrap-inode.result.now (set_dir c.unwrap-inode.result.now w) (sym c.in_ok-key.ensures) there (set_dir-own c.args.number c.unwrap-inode.result.now w own) in
     led
 
@@ -45,17 +45,17 @@ returns c =
     let own : is_dir c.args.number (Some c.unwrap-inode.result.now) ≡ true = ap (is_dir c.args.number) (sym there) ∙ (c.self.invariant.0 c.args.number c.in_ok-key.key).0 (sym c.in_ok-key.ensures) in (
       same_writes _ _ _ (λ w.
           (λ i. record {
-            directories = (written-own dir_in is_dir file_in is_file one-dir not-both (λ n. refl) (λ n. refl) c.self.inside.slab c.self.inside.directories.entries c.self.inside.files.entries c.self.invariant.0 c.self.invariant.1
+            directories = (written-own dir_in is_dir file_in is_file one-dir not-both (λ n. refl) (λ n. refl) c.self.inside.slab c.self.inside.directories c.self.inside.files c.self.invariant.0 c.self.invariant.1
                 c.args.number c.in_ok-key.key c.unwrap-inode.result.now (set_dir c.unwrap-inode.result.now w) (sym c.in_ok-key.ensures) there
-                ∙ ap (λ x. finite.insert (shown_by dir_in c.self.inside.slab c.self.inside.directories.entries) c.args.number (dir_in (Some x))) (set_dir-is c.args.number c.unwrap-inode.result.now w own)) i;
-            files = written-other dir_in is_dir file_in is_file one-dir not-both (λ n. refl) (λ n. refl) c.self.inside.slab c.self.inside.directories.entries c.self.inside.files.entries c.self.invariant.0 c.self.invariant.1
+                ∙ ap (λ x. finite.insert (shown_by dir_in c.self.inside.slab c.self.inside.directories) c.args.number (dir_in (Some x))) (set_dir-is c.args.number c.unwrap-inode.result.now w own)) i;
+            files = written-other dir_in is_dir file_in is_file one-dir not-both (λ n. refl) (λ n. refl) c.self.inside.slab c.self.inside.directories c.self.inside.files c.self.invariant.0 c.self.invariant.1
                 c.args.number c.in_ok-key.key c.unwrap-inode.result.now (set_dir c.unwrap-inode.result.now w) (sym c.in_ok-key.ensures) there i;
           })
           ∙ ap (λ (m : InodeCells). with_directory m c.args.number w) c.self.view_is),
       record {
         writes_back = tt;
         value = sym c.directory_mut.ensures.value ∙ ap dir_at (sym there)
-            ∙ shown-some dir_in c.self.inside.slab c.self.inside.directories.entries _ (ap (λ (m : InodeCells). m.directories) c.self.view_is) c.args.number c.in_ok-key.key c.in_ok-key.ensures _
+            ∙ shown-some dir_in c.self.inside.slab c.self.inside.directories _ (ap (λ (m : InodeCells). m.directories) c.self.view_is) c.args.number c.in_ok-key.key c.in_ok-key.ensures _
             (dir-there c.args.number _ ((c.self.invariant.0 c.args.number c.in_ok-key.key).0 (sym c.in_ok-key.ensures)));
       },
     )

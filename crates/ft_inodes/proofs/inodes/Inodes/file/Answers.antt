@@ -8,17 +8,17 @@ use Rattle.ft_inodes.proofs.inodes.Inodes.file.Goals as goal
 -- the number has no key
 pub returns-in_err-key : goal.returns-in_err-key
 returns-in_err-key c =
-    ap option_copied c.from_residual.ensures ∙ shown-none file_in c.self.inside.slab c.self.inside.files.entries _ (ap (λ (m : InodeCells). m.files) c.self.view_is) c.args.number c.in_err-key.ensures
+    ap option_copied c.from_residual.ensures ∙ shown-none file_in c.self.inside.slab c.self.inside.files _ (ap (λ (m : InodeCells). m.files) c.self.view_is) c.args.number c.in_err-key.ensures
 
 -- (there is something under each key)
 pub returns-in_err-get : goal.returns-in_err-get
 returns-in_err-get c =
     ap option_copied c.from_residual-in_err-get.ensures ∙ ap file_at c.in_err-get.ensures
-    ∙ shown-some file_in c.self.inside.slab c.self.inside.files.entries _ (ap (λ (m : InodeCells). m.files) c.self.view_is) c.args.number c.in_ok-key.key c.in_ok-key.ensures _
+    ∙ shown-some file_in c.self.inside.slab c.self.inside.files _ (ap (λ (m : InodeCells). m.files) c.self.view_is) c.args.number c.in_ok-key.key c.in_ok-key.ensures _
     (file-there c.args.number _ ((c.self.invariant.1 c.args.number c.in_ok-key.key).0 (sym c.in_ok-key.ensures)))
 
 pub returns : goal.returns
 returns c =
     c.file.ensures ∙ ap file_at c.in_ok-get.ensures
-    ∙ shown-some file_in c.self.inside.slab c.self.inside.files.entries _ (ap (λ (m : InodeCells). m.files) c.self.view_is) c.args.number c.in_ok-key.key c.in_ok-key.ensures _
+    ∙ shown-some file_in c.self.inside.slab c.self.inside.files _ (ap (λ (m : InodeCells). m.files) c.self.view_is) c.args.number c.in_ok-key.key c.in_ok-key.ensures _
     (file-there c.args.number _ ((c.self.invariant.1 c.args.number c.in_ok-key.key).0 (sym c.in_ok-key.ensures)))

@@ -11,9 +11,9 @@ returns c =
     c.map.ensures.variant
     ∙ elim c.match-node.branch [
       | in-Dir w ↦
-          some-shown dir_in c.self.inside.slab c.self.inside.directories.entries _ (ap (λ (m : InodeCells). m.directories) c.self.view_is) w.in-Dir.number c.match-node.map (w.map-is ∙ w.key_of.ensures)
+          some-shown dir_in c.self.inside.slab c.self.inside.directories _ (ap (λ (m : InodeCells). m.directories) c.self.view_is) w.in-Dir.number c.match-node.map (w.map-is ∙ w.key_of.ensures)
           ∙ ap (is_stored c.args.self.now) (sym w.in-Dir.is)
       | in-File w ↦
-          some-shown file_in c.self.inside.slab c.self.inside.files.entries _ (ap (λ (m : InodeCells). m.files) c.self.view_is) w.in-File.number c.match-node.map (w.map-is ∙ w.key_of-in-File.ensures)
+          some-shown file_in c.self.inside.slab c.self.inside.files _ (ap (λ (m : InodeCells). m.files) c.self.view_is) w.in-File.number c.match-node.map (w.map-is ∙ w.key_of-in-File.ensures)
           ∙ ap (is_stored c.args.self.now) (sym w.in-File.is)
     ]

@@ -14,14 +14,14 @@ invariant_of-self-then-is_noted g c =
     let order = in_order-said _ c.self.inside.list.items said c.self.invariant in
     said-in_order c.self.inside.is_in_order (slice_set c.self.inside.list.items c.place_of-at.result.0 (access c.index_mut.result.now.cell c.args.mode)) (set-noted (g.T.Touch.cell c.args.touched) c.args.mode _ c.self.inside.list.items _ _ _ (record { seen_is = c.as_slice.ensures.value; place = c.place_of-at.ensures.place; noted = c.place_of-at.ensures.noted }) order c.self.view_is c.if-is_noted.true c.index_mut.result.now _ c.index_mut.ensures.value).0
 
-pub returns-then-is_noted : goal.returns-then-is_noted
-returns-then-is_noted g c =
+pub returns-then-is_noted-clause-noted : goal.returns-then-is_noted-clause-noted
+returns-then-is_noted-clause-noted g c =
     let said : c.self.inside.is_in_order ≡ true = search rules in
     let order = in_order-said _ c.self.inside.list.items said c.self.invariant in
     (set-noted (g.T.Touch.cell c.args.touched) c.args.mode _ c.self.inside.list.items _ _ _ (record { seen_is = c.as_slice.ensures.value; place = c.place_of-at.ensures.place; noted = c.place_of-at.ensures.noted }) order c.self.view_is c.if-is_noted.true c.index_mut.result.now _ c.index_mut.ensures.value).1
 
-pub returns-then-not-self : goal.returns-then-not-self
-returns-then-not-self g c =
+pub returns-then-not-self-clause-noted : goal.returns-then-not-self-clause-noted
+returns-then-not-self-clause-noted g c =
     push-noted finite.empty (g.T.Touch.cell c.args.touched) c.args.mode c.self.inside.list.items c.push.new.self.items
     (c.in_ok-push.ensures.items ∙ ap (λ cell. c.self.inside.list.items ++ access cell c.args.mode ∷ []) c.in_ok-cell.ensures)
     ∙ ap (λ m. finite.insert m (g.T.Touch.cell c.args.touched) c.args.mode) c.self.view_is

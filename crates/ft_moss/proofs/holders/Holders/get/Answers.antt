@@ -1,14 +1,10 @@
-use Rattle.std.proofs.Common.{Some, get_or, sym, ap, ◌∙◌}
-use Rattle.ft_moss.proofs.HolderLists.{none_at, place_read, absent_read, got, blank}
+use Rattle.std.proofs.Common.{sym, ap, ◌∙◌}
+use Rattle.ft_moss.specs.Groups.{owners_in}
+use Rattle.ft_moss.proofs.Lone.{nobody, lone_get}
 use Rattle.ft_moss.proofs.holders.Holders.get.Goals as goal
 
-pub returns-in_err-place : goal.returns-in_err-place
-returns-in_err-place c =
-    c.from_residual.ensures
-    ∙ sym (none_at c.args.self.now c.self.inside.list.items c.args.owner c.self.view_is (absent_read _ c.as_slice-list.result.now c.args.owner c.in_err-place.ensures.none c.as_slice-list.ensures))
+pub returns-in-Nobody : goal.returns-in-Nobody
+returns-in-Nobody c = sym (nobody c.args.self.now (sym (ap owners_in c.in-Nobody.is) ∙ c.self.view_is) c.args.owner)
 
-pub returns : goal.returns
-returns c =
-    let at = place_read c.self.inside.list.items c.as_slice-list.result.now c.in_ok-place.place c.args.owner c.in_ok-place.ensures.some c.as_slice-list.ensures in
-    ap (λ l. Some (get_or l c.in_ok-place.place blank).marks) c.as_slice-list.ensures
-    ∙ sym (got c.args.self.now c.self.inside.list.items c.self.view_is c.self.invariant.0 c.in_ok-place.place c.args.owner at blank)
+pub returns-in-One : goal.returns-in-One
+returns-in-One c = c.then_some.ensures ∙ lone_get c.args.self.now c.in-One.one (sym (ap owners_in c.in-One.is) ∙ c.self.view_is) c.args.owner

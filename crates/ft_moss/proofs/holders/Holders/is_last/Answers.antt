@@ -1,14 +1,17 @@
-use Rattle.std.proofs.Common.{not, ◌==◌, sym, ap, ◌∙◌}
-use Rattle.std.specs.List.{list_any}
-use Rattle.ft_moss.proofs.HolderLists.{turned, others_found, others_missing}
+use Rattle.std.proofs.Common.{sym, ap, ◌∙◌}
+use Rattle.std.specs.FinMap as finite
+use Rattle.ft_moss.specs.Groups.{owners_in}
+use Rattle.ft_moss.proofs.HolderLists.{remove_none}
+use Rattle.ft_moss.proofs.Lone.{nobody, lone_last, lone_more}
 use Rattle.ft_moss.proofs.holders.Holders.is_last.Goals as goal
 
-pub returns-clause-none : goal.returns-clause-none
-returns-clause-none c = λ e.
-    others_missing c.args.self.now c.self.inside.list.items c.args.owner c.self.view_is
-    (sym (c.has_others.ensures ∙ ap (λ l. list_any (λ h. not (h.owner == c.args.owner)) l) c.as_slice.ensures) ∙ turned c.has_others.result e)
+pub returns-in-Nobody-clause-none : goal.returns-in-Nobody-clause-none
+returns-in-Nobody-clause-none c = λ e u.
+    let none = nobody c.args.self.now (sym (ap owners_in c.in-Nobody.is) ∙ c.self.view_is) in
+    ap (λ m. finite.get m u) (remove_none c.args.self.now c.args.owner (none c.args.owner)) ∙ none u
 
-pub returns-clause-some : goal.returns-clause-some
-returns-clause-some c = λ e.
-    others_found c.args.self.now c.self.inside.list.items c.args.owner c.self.view_is
-    (sym (c.has_others.ensures ∙ ap (λ l. list_any (λ h. not (h.owner == c.args.owner)) l) c.as_slice.ensures) ∙ turned c.has_others.result e)
+pub returns-in-One-clause-none : goal.returns-in-One-clause-none
+returns-in-One-clause-none c = lone_last c.args.self.now c.in-One.one (sym (ap owners_in c.in-One.is) ∙ c.self.view_is) c.args.owner
+
+pub returns-in-One-clause-some : goal.returns-in-One-clause-some
+returns-in-One-clause-some c = lone_more c.args.self.now c.in-One.one (sym (ap owners_in c.in-One.is) ∙ c.self.view_is) c.args.owner

@@ -1,27 +1,25 @@
-use Rattle.std.proofs.Common.{sym, subst, get_or, ap, ◌≡◌, ◌∙◌}
-use Rattle.std.specs.Option.{IfSome}
-use Rattle.ft_moss.specs.Holders.{IsPlaceOf}
-use Rattle.ft_moss.proofs.HolderLists.{none_at, nothing_marked, place_read, absent_read, apart-own, seen-own}
+use Rattle.std.proofs.Common.{sym, ap, ◌∙◌}
+use Rattle.ft_moss.specs.Holders.{Owners, alone, marked}
+use Rattle.ft_moss.specs.Groups.{owners_in}
+use Rattle.ft_moss.proofs.HolderLists.{nothing_marked}
+use Rattle.ft_moss.proofs.Lone.{nobody, lone_marked, lone_unmarked}
 use Rattle.ft_moss.proofs.holders.Holders.mark.Goals as goal
+use Rattle.ft_moss.proofs.holders.Holders.mark.Goals.{in-Nobody, in-One+then-one-owner, in-One+else-one-owner, in-Several}
 
-pub invariant_of-self : goal.invariant_of-self
-invariant_of-self c =
-    let at = place_read c.self.inside.list.items c.as_slice.result.now c.in-Some.place c.args.owner c.in-Some.ensures.some c.as_slice.ensures in
-    let is = subst (λ r. IfSome r (λ x. x.now ≡ get_or c.self.inside.list.items c.in-Some.place x.now)) c.unwrap-holding.ensures c.get_mut.ensures.value in
-    let own = ap (λ h. h.owner) is ∙ at.owned c.unwrap-holding.result.now in (
-      apart-own c.args.self.now c.self.inside.list.items c.self.view_is c.self.invariant.0 c.in-Some.place c.args.owner at
-          (record { owner = c.unwrap-holding.result.now.owner; marks = c.with-holding.result }) own,
-      c.index_marks.ensures c.self.inside.list.items c.unwrap-holding.result.now.owner c.self.invariant.0 (subst (IsPlaceOf c.self.inside.list.items c.in-Some.place) (sym own) at) c.self.invariant.1,
-    )
-
-pub returns-in-Some : goal.returns-in-Some
-returns-in-Some c =
-    let at = place_read c.self.inside.list.items c.as_slice.result.now c.in-Some.place c.args.owner c.in-Some.ensures.some c.as_slice.ensures in
-    let is = subst (λ r. IfSome r (λ x. x.now ≡ get_or c.self.inside.list.items c.in-Some.place x.now)) c.unwrap-holding.ensures c.get_mut.ensures.value in
-    seen-own c.args.self.now c.self.inside.list.items c.self.view_is c.self.invariant.0 c.in-Some.place c.args.owner at
-    c.unwrap-holding.result.now c.with-holding.result c.args.marks is c.with-holding.ensures
-
-pub returns-in_default : goal.returns-in_default
-returns-in_default c =
-    nothing_marked c.args.self.now c.args.owner c.args.marks
-    (none_at c.args.self.now c.self.inside.list.items c.args.owner c.self.view_is (absent_read _ c.as_slice.result.now c.args.owner c.in_default.ensures.none c.as_slice.ensures))
+pub returns : goal.returns
+returns c = elim c.match-self.branch [
+  | in-Nobody w ↦
+      let is = sym (ap owners_in w.in-Nobody.is) ∙ c.self.view_is in
+      ap (λ a. owners_in a.group) w.self-inside-is ∙ c.self.view_is ∙ nothing_marked c.args.self.now c.args.owner c.args.marks (nobody c.args.self.now is c.args.owner)
+  | in-One+then-one-owner w ↦
+      ap (λ a. owners_in a.group) w.self-inside-is
+      ∙ ap (λ x. alone (record { owner = w.in-One.one.owner; marks = x })) w.with-one.ensures
+      ∙ lone_marked c.args.self.now w.in-One.one (sym (ap owners_in w.in-One.is) ∙ c.self.view_is) c.args.owner c.args.marks w.if-one-owner.true
+  | in-One+else-one-owner w ↦
+      ap (λ a. owners_in a.group) w.self-inside-is
+      ∙ (sym (ap owners_in w.in-One.is) ∙ c.self.view_is)
+      ∙ lone_unmarked c.args.self.now w.in-One.one (sym (ap owners_in w.in-One.is) ∙ c.self.view_is) c.args.owner c.args.marks w.if-one-owner.false
+  | in-Several w ↦
+      ap (λ a. owners_in a.group) w.self-inside-is
+      ∙ w.mark.ensures ∙ ap (λ (m : Owners). marked m c.args.owner c.args.marks) (w.deref_mut.ensures.value ∙ sym (ap owners_in w.in-Several.is) ∙ c.self.view_is)
+]

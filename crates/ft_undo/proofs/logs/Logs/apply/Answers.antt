@@ -36,8 +36,8 @@ pub returns-clause-made : goal.returns-clause-made
 returns-clause-made c =
     let old = c.args.tree.now in
     let edits = c.args.edits.now in
-    let cells = c.in_default-fill.ensures.applied.0 in
-    let backs = c.in_default-fill.ensures.applied.1 in
+    let cells = c.in_default-fill.ensures.0 in
+    let backs = c.in_default-fill.ensures.1 in
     let there = ap (λ m. is_open m c.args.txn) c.self.view_is ∙ c.requires.open in
     let stamp = ap (λ (l : Logged). l.stamp) (newest-is c.self.inside.chains c.push_front.new.self c.args.txn _ c.in_default.ensures.ok c.first_mut.result c.unwrap-logged.result c.first_mut.ensures.value c.unwrap-logged.ensures) in
     record {

@@ -1,0 +1,3 @@
+pub mod Mix
+pub mod Slots
+pub mod Probing
