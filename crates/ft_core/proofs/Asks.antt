@@ -101,12 +101,10 @@ module _ (W : CallLaws) (K : LockLaws) (p : Parts) (j : Journaled) (core : IsCor
 
   -- a call that was tried and made is granted
   pub core-made : (t : ℕ) (call : Call) → fate_of s t ≡ Some Live → is_full j ≡ false → (stamp : ℕ) → stamp ≡ next_stamp s → (p' : Parts) (made : Made) → IsMade s.rule p p' t stamp call made
-      → (j' : Journaled) → j' ≡ with_call j t call made.reply made.accesses.items → IsGranted t call made.reply p' j'
+      → (j' : Journaled) → j' ≡ with_call j t call made.reply (accesses_of p.tree stamp call) → IsGranted t call made.reply p' j'
   core-made t call live few stamp next p' made is j' told =
-      core-called t call made.reply made.accesses.items live few (is.accesses ∙ ap (λ n. accesses_of p.tree n call) next) (is.reply ∙ ap (λ n. (outcome p.tree n call).reply) next)
-      (subst (λ xs. AreBlockers s.rule p.locks p.forest t xs []) (sym is.accesses) is.free) p'
-      (subst (λ n. IsMadeOn p p' (outcome p.tree n call).writes t n made.accesses.items) next
-      (subst (IsMadeOn p p' (outcome p.tree stamp call).writes t stamp) (sym is.accesses) is.made_on))
+      core-called t call made.reply (accesses_of p.tree stamp call) live few (ap (λ n. accesses_of p.tree n call) next) (is.reply ∙ ap (λ n. (outcome p.tree n call).reply) next) is.free p'
+      (subst (λ n. IsMadeOn p p' (outcome p.tree n call).writes t n (accesses_of p.tree stamp call)) next is.made_on)
       j' told
 
   asked-now : (now : State) → s ≡ now → (t : ℕ) (call : Call) (stamp : ℕ) → stamp ≡ next_stamp s → (reply : Reply) (p' : Parts) (j' : Journaled) → IsGranted t call reply p' j'
@@ -122,7 +120,7 @@ module _ (W : CallLaws) (K : LockLaws) (p : Parts) (j : Journaled) (core : IsCor
 
   -- a call that was tried and made
   pub tried-made : (now : State) → s ≡ now → (t : ℕ) (call : Call) → fate_of now t ≡ Some Live → is_full j ≡ false → (stamp : ℕ) → stamp ≡ next_stamp s → (p' : Parts) (made : Made) → IsMade s.rule p p' t stamp call made
-      → (j' : Journaled) → j' ≡ with_call j t call made.reply made.accesses.items → IsCoreOf (state_of p'.forest j') p' j' × IsAsked exact_rule now t call (Granted stamp made.reply) (state_of p'.forest j')
+      → (j' : Journaled) → j' ≡ with_call j t call made.reply (accesses_of p.tree stamp call) → IsCoreOf (state_of p'.forest j') p' j' × IsAsked exact_rule now t call (Granted stamp made.reply) (state_of p'.forest j')
   tried-made now is t call live few stamp next p' made as_made j' told =
       let g = core-made t call (ap (λ (q : State). fate_of q t) is ∙ live) few stamp next p' made as_made j' told in
       (g.kept, asked-now now is t call stamp next made.reply p' j' g)

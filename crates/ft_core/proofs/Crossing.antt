@@ -23,6 +23,7 @@ use Rattle.ft_undo.specs.contracts.logs.Logged as Logged
 use Rattle.ft_undo.specs.contracts.logs.Logs as Logs
 use Rattle.ft_core.proofs.past.Past.TheSendSync as past
 use Rattle.ft_core.proofs.journal.Terms.TheSendSync as terms
+use Rattle.ft_core.proofs.memo.Memo.TheSendSync as memo
 use Rattle.ft_core.specs.contracts.journal.Journal as Journal
 use Rattle.ft_core.specs.contracts.parts.Parts as Parts
 use Rattle.ft_core.specs.contracts.manager.Core as Core
@@ -55,4 +56,4 @@ Parts-send : IsSend Parts.the_field.row
 Parts-send = search (tree.the_send, forest.the_send, locks.the_send, Logs-send, crosses, sendable) depth 40
 
 pub Core-send : IsSend Core.the_row
-Core-send = search (Journal-send, Parts-send, crosses, sendable) depth 40
+Core-send = search (Journal-send, Parts-send, memo.the_field_send, crosses, sendable) depth 40

@@ -35,3 +35,7 @@ pub mod Known
 mod Asked
 pub mod Legally
 pub mod Crossing
+pub mod Fronts
+pub mod Memos
+pub mod Tried
+pub mod Learning

@@ -20,3 +20,4 @@ pub mod Reached
 pub mod PastCode
 pub mod Noted
 pub mod FullOutcomes
+pub mod Memos

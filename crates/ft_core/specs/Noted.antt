@@ -5,6 +5,9 @@ use Rattle.ft_core.specs.declared.request.Event.TheVariants.{Begin, Call as Call
 use Rattle.ft_core.specs.declared.past.Turn.{Turn}
 use Rattle.ft_core.specs.declared.past.Turn.TheVariants as turn
 use Rattle.ft_core.specs.declared.past.Grant.{Grant}
+use Rattle.ft_core.specs.declared.past.Question.{Question}
+use Rattle.ft_posix.specs.declared.call.Access.{Access}
+use Rattle.ft_posix.specs.Accesses.{accesses_of}
 
 -- as an event
 abbrev pub event_of : Turn → Event
@@ -19,4 +22,8 @@ turned events t = events ++ event_of t ∷ []
 
 -- the events with this call after them
 abbrev pub granted_too : List Event → Grant → List Event
-granted_too events g = events ++ CallEvent g.stamp g.txn g.call.now g.reply.now g.accesses.now ∷ []
+granted_too events g = events ++ CallEvent g.stamp g.txn g.call.now g.reply.now g.seen.now.accesses ∷ []
+
+-- what the call accesses on the tree
+abbrev pub seen_by : Question → List Access
+seen_by q = accesses_of q.tree.now q.stamp q.call.now

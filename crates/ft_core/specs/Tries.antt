@@ -16,7 +16,6 @@ use Rattle.ft_core.specs.Makes.{IsMadeOn, IsUnmade}
 pub record IsMade (rule : Rule) (old new : Parts) (t k : ℕ) (call : Call) (made : Made) : Type 0 where
   pub free : AreBlockers rule old.locks old.forest t (accesses_of old.tree k call) []
   pub reply : made.reply ≡ (outcome old.tree k call).reply
-  pub accesses : made.accesses.items ≡ accesses_of old.tree k call
   pub made_on : IsMadeOn old new (outcome old.tree k call).writes t k (accesses_of old.tree k call)
 
 -- these, who are some, are in the way of it, and nothing has changed
@@ -29,3 +28,8 @@ pub record IsBlocked (rule : Rule) (old new : Parts) (t k : ℕ) (call : Call) (
 abbrev pub IsTried : Rule → Parts → Parts → ℕ → ℕ → Call → Made → Tried → Type 0
 IsTried rule old new t k call made WasMade = IsMade rule old new t k call made
 IsTried rule old new t k call made (Blocked blockers) = IsBlocked rule old new t k call blockers.items
+
+-- its accesses are all told, if it was made
+abbrev pub IsWhole : Parts → ℕ → Call → Made → Tried → Type 0
+IsWhole old k call made WasMade = made.accesses.items ≡ accesses_of old.tree k call
+IsWhole old k call made (Blocked blockers) = Unit {0}

@@ -14,6 +14,7 @@ use crate::fault::Fault;
 use crate::journal::asked_or;
 use crate::manager::Core;
 use crate::parts::{Asker, Made, Tried};
+use crate::past::{Question, Seen};
 use crate::request::{FullOutcome, Outcome};
 use ft_base::Sequence;
 use ft_calls::Call;
@@ -130,10 +131,16 @@ impl Core {
             stamp,
             twice: false,
         };
+        let seen = Seen::by(&Question {
+            tree: &self.parts.tree,
+            stamp,
+            call,
+        });
         let mut made = Made::nothing(self.alloc);
+        let memo = &mut self.memo;
         match self
             .parts
-            .try_call(self.alloc, asker, call, rule, &mut made)?
+            .try_call(self.alloc, asker, call, rule, memo, &mut made)?
         {
             Tried::Made => {
                 let Made {
@@ -141,7 +148,7 @@ impl Core {
                     kept,
                     accesses,
                 } = made;
-                let pending = self.journal.grant(txn, &asked, &reply, accesses.as_slice());
+                let pending = self.journal.grant(txn, &asked, &reply, &seen);
                 drop(asked_or(asked, pending));
                 drop(kept);
                 Ok(Outcome::Granted { stamp, reply })
@@ -172,10 +179,16 @@ impl Core {
             stamp,
             twice: true,
         };
+        let seen = Seen::by(&Question {
+            tree: &self.parts.tree,
+            stamp,
+            call,
+        });
         let mut made = Made::nothing(self.alloc);
+        let memo = &mut self.memo;
         match self
             .parts
-            .try_call(self.alloc, asker, call, rule, &mut made)?
+            .try_call(self.alloc, asker, call, rule, memo, &mut made)?
         {
             Tried::Made => {
                 let Made {
@@ -183,7 +196,7 @@ impl Core {
                     kept,
                     accesses,
                 } = made;
-                let pending = self.journal.grant(txn, &asked, &reply, accesses.as_slice());
+                let pending = self.journal.grant(txn, &asked, &reply, &seen);
                 Ok(FullOutcome::Granted {
                     stamp,
                     call: asked_or(asked, pending),

@@ -53,6 +53,7 @@ impl Core {
         self.parts.forest.restart();
         self.parts.locks = no_locks(self.alloc, self.seed);
         self.parts.logs = Logs::new(self.alloc);
+        self.memo.forget();
     }
 }
 

@@ -33,6 +33,7 @@ impl Core {
         let parent = self.parts.forest.parent(txn);
         self.parts.forest.commit(txn)?;
         self.parts.hand_up(txn, &parent);
+        self.memo.forget(); // (its locks are others' now)
         self.journal.note_sub(parent);
         self.journal.forget(txn);
         self.journal.tell(&Turn::Commit { txn });
@@ -86,6 +87,7 @@ impl Core {
             transactions += 1;
             last = next;
         }
+        self.memo.forget(); // (what they had made is gone)
         self.journal.tell(&Turn::Abort { txn });
         FullAbort {
             transactions,
@@ -121,6 +123,7 @@ impl Core {
         }
         let stamp = self.undo_target(txn)?;
         self.parts.take_newest(txn);
+        self.memo.forget(); // (what the call had made is gone)
         self.journal.tell(&Turn::Undo { stamp });
         Ok(stamp)
     }

@@ -9,9 +9,9 @@ ghost use Rattle.ft_core.specs.Journals.{IsNoted, asked_for, no_events, sub_in, 
 ghost use Rattle.ft_core.specs.Noted.{event_of};
 
 use crate::LAST_NUMBER;
-use crate::past::{Grant, Past, Turn};
+use crate::past::{Grant, Past, Seen, Turn};
 use ft_base::{Memory, PagedTable, Table};
-use ft_calls::{Access, Call, Reply};
+use ft_calls::{Call, Reply};
 use ft_forest::TxnId;
 use ft_moss::Rule;
 use ft_tree::Tree;
@@ -171,12 +171,12 @@ impl Journal {
         txn: TxnId,
         asked: &Option<Call>,
         reply: &Reply,
-        accesses: &[Access],
+        seen: &Seen,
     ) -> Option<Call>
         requires few { is_full self.old ≡ false }
         requires some { IsSome (asked_for asked.now (finite.get self.old.asks txn)) }
         ensures pending { result ≡ finite.get self.old.asks txn }
-        ensures told { (call : CallOf) → asked_for asked.now (finite.get self.old.asks txn) ≡ Some call → self.new ≡ with_call self.old txn call reply.now accesses.now }
+        ensures told { (call : CallOf) → asked_for asked.now (finite.get self.old.asks txn) ≡ Some call → self.new ≡ with_call self.old txn call reply.now seen.now.accesses }
     {
         let stamp = self.last_stamp + 1;
         self.past = self.past.and(&Grant {
@@ -184,7 +184,7 @@ impl Journal {
             txn,
             call: self.wanted(txn, asked),
             reply,
-            accesses,
+            seen,
         });
         self.last_stamp = stamp;
         self.take_ask(txn)

@@ -10,6 +10,7 @@ mod journal;
 pub mod laws;
 mod limits;
 mod manager;
+mod memo;
 mod parts;
 mod past;
 mod reports;

@@ -26,6 +26,7 @@ ghost use Rattle.ft_forest.specs.Refusals.{IsRefusal};
 use crate::fault::Fault;
 use crate::journal::{Journal, Terms};
 use crate::limits::Limits;
+use crate::memo::Memo;
 use crate::parts::Parts;
 use ft_base::Memory;
 use ft_forest::{Forest, ForestFault, ForestLimits, State, TxnId};
@@ -47,6 +48,7 @@ pub struct Core {
     pub(crate) seed: u64,
     pub(crate) journal: Journal,
     pub(crate) parts: Parts,
+    pub(crate) memo: Memo,
 }
 
 impl Drop for Core {
@@ -56,6 +58,7 @@ impl Drop for Core {
             seed: _,
             journal: _,
             parts: _,
+            memo: _,
         } = self;
     }
 }
@@ -64,6 +67,7 @@ impl Model for Core {
     ghost use Rattle.ft_core.specs.States.{StoredState, coded_stored};
     ghost use Rattle.ft_core.specs.Journals.{state_of};
     ghost use Rattle.ft_core.specs.Kept.{IsCoreOf};
+    ghost use Rattle.ft_core.specs.Memos.{IsTrueOf};
 
     ghost Value = { StoredState };
 
@@ -71,7 +75,7 @@ impl Model for Core {
 
     ghost view = { λ a. record { state = state_of a.parts.forest a.journal; cells = a.parts.tree } };
 
-    ghost invariant = { λ a. IsCoreOf (state_of a.parts.forest a.journal) a.parts a.journal };
+    ghost invariant = { λ a. IsCoreOf (state_of a.parts.forest a.journal) a.parts a.journal × IsTrueOf a.memo a.parts.tree a.parts.locks };
 }
 
 impl Core {
@@ -116,6 +120,7 @@ impl Core {
             calls: limits.calls,
         };
         let journal = Journal::new(alloc, terms, &tree, 1);
+        let memo = Memo::new(alloc);
         Ok(Core {
             alloc,
             seed: 0,
@@ -126,6 +131,7 @@ impl Core {
                 locks: Locks::new(alloc),
                 logs: Logs::new(alloc),
             },
+            memo,
         })
     }
 
@@ -280,6 +286,7 @@ impl Core {
         ensures memory { IfErr result (λ fault. fault ≡ MemoryFault) }
         ensures same { OnErr result (self.new.state ≡ self.old.state) }
     {
+        self.memo.forget();
         let parts = &mut self.parts;
         let next = parts.forest.last() + 1;
         open(&mut self.journal, &mut parts.locks, &mut parts.logs, next)?;

@@ -16,15 +16,18 @@ ghost use Rattle.ft_core.specs.Handing.{AreHandedUp, MayHandUp};
 ghost use Rattle.ft_core.specs.Makes.{IsMadeOn, IsUnmade};
 ghost use Rattle.ft_core.specs.Surveys.{IsAloneIfChildless};
 ghost use Rattle.ft_core.specs.Taking.{taken_back, CanTakeBack};
-ghost use Rattle.ft_core.specs.Tries.{IsTried};
+ghost use Rattle.std.specs.Option.{option_copied};
+ghost use Rattle.ft_core.specs.Memos.{IsTrueOf, IsHeldIfAny, IsAloneIfAny};
+ghost use Rattle.ft_core.specs.Tries.{IsTried, IsWhole};
 ghost use Rattle.ft_core.specs.FullOutcomes.{IsTwice};
 
+use crate::memo::Memo;
 use ft_base::Memory;
-use ft_calls::{Access, Call, Edits, Looked, Reply, Told, look_over};
+use ft_calls::{Access, Call, Edits, Looked, Reply, Told, look_behind};
 use ft_forest::{Forest, TxnId};
 use ft_locks::{Locks, Survey};
 use ft_moss::Rule;
-use ft_tree::Tree;
+use ft_tree::{Front, Tree};
 use ft_undo::{Logged, Logs, revert};
 use std::alloc::Global;
 
@@ -111,6 +114,21 @@ impl Parts {
         self.locks.survey(&self.forest, txn, accesses, rule)
     }
 
+    /// The front behind which a call may begin, if one is known for its asker: it has no live
+    /// children, and not all of its accesses are wanted.
+    fn front_for<'m>(&self, asker: &Asker, memo: &'m Memo) -> Option<&'m Front>
+        requires known { IsTrueOf memo.now self.now.tree self.now.locks }
+        requires alone { IsAloneIfChildless self.now.locks self.now.forest asker.now.txn }
+        ensures held { IsHeldIfAny self.now.tree self.now.locks asker.now.txn (option_copied result) }
+        ensures alone { IsAloneIfAny self.now.locks self.now.forest asker.now.txn (option_copied result) }
+        ensures none { asker.now.twice ≡ true → option_copied result ≡ None }
+    {
+        if asker.twice || self.forest.live_children(asker.txn) != 0 {
+            return None;
+        }
+        memo.front_of(asker.txn)
+    }
+
     /// Makes a call where nobody is in the way of it, and writes into `made` what is made of it. Where
     /// memory is wanting nothing has changed but that.
     pub(crate) fn try_call(
@@ -119,6 +137,7 @@ impl Parts {
         asker: Asker,
         call: &Call,
         rule: Rule,
+        memo: &mut Memo,
         made: &mut Made,
     ) -> Result<Tried, Memory>
         requires sound { AreSoundCells self.old.tree }
@@ -128,13 +147,16 @@ impl Parts {
         requires alone { IsAloneIfChildless self.old.locks self.old.forest asker.txn }
         requires no_holder { is_strict rule ≡ true → HasNoHolderAbove self.old.locks self.old.forest }
         requires none_kept { made.old.kept ≡ None }
+        requires known { IsTrueOf memo.old self.old.tree self.old.locks }
+        ensures known { IsTrueOf memo.new self.new.tree self.new.locks }
+        ensures whole { asker.twice ≡ true → IfOk result (IsWhole self.old asker.stamp call.now made.new) }
         ensures twice { IfOk result (IsTwice asker.twice made.new) }
         ensures tried { IfOk result (IsTried rule self.old self.new asker.txn asker.stamp call.now made.new) }
         ensures unmade { OnErr result (IsUnmade self.old self.new) }
     {
         // (they are let go in one place, behind all that may end the call)
         let mut edits = Edits::new(alloc);
-        self.try_with(alloc, asker, call, rule, &mut edits, made)
+        self.try_with(alloc, asker, call, rule, &mut edits, memo, made)
     }
 
     /// Makes a call as `try_call` does, with its edits put into a list.
@@ -145,6 +167,7 @@ impl Parts {
         call: &'c Call,
         rule: Rule,
         edits: &mut Edits<'c>,
+        memo: &mut Memo,
         made: &mut Made,
     ) -> Result<Tried, Memory>
         requires sound { AreSoundCells self.old.tree }
@@ -155,17 +178,30 @@ impl Parts {
         requires no_holder { is_strict rule ≡ true → HasNoHolderAbove self.old.locks self.old.forest }
         requires no_edits { edits.old ≡ [] }
         requires none_kept { made.old.kept ≡ None }
+        requires known { IsTrueOf memo.old self.old.tree self.old.locks }
+        ensures known { IsTrueOf memo.new self.new.tree self.new.locks }
+        ensures whole { asker.twice ≡ true → IfOk result (IsWhole self.old asker.stamp call.now made.new) }
         ensures twice { IfOk result (IsTwice asker.twice made.new) }
         ensures tried { IfOk result (IsTried rule self.old self.new asker.txn asker.stamp call.now made.new) }
         ensures unmade { OnErr result (IsUnmade self.old self.new) }
     {
-        let Looked { accesses, told } = look_over(alloc, &self.tree, asker.stamp, call, edits)?;
+        memo.learn_from(alloc, self, rule, asker.txn, call);
+        let front = self.front_for(&asker, memo);
+        let Looked { accesses, told } = look_behind(
+            alloc,
+            &self.tree,
+            front,
+            asker.stamp,
+            call,
+            edits,
+        )?;
         let Survey { blockers, held } = self.survey(asker.txn, accesses.as_slice(), rule)?;
         if !blockers.is_empty() {
             return Ok(Tried::Blocked(blockers));
         }
         // (what wants memory is made before any edit)
         made.tell(alloc, &self.tree, &told, asker.twice)?;
+        memo.forget_if_passed(edits);
         self.make(alloc, asker, edits, accesses.as_slice(), held)?;
         made.accesses = accesses;
         Ok(Tried::Made)

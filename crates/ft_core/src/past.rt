@@ -4,9 +4,10 @@ ghost use Rattle.std.specs.Borrow.{ftrue};
 ghost use Rattle.ft_cells.specs.Plain.{PlainTree};
 ghost use Rattle.ft_tree.specs.Tidy.{tidy};
 ghost use Rattle.ft_core.specs.declared.request.Event.{Event as EventOf};
-ghost use Rattle.ft_core.specs.PastCode.{coded_events, coded_base_tree};
+ghost use Rattle.ft_posix.specs.declared.call.Access.{Access as AccessOf};
+ghost use Rattle.ft_core.specs.PastCode.{coded_events, coded_base_tree, coded_accesses};
 
-use ft_calls::{Access, Call, Reply};
+use ft_calls::{Call, Reply};
 use ft_forest::TxnId;
 use ft_tree::Tree;
 use std::marker::Model;
@@ -35,6 +36,37 @@ pub(crate) enum Turn {
     Abort { txn: TxnId },
 }
 
+/// A call that is to be looked at on a tree, by reference.
+#[derive(Clone, Copy, Drop)]
+pub(crate) struct Question<'a> {
+    pub tree: &'a Tree,
+    pub stamp: u64,
+    pub call: &'a Call,
+}
+
+/// What a call accesses. It has no bytes either: of what the asker holds already not all is noted
+/// when the call is looked at.
+#[derive(Drop)]
+pub(crate) struct Seen {
+    pub ghost accesses: { List AccessOf } by { coded_accesses },
+}
+
+impl Model for Seen {
+    ghost also_owns = { λ _. ftrue };
+}
+
+impl Seen {
+    ghost use Rattle.ft_core.specs.Noted.{seen_by};
+
+    /// The accesses of the call on the tree.
+    #[inline(always)]
+    pub(crate) fn by(_question: &Question<'_>) -> Seen
+        ensures { result.accesses ≡ seen_by _question.now }
+    {
+        Seen {}
+    }
+}
+
 /// A call that is granted, by reference.
 #[derive(Clone, Copy, Drop)]
 pub(crate) struct Grant<'a> {
@@ -42,7 +74,7 @@ pub(crate) struct Grant<'a> {
     pub txn: TxnId,
     pub call: &'a Call,
     pub reply: &'a Reply,
-    pub accesses: &'a [Access],
+    pub seen: &'a Seen,
 }
 
 impl Past {

@@ -22,6 +22,7 @@ impl Core {
         ensures locked { EachUselessIsLocked self.old.state self.new.cells }
         ensures none_left { NoneIsLive self.old.state → HasNoUselessPlace self.new.cells }
     {
+        self.memo.forget();
         let Parts { tree, locks, .. } = &mut self.parts;
         tree.sweep(locks)
     }

@@ -7,7 +7,7 @@ use Rattle.ft_core.proofs.laws.reached.Goals as goal
 
 pub returns : goal.returns
 returns c =
-    let kept = c.core.invariant in
+    let kept = c.core.invariant.0 in
     subst (λ (v : StoredState). IsReached v) c.core.view_is
     (record {
       started = kept.kept.started;

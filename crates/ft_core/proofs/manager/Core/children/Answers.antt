@@ -13,5 +13,5 @@ returns c =
     let live = c.in_ok-live in
     let listed = c.in_ok-list_with_parents.ensures ∙ ap (λ xs. xs ++ with_parents forest c.as_slice.result.now) c.new-list.ensures.items ∙ ap (with_parents forest) c.as_slice.ensures.value in
     subst (λ s. AreLiveChildren s c.sort.new.self.items) (state-is c.self.view_is)
-    (all-children call_laws (state_of forest i.journal) i.parts i.journal c.self.invariant live.live.items c.list_with_parents.new.list.items c.sort.new.self.items live.ensures.sound live.ensures.all listed
+    (all-children call_laws (state_of forest i.journal) i.parts i.journal c.self.invariant.0 live.live.items c.list_with_parents.new.list.items c.sort.new.self.items live.ensures.sound live.ensures.all listed
     (ordered forest live.live.items c.list_with_parents.new.list.items c.sort.new.self.items live.ensures.rising listed c.sort.ensures.permutation c.in_ok-sort.ensures.sorted))

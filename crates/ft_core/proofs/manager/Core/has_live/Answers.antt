@@ -16,12 +16,12 @@ returns-clause-found c =
     subst (λ (q : State). MatchBool c.is_some.result (SomeIsLive q) (NoneIsLive q)) (state-is c.self.view_is)
     (subst (λ (b : Bool). MatchBool b (SomeIsLive s) (NoneIsLive s)) (sym c.is_some.ensures)
     (live_by_top (SomeIsLive s) i.parts.forest c.youngest_child.result c.youngest_child.ensures
-    (λ x is. (x, some-live call_laws c.self.invariant x is))
-    (λ none now. no-live call_laws c.self.invariant none now.0 now.1)))
+    (λ x is. (x, some-live call_laws c.self.invariant.0 x is))
+    (λ none now. no-live call_laws c.self.invariant.0 none now.0 now.1)))
 
 pub returns-clause-listed : goal.returns-clause-listed
 returns-clause-listed c =
     let i = c.self.inside in
     let s : State = state_of i.parts.forest i.journal in
     let same = state-is c.self.view_is in
-    lives c.is_some.result s (some-lives call_laws lock_laws i.parts i.journal c.self.invariant) (subst (λ (q : State). MatchBool c.is_some.result (SomeIsLive q) (NoneIsLive q)) (sym same) (returns-clause-found c)) ∙ ap has_live same
+    lives c.is_some.result s (some-lives call_laws lock_laws i.parts i.journal c.self.invariant.0) (subst (λ (q : State). MatchBool c.is_some.result (SomeIsLive q) (NoneIsLive q)) (sym same) (returns-clause-found c)) ∙ ap has_live same

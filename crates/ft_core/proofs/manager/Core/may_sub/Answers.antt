@@ -18,7 +18,7 @@ pub returns-in_err-check_sub : goal.returns-in_err-check_sub
 returns-in_err-check_sub c =
     let i = c.self.inside in
     let s : State = state_of i.parts.forest i.journal in
-    let core = c.self.invariant in
+    let core = c.self.invariant.0 in
     let fault = c.in_err-check_sub.field-0.0 in
     let due : refusal_of s (Sub c.args.txn) ≡ Some (fault_from fault) = sym (sub-same i.journal i.parts.forest core.transactions core.kept.started c.args.txn) ∙ ap (option_map fault_from) c.in_err-check_sub.ensures in
     subst (λ (q : State). refusal_of q (Sub c.args.txn) ≡ refused_with c.from_residual.result) (state-is c.self.view_is)
@@ -28,6 +28,6 @@ pub returns : goal.returns
 returns c =
     let i = c.self.inside in
     let s : State = state_of i.parts.forest i.journal in
-    let core = c.self.invariant in
+    let core = c.self.invariant.0 in
     subst (λ (q : State). refusal_of q (Sub c.args.txn) ≡ None) (state-is c.self.view_is)
     (sym (sub-same i.journal i.parts.forest core.transactions core.kept.started c.args.txn) ∙ ap (option_map fault_from) c.in_ok-check_sub.ensures)

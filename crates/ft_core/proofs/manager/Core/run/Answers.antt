@@ -28,5 +28,5 @@ loop-request-preserved c =
 pub returns-clause-headline : goal.returns-clause-headline
 returns-clause-headline c =
     let l = c.loop-request in
-    let first : IsLegalAt c.args.self.now.state = subst IsLegalAt (state-is c.self.view_is) (legal-of c.self.invariant.kept) in
+    let first : IsLegalAt c.args.self.now.state = subst IsLegalAt (state-is c.self.view_is) (legal-of c.self.invariant.0.kept) in
     legal-replies call_laws l.self.state (legal-run call_laws lock_laws c.args.self.now.state l.yielded l.answers.items l.self.state first l.invariant.ran)
