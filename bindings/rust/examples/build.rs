@@ -77,7 +77,7 @@ impl fmt::Display for End {
     }
 }
 
-/// Which targets have been made or not, as far as that is known.
+/// The targets that have been made or not, as far as that is known.
 struct Board {
     made: Mutex<Vec<Option<bool>>>,
     told: Condvar,

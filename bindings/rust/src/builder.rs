@@ -21,7 +21,7 @@ impl Builder {
         }
     }
 
-    /// Which locks are in a call's way.
+    /// Sets which locks are in a call's way.
     pub fn rule(mut self, rule: Rule) -> Builder {
         self.rule = rule;
         self

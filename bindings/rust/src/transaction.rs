@@ -50,7 +50,7 @@ pub enum Kind {
 #[derive(Clone, Copy, Debug, PartialEq, Eq)]
 #[non_exhaustive]
 pub struct Metadata {
-    /// Which of these it is.
+    /// The kind, one of these.
     pub kind: Kind,
     /// Its number in the tree, which no other has or has had.
     pub number: u64,

@@ -12,7 +12,7 @@ use std::time::{Duration, Instant};
 /// How long a thread sleeps at most before its call is made again.
 const MOST_PAUSE: Duration = Duration::from_millis(50);
 
-/// Which locks are in a call's way.
+/// The locks that are in a call's way.
 #[derive(Clone, Copy, Debug, Default, PartialEq, Eq)]
 pub enum Rule {
     /// Those of transactions that are neither the caller nor around it.

@@ -15,7 +15,7 @@ use std::mem;
 pub enum Asking {
     /// Three accesses are made, and nothing is asked: what the others take beside their asks.
     Accesses,
-    /// Who is in the way of three accesses that nobody has locked, and their grant.
+    /// The blockers of three accesses that nobody has locked, and their grant.
     Alone,
     /// The same, while as many other transactions are open as there are locks.
     Among,

@@ -1,4 +1,4 @@
--- Which answer and which new state a request may have, and a run of requests.
+-- The answer and the new state that a request may have, and a run of requests.
 use Rattle.std.specs.Prelude.{◌≡◌, ◌≢◌, ℕ, Bool, cond, List, [], ◌∷◌, Option, Some, None, MatchOption, Result, Ok, Err, map}
 use Rattle.std.specs.FinMap as finite
 use Rattle.ft_posix.specs.declared.call.Call.{Call}

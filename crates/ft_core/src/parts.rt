@@ -40,7 +40,7 @@ pub(crate) struct Parts {
     pub logs: Logs,
 }
 
-/// Who asks, the stamp of the call, and whether its reply is wanted twice.
+/// The asker, the stamp of the call, and whether its reply is wanted twice.
 #[derive(Clone, Copy)]
 pub(crate) struct Asker {
     pub txn: TxnId,
@@ -92,7 +92,7 @@ impl Made {
 }
 
 impl Parts {
-    /// Who is in the way of a call with these accesses by a rule, and for how many of them, from
+    /// The blockers of a call with these accesses by a rule, and for how many of them, from
     /// the first on, the asker holds the locks already. Where it has live children they may share
     /// its cells, and then none is told to be held.
     pub(crate) fn survey(

@@ -42,7 +42,7 @@ struct Meeting {
 }
 
 impl Meeting {
-    /// Of the jobs up to this one, the last.
+    /// The last of the jobs up to this one.
     fn up_to(last: u64) -> Meeting {
         Meeting {
             last,

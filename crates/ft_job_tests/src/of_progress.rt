@@ -10,7 +10,7 @@ use std::time::{Clock, Duration};
 
 const TWO_JOBS: &[u8] = b"job one\nmkdir /a\nmkdir /b\ncommit\njob two-2\nmkdir /c\nabort\n";
 
-// Which jobs come to which steps, each job by its place, and what is told then.
+// The jobs that come to each step, each job by its place, and what is told then.
 const TOLD: &[(&[(u64, u64)], &str)] = &[
     (&[], "jobs ended: 0 of 2; calls granted: 0"),
     (&[(0, 1), (1, 1)], "jobs ended: 0 of 2; calls granted: 0"),

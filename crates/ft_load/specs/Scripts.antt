@@ -151,7 +151,7 @@ Scripts limits asked next fd held next_now fd_now held_now =
 abbrev pub IsFull : Limits → ℕ → Type 0
 IsFull limits next = (suc limits.calls < next) ⊎ (2 ^ 64 ≤ suc next)
 
--- Of these calls the first ones were written, and the next one was not: there was no memory, or there
+-- The first of these calls were written, and the next one was not: there was no memory, or there
 -- are as many calls as are granted, or this.
 abbrev pub BreaksOffBetween : Type 0 → Limits → Trouble → List Call → ℕ → Option (List ℕ) → Option (List ℕ) → Type 0
 BreaksOffBetween cause limits trouble calls next held held_now =

@@ -34,7 +34,7 @@ impl Crowd {
         Ok(txn)
     }
 
-    /// Who is in the way of a transaction that asks for the cell.
+    /// The transactions in the way of one that asks for the cell.
     fn blockers(&self, txn: TxnId, mode: Mode, rule: Rule) -> Result<Vec<TxnId>, Memory> {
         let cell = Cell::Links(7);
         self.locks

@@ -30,10 +30,10 @@ enum CallRef<'a> {
     Rename(&'a [u8], &'a [u8]),
     Chmod(u16, &'a [u8]),
     Fchmod(u64, u16),
-    /// Of an owner, while the group stays.
+    /// Sets an owner, while the group stays.
     Chown(u32, &'a [u8]),
     Lchown(u32, &'a [u8]),
-    /// Of a group, while the owner stays.
+    /// Sets a group, while the owner stays.
     Fchown(u64, u32),
     Utime(Timestamp, &'a [u8]),
     Lutime(Timestamp, &'a [u8]),

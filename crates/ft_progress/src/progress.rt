@@ -33,7 +33,7 @@ impl fmt::Display for Progress<'_> {
     }
 }
 
-// Who waits, if anybody does.
+// The job that waits, if one does.
 #[derive(Clone, Copy)]
 struct WaitingText<'a>(&'a [&'a JobName]);
 

@@ -19,10 +19,10 @@ pub enum Line {
 pub enum Report {
     /// What the tree holds.
     Tree,
-    /// Who has which lock, of all but attributes.
+    /// The locks and their owners, of all but attributes.
     Locks,
-    /// Who has which lock of attributes.
+    /// The locks of attributes and their owners.
     Attributes,
-    /// Who waits for whom.
+    /// The waits-for edges.
     Waits,
 }

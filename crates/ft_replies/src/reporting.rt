@@ -51,7 +51,7 @@ fn tree_report(alloc: Global, core: &Core) -> Result<Option<String>, Memory>
     Ok(Some(text))
 }
 
-// Who has which lock, of all but attributes.
+// The locks and their owners, of all but attributes.
 fn locks_report(alloc: Global, core: &Core) -> Result<Option<String>, Memory>
     ensures { IfOk result (λ told. IfSome told (λ text. IsWholeReport core.now.state Report.Locks (string_bytes text))) }
 {
@@ -64,7 +64,7 @@ fn locks_report(alloc: Global, core: &Core) -> Result<Option<String>, Memory>
     }
 }
 
-// Who has which lock of attributes.
+// The locks of attributes and their owners.
 fn attributes_report(alloc: Global, core: &Core) -> Result<Option<String>, Memory>
     ensures { IfOk result (λ told. IfSome told (λ text. IsWholeReport core.now.state Report.Attributes (string_bytes text))) }
 {
@@ -77,7 +77,7 @@ fn attributes_report(alloc: Global, core: &Core) -> Result<Option<String>, Memor
     }
 }
 
-// Who waits for whom.
+// The waits-for edges.
 fn waits_report(alloc: Global, core: &Core) -> Result<Option<String>, Memory>
     ensures { IfOk result (λ told. IfSome told (λ text. IsWholeReport core.now.state Report.Waits (string_bytes text))) }
 {

@@ -22,7 +22,7 @@ pub const MOST_READERS: usize = 64;
 pub(crate) struct Publisher<J: Naming> {
     book: Book,
     writer: Writing<J>,
-    // Which committed calls were taken from the core.
+    // The committed calls that were taken from the core.
     commits: Commits,
     // The list that the writer was given.
     fed: Front,

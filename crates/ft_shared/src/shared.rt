@@ -257,8 +257,8 @@ impl<J: Sharing, C: Shareable> Shared<J, C> {
         answer
     }
 
-    /// Who waits for whom: the waits-for edges of the core, each once, in their order, and whether
-    /// there is a cycle of just these.
+    /// The waits-for edges of the core, each once, in their order, and whether there is a cycle of
+    /// just these.
     ///
     /// Want of memory is the only refusal.
     pub fn waits<R: Wait>(&self, rt: &R) -> Result<(Vec<Edge>, Verdict), Memory>

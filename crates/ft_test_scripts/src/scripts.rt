@@ -54,11 +54,11 @@ pub enum Wanted<'a> {
     Directories(u64, &'a [u8]),
     Number(u64, u64),
     Bytes(u64, &'a [u8]),
-    /// Of a file: its number, its links and its size.
+    /// The number, the links and the size of a file.
     File(u64, [u64; 3]),
     /// The same of a symbolic link.
     Link(u64, [u64; 3]),
-    /// Of what there is: its mode, where it is another than the default one, and its time, in whole
+    /// The mode of what there is, if it is another than the default one, and its time, in whole
     /// seconds.
     Attributes(u64, Option<u16>, Option<i64>),
     Waits(u64),

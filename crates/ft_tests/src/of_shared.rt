@@ -1,4 +1,4 @@
-// Who waits for whom; threads that wait, and let others go on; what a sweep finds; what is handed
+// The waits-for edges; threads that wait, and let others go on; what a sweep finds; what is handed
 // back. Scripts are case files, which ft_through plays.
 ghost use Rattle.std.specs.Prelude.{◌≡◌};
 ghost use Rattle.ft_shared.specs.Origins.{without_views};

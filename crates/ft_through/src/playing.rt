@@ -69,7 +69,7 @@ fn reply_through<R: Wait>(
     }
 }
 
-/// Who waits for whom behind the lock.
+/// The waits-for edges behind the lock.
 fn waits_reply<R: Wait>(rt: &R, alloc: Global, shared: &Shared<Brand, Core>) -> Result<String> {
     let (edges, verdict) = shared.waits(rt)?;
     let text = WaitsText {

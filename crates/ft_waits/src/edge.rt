@@ -1,4 +1,4 @@
-// Who waits for whom.
+// The waits-for edges.
 ghost use Rattle.std.specs.Prelude.{Some};
 
 use ft_core::TxnId;
@@ -31,7 +31,7 @@ impl fmt::Display for EdgeKind {
 /// Edges are ordered by `from`, then by `to`, and a lock comes before a child.
 #[derive(Clone, Copy, Debug, PartialEq, Eq, PartialOrd, Ord)]
 pub struct Edge {
-    /// Who waits.
+    /// The one that waits.
     pub from: TxnId,
     /// For whom.
     pub to: TxnId,

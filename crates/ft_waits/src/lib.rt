@@ -1,5 +1,4 @@
-//! Who waits for whom: the waits-for edges between transactions, and whether there is a cycle of
-//! them.
+//! The waits-for edges between transactions, and whether there is a cycle of them.
 #![tactic(auto)]
 
 mod edge;
