@@ -1,5 +1,8 @@
 mod Carried
 mod Values
+mod Pointers
+mod Listings
+mod Pendings
 mod CutCalls
 mod CutHistories
 mod CutStates

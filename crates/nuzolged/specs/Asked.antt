@@ -2,8 +2,6 @@
 use Rattle.std.specs.Prelude.{◌≡◌, ◌⊎◌, ◌||◌, ◌==◌, ℕ, ℤ, Bool, true, false, cond, List, Option, Some, None, Result, Ok, Err, suc, zero}
 use Rattle.ft_path.specs.Name.{has_nul}
 use Rattle.ft_cells.specs.declared.attributes.Timestamp.{Timestamp}
-use Rattle.ft_cells.specs.declared.open_file.AccessMode.{AccessMode}
-use Rattle.ft_cells.specs.declared.open_file.AccessMode.TheVariants.{ReadOnly, WriteOnly, ReadWrite}
 use Rattle.ft_cells.specs.declared.limits.TreeLimits.{TreeLimits}
 use Rattle.ft_cells.specs.Limits.{default_limits}
 use Rattle.ft_posix.specs.declared.call.Call.{Call}
@@ -67,15 +65,8 @@ abbrev pub ArePaths : List ℕ → List ℕ → Result (List ℕ × List ℕ) Un
 ArePaths from to (Ok paths) = (paths.0 ≡ cut_path from) × (paths.1 ≡ cut_path to) × ((has_nul from || has_nul to) ≡ false)
 ArePaths from to (Err why) = (has_nul from || has_nul to) ≡ is_bad why
 
--- the access of a number, as O_RDONLY, O_WRONLY and O_RDWR
-abbrev pub access_of : ℕ → Option AccessMode
-access_of zero = Some ReadOnly
-access_of (suc zero) = Some WriteOnly
-access_of (suc (suc zero)) = Some ReadWrite
-access_of (suc (suc (suc number))) = None
-
--- the owner or the group of a number: the greatest one says that it stays, as (uid_t)-1 does
--- (POSIX.1-2017, System Interfaces, chown)
+-- the owner, the group or the mode of a number, if one is given: by the greatest none is, as by
+-- (uid_t)-1 (POSIX.1-2017, System Interfaces, chown)
 abbrev pub given_of : ℕ → Option ℕ
 given_of number = cond (number == 4294967295) None (Some number)
 

@@ -1,5 +1,5 @@
 -- What a line through a handle came to, and its reply.
-use Rattle.std.specs.Prelude.{◌≡◌, ◌⊎◌, ℕ, List, length, Option, Some, None}
+use Rattle.std.specs.Prelude.{◌≡◌, ◌⊎◌, ◌==◌, ◌||◌, ℕ, Bool, not, MatchBool, List, length, Option, Some, None}
 use Rattle.ft_replies.specs.declared.line.Line.{Line}
 use Rattle.ft_replies.specs.declared.line.Line.TheVariants.{Bad}
 use Rattle.ft_session.specs.Buffers.{filled}
@@ -28,3 +28,23 @@ HasReplied last told before after = ((told ≡ told_size (length (reply_text las
 abbrev pub IsReplied : Option Session → Told → List ℕ → List ℕ → Type 0
 IsReplied None told before after = (told ≡ closed) × (after ≡ before)
 IsReplied (Some session) told before after = HasReplied session.last told before after
+
+-- ---- the reply that is told with the line
+
+-- The reply is copied, and it is told how many bytes it has; or there was no memory for its text,
+-- and the greatest number is told.
+abbrev pub IsSizeOfReply : Last → ℕ → List ℕ → List ℕ → Type 0
+IsSizeOfReply last size before after = ((size ≡ length (reply_text last)) × (after ≡ filled (reply_text last) before)) ⊎ ((size ≡ 18446744073709551615) × (after ≡ before))
+
+-- the same through a handle; a closed one has no reply
+abbrev pub IsReplySize : Option Session → ℕ → List ℕ → List ℕ → Type 0
+IsReplySize None size before after = (size ≡ 0) × (after ≡ before)
+IsReplySize (Some session) size before after = IsSizeOfReply session.last size before after
+
+-- a line that has come to this code has a reply of its own
+abbrev pub has_reply : ℕ → Bool
+has_reply code = not (code == 1200 || code == 1201 || code == 1001)
+
+-- The reply to a line is told, if it has one; else none is.
+abbrev pub IsReplyTold : Option Session → ℕ → ℕ → List ℕ → List ℕ → Type 0
+IsReplyTold session code size before after = MatchBool (has_reply code) (IsReplySize session size before after) ((size ≡ 0) × (after ≡ before))

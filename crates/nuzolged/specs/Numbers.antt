@@ -6,7 +6,6 @@ use Rattle.ft_cells.specs.Attributes.{attributes_from}
 use Rattle.ft_cells.specs.declared.attributes.Attributes.{Attributes}
 use Rattle.ft_cells.specs.declared.attributes.Timestamp.{Timestamp}
 use Rattle.ft_cells.specs.declared.node.Kind.{Kind}
-use Rattle.ft_cells.specs.declared.node.Kind.TheVariants as kind
 use Rattle.ft_posix.specs.declared.call.Reply.{Reply}
 use Rattle.ft_posix.specs.declared.call.Reply.TheVariants.{Done, Names, Number, Bytes, Info, Failed}
 use Rattle.ft_core.specs.declared.fault.Fault.{Fault}
@@ -16,12 +15,7 @@ use Rattle.ft_core.specs.declared.request.Answer.TheVariants.{Txn, Granted, Wait
 use Rattle.ft_session.specs.declared.last.Last.{Last}
 use Rattle.ft_session.specs.declared.last.Last.TheVariants as last
 use Rattle.nuzolged.specs.declared.told.Told.{Told}
-
--- 1 for a directory, 2 for a file, 3 for a symbolic link
-abbrev pub kind_number : Kind → ℕ
-kind_number kind.Dir = 1
-kind_number kind.File = 2
-kind_number kind.Link = 3
+use Rattle.nuzolged.specs.Listing.{kind_number, listing, size_of}
 
 -- what is told where no call has looked at a directory or file
 abbrev pub told_of_none : ℕ → ℕ → ℕ → ℕ → ℕ → Told
@@ -118,11 +112,12 @@ told_of_info stamp kind number links size attributes time = record {
   nanoseconds = (unwrap_or time epoch).nanoseconds;
 }
 
--- a reply: its stamp, and code 0 with a number, with how many names or bytes there are, or with
--- what `stat` tells; or the number of its error
+-- a reply: its stamp, and code 0 with a number, with how many names there are and how many bytes
+-- those have as C has them, with how many bytes there are, or with what `stat` tells; or the number
+-- of its error
 abbrev pub told_of_reply : ℕ → Reply → Told
 told_of_reply stamp Done = told 0 stamp 0
-told_of_reply stamp (Names names) = told 0 stamp (length names)
+told_of_reply stamp (Names names) = told_of_none 0 0 stamp (length names) (size_of (listing names))
 told_of_reply stamp (Number number) = told 0 stamp number
 told_of_reply stamp (Bytes bytes) = told 0 stamp (length bytes)
 told_of_reply stamp (Info kind number links size attributes time) = told_of_info stamp kind number links size (attributes_from kind attributes) time

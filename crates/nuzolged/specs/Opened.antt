@@ -1,5 +1,5 @@
 -- What an opened handle holds.
-use Rattle.std.specs.Prelude.{◌≡◌, ◌⊎◌, ℕ, cond, true, [], Option, Some, None, suc, zero}
+use Rattle.std.specs.Prelude.{◌≡◌, ◌⊎◌, ◌==◌, ◌&&◌, ℕ, Bool, cond, true, List, [], Option, Some, None, suc, zero, slice_index}
 use Rattle.ft_moss.specs.declared.rule.Rule.{Rule}
 use Rattle.ft_moss.specs.declared.rule.Rule.TheVariants.{Profile, Moss}
 use Rattle.ft_core.specs.declared.fault.Fault.{Fault}
@@ -9,6 +9,7 @@ use Rattle.ft_core.specs.Limits.{are_within, greatest_limits}
 use Rattle.ft_core.specs.States.{first_state}
 use Rattle.ft_session.specs.declared.last.Last.TheVariants.{Text}
 use Rattle.ft_session.specs.declared.session.Session.{Session}
+use Rattle.nuzolged.specs.declared.handle.Handle.{Handle}
 use Rattle.nuzolged.specs.declared.limits.Limits.{Limits}
 use Rattle.nuzolged.specs.Numbers.{fault_number}
 
@@ -18,15 +19,23 @@ rule_of zero = Some Profile
 rule_of (suc zero) = Some Moss
 rule_of (suc (suc number)) = None
 
--- the limits that C gives, as a core has them
-abbrev pub limits_given : Limits → CoreLimits
-limits_given limits = record {
+-- the limits that C gives but for those that are reserved
+abbrev pub plain_limits : Limits → CoreLimits
+plain_limits limits = record {
   file_size = limits.file_size;
   links = limits.links;
   depth = limits.depth;
   transactions = limits.transactions;
   calls = limits.calls;
 }
+
+-- nothing is asked of limits to come
+abbrev pub is_zero : List ℕ → Bool
+is_zero reserved = slice_index reserved 0 == 0 && slice_index reserved 1 == 0 && slice_index reserved 2 == 0
+
+-- the limits that C gives, as a core has them; none where a reserved one is not 0, which no core has
+abbrev pub limits_given : Limits → Option CoreLimits
+limits_given limits = cond (is_zero limits.reserved) (Some (plain_limits limits)) None
 
 -- why no tree has these limits: one of them is above the greatest, or there was no memory
 abbrev pub fault_of_limits : CoreLimits → Fault
@@ -37,8 +46,13 @@ fault_of_limits limits = cond (are_within limits greatest_limits) Memory BadLimi
 abbrev pub IsNew : Rule → CoreLimits → Session → Type 0
 IsNew rule limits session = (are_within limits greatest_limits ≡ true) × (session.core.state ≡ first_state rule limits) × (session.last ≡ Text [])
 
--- A new tree is held. Or nothing has changed: there is no such rule, no tree has such limits, or
+-- the handle holds a session with such a core
+abbrev pub HasNew : Rule → CoreLimits → Handle → Type 0
+HasNew rule limits handle = (session : Session) × (handle.session ≡ Some session) × IsNew rule limits session
+
+-- There is a new tree. Or there is none: there are no such options, no tree has such limits, or
 -- there was no memory.
-abbrev pub IsOpened : Option Rule → CoreLimits → Option Session → ℕ → Option Session → Type 0
-IsOpened None limits old code new = (code ≡ 1201) × (new ≡ old)
-IsOpened (Some rule) limits old code new = ((code ≡ 0) × ((session : Session) × (new ≡ Some session) × IsNew rule limits session)) ⊎ ((code ≡ fault_number (fault_of_limits limits)) × (new ≡ old))
+abbrev pub IsOpened : Option Rule → Option CoreLimits → ℕ → Option Handle → Type 0
+IsOpened None limits code tree = (code ≡ 1201) × (tree ≡ None)
+IsOpened (Some rule) None code tree = (code ≡ 1012) × (tree ≡ None)
+IsOpened (Some rule) (Some limits) code tree = ((code ≡ 0) × ((handle : Handle) × (tree ≡ Some handle) × HasNew rule limits handle)) ⊎ ((code ≡ fault_number (fault_of_limits limits)) × (tree ≡ None))

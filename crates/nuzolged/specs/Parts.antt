@@ -1,10 +1,16 @@
 -- What is told of the parts of the last answer.
 use Rattle.std.specs.Prelude.{ℕ, List, length, Option, Some, None, slice_get}
 use Rattle.ft_cells.specs.declared.node.Kind.{Kind}
+use Rattle.ft_posix.specs.declared.call.Reply.{Reply}
+use Rattle.ft_posix.specs.declared.call.Reply.TheVariants.{Names, Bytes}
+use Rattle.ft_core.specs.declared.request.Answer.{Answer}
+use Rattle.ft_core.specs.declared.request.Answer.TheVariants.{Granted}
 use Rattle.ft_session.specs.declared.last.Last.{Last}
+use Rattle.ft_session.specs.declared.last.Last.TheVariants as last
 use Rattle.ft_session.specs.declared.session.Session.{Session}
-use Rattle.ft_session.specs.Parts.{names_in, blockers_in, bytes_in}
+use Rattle.ft_session.specs.Parts.{names_in, blockers_in}
 use Rattle.nuzolged.specs.declared.told.Told.{Told}
+use Rattle.nuzolged.specs.Listing.{listing, size_of}
 use Rattle.nuzolged.specs.Numbers.{told, told_size, told_name, closed, bad}
 
 -- ---- a name of a list
@@ -53,19 +59,35 @@ abbrev pub blocker_told : Option Session → ℕ → Told
 blocker_told None index = closed
 blocker_told (Some session) index = blocker_at session.last index
 
--- ---- the bytes of a read, or of a target
+-- ---- the bytes of a read or of a target, and the names of a list
 
--- how many there are; `bad` where the last answer has none
-abbrev pub bytes_count : Option (List ℕ) → Told
-bytes_count None = bad
-bytes_count (Some bytes) = told_size (length bytes)
+-- those that a reply has
+abbrev pub data_of : Reply → Option (List ℕ)
+data_of (Names names) = Some (listing names)
+data_of (Bytes bytes) = Some bytes
+data_of other = None
+
+-- the same of an answer
+abbrev pub data_answered : Answer → Option (List ℕ)
+data_answered (Granted stamp reply) = data_of reply
+data_answered other = None
+
+-- the same of what the last request came to
+abbrev pub data_in : Last → Option (List ℕ)
+data_in (last.Answer answer) = data_answered answer
+data_in (last.Text text) = None
+
+-- how many there are; `bad` where there are none
+abbrev pub data_count : Option (List ℕ) → Told
+data_count None = bad
+data_count (Some bytes) = told_size (size_of bytes)
 
 -- the same through a handle, which may be closed
-abbrev pub bytes_told : Option Session → Told
-bytes_told None = closed
-bytes_told (Some session) = bytes_count (bytes_in session.last)
+abbrev pub data_told : Option Session → Told
+data_told None = closed
+data_told (Some session) = data_count (data_in session.last)
 
--- the bytes that the last answer of a handle has, if it has some
-abbrev pub bytes_held : Option Session → Option (List ℕ)
-bytes_held None = None
-bytes_held (Some session) = bytes_in session.last
+-- those that the last answer of a handle has, if it has some
+abbrev pub data_held : Option Session → Option (List ℕ)
+data_held None = None
+data_held (Some session) = data_in session.last

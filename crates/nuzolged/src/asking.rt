@@ -2,7 +2,7 @@
 ghost use Rattle.std.specs.Prelude.{◌≡◌, ◌≢◌, ℤ, Bool, IfOk, take};
 ghost use Rattle.ft_posix.specs.declared.call.Call.{Call as CallOf};
 ghost use Rattle.ft_core.specs.declared.request.Request.TheVariants.{Ask, Checkpoint};
-ghost use Rattle.nuzolged.specs.Asked.{limits_of, IsAsked, IsCallAsked, IsCalled, IsBad, IsPath, ArePaths, is_bad};
+ghost use Rattle.nuzolged.specs.Asked.{given_of, limits_of, IsAsked, IsCallAsked, IsCalled, IsBad, IsPath, ArePaths, is_bad};
 ghost use Rattle.nuzolged.specs.Cuts.{cut_mode, cut_of, most_at, most_of};
 ghost use Rattle.nuzolged.specs.Numbers.{no_memory};
 
@@ -100,8 +100,8 @@ pub(crate) fn turn_away(alloc: Global, tree: &mut Handle, txn: u64, why: Unasked
     }
 }
 
-/// A path of these bytes. One that has a null byte is bad. Of one that is too long no more is
-/// copied than tells so.
+/// A path of these bytes. One that has a null byte is bad. A path that is too long is cut: no more
+/// of it is copied than tells so.
 pub(crate) fn path_of(alloc: Global, bytes: &[u8]) -> Result<FilePath, Unasked>
     ensures { IsPath bytes.now result }
 {
@@ -180,4 +180,15 @@ pub(crate) fn most_at(limits: TreeLimits, off: i64) -> u64
         return 1;
     }
     limits.file_size.saturating_sub(off.unsigned_abs()).max(1)
+}
+
+/// The owner, the group or the mode of a number, if one is given.
+pub(crate) fn given_of(number: u32) -> Option<u32>
+    ensures { result ≡ given_of number }
+{
+    if number == u32::MAX {
+        None
+    } else {
+        Some(number)
+    }
 }

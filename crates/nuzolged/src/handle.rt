@@ -11,8 +11,8 @@ use ft_session::Session;
 use std::alloc::Global;
 use std::marker::Model;
 
-/// A tree, as C holds it: null, or the pointer of a session. `nuz_tree` of the header: one pointer,
-/// null at first. It owns the session.
+/// A tree, as its pointer leads C to it: null, or the pointer of a session, which it owns. It is a
+/// `nuz_tree` of the header. No function leaves one closed that is not.
 #[repr(C)]
 pub struct Handle {
     at: *mut u8,

@@ -4,12 +4,20 @@ ghost use Rattle.std.specs.Prelude.{◌≡◌};
 ghost use Rattle.nuzolged.specs.Cuts.{CutLaw};
 
 use crate::handle::Handle;
+use crate::pointer::TreePointer;
 
 /// A handle may go to another thread. It holds there what it held.
 pub fn handle_crosses(handle: Handle) -> Handle
     ensures { result ≡ handle }
 {
     crossed(handle)
+}
+
+/// A pointer of a handle may too. It leads there to what it led to.
+pub fn pointer_crosses(tree: TreePointer) -> TreePointer
+    ensures { result ≡ tree }
+{
+    crossed(tree)
 }
 
 /// What may go to another thread.

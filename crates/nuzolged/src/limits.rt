@@ -1,6 +1,6 @@
 // What a tree allows, as C gives it.
 ghost use Rattle.std.specs.Prelude.{◌≡◌};
-ghost use Rattle.nuzolged.specs.Opened.{limits_given};
+ghost use Rattle.nuzolged.specs.Opened.{is_zero, limits_given};
 
 use ft_core::Limits as CoreLimits;
 
@@ -18,17 +18,29 @@ pub struct Limits {
     pub transactions: u64,
     /// How many calls may be granted before a checkpoint.
     pub calls: u64,
+    /// 0 each: no tree has other limits.
+    pub reserved: [u64; 3],
 }
 
-/// The same limits, as a core takes them.
-pub(crate) fn limits_given(limits: Limits) -> CoreLimits
-    ensures { result ≡ limits_given limits }
+/// The same limits, as a core takes them, if it has no others.
+pub(crate) fn limits_given(limits: &Limits) -> Option<CoreLimits>
+    ensures { result ≡ limits_given limits.now }
 {
-    CoreLimits {
+    if !is_zero(&limits.reserved) {
+        return None;
+    }
+    Some(CoreLimits {
         file_size: limits.file_size,
         links: limits.links,
         depth: limits.depth,
         transactions: limits.transactions,
         calls: limits.calls,
-    }
+    })
+}
+
+// Whether nothing is asked of limits to come.
+fn is_zero(reserved: &[u64; 3]) -> bool
+    ensures { result ≡ is_zero reserved.now }
+{
+    reserved[0] == 0 && reserved[1] == 0 && reserved[2] == 0
 }

@@ -1,18 +1,58 @@
 // Lines of a script, and replies as text.
 ghost use Rattle.std.specs.Prelude.{◌≡◌};
 ghost use Rattle.ft_replies.specs.Requests.{meaning_of};
-ghost use Rattle.nuzolged.specs.Lines.{IsLineAsked, IsLineTold, IsReplied, HasReplied};
+ghost use Rattle.nuzolged.specs.Answers.{IsTold, IsToldWith};
+ghost use Rattle.nuzolged.specs.Lines.{IsLineAsked, IsLineTold, IsReplied, HasReplied, IsReplyTold, IsReplySize, IsSizeOfReply};
 
+use crate::answered::{Answered, tell, tell_with};
 use crate::handle::Handle;
 use crate::told::{BAD, CLOSED, MEMORY, Told, told_of};
 use ft_base::Memory;
 use ft_session::{Last, LineFault, Session};
 use std::alloc::Global;
 
+/// What is told for the length of a reply that there was no memory for.
+const UNTOLD: u64 = u64::MAX;
+
 /// Carries out one line of a script, without its line feed. A request is answered as by its own
-/// function; a report, and a line that asks for nothing, by 0 and the length of the reply.
+/// function; a report, and a line that asks for nothing, by 0 and the length of the reply. It is
+/// told too how many bytes the reply has, and as many as have room are copied.
 #[unsafe(no_mangle)]
-pub extern "C" fn nuz_request(alloc: Global, tree: &mut Handle, line: &[u8]) -> Told
+pub extern "C" fn nuz_request(
+    alloc: Global,
+    tree: &mut Handle,
+    line: &[u8],
+    buffer: &mut [u8],
+    answer: &mut Answered,
+) -> u32
+    ensures asked { IsLineAsked tree.old.session (meaning_of line.now) answer.new.told tree.new.session }
+    ensures reply { IsReplyTold tree.new.session answer.new.told.code answer.new.reply buffer.old buffer.new }
+    ensures told { IsToldWith answer.new.reply tree.new.session result answer.new }
+{
+    let told = request(alloc, tree, line);
+    let reply = told_reply(alloc, tree, told.code, buffer);
+    tell_with(alloc, tree, told, reply, answer)
+}
+
+/// The reply to the last request, as a script shows it: how many bytes it has is told, and as many
+/// as have room are copied.
+#[unsafe(no_mangle)]
+pub extern "C" fn nuz_reply(
+    alloc: Global,
+    tree: &mut Handle,
+    buffer: &mut [u8],
+    answer: &mut Answered,
+) -> u32
+    ensures same { tree.new.session ≡ tree.old.session }
+    ensures reply { IsReplied tree.old.session answer.new.told buffer.old buffer.new }
+    ensures told { IsTold tree.new.session result answer.new }
+{
+    let told = copy_reply(alloc, tree, buffer);
+    tell(alloc, tree, told, answer)
+}
+
+// Carries out one line.
+fn request(alloc: Global, tree: &mut Handle, line: &[u8]) -> Told
     ensures { IsLineAsked tree.old.session (meaning_of line.now) result tree.new.session }
 {
     match tree.take(alloc) {
@@ -26,10 +66,44 @@ pub extern "C" fn nuz_request(alloc: Global, tree: &mut Handle, line: &[u8]) -> 
     }
 }
 
-/// The reply to the last request, as a script shows it: how many bytes it has is told, and as many
-/// as have room are copied.
-#[unsafe(no_mangle)]
-pub extern "C" fn nuz_reply(alloc: Global, tree: &mut Handle, buffer: &mut [u8]) -> Told
+// Copies the reply to a line that has come to a code, if it has one: how many bytes it has.
+fn told_reply(alloc: Global, tree: &mut Handle, code: u32, buffer: &mut [u8]) -> u64
+    ensures same { tree.new.session ≡ tree.old.session }
+    ensures reply { IsReplyTold tree.old.session code result buffer.old buffer.new }
+{
+    if code == CLOSED || code == BAD || code == MEMORY {
+        return 0;
+    }
+    reply_size(alloc, tree, buffer)
+}
+
+// Copies the reply to the last request: how many bytes it has.
+fn reply_size(alloc: Global, tree: &mut Handle, buffer: &mut [u8]) -> u64
+    ensures same { tree.new.session ≡ tree.old.session }
+    ensures reply { IsReplySize tree.old.session result buffer.old buffer.new }
+{
+    match tree.take(alloc) {
+        None => 0,
+        Some(session) => {
+            let size = size_of_reply(alloc, &session.last, buffer);
+            tree.put(session);
+            size
+        }
+    }
+}
+
+// Copies a reply: how many bytes it has.
+fn size_of_reply(alloc: Global, last: &Last, buffer: &mut [u8]) -> u64
+    ensures { IsSizeOfReply last.now result buffer.old buffer.new }
+{
+    match last.copy_reply(alloc, buffer) {
+        Ok(size) => size as u64,
+        Err(Memory) => UNTOLD,
+    }
+}
+
+// Copies the reply to the last request, and tells how many bytes it has.
+fn copy_reply(alloc: Global, tree: &mut Handle, buffer: &mut [u8]) -> Told
     ensures same { tree.new.session ≡ tree.old.session }
     ensures reply { IsReplied tree.old.session result buffer.old buffer.new }
 {

@@ -1,11 +1,15 @@
 // Parts of the last answer.
 ghost use Rattle.std.specs.Prelude.{◌≡◌};
 ghost use Rattle.ft_session.specs.Buffers.{filled_by};
-ghost use Rattle.ft_session.specs.Parts.{bytes_in};
-ghost use Rattle.nuzolged.specs.Parts.{name_bytes, name_told, name_at, name_bytes_at, blocker_told, blocker_at, bytes_held, bytes_told, bytes_count};
+ghost use Rattle.nuzolged.specs.Answers.{IsTold};
+ghost use Rattle.nuzolged.specs.Parts.{name_bytes, name_told, name_at, name_bytes_at, blocker_told, blocker_at, data_in, data_held, data_told, data_count};
 
+use crate::answered::{Answered, tell};
 use crate::handle::Handle;
+use crate::listing::copy_listing;
 use crate::told::{BAD, CLOSED, Told};
+use ft_calls::Reply;
+use ft_core::Answer;
 use ft_session::{Last, copy_into};
 use std::alloc::Global;
 
@@ -17,7 +21,70 @@ pub extern "C" fn nuz_name(
     tree: &mut Handle,
     index: usize,
     buffer: &mut [u8],
-) -> Told
+    answer: &mut Answered,
+) -> u32
+    ensures same { tree.new.session ≡ tree.old.session }
+    ensures name { answer.new.told ≡ name_told tree.old.session index }
+    ensures bytes { buffer.new ≡ filled_by (name_bytes tree.old.session index) buffer.old }
+    ensures told { IsTold tree.new.session result answer.new }
+{
+    let told = copy_name(alloc, tree, index, buffer);
+    tell(alloc, tree, told, answer)
+}
+
+/// A transaction for which the last call waits, counted from 0.
+#[unsafe(no_mangle)]
+pub extern "C" fn nuz_blocker(
+    alloc: Global,
+    tree: &mut Handle,
+    index: usize,
+    answer: &mut Answered,
+) -> u32
+    ensures same { tree.new.session ≡ tree.old.session }
+    ensures blocker { answer.new.told ≡ blocker_told tree.old.session index }
+    ensures told { IsTold tree.new.session result answer.new }
+{
+    let told = blocker(alloc, tree, index);
+    tell(alloc, tree, told, answer)
+}
+
+/// The bytes that the last call has read, or the names that it lists: how many bytes there are is
+/// told, and as many as have room are copied.
+#[unsafe(no_mangle)]
+pub extern "C" fn nuz_bytes(
+    alloc: Global,
+    tree: &mut Handle,
+    buffer: &mut [u8],
+    answer: &mut Answered,
+) -> u32
+    ensures same { tree.new.session ≡ tree.old.session }
+    ensures count { answer.new.told ≡ data_told tree.old.session }
+    ensures bytes { buffer.new ≡ filled_by (data_held tree.old.session) buffer.old }
+    ensures told { IsTold tree.new.session result answer.new }
+{
+    let told = copy_data(alloc, tree, buffer);
+    tell(alloc, tree, told, answer)
+}
+
+/// Copies the bytes that the last call has read, or the names that it lists, and tells how many
+/// bytes there are.
+pub(crate) fn copy_data(alloc: Global, tree: &mut Handle, buffer: &mut [u8]) -> Told
+    ensures same { tree.new.session ≡ tree.old.session }
+    ensures told { result ≡ data_told tree.old.session }
+    ensures bytes { buffer.new ≡ filled_by (data_held tree.old.session) buffer.old }
+{
+    match tree.take(alloc) {
+        None => Told::of(CLOSED, 0, 0),
+        Some(session) => {
+            let told = data_of(&session.last, buffer);
+            tree.put(session);
+            told
+        }
+    }
+}
+
+// Copies a name of the list, and tells of it.
+fn copy_name(alloc: Global, tree: &mut Handle, index: usize, buffer: &mut [u8]) -> Told
     ensures same { tree.new.session ≡ tree.old.session }
     ensures told { result ≡ name_told tree.old.session index }
     ensures bytes { buffer.new ≡ filled_by (name_bytes tree.old.session index) buffer.old }
@@ -32,9 +99,8 @@ pub extern "C" fn nuz_name(
     }
 }
 
-/// A transaction for which the last call waits, counted from 0.
-#[unsafe(no_mangle)]
-pub extern "C" fn nuz_blocker(alloc: Global, tree: &mut Handle, index: usize) -> Told
+// Tells a transaction for which the call waits.
+fn blocker(alloc: Global, tree: &mut Handle, index: usize) -> Told
     ensures same { tree.new.session ≡ tree.old.session }
     ensures told { result ≡ blocker_told tree.old.session index }
 {
@@ -42,24 +108,6 @@ pub extern "C" fn nuz_blocker(alloc: Global, tree: &mut Handle, index: usize) ->
         None => Told::of(CLOSED, 0, 0),
         Some(session) => {
             let told = blocker_at(&session.last, index);
-            tree.put(session);
-            told
-        }
-    }
-}
-
-/// The bytes that the last call has read: how many there are is told, and as many as have room are
-/// copied.
-#[unsafe(no_mangle)]
-pub extern "C" fn nuz_bytes(alloc: Global, tree: &mut Handle, buffer: &mut [u8]) -> Told
-    ensures same { tree.new.session ≡ tree.old.session }
-    ensures told { result ≡ bytes_told tree.old.session }
-    ensures bytes { buffer.new ≡ filled_by (bytes_held tree.old.session) buffer.old }
-{
-    match tree.take(alloc) {
-        None => Told::of(CLOSED, 0, 0),
-        Some(session) => {
-            let told = bytes_of(&session.last, buffer);
             tree.put(session);
             told
         }
@@ -90,13 +138,24 @@ fn blocker_at(last: &Last, index: usize) -> Told
     }
 }
 
-// The bytes that were read.
-fn bytes_of(last: &Last, buffer: &mut [u8]) -> Told
-    ensures told { result ≡ bytes_count (bytes_in last.now) }
-    ensures bytes { buffer.new ≡ filled_by (bytes_in last.now) buffer.old }
+// The bytes that were read, or the names that were listed.
+fn data_of(last: &Last, buffer: &mut [u8]) -> Told
+    ensures told { result ≡ data_count (data_in last.now) }
+    ensures bytes { buffer.new ≡ filled_by (data_in last.now) buffer.old }
 {
-    match last.bytes() {
-        None => Told::of(BAD, 0, 0),
-        Some(bytes) => Told::of_size(copy_into(bytes, buffer)),
+    match last {
+        Last::Answer(
+            Answer::Granted {
+                stamp: _,
+                reply: Reply::Names(names),
+            },
+        ) => Told::of_size(copy_listing(names.as_slice(), buffer)),
+        Last::Answer(
+            Answer::Granted {
+                stamp: _,
+                reply: Reply::Bytes(bytes),
+            },
+        ) => Told::of_size(copy_into(bytes.as_slice(), buffer)),
+        _ => Told::of(BAD, 0, 0),
     }
 }

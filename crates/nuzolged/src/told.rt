@@ -1,7 +1,9 @@
 // Answers in numbers.
 ghost use Rattle.std.specs.Prelude.{◌≡◌};
-ghost use Rattle.nuzolged.specs.Numbers.{told, told_of, told_of_answer, told_of_reply, told_name, told_size, errno_number, fault_number, kind_number};
+ghost use Rattle.nuzolged.specs.Listing.{kind_number};
+ghost use Rattle.nuzolged.specs.Numbers.{told, told_of, told_of_answer, told_of_reply, told_name, told_size, errno_number, fault_number};
 
+use crate::listing::listing_size;
 use ft_calls::Reply;
 use ft_core::{Answer, Fault};
 use ft_path::Errno;
@@ -11,8 +13,11 @@ use ft_tree::{Attributes, Kind, Timestamp};
 /// There was no memory.
 pub(crate) const MEMORY: u32 = 1001;
 
+/// A limit is above the greatest.
+pub(crate) const BAD_LIMITS: u32 = 1012;
+
 /// The call has to wait.
-const WAITS: u32 = 1100;
+pub(crate) const WAITS: u32 = 1100;
 
 /// The handle holds no tree.
 pub(crate) const CLOSED: u32 = 1200;
@@ -26,7 +31,7 @@ const EPOCH: Timestamp = Timestamp {
     nanoseconds: 0,
 };
 
-/// What a request came to, in numbers: `nuz_answer` of the header.
+/// What a request came to, in numbers: what `nuz_answer` of the header begins with.
 #[repr(C)]
 #[derive(Clone, Copy, Debug, PartialEq, Eq)]
 pub struct Told {
@@ -130,7 +135,10 @@ fn told_of_reply(stamp: u64, reply: &Reply) -> Told
 {
     match reply {
         Reply::Done => Told::of(0, stamp, 0),
-        Reply::Names(names) => Told::of(0, stamp, names.len() as u64),
+        Reply::Names(names) => Told {
+            size: listing_size(names.as_slice()),
+            ..Told::of(0, stamp, names.len() as u64)
+        },
         Reply::Number(number) => Told::of(0, stamp, *number),
         Reply::Bytes(bytes) => Told::of(0, stamp, bytes.len() as u64),
         Reply::Info {
@@ -192,7 +200,7 @@ pub(crate) fn fault_number(fault: Fault) -> u32
         Fault::Live => 1009,
         Fault::NoAsk => 1010,
         Fault::NoViews => 1011,
-        Fault::BadLimits => 1012,
+        Fault::BadLimits => BAD_LIMITS,
     }
 }
 

@@ -1,40 +1,48 @@
 // Trees, opened and closed.
-ghost use Rattle.std.specs.Prelude.{◌≡◌, None, IfOk, IfErr};
+ghost use Rattle.std.specs.Prelude.{◌≡◌, Some, IfOk, IfErr};
 ghost use Rattle.ft_core.specs.Limits.{greatest_limits};
-ghost use Rattle.nuzolged.specs.Opened.{IsOpened, IsNew, fault_of_limits, limits_given, rule_of};
+ghost use Rattle.nuzolged.specs.Opened.{HasNew, IsOpened, fault_of_limits, limits_given, rule_of};
 
 use crate::handle::Handle;
 use crate::limits::{Limits, limits_given};
-use crate::told::{BAD, fault_number};
+use crate::pointer::TreePointer;
+use crate::told::{BAD, BAD_LIMITS, fault_number};
 use ft_base::Memory;
 use ft_core::{Core, Fault, Limits as CoreLimits, Rule};
 use ft_session::Session;
 use std::alloc::Global;
 
-/// Opens a tree: the root alone, and no transaction. `rule` is 0 for the rule of this project and 1
-/// for Moss's. Its limits are the greatest. What the handle held is ended.
-///
-/// Answers 0; 1001 for want of memory; 1201 where there is no such rule. Then the handle holds what
-/// it held.
+/// The version of the library: a million for each major one, a thousand for each minor one.
 #[unsafe(no_mangle)]
-pub extern "C" fn nuz_tree_open(alloc: Global, tree: &mut Handle, rule: u32) -> u32
-    ensures { IsOpened (rule_of rule) greatest_limits tree.old.session result tree.new.session }
+pub extern "C" fn nuz_version() -> u32
+    ensures { result ≡ 1000 }
 {
-    open(alloc, tree, rule, CoreLimits::greatest())
+    1000
 }
 
-/// Opens a tree with these limits, as `nuz_tree_open` else does. Answers 1012 too, where there is
-/// such a rule and one of the limits is above the greatest.
+/// Opens a tree: the root alone, and no transaction. `options` is 0 for the rule of this project
+/// and 1 for Moss's. Its limits are the greatest.
+///
+/// Answers 0; 1001 for want of memory; 1201 if there are no such options. Then the pointer is null.
+#[unsafe(no_mangle)]
+pub extern "C" fn nuz_tree_open(alloc: Global, tree: &mut TreePointer, options: u32) -> u32
+    ensures { IsOpened (rule_of options) (Some greatest_limits) result tree.new.tree }
+{
+    open(alloc, tree, options, Some(CoreLimits::greatest()))
+}
+
+/// Opens a tree with these limits, as `nuz_tree_open` else does. Answers 1012 too, where there are
+/// such options and one of the limits is above the greatest.
 #[unsafe(no_mangle)]
 pub extern "C" fn nuz_tree_open_with(
     alloc: Global,
-    tree: &mut Handle,
-    rule: u32,
-    limits: Limits,
+    tree: &mut TreePointer,
+    options: u32,
+    limits: &Limits,
 ) -> u32
-    ensures { IsOpened (rule_of rule) (limits_given limits) tree.old.session result tree.new.session }
+    ensures { IsOpened (rule_of options) (limits_given limits.now) result tree.new.tree }
 {
-    open(alloc, tree, rule, limits_given(limits))
+    open(alloc, tree, options, limits_given(limits))
 }
 
 /// Mixes a number into the hashes by which the tree finds names, as `Core::seed` says. A closed
@@ -50,27 +58,42 @@ pub extern "C" fn nuz_tree_seed(alloc: Global, tree: &mut Handle, seed: u64)
     }
 }
 
-/// Ends the tree, if the handle holds one, with all its transactions.
+/// Ends a tree, if there is one, with all its transactions.
 #[unsafe(no_mangle)]
-pub extern "C" fn nuz_tree_close(alloc: Global, tree: &mut Handle)
-    ensures { tree.new.session ≡ None }
-{
-    *tree = Handle::closed(alloc);
+pub extern "C" fn nuz_tree_close(tree: TreePointer) {
+    drop(tree);
 }
 
-// Opens a tree by the rule of a number, with these limits.
-fn open(alloc: Global, tree: &mut Handle, rule: u32, limits: CoreLimits) -> u32
-    ensures { IsOpened (rule_of rule) limits tree.old.session result tree.new.session }
+// Opens a tree by the rule of a number, with these limits, if it may have them.
+fn open(alloc: Global, tree: &mut TreePointer, options: u32, limits: Option<CoreLimits>) -> u32
+    ensures { IsOpened (rule_of options) limits result tree.new.tree }
 {
-    let Some(rule) = rule_of(rule) else {
-        return BAD;
-    };
-    match new_session(alloc, rule, limits) {
-        Ok(session) => {
-            tree.put(session);
+    match new_tree(alloc, options, limits) {
+        Ok(handle) => {
+            tree.put(TreePointer::to(handle));
             0
         }
-        Err(fault) => fault_number(fault),
+        Err(code) => {
+            tree.put(TreePointer::null(alloc));
+            code
+        }
+    }
+}
+
+// A handle of a new tree; else the code that says why there is none.
+fn new_tree(alloc: Global, options: u32, limits: Option<CoreLimits>) -> Result<Box<Handle>, u32>
+    ensures new { IfOk result (λ handle. IsOpened (rule_of options) limits 0 (Some handle.value)) }
+    ensures refused { IfErr result (λ code. IsOpened (rule_of options) limits code None) }
+{
+    let Some(rule) = rule_of(options) else {
+        return Err(BAD);
+    };
+    let Some(limits) = limits else {
+        return Err(BAD_LIMITS);
+    };
+    match new_handle(alloc, rule, limits) {
+        Ok(handle) => Ok(handle),
+        Err(fault) => Err(fault_number(fault)),
     }
 }
 
@@ -85,13 +108,16 @@ fn rule_of(number: u32) -> Option<Rule>
     }
 }
 
-// A session with a new core.
-fn new_session(alloc: Global, rule: Rule, limits: CoreLimits) -> Result<Box<Session>, Fault>
-    ensures new { IfOk result (λ session. IsNew rule limits session.value) }
+// A handle of a session with a new core.
+fn new_handle(alloc: Global, rule: Rule, limits: CoreLimits) -> Result<Box<Handle>, Fault>
+    ensures new { IfOk result (λ handle. HasNew rule limits handle.value) }
     ensures refused { IfErr result (λ fault. fault ≡ fault_of_limits limits) }
 {
     let core = Core::with(alloc, rule, limits)?;
-    Ok(boxed(alloc, Session::of(alloc, core))?)
+    let session = boxed(alloc, Session::of(alloc, core))?;
+    let mut handle = Handle::closed(alloc);
+    handle.put(session);
+    Ok(boxed_handle(alloc, handle)?)
 }
 
 // A session in a box.
@@ -99,4 +125,11 @@ fn boxed(alloc: Global, session: Session) -> Result<Box<Session>, Memory>
     ensures { IfOk result (λ boxed. boxed.value ≡ session) }
 {
     Ok(Box::new(alloc, session)?)
+}
+
+// A handle in a box.
+fn boxed_handle(alloc: Global, handle: Handle) -> Result<Box<Handle>, Memory>
+    ensures { IfOk result (λ boxed. boxed.value ≡ handle) }
+{
+    Ok(Box::new(alloc, handle)?)
 }

@@ -3,7 +3,7 @@ use Rattle.ft_replies.specs.Requests.{meaning_of}
 use Rattle.ft_session.specs.declared.session.Session.{Session}
 use Rattle.nuzolged.specs.Lines.{IsLineTold}
 use Rattle.nuzolged.proofs.Carried.{line_asked}
-use Rattle.nuzolged.proofs.lines.nuz_request.Goals as goal
+use Rattle.nuzolged.proofs.lines.request.Goals as goal
 
 pub returns-in-Some : goal.returns-in-Some
 returns-in-Some c =

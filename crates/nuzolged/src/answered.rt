@@ -1,0 +1,101 @@
+// What C is told.
+ghost use Rattle.std.specs.Prelude.{◌≡◌};
+ghost use Rattle.nuzolged.specs.Answers.{IsTold, IsToldWith, first_blockers, first_of, blocker_or_none};
+
+use crate::handle::Handle;
+use crate::told::{Told, WAITS};
+use ft_core::TxnId;
+use std::alloc::Global;
+
+/// How many blockers an answer has room for.
+const BLOCKERS: usize = 8;
+
+/// What a request came to, with what belongs to it: `nuz_answer` of the header.
+///
+/// It never gets larger: a member to come takes the place of a reserved one.
+#[repr(C)]
+#[derive(Clone, Copy, Debug, PartialEq, Eq)]
+pub struct Answered {
+    /// What the request came to, in numbers.
+    pub told: Told,
+    /// How many bytes the reply to a line has.
+    pub reply: u64,
+    /// The first transactions for which a call waits, in rising order. A place of none has a 0.
+    pub blockers: [u64; BLOCKERS],
+    /// 0 each.
+    pub reserved: [u64; 6],
+}
+
+/// Tells what a request of a tree came to: the code is returned too.
+pub(crate) fn tell(alloc: Global, tree: &mut Handle, told: Told, answer: &mut Answered) -> u32
+    ensures same { tree.new.session ≡ tree.old.session }
+    ensures told { answer.new.told ≡ told }
+    ensures rest { IsTold tree.new.session result answer.new }
+{
+    tell_with(alloc, tree, told, 0, answer)
+}
+
+/// The same with the length of a reply.
+pub(crate) fn tell_with(
+    alloc: Global,
+    tree: &mut Handle,
+    told: Told,
+    reply: u64,
+    answer: &mut Answered,
+) -> u32
+    ensures same { tree.new.session ≡ tree.old.session }
+    ensures told { answer.new.told ≡ told }
+    ensures rest { IsToldWith reply tree.new.session result answer.new }
+{
+    let blockers = if told.code == WAITS {
+        blockers_held(alloc, tree)
+    } else {
+        [0; BLOCKERS]
+    };
+    *answer = Answered {
+        told,
+        reply,
+        blockers,
+        reserved: [0; 6],
+    };
+    told.code
+}
+
+// The first transactions for which the last call of a tree waits.
+fn blockers_held(alloc: Global, tree: &mut Handle) -> [u64; BLOCKERS]
+    ensures same { tree.new.session ≡ tree.old.session }
+    ensures blockers { result ≡ first_blockers tree.old.session }
+{
+    let Some(session) = tree.take(alloc) else {
+        return [0; BLOCKERS];
+    };
+    let blockers = first_of(session.last.blockers());
+    tree.put(session);
+    blockers
+}
+
+// The first transactions of a list.
+fn first_of(blockers: &[TxnId]) -> [u64; BLOCKERS]
+    ensures { result ≡ first_of blockers.now }
+{
+    [
+        blocker_or_none(blockers, 0),
+        blocker_or_none(blockers, 1),
+        blocker_or_none(blockers, 2),
+        blocker_or_none(blockers, 3),
+        blocker_or_none(blockers, 4),
+        blocker_or_none(blockers, 5),
+        blocker_or_none(blockers, 6),
+        blocker_or_none(blockers, 7),
+    ]
+}
+
+// A transaction of a list, or 0 where there is none.
+fn blocker_or_none(blockers: &[TxnId], index: usize) -> u64
+    ensures { result ≡ blocker_or_none blockers.now index }
+{
+    match blockers.get(index) {
+        None => 0,
+        Some(txn) => txn.0,
+    }
+}

@@ -1,0 +1,134 @@
+// The waits-for edges, and a deadlock.
+ghost use Rattle.std.specs.Prelude.{◌≡◌};
+ghost use Rattle.nuzolged.specs.Answers.{IsTold};
+ghost use Rattle.nuzolged.specs.Waits.{AreBlockersTold, AreTold, HasBlockers, HasCycle, IsCycleTold, blockers_listed, members_of};
+
+use crate::answered::{Answered, tell};
+use crate::handle::Handle;
+use crate::told::{CLOSED, MEMORY, Told, fault_number};
+use ft_base::Memory;
+use ft_core::{Core, Pending, TxnId};
+use ft_waits::{Verdict, judged_edges};
+use std::alloc::Global;
+
+/// The transactions for which a transaction waits now: how many there are is told, and as many as
+/// have room are copied.
+#[unsafe(no_mangle)]
+pub extern "C" fn nuz_blockers(
+    alloc: Global,
+    tree: &mut Handle,
+    txn: u64,
+    txns: &mut [u64],
+    answer: &mut Answered,
+) -> u32
+    ensures same { tree.new.session ≡ tree.old.session }
+    ensures blockers { AreBlockersTold tree.old.session txn answer.new.told txns.old txns.new }
+    ensures told { IsTold tree.new.session result answer.new }
+{
+    let told = blockers(alloc, tree, TxnId(txn), txns);
+    tell(alloc, tree, told, answer)
+}
+
+/// The transactions of a deadlock, if there is one: how many there are is told, and as many as have
+/// room are copied.
+#[unsafe(no_mangle)]
+pub extern "C" fn nuz_cycle(
+    alloc: Global,
+    tree: &mut Handle,
+    txns: &mut [u64],
+    answer: &mut Answered,
+) -> u32
+    ensures same { tree.new.session ≡ tree.old.session }
+    ensures cycle { IsCycleTold tree.old.session answer.new.told txns.old txns.new }
+    ensures told { IsTold tree.new.session result answer.new }
+{
+    let told = cycle(alloc, tree, txns);
+    tell(alloc, tree, told, answer)
+}
+
+// Tells for which transactions one waits now.
+fn blockers(alloc: Global, tree: &mut Handle, txn: TxnId, txns: &mut [u64]) -> Told
+    ensures same { tree.new.session ≡ tree.old.session }
+    ensures told { AreBlockersTold tree.old.session txn result txns.old txns.new }
+{
+    match tree.take(alloc) {
+        None => Told::of(CLOSED, 0, 0),
+        Some(session) => {
+            let told = tell_blockers(&session.core, txn, txns);
+            tree.put(session);
+            told
+        }
+    }
+}
+
+// Tells a deadlock, if there is one.
+fn cycle(alloc: Global, tree: &mut Handle, txns: &mut [u64]) -> Told
+    ensures same { tree.new.session ≡ tree.old.session }
+    ensures told { IsCycleTold tree.old.session result txns.old txns.new }
+{
+    match tree.take(alloc) {
+        None => Told::of(CLOSED, 0, 0),
+        Some(session) => {
+            let told = tell_cycle(&session.core, txns);
+            tree.put(session);
+            told
+        }
+    }
+}
+
+// The same of a core.
+fn tell_blockers(core: &Core, txn: TxnId, txns: &mut [u64]) -> Told
+    ensures { HasBlockers core.now.state txn result txns.old txns.new }
+{
+    if let Err(fault) = core.may_retry(txn) {
+        return Told::of(fault_number(fault), 0, 0);
+    }
+    match core.pending() {
+        Err(Memory) => Told::of(MEMORY, 0, 0),
+        Ok(waits) => tell_txns(blockers_listed(waits.as_slice(), txn), txns),
+    }
+}
+
+// The transactions in the way of one, in a list of all that wait; none where it does not.
+fn blockers_listed<'a>(waits: &'a [Pending], txn: TxnId) -> &'a [TxnId]
+    ensures { result.now ≡ blockers_listed waits.now txn }
+{
+    for wait in waits {
+        if txn == wait.txn {
+            return wait.blockers.as_slice();
+        }
+    }
+    &[]
+}
+
+// The same of a core.
+fn tell_cycle(core: &Core, txns: &mut [u64]) -> Told
+    ensures { HasCycle core.now.state result txns.old txns.new }
+{
+    match judged_edges(core) {
+        Err(Memory) => Told::of(MEMORY, 0, 0),
+        Ok((_, verdict)) => tell_txns(members_of(&verdict), txns),
+    }
+}
+
+// The transactions of a cycle, if that is the verdict; else none.
+fn members_of(verdict: &Verdict) -> &[TxnId]
+    ensures { result.now ≡ members_of verdict.now }
+{
+    match verdict {
+        Verdict::Cycle(members) => members.as_slice(),
+        Verdict::Ranked(_) => &[],
+    }
+}
+
+// Copies the numbers of transactions, as many as have room, and tells how many there are.
+fn tell_txns(list: &[TxnId], txns: &mut [u64]) -> Told
+    ensures { AreTold list.now result txns.old txns.new }
+{
+    let count = list.len().min(txns.len());
+    for place in 0..count {
+        let txn = list[place];
+        txns[place] = txn.0;
+    }
+    Told::of(0, 0, list.len() as u64)
+}
