@@ -7,63 +7,59 @@
 
 /* Makes a file of these bytes. Answers 0, or the code of what stood in the way. */
 static uint32_t make_file(nuz_tree *tree, uint64_t txn, const char *path, const char *bytes) {
-    nuz_answer opened =
-        nuz_open(tree, txn, NUZ_S(path), NUZ_WRITE_ONLY, true, true, false, false);
-    if (opened.code != 0) {
-        return opened.code;
-    }
-    nuz_answer written = nuz_write(tree, txn, opened.number, NUZ_S(bytes));
-    if (written.code != 0) {
-        return written.code;
-    }
-    return nuz_close(tree, txn, opened.number).code;
+    const uint32_t flags = NUZ_O_WRONLY | NUZ_O_CREAT | NUZ_O_EXCL;
+    nuz_answer opened, answer;
+    uint32_t code = nuz_open(tree, txn, NUZ_S(path), flags, NUZ_DEFAULT_MODE, &opened);
+    if (code == 0) code = nuz_write(tree, txn, opened.number, NUZ_S(bytes), &answer);
+    if (code == 0) code = nuz_close(tree, txn, opened.number, &answer);
+    return code;
 }
 
 /* A step that makes a file and then fails. */
 static uint32_t fail_step(nuz_tree *tree, uint64_t job) {
-    nuz_answer step = nuz_sub(tree, job);
-    if (step.code != 0) {
-        return step.code;
+    nuz_answer step, aborted;
+    uint32_t code = nuz_begin_sub(tree, job, &step);
+    if (code == 0) code = make_file(tree, step.number, "/half", "not all of it");
+    if (code == 0) code = nuz_abort(tree, step.number, &aborted);
+    if (code == 0) {
+        printf("the first step failed, and %" PRIu64 " calls were taken back\n", aborted.number);
     }
-    uint32_t code = make_file(tree, step.number, "/half", "not all of it");
-    uint64_t calls = nuz_abort(tree, step.number).number;
-    printf("the first step failed, and %" PRIu64 " calls were taken back\n", calls);
     return code;
 }
 
 /* A step that makes a file. */
 static uint32_t do_step(nuz_tree *tree, uint64_t job) {
-    nuz_answer step = nuz_sub(tree, job);
-    if (step.code != 0) {
-        return step.code;
-    }
-    uint32_t code = make_file(tree, step.number, "/whole", "all of it");
-    return code != 0 ? code : nuz_commit(tree, step.number).code;
+    nuz_answer step, answer;
+    uint32_t code = nuz_begin_sub(tree, job, &step);
+    if (code == 0) code = make_file(tree, step.number, "/whole", "all of it");
+    if (code == 0) code = nuz_commit(tree, step.number, &answer);
+    return code;
 }
 
 /* Runs the job, and prints the tree that it leaves. */
 static uint32_t run_job(nuz_tree *tree) {
-    nuz_answer job = nuz_begin(tree);
-    uint32_t code = job.code;
+    char text[256];
+    nuz_answer job, answer;
+    uint32_t code = nuz_begin(tree, &job);
     if (code == 0) code = fail_step(tree, job.number);
     if (code == 0) code = do_step(tree, job.number);
-    if (code == 0) code = nuz_commit(tree, job.number).code;
-    if (code == 0) code = nuz_request(tree, NUZ_S("tree")).code;
+    if (code == 0) code = nuz_commit(tree, job.number, &answer);
+    if (code == 0) code = nuz_request(tree, NUZ_S("tree"), text, sizeof text, &answer);
     if (code == 0) {
-        uint8_t text[256];
-        nuz_answer reply = nuz_reply(tree, text, sizeof text);
-        fwrite(text, 1, reply.size < sizeof text ? reply.size : sizeof text, stdout);
-        code = reply.code;
+        fwrite(text, 1, answer.reply < sizeof text ? answer.reply : sizeof text, stdout);
     }
     return code;
 }
 
 int main(void) {
-    nuz_tree tree = NUZ_TREE_INIT;
-    uint32_t code = nuz_tree_open(&tree, NUZ_PROFILE);
+    nuz_tree *tree;
+    uint32_t code = nuz_tree_open(&tree, 0);
     if (code == 0) {
-        code = run_job(&tree);
+        code = run_job(tree);
     }
-    nuz_tree_close(&tree);
+    if (code != 0) {
+        fprintf(stderr, "example: %s\n", nuz_strerror(code));
+    }
+    nuz_tree_close(tree);
     return code == 0 ? EXIT_SUCCESS : EXIT_FAILURE;
 }

@@ -23,11 +23,11 @@
 #include <stdio.h>
 #include <stdlib.h>
 
-enum { LONGEST_LINE = 4096, LONGEST_NAME = 255, LONGEST_FILE = 1048576 };
+enum { LONGEST_LINE = 4096, LONGEST_FILE = 1048576 };
 
 /* A job: its tree, its transaction, and the step at which it is. */
 typedef struct job {
-    nuz_tree tree;
+    nuz_tree *tree;
     uint64_t txn;
     uint64_t step;  /* the transaction of the step; 0 before the first, and once it has failed */
     unsigned failures;
@@ -40,28 +40,45 @@ typedef uint32_t (*action)(job *, const char *, const char *);
 /* ---- actions */
 
 static uint32_t do_mkdir(job *job, const char *path, const char *rest) {
+    nuz_answer answer;
     (void)rest;
-    return nuz_mkdir(&job->tree, job->step, NUZ_S(path)).code;
+    return nuz_mkdir(job->tree, job->step, NUZ_S(path), NUZ_DEFAULT_MODE, &answer);
 }
 
-/* Opens a file, writes these bytes to it, and closes it. */
-static uint32_t write_file(job *job, const char *path, const uint8_t *bytes, size_t len,
-                           bool add) {
-    nuz_tree *tree = &job->tree;
-    nuz_answer opened =
-        nuz_open(tree, job->step, NUZ_S(path), NUZ_WRITE_ONLY, true, !add, false, add);
-    if (opened.code != 0) {
-        return opened.code;
-    }
+/* Writes bytes to an open file. */
+static uint32_t write_all(job *job, uint64_t fd, const char *bytes, size_t len) {
     /* (a file that is full takes fewer bytes, and then none, which is EFBIG) */
     for (size_t done = 0; done < len;) {
-        nuz_answer written = nuz_write(tree, job->step, opened.number, bytes + done, len - done);
-        if (written.code != 0) {
-            return written.code;
+        nuz_answer written;
+        uint32_t code = nuz_write(job->tree, job->step, fd, bytes + done, len - done, &written);
+        if (code != 0) {
+            return code;
         }
         done += written.number;
     }
-    return nuz_close(tree, job->step, opened.number).code;
+    return 0;
+}
+
+/* Opens a file, writes these bytes to it, and closes it. */
+static uint32_t write_file(job *job, const char *path, const char *bytes, size_t len, bool add) {
+    const uint32_t flags = NUZ_O_WRONLY | NUZ_O_CREAT | (add ? NUZ_O_APPEND : NUZ_O_EXCL);
+    nuz_answer opened, closed;
+    uint32_t code =
+        nuz_open(job->tree, job->step, NUZ_S(path), flags, NUZ_DEFAULT_MODE, &opened);
+    if (code == 0) code = write_all(job, opened.number, bytes, len);
+    if (code == 0) code = nuz_close(job->tree, job->step, opened.number, &closed);
+    return code;
+}
+
+/* Opens a file, reads all its bytes, and closes it: how many there are. */
+static uint32_t read_file(job *job, uint64_t txn, const char *path, char *bytes, size_t *len) {
+    nuz_answer opened, got, closed;
+    uint32_t code =
+        nuz_open(job->tree, txn, NUZ_S(path), NUZ_O_RDONLY, NUZ_DEFAULT_MODE, &opened);
+    if (code == 0) code = nuz_read(job->tree, txn, opened.number, bytes, LONGEST_FILE, &got);
+    if (code == 0) code = nuz_close(job->tree, txn, opened.number, &closed);
+    *len = code == 0 ? got.number : 0;
+    return code;
 }
 
 static uint32_t do_put(job *job, const char *path, const char *rest) {
@@ -73,32 +90,27 @@ static uint32_t do_add(job *job, const char *path, const char *rest) {
 }
 
 static uint32_t do_copy(job *job, const char *from, const char *to) {
-    static uint8_t bytes[LONGEST_FILE];
-    nuz_answer opened = nuz_open(&job->tree, job->step, NUZ_S(from), NUZ_READ_ONLY, false, false,
-                                 false, false);
-    if (opened.code != 0) {
-        return opened.code;
-    }
-    nuz_answer got = nuz_read(&job->tree, job->step, opened.number, bytes, sizeof bytes);
-    if (got.code != 0) {
-        return got.code;
-    }
-    uint32_t code = nuz_close(&job->tree, job->step, opened.number).code;
-    return code != 0 ? code : write_file(job, to, bytes, got.number, false);
+    static char bytes[LONGEST_FILE];
+    size_t len;
+    uint32_t code = read_file(job, job->step, from, bytes, &len);
+    return code != 0 ? code : write_file(job, to, bytes, len, false);
 }
 
 static uint32_t do_move(job *job, const char *from, const char *to) {
-    return nuz_rename(&job->tree, job->step, NUZ_S(from), NUZ_S(to)).code;
+    nuz_answer answer;
+    return nuz_rename(job->tree, job->step, NUZ_S(from), NUZ_S(to), &answer);
 }
 
 static uint32_t do_remove(job *job, const char *path, const char *rest) {
+    nuz_answer answer;
     (void)rest;
-    return nuz_unlink(&job->tree, job->step, NUZ_S(path)).code;
+    return nuz_unlink(job->tree, job->step, NUZ_S(path), &answer);
 }
 
 static uint32_t do_need(job *job, const char *path, const char *rest) {
+    nuz_answer answer;
     (void)rest;
-    return nuz_stat(&job->tree, job->step, NUZ_S(path)).code;
+    return nuz_stat(job->tree, job->step, NUZ_S(path), &answer);
 }
 
 static const struct {
@@ -123,7 +135,7 @@ static action action_of(const char *word) {
 
 /* Gives up: nothing of a job of which this is answered can be told. */
 static void give_up(const char *what, uint32_t code) {
-    fprintf(stderr, "job: %s: code %" PRIu32 "\n", what, code);
+    fprintf(stderr, "job: %s: %s\n", what, nuz_strerror(code));
     exit(2);
 }
 
@@ -132,7 +144,8 @@ static void end_step(job *job) {
     if (job->step == 0) {
         return;
     }
-    uint32_t code = nuz_commit(&job->tree, job->step).code;
+    nuz_answer answer;
+    uint32_t code = nuz_commit(job->tree, job->step, &answer);
     if (code != 0) {
         give_up("commit", code);
     }
@@ -142,22 +155,23 @@ static void end_step(job *job) {
 
 /* Takes back the step at which the job is, and says at which line, and why. */
 static void fail_step(job *job, const char *word, const char *path, uint32_t code) {
-    nuz_answer aborted = nuz_abort(&job->tree, job->step);
-    if (aborted.code != 0) {
-        give_up("abort", aborted.code);
+    nuz_answer aborted;
+    uint32_t refused = nuz_abort(job->tree, job->step, &aborted);
+    if (refused != 0) {
+        give_up("abort", refused);
     }
-    const char *why = code < NUZ_MEMORY ? strerror((int)code) : "refused";
-    printf("%s: failed at %s %s: %s; calls taken back: %" PRIu64 "\n", job->name, word, path, why,
-           aborted.number);
+    printf("%s: failed at %s %s: %s; calls taken back: %" PRIu64 "\n", job->name, word, path,
+           nuz_strerror(code), aborted.number);
     job->step = 0;
     job->failures++;
 }
 
 static void begin_step(job *job, const char *name) {
     end_step(job);
-    nuz_answer begun = nuz_sub(&job->tree, job->txn);
-    if (begun.code != 0) {
-        give_up("step", begun.code);
+    nuz_answer begun;
+    uint32_t code = nuz_begin_sub(job->tree, job->txn, &begun);
+    if (code != 0) {
+        give_up("step", code);
     }
     job->step = begun.number;
     snprintf(job->name, sizeof job->name, "%s", name);
@@ -195,31 +209,23 @@ static void do_line(job *job, char *line) {
 
 /* Prints the bytes of a file behind its name. */
 static void print_file(job *job, const char *path) {
-    static uint8_t bytes[LONGEST_FILE];
-    nuz_answer opened = nuz_open(&job->tree, job->txn, NUZ_S(path), NUZ_READ_ONLY, false, false,
-                                 false, false);
-    nuz_answer got = nuz_read(&job->tree, job->txn, opened.number, bytes, sizeof bytes);
-    if (got.code != 0) {
-        give_up(path, got.code);
+    static char bytes[LONGEST_FILE];
+    size_t len;
+    uint32_t code = read_file(job, job->txn, path, bytes, &len);
+    if (code != 0) {
+        give_up(path, code);
     }
-    nuz_close(&job->tree, job->txn, opened.number);
-    printf("%s: %.*s\n", path, (int)got.number, (const char *)bytes);
+    printf("%s: %.*s\n", path, (int)len, bytes);
 }
-
-/* A name of a directory. */
-typedef struct entry {
-    nuz_answer told;
-    char name[LONGEST_NAME];
-} entry;
 
 static void print_below(job *job, const char *path);
 
-/* Prints what a name of a directory leads to. The path of the directory ends with a slash. */
-static void print_entry(job *job, const char *directory, const entry *entry) {
+/* Prints what a name of a directory leads to, whose kind stands before it. The path of the
+ * directory ends with a slash. */
+static void print_entry(job *job, const char *directory, const char *entry) {
     char path[LONGEST_LINE];
-    bool is_dir = entry->told.kind == NUZ_DIR;
-    int size = snprintf(path, sizeof path, "%s%.*s%s", directory, (int)entry->told.size,
-                        entry->name, is_dir ? "/" : "");
+    bool is_dir = entry[0] == NUZ_DIR;
+    int size = snprintf(path, sizeof path, "%s%s%s", directory, entry + 1, is_dir ? "/" : "");
     if (size < 0 || (size_t)size >= sizeof path) {
         give_up(directory, NUZ_BAD);
     }
@@ -231,39 +237,40 @@ static void print_entry(job *job, const char *directory, const entry *entry) {
     print_below(job, path);
 }
 
-/* Prints what is below a directory. The names are taken before another request is made. */
+/* Prints what is below a directory. */
 static void print_below(job *job, const char *path) {
-    uint64_t count = nuz_list(&job->tree, job->txn, NUZ_S(path)).number;
-    entry *entries = calloc(count + 1, sizeof *entries);
-    if (entries == NULL) {
-        give_up(path, NUZ_MEMORY);
+    nuz_answer listed, told;
+    uint32_t code = nuz_list_all(job->tree, job->txn, NUZ_S(path), NULL, 0, &listed);
+    char *names = malloc(listed.size + 1);
+    if (code != 0 || names == NULL) {
+        give_up(path, code != 0 ? code : NUZ_MEMORY);
     }
-    for (uint64_t i = 0; i < count; i++) {
-        entries[i].told = nuz_name(&job->tree, i, (uint8_t *)entries[i].name, LONGEST_NAME);
+    nuz_bytes(job->tree, names, listed.size, &told);
+    for (size_t at = 0; at < listed.size; at += strlen(names + at) + 1) {
+        print_entry(job, path, names + at);
     }
-    for (uint64_t i = 0; i < count; i++) {
-        print_entry(job, path, &entries[i]);
-    }
-    free(entries);
+    free(names);
 }
 
 int main(void) {
-    static job job = { .tree = NUZ_TREE_INIT };
+    static job job;
+    nuz_answer begun, answer;
     nuz_limits limits = NUZ_LIMITS_GREATEST;
     limits.file_size = LONGEST_FILE; /* so that each file has room in one buffer */
-    uint32_t code = nuz_tree_open_with(&job.tree, NUZ_PROFILE, limits);
+    uint32_t code = nuz_tree_open_with(&job.tree, 0, &limits);
+    if (code == 0) code = nuz_begin(job.tree, &begun);
     if (code != 0) {
         give_up("open", code);
     }
-    job.txn = nuz_begin(&job.tree).number;
+    job.txn = begun.number;
     char line[LONGEST_LINE];
     while (fgets(line, sizeof line, stdin) != NULL) {
         do_line(&job, line);
     }
     end_step(&job);
     print_below(&job, "/");
-    code = nuz_commit(&job.tree, job.txn).code;
-    nuz_tree_close(&job.tree);
+    code = nuz_commit(job.tree, job.txn, &answer);
+    nuz_tree_close(job.tree);
     if (code != 0) {
         give_up("commit", code);
     }

@@ -19,6 +19,18 @@
         }                                                                  \
     } while (0)
 
+/* The answer that a function fills in. */
+static nuz_answer last_answer;
+
+/* What a function answers, which is given these arguments. */
+#define ASK(function, ...) (function(__VA_ARGS__, &last_answer), last_answer)
+
+/* Makes a file, which is open then. */
+static nuz_answer make_file(nuz_tree *t, uint64_t txn, const char *path) {
+    const uint32_t flags = NUZ_O_RDWR | NUZ_O_CREAT | NUZ_O_EXCL;
+    return ASK(nuz_open, t, txn, NUZ_S(path), flags, NUZ_DEFAULT_MODE);
+}
+
 /* ---- a large file */
 
 enum { PIECE = 1 << 24, PIECES = 192 };
@@ -31,7 +43,7 @@ static uint8_t piece[PIECE];
 static int write_pieces(nuz_tree *t, uint64_t txn, uint64_t fd, int most) {
     for (int i = 0; i < most; i++) {
         memset(piece, i + 1, PIECE);
-        if (nuz_write(t, txn, fd, piece, PIECE).number != PIECE) {
+        if (ASK(nuz_write, t, txn, fd, piece, PIECE).number != PIECE) {
             return i;
         }
     }
@@ -41,7 +53,7 @@ static int write_pieces(nuz_tree *t, uint64_t txn, uint64_t fd, int most) {
 /* Whether the file has these two bytes around a place. */
 static bool has_at(nuz_tree *t, uint64_t txn, uint64_t fd, uint64_t at, int before, int behind) {
     uint8_t got[2] = { 0, 0 };
-    return nuz_pread(t, txn, fd, got, 2, (int64_t)at - 1).number == 2
+    return ASK(nuz_pread, t, txn, fd, got, 2, (int64_t)at - 1).number == 2
         && got[0] == (uint8_t)before && got[1] == (uint8_t)behind;
 }
 
@@ -49,10 +61,10 @@ static bool has_at(nuz_tree *t, uint64_t txn, uint64_t fd, uint64_t at, int befo
 static bool is_whole(nuz_tree *t, uint64_t txn, uint64_t fd) {
     const uint64_t middle = PIECES / 2;
     uint8_t last[2] = { 0, 0 };
-    CHECK(nuz_fstat(t, txn, fd).size == SIZE);
+    CHECK(ASK(nuz_fstat, t, txn, fd).size == SIZE);
     CHECK(has_at(t, txn, fd, middle * PIECE, (int)middle, (int)middle + 1));
     CHECK(has_at(t, txn, fd, (uint64_t)PIECE * (PIECES - 1), PIECES - 1, PIECES));
-    CHECK(nuz_pread(t, txn, fd, last, 2, (int64_t)SIZE - 1).number == 1 && last[0] == PIECES);
+    CHECK(ASK(nuz_pread, t, txn, fd, last, 2, (int64_t)SIZE - 1).number == 1 && last[0] == PIECES);
     return true;
 }
 
@@ -60,43 +72,43 @@ static bool is_whole(nuz_tree *t, uint64_t txn, uint64_t fd) {
 static bool is_cut_and_undone(nuz_tree *t, uint64_t txn, uint64_t fd) {
     const uint64_t cut = SIZE / 3 + 5;
     uint8_t none[1];
-    nuz_answer made = nuz_ftruncate(t, txn, fd, (int64_t)cut);
-    CHECK(made.code == 0 && nuz_fstat(t, txn, fd).size == cut);
-    CHECK(nuz_pread(t, txn, fd, none, 1, (int64_t)cut).number == 0);
-    CHECK(nuz_undo(t, txn).code == 0 && nuz_undo(t, txn).code == 0);
-    CHECK(nuz_undo(t, txn).stamp == made.stamp);
+    nuz_answer made = ASK(nuz_ftruncate, t, txn, fd, (int64_t)cut);
+    CHECK(made.code == 0 && ASK(nuz_fstat, t, txn, fd).size == cut);
+    CHECK(ASK(nuz_pread, t, txn, fd, none, 1, (int64_t)cut).number == 0);
+    CHECK(ASK(nuz_undo, t, txn).code == 0 && ASK(nuz_undo, t, txn).code == 0);
+    CHECK(ASK(nuz_undo, t, txn).stamp == made.stamp);
     return is_whole(t, txn, fd);
 }
 
 /* Writes in a step until there is no memory: then the file has what was written, and a cut is made
  * or refused. An abort takes all that back. */
 static bool is_refused_without_memory(nuz_tree *t, uint64_t txn, uint64_t fd) {
-    uint64_t size = SIZE, step = nuz_sub(t, txn).number;
+    uint64_t size = SIZE, step = ASK(nuz_begin_sub, t, txn).number;
     nuz_answer written = { .code = 0 };
     memset(piece, 0xff, PIECE);
     while (written.code == 0 && size < 2 * SIZE) {
-        written = nuz_write(t, step, fd, piece, PIECE);
+        written = ASK(nuz_write, t, step, fd, piece, PIECE);
         size += written.number;
     }
-    CHECK(written.code == NUZ_MEMORY && nuz_fstat(t, step, fd).size == size);
+    CHECK(written.code == NUZ_MEMORY && ASK(nuz_fstat, t, step, fd).size == size);
     CHECK(size == SIZE || has_at(t, step, fd, SIZE, PIECES, 0xff));
-    nuz_answer cut = nuz_ftruncate(t, step, fd, (int64_t)SIZE / 2);
+    nuz_answer cut = ASK(nuz_ftruncate, t, step, fd, (int64_t)SIZE / 2);
     CHECK(cut.code == 0 || cut.code == NUZ_MEMORY);
-    CHECK(nuz_fstat(t, step, fd).size == (cut.code == 0 ? SIZE / 2 : size));
-    CHECK(nuz_abort(t, step).code == 0);
+    CHECK(ASK(nuz_fstat, t, step, fd).size == (cut.code == 0 ? SIZE / 2 : size));
+    CHECK(ASK(nuz_abort, t, step).code == 0);
     return is_whole(t, txn, fd);
 }
 
 static bool file_of_3_gigabytes(void) {
-    nuz_tree t = NUZ_TREE_INIT;
-    CHECK(nuz_tree_open(&t, NUZ_PROFILE) == 0 && nuz_begin(&t).number == 1);
-    nuz_answer made = nuz_open(&t, 1, NUZ_S("/f"), NUZ_READ_WRITE, true, true, false, false);
-    CHECK(made.code == 0 && write_pieces(&t, 1, made.number, PIECES) == PIECES);
-    CHECK(is_whole(&t, 1, made.number) && is_cut_and_undone(&t, 1, made.number));
-    CHECK(is_refused_without_memory(&t, 1, made.number));
-    CHECK(nuz_abort(&t, 1).code == 0 && nuz_begin(&t).number == 3);
-    CHECK(nuz_list(&t, 3, NUZ_S("/")).number == 0);
-    nuz_tree_close(&t);
+    nuz_tree *t = NULL;
+    CHECK(nuz_tree_open(&t, 0) == 0 && ASK(nuz_begin, t).number == 1);
+    nuz_answer made = make_file(t, 1, "/f");
+    CHECK(made.code == 0 && write_pieces(t, 1, made.number, PIECES) == PIECES);
+    CHECK(is_whole(t, 1, made.number) && is_cut_and_undone(t, 1, made.number));
+    CHECK(is_refused_without_memory(t, 1, made.number));
+    CHECK(ASK(nuz_abort, t, 1).code == 0 && ASK(nuz_begin, t).number == 3);
+    CHECK(ASK(nuz_list, t, 3, NUZ_S("/")).number == 0);
+    nuz_tree_close(t);
     return true;
 }
 
@@ -108,7 +120,7 @@ enum { CALLS = 5000000 };
 static bool make_calls(nuz_tree *t, uint64_t txn, uint64_t fd) {
     for (uint32_t i = 0; i < CALLS; i++) {
         uint8_t number[4] = { (uint8_t)i, (uint8_t)(i >> 8), (uint8_t)(i >> 16), 1 };
-        if (nuz_pwrite(t, txn, fd, number, 4, 4 * (i % 1000)).number != 4) {
+        if (ASK(nuz_pwrite, t, txn, fd, number, 4, 4 * (i % 1000)).number != 4) {
             return false;
         }
     }
@@ -116,16 +128,16 @@ static bool make_calls(nuz_tree *t, uint64_t txn, uint64_t fd) {
 }
 
 static bool calls_by_the_million(void) {
-    nuz_tree t = NUZ_TREE_INIT;
-    CHECK(nuz_tree_open(&t, NUZ_PROFILE) == 0 && nuz_begin(&t).number == 1);
-    nuz_answer made = nuz_open(&t, 1, NUZ_S("/f"), NUZ_READ_WRITE, true, true, false, false);
-    CHECK(made.code == 0 && nuz_sub(&t, 1).number == 2 && make_calls(&t, 2, made.number));
-    CHECK(nuz_fstat(&t, 2, made.number).stamp == made.stamp + CALLS + 1);
-    CHECK(nuz_fstat(&t, 2, made.number).size == 4000);
-    CHECK(nuz_abort(&t, 2).number == CALLS + 2);
-    CHECK(nuz_fstat(&t, 1, made.number).size == 0 && nuz_commit(&t, 1).code == 0);
-    CHECK(nuz_checkpoint(&t).code == 0);
-    nuz_tree_close(&t);
+    nuz_tree *t = NULL;
+    CHECK(nuz_tree_open(&t, 0) == 0 && ASK(nuz_begin, t).number == 1);
+    nuz_answer made = make_file(t, 1, "/f");
+    CHECK(made.code == 0 && ASK(nuz_begin_sub, t, 1).number == 2 && make_calls(t, 2, made.number));
+    CHECK(ASK(nuz_fstat, t, 2, made.number).stamp == made.stamp + CALLS + 1);
+    CHECK(ASK(nuz_fstat, t, 2, made.number).size == 4000);
+    CHECK(ASK(nuz_abort, t, 2).number == CALLS + 2);
+    CHECK(ASK(nuz_fstat, t, 1, made.number).size == 0 && ASK(nuz_commit, t, 1).code == 0);
+    CHECK(ASK(nuz_checkpoint, t).code == 0);
+    nuz_tree_close(t);
     return true;
 }
 
@@ -134,20 +146,21 @@ static bool calls_by_the_million(void) {
 enum { LEVELS = 4096 };
 
 static bool levels_by_the_thousand(void) {
-    nuz_tree t = NUZ_TREE_INIT;
-    CHECK(nuz_tree_open(&t, NUZ_PROFILE) == 0 && nuz_begin(&t).number == 1);
+    nuz_tree *t = NULL;
+    CHECK(nuz_tree_open(&t, 0) == 0 && ASK(nuz_begin, t).number == 1);
     for (uint64_t txn = 1; txn < LEVELS; txn++) {
-        CHECK(nuz_sub(&t, txn).number == txn + 1);
+        CHECK(ASK(nuz_begin_sub, t, txn).number == txn + 1);
     }
-    CHECK(nuz_sub(&t, LEVELS).code == NUZ_DEEP);
-    CHECK(nuz_mkdir(&t, LEVELS, NUZ_S("/deep")).code == 0);
+    CHECK(ASK(nuz_begin_sub, t, LEVELS).code == NUZ_DEEP);
+    CHECK(ASK(nuz_mkdir, t, LEVELS, NUZ_S("/deep"), NUZ_DEFAULT_MODE).code == 0);
     for (uint64_t txn = LEVELS; txn > 1; txn--) {
-        CHECK(nuz_commit(&t, txn).code == 0 && nuz_stat(&t, txn - 1, NUZ_S("/deep")).code == 0);
+        CHECK(ASK(nuz_commit, t, txn).code == 0);
+        CHECK(ASK(nuz_stat, t, txn - 1, NUZ_S("/deep")).code == 0);
     }
-    CHECK(nuz_sub(&t, 1).number == LEVELS + 1 && nuz_abort(&t, 1).number == LEVELS);
-    CHECK(nuz_begin(&t).number == LEVELS + 2);
-    CHECK(nuz_list(&t, LEVELS + 2, NUZ_S("/")).number == 0);
-    nuz_tree_close(&t);
+    CHECK(ASK(nuz_begin_sub, t, 1).number == LEVELS + 1 && ASK(nuz_abort, t, 1).number == LEVELS);
+    CHECK(ASK(nuz_begin, t).number == LEVELS + 2);
+    CHECK(ASK(nuz_list, t, LEVELS + 2, NUZ_S("/")).number == 0);
+    nuz_tree_close(t);
     return true;
 }
 

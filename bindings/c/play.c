@@ -13,33 +13,28 @@
 #include <stdlib.h>
 #include <unistd.h>
 
-/* Prints the reply to the last request, in a buffer that grows where it is too short. */
-static bool print_reply(nuz_tree *tree) {
-    static uint8_t *text;
+/* Carries out a line, and prints the reply to it. One that has no room in a buffer is asked for
+ * again, in a buffer of its size. */
+static bool play_line(nuz_tree *tree, const char *line, size_t len) {
+    static char *text;
     static size_t room;
-    nuz_answer reply = nuz_reply(tree, text != NULL ? text : (uint8_t[1]){ 0 }, room);
-    if (reply.code == 0 && reply.size > room) {
+    nuz_answer answer, reply;
+    uint32_t code = nuz_request(tree, line, len, text, room, &answer);
+    if (code == NUZ_BAD) {
+        return puts("bad line") != EOF;
+    }
+    if (code == NUZ_MEMORY || answer.reply == UINT64_MAX) {
+        return false;
+    }
+    if (answer.reply > room) {
         free(text);
-        room = reply.size;
+        room = answer.reply;
         text = malloc(room);
-        if (text == NULL) {
+        if (text == NULL || nuz_reply(tree, text, room, &reply) != 0) {
             return false;
         }
-        reply = nuz_reply(tree, text, room);
     }
-    return reply.code == 0 && fwrite(text, 1, reply.size, stdout) == reply.size;
-}
-
-/* Carries out a line, and prints the reply to it. */
-static bool play_line(nuz_tree *tree, const char *line, size_t len) {
-    switch (nuz_request(tree, (const uint8_t *)line, len).code) {
-    case NUZ_BAD:
-        return puts("bad line") != EOF;
-    case NUZ_MEMORY:
-        return false;
-    default:
-        return print_reply(tree);
-    }
+    return fwrite(text, 1, answer.reply, stdout) == answer.reply;
 }
 
 /* The number of a flag: so many, or by K, M and G so many times 2^10, 2^20 and 2^30; or none, which
@@ -80,12 +75,12 @@ static bool set_limit(nuz_limits *limits, const char *flag, const char *word) {
 }
 
 /* Opens the tree that the words of the command ask for. */
-static bool open_tree(nuz_tree *tree, char **words) {
+static bool open_tree(nuz_tree **tree, char **words) {
     nuz_limits limits = NUZ_LIMITS_SCRIPT;
-    uint32_t rule = NUZ_PROFILE;
+    uint32_t options = 0;
     while (*words != NULL) {
         if (strcmp(*words, "--moss") == 0) {
-            rule = NUZ_MOSS;
+            options = NUZ_MOSS;
             words++;
         } else if (words[1] != NULL && set_limit(&limits, words[0], words[1])) {
             words += 2;
@@ -93,17 +88,17 @@ static bool open_tree(nuz_tree *tree, char **words) {
             return false;
         }
     }
-    if (nuz_tree_open_with(tree, rule, limits) != 0) {
+    if (nuz_tree_open_with(tree, options, &limits) != 0) {
         return false;
     }
     uint64_t seed = 0; /* (where the system gives none, it stays so) */
     (void)!getentropy(&seed, sizeof seed);
-    nuz_tree_seed(tree, seed);
+    nuz_tree_seed(*tree, seed);
     return true;
 }
 
 int main(int argc, char **argv) {
-    nuz_tree tree = NUZ_TREE_INIT;
+    nuz_tree *tree;
     if (argc < 2 || !open_tree(&tree, argv + 2)) {
         return EXIT_FAILURE;
     }
@@ -112,9 +107,9 @@ int main(int argc, char **argv) {
     bool is_well = true;
     for (ssize_t len; is_well && (len = getline(&line, &room, stdin)) > 0;) {
         bool has_end = line[len - 1] == '\n';
-        is_well = play_line(&tree, line, (size_t)len - has_end);
+        is_well = play_line(tree, line, (size_t)len - has_end);
     }
     free(line);
-    nuz_tree_close(&tree);
+    nuz_tree_close(tree);
     return is_well ? EXIT_SUCCESS : EXIT_FAILURE;
 }

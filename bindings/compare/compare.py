@@ -6,8 +6,9 @@ A round is ten calls: a directory and a file in it are made, the file is written
 its size, opened, read and closed, renamed, and the names of the directory are listed. There are
 2,000 rounds, and nothing is removed, so that the tree grows. The library makes them in one
 transaction, with no buffer between; pyfakefs (https://pypi.org, or a package of Debian) by its os;
-and the system in a folder of its own for temporary files. What is not installed is said to be
-missing. Each is taken three times, and the shortest time is told.
+and the system in a folder of its own for temporary files, and in one in memory. What is not
+installed is said to be missing. Each is taken three times, and the shortest time of the processor
+is told; at the end that of one stat of the library.
 """
 from __future__ import annotations
 
@@ -66,9 +67,30 @@ def by_pyfakefs(rounds: int) -> None:
     rounds_of_os(fake_filesystem.FakeOsModule(fake_filesystem.FakeFilesystem()), "", rounds)
 
 
-def by_system(rounds: int) -> None:
-    with tempfile.TemporaryDirectory() as top:
+def by_system(rounds: int, above: str | None = None) -> None:
+    with tempfile.TemporaryDirectory(dir=above) as top:
         rounds_of_os(os, top, rounds)
+
+
+def by_memory(rounds: int) -> None:
+    if not os.path.isdir("/dev/shm"):
+        raise ImportError("there is no /dev/shm")
+    by_system(rounds, "/dev/shm")
+
+
+def time_of_stat(count: int) -> float:
+    """The shortest of ten times of a stat of the library, in seconds."""
+    from nuzolged import Tree
+
+    taken = []
+    with Tree() as tree, tree.begin() as job:
+        job.write_bytes("/file", DATA)
+        for _ in range(10):
+            begun = time.process_time()
+            for _ in range(count):
+                job.stat("/file")
+            taken.append((time.process_time() - begun) / count)
+    return min(taken)
 
 
 def times(ways: Mapping[str, Callable[[int], None]], rounds: int) -> Iterator[tuple[str, float]]:
@@ -77,9 +99,9 @@ def times(ways: Mapping[str, Callable[[int], None]], rounds: int) -> Iterator[tu
         taken = []
         try:
             for _ in range(3):
-                begun = time.perf_counter()
+                begun = time.process_time()
                 way(rounds)
-                taken.append(time.perf_counter() - begun)
+                taken.append(time.process_time() - begun)
         except ImportError as error:
             print(f"{name}: missing ({error})")
             continue
@@ -87,10 +109,16 @@ def times(ways: Mapping[str, Callable[[int], None]], rounds: int) -> Iterator[tu
 
 
 def main(rounds: int) -> None:
-    ways = {"this library": by_nuzolged, "pyfakefs": by_pyfakefs, "os, on the disk": by_system}
+    ways = {
+        "this library": by_nuzolged,
+        "pyfakefs": by_pyfakefs,
+        "os, on the disk": by_system,
+        "os, in memory": by_memory,
+    }
     calls = rounds * CALLS_OF_A_ROUND
     for name, seconds in times(ways, rounds):
         print(f"{name}: {calls} calls in {seconds:.2f} s, {seconds / calls * 1e6:.1f} us a call")
+    print(f"stat of this library: {time_of_stat(rounds * CALLS_OF_A_ROUND) * 1e6:.2f} us")
 
 
 if __name__ == "__main__":

@@ -1,5 +1,7 @@
 """wheel.py VERSION LIBRARY FOLDER: packs the package and the shared object in a wheel in FOLDER.
 
+It is what pyproject.toml names too, so that pip builds one by itself, of what make has built.
+
 It needs nothing but Python and nm. The wheel is for each Python 3.9 and later, and for each Linux
 on x86-64 whose C library is as new as the library needs, by what nm tells of it. The same files
 make the same wheel.
@@ -74,15 +76,29 @@ def record(name: str, data: bytes) -> str:
     return f"{name},sha256={digest},{len(data)}\n"
 
 
-def main(version: str, library: Path, folder: Path) -> None:
+def build_wheel(
+    wheel_directory: str, config_settings: object = None, metadata_directory: object = None
+) -> str:
+    """Builds the wheel for pip, and answers the name of its file."""
+    library = HERE.parent / "out" / "libnuzolged.so.1"
+    if not library.is_file():
+        sys.exit(f"there is no {library}: build it by make -C bindings")
+    version = re.search(r'__version__ = "(.*)"', (HERE / "nuzolged" / "__init__.py").read_text())
+    assert version
+    return main(version[1], library, Path(wheel_directory))
+
+
+def main(version: str, library: Path, folder: Path) -> str:
     tag = tag_of(library)
     files = files_of(version, library, tag)
     listed = f"nuzolged-{version}.dist-info/RECORD"
     lines = [record(name, data) for name, data in files.items()] + [f"{listed},,\n"]
     files[listed] = "".join(lines).encode()
-    with zipfile.ZipFile(folder / f"nuzolged-{version}-{tag}.whl", "w") as wheel:
+    name_of_file = f"nuzolged-{version}-{tag}.whl"
+    with zipfile.ZipFile(folder / name_of_file, "w") as wheel:
         for name, data in files.items():
             wheel.writestr(zipfile.ZipInfo(name), data, zipfile.ZIP_DEFLATED)
+    return name_of_file
 
 
 if __name__ == "__main__":

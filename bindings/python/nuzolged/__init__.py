@@ -25,6 +25,7 @@ from ._file import RawFile
 from ._limits import Limits
 from ._path import Path
 from ._told import Entry, Info
+from ._touched import Touched
 from ._transaction import Transaction, Within
 from ._tree import Tree
 
@@ -39,6 +40,7 @@ __all__ = [
     "Path",
     "RawFile",
     "Refused",
+    "Touched",
     "Transaction",
     "Tree",
     "Waits",

@@ -4,19 +4,23 @@ from __future__ import annotations
 import ctypes
 import errno
 import os
+import sys
 from typing import IO, TYPE_CHECKING, Any, BinaryIO, TextIO, overload
 
 from . import _file, _library
 from ._attributes import DIRECTORY_MODE, Nanoseconds, Times, mode_of, owner_of, time_of
 from ._errors import AnyPath
 from ._library import Answer
-from ._session import Parts
+from ._session import NAMES_ROOM, Parts, Session
 from ._told import Entry, Info, info_of
 
 if TYPE_CHECKING:
     from ._modes import BinaryMode, TextMode
     from ._transaction import Transaction
 
+
+#: How the system encodes names.
+_ENCODING, _ERRORS = sys.getfilesystemencoding(), sys.getfilesystemencodeerrors()
 
 #: The longest target of a symbolic link.
 _LONGEST_TARGET = 4095
@@ -25,10 +29,21 @@ _LONGEST_TARGET = 4095
 _LEADS_NOWHERE = (errno.ENOENT, errno.ENOTDIR, errno.ELOOP, errno.ENAMETOOLONG)
 
 
+def encoded(path: AnyPath) -> bytes:
+    """A path in bytes, as `os.fsencode` gives it, which takes twice as long."""
+    return path.encode(_ENCODING, _ERRORS) if type(path) is str else os.fsencode(path)
+
+
 class Calls:
     """The calls of a transaction. What stands in the way of each is raised: the OSError of its
     errno with the filename, `Waits`, or `Refused`, where the transaction has ended. A path with a
     null byte is a ValueError."""
+
+    #: The number of the transaction that makes the calls, and its tree.
+    number: int
+    session: Session
+    #: How many seconds a call waits for others to end; with None, as long as it has to.
+    timeout: float | None
 
     @property
     def transaction(self) -> Transaction:
@@ -43,7 +58,7 @@ class Calls:
         parts: Parts = None,
     ) -> Answer:
         """Makes a request."""
-        raise NotImplementedError
+        return self.session.ask((function, (self.number, *args)), paths, self.timeout, parts)
 
     def mkdir(self, path: AnyPath, mode: int = DIRECTORY_MODE, *, exist_ok: bool = False) -> None:
         """Makes a directory.
@@ -61,10 +76,8 @@ class Calls:
         """
         bits = mode_of(mode)
         try:
-            if bits == DIRECTORY_MODE:
-                self._on("nuz_mkdir", path)
-            else:
-                self._on("nuz_mkdir_mode", path, bits)
+            given = _library.DEFAULT_MODE if bits == DIRECTORY_MODE else bits
+            self._on("nuz_mkdir", path, given)
         except FileExistsError:
             if not exist_ok or not self.isdir(path):
                 raise
@@ -90,8 +103,7 @@ class Calls:
     def scandir(self, path: AnyPath = "/") -> list[Entry[str]] | list[Entry[bytes]]:
         """The names of a directory in the order of their bytes, each with what it leads to. They
         are bytes where the path is. All of them are of one moment."""
-        parts = self.transaction.session.take_names
-        names = self._on("nuz_list", path, parts=parts).names
+        names = self._names(path)
         folder = os.fspath(path)
         if isinstance(folder, bytes):
             return [Entry(self, folder, name, kind) for name, kind in names]
@@ -109,11 +121,19 @@ class Calls:
     def listdir(self, path: AnyPath = "/") -> list[str] | list[bytes]:
         """The names of a directory, in the order of their bytes. They are bytes where the path
         is."""
-        parts = self.transaction.session.take_names
-        names = [name for name, _ in self._on("nuz_list", path, parts=parts).names]
+        names = [name for name, _ in self._names(path)]
         if isinstance(os.fspath(path), bytes):
             return names
         return [os.fsdecode(name) for name in names]
+
+    def _names(self, path: AnyPath) -> list[tuple[bytes, int]]:
+        """The names of a directory, each with the kind of what it is of."""
+        room = ctypes.create_string_buffer(NAMES_ROOM)
+        take = self.transaction.session.take_names
+        listed = self._on(
+            "nuz_list_all", path, room, NAMES_ROOM, parts=lambda answer: take(answer, room)
+        )
+        return listed.names
 
     def stat(self, path: AnyPath, *, follow_symlinks: bool = True) -> Info:
         """What a path leads to.
@@ -127,7 +147,9 @@ class Calls:
             NotADirectoryError: It goes on behind a file.
             OSError: ELOOP where it leads through more than 40 symbolic links.
         """
-        return info_of(self._on("nuz_stat" if follow_symlinks else "nuz_lstat", path))
+        raw = encoded(path)
+        request = "nuz_stat" if follow_symlinks else "nuz_lstat", (self.number, raw, len(raw))
+        return info_of(self.session.ask(request, (path,), self.timeout))
 
     def lstat(self, path: AnyPath) -> Info:
         """What a path leads to, where a last symbolic link is not followed. Raises what `stat`
@@ -375,9 +397,10 @@ class Calls:
     def _on(
         self, function: str, path: AnyPath, *args: object, parts: Parts = None
     ) -> Answer:
-        raw = os.fsencode(path)
-        return self._ask(function, raw, len(raw), *args, paths=(path,), parts=parts)
+        raw = encoded(path)
+        request = function, (self.number, raw, len(raw), *args)
+        return self.session.ask(request, (path,), self.timeout, parts)
 
     def _on_both(self, function: str, old: AnyPath, new: AnyPath) -> Answer:
-        a, b = os.fsencode(old), os.fsencode(new)
+        a, b = encoded(old), encoded(new)
         return self._ask(function, a, len(a), b, len(b), paths=(old, new))

@@ -38,14 +38,8 @@ class RawFile(io.RawIOBase):
         self._transaction = calls.transaction
         #: Whether nobody has it any more: then nothing waits.
         self._is_dropped = False
-        asked = self._asked
-        flags = (asked.creates, asked.is_new, asked.cuts, asked.appends)
-        args: tuple[object, ...] = (asked.access, *flags)
-        if permissions is None:
-            calls._on("nuz_open", path, *args, parts=self._take_descriptor)
-        else:
-            args += (mode_of(permissions),)
-            calls._on("nuz_open_mode", path, *args, parts=self._take_descriptor)
+        given = _library.DEFAULT_MODE if permissions is None else mode_of(permissions)
+        calls._on("nuz_open", path, self._asked.flags, given, parts=self._take_descriptor)
 
     def _take_descriptor(self, answer: Answer) -> None:
         if answer.code == 0:

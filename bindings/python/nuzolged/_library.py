@@ -2,17 +2,23 @@
 from __future__ import annotations
 
 import ctypes
+import itertools
 import os
-from ctypes import POINTER, c_bool, c_char_p, c_int64, c_size_t, c_uint32, c_uint64, c_void_p
+import struct
+from ctypes import POINTER, c_char_p, c_int64, c_size_t, c_uint32, c_uint64, c_void_p
 from pathlib import Path
-from typing import Iterator
+from typing import Callable, Iterator, NamedTuple
 
 #: The file of the library.
 _NAME = "libnuzolged.so.1"
 
 DIR, FILE, LINK = 1, 2, 3
 READ_ONLY, WRITE_ONLY, READ_WRITE = 0, 1, 2
-PROFILE, MOSS = 0, 1
+CREATE, EXCL, TRUNC, APPEND = 0o100, 0o200, 0o1000, 0o2000
+RELAXED, MOSS = 0, 1
+
+#: The mode that stands for none that is given.
+DEFAULT_MODE = (1 << 32) - 1
 
 #: An owner or a group that stays.
 STAYS = (1 << 32) - 1
@@ -23,8 +29,10 @@ MOST_WRITTEN = 1 << 26
 MEMORY = 1001
 FULL = 1007
 WAITS = 1100
-CLOSED = 1200
 BAD = 1201
+
+#: What this package answers, in the place of the library, where a tree is closed.
+CLOSED = 1200
 
 #: The refusals 1001 and on, by the names that a script has for them (docs/SCRIPT.md).
 REFUSALS = {
@@ -46,12 +54,6 @@ def name_of(code: int) -> str:
     return list(REFUSALS)[code - MEMORY]
 
 
-class Handle(ctypes.Structure):
-    """`nuz_tree`: a handle, closed at first."""
-
-    _fields_ = [("at", c_void_p)]
-
-
 class Limits(ctypes.Structure):
     """`nuz_limits`: what a tree allows."""
 
@@ -61,11 +63,31 @@ class Limits(ctypes.Structure):
         ("depth", c_uint64),
         ("transactions", c_uint64),
         ("calls", c_uint64),
+        ("reserved", c_uint64 * 3),
     ]
 
 
-class Answer(ctypes.Structure):
-    """`nuz_answer`: what a request came to, with the parts that were asked for with it."""
+class Numbers(NamedTuple):
+    """What an answer tells in numbers: the members of `nuz_answer`, of which each is in its place,
+    up to the length of a reply."""
+
+    code: int
+    kind: int = 0
+    stamp: int = 0
+    number: int = 0
+    links: int = 0
+    size: int = 0
+    mode: int = 0
+    owner: int = 0
+    group: int = 0
+    has_time: bool = False
+    seconds: int = 0
+    nanoseconds: int = 0
+    reply: int = 0
+
+
+class Answer(Numbers):
+    """What a request came to, with the parts that were asked for with it."""
 
     #: For which transactions a call waits.
     blockers: list[int] = []
@@ -76,52 +98,32 @@ class Answer(ctypes.Structure):
     #: The reply to a line.
     text: bytes = b""
 
-    code: int
-    kind: int
-    stamp: int
-    number: int
-    links: int
-    size: int
-    mode: int
-    owner: int
-    group: int
-    has_time: bool
-    seconds: int
-    nanoseconds: int
-    _fields_ = [
-        ("code", c_uint32),
-        ("kind", c_uint32),
-        ("stamp", c_uint64),
-        ("number", c_uint64),
-        ("links", c_uint64),
-        ("size", c_uint64),
-        ("mode", c_uint32),
-        ("owner", c_uint32),
-        ("group", c_uint32),
-        ("has_time", c_bool),
-        ("seconds", c_int64),
-        ("nanoseconds", c_uint32),
-    ]
+
+#: What makes a request of a copy, of a tree.
+_COPY_REQUEST = ctypes.CFUNCTYPE(c_uint32, c_void_p, c_void_p)
+
+#: How many bytes `nuz_answer` has, and how its members stand in it.
+_ANSWER_SIZE = 192
+_ANSWER = struct.Struct("@IIQQQQIII?qIQ")
 
 
 _BYTES = (c_char_p, c_size_t)
 _BUFFER = (c_void_p, c_size_t)
-_OPENING = (c_uint32, c_bool, c_bool, c_bool, c_bool)
+_NUMBERS = (c_void_p, c_size_t)
 _OWNERS = (c_uint32, c_uint32)
 _TIME = (c_int64, c_uint32)
 
-#: What each function takes behind the handle. All of these answer an `Answer`.
+#: What each function takes between the tree and the answer, which it fills in.
 _FUNCTIONS: dict[str, tuple[type, ...]] = {
     "nuz_begin": (),
-    "nuz_sub": (c_uint64,),
+    "nuz_begin_sub": (c_uint64,),
     "nuz_commit": (c_uint64,),
     "nuz_abort": (c_uint64,),
-    "nuz_drop": (c_uint64,),
+    "nuz_cancel": (c_uint64,),
     "nuz_checkpoint": (),
-    "nuz_mkdir": (c_uint64, *_BYTES),
-    "nuz_mkdir_mode": (c_uint64, *_BYTES, c_uint32),
+    "nuz_mkdir": (c_uint64, *_BYTES, c_uint32),
     "nuz_rmdir": (c_uint64, *_BYTES),
-    "nuz_list": (c_uint64, *_BYTES),
+    "nuz_list_all": (c_uint64, *_BYTES, *_BUFFER),
     "nuz_stat": (c_uint64, *_BYTES),
     "nuz_lstat": (c_uint64, *_BYTES),
     "nuz_symlink": (c_uint64, *_BYTES, *_BYTES),
@@ -130,8 +132,7 @@ _FUNCTIONS: dict[str, tuple[type, ...]] = {
     "nuz_truncate": (c_uint64, *_BYTES, c_int64),
     "nuz_link": (c_uint64, *_BYTES, *_BYTES),
     "nuz_rename": (c_uint64, *_BYTES, *_BYTES),
-    "nuz_open": (c_uint64, *_BYTES, *_OPENING),
-    "nuz_open_mode": (c_uint64, *_BYTES, *_OPENING, c_uint32),
+    "nuz_open": (c_uint64, *_BYTES, c_uint32, c_uint32),
     "nuz_close": (c_uint64, c_uint64),
     "nuz_fstat": (c_uint64, c_uint64),
     "nuz_ftruncate": (c_uint64, c_uint64, c_int64),
@@ -148,9 +149,11 @@ _FUNCTIONS: dict[str, tuple[type, ...]] = {
     "nuz_utime": (c_uint64, *_BYTES, *_TIME),
     "nuz_lutime": (c_uint64, *_BYTES, *_TIME),
     "nuz_futime": (c_uint64, c_uint64, *_TIME),
-    "nuz_name": (c_size_t, *_BUFFER),
+    "nuz_cycle": _NUMBERS,
     "nuz_blocker": (c_size_t,),
-    "nuz_request": _BYTES,
+    "nuz_bytes": _BUFFER,
+    "nuz_locks": (c_uint64, *_BUFFER),
+    "nuz_request": (*_BYTES, *_BUFFER),
     "nuz_reply": _BUFFER,
 }
 
@@ -191,15 +194,56 @@ def _load() -> ctypes.CDLL:
     library = _opened()
     for name, takes in _FUNCTIONS.items():
         function = getattr(library, name)
-        function.argtypes = [POINTER(Handle), *takes]
-        function.restype = Answer
-    library.nuz_tree_open_with.argtypes = [POINTER(Handle), c_uint32, Limits]
+        function.argtypes = [c_void_p, *takes, c_void_p]
+        function.restype = c_uint32
+    library.nuz_tree_open_with.argtypes = [POINTER(c_void_p), c_uint32, POINTER(Limits)]
     library.nuz_tree_open_with.restype = c_uint32
-    library.nuz_tree_seed.argtypes = [POINTER(Handle), c_uint64]
+    library.nuz_tree_seed.argtypes = [c_void_p, c_uint64]
     library.nuz_tree_seed.restype = None
-    library.nuz_tree_close.argtypes = [POINTER(Handle)]
+    library.nuz_tree_close.argtypes = [c_void_p]
     library.nuz_tree_close.restype = None
     return library
 
 
 library = _load()
+
+
+class OpenTree:
+    """The functions of the library for a tree."""
+
+    def __init__(self, tree: int) -> None:
+        self._tree = tree
+
+    def __getattr__(self, name: str) -> Callable[..., Answer]:
+        function = self.__dict__[name] = _bound(getattr(library, name), self._tree)
+        return function
+
+    def copy_request(self, _: int, make: int, request: int) -> Answer:
+        """Makes a request of a copy, by a function of C: its number is the code, unless it has to
+        wait."""
+        code = _COPY_REQUEST(make)(self._tree, request)
+        if code != WAITS:
+            return Answer(0, number=code)
+        indexes = itertools.count()
+        return Answer(WAITS, number=next(at for at in indexes if self.nuz_blocker(at).code))
+
+
+class ClosedTree:
+    """The same for a tree that is closed."""
+
+    def __getattr__(self, _: str) -> Callable[..., Answer]:
+        return lambda *_: Answer(CLOSED)
+
+
+def _bound(function: Callable[..., int], tree: int) -> Callable[..., Answer]:
+    """A function for a tree, which gives the answer that it fills in. (Each has room of its own for
+    that, so that what a finalizer asks of another one is not mixed up with it.)"""
+    room = ctypes.create_string_buffer(_ANSWER_SIZE)
+    at = ctypes.addressof(room)
+    unpack, make = _ANSWER.unpack_from, tuple.__new__
+
+    def ask(*args: object) -> Answer:
+        function(tree, *args, at)
+        return make(Answer, unpack(room))
+
+    return ask

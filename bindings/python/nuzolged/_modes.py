@@ -44,8 +44,16 @@ class Mode(NamedTuple):
         )
 
     @property
-    def access(self) -> int:
-        """The access as the library takes it."""
+    def flags(self) -> int:
+        """The flags as the library takes them."""
+        flags = self._access
+        flags |= _library.CREATE if self.creates else 0
+        flags |= _library.EXCL if self.is_new else 0
+        flags |= _library.TRUNC if self.cuts else 0
+        return flags | (_library.APPEND if self.appends else 0)
+
+    @property
+    def _access(self) -> int:
         if self.reads and self.writes:
             return _library.READ_WRITE
         return _library.WRITE_ONLY if self.writes else _library.READ_ONLY

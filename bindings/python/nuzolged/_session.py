@@ -13,13 +13,18 @@ import secrets
 import threading
 import time
 import weakref
-from typing import Callable, Optional
+from typing import Any, Callable, Optional
 
 from ._errors import AnyPath, Deadlock, Waits, error_of
-from ._library import BAD, CLOSED, FULL, MEMORY, WAITS, Answer, Handle, Limits, library
+from ._library import BAD, CLOSED, FULL, MEMORY, WAITS
+from ._library import Answer, ClosedTree, Limits, OpenTree, library
 
-#: A name has at most so many bytes.
-_LONGEST_NAME = 255
+#: How many bytes of names a list is asked for with, and how many of the reply to a line.
+NAMES_ROOM = 4096
+_REPLY_ROOM = 256
+
+#: How many members of a cycle are asked for.
+_CYCLE_ROOM = 16
 
 #: The codes of what may be carried out when it is asked for again.
 _MAY_COME = (WAITS, MEMORY, FULL)
@@ -34,12 +39,12 @@ Parts = Optional[Callable[[Answer], None]]
 class Session:
     """A tree of the library, which threads share."""
 
-    def __init__(self, rule: int, limits: Limits, keeps_waits: bool) -> None:
-        self._handle = Handle()
+    _at: int | None = None
+
+    def __init__(self, options: int, limits: Limits, keeps_waits: bool) -> None:
+        handle = ctypes.c_void_p()
         #: Whether a call that does not wait, and has to, is kept.
         self._keeps_waits = keeps_waits
-        #: The same, as the functions take it.
-        self._at = ctypes.byref(self._handle)
         self._renew_lock()
         #: Whether who has the lock is between a request and its parts. (Where an interrupt comes
         #: too soon it stays, and nobody has the lock.)
@@ -51,9 +56,12 @@ class Session:
         self._dropped: collections.deque[weakref.ref[object]] = collections.deque()
         #: The greatest number of a transaction that anybody knows of.
         self.newest = 0
-        code = library.nuz_tree_open_with(self._at, rule, limits)
+        code = library.nuz_tree_open_with(ctypes.byref(handle), options, ctypes.byref(limits))
         if code:
             raise error_of(code)
+        #: The tree, if it is open, and the functions that are asked with it.
+        self._at = handle.value
+        self._library: Any = OpenTree(self._at or 0)
         library.nuz_tree_seed(self._at, secrets.randbits(64))
         _register(self)
 
@@ -62,16 +70,17 @@ class Session:
         self._ended = threading.Condition(self.lock)
 
     def __del__(self) -> None:
-        library.nuz_tree_close(self._handle)
+        library.nuz_tree_close(self._at)
 
     @property
     def is_open(self) -> bool:
-        return bool(self._handle.at)
+        return self._at is not None
 
     def close(self) -> None:
         """Frees the tree, which wakes those that wait."""
         with self.lock:
-            library.nuz_tree_close(self._at)
+            at, self._at, self._library = self._at, None, ClosedTree()
+            library.nuz_tree_close(at)
             self._ended.notify_all()
 
     def ask(
@@ -118,9 +127,9 @@ class Session:
                 self._make_late(True)
             try:
                 self._is_amid = True
-                answer: Answer = getattr(library, function)(self._at, *args)
+                answer: Answer = getattr(self._library, function)(*args)
                 if answer.code == WAITS:
-                    answer.blockers = self._blockers(answer.number)
+                    answer.blockers = self._blockers(answer)
                 if parts:
                     parts(answer)
             except BaseException:
@@ -150,7 +159,7 @@ class Session:
         words = self._text().split()
         if words[:1] == [b"txn"] and int(words[1]) > self.newest:
             self.newest = int(words[1])
-            library.nuz_abort(self._at, self.newest)
+            self._library.nuz_abort(self.newest)
 
     def _wait(self, request: Request, parts: Parts, timeout: float | None) -> Answer:
         """Makes a request, and again where it has to wait, until the time is over or it would wait
@@ -163,7 +172,7 @@ class Session:
                 left = None if end is None else end - time.monotonic()
                 answer.cycle = self._cycle(number) if timeout != 0 else []
                 if answer.cycle or (left is not None and left <= 0):
-                    library.nuz_drop(self._at, number)
+                    self._library.nuz_cancel(number)
                     break
                 self._sleep(left, number)
                 answer = self._once(request, parts)
@@ -174,24 +183,29 @@ class Session:
         try:
             self._ended.wait(seconds)
         except BaseException:
-            library.nuz_drop(self._at, number)
+            self._library.nuz_cancel(number)
             raise
 
     def _cycle(self, number: object) -> list[int]:
         """The transactions of a cycle of waits that begins with this one; none where there is
         none, or no memory to tell."""
-        waits: dict[int, list[int]] = {}
-        for words in map(bytes.split, self._report().splitlines()):
-            if words[0] == b"edge":
-                waits.setdefault(int(words[1]), []).append(int(words[2]))
-        return _way_back(number, waits) if isinstance(number, int) else []
+        members = self._members()
+        if number not in members:
+            return []
+        place = members.index(number)
+        return members[place:] + members[:place]
 
-    def _report(self) -> bytes:
-        return self.line(b"waits").text
+    def _members(self, room: int = _CYCLE_ROOM) -> list[int]:
+        """The transactions of a cycle of waits, if there is one."""
+        txns = (ctypes.c_uint64 * room)()
+        count: int = self._library.nuz_cycle(txns, room).number
+        return txns[:count] if count <= room else self._members(count)
 
     def line(self, words: bytes) -> Answer:
         """Carries out a line of a script."""
-        return self._once(("nuz_request", (words, len(words))), self.take_text)
+        room = ctypes.create_string_buffer(_REPLY_ROOM)
+        request = ("nuz_request", (words, len(words), room, _REPLY_ROOM))
+        return self._once(request, lambda answer: self._take_reply(answer, room))
 
     def line_of_user(self, words: bytes) -> Answer:
         """The same for a line by which transactions may end."""
@@ -200,35 +214,52 @@ class Session:
         finally:
             self._wake()
 
-    def _blockers(self, count: int) -> list[int]:
-        return [library.nuz_blocker(self._at, index).number for index in range(count)]
+    def _blockers(self, answer: Answer) -> list[int]:
+        """The transactions for which a call waits."""
+        return [self._library.nuz_blocker(index).number for index in range(answer.number)]
 
-    def take_names(self, answer: Answer) -> None:
+    def take_names(self, answer: Answer, room: ctypes.Array[ctypes.c_char]) -> None:
         """Takes the names of a list, and of what kind each is."""
         if answer.code:
             return
-        names = []
-        room = ctypes.create_string_buffer(_LONGEST_NAME)
-        for index in range(answer.number):
-            told = library.nuz_name(self._at, index, room, _LONGEST_NAME)
-            names.append((room.raw[: told.size], told.kind))
-        answer.names = names
+        if answer.size > len(room):
+            room = ctypes.create_string_buffer(answer.size)
+            self._library.nuz_bytes(room, answer.size)
+        # Behind each name stands a null byte, and so behind the last one.
+        told = ctypes.string_at(room, answer.size).split(b"\0")
+        answer.names = [(each[1:], each[0]) for each in told[:-1]]
 
-    def take_text(self, answer: Answer) -> None:
+    def _take_reply(self, answer: Answer, room: ctypes.Array[ctypes.c_char]) -> None:
         """Takes the reply to a line."""
         if answer.code in NO_REPLY:
             return
-        answer.text = self._text()
+        is_whole = answer.reply <= len(room)
+        answer.text = room.raw[: answer.reply] if is_whole else self._text()
         words = answer.text.split()
         if words[:1] == [b"txn"]:
             self.newest = int(words[1])
 
     def _text(self, room: int = 256) -> bytes:
         text = ctypes.create_string_buffer(room)
-        told = library.nuz_reply(self._at, text, room)
+        told = self._library.nuz_reply(text, room)
         if told.code == MEMORY:
             raise MemoryError
         return text.raw[: told.size] if told.size <= room else self._text(told.size)
+
+    def locks_and_tree(self, number: int) -> tuple[bytes, bytes]:
+        """The locks of a transaction, and the report `tree`, of one moment."""
+        with self.lock:
+            answer = self.line(b"tree")
+            if answer.code:
+                raise error_of(answer.code)
+            return self._locks(number), answer.text
+
+    def _locks(self, number: int, room: int = NAMES_ROOM) -> bytes:
+        text = ctypes.create_string_buffer(room)
+        told = self._library.nuz_locks(number, text, room)
+        if told.code:
+            raise error_of(told.code)
+        return text.raw[: told.size] if told.size <= room else self._locks(number, told.size)
 
     def put_off(self, late: Late, may_be_now: bool) -> None:
         """Makes what a finalizer asks for: at once, unless it came amid a request, or before the
@@ -273,9 +304,9 @@ class Session:
         be: else it may be asked for again."""
         function, args = request
         with self.lock:
-            code: int = getattr(library, function)(self._at, *args).code
+            code: int = getattr(self._library, function)(*args).code
             if code == WAITS:
-                library.nuz_drop(self._at, args[0])
+                self._library.nuz_cancel(args[0])
         return code not in _MAY_COME
 
     def renew_after_fork(self) -> None:
@@ -350,28 +381,6 @@ class Late:
 def _end_of(timeout: float | None) -> float | None:
     """When the time is over that begins now."""
     return None if timeout is None else time.monotonic() + timeout
-
-
-def _way_back(start: int, waits: dict[int, list[int]]) -> list[int]:
-    """A shortest way along who waits for whom from a transaction back to itself."""
-    came_from = {start: start}
-    reached = collections.deque([start])
-    while reached:
-        here = reached.popleft()
-        for there in waits.get(here, []):
-            if there == start:
-                return _way_to(here, came_from)
-            if there not in came_from:
-                came_from[there] = here
-                reached.append(there)
-    return []
-
-
-def _way_to(end: int, came_from: dict[int, int]) -> list[int]:
-    way = [end]
-    while came_from[way[-1]] != way[-1]:
-        way.append(came_from[way[-1]])
-    return way[::-1]
 
 
 #: The trees of this process, and what whoever looks them up holds for no longer than that.

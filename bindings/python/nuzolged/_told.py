@@ -5,8 +5,7 @@ import os
 import stat
 from typing import TYPE_CHECKING, Generic, NamedTuple, Optional, TypeVar
 
-from . import _library
-from ._library import Answer
+from ._library import DIR, FILE, LINK, Answer
 
 if TYPE_CHECKING:
     from ._calls import Calls
@@ -14,7 +13,10 @@ if TYPE_CHECKING:
 Name = TypeVar("Name", str, bytes)
 
 #: What the text of a name says of it, but for a file.
-_OF_KIND = {_library.DIR: " of a directory", _library.LINK: " of a symbolic link"}
+_OF_KIND = {DIR: " of a directory", LINK: " of a symbolic link"}
+
+#: Makes a tuple of names from its members: by the names it would take twice as long.
+_made = tuple.__new__
 
 
 class Info(NamedTuple):
@@ -81,10 +83,10 @@ class Info(NamedTuple):
 
 def info_of(answer: Answer) -> Info:
     """What an answer tells of what a path leads to."""
-    is_dir, is_link = answer.kind == _library.DIR, answer.kind == _library.LINK
-    time_ns = answer.seconds * 1_000_000_000 + answer.nanoseconds if answer.has_time else None
-    attributes = answer.mode, answer.owner, answer.group, time_ns
-    return Info(is_dir, answer.number, answer.links, answer.size, is_link, *attributes)
+    _, kind, _, number, links, size, mode, owner, group, has_time, seconds, rest, _ = answer
+    time_ns = seconds * 1_000_000_000 + rest if has_time else None
+    told = kind == DIR, number, links, size, kind == LINK, mode, owner, group, time_ns
+    return _made(Info, told)
 
 
 class Entry(Generic[Name]):
@@ -109,18 +111,18 @@ class Entry(Generic[Name]):
         one now, where that is followed."""
         if self.is_symlink() and follow_symlinks:
             return self._calls.isdir(self.path)
-        return self._kind == _library.DIR
+        return self._kind == DIR
 
     def is_file(self, *, follow_symlinks: bool = True) -> bool:
         """Whether it was a file when the names were listed, or a symbolic link that leads to one
         now, where that is followed."""
         if self.is_symlink() and follow_symlinks:
             return self._calls.isfile(self.path)
-        return self._kind == _library.FILE
+        return self._kind == FILE
 
     def is_symlink(self) -> bool:
         """Whether it was a symbolic link when the names were listed."""
-        return self._kind == _library.LINK
+        return self._kind == LINK
 
     def stat(self, *, follow_symlinks: bool = True) -> Info:
         """What it leads to now. Raises what `Transaction.stat` raises."""

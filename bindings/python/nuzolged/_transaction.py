@@ -7,9 +7,10 @@ import weakref
 from types import TracebackType
 from typing import TYPE_CHECKING
 
-from ._errors import AnyPath, Refused
+from ._errors import Refused
 from ._library import Answer
-from ._session import Late, Parts, Request, Session
+from ._session import Late, Request
+from ._touched import Touched, touched
 from ._whole import Whole
 
 if TYPE_CHECKING:
@@ -33,15 +34,14 @@ class Transaction(Whole):
 
     def __init__(self, tree: Tree, around: Transaction | None, timeout: float | None) -> None:
         self.tree = tree
-        #: How many seconds a call waits for others to end; with None, as long as it has to.
         self.timeout = timeout
         self._around = around
         self._has_ended = False
         self._late: Late = Late(tree.session)
         #: Its open descriptors, and whose each is.
         self._files: dict[int, weakref.ref[RawFile]] = {}
-        self.session: Session = tree.session
-        begun: Request = ("nuz_sub", (around.number,)) if around else ("nuz_begin", ())
+        self.session = tree.session
+        begun: Request = ("nuz_begin_sub", (around.number,)) if around else ("nuz_begin", ())
         self.session.ask(begun, parts=self._take_number)
 
     def _take_number(self, answer: Answer) -> None:
@@ -135,22 +135,20 @@ class Transaction(Whole):
         self._has_ended = True
         self.session.let_go(self.number)
 
+    def touched(self) -> dict[str, Touched]:
+        """What it has touched so far, with what has come up to it from steps that have committed,
+        by its locks: each path that it has looked up, in vain too, read, listed or written, in the
+        order of their bytes. A name that has been renamed or removed since is told where it was,
+        in a directory that is still there. It takes time and memory for the whole tree."""
+        return touched(*self.session.locks_and_tree(self.number))
+
     def forget(self) -> None:
         """Forgets the call that it waits for, so that no report tells of it.
 
         Raises:
             Refused: It waits for none, or has ended.
         """
-        self._ask("nuz_drop")
-
-    def _ask(
-        self,
-        function: str,
-        *args: object,
-        paths: tuple[AnyPath, ...] = (),
-        parts: Parts = None,
-    ) -> Answer:
-        return self.session.ask((function, (self.number, *args)), paths, self.timeout, parts)
+        self._ask("nuz_cancel")
 
 
 class Within(Whole):
@@ -158,7 +156,8 @@ class Within(Whole):
 
     def __init__(self, transaction: Transaction, timeout: float | None) -> None:
         self._transaction = transaction
-        #: How many seconds a call waits for others to end; with None, as long as it has to.
+        self.number = transaction.number
+        self.session = transaction.session
         self.timeout = timeout
 
     def __repr__(self) -> str:
@@ -167,14 +166,3 @@ class Within(Whole):
     @property
     def transaction(self) -> Transaction:
         return self._transaction
-
-    def _ask(
-        self,
-        function: str,
-        *args: object,
-        paths: tuple[AnyPath, ...] = (),
-        parts: Parts = None,
-    ) -> Answer:
-        transaction = self._transaction
-        request = (function, (transaction.number, *args))
-        return transaction.session.ask(request, paths, self.timeout, parts)

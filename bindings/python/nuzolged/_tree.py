@@ -31,9 +31,9 @@ class Tree:
     def __init__(
         self, *, moss: bool = False, limits: Limits = Limits(), timeout: float | None = 0
     ) -> None:
-        rule = _library.MOSS if moss else _library.PROFILE
+        options = _library.MOSS if moss else _library.RELAXED
         self.timeout = timeout
-        self.session = Session(rule, _limits.for_library(limits), keeps_waits=timeout == 0)
+        self.session = Session(options, _limits.for_library(limits), keeps_waits=timeout == 0)
 
     def __repr__(self) -> str:
         return f"<Tree, {'open' if self.session.is_open else 'closed'}>"

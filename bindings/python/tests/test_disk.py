@@ -10,9 +10,8 @@ import time
 import traceback
 import unittest
 from pathlib import Path
-from unittest import mock
 
-from nuzolged import Limits, Tree, _disk, copy_in, copy_out
+from nuzolged import Deadlock, Limits, Tree, Waits, copy_in, copy_out
 
 
 IS_ROOT = os.geteuid() == 0
@@ -35,6 +34,14 @@ def as_nobody(run):
         traceback.print_exc()
     finally:
         os._exit(1)
+
+
+def let_owner_in(top):
+    """Lets its owner work in a directory, and in those below it."""
+    os.chmod(top, 0o700)
+    for entry in os.scandir(top):
+        if entry.is_dir(follow_symlinks=False):
+            let_owner_in(entry.path)
 
 
 def make_socket(path):
@@ -177,24 +184,6 @@ class DiskTest(unittest.TestCase):
             self.assertEqual((here.st_uid, here.st_gid), (there.st_uid, there.st_gid), path)
         self.assertEqual(self.mode(target / "three"), 0o4755)
 
-    def test_owner_that_may_not_be_set_is_passed_over(self):
-        self.job.write_bytes("/f", b"")
-        for number, code in enumerate((errno.EPERM, errno.EINVAL, errno.EIO)):
-            fails = OSError(code, "no")
-            with mock.patch.object(_disk.os, "fchown", side_effect=fails) as chown:
-                with mock.patch.object(_disk.os, "geteuid", return_value=0):
-                    came = contextlib.nullcontext()
-                    if code == errno.EIO:
-                        came = self.assertRaises(OSError)
-                    with came:
-                        copy_out(self.job, self.disk / str(number))
-            self.assertTrue(chown.called)
-        self.assertEqual(sorted(os.listdir(self.disk)), ["0", "1"])
-        with mock.patch.object(_disk.os, "fchown") as chown:
-            with mock.patch.object(_disk.os, "geteuid", return_value=1):
-                copy_out(self.job, self.disk / "other")
-        self.assertFalse(chown.called)
-
     def test_copy_in_keeps_what_is_there(self):
         source = self.make()
         self.job.mkdir("/a")
@@ -288,59 +277,6 @@ class DiskTest(unittest.TestCase):
         self.assertEqual(self.mode(victim), 0o755)
         self.assertEqual((target / "b" / "file").read_bytes(), b"of the tree")
 
-    def test_link_in_place_of_a_directory_is_not_followed(self):
-        """A directory that has been made is replaced by a link, before it gets its mode."""
-        victim, target = self.disk / "victim", self.disk / "target"
-        victim.mkdir(mode=0o755)
-        self.job.mkdir("/d", 0o700)
-        self.job.chown("/d", 1, 1)
-        self.job.symlink("x", "/link")
-
-        def symlink(_, name, dir_fd):
-            os.rmdir("d", dir_fd=dir_fd)
-            os.link(self.disk / "to_victim", "d", dst_dir_fd=dir_fd, follow_symlinks=False)
-
-        os.symlink(victim, self.disk / "to_victim")
-        with mock.patch.object(_disk.os, "symlink", symlink), self.assertRaises(OSError):
-            copy_out(self.job, target)
-        self.assertEqual((self.mode(victim), victim.stat().st_uid), (0o755, os.geteuid()))
-        self.assertEqual(sorted(os.listdir(self.disk)), ["to_victim", "victim"])
-
-    def test_link_in_place_of_the_copy_is_not_followed(self):
-        """The directory of the copy is replaced by a link, before all is made in it."""
-        victim, moved = self.disk / "victim", self.disk / "moved"
-        (victim / "d").mkdir(parents=True)
-        os.chmod(victim / "d", 0o755)
-        self.job.mkdir("/d", 0o700)
-        self.job.symlink("x", "/d/a")
-        self.job.link("/d/a", "/d/b")
-        make_link = os.symlink
-
-        def symlink(target, name, dir_fd):
-            (whole,) = self.disk.glob(".target.*")
-            os.rename(whole, moved)
-            make_link(victim, whole)
-            make_link(target, name, dir_fd=dir_fd)
-
-        with mock.patch.object(_disk.os, "symlink", symlink):
-            copy_out(self.job, self.disk / "target")
-        self.assertEqual((self.mode(victim / "d"), os.listdir(victim / "d")), (0o755, []))
-        self.assertEqual((self.mode(moved / "d"), os.listdir(victim)), (0o700, ["d"]))
-        self.assertEqual(os.lstat(moved / "d" / "b").st_nlink, 2)
-
-    def test_links_are_made_last(self):
-        self.job.symlink("b", "/a")
-        self.job.mkdir("/b")
-        self.job.write_bytes("/b/file", b"")
-        made = []
-
-        def symlink(target, name, dir_fd):
-            made.append((target, sorted(os.listdir(f"/proc/self/fd/{dir_fd}/b"))))
-
-        with mock.patch.object(_disk.os, "symlink", symlink):
-            copy_out(self.job, self.disk / "target")
-        self.assertEqual(made, [("b", ["file"])])
-
     def test_copy_in_beside_links_of_the_tree(self):
         source = self.disk / "source"
         (source / "lib").mkdir(parents=True)
@@ -371,22 +307,6 @@ class DiskTest(unittest.TestCase):
                 copy_in(job, source)
         self.assertEqual(error.exception.errno, errno.EFBIG)
         self.assertEqual(error.exception.filename, str(source / "a" / "one"))
-
-    def test_link_that_comes_instead_of_a_file_is_not_followed(self):
-        """A file is replaced by a link, after its name has been read."""
-        source, secret, scandir = self.make(), self.disk / "secret", os.scandir
-        secret.write_bytes(b"secret")
-
-        def listed(folder):
-            entries = list(scandir(folder))
-            (source / "three").unlink(missing_ok=True)
-            os.symlink(secret, source / "three")
-            return contextlib.nullcontext(entries)
-
-        with mock.patch.object(_disk.os, "scandir", listed):
-            copy_in(self.job, source)
-        self.assertEqual(self.job.readlink("/three"), str(secret))
-        self.assertEqual(self.job.lstat("/three").links, 1)
 
     def test_links_that_come_and_go_are_not_followed(self):
         source, secret, stop = self.disk / "source", self.disk / "secret", threading.Event()
@@ -441,14 +361,69 @@ class DiskTest(unittest.TestCase):
             copy_out(self.tree, self.disk / "link", replace=True)
         self.tree.checkpoint()
 
-    def test_copy_out_that_cannot_replace_changes_nothing(self):
-        target = self.disk / "target"
-        target.mkdir()
-        (target / "old").write_bytes(b"")
-        with mock.patch.object(_disk, "exchange", side_effect=OSError(errno.EINVAL, "no")):
-            with self.assertRaises(OSError):
-                copy_out(self.job, target, replace=True)
-        self.assertEqual((os.listdir(self.disk), os.listdir(target)), (["target"], ["old"]))
+
+    def test_path_with_a_null_byte(self):
+        for copy in (lambda: copy_in(self.job, "a\0b"), lambda: copy_out(self.job, b"a\0b")):
+            with self.assertRaises(ValueError):
+                copy()
+        with self.assertRaises(ValueError):
+            copy_in(self.job, self.disk, "/a\0b")
+
+    def test_copy_that_waits(self):
+        source, other = self.make(), self.tree.begin()
+        other.mkdir("/a")
+        with self.assertRaises(Waits) as waits:
+            copy_in(self.job, source)
+        self.assertEqual(waits.exception.blockers, [other.number])
+        self.assertEqual(waits.exception.filename, "/a")
+        with self.assertRaises(Waits):
+            copy_out(self.job, self.disk / "target")
+        self.assertEqual(os.listdir(self.disk), ["source"])
+        with self.tree.begin(timeout=20) as patient:
+            self.job.abort()
+            threading.Timer(0.1, other.abort).start()
+            copy_in(patient, source)
+            self.assertEqual(patient.read_bytes("/a/one"), b"\0\xff\n")
+
+    def test_copy_that_would_wait_for_ever(self):
+        with Tree(timeout=20) as tree:
+            one, other = tree.begin(), tree.begin()
+            one.mkdir("/mine")
+            other.mkdir("/a")
+            with self.assertRaises(Deadlock):
+                copy = threading.Thread(target=self.suppressed, args=(other,))
+                copy.start()
+                while "edge" not in tree.request("waits"):
+                    time.sleep(0.01)
+                copy_in(one, self.make())
+            one.abort()
+            copy.join()
+
+    def suppressed(self, transaction):
+        with contextlib.suppress(OSError):
+            copy_in(transaction, self.disk, "/mine")
+
+    def test_tree_is_closed_amid_a_copy(self):
+        source = self.make()
+        ask, count = self.job._ask, iter(range(5))
+
+        def asked(*args, **named):
+            if next(count, None) is None:
+                self.tree.close()
+            return ask(*args, **named)
+
+        self.job._ask = asked
+        with self.assertRaises(ValueError):
+            copy_in(self.job, source)
+
+    def test_interrupt_comes_through(self):
+        def interrupted(*_, **__):
+            raise KeyboardInterrupt
+
+        self.job._ask = interrupted
+        with self.assertRaises(KeyboardInterrupt):
+            copy_out(self.job, self.disk / "target")
+        self.assertEqual(os.listdir(self.disk), [])
 
 
 class NobodyTest(unittest.TestCase):
@@ -459,7 +434,7 @@ class NobodyTest(unittest.TestCase):
         self.addCleanup(folder.cleanup)
         self.disk = Path(folder.name)
         os.chmod(self.disk, 0o777)
-        self.addCleanup(_disk._let_owner_below, str(self.disk), None)
+        self.addCleanup(let_owner_in, self.disk)
 
     def assert_nobody(self, run):
         self.assertEqual(as_nobody(run), 0)
@@ -528,22 +503,6 @@ class NobodyTest(unittest.TestCase):
                 os.umask(0)
                 target = self.disk / str(number)
                 assert self.told(target) == self.told(self.disk / "source"), oct(umask)
-
-        self.assert_nobody(run)
-
-    def test_copy_that_fails_is_removed(self):
-        def run():
-            self.make()
-            for name in ("utime", "symlink", "fchmod"):
-                fails = mock.patch.object(_disk.os, name, side_effect=OSError(errno.EIO, "no"))
-                with fails, contextlib.suppress(OSError):
-                    self.copy("target")
-                    raise AssertionError(f"no {name}")
-            with mock.patch.object(_disk, "_name", side_effect=OSError(errno.EIO, "no")):
-                with contextlib.suppress(OSError):
-                    self.copy("target")
-            assert sorted(os.listdir(self.disk)) == ["beside", "source"]
-            assert self.told_of(self.disk / "beside") == (0o500, None)
 
         self.assert_nobody(run)
 

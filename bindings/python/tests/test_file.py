@@ -7,7 +7,7 @@ import unittest
 from unittest import mock
 
 from nuzolged import Limits, RawFile, Tree, Waits
-from nuzolged._library import MEMORY, Answer, library
+from nuzolged._library import MEMORY, Answer
 
 
 class FileTest(unittest.TestCase):
@@ -164,12 +164,13 @@ class Contents(FileTest):
 class WantOfMemory(FileTest):
     """There is none for a function of the library while it is in `refused`."""
 
-    @staticmethod
-    def refused(*functions):
+    def refused(self, *functions):
         def none(*_):
-            return Answer(code=MEMORY)
+            return Answer(MEMORY)
 
-        return mock.patch.multiple(library, **{name: none for name in functions})
+        return mock.patch.multiple(
+            self.tree.session._library, **{name: none for name in functions}
+        )
 
     def test_file_that_could_not_be_closed_is_closed_by_commit(self):
         with self.refused("nuz_write", "nuz_close"):

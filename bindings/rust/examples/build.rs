@@ -184,7 +184,7 @@ fn report(job: &Transaction<Shared>, plan: &Plan, ends: &[End]) -> Result<(), Er
         match end {
             End::Built => print_file(job, target.path)?,
             _ => assert!(
-                job.stat(target.path).is_err(),
+                job.metadata(target.path).is_err(),
                 "a step that fails leaves nothing"
             ),
         }

@@ -84,12 +84,13 @@ impl<R: Reach> Transaction<R> {
     ///
     /// # Errors
     ///
-    /// EINVAL if the mode is above 0o7777, and those of [`mkdir`](Transaction::mkdir).
+    /// EINVAL if the mode is above 0o7777, and those of [`create_dir`](Transaction::create_dir).
+    #[doc(alias = "mkdir")]
     #[doc(alias = "DirBuilder")]
-    pub fn mkdir_mode(&self, path: impl AsRef<Path>, mode: u32) -> Result<()> {
+    pub fn create_dir_mode(&self, path: impl AsRef<Path>, mode: u32) -> Result<()> {
         let permissions = Permissions::from_mode(mode);
         self.on(path.as_ref(), |handle, txn, path| {
-            handle.mkdir_mode(txn, path, permissions.mode)
+            handle.mkdir(txn, path, Some(permissions.mode))
         })?;
         Ok(())
     }
@@ -103,7 +104,7 @@ impl<R: Reach> Transaction<R> {
     /// # let job = tree.begin()?;
     /// job.write("/run", "echo")?;
     /// job.set_permissions("/run", Permissions::from_mode(0o755))?;
-    /// assert_eq!(job.stat("/run")?.mode, 0o755);
+    /// assert_eq!(job.metadata("/run")?.mode, 0o755);
     /// # Ok(())
     /// # }
     /// ```
@@ -167,9 +168,9 @@ impl<R: Reach> Transaction<R> {
     /// # let job = tree.begin()?;
     /// let now = SystemTime::now();
     /// job.write("/built", "bytes")?;
-    /// assert_eq!(job.stat("/built")?.modified, None);
+    /// assert_eq!(job.metadata("/built")?.modified, None);
     /// job.set_times("/built", FileTimes::new().set_modified(now))?;
-    /// assert_eq!(job.stat("/built")?.modified, Some(now));
+    /// assert_eq!(job.metadata("/built")?.modified, Some(now));
     /// # Ok(())
     /// # }
     /// ```

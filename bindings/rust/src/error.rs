@@ -109,7 +109,7 @@ impl Error {
     /// The error of a code that is neither 0 nor that of a call that waits.
     pub(crate) fn of(code: u32) -> Error {
         match code {
-            sys::BAD | sys::CLOSED => Error::Invalid,
+            sys::BAD => Error::Invalid,
             sys::MEMORY.. => Error::Refused(Refusal::of(code)),
             _ => Error::Errno {
                 number: code as i32,

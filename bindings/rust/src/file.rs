@@ -2,7 +2,7 @@
 
 use crate::attributes::Permissions;
 use crate::error::{Error, Result};
-use crate::sys::{self, Answer, Flags, Handle};
+use crate::sys::{self, Answer, Handle};
 use crate::transaction::{signed, Metadata, Transaction};
 use crate::tree::Reach;
 use std::io::{self, SeekFrom};
@@ -78,29 +78,32 @@ impl OpenOptions {
     }
 
     /// The access as the library takes it. Neither reading nor writing is invalid.
-    pub(crate) fn access(&self) -> Result<u32> {
+    fn access(&self) -> Result<u32> {
         match (self.read, self.write || self.append) {
-            (true, false) => Ok(0),
-            (false, true) => Ok(1),
-            (true, true) => Ok(2),
+            (true, false) => Ok(sys::READ_ONLY),
+            (false, true) => Ok(sys::WRITE_ONLY),
+            (true, true) => Ok(sys::READ_WRITE),
             (false, false) => Err(Error::Invalid),
         }
     }
 
-    /// The flags as the library takes them. To make or cut what is not written is invalid, and so
+    /// The flags as the library takes them, the access too. To make or cut what is not written is invalid, and so
     /// is to cut what is written at its end.
-    pub(crate) fn flags(&self) -> Result<Flags> {
+    pub(crate) fn flags(&self) -> Result<u32> {
+        let access = self.access()?;
         let is_valid = match (self.write, self.append) {
             (true, false) => true,
             (false, false) => !(self.truncate || self.create || self.create_new),
             (_, true) => !self.truncate || self.create_new,
         };
-        let flags = Flags {
-            create: self.create || self.create_new,
-            excl: self.create_new,
-            trunc: self.truncate && !self.create_new,
-            append: self.append,
-        };
+        let flags = [
+            (self.create || self.create_new, sys::CREATE),
+            (self.create_new, sys::EXCL),
+            (self.truncate && !self.create_new, sys::TRUNC),
+            (self.append, sys::APPEND),
+        ];
+        let flags = flags.iter().filter(|(is_set, _)| *is_set);
+        let flags = flags.fold(access, |flags, (_, flag)| flags | flag);
         is_valid.then_some(flags).ok_or(Error::Invalid)
     }
 }

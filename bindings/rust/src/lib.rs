@@ -8,7 +8,7 @@
 //! let job = tree.begin()?;
 //!
 //! let step = job.begin()?; // a step of the job
-//! step.mkdir("/out")?;
+//! step.create_dir("/out")?;
 //! step.write("/out/log", b"all of it")?;
 //! step.commit()?;
 //!
@@ -26,6 +26,8 @@
 //! a part of what it does, do that in a step and drop the step. A [`File`] is read and written by
 //! the traits of `std::io`. [`Error`] is what stands in the way of a request, and becomes an
 //! `io::Error` by `From`.
+//!
+//! [`Transaction::copy_in`] and [`Transaction::copy_out`] copy directories of the disk.
 //!
 //! A path is absolute or not, which is the same here: there is no working directory but the root. A
 //! symbolic link with a relative target leads on from its own directory.
@@ -59,7 +61,7 @@
 //! # let tree = nuzolged::Tree::new().unwrap();
 //! let job = tree.begin().unwrap();
 //! job.commit().unwrap();
-//! job.mkdir("/late").unwrap();
+//! job.create_dir("/late").unwrap();
 //! ```
 //!
 //! A checkpoint while a transaction is live:
@@ -83,9 +85,11 @@
 
 mod attributes;
 mod builder;
+mod disk;
 mod error;
 mod file;
 mod sys;
+mod touched;
 mod transaction;
 mod tree;
 mod waits;
@@ -101,8 +105,10 @@ struct Readme;
 
 pub use attributes::{FileTimes, Permissions};
 pub use builder::Builder;
+pub use disk::CopyOptions;
 pub use error::{Error, Refusal, Result};
 pub use file::{File, Holder, OpenFile, OpenOptions, OwnedFile};
+pub use touched::Touched;
 pub use transaction::{Entry, Kind, Metadata, Transaction};
 pub use tree::{Reach, Rule, Shared, Tree};
 pub use whole::{Place, Walk};

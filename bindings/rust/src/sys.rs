@@ -1,219 +1,166 @@
 //! The functions of nuzolged.h, which says what each takes and answers.
 //!
-//! What the header has its caller owe is seen to by types: a handle has one owner, whoever calls
-//! has it alone (`&mut`), a slice is a pointer that is not null with its length, and a buffer is
-//! borrowed by nobody else.
+//! What the header has its caller owe is seen to by types: a handle has a tree of its own, whoever
+//! calls has it alone (`&mut`), a slice is a pointer with its length, and a buffer is borrowed by
+//! nobody else.
 
+use nuzolged_sys as raw;
 use std::collections::hash_map::RandomState;
 use std::hash::{BuildHasher, Hasher};
-use std::os::raw::c_void;
-use std::ptr;
+use std::ptr::{self, NonNull};
 
-/// `nuz_tree`: a handle, open or closed. It is closed where it is dropped.
-#[repr(C)]
+pub use raw::{
+    nuz_answer as Answer, nuz_limits as Limits, NUZ_BAD as BAD, NUZ_DIR as DIR, NUZ_END as END,
+    NUZ_LIMITS_GREATEST as GREATEST, NUZ_LINK as LINK, NUZ_MEMORY as MEMORY,
+    NUZ_O_APPEND as APPEND, NUZ_O_CREAT as CREATE, NUZ_O_EXCL as EXCL, NUZ_O_RDONLY as READ_ONLY,
+    NUZ_O_RDWR as READ_WRITE, NUZ_O_TRUNC as TRUNC, NUZ_O_WRONLY as WRITE_ONLY,
+    NUZ_STAYS as STAYS, NUZ_WAITS as WAITS,
+};
+
+/// A handle: the tree that it owns. It is closed where it is dropped.
 #[derive(Debug)]
 pub struct Handle {
-    at: *mut c_void,
+    at: NonNull<raw::nuz_tree>,
 }
 
 // SAFETY: the library ties nothing of a tree to a thread, and its handle may go to another one.
 unsafe impl Send for Handle {}
 
-/// `nuz_answer`: what a request came to.
-#[repr(C)]
-#[derive(Clone, Copy, Debug)]
-pub struct Answer {
-    pub code: u32,
-    pub kind: u32,
-    pub stamp: u64,
-    pub number: u64,
-    pub links: u64,
-    pub size: u64,
-    pub mode: u32,
-    pub owner: u32,
-    pub group: u32,
-    pub has_time: bool,
-    pub seconds: i64,
-    pub nanoseconds: u32,
-}
+/// A mode that none has: those above it are none either.
+const NO_MODE: u32 = 0o10000;
 
-/// `nuz_limits`: what a tree allows.
-#[repr(C)]
-#[derive(Clone, Copy, Debug, PartialEq, Eq)]
-pub struct Limits {
-    pub file_size: u64,
-    pub links: u64,
-    pub depth: u64,
-    pub transactions: u64,
-    pub calls: u64,
-}
-
-/// `NUZ_LIMITS_GREATEST`.
-pub const GREATEST: Limits = Limits {
-    file_size: 1 << 47,
-    links: 1 << 32,
-    depth: 4096,
-    transactions: 1 << 62,
-    calls: 1 << 62,
-};
-
-pub const MEMORY: u32 = 1001;
-pub const WAITS: u32 = 1100;
-pub const CLOSED: u32 = 1200;
-pub const BAD: u32 = 1201;
-pub const DIR: u32 = 1;
-pub const LINK: u32 = 3;
-
-/// `NUZ_END`: from the end of a file.
-pub const END: u32 = 2;
-
-/// `NUZ_STAYS`: an owner or a group that stays.
-pub const STAYS: u32 = u32::MAX;
-
-extern "C" {
-    fn nuz_tree_open_with(tree: &mut Handle, rule: u32, limits: Limits) -> u32;
-    fn nuz_tree_seed(tree: &mut Handle, seed: u64);
-    fn nuz_tree_close(tree: &mut Handle);
+impl Handle {
+    /// Opens a tree, with random keys of its own, or answers the code of what stood in the way.
+    pub fn open(options: u32, limits: &Limits) -> Result<Handle, u32> {
+        let mut at = ptr::null_mut();
+        // SAFETY: see the head of this module.
+        let code = unsafe { raw::nuz_tree_open_with(&mut at, options, limits) };
+        let handle = Handle {
+            at: NonNull::new(at).ok_or(code)?,
+        };
+        // SAFETY: as above. (A random state has its keys from the system.)
+        unsafe { raw::nuz_tree_seed(at, RandomState::new().build_hasher().finish()) };
+        Ok(handle)
+    }
 }
 
 impl Handle {
-    /// A closed handle.
-    pub const fn closed() -> Handle {
-        Handle {
-            at: ptr::null_mut(),
-        }
-    }
-
-    /// Opens a tree, with random keys of its own: 0, or the code of what stood in the way.
-    pub fn open(&mut self, rule: u32, limits: Limits) -> u32 {
-        // SAFETY: see the head of this module.
-        let code = unsafe { nuz_tree_open_with(self, rule, limits) };
-        // SAFETY: as above. (A random state has its keys from the system.)
-        unsafe { nuz_tree_seed(self, RandomState::new().build_hasher().finish()) };
-        code
+    /// The tree, as the functions take it.
+    pub fn tree(&mut self) -> *mut raw::nuz_tree {
+        self.at.as_ptr()
     }
 }
 
 impl Drop for Handle {
     fn drop(&mut self) {
-        // SAFETY: see the head of this module.
-        unsafe { nuz_tree_close(self) }
+        // SAFETY: see the head of this module. Nobody has the tree behind this.
+        unsafe { raw::nuz_tree_close(self.at.as_ptr()) }
     }
 }
 
-/// Declares functions of the library that answer an `Answer`: each as it is called here, and as it
-/// is called in C, with its arguments and their types.
+/// Functions of the library that answer an `Answer`: each as it is called here, and as it is called
+/// in C, between the tree and the answer.
 macro_rules! functions {
-    ($($name:ident($($arg:ident: $of:ty),*) = $call:ident($($value:expr => $type:ty),*);)*) => {
-        extern "C" {
-            $(fn $call(tree: &mut Handle, $(_: $type),*) -> Answer;)*
-        }
+    ($($name:ident($($arg:ident: $of:ty),*) = $call:ident($($value:expr),*);)*) => {
         impl Handle {
             $(pub fn $name(&mut self, $($arg: $of),*) -> Answer {
+                let mut answer = Answer::default();
                 // SAFETY: see the head of this module.
-                unsafe { $call(self, $($value),*) }
+                unsafe { raw::$call(self.at.as_ptr(), $($value,)* &mut answer) };
+                answer
             })*
         }
     };
 }
 
-type Bytes = *const u8;
-type Buffer = *mut u8;
-
 functions! {
     begin() = nuz_begin();
-    sub(txn: u64) = nuz_sub(txn => u64);
-    commit(txn: u64) = nuz_commit(txn => u64);
-    abort(txn: u64) = nuz_abort(txn => u64);
-    forget(txn: u64) = nuz_drop(txn => u64);
+    sub(txn: u64) = nuz_begin_sub(txn);
+    commit(txn: u64) = nuz_commit(txn);
+    abort(txn: u64) = nuz_abort(txn);
+    forget(txn: u64) = nuz_cancel(txn);
     checkpoint() = nuz_checkpoint();
 
-    mkdir(txn: u64, path: &[u8]) =
-        nuz_mkdir(txn => u64, path.as_ptr() => Bytes, path.len() => usize);
-    mkdir_mode(txn: u64, path: &[u8], mode: u32) =
-        nuz_mkdir_mode(txn => u64, path.as_ptr() => Bytes, path.len() => usize, mode => u32);
+    mkdir(txn: u64, path: &[u8], mode: Option<u32>) =
+        nuz_mkdir(txn, path.as_ptr().cast(), path.len(), given(mode));
     rmdir(txn: u64, path: &[u8]) =
-        nuz_rmdir(txn => u64, path.as_ptr() => Bytes, path.len() => usize);
-    list(txn: u64, path: &[u8]) =
-        nuz_list(txn => u64, path.as_ptr() => Bytes, path.len() => usize);
+        nuz_rmdir(txn, path.as_ptr().cast(), path.len());
+    list(txn: u64, path: &[u8], buffer: &mut [u8]) =
+        nuz_list_all(txn, path.as_ptr().cast(), path.len(),
+                     buffer.as_mut_ptr().cast(), buffer.len());
     stat(txn: u64, path: &[u8]) =
-        nuz_stat(txn => u64, path.as_ptr() => Bytes, path.len() => usize);
+        nuz_stat(txn, path.as_ptr().cast(), path.len());
     lstat(txn: u64, path: &[u8]) =
-        nuz_lstat(txn => u64, path.as_ptr() => Bytes, path.len() => usize);
+        nuz_lstat(txn, path.as_ptr().cast(), path.len());
     unlink(txn: u64, path: &[u8]) =
-        nuz_unlink(txn => u64, path.as_ptr() => Bytes, path.len() => usize);
+        nuz_unlink(txn, path.as_ptr().cast(), path.len());
     truncate(txn: u64, path: &[u8], size: i64) =
-        nuz_truncate(txn => u64, path.as_ptr() => Bytes, path.len() => usize, size => i64);
+        nuz_truncate(txn, path.as_ptr().cast(), path.len(), size);
     link(txn: u64, from: &[u8], to: &[u8]) =
-        nuz_link(txn => u64, from.as_ptr() => Bytes, from.len() => usize,
-                 to.as_ptr() => Bytes, to.len() => usize);
+        nuz_link(txn, from.as_ptr().cast(), from.len(),
+                 to.as_ptr().cast(), to.len());
     rename(txn: u64, from: &[u8], to: &[u8]) =
-        nuz_rename(txn => u64, from.as_ptr() => Bytes, from.len() => usize,
-                   to.as_ptr() => Bytes, to.len() => usize);
+        nuz_rename(txn, from.as_ptr().cast(), from.len(),
+                   to.as_ptr().cast(), to.len());
     symlink(txn: u64, target: &[u8], path: &[u8]) =
-        nuz_symlink(txn => u64, target.as_ptr() => Bytes, target.len() => usize,
-                    path.as_ptr() => Bytes, path.len() => usize);
+        nuz_symlink(txn, target.as_ptr().cast(), target.len(),
+                    path.as_ptr().cast(), path.len());
     readlink(txn: u64, path: &[u8], buffer: &mut [u8]) =
-        nuz_readlink(txn => u64, path.as_ptr() => Bytes, path.len() => usize,
-                     buffer.as_mut_ptr() => Buffer, buffer.len() => usize);
+        nuz_readlink(txn, path.as_ptr().cast(), path.len(),
+                     buffer.as_mut_ptr().cast(), buffer.len());
 
-    open_file(txn: u64, path: &[u8], access: u32, flags: Flags) =
-        nuz_open(txn => u64, path.as_ptr() => Bytes, path.len() => usize, access => u32,
-                 flags.create => bool, flags.excl => bool, flags.trunc => bool,
-                 flags.append => bool);
-    open_file_mode(txn: u64, path: &[u8], access: u32, flags: Flags, mode: u32) =
-        nuz_open_mode(txn => u64, path.as_ptr() => Bytes, path.len() => usize, access => u32,
-                      flags.create => bool, flags.excl => bool, flags.trunc => bool,
-                      flags.append => bool, mode => u32);
-    close_file(txn: u64, fd: u64) = nuz_close(txn => u64, fd => u64);
-    fstat(txn: u64, fd: u64) = nuz_fstat(txn => u64, fd => u64);
-    ftruncate(txn: u64, fd: u64, size: i64) = nuz_ftruncate(txn => u64, fd => u64, size => i64);
+    open_file(txn: u64, path: &[u8], flags: u32, mode: Option<u32>) =
+        nuz_open(txn, path.as_ptr().cast(), path.len(), flags,
+                 given(mode));
+    close_file(txn: u64, fd: u64) = nuz_close(txn, fd);
+    fstat(txn: u64, fd: u64) = nuz_fstat(txn, fd);
+    ftruncate(txn: u64, fd: u64, size: i64) = nuz_ftruncate(txn, fd, size);
     lseek(txn: u64, fd: u64, off: i64, whence: u32) =
-        nuz_lseek(txn => u64, fd => u64, off => i64, whence => u32);
+        nuz_lseek(txn, fd, off, whence);
     read(txn: u64, fd: u64, buffer: &mut [u8]) =
-        nuz_read(txn => u64, fd => u64, buffer.as_mut_ptr() => Buffer, buffer.len() => usize);
+        nuz_read(txn, fd, buffer.as_mut_ptr().cast(), buffer.len());
     pread(txn: u64, fd: u64, buffer: &mut [u8], off: i64) =
-        nuz_pread(txn => u64, fd => u64, buffer.as_mut_ptr() => Buffer, buffer.len() => usize,
-                  off => i64);
+        nuz_pread(txn, fd, buffer.as_mut_ptr().cast(), buffer.len(),
+                  off);
     write(txn: u64, fd: u64, bytes: &[u8]) =
-        nuz_write(txn => u64, fd => u64, bytes.as_ptr() => Bytes, bytes.len() => usize);
+        nuz_write(txn, fd, bytes.as_ptr().cast(), bytes.len());
     pwrite(txn: u64, fd: u64, bytes: &[u8], off: i64) =
-        nuz_pwrite(txn => u64, fd => u64, bytes.as_ptr() => Bytes, bytes.len() => usize,
-                   off => i64);
+        nuz_pwrite(txn, fd, bytes.as_ptr().cast(), bytes.len(),
+                   off);
 
     chmod(txn: u64, path: &[u8], mode: u32) =
-        nuz_chmod(txn => u64, path.as_ptr() => Bytes, path.len() => usize, mode => u32);
-    fchmod(txn: u64, fd: u64, mode: u32) = nuz_fchmod(txn => u64, fd => u64, mode => u32);
+        nuz_chmod(txn, path.as_ptr().cast(), path.len(), mode);
+    fchmod(txn: u64, fd: u64, mode: u32) = nuz_fchmod(txn, fd, mode);
     chown(txn: u64, path: &[u8], owner: u32, group: u32) =
-        nuz_chown(txn => u64, path.as_ptr() => Bytes, path.len() => usize, owner => u32,
-                  group => u32);
+        nuz_chown(txn, path.as_ptr().cast(), path.len(), owner,
+                  group);
     lchown(txn: u64, path: &[u8], owner: u32, group: u32) =
-        nuz_lchown(txn => u64, path.as_ptr() => Bytes, path.len() => usize, owner => u32,
-                   group => u32);
+        nuz_lchown(txn, path.as_ptr().cast(), path.len(), owner,
+                   group);
     fchown(txn: u64, fd: u64, owner: u32, group: u32) =
-        nuz_fchown(txn => u64, fd => u64, owner => u32, group => u32);
+        nuz_fchown(txn, fd, owner, group);
     utime(txn: u64, path: &[u8], seconds: i64, nanoseconds: u32) =
-        nuz_utime(txn => u64, path.as_ptr() => Bytes, path.len() => usize, seconds => i64,
-                  nanoseconds => u32);
+        nuz_utime(txn, path.as_ptr().cast(), path.len(), seconds,
+                  nanoseconds);
     lutime(txn: u64, path: &[u8], seconds: i64, nanoseconds: u32) =
-        nuz_lutime(txn => u64, path.as_ptr() => Bytes, path.len() => usize, seconds => i64,
-                   nanoseconds => u32);
+        nuz_lutime(txn, path.as_ptr().cast(), path.len(), seconds,
+                   nanoseconds);
     futime(txn: u64, fd: u64, seconds: i64, nanoseconds: u32) =
-        nuz_futime(txn => u64, fd => u64, seconds => i64, nanoseconds => u32);
+        nuz_futime(txn, fd, seconds, nanoseconds);
 
-    name(index: usize, buffer: &mut [u8]) =
-        nuz_name(index => usize, buffer.as_mut_ptr() => Buffer, buffer.len() => usize);
-    blocker(index: usize) = nuz_blocker(index => usize);
-    request(line: &[u8]) = nuz_request(line.as_ptr() => Bytes, line.len() => usize);
+    blocker(index: usize) = nuz_blocker(index);
+    bytes(buffer: &mut [u8]) = nuz_bytes(buffer.as_mut_ptr().cast(), buffer.len());
+    locks(txn: u64, buffer: &mut [u8]) =
+        nuz_locks(txn, buffer.as_mut_ptr().cast(), buffer.len());
+    cycle(txns: &mut [u64]) = nuz_cycle(txns.as_mut_ptr(), txns.len());
+    request(line: &[u8], buffer: &mut [u8]) =
+        nuz_request(line.as_ptr().cast(), line.len(), buffer.as_mut_ptr().cast(),
+                    buffer.len());
     reply(buffer: &mut [u8]) =
-        nuz_reply(buffer.as_mut_ptr() => Buffer, buffer.len() => usize);
+        nuz_reply(buffer.as_mut_ptr().cast(), buffer.len());
 }
 
-/// The flags of an open.
-#[derive(Clone, Copy, Debug, Default)]
-pub struct Flags {
-    pub create: bool,
-    pub excl: bool,
-    pub trunc: bool,
-    pub append: bool,
+/// A mode as the library takes it, if one is given.
+fn given(mode: Option<u32>) -> u32 {
+    mode.map_or(raw::NUZ_DEFAULT_MODE, |mode| mode.min(NO_MODE))
 }

@@ -80,8 +80,8 @@ pub struct Entry {
 }
 
 impl Kind {
-    fn of(answer: Answer) -> Kind {
-        match answer.kind {
+    fn numbered(number: u32) -> Kind {
+        match number {
             sys::DIR => Kind::Dir,
             sys::LINK => Kind::Symlink,
             _ => Kind::File,
@@ -108,7 +108,7 @@ impl Metadata {
     pub(crate) fn of(answer: Answer) -> Metadata {
         let modified = || time_of(answer.seconds, answer.nanoseconds);
         Metadata {
-            kind: Kind::of(answer),
+            kind: Kind::numbered(answer.kind),
             number: answer.number,
             links: answer.links,
             len: answer.size,
@@ -134,7 +134,7 @@ impl Metadata {
         self.kind.is_file()
     }
 
-    /// Whether it is of a symbolic link, of which only [`lstat`](Transaction::lstat) tells.
+    /// Whether it is of a symbolic link, of which only [`symlink_metadata`](Transaction::symlink_metadata) tells.
     pub fn is_symlink(&self) -> bool {
         self.kind.is_symlink()
     }
@@ -220,6 +220,16 @@ impl<R: Reach> Transaction<R> {
     pub(crate) fn ask(&self, mut ask: impl FnMut(&mut Handle, u64) -> Answer) -> Result<Answer> {
         let request = |handle: &mut Handle| answered(handle, |handle| ask(handle, self.number));
         self.tree.reach(self.number, request)
+    }
+
+    /// Makes a request that tells itself what stood in its way.
+    pub(crate) fn request(&self, request: impl FnMut(&mut Handle) -> Result<()>) -> Result<()> {
+        self.tree.reach(self.number, request)
+    }
+
+    /// Asks for reports, of one moment.
+    pub(crate) fn reports<T>(&self, ask: impl FnOnce(&mut Handle, u64) -> Result<T>) -> Result<T> {
+        self.tree.once(|handle| ask(handle, self.number))
     }
 
     /// Makes a request about a path.
@@ -342,9 +352,11 @@ impl<R: Reach> Transaction<R> {
     ///
     /// EEXIST, or one of the path: ENOENT, ENOTDIR, ENAMETOOLONG, ELOOP. As of each call: `Waits`,
     /// `Deadlock`, or refused as `Ended` or `Full`.
-    #[doc(alias = "create_dir")]
-    pub fn mkdir(&self, path: impl AsRef<Path>) -> Result<()> {
-        self.on(path.as_ref(), Handle::mkdir)?;
+    #[doc(alias = "mkdir")]
+    pub fn create_dir(&self, path: impl AsRef<Path>) -> Result<()> {
+        self.on(path.as_ref(), |handle, txn, path| {
+            handle.mkdir(txn, path, None)
+        })?;
         Ok(())
     }
 
@@ -353,8 +365,8 @@ impl<R: Reach> Transaction<R> {
     /// # Errors
     ///
     /// EINVAL, ENOTEMPTY, EBUSY, or one of the path.
-    #[doc(alias = "remove_dir")]
-    pub fn rmdir(&self, path: impl AsRef<Path>) -> Result<()> {
+    #[doc(alias = "rmdir")]
+    pub fn remove_dir(&self, path: impl AsRef<Path>) -> Result<()> {
         self.on(path.as_ref(), Handle::rmdir)?;
         Ok(())
     }
@@ -364,16 +376,13 @@ impl<R: Reach> Transaction<R> {
     /// # Errors
     ///
     /// Those of the path.
-    #[doc(alias = "read_dir")]
-    pub fn list(&self, path: impl AsRef<Path>) -> Result<Vec<Entry>> {
+    #[doc(alias = "readdir")]
+    pub fn read_dir(&self, path: impl AsRef<Path>) -> Result<Vec<Entry>> {
         let path = path.as_ref();
         let bytes = path.as_os_str().as_bytes();
-        let listed = self.tree.reach(self.number, |handle| {
-            let count = answered(handle, |handle| handle.list(self.number, bytes))?.number;
-            (0..count as usize)
-                .map(|index| entry(handle, index))
-                .collect()
-        });
+        let listed = self
+            .tree
+            .reach(self.number, |handle| entries(handle, self.number, bytes));
         listed.map_err(|error| error.about(&[path]))
     }
 
@@ -382,8 +391,8 @@ impl<R: Reach> Transaction<R> {
     /// # Errors
     ///
     /// Those of the path.
-    #[doc(alias = "metadata")]
-    pub fn stat(&self, path: impl AsRef<Path>) -> Result<Metadata> {
+    #[doc(alias = "stat")]
+    pub fn metadata(&self, path: impl AsRef<Path>) -> Result<Metadata> {
         Ok(Metadata::of(self.on(path.as_ref(), Handle::stat)?))
     }
 
@@ -392,8 +401,8 @@ impl<R: Reach> Transaction<R> {
     /// # Errors
     ///
     /// Those of the path.
-    #[doc(alias = "symlink_metadata")]
-    pub fn lstat(&self, path: impl AsRef<Path>) -> Result<Metadata> {
+    #[doc(alias = "lstat")]
+    pub fn symlink_metadata(&self, path: impl AsRef<Path>) -> Result<Metadata> {
         Ok(Metadata::of(self.on(path.as_ref(), Handle::lstat)?))
     }
 
@@ -445,8 +454,8 @@ impl<R: Reach> Transaction<R> {
     /// # Errors
     ///
     /// EPERM where it is a directory, or one of the path.
-    #[doc(alias = "remove_file")]
-    pub fn unlink(&self, path: impl AsRef<Path>) -> Result<()> {
+    #[doc(alias = "unlink")]
+    pub fn remove_file(&self, path: impl AsRef<Path>) -> Result<()> {
         self.on(path.as_ref(), Handle::unlink)?;
         Ok(())
     }
@@ -469,8 +478,8 @@ impl<R: Reach> Transaction<R> {
     /// # Errors
     ///
     /// EPERM where it is a directory, EEXIST, EMLINK, or one of the paths.
-    #[doc(alias = "hard_link")]
-    pub fn link(&self, from: impl AsRef<Path>, to: impl AsRef<Path>) -> Result<()> {
+    #[doc(alias = "link")]
+    pub fn hard_link(&self, from: impl AsRef<Path>, to: impl AsRef<Path>) -> Result<()> {
         self.on_both([from.as_ref(), to.as_ref()], |handle, txn, [from, to]| {
             handle.link(txn, from, to)
         })?;
@@ -529,10 +538,9 @@ impl<R: Reach> Transaction<R> {
     }
 
     fn opened(&self, path: &Path, options: &OpenOptions) -> Result<(PathBuf, u64)> {
-        let (access, flags) = (options.access()?, options.flags()?);
-        let opened = self.on(path, |handle, txn, path| match options.given_mode() {
-            Some(mode) => handle.open_file_mode(txn, path, access, flags, mode),
-            None => handle.open_file(txn, path, access, flags),
+        let (flags, mode) = (options.flags()?, options.given_mode());
+        let opened = self.on(path, |handle, txn, path| {
+            handle.open_file(txn, path, flags, mode)
         })?;
         Ok((path.to_path_buf(), opened.number))
     }
@@ -552,13 +560,28 @@ pub(crate) fn signed(number: u64) -> Result<i64> {
     i64::try_from(number).map_err(|_| Error::Invalid)
 }
 
-/// A name of the last list.
-fn entry(handle: &mut Handle, index: usize) -> Result<Entry> {
-    let mut name = vec![0; 255];
-    let told = answered(handle, |handle| handle.name(index, &mut name))?;
-    name.truncate(told.size as usize);
-    Ok(Entry {
-        name: OsString::from_vec(name),
-        kind: Kind::of(told),
-    })
+/// How many bytes of names a list is asked for with.
+const ROOM: usize = 4096;
+
+/// The entries of a directory.
+fn entries(handle: &mut Handle, txn: u64, path: &[u8]) -> Result<Vec<Entry>> {
+    let mut room = vec![0; ROOM];
+    let listed = answered(handle, |handle| handle.list(txn, path, &mut room))?;
+    let size = listed.size as usize;
+    if size > room.len() {
+        room.resize(size, 0);
+        handle.bytes(&mut room);
+    }
+    // Behind each name stands a null byte, and so behind the last one.
+    let names = room[..size].split(|byte| *byte == 0);
+    Ok(names.take(listed.number as usize).map(entry).collect())
+}
+
+/// An entry, of which the kind stands before the name.
+fn entry(told: &[u8]) -> Entry {
+    let (kind, name) = told.split_at(1);
+    Entry {
+        name: OsString::from_vec(name.to_vec()),
+        kind: Kind::numbered(kind[0].into()),
+    }
 }

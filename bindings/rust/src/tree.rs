@@ -62,13 +62,10 @@ impl Tree {
     }
 
     pub(crate) fn open(rule: Rule, limits: Limits) -> Result<Tree> {
-        let mut handle = Handle::closed();
-        match handle.open(rule as u32, limits) {
-            0 => Ok(Tree {
-                handle: RefCell::new(handle),
-            }),
-            code => Err(Error::of(code)),
-        }
+        let handle = Handle::open(rule as u32, &limits).map_err(Error::of)?;
+        Ok(Tree {
+            handle: RefCell::new(handle),
+        })
     }
 
     /// Begins a transaction.
@@ -296,28 +293,30 @@ pub(crate) fn answered(
     let answer = request(handle);
     match answer.code {
         0 => Ok(answer),
-        sys::WAITS => Err(Error::Waits(blockers(handle, answer.number))),
+        sys::WAITS => Err(Error::Waits(blockers(handle, &answer))),
         code => Err(Error::of(code)),
     }
 }
 
-/// The transactions for which the last call waits.
-fn blockers(handle: &mut Handle, count: u64) -> Vec<u64> {
-    (0..count as usize)
-        .map(|index| handle.blocker(index).number)
-        .collect()
+/// The transactions for which a call waits: an answer has the first of them.
+fn blockers(handle: &mut Handle, answer: &Answer) -> Vec<u64> {
+    let (count, first) = (answer.number as usize, answer.blockers);
+    let rest = (first.len()..count).map(|index| handle.blocker(index).number);
+    first.into_iter().take(count).chain(rest).collect()
 }
 
 /// The reply to a line of a script.
 pub(crate) fn reply_to(handle: &mut Handle, line: &str) -> Result<String> {
-    if let code @ (sys::BAD | sys::MEMORY) = handle.request(line.as_bytes()).code {
+    let mut text = vec![0; 256];
+    let told = handle.request(line.as_bytes(), &mut text);
+    if let code @ (sys::BAD | sys::MEMORY) = told.code {
         return Err(Error::of(code));
     }
-    let mut text = vec![0; 256];
-    let mut size = answered(handle, |handle| handle.reply(&mut text))?.size as usize;
+    let mut size = told.reply as usize;
     if size > text.len() {
+        size = answered(handle, |handle| handle.reply(&mut []))?.size as usize;
         text.resize(size, 0);
-        size = answered(handle, |handle| handle.reply(&mut text))?.size as usize;
+        answered(handle, |handle| handle.reply(&mut text))?;
     }
     text.truncate(size);
     Ok(String::from_utf8(text).expect("a reply is of ASCII characters"))

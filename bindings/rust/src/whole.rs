@@ -35,7 +35,7 @@ pub struct Walk<'t, R: Reach> {
 
 impl<R: Reach> Walk<'_, R> {
     fn enter(&mut self, folder: &Path) -> Result<()> {
-        let names = self.transaction.list(folder)?;
+        let names = self.transaction.read_dir(folder)?;
         self.left.extend(names.into_iter().rev().map(|entry| Place {
             path: folder.join(entry.name),
             kind: entry.kind,
@@ -62,10 +62,10 @@ impl<R: Reach> Transaction<R> {
     ///
     /// # Errors
     ///
-    /// Those of [`stat`](Transaction::stat) but ENOENT and ENOTDIR.
+    /// Those of [`metadata`](Transaction::metadata) but ENOENT and ENOTDIR.
     pub fn exists(&self, path: impl AsRef<Path>) -> Result<bool> {
         const ENOTDIR: i32 = 20;
-        match self.stat(path) {
+        match self.metadata(path) {
             Ok(_) => Ok(true),
             Err(error) if error.kind() == io::ErrorKind::NotFound => Ok(false),
             Err(error) if error.raw_os_error() == Some(ENOTDIR) => Ok(false),
@@ -77,12 +77,12 @@ impl<R: Reach> Transaction<R> {
     ///
     /// # Errors
     ///
-    /// Those of [`stat`](Transaction::stat).
+    /// Those of [`metadata`](Transaction::metadata).
     #[doc(alias = "realpath")]
     pub fn canonicalize(&self, path: impl AsRef<Path>) -> Result<PathBuf> {
         const ELOOP: u32 = 40;
         let path = path.as_ref();
-        self.stat(path)?;
+        self.metadata(path)?;
         let (mut whole, mut left) = (PathBuf::from("/"), parts_of(path));
         let mut followed = 0;
         while let Some(part) = left.pop() {
@@ -90,7 +90,7 @@ impl<R: Reach> Transaction<R> {
             if part == ".." {
                 whole.pop();
                 whole.pop();
-            } else if self.lstat(&whole)?.is_symlink() {
+            } else if self.symlink_metadata(&whole)?.is_symlink() {
                 let target = self.read_link(&whole)?;
                 left.extend(parts_of(&target));
                 whole.pop();
@@ -158,7 +158,7 @@ impl<R: Reach> Transaction<R> {
     pub fn copy(&self, from: impl AsRef<Path>, to: impl AsRef<Path>) -> Result<u64> {
         let source = self.open(from, OpenOptions::new().read(true))?;
         let (told, to) = (source.metadata()?, to.as_ref());
-        if self.exists(to)? && self.stat(to)?.number == told.number {
+        if self.exists(to)? && self.metadata(to)?.number == told.number {
             return source.close().map(|()| told.len);
         }
         let target = self.created(to)?;
@@ -185,13 +185,13 @@ impl<R: Reach> Transaction<R> {
         let above: Vec<_> = path.ancestors().collect();
         for directory in above.into_iter().rev() {
             if !directory.as_os_str().is_empty() && !self.exists(directory)? {
-                self.mkdir(directory)?;
+                self.create_dir(directory)?;
             }
         }
-        if self.stat(path)?.is_dir() {
+        if self.metadata(path)?.is_dir() {
             return Ok(());
         }
-        self.mkdir(path)
+        self.create_dir(path)
     }
 
     /// Removes a directory with all below it, or, as `std::fs` does, a symbolic link. Links are
@@ -204,17 +204,17 @@ impl<R: Reach> Transaction<R> {
     #[doc(alias = "rm -r")]
     pub fn remove_dir_all(&self, path: impl AsRef<Path>) -> Result<()> {
         let path = path.as_ref();
-        if self.lstat(path)?.is_symlink() {
-            return self.unlink(path);
+        if self.symlink_metadata(path)?.is_symlink() {
+            return self.remove_file(path);
         }
         let below = self.walk(path)?.collect::<Result<Vec<_>>>()?;
         for place in below.iter().rev() {
             match place.kind {
-                Kind::Dir => self.rmdir(&place.path)?,
-                Kind::File | Kind::Symlink => self.unlink(&place.path)?,
+                Kind::Dir => self.remove_dir(&place.path)?,
+                Kind::File | Kind::Symlink => self.remove_file(&place.path)?,
             }
         }
-        self.rmdir(path)
+        self.remove_dir(path)
     }
 
     /// Goes through what is below a directory: each directory before what is in it, and names in
@@ -223,7 +223,7 @@ impl<R: Reach> Transaction<R> {
     ///
     /// # Errors
     ///
-    /// Those of [`list`](Transaction::list), here and of each directory that it comes to.
+    /// Those of [`read_dir`](Transaction::read_dir), here and of each directory that it comes to.
     pub fn walk(&self, path: impl AsRef<Path>) -> Result<Walk<'_, R>> {
         let (transaction, left) = (self, Vec::new());
         let mut walk = Walk { transaction, left };

@@ -23,7 +23,7 @@ impl Transaction<Shared> {
     /// # fn main() -> Result<()> {
     /// let tree = Shared::new(Tree::new()?, Duration::from_secs(60));
     /// let job = tree.begin()?;
-    /// job.within(Duration::from_millis(500)).mkdir("/out")?;
+    /// job.within(Duration::from_millis(500)).create_dir("/out")?;
     /// job.commit()
     /// # }
     /// ```

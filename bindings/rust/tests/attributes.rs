@@ -19,7 +19,7 @@ fn errno<T>(result: Result<T>) -> Option<i32> {
 
 /// A directory, a file in it, and links to both and to nothing.
 fn make(job: &Transaction<&Tree>) -> Result<()> {
-    job.mkdir("/d")?;
+    job.create_dir("/d")?;
     job.write("/d/f", "four")?;
     job.symlink("d", "/to_d")?;
     job.symlink("d/f", "/to_f")?;
@@ -50,11 +50,11 @@ fn attributes_of_what_is_new_are_told() -> Result<()> {
     let tree = Tree::new()?;
     let job = tree.begin()?;
     make(&job)?;
-    assert_eq!(told(&job.stat("/")?), (0o755, 0, 0, None));
-    assert_eq!(told(&job.stat("/d")?), (0o755, 0, 0, None));
-    assert_eq!(told(&job.stat("/d/f")?), (0o644, 0, 0, None));
-    assert_eq!(told(&job.lstat("/to_f")?), (0o777, 0, 0, None));
-    assert_eq!(job.stat("/d/f")?.permissions(), mode(0o644));
+    assert_eq!(told(&job.metadata("/")?), (0o755, 0, 0, None));
+    assert_eq!(told(&job.metadata("/d")?), (0o755, 0, 0, None));
+    assert_eq!(told(&job.metadata("/d/f")?), (0o644, 0, 0, None));
+    assert_eq!(told(&job.symlink_metadata("/to_f")?), (0o777, 0, 0, None));
+    assert_eq!(job.metadata("/d/f")?.permissions(), mode(0o644));
     job.commit()
 }
 
@@ -65,16 +65,16 @@ fn permissions_are_set() -> Result<()> {
     make(&job)?;
     for path in ["/", "/d", "/d/f"] {
         job.set_permissions(path, mode(0o7421))?;
-        assert_eq!(job.stat(path)?.mode, 0o7421);
+        assert_eq!(job.metadata(path)?.mode, 0o7421);
     }
     job.set_permissions("/to_f", mode(0))?;
     job.set_permissions("/to_d/", mode(0o1777))?;
-    assert_eq!((job.stat("/d/f")?.mode, job.stat("/d")?.mode), (0, 0o1777));
-    assert_eq!(job.lstat("/to_f")?.mode, 0o777);
-    let mut permissions = job.stat("/d/f")?.permissions();
+    assert_eq!((job.metadata("/d/f")?.mode, job.metadata("/d")?.mode), (0, 0o1777));
+    assert_eq!(job.symlink_metadata("/to_f")?.mode, 0o777);
+    let mut permissions = job.metadata("/d/f")?.permissions();
     permissions.set_mode(permissions.mode() | 0o111);
     job.set_permissions("/d/f", permissions)?;
-    assert_eq!(job.stat("/to_f")?.mode, 0o111);
+    assert_eq!(job.metadata("/to_f")?.mode, 0o111);
     assert_eq!(
         errno(job.set_permissions("/d", mode(0o200_000))),
         Some(EINVAL)
@@ -107,10 +107,10 @@ fn permissions_are_as_those_of_std() {
 fn directories_and_files_are_made_with_a_mode() -> Result<()> {
     let tree = Tree::new()?;
     let job = tree.begin()?;
-    job.mkdir_mode("/a", 0o2700)?;
-    job.mkdir_mode("/kind", 0o40_711)?;
-    assert_eq!(job.stat("/kind")?.mode, 0o711);
-    assert_eq!(errno(job.mkdir_mode("/b", 0o200_000)), Some(EINVAL));
+    job.create_dir_mode("/a", 0o2700)?;
+    job.create_dir_mode("/kind", 0o40_711)?;
+    assert_eq!(job.metadata("/kind")?.mode, 0o711);
+    assert_eq!(errno(job.create_dir_mode("/b", 0o200_000)), Some(EINVAL));
     let options = *OpenOptions::new().write(true).create(true).mode(0o600);
     job.open("/f", &options)?.close()?;
     job.open(
@@ -123,7 +123,7 @@ fn directories_and_files_are_made_with_a_mode() -> Result<()> {
         OpenOptions::new().write(true).create_new(true).mode(0o4711),
     )?
     .close()?;
-    let modes = ["/a", "/f", "/g"].map(|path| job.stat(path).map(|told| told.mode));
+    let modes = ["/a", "/f", "/g"].map(|path| job.metadata(path).map(|told| told.mode));
     assert_eq!(modes, [Ok(0o2700), Ok(0o600), Ok(0o4711)]);
     let none = job.open(
         "/h",
@@ -139,7 +139,7 @@ fn owners_are_set_and_stay() -> Result<()> {
     let tree = Tree::new()?;
     let job = tree.begin()?;
     make(&job)?;
-    let owners = |path: &str| job.stat(path).map(|told| (told.uid, told.gid));
+    let owners = |path: &str| job.metadata(path).map(|told| (told.uid, told.gid));
     job.chown("/to_d", Some(1), Some(u32::MAX - 1))?;
     job.chown("/d", None, Some(3))?;
     job.chown("/d", Some(4), None)?;
@@ -147,7 +147,7 @@ fn owners_are_set_and_stay() -> Result<()> {
     job.set_permissions("/d/f", mode(0o6755))?;
     job.lchown("/d/f", Some(5), Some(6))?;
     assert_eq!((owners("/d")?, owners("/to_f")?), ((4, 3), (5, 6)));
-    assert_eq!(job.stat("/d/f")?.mode, 0o6755);
+    assert_eq!(job.metadata("/d/f")?.mode, 0o6755);
     assert_eq!(errno(job.lchown("/to_f", Some(1), None)), Some(EINVAL));
     job.lchown("/to_f", Some(0), None)?;
     assert_eq!(errno(job.chown("/none", None, None)), Some(ENOENT));
@@ -175,10 +175,10 @@ fn times_are_those_that_were_set() -> Result<()> {
         SystemTime::now(),
     ] {
         job.set_times("/to_f", FileTimes::new().set_modified(modified))?;
-        assert_eq!(job.stat("/d/f")?.modified, Some(modified));
+        assert_eq!(job.metadata("/d/f")?.modified, Some(modified));
     }
     job.set_times("/d/f", FileTimes::new())?;
-    assert!(job.stat("/d/f")?.modified.is_some());
+    assert!(job.metadata("/d/f")?.modified.is_some());
     job.commit()
 }
 
@@ -197,7 +197,7 @@ fn directories_and_links_have_no_time() -> Result<()> {
     }
     job.set_times_nofollow("/d/f", time(1))?;
     assert_eq!(
-        job.stat("/to_f")?.modified,
+        job.metadata("/to_f")?.modified,
         Some(UNIX_EPOCH + Duration::from_secs(1))
     );
     job.commit()
@@ -225,14 +225,14 @@ fn what_changes_the_bytes_takes_the_time_away() -> Result<()> {
     for change in changes {
         let step = job.begin()?;
         change(&step)?;
-        assert_eq!(step.stat("/d/f")?.modified, None);
+        assert_eq!(step.metadata("/d/f")?.modified, None);
         drop(step);
-        assert!(job.stat("/d/f")?.modified.is_some());
+        assert!(job.metadata("/d/f")?.modified.is_some());
     }
-    job.link("/d/f", "/g")?;
+    job.hard_link("/d/f", "/g")?;
     job.rename("/d/f", "/h")?;
     job.set_permissions("/h", mode(0))?;
-    assert!(job.stat("/h")?.modified.is_some() && job.stat("/g")?.modified.is_some());
+    assert!(job.metadata("/h")?.modified.is_some() && job.metadata("/g")?.modified.is_some());
     job.commit()
 }
 
@@ -254,7 +254,7 @@ fn open_files_have_the_same_calls() -> io::Result<()> {
     assert_eq!(file.chown(None, Some(u32::MAX)), Err(Error::Invalid));
     assert_eq!(errno(file.set_permissions(mode(1 << 20))), Some(EINVAL));
     file.close()?;
-    assert_eq!(told(&job.stat("/d/f")?), (0o600, 1, 0, Some(three)));
+    assert_eq!(told(&job.metadata("/d/f")?), (0o600, 1, 0, Some(three)));
     Ok(job.commit()?)
 }
 
@@ -265,16 +265,16 @@ fn step_takes_back_what_it_set() -> Result<()> {
     make(&job)?;
     job.set_permissions("/d", mode(0o700))?;
     job.set_times("/d/f", time(3))?;
-    let before = (job.stat("/d")?, job.stat("/d/f")?);
+    let before = (job.metadata("/d")?, job.metadata("/d/f")?);
     let step = job.begin()?;
     step.set_permissions("/d", mode(0))?;
     step.chown("/d/f", Some(1), Some(1))?;
     step.set_times("/d/f", time(4))?;
     step.remove_dir_all("/d")?;
-    step.mkdir("/d")?;
-    assert_eq!(step.stat("/d")?.mode, 0o755);
+    step.create_dir("/d")?;
+    assert_eq!(step.metadata("/d")?.mode, 0o755);
     drop(step);
-    assert_eq!((job.stat("/d")?, job.stat("/d/f")?), before);
+    assert_eq!((job.metadata("/d")?, job.metadata("/d/f")?), before);
     job.commit()
 }
 
@@ -287,11 +287,11 @@ fn those_in_the_way_are_told() -> Result<()> {
     let (first, second) = (tree.begin()?, tree.begin()?);
     first.set_permissions("/d/f", mode(0o600))?;
     let waits = Err(Error::Waits(vec![first.number()]));
-    assert_eq!(second.stat("/d/f").map(|_| ()), waits);
+    assert_eq!(second.metadata("/d/f").map(|_| ()), waits);
     assert_eq!(second.chown("/d/f", Some(1), None), waits);
     assert_eq!(second.read("/d/f")?, b"four");
     first.commit()?;
-    assert_eq!(second.stat("/d/f")?.mode, 0o600);
+    assert_eq!(second.metadata("/d/f")?.mode, 0o600);
     second.commit()
 }
 
@@ -304,7 +304,7 @@ fn thread_waits_for_who_sets_attributes() -> Result<()> {
     let (first, second) = (tree.begin()?, tree.begin()?);
     first.set_permissions("/f", mode(0o600))?;
     first.chown("/f", Some(1), Some(2))?;
-    let waiting = thread::spawn(move || second.stat("/f"));
+    let waiting = thread::spawn(move || second.metadata("/f"));
     thread::sleep(Duration::from_millis(20));
     first.commit()?;
     let found = waiting.join().expect("it does not panic")?;
@@ -356,7 +356,7 @@ fn copy_keeps_permissions_as_that_of_std_does() -> io::Result<()> {
             fs::copy(folder.0.join(&from), folder.0.join(&to))?;
             job.copy(&from, &to)?;
             let there = fs::metadata(folder.0.join(&to))?.mode() & 0o7777;
-            assert_eq!(told(&job.stat(&to)?), (there, 0, 0, None), "{to}");
+            assert_eq!(told(&job.metadata(&to)?), (there, 0, 0, None), "{to}");
         }
     }
     Ok(job.commit()?)
@@ -366,7 +366,7 @@ fn copy_keeps_permissions_as_that_of_std_does() -> io::Result<()> {
 fn report_tells_of_them() -> Result<()> {
     let tree = Tree::new()?;
     let job = tree.begin()?;
-    job.mkdir_mode("/a", 0o700)?;
+    job.create_dir_mode("/a", 0o700)?;
     job.write("/f", "")?;
     job.chown("/f", Some(1), Some(2))?;
     let before = UNIX_EPOCH - Duration::from_nanos(1);

@@ -19,21 +19,21 @@ fn errno<T>(result: Result<T>) -> Option<i32> {
 fn directories_are_made_listed_and_removed() -> Result<()> {
     let tree = Tree::new()?;
     let job = tree.begin()?;
-    job.mkdir("/b")?;
+    job.create_dir("/b")?;
     job.write("/a", b"")?;
-    assert_eq!(errno(job.mkdir("/b")), Some(EEXIST));
-    let listed = job.list("/")?;
+    assert_eq!(errno(job.create_dir("/b")), Some(EEXIST));
+    let listed = job.read_dir("/")?;
     let told: Vec<_> = listed
         .iter()
         .map(|entry| (entry.name.to_str().unwrap(), entry.kind))
         .collect();
     assert_eq!(told, [("a", Kind::File), ("b", Kind::Dir)]);
-    assert!(job.stat("/b")?.is_dir());
-    job.mkdir("/b/c")?;
-    assert_eq!(errno(job.rmdir("/b")), Some(ENOTEMPTY));
-    job.rmdir("/b/c")?;
-    job.rmdir("/b")?;
-    assert_eq!(errno(job.list("/b")), Some(ENOENT));
+    assert!(job.metadata("/b")?.is_dir());
+    job.create_dir("/b/c")?;
+    assert_eq!(errno(job.remove_dir("/b")), Some(ENOTEMPTY));
+    job.remove_dir("/b/c")?;
+    job.remove_dir("/b")?;
+    assert_eq!(errno(job.read_dir("/b")), Some(ENOENT));
     job.commit()
 }
 
@@ -42,17 +42,17 @@ fn names_of_files_change() -> Result<()> {
     let tree = Tree::new()?;
     let job = tree.begin()?;
     job.write("/f", b"four")?;
-    job.link("/f", "/g")?;
-    let told = job.stat("/g")?;
+    job.hard_link("/f", "/g")?;
+    let told = job.metadata("/g")?;
     assert_eq!(
         (told.kind, told.number, told.links, told.len),
         (Kind::File, 2, 2, 4)
     );
     job.rename("/g", "/h")?;
-    job.unlink("/f")?;
+    job.remove_file("/f")?;
     job.truncate("/h", 2)?;
     assert_eq!(job.read("/h")?, b"fo");
-    assert_eq!(job.stat("/h")?.links, 1);
+    assert_eq!(job.metadata("/h")?.links, 1);
     assert_eq!(job.truncate("/h", u64::MAX), Err(Error::Invalid));
     job.commit()
 }
@@ -62,9 +62,9 @@ fn names_are_of_any_bytes() -> Result<()> {
     let tree = Tree::new()?;
     let job = tree.begin()?;
     let name = OsStr::from_bytes(b"\xff \n");
-    job.mkdir(name)?;
-    assert_eq!(job.list("/")?[0].name, name);
-    assert_eq!(job.mkdir("/a\0b"), Err(Error::Invalid));
+    job.create_dir(name)?;
+    assert_eq!(job.read_dir("/")?[0].name, name);
+    assert_eq!(job.create_dir("/a\0b"), Err(Error::Invalid));
     job.commit()
 }
 
@@ -140,7 +140,7 @@ fn file_is_read_and_written_whole() -> Result<()> {
     let job = tree.begin()?;
     let bytes = b"seventy".repeat(10_000_000);
     job.write("/f", &bytes)?;
-    assert_eq!(job.stat("/f")?.len, 70_000_000);
+    assert_eq!(job.metadata("/f")?.len, 70_000_000);
     assert!(job.read("/f")? == bytes);
     job.commit()
 }
@@ -151,14 +151,14 @@ fn dropped_transaction_is_aborted() -> Result<()> {
     let job = tree.begin()?;
     {
         let step = job.begin()?;
-        step.mkdir("/gone")?;
+        step.create_dir("/gone")?;
     }
     let step = job.begin()?;
-    step.mkdir("/kept")?;
+    step.create_dir("/kept")?;
     step.commit()?;
     let step = job.begin()?;
-    step.mkdir("/gone")?;
-    assert_eq!(errno(step.stat("/kept/none")), Some(ENOENT));
+    step.create_dir("/gone")?;
+    assert_eq!(errno(step.metadata("/kept/none")), Some(ENOENT));
     assert_eq!(step.abort()?, 2);
     job.commit()?;
     assert_eq!(
@@ -186,16 +186,16 @@ fn those_in_the_way_are_told() -> Result<()> {
     let tree = Tree::new()?;
     let (first, second) = (tree.begin()?, tree.begin()?);
     let third = tree.begin()?;
-    first.mkdir("/a")?;
-    second.mkdir("/b")?;
-    let waits = third.list("/").unwrap_err();
+    first.create_dir("/a")?;
+    second.create_dir("/b")?;
+    let waits = third.read_dir("/").unwrap_err();
     assert_eq!(waits, Error::Waits(vec![first.number(), second.number()]));
     assert_eq!(io::Error::from(waits).kind(), ErrorKind::WouldBlock);
     third.forget()?;
     assert_eq!(third.forget(), Err(Error::Refused(Refusal::NoAsk)));
     first.commit()?;
     drop(second);
-    assert_eq!(third.list("/")?.len(), 1);
+    assert_eq!(third.read_dir("/")?.len(), 1);
     third.commit()
 }
 
@@ -203,9 +203,9 @@ fn those_in_the_way_are_told() -> Result<()> {
 fn parent_is_in_the_way_under_moss() -> Result<()> {
     let tree = Tree::with_rule(Rule::Moss)?;
     let job = tree.begin()?;
-    job.mkdir("/a")?;
+    job.create_dir("/a")?;
     let step = job.begin()?;
-    assert_eq!(step.stat("/a"), Err(Error::Waits(vec![job.number()])));
+    assert_eq!(step.metadata("/a"), Err(Error::Waits(vec![job.number()])));
     Ok(())
 }
 
@@ -213,11 +213,11 @@ fn parent_is_in_the_way_under_moss() -> Result<()> {
 fn checkpoint_forgets_transactions() -> Result<()> {
     let mut tree = Tree::new()?;
     let job = tree.begin()?;
-    job.mkdir("/a")?;
+    job.create_dir("/a")?;
     job.commit()?;
     tree.checkpoint()?;
     assert_eq!(tree.request("commit 1")?, "refused NoTxn\n");
-    assert_eq!(tree.begin()?.stat("/a")?.number, 2);
+    assert_eq!(tree.begin()?.metadata("/a")?.number, 2);
     Ok(())
 }
 

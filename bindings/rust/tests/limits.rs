@@ -36,10 +36,10 @@ fn file_has_no_more_names() -> Result<()> {
     let tree = Tree::builder().links(2).build()?;
     let job = tree.begin()?;
     job.write("/f", b"")?;
-    job.link("/f", "/g")?;
-    assert_eq!(errno(job.link("/f", "/h")), Some(EMLINK));
-    job.unlink("/g")?;
-    job.link("/f", "/h")
+    job.hard_link("/f", "/g")?;
+    assert_eq!(errno(job.hard_link("/f", "/h")), Some(EMLINK));
+    job.remove_file("/g")?;
+    job.hard_link("/f", "/h")
 }
 
 #[test]
@@ -72,9 +72,9 @@ fn no_more_calls_are_granted_before_a_checkpoint() -> Result<()> {
     let mut tree = Tree::builder().calls(2).build()?;
     for _ in 0..2 {
         let job = tree.begin()?;
-        job.mkdir("/a")?;
-        job.rmdir("/a")?;
-        assert_eq!(job.list("/"), Err(FULL));
+        job.create_dir("/a")?;
+        job.remove_dir("/a")?;
+        assert_eq!(job.read_dir("/"), Err(FULL));
         job.commit()?;
         tree.checkpoint()?;
     }
@@ -104,12 +104,12 @@ fn limits_that_are_not_set_are_the_greatest() -> Result<()> {
     let job = tree.begin()?;
     job.write("/f", b"")?;
     job.truncate("/f", 1 << 32)?;
-    assert_eq!(job.stat("/f")?.len, 1 << 32);
+    assert_eq!(job.metadata("/f")?.len, 1 << 32);
     assert_eq!(errno(job.truncate("/f", (1 << 47) + 1)), Some(EFBIG));
     for name in 1..=1500 {
-        job.link("/f", name.to_string())?;
+        job.hard_link("/f", name.to_string())?;
     }
-    assert_eq!(job.stat("/f")?.links, 1501);
+    assert_eq!(job.metadata("/f")?.links, 1501);
     drop(job);
     assert_eq!(depth_of(tree)?, 4096);
     assert_eq!(depth_of(Tree::builder().depth(64).build()?)?, 64);

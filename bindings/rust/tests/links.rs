@@ -20,7 +20,7 @@ fn errno<T>(result: Result<T>) -> Option<i32> {
 
 /// A directory, a file in it, and links to both, to nothing and to itself.
 fn make_links(job: &Transaction<&Tree>) -> Result<()> {
-    job.mkdir("/d")?;
+    job.create_dir("/d")?;
     job.write("/d/f", "four")?;
     job.symlink("/d", "/to_d")?;
     job.symlink("d/f", "/to_f")?;
@@ -35,12 +35,12 @@ fn links_are_made_and_read() -> Result<()> {
     make_links(&job)?;
     assert_eq!(job.read_link("/to_f")?, Path::new("d/f"));
     assert_eq!(job.read_link("to_none")?, Path::new("none"));
-    let told = job.lstat("/to_f")?;
+    let told = job.symlink_metadata("/to_f")?;
     assert_eq!((told.kind, told.links, told.len), (Kind::Symlink, 1, 3));
     assert!(told.is_symlink() && !told.is_file() && !told.is_dir());
     assert!(told.file_type().is_symlink());
-    assert!(job.lstat("/d")?.is_dir() && job.lstat("/d/f")?.is_file());
-    let kinds: Vec<_> = job.list("/")?.iter().map(|entry| entry.kind).collect();
+    assert!(job.symlink_metadata("/d")?.is_dir() && job.symlink_metadata("/d/f")?.is_file());
+    let kinds: Vec<_> = job.read_dir("/")?.iter().map(|entry| entry.kind).collect();
     assert_eq!(
         kinds,
         [
@@ -51,7 +51,7 @@ fn links_are_made_and_read() -> Result<()> {
             Kind::Symlink
         ]
     );
-    let entry = &job.list("/")?[1];
+    let entry = &job.read_dir("/")?[1];
     assert!(entry.is_symlink() && !entry.is_dir() && !entry.is_file());
     assert_eq!(entry.file_type(), Kind::Symlink);
     job.commit()
@@ -81,7 +81,7 @@ fn targets_are_any_bytes_but_none() -> Result<()> {
     let longest = "t".repeat(4095);
     job.symlink(&longest, "/longest")?;
     assert_eq!(job.read_link("/longest")?, Path::new(&longest));
-    assert_eq!(job.lstat("/longest")?.len, 4095);
+    assert_eq!(job.symlink_metadata("/longest")?.len, 4095);
     let longer = longest.clone() + "t";
     assert_eq!(errno(job.symlink(longer, "/l")), Some(ENAMETOOLONG));
     assert_eq!(errno(job.symlink("", "/l")), Some(ENOENT));
@@ -98,7 +98,7 @@ fn links_that_lead_to_each_other_are_told() -> Result<()> {
     let tree = Tree::new()?;
     let job = tree.begin()?;
     make_links(&job)?;
-    let looped = job.stat("/loop").unwrap_err();
+    let looped = job.metadata("/loop").unwrap_err();
     assert_eq!(looped.raw_os_error(), Some(ELOOP));
     assert_eq!(
         looped.kind(),
@@ -106,8 +106,8 @@ fn links_that_lead_to_each_other_are_told() -> Result<()> {
         "as the system has it"
     );
     assert_eq!(errno(job.exists("/loop")), Some(ELOOP));
-    assert_eq!(errno(job.list("/loop/x")), Some(ELOOP));
-    assert!(job.lstat("/loop")?.is_symlink());
+    assert_eq!(errno(job.read_dir("/loop/x")), Some(ELOOP));
+    assert!(job.symlink_metadata("/loop")?.is_symlink());
     job.commit()
 }
 
@@ -118,10 +118,10 @@ fn step_takes_its_links_with_it() -> Result<()> {
     make_links(&job)?;
     let step = job.begin()?;
     step.symlink("x", "/new")?;
-    step.unlink("/to_f")?;
+    step.remove_file("/to_f")?;
     step.rename("/to_d", "/moved")?;
     drop(step);
-    assert_eq!(errno(job.lstat("/new")), Some(ENOENT));
+    assert_eq!(errno(job.symlink_metadata("/new")), Some(ENOENT));
     assert_eq!(job.read_link("/to_f")?, Path::new("d/f"));
     assert_eq!(job.read_link("/to_d")?, Path::new("/d"));
     job.commit()
@@ -132,7 +132,7 @@ fn directories_are_removed_and_what_links_lead_to_stays() -> Result<()> {
     let tree = Tree::new()?;
     let job = tree.begin()?;
     make_links(&job)?;
-    job.mkdir("/e")?;
+    job.create_dir("/e")?;
     job.symlink("../d", "/e/to_d")?;
     job.symlink("to_d", "/e/to_to_d")?;
     let told: Vec<_> = job
@@ -149,7 +149,7 @@ fn directories_are_removed_and_what_links_lead_to_stays() -> Result<()> {
     job.remove_dir_all("/e")?;
     job.remove_dir_all("/to_d")?;
     assert_eq!(job.read("/d/f")?, b"four");
-    assert_eq!(errno(job.lstat("/to_d")), Some(ENOENT));
+    assert_eq!(errno(job.symlink_metadata("/to_d")), Some(ENOENT));
     job.commit()
 }
 
@@ -159,7 +159,7 @@ fn directories_above_lead_through_links() -> Result<()> {
     let job = tree.begin()?;
     make_links(&job)?;
     job.create_dir_all("/to_d/x/y")?;
-    assert!(job.stat("/d/x/y")?.is_dir());
+    assert!(job.metadata("/d/x/y")?.is_dir());
     job.create_dir_all("/to_d")?;
     for path in ["/to_none", "/to_none/x"] {
         assert_eq!(errno(job.create_dir_all(path)), Some(EEXIST), "{path}");
@@ -214,10 +214,10 @@ fn looks_here(job: &Transaction<&Tree>, path: &str) -> Vec<Came> {
         told.iter().map(name).collect::<Vec<_>>()
     };
     vec![
-        came_here(job.stat(path).map(kind)),
-        came_here(job.lstat(path).map(kind)),
+        came_here(job.metadata(path).map(kind)),
+        came_here(job.symlink_metadata(path).map(kind)),
         came_here(job.read_link(path)),
-        came_here(job.list(path).map(names)),
+        came_here(job.read_dir(path).map(names)),
         came_here(job.read_to_string(path)),
         came_here(job.canonicalize(path)),
     ]
@@ -259,7 +259,7 @@ fn make_links_there(folder: &Folder) -> io::Result<()> {
 }
 
 fn make_links_here(job: &Transaction<&Tree>) -> Result<()> {
-    job.mkdir("d")?;
+    job.create_dir("d")?;
     job.write("d/f", "four")?;
     job.symlink("d", "to_d")?;
     job.symlink("d/f", "to_f")?;
@@ -329,6 +329,6 @@ fn links_are_opened_as_std_opens_them() -> io::Result<()> {
             );
         }
     }
-    assert!(job.lstat("none")?.is_file() && folder.at("none").is_file());
+    assert!(job.symlink_metadata("none")?.is_file() && folder.at("none").is_file());
     Ok(())
 }

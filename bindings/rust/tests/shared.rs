@@ -17,9 +17,9 @@ fn shared(limit: Duration) -> Result<Shared> {
 fn call_waits_until_the_other_has_ended() -> Result<()> {
     let (tree, begun) = (shared(LONG)?, Instant::now());
     let first = tree.begin()?;
-    first.mkdir("/a")?;
+    first.create_dir("/a")?;
     let second = tree.begin()?;
-    let waiting = thread::spawn(move || second.list("/").map(|names| names.len()));
+    let waiting = thread::spawn(move || second.read_dir("/").map(|names| names.len()));
     wait_for(&tree, "edges 1\nedge 2 1 lock\nranks 1:0 2:1\n")?;
     first.commit()?;
     assert_eq!(waiting.join().expect("it does not panic"), Ok(1));
@@ -31,9 +31,9 @@ fn call_waits_until_the_other_has_ended() -> Result<()> {
 fn call_goes_on_when_the_other_is_dropped() -> Result<()> {
     let (tree, begun) = (shared(LONG)?, Instant::now());
     let first = tree.begin()?;
-    first.mkdir("/a")?;
+    first.create_dir("/a")?;
     let second = tree.begin()?;
-    let waiting = thread::spawn(move || second.mkdir("/a"));
+    let waiting = thread::spawn(move || second.create_dir("/a"));
     wait_for(&tree, "edges 1\nedge 2 1 lock\nranks 1:0 2:1\n")?;
     drop(first);
     assert_eq!(waiting.join().expect("it does not panic"), Ok(()));
@@ -45,9 +45,9 @@ fn call_goes_on_when_the_other_is_dropped() -> Result<()> {
 fn call_waits_no_longer_than_the_limit() -> Result<()> {
     let tree = shared(SHORT)?;
     let (first, second) = (tree.begin()?, tree.begin()?);
-    first.mkdir("/a")?;
+    first.create_dir("/a")?;
     let begun = Instant::now();
-    assert_eq!(second.stat("/a"), Err(Error::Waits(vec![first.number()])));
+    assert_eq!(second.metadata("/a"), Err(Error::Waits(vec![first.number()])));
     assert!(begun.elapsed() >= SHORT);
     Ok(())
 }
@@ -56,14 +56,14 @@ fn call_waits_no_longer_than_the_limit() -> Result<()> {
 fn limits_are_of_the_tree_and_of_a_transaction() -> Result<()> {
     let tree = shared(LONG)?;
     let first = tree.begin()?;
-    first.mkdir("/a")?;
+    first.create_dir("/a")?;
     let second = tree.with_limit(SHORT).begin()?;
     let mut third = tree.begin()?;
     third.set_limit(SHORT);
     let step = third.begin()?;
     for job in [&second, &third, &step] {
         let begun = Instant::now();
-        assert_eq!(job.stat("/a"), Err(Error::Waits(vec![first.number()])));
+        assert_eq!(job.metadata("/a"), Err(Error::Waits(vec![first.number()])));
         assert!(begun.elapsed() >= SHORT && begun.elapsed() < LONG);
         assert!(!tree.request("waits")?.contains("lock"), "it is forgotten");
     }
@@ -77,18 +77,18 @@ fn limit_is_of_a_call() -> Result<()> {
     job.write("/f", "bytes")?;
     let begun = Instant::now();
     assert_eq!(
-        other.within(SHORT).stat("/f"),
+        other.within(SHORT).metadata("/f"),
         Err(Error::Waits(vec![job.number()]))
     );
     let step = other.within(SHORT).begin()?;
-    assert_eq!(step.stat("/f"), Err(Error::Waits(vec![job.number()])));
+    assert_eq!(step.metadata("/f"), Err(Error::Waits(vec![job.number()])));
     assert!(begun.elapsed() >= 2 * SHORT && begun.elapsed() < LONG);
     drop(step);
     job.commit()?;
     let third = tree.begin()?;
     let calls = other.within(SHORT);
     let file = calls.open("/f", OpenOptions::new().read(true))?;
-    third.link("/f", "/g")?;
+    third.hard_link("/f", "/g")?;
     drop(file);
     drop(calls);
     third.commit()?;
@@ -101,11 +101,11 @@ fn limit_is_of_a_call() -> Result<()> {
 fn cycle_is_told_at_once() -> Result<()> {
     let (tree, begun) = (shared(LONG)?, Instant::now());
     let (first, second) = (tree.begin()?, tree.begin()?);
-    first.mkdir("/a")?;
-    second.mkdir("/b")?;
-    let waiting = thread::spawn(move || first.stat("/b").and_then(|_| first.commit()));
+    first.create_dir("/a")?;
+    second.create_dir("/b")?;
+    let waiting = thread::spawn(move || first.metadata("/b").and_then(|_| first.commit()));
     wait_for(&tree, "edges 1\nedge 1 2 lock\nranks 1:1 2:0\n")?;
-    assert_eq!(second.stat("/a"), Err(Error::Deadlock(vec![2, 1])));
+    assert_eq!(second.metadata("/a"), Err(Error::Deadlock(vec![2, 1])));
     assert_eq!(
         tree.request("waits")?,
         "edges 1\nedge 1 2 lock\nranks 1:1 2:0\n"
@@ -120,9 +120,9 @@ fn cycle_is_told_at_once() -> Result<()> {
 fn job_and_its_step_make_a_cycle_under_moss() -> Result<()> {
     let tree = Shared::new(Tree::with_rule(Rule::Moss)?, LONG);
     let job = tree.begin()?;
-    job.mkdir("/a")?;
+    job.create_dir("/a")?;
     let step = job.begin()?;
-    assert_eq!(step.stat("/a"), Err(Error::Deadlock(vec![2, 1])));
+    assert_eq!(step.metadata("/a"), Err(Error::Deadlock(vec![2, 1])));
     Ok(())
 }
 
@@ -160,7 +160,7 @@ fn dropped_file_waits_for_nobody() -> Result<()> {
     let files = (0..3)
         .map(|_| job.open("/f", OpenOptions::new().read(true)))
         .collect::<Result<Vec<_>>>()?;
-    other.link("/f", "/g")?;
+    other.hard_link("/f", "/g")?;
     let begun = Instant::now();
     drop(files);
     assert!(begun.elapsed() < LONG / 2, "a drop does not wait");
@@ -180,7 +180,7 @@ fn commit_that_has_to_wait_gives_the_transaction_back() -> Result<()> {
     prepared.commit()?;
     let (job, other) = (tree.begin()?, tree.begin()?);
     let file = job.open("/f", OpenOptions::new().read(true))?;
-    other.link("/f", "/g")?;
+    other.hard_link("/f", "/g")?;
     assert_eq!(file.close(), Err(Error::Waits(vec![other.number()])));
     let (job, error) = job.try_commit().unwrap_err();
     assert_eq!(error, Error::Waits(vec![other.number()]));
@@ -194,11 +194,11 @@ fn commit_that_has_to_wait_gives_the_transaction_back() -> Result<()> {
 fn forgotten_transaction_is_aborted_by_its_number() -> Result<()> {
     let tree = shared(SHORT)?;
     let job = tree.begin()?;
-    job.mkdir("/a")?;
+    job.create_dir("/a")?;
     let number = job.number();
     std::mem::forget(job);
     assert_eq!(tree.abort(number), Ok(1));
-    assert_eq!(tree.begin()?.list("/")?, []);
+    assert_eq!(tree.begin()?.read_dir("/")?, []);
     assert_eq!(tree.abort(number), Err(Error::Refused(Refusal::Ended)));
     tree.checkpoint()
 }
@@ -230,9 +230,9 @@ fn trees_and_transactions_go_between_threads() {
 fn waiting_step_is_ended_with_its_job() -> Result<()> {
     let tree = shared(LONG)?;
     let (job, other) = (tree.begin()?, tree.begin()?);
-    other.mkdir("/a")?;
+    other.create_dir("/a")?;
     let step = job.begin()?;
-    let waiting = thread::spawn(move || step.stat("/a"));
+    let waiting = thread::spawn(move || step.metadata("/a"));
     wait_for(
         &tree,
         "edges 2\nedge 1 3 child\nedge 3 2 lock\nranks 1:2 2:0 3:1\n",
@@ -247,18 +247,18 @@ fn waiting_step_is_ended_with_its_job() -> Result<()> {
 fn waiting_step_goes_on_by_a_call_of_its_job() -> Result<()> {
     let (tree, begun) = (shared(LONG)?, Instant::now());
     let first = tree.begin()?;
-    first.mkdir("/p")?;
-    first.mkdir("/a")?;
+    first.create_dir("/p")?;
+    first.create_dir("/a")?;
     first.commit()?;
     let (job, other) = (tree.begin()?, tree.begin()?);
     let step = job.begin()?;
-    other.mkdir("/a/x")?;
-    let waiting = thread::spawn(move || step.stat("/p/../a/x").err());
+    other.create_dir("/a/x")?;
+    let waiting = thread::spawn(move || step.metadata("/p/../a/x").err());
     wait_for(
         &tree,
         "edges 2\nedge 2 4 child\nedge 4 3 lock\nranks 2:2 3:0 4:1\n",
     )?;
-    job.rmdir("/p")?;
+    job.remove_dir("/p")?;
     let told = waiting.join().expect("it does not panic");
     assert_eq!(told.map(|error| error.kind()), Some(ErrorKind::NotFound));
     assert!(begun.elapsed() < LONG, "it is made again");
@@ -299,7 +299,7 @@ fn commit_over_a_live_step_aborts() -> Result<()> {
     let tree = shared(LONG)?;
     let job = tree.begin()?;
     let step = job.begin()?;
-    step.mkdir("/a")?;
+    step.create_dir("/a")?;
     assert_eq!(job.commit(), Err(Error::Refused(Refusal::ChildLive)));
     assert_eq!(step.commit(), Err(Error::Refused(Refusal::Ended)));
     assert_eq!(tree.request("tree")?, "tree 1\ndir 1\n");
@@ -326,7 +326,7 @@ fn refusals_are_told() -> Result<()> {
 fn panic_aborts_the_transaction_of_its_thread() -> Result<()> {
     let tree = shared(LONG)?;
     let job = tree.begin()?;
-    job.mkdir("/a")?;
+    job.create_dir("/a")?;
     let (tell, told) = mpsc::channel();
     let thread = thread::spawn(move || {
         tell.send(job.number()).expect("somebody listens");
@@ -334,7 +334,7 @@ fn panic_aborts_the_transaction_of_its_thread() -> Result<()> {
     });
     assert_eq!(told.recv(), Ok(1));
     assert!(thread.join().is_err());
-    assert_eq!(tree.begin()?.list("/")?, []);
+    assert_eq!(tree.begin()?.read_dir("/")?, []);
     tree.checkpoint()
 }
 

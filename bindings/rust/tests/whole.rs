@@ -54,7 +54,7 @@ fn files_are_copied_and_read_as_text() -> Result<()> {
     job.write("/g", vec![0xff])?;
     assert_eq!(job.read_to_string("/g"), Err(Error::NotUtf8));
     assert!(job.exists("/g")? && !job.exists("/h")? && !job.exists("/g/h")?);
-    assert!(job.stat("/g")?.is_file() && job.list("/")?[0].is_file());
+    assert!(job.metadata("/g")?.is_file() && job.read_dir("/")?[0].is_file());
     job.commit()
 }
 
@@ -126,7 +126,7 @@ fn opened_here(name: &str, options: [bool; 6]) -> Result<Opened> {
     let [read, write, append, truncate, create, create_new] = options;
     let tree = Tree::new()?;
     let job = tree.begin()?;
-    job.mkdir("/dir")?;
+    job.create_dir("/dir")?;
     job.write("/there", "old")?;
     let options = *OpenOptions::new()
         .read(read)

@@ -1,20 +1,34 @@
 //! Finds libnuzolged.a: in the folder that NUZOLGED_LIB_DIR names, else in `native`, as it is
 //! packed, else where `make` builds it beside this crate, else in the lib folder of the place that
-//! this crate was installed in. For docs.rs, which links nothing, it is not looked for.
+//! this crate was installed in, else where pkg-config says that it is. For docs.rs, which links
+//! nothing, it is not looked for.
 
 use std::env;
 use std::path::{Path, PathBuf};
+use std::process::Command;
 
 const LIBRARY: &str = "libnuzolged.a";
 
 fn places() -> Vec<PathBuf> {
     let this = Path::new(env!("CARGO_MANIFEST_DIR"));
-    match env::var_os("NUZOLGED_LIB_DIR") {
-        Some(named) => vec![named.into()],
-        None => ["native", "../out", "../../../lib"]
-            .map(|place| this.join(place))
-            .into(),
+    if let Some(named) = env::var_os("NUZOLGED_LIB_DIR") {
+        return vec![named.into()];
     }
+    ["native", "../../out", "../../../../lib"]
+        .map(|place| this.join(place))
+        .into_iter()
+        .chain(place_of_system())
+        .collect()
+}
+
+/// Where pkg-config says that the library is, if it is there and knows of it.
+fn place_of_system() -> Option<PathBuf> {
+    let asked = Command::new("pkg-config")
+        .args(["--variable=libdir", "nuzolged"])
+        .output()
+        .ok()?;
+    let told = String::from_utf8(asked.stdout).ok()?;
+    (asked.status.success() && !told.trim().is_empty()).then(|| told.trim().into())
 }
 
 /// The first of them that has the library.

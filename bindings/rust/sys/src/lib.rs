@@ -1,0 +1,12 @@
+//! The functions, types and numbers of libnuzolged, as its headers declare them: a POSIX file tree
+//! in memory, under nested transactions. The crate `nuzolged` is the safe one over them.
+//!
+//! Each function says what it takes and answers; what the caller owes, and nothing checks, stands at
+//! the head of nuzolged.h.
+#![allow(non_camel_case_types)]
+#![warn(missing_docs)]
+
+#[rustfmt::skip]
+mod header;
+
+pub use header::*;
