@@ -2,7 +2,8 @@
 
 The program either ends with 'fault: Memory' behind a beginning of the right text, or it refuses
 one request for want of memory and answers the others as if that one had not been made, or it does
-without.
+without. A read gives one line, so that the reply to it is written before the next one is read, and
+the allocations between two writes are those of a line.
 """
 import playing
 import scripts
@@ -53,7 +54,8 @@ class Refusals:
         )
 
     def play(self, script, **settings):
-        return self.bench.unkind.run(["play", *self.case.words], script, **settings)
+        words = ["play", *self.case.words]
+        return self.bench.unkind.run(words, script, read_line=1, **settings)
 
     def played(self, requests, **settings):
         return self.play(scripts.script_of(requests), **settings)

@@ -10,6 +10,7 @@
    UNKIND_READ_HOW         fail, interrupt or nothing
    UNKIND_READ_EVERY       each read whose number is a multiple of this is interrupted
    UNKIND_READ_BYTES       the most bytes that a read gives
+   UNKIND_READ_LINE        with any value: a read gives nothing behind a line feed
    UNKIND_WRITE            the number of the write that UNKIND_WRITE_HOW is done to
    UNKIND_WRITE_HOW        fail, interrupt or nothing
    UNKIND_WRITE_BYTES      the most bytes that a write takes
@@ -74,6 +75,7 @@ static const char *read_how, *write_how;
 static uint64_t read_every, read_bytes, write_bytes;
 static int64_t behind_writes = -1;
 static uint64_t since_write, thread_delay;
+static int is_read_by_lines;
 
 static ssize_t (*real_read)(int, void *, size_t);
 static ssize_t (*real_write)(int, const void *, size_t);
@@ -130,6 +132,7 @@ __attribute__((constructor)) static void begin(void) {
   read_bytes = number_of("UNKIND_READ_BYTES");
   write_bytes = number_of("UNKIND_WRITE_BYTES");
   thread_delay = number_of("UNKIND_THREAD_DELAY");
+  is_read_by_lines = getenv("UNKIND_READ_LINE") != NULL;
   if (getenv("UNKIND_BEHIND_WRITES")) behind_writes = number_of("UNKIND_BEHIND_WRITES");
   if (getenv("UNKIND_COUNTS")) share_counts(getenv("UNKIND_COUNTS"));
   is_ready = 1;
@@ -195,6 +198,18 @@ static int is_unkind(const char *how, ssize_t *answer) {
 
 static size_t at_most(size_t size, uint64_t most) { return most > 0 && size > most ? most : size; }
 
+/* Reads up to a line feed. */
+static ssize_t read_line(int file, char *bytes, size_t size) {
+  size_t count = 0;
+  while (count < size) {
+    ssize_t answer = real_read(file, bytes + count, 1);
+    if (answer < 0 && count == 0) return answer;
+    if (answer <= 0) break;
+    if (bytes[count++] == '\n') break;
+  }
+  return count;
+}
+
 ssize_t read(int file, void *bytes, size_t size) {
   if (file != STDIN_FILENO || !is_ready) return real_read(file, bytes, size);
   note(0);
@@ -202,7 +217,8 @@ ssize_t read(int file, void *bytes, size_t size) {
   ssize_t answer;
   if (is_met(one_read, number) && is_unkind(read_how, &answer)) return answer;
   if (read_every > 0 && number % read_every == 0 && is_unkind("interrupt", &answer)) return answer;
-  return real_read(file, bytes, at_most(size, read_bytes));
+  size = at_most(size, read_bytes);
+  return is_read_by_lines ? read_line(file, bytes, size) : real_read(file, bytes, size);
 }
 
 ssize_t write(int file, const void *bytes, size_t size) {

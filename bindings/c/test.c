@@ -1060,7 +1060,7 @@ static bool flags_of_open_are_kept_apart(void) {
     return true;
 }
 
-/* Which bits are a flag, and that 3 is no access. */
+/* Each bit is a flag of Linux or none; and 3 is no access. */
 static bool flags_that_are_none_are_told(void) {
     nuz_tree *t;
     const uint32_t all = O_ACCMODE | O_CREAT | O_EXCL | O_TRUNC | O_APPEND;

@@ -375,7 +375,7 @@ class DiskTest(unittest.TestCase):
         with self.assertRaises(Waits) as waits:
             copy_in(self.job, source)
         self.assertEqual(waits.exception.blockers, [other.number])
-        self.assertEqual(waits.exception.filename, "/a")
+        self.assertEqual(waits.exception.filename, "/")
         with self.assertRaises(Waits):
             copy_out(self.job, self.disk / "target")
         self.assertEqual(os.listdir(self.disk), ["source"])
@@ -393,7 +393,7 @@ class DiskTest(unittest.TestCase):
             with self.assertRaises(Deadlock):
                 copy = threading.Thread(target=self.suppressed, args=(other,))
                 copy.start()
-                while "edge" not in tree.request("waits"):
+                while "edge " not in tree.request("waits"):
                     time.sleep(0.01)
                 copy_in(one, self.make())
             one.abort()
