@@ -1,3 +1,4 @@
+mod Same
 pub mod Doing
 pub mod Walking
 pub mod Visiting

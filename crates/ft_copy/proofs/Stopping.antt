@@ -6,6 +6,7 @@ use Rattle.std.specs.Io.KnownBytes.{Consumes}
 use Rattle.ft_cells.specs.declared.attributes.Attributes.{Attributes}
 use Rattle.ft_copy.specs.declared.found.TheConstants.{ROOT}
 use Rattle.ft_copy.specs.declared.found.FoundFile.{FoundFile}
+use Rattle.ft_copy.specs.declared.found.FoundFolder.{FoundFolder}
 use Rattle.ft_copy.specs.declared.found.Given.{Given}
 use Rattle.ft_copy.specs.declared.found.Found.TheVariants as found
 use Rattle.ft_copy.specs.declared.found.MetLink.{MetLink}
@@ -16,10 +17,10 @@ use Rattle.ft_copy.specs.declared.trouble.Stopped.{Stopped}
 use Rattle.ft_copy.specs.declared.trouble.Trouble.{Trouble}
 use Rattle.ft_copy.specs.declared.trouble.Trouble.TheVariants.{Memory, Read}
 use Rattle.ft_copy.specs.Asked.{Asked, Start, Folder, Open, Piece, Link, Symlink, Close, Finish, DoesAll, IsUnfinished, is_finish}
-use Rattle.ft_copy.specs.Told.{Told, Finds, Holds, Leads, Refuses}
+use Rattle.ft_copy.specs.Told.{Told, Finds, Holds, Refuses, IsAnother}
 use Rattle.ft_copy.specs.Walks.{Enters, Standing, nothing}
 use Rattle.ft_copy.specs.Runs.{GivesUp, LinksTo, Reaches, Visit, OfFolder, OfFile, OfFurther, OfNothing, OfSymlink, WalksTo, asked_of, made}
-use Rattle.ft_copy.specs.Stops.{EndsReading, FailsAt, FailsToCopyLink, HasBegun, Hinders, IsCause, IsCauseAt, IsCauseAtLink, IsCauseAtRoot, Reached, Root, Amid, AmidLinks, Behind, Endless, RunsOut, Stops, StopsCopy, StopsIn, StopsLink, StopsLinks, StopsNext, StopsPouring, StopsVisit, StopsVisiting, asked_before, asked_then}
+use Rattle.ft_copy.specs.Stops.{EndsReading, FailsAt, FailsToCopyLink, HasBegun, Hinders, IsCause, IsCauseAt, IsCauseAtLink, IsCauseAtRoot, IsUnread, Reached, Root, Amid, AmidLinks, Behind, Endless, RunsOut, Stops, StopsCopy, StopsIn, StopsLink, StopsLinks, StopsNext, StopsPouring, StopsVisit, StopsVisiting, asked_before, asked_then}
 use Rattle.ft_copy.proofs.Doing.{does_more, pieces_more, unfinished_more, unfinished_visit, unfinished_visits}
 
 -- what stands at an error that a `?` hands on
@@ -56,9 +57,12 @@ pub after_all : (before then done rest : List Asked) → then ≡ done ++ rest �
 after_all before then done rest is = ap (λ l. before ++ l) is ∙ sym (append_assoc before done rest)
 
 -- the root could not be entered
-pub root_unread : (tells : Told → Type 0) (path : List ℕ) (trouble other : Trouble) → path ≡ [] → trouble ≡ other → (other ≡ Memory) ⊎ tells (Refuses path ROOT other) → IsCauseAtRoot tells trouble
-root_unread tells path trouble other at is (inl memory) = inl (is ∙ memory)
-root_unread tells path trouble other at is (inr refused) = inr (inr (subst (λ t. tells (Refuses [] ROOT t)) (sym is) (subst (λ p. tells (Refuses p ROOT other)) at refused)))
+pub root_unread : (tells : Told → Type 0) (top : FoundFolder) (path : List ℕ) (trouble other : Trouble) → path ≡ [] → trouble ≡ other → tells (Finds [] ROOT (found.Folder top)) → (other ≡ Memory) ⊎ IsUnread tells other path ROOT top.id
+    → IsCauseAtRoot tells trouble
+root_unread tells top path trouble other at is told (inl memory) = inl (is ∙ memory)
+root_unread tells top path trouble other at is told (inr (inl h)) = inr (inr (inl (is ∙ h.0, (top, told, subst (λ p. IsAnother tells p ROOT top.id) at h.1))))
+root_unread tells top path trouble other at is told (inr (inr refused)) =
+    inr (inr (inr (subst (λ t. tells (Refuses [] ROOT t)) (sym is) (subst (λ p. tells (Refuses p ROOT other)) at refused))))
 
 module _ {T : Type 0} (does : T → Asked → T → Type 0) (fails : T → Asked → Trouble → T → Type 0) where
   -- nothing was done of it
@@ -144,11 +148,11 @@ module _ {T : Type 0} (limits : CopyLimits) (tells : Told → Type 0) (does : T 
 
   reading_hinders : (trouble : Trouble) (place : Place) (path : List ℕ) (given : Given) (pieces : List (List ℕ)) → EndsReading limits.file_size trouble pieces → IsCauseAt limits tells trouble place (OfFile path given pieces)
   reading_hinders trouble place path given pieces (inl h) = inl (subst (λ t. Hinders limits tells t place (OfFile path given pieces)) (sym h) tt)
-  reading_hinders trouble place path given pieces (inr (inl h)) = inl (subst (λ t. Hinders limits tells t place (OfFile path given pieces)) (sym h) refl)
+  reading_hinders trouble place path given pieces (inr (inl h)) = inl (subst (λ t. Hinders limits tells t place (OfFile path given pieces)) (sym h) (inl refl))
   reading_hinders trouble place path given pieces (inr (inr h)) = inl (subst (λ t. Hinders limits tells t place (OfFile path given pieces)) (sym h.0) (inr h.1))
 
   module _ (place : Place) (file : FoundFile) (given : Given) (is : given ≡ kept_given limits file.given) (walk : Standing) (told : tells (Finds place.path place.node (found.File file)))
-      (left : Option (List ℕ)) (holds : tells (Holds place.path place.node left)) where
+      (left : Option (List ℕ)) (holds : tells (Holds place.path place.node file.facts.id left)) where
     has_begun : (pieces : List (List ℕ)) (after : Option (List ℕ)) → Consumes left after (concat pieces) → HasBegun limits tells place walk (OfFile place.path given pieces)
     has_begun pieces after gave = inr (found.File file, told, inl (pieces, left, after, ap (λ (g : Given). OfFile place.path g pieces) is, holds, gave))
 
@@ -183,28 +187,36 @@ module _ {T : Type 0} (limits : CopyLimits) (tells : Told → Type 0) (does : T 
   pub stops_at : (trouble : Trouble) (place : Place) (walk : Standing) (old : T) → IsCauseAt limits tells trouble place OfNothing → StopsVisit limits tells does fails trouble place walk old old
   stops_at trouble place walk old h = (OfNothing, inl refl, stops_nothing does fails (IsCauseAt limits tells trouble place OfNothing) trouble [] old h)
 
+  -- another file was opened there
+  pub stops_another : (place : Place) (file : FoundFile) (walk : Standing) (old : T) → tells (Finds place.path place.node (found.File file)) → IsAnother tells place.path place.node file.facts.id
+      → StopsVisit limits tells does fails Read place walk old old
+  stops_another place file walk old told another = stops_at Read place walk old (inl (inr (found.File file, told, another)))
+
   -- a directory was made, and could not be entered
-  pub stops_folder : (trouble : Trouble) (place : Place) (attributes kept : Attributes) (walk : Standing) (path : List ℕ) (old made : T) → kept ≡ kept_attributes limits attributes → path ≡ place.path
-      → tells (Finds path place.node (found.Folder attributes)) → does old (Folder path kept) made → (trouble ≡ Memory) ⊎ tells (Refuses path place.node trouble) → StopsVisit limits tells does fails trouble place walk old made
-  stops_folder trouble place attributes kept walk path old made as_kept is told did h =
+  pub stops_folder : (trouble : Trouble) (place : Place) (there : FoundFolder) (kept : Attributes) (walk : Standing) (path : List ℕ) (old made : T) → kept ≡ kept_attributes limits there.attributes → path ≡ place.path
+      → tells (Finds path place.node (found.Folder there)) → does old (Folder path kept) made → (trouble ≡ Memory) ⊎ IsUnread tells trouble path place.node there.id → StopsVisit limits tells does fails trouble place walk old made
+  stops_folder trouble place there kept walk path old made as_kept is told did h =
       let visit = OfFolder place.path kept in (
         visit,
-        inr (found.Folder attributes, subst (λ p. tells (Finds p place.node (found.Folder attributes))) is told, ap (OfFolder place.path) as_kept),
+        inr (found.Folder there, subst (λ p. tells (Finds p place.node (found.Folder there))) is told, ap (OfFolder place.path) as_kept),
         stops_after does fails (IsCauseAt limits tells trouble place visit) trouble (Folder place.path kept ∷ []) [] old made made (made, subst (λ p. does old (Folder p kept) made) is did, refl)
             (stops_nothing does fails (IsCauseAt limits tells trouble place visit) trouble [] made (either h)),
       )
     where
-      either : (trouble ≡ Memory) ⊎ tells (Refuses path place.node trouble) → IsCauseAt limits tells trouble place (OfFolder place.path kept)
+      either : (trouble ≡ Memory) ⊎ IsUnread tells trouble path place.node there.id → IsCauseAt limits tells trouble place (OfFolder place.path kept)
       either (inl memory) = inl (subst (λ t. Hinders limits tells t place (OfFolder place.path kept)) (sym memory) tt)
-      either (inr refused) = inr (subst (λ p. tells (Refuses p place.node trouble)) is refused)
+      either (inr (inl k)) =
+          inl (subst (λ t. Hinders limits tells t place (OfFolder place.path kept)) (sym k.0)
+          (inr (found.Folder there, subst (λ p. tells (Finds p place.node (found.Folder there))) is told, subst (λ p. IsAnother tells p place.node there.id) is k.1)))
+      either (inr (inr refused)) = inr (subst (λ p. tells (Refuses p place.node trouble)) is refused)
 
   -- it could not be made
-  pub stops_making : (trouble : Trouble) (place : Place) (attributes kept : Attributes) (walk : Standing) (path : List ℕ) (old new : T) → kept ≡ kept_attributes limits attributes → path ≡ place.path
-      → tells (Finds path place.node (found.Folder attributes)) → fails old (Folder path kept) trouble new → StopsVisit limits tells does fails trouble place walk old new
-  stops_making trouble place attributes kept walk path old new as_kept is told failed =
+  pub stops_making : (trouble : Trouble) (place : Place) (there : FoundFolder) (kept : Attributes) (walk : Standing) (path : List ℕ) (old new : T) → kept ≡ kept_attributes limits there.attributes → path ≡ place.path
+      → tells (Finds path place.node (found.Folder there)) → fails old (Folder path kept) trouble new → StopsVisit limits tells does fails trouble place walk old new
+  stops_making trouble place there kept walk path old new as_kept is told failed =
       let visit = OfFolder place.path kept in (
         visit,
-        inr (found.Folder attributes, subst (λ p. tells (Finds p place.node (found.Folder attributes))) is told, ap (OfFolder place.path) as_kept),
+        inr (found.Folder there, subst (λ p. tells (Finds p place.node (found.Folder there))) is told, ap (OfFolder place.path) as_kept),
         stops_first does fails (IsCauseAt limits tells trouble place visit) trouble (Folder place.path kept) [] old new (subst (λ p. fails old (Folder p kept) trouble new) is failed),
       )
 
@@ -225,15 +237,15 @@ module _ {T : Type 0} (limits : CopyLimits) (tells : Told → Type 0) (does : T 
   stops_at_link trouble link walk old h = (OfNothing, inl refl, stops_nothing does fails (IsCauseAtLink limits tells trouble link) trouble [] old h)
 
   -- it could not be made
-  pub stops_copy_link : (trouble : Trouble) (link : MetLink) (walk : Standing) (path : List ℕ) (old new : T) → path ≡ link.place.path → FailsToCopyLink tells fails trouble path link.place.node old new
+  pub stops_copy_link : (trouble : Trouble) (link : MetLink) (walk : Standing) (old new : T) → FailsToCopyLink tells fails trouble link.place.path link.place.node link.facts.id old new
       → StopsLink limits tells does fails trouble link walk old new
-  stops_copy_link trouble link walk path old new is (inl h) =
-      subst (λ t. StopsLink limits tells does fails trouble link walk old t) (sym h.0) (stops_at_link trouble link walk old (inr (inr (subst (λ p. tells (Refuses p link.place.node trouble)) is h.1))))
-  stops_copy_link trouble link walk path old new is (inr h) =
+  stops_copy_link trouble link walk old new (inl h) =
+      subst (λ t. StopsLink limits tells does fails trouble link walk old t) (sym h.0) (stops_at_link trouble link walk old (inr (inr h.1)))
+  stops_copy_link trouble link walk old new (inr h) =
       let visit = OfSymlink h.0 link.place.path in (
         visit,
-        inr (inl (h.0, refl, subst (λ p. tells (Leads p link.place.node h.0)) is h.1)),
-        stops_first does fails (IsCauseAtLink limits tells trouble link) trouble (Symlink h.0 link.place.path) [] old new (subst (λ p. fails old (Symlink h.0 p) trouble new) is h.2),
+        inr (inl (h.0, refl, h.1)),
+        stops_first does fails (IsCauseAtLink limits tells trouble link) trouble (Symlink h.0 link.place.path) [] old new h.2,
       )
 
   -- a further name could not be given to it
@@ -253,34 +265,34 @@ module _ {T : Type 0} (limits : CopyLimits) (tells : Told → Type 0) (does : T 
   stops_root stopped trouble old new is at h =
       (Root, old, tt, at, refl, subst (λ t. StopsIn does fails (IsCause limits tells t Root) t (Start ∷ []) old new) (sym is) h)
 
-  pub stops_amid : (stopped : Stopped) (begun : Standing) (old started new : T) → Enters tells [] ROOT nothing begun → does old Start started → StopsVisiting limits tells does fails stopped begun started new
+  pub stops_amid : (stopped : Stopped) (top : FoundFolder) (begun : Standing) (old started new : T) → tells (Finds [] ROOT (found.Folder top)) → Enters tells [] ROOT top.id nothing begun → does old Start started → StopsVisiting limits tells does fails stopped begun started new
       → Stops limits tells does fails stopped old new
-  stops_amid stopped begun old started new entered did h = either h.5
+  stops_amid stopped top begun old started new told entered did h = either h.5
     where
       either : StopsNext limits tells does fails stopped h.1 h.2 new ⊎ RunsOut limits tells does fails stopped h.0 h.2 new → Stops limits tells does fails stopped old new
-      either (inl k) = (Amid h.0 k.1 k.4.0, h.2, (h.1, k.0, (begun, entered, h.3), k.2, k.4.1), k.3, (started, did, h.4), k.4.2)
+      either (inl k) = (Amid h.0 k.1 k.4.0, h.2, (h.1, k.0, (top, begun, told, entered, h.3), k.2, k.4.1), k.3, (started, did, h.4), k.4.2)
       either (inr k) =
-          (Endless h.0, h.2, (h.1, (begun, entered, h.3), k.3), k.1, (started, did, h.4), ([], [], h.2, refl, refl, inl (k.0, k.2)))
+          (Endless h.0, h.2, (h.1, (top, begun, told, entered, h.3), k.3), k.1, (started, did, h.4), ([], [], h.2, refl, refl, inl (k.0, k.2)))
 
-  pub stops_linking : (stopped : Stopped) (begun walked : Standing) (visits : List Visit) (old started visited new : T) → Enters tells [] ROOT nothing begun → does old Start started
+  pub stops_linking : (stopped : Stopped) (top : FoundFolder) (begun walked : Standing) (visits : List Visit) (old started visited new : T) → tells (Finds [] ROOT (found.Folder top)) → Enters tells [] ROOT top.id nothing begun → does old Start started
       → WalksTo limits tells begun visits walked → walked.left ≡ [] → DoesAll does started (flat_map asked_of visits) visited → StopsLinks limits tells does fails stopped walked visited new
       → Stops limits tells does fails stopped old new
-  stops_linking stopped begun walked visits old started visited new entered did walk all made h = (
+  stops_linking stopped top begun walked visits old started visited new told entered did walk all made h = (
     AmidLinks visits h.0 h.5.0 h.5.4.0,
     h.2,
-    (h.1, h.5.1, (walked, (begun, entered, walk), all, h.3), h.5.2, h.5.4.1),
+    (h.1, h.5.1, (walked, (top, begun, told, entered, walk), all, h.3), h.5.2, h.5.4.1),
     h.5.3,
     (started, did, does_more does started visited h.2 (flat_map asked_of visits) (flat_map asked_of h.0) made h.4),
     h.5.4.2,
   )
 
-  pub stops_last : (stopped : Stopped) (trouble : Trouble) (top kept : Attributes) (begun walked done : Standing) (visits links : List Visit) (old started visited linked new : T) → stopped.trouble ≡ trouble → stopped.path ≡ []
-      → tells (Finds [] ROOT (found.Folder top)) → kept ≡ kept_attributes limits top → Enters tells [] ROOT nothing begun → does old Start started → WalksTo limits tells begun visits walked → walked.left ≡ [] → LinksTo limits tells walked links done → done.links ≡ []
+  pub stops_last : (stopped : Stopped) (trouble : Trouble) (top : FoundFolder) (kept : Attributes) (begun walked done : Standing) (visits links : List Visit) (old started visited linked new : T) → stopped.trouble ≡ trouble → stopped.path ≡ []
+      → tells (Finds [] ROOT (found.Folder top)) → kept ≡ kept_attributes limits top.attributes → Enters tells [] ROOT top.id nothing begun → does old Start started → WalksTo limits tells begun visits walked → walked.left ≡ [] → LinksTo limits tells walked links done → done.links ≡ []
       → DoesAll does started (flat_map asked_of visits) visited → DoesAll does visited (flat_map asked_of links) linked → fails linked (Finish kept) trouble new → Stops limits tells does fails stopped old new
   stops_last stopped trouble top kept begun walked done visits links old started visited linked new is at told as_kept entered did walk all last all_links made made_links failed = (
     Behind visits links kept,
     linked,
-    (done, (walked, (begun, entered, walk), all, last), all_links, (top, told, as_kept)),
+    (done, (walked, (top, begun, told, entered, walk), all, last), all_links, (top, told, as_kept)),
     at,
     (started, did, does_more does started visited linked (flat_map asked_of visits) (flat_map asked_of links) made made_links),
     stops_first does fails ⊥ stopped.trouble (Finish kept) [] linked new (subst (λ t. fails linked (Finish kept) t new) (sym is) failed),

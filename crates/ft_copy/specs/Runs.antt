@@ -5,7 +5,9 @@ use Rattle.ft_cells.specs.declared.attributes.Attributes.{Attributes}
 use Rattle.ft_path.specs.declared.TheConstants.{LONGEST_PATH}
 use Rattle.ft_copy.specs.declared.found.TheConstants.{ROOT}
 use Rattle.ft_copy.specs.declared.found.FileFacts.{FileFacts}
+use Rattle.ft_copy.specs.declared.found.FileId.{FileId}
 use Rattle.ft_copy.specs.declared.found.FoundFile.{FoundFile}
+use Rattle.ft_copy.specs.declared.found.FoundFolder.{FoundFolder}
 use Rattle.ft_copy.specs.declared.found.Given.{Given}
 use Rattle.ft_copy.specs.declared.found.Found.{Found}
 use Rattle.ft_copy.specs.declared.found.Found.TheVariants as found
@@ -55,7 +57,7 @@ module _ (limits : CopyLimits) (tells : Told → Type 0) where
   -- A file is made where it is met first. It is given what it has, as far as that may be copied.
   abbrev pub IsFirstName : Place → FoundFile → Standing → Visit → Standing → Type 0
   IsFirstName place file old visit new =
-      (pieces : List (List ℕ)) × (visit ≡ OfFile place.path (kept_given limits file.given) pieces) × IsRead tells place.path place.node pieces
+      (pieces : List (List ℕ)) × (visit ≡ OfFile place.path (kept_given limits file.given) pieces) × IsRead tells place.path place.node file.facts.id pieces
       × (length (concat pieces) ≤ limits.file_size) × IsNoted file.facts place.path old new
 
   -- A visit of a file, which is within the limits.
@@ -64,10 +66,11 @@ module _ (limits : CopyLimits) (tells : Told → Type 0) where
       (file.facts.links ≤ limits.links) × (file.facts.size ≤ limits.file_size)
       × (IsFirstName place file old visit new ⊎ IsFurtherName place file.facts old visit new)
 
-  -- A visit of what was found. A directory gets the attributes that it has, as far as those may be
-  -- copied. A symbolic link is put off.
+  -- A visit of what was found: just that was listed or read. A directory gets the attributes that it
+  -- has, as far as those may be copied. A symbolic link is put off.
   abbrev pub IsVisitOf : Place → Found → Standing → Visit → Standing → Type 0
-  IsVisitOf place (found.Folder attributes) old visit new = (visit ≡ OfFolder place.path (kept_attributes limits attributes)) × Enters tells place.path place.node old new
+  IsVisitOf place (found.Folder folder) old visit new =
+      (visit ≡ OfFolder place.path (kept_attributes limits folder.attributes)) × Enters tells place.path place.node folder.id old new
   IsVisitOf place (found.File file) old visit new = IsFileVisit place file old visit new
   IsVisitOf place (found.Symlink facts) old visit new = (visit ≡ OfNothing) × PutsOff place facts old new
   IsVisitOf place found.Special old visit new = (visit ≡ OfNothing) × tells (Omits place.path) × (new ≡ old)
@@ -88,7 +91,7 @@ module _ (limits : CopyLimits) (tells : Told → Type 0) where
   -- A symbolic link is made where it is met first, to lead where the source tells.
   abbrev pub IsFirstLink : MetLink → Standing → Visit → Standing → Type 0
   IsFirstLink link old visit new =
-      (to : List ℕ) × (visit ≡ OfSymlink to link.place.path) × tells (Leads link.place.path link.place.node to) × IsNoted link.facts link.place.path old new
+      (to : List ℕ) × (visit ≡ OfSymlink to link.place.path) × tells (Leads link.place.path link.place.node link.facts.id to) × IsNoted link.facts link.place.path old new
 
   -- A symbolic link that was met is made, or gets a further name. It has no more names than allowed.
   abbrev pub IsLinkVisit : MetLink → Standing → Visit → Standing → Type 0
@@ -108,20 +111,20 @@ module _ {T : Type 0} (does : T → Asked → T → Type 0) where
   Pours most left old new = (pieces : List (List ℕ)) × ArePieces left pieces × (length (concat pieces) ≤ most) × DoesAll does old (map Piece pieces) new
 
 module _ {T : Type 0} (tells : Told → Type 0) (does : T → Asked → T → Type 0) where
-  -- at the root stands a directory with these attributes, the target has started, and it is entered
-  abbrev pub Begins : Attributes → Standing → Standing → T → T → Type 0
-  Begins top walk next old new = tells (Finds [] ROOT (found.Folder top)) × does old Start new × Enters tells [] ROOT walk next
+  -- at the root stands this directory, the target has started, and it is entered
+  abbrev pub Begins : FoundFolder → Standing → Standing → T → T → Type 0
+  Begins top walk next old new = tells (Finds [] ROOT (found.Folder top)) × does old Start new × Enters tells [] ROOT top.id walk next
 
 module _ {T : Type 0} (tells : Told → Type 0) (does : T → Asked → T → Type 0) where
   -- the target made a symbolic link that leads where the source tells
-  abbrev pub CopiesLink : List ℕ → ℕ → T → T → Type 0
-  CopiesLink path node old new = (to : List ℕ) × tells (Leads path node to) × does old (Symlink to path) new
+  abbrev pub CopiesLink : List ℕ → ℕ → FileId → T → T → Type 0
+  CopiesLink path node id old new = (to : List ℕ) × tells (Leads path node id to) × does old (Symlink to path) new
 
 module _ {T : Type 0} (limits : CopyLimits) (tells : Told → Type 0) (does : T → Asked → T → Type 0) where
   -- the target made a file of what can be read of it, and gave it this
-  abbrev pub CopiesFile : Place → Given → T → T → Type 0
-  CopiesFile place given old new =
-      (pieces : List (List ℕ)) × IsRead tells place.path place.node pieces × (length (concat pieces) ≤ limits.file_size)
+  abbrev pub CopiesFile : Place → FileId → Given → T → T → Type 0
+  CopiesFile place id given old new =
+      (pieces : List (List ℕ)) × IsRead tells place.path place.node id pieces × (length (concat pieces) ≤ limits.file_size)
       × DoesAll does old (made place.path given pieces) new
 
   -- a file was visited, and the target did what it was asked for
@@ -151,19 +154,19 @@ module _ {T : Type 0} (limits : CopyLimits) (tells : Told → Type 0) (does : T 
   -- left; and for just that the target was asked, between its start and its finish, with what may be
   -- copied of the root's attributes.
   pub record Copies (old new : T) : Type 0 where
-    pub top : Attributes
+    pub top : FoundFolder
     pub begun : Standing
     pub visits : List Visit
     pub walked : Standing
     pub links : List Visit
     pub done : Standing
     pub folder : tells (Finds [] ROOT (found.Folder top))
-    pub root : Enters tells [] ROOT nothing begun
+    pub root : Enters tells [] ROOT top.id nothing begun
     pub walk : WalksTo limits tells begun visits walked
     pub all : walked.left ≡ []
     pub last : LinksTo limits tells walked links done
     pub all_links : done.links ≡ []
-    pub did : DoesAll does old (Start ∷ flat_map asked_of visits ++ flat_map asked_of links ++ Finish (kept_attributes limits top) ∷ []) new
+    pub did : DoesAll does old (Start ∷ flat_map asked_of visits ++ flat_map asked_of links ++ Finish (kept_attributes limits top.attributes) ∷ []) new
 
 module _ {T : Type 0} (does : T → Asked → T → Type 0) (fails : T → Asked → Trouble → T → Type 0) where
   -- A target did some things, and then nothing more, or failed at one. It has not finished.

@@ -6,8 +6,9 @@ use Rattle.ft_path.specs.declared.TheConstants.{LONGEST_PATH}
 use Rattle.ft_copy.specs.declared.found.TheConstants.{ROOT}
 use Rattle.ft_cells.specs.declared.attributes.Attributes.{Attributes}
 use Rattle.ft_copy.specs.declared.found.FileFacts.{FileFacts}
+use Rattle.ft_copy.specs.declared.found.FileId.{FileId}
 use Rattle.ft_copy.specs.declared.found.FoundFile.{FoundFile}
-use Rattle.ft_copy.specs.declared.found.Given.{Given}
+use Rattle.ft_copy.specs.declared.found.FoundFolder.{FoundFolder}
 use Rattle.ft_copy.specs.declared.found.Found.{Found}
 use Rattle.ft_copy.specs.declared.found.Found.TheVariants as found
 use Rattle.ft_copy.specs.declared.found.MetLink.{MetLink}
@@ -17,7 +18,7 @@ use Rattle.ft_copy.specs.declared.trouble.Stopped.{Stopped}
 use Rattle.ft_copy.specs.declared.trouble.Trouble.{Trouble}
 use Rattle.ft_copy.specs.declared.trouble.Trouble.TheVariants.{Memory, Read, Special, TooLarge, TooManyLinks, PathTooLong, BadName, BadTree, Full}
 use Rattle.ft_copy.specs.Kept.{kept_attributes, kept_given}
-use Rattle.ft_copy.specs.Told.{Told, Finds, Holds, Keeps, Leads, Refuses}
+use Rattle.ft_copy.specs.Told.{Told, Finds, Holds, Keeps, Leads, Refuses, IsAnother}
 use Rattle.ft_copy.specs.Asked.{Asked, Start, Piece, Symlink, Finish, GiveUp, DoesAll}
 use Rattle.ft_copy.specs.Walks.{Enters, Standing, is_dotted, nothing}
 use Rattle.ft_copy.specs.Runs.{Visit, OfFolder, OfFile, OfFurther, OfNothing, OfSymlink, LinksTo, WalksTo, asked_of}
@@ -64,16 +65,16 @@ abbrev pub IsLinking : Place → FileFacts → Standing → Visit → Type 0
 IsLinking place facts walk visit = (first : List ℕ) × (visit ≡ OfFurther first place.path) × (walk.firsts facts.id ≡ Some first)
 
 module _ (limits : CopyLimits) (tells : Told → Type 0) where
-  -- A file was opened, and these pieces of it were read.
-  abbrev pub IsReading : Place → Given → Visit → Type 0
-  IsReading place given visit =
-      (pieces : List (List ℕ)) × (opened : Option (List ℕ)) × (after : Option (List ℕ)) × (visit ≡ OfFile place.path (kept_given limits given) pieces)
-      × tells (Holds place.path place.node opened) × Consumes opened after (concat pieces)
+  -- The file was opened, and these pieces of it were read.
+  abbrev pub IsReading : Place → FoundFile → Visit → Type 0
+  IsReading place file visit =
+      (pieces : List (List ℕ)) × (opened : Option (List ℕ)) × (after : Option (List ℕ)) × (visit ≡ OfFile place.path (kept_given limits file.given) pieces)
+      × tells (Holds place.path place.node file.facts.id opened) × Consumes opened after (concat pieces)
 
   -- A visit of what was found has begun.
   abbrev pub HasBegunAs : Place → Found → Standing → Visit → Type 0
-  HasBegunAs place (found.Folder attributes) walk visit = visit ≡ OfFolder place.path (kept_attributes limits attributes)
-  HasBegunAs place (found.File file) walk visit = IsReading place file.given visit ⊎ IsLinking place file.facts walk visit
+  HasBegunAs place (found.Folder folder) walk visit = visit ≡ OfFolder place.path (kept_attributes limits folder.attributes)
+  HasBegunAs place (found.File file) walk visit = IsReading place file visit ⊎ IsLinking place file.facts walk visit
   HasBegunAs place (found.Symlink facts) walk visit = ⊥
   HasBegunAs place found.Special walk visit = ⊥
 
@@ -84,7 +85,7 @@ module _ (limits : CopyLimits) (tells : Told → Type 0) where
 module _ (tells : Told → Type 0) where
   -- a symbolic link is to be made that leads where the source tells
   abbrev pub IsLeading : MetLink → Visit → Type 0
-  IsLeading link visit = (to : List ℕ) × (visit ≡ OfSymlink to link.place.path) × tells (Leads link.place.path link.place.node to)
+  IsLeading link visit = (to : List ℕ) × (visit ≡ OfSymlink to link.place.path) × tells (Leads link.place.path link.place.node link.facts.id to)
 
   -- A symbolic link that was met is to be made, or to get a further name; or nothing was done.
   abbrev pub HasBegunLink : MetLink → Standing → Visit → Type 0
@@ -94,11 +95,27 @@ module _ (tells : Told → Type 0) where
   abbrev pub FindsFile : Place → (FileFacts → Type 0) → Type 0
   FindsFile place holds = (file : FoundFile) × tells (Finds place.path place.node (found.File file)) × holds file.facts
 
+  -- The source could not tell what is in this directory, or where this symbolic link leads: what it
+  -- has listed or read is another one, or it said why.
+  abbrev pub IsUnread : Trouble → List ℕ → ℕ → FileId → Type 0
+  IsUnread trouble path node id = ((trouble ≡ Read) × IsAnother tells path node id) ⊎ tells (Refuses path node trouble)
+
+  -- what was listed or opened at the place is not what was found there
+  abbrev pub IsNotFound : Place → Found → Type 0
+  IsNotFound place (found.Folder folder) = IsAnother tells place.path place.node folder.id
+  IsNotFound place (found.File file) = IsAnother tells place.path place.node file.facts.id
+  IsNotFound place (found.Symlink facts) = ⊥
+  IsNotFound place found.Special = ⊥
+
+  -- the same, whatever was found there
+  abbrev pub HasChanged : Place → Type 0
+  HasChanged place = (there : Found) × tells (Finds place.path place.node there) × IsNotFound place there
+
 module _ (limits : CopyLimits) (tells : Told → Type 0) where
   -- Why a place is not copied: which trouble comes when.
   abbrev pub Hinders : Trouble → Place → Visit → Type 0
   Hinders Memory place visit = Unit {0}
-  Hinders Read place visit = IsSome (read_of visit)
+  Hinders Read place visit = IsSome (read_of visit) ⊎ HasChanged tells place
   Hinders Special place visit = tells (Finds place.path place.node found.Special) × tells (Keeps place.path)
   Hinders TooLarge place visit = FindsFile tells place (λ facts. limits.file_size < facts.size) ⊎ IsSomeAnd (read_of visit) (λ bytes. limits.file_size < length bytes)
   Hinders TooManyLinks place visit = FindsFile tells place (λ facts. limits.links < facts.links)
@@ -110,11 +127,12 @@ module _ (limits : CopyLimits) (tells : Told → Type 0) where
   abbrev pub IsCauseAt : Trouble → Place → Visit → Type 0
   IsCauseAt trouble place visit = Hinders trouble place visit ⊎ tells (Refuses place.path place.node trouble)
 
-  -- Why a symbolic link that was met is not made: it has too many names, or the source could not tell
-  -- of it.
+  -- Why a symbolic link that was met is not made: it has too many names, another one was read, or
+  -- the source could not tell of it.
   abbrev pub IsCauseAtLink : Trouble → MetLink → Type 0
   IsCauseAtLink trouble link =
-      (trouble ≡ Memory) ⊎ ((trouble ≡ TooManyLinks) × (limits.links < link.facts.links)) ⊎ tells (Refuses link.place.path link.place.node trouble)
+      (trouble ≡ Memory) ⊎ ((trouble ≡ TooManyLinks) × (limits.links < link.facts.links))
+      ⊎ IsUnread tells trouble link.place.path link.place.node link.facts.id
 
 -- ---- a copy that is not made
 
@@ -164,14 +182,19 @@ module _ (tells : Told → Type 0) where
   abbrev pub HasNoFolder : Type 0
   HasNoFolder = (there : Found) × tells (Finds [] ROOT there) × (is_folder there ≡ false)
 
+  -- The directory that was listed at the root is not what was found there.
+  abbrev pub HasChangedAtRoot : Type 0
+  HasChangedAtRoot = (top : FoundFolder) × tells (Finds [] ROOT (found.Folder top)) × IsAnother tells [] ROOT top.id
+
   -- Why the root was not entered, where the target has not failed.
   abbrev pub IsCauseAtRoot : Trouble → Type 0
-  IsCauseAtRoot trouble = (trouble ≡ Memory) ⊎ ((trouble ≡ BadTree) × HasNoFolder) ⊎ tells (Refuses [] ROOT trouble)
+  IsCauseAtRoot trouble = (trouble ≡ Memory) ⊎ ((trouble ≡ BadTree) × HasNoFolder) ⊎ ((trouble ≡ Read) × HasChangedAtRoot) ⊎ tells (Refuses [] ROOT trouble)
 
 module _ (limits : CopyLimits) (tells : Told → Type 0) where
   -- These visits were made from the root on, each of the place that was next, as the source told.
   abbrev pub HasWalked : List Visit → Standing → Type 0
-  HasWalked visits now = (begun : Standing) × Enters tells [] ROOT nothing begun × WalksTo limits tells begun visits now
+  HasWalked visits now =
+      (top : FoundFolder) × (begun : Standing) × tells (Finds [] ROOT (found.Folder top)) × Enters tells [] ROOT top.id nothing begun × WalksTo limits tells begun visits now
 
   -- The same until no place was left, and then these of the links that were met were made.
   abbrev pub HasLinked : List Visit → List Visit → Standing → Type 0
@@ -186,7 +209,7 @@ module _ (limits : CopyLimits) (tells : Told → Type 0) where
       (now : Standing) × (more : List MetLink) × HasLinked visits links now × (now.links ≡ link ∷ more)
       × HasBegunLink tells link (record { left = now.left; links = more; firsts = now.firsts }) visit
   IsReached (Behind visits links kept) =
-      (now : Standing) × HasLinked visits links now × (now.links ≡ []) × ((top : Attributes) × tells (Finds [] ROOT (found.Folder top)) × (kept ≡ kept_attributes limits top))
+      (now : Standing) × HasLinked visits links now × (now.links ≡ []) × ((top : FoundFolder) × tells (Finds [] ROOT (found.Folder top)) × (kept ≡ kept_attributes limits top.attributes))
   IsReached (Endless visits) = (now : Standing) × HasWalked visits now × (2 ^ 64 - 1 ≤ length visits)
 
   -- Why it went no further, where the target has not failed.
@@ -198,10 +221,10 @@ module _ (limits : CopyLimits) (tells : Told → Type 0) where
   IsCause trouble (Endless visits) = trouble ≡ Full
 
 module _ {T : Type 0} (tells : Told → Type 0) (fails : T → Asked → Trouble → T → Type 0) where
-  -- The source could not tell where a symbolic link leads, or the target could not make it.
-  abbrev pub FailsToCopyLink : Trouble → List ℕ → ℕ → T → T → Type 0
-  FailsToCopyLink trouble path node old new =
-      ((new ≡ old) × tells (Refuses path node trouble)) ⊎ ((to : List ℕ) × tells (Leads path node to) × fails old (Symlink to path) trouble new)
+  -- It is not known where the symbolic link leads, or the target could not make it.
+  abbrev pub FailsToCopyLink : Trouble → List ℕ → ℕ → FileId → T → T → Type 0
+  FailsToCopyLink trouble path node id old new =
+      ((new ≡ old) × IsUnread tells trouble path node id) ⊎ ((to : List ℕ) × tells (Leads path node id to) × fails old (Symlink to path) trouble new)
 
 module _ {T : Type 0} (tells : Told → Type 0) (does : T → Asked → T → Type 0) (fails : T → Asked → Trouble → T → Type 0) where
   -- The target did not start, or the root could not be entered.

@@ -1,5 +1,5 @@
 -- The walk over what a source tells: which place is visited when.
-use Rattle.std.specs.Prelude.{◌≡◌, ◌==◌, ◌&&◌, ◌||◌, nat_eq, ℕ, Bool, List, [], ◌∷◌, ◌++◌, codes, Option, None, Some, if◌then◌else◌}
+use Rattle.std.specs.Prelude.{◌≡◌, ◌||◌, nat_eq, ℕ, Bool, List, [], ◌∷◌, ◌++◌, codes, Option, None, Some, if◌then◌else◌}
 use Rattle.std.specs.List.{concat, ends_with}
 use Rattle.std.specs.List.Sorted.{IsPermutation, IsSorted}
 use Rattle.std.specs.Ordering.{nat_cmp, ordering_then}
@@ -14,13 +14,9 @@ use Rattle.ft_copy.specs.declared.found.Listed.{Listed}
 use Rattle.ft_copy.specs.declared.found.MetLink.{MetLink}
 use Rattle.ft_copy.specs.declared.found.Place.{Place}
 use Rattle.ft_copy.specs.declared.walk.Walk.{Walk}
-use Rattle.ft_copy.specs.Told.{Told, Lists, Holds}
+use Rattle.ft_copy.specs.Told.{Told, Lists, Holds, same_file}
 
 -- ---- files that were met
-
--- two files are one where their device and their number are the same
-abbrev pub same_file : FileId → FileId → Bool
-same_file one other = (one.device == other.device) && (one.number == other.number)
 
 -- where each file with more than one name was met first, if it was
 abbrev pub FirstPaths : Type 0
@@ -77,12 +73,12 @@ abbrev pub ArePieces : Option (List ℕ) → List (List ℕ) → Type 0
 ArePieces left pieces = (after : Option (List ℕ)) × Consumes left after (concat pieces) × IsAtEnd after
 
 module _ (tells : Told → Type 0) where
-  -- The names of a directory, in the order of their bytes, come before all that was left.
-  abbrev pub Enters : List ℕ → ℕ → Standing → Standing → Type 0
-  Enters path node old new =
-      (told : List Listed) × (names : List Listed) × tells (Lists path node told) × IsPermutation told names × IsSorted name_order names
+  -- The names of this directory, in the order of their bytes, come before all that was left.
+  abbrev pub Enters : List ℕ → ℕ → FileId → Standing → Standing → Type 0
+  Enters path node id old new =
+      (told : List Listed) × (names : List Listed) × tells (Lists path node id told) × IsPermutation told names × IsSorted name_order names
       × (new ≡ record { left = old.left ++ above path names; links = old.links; firsts = old.firsts })
 
-  -- the bytes of a file, in pieces
-  abbrev pub IsRead : List ℕ → ℕ → List (List ℕ) → Type 0
-  IsRead path node pieces = (opened : Option (List ℕ)) × tells (Holds path node opened) × ArePieces opened pieces
+  -- the bytes of this file, in pieces
+  abbrev pub IsRead : List ℕ → ℕ → FileId → List (List ℕ) → Type 0
+  IsRead path node id pieces = (opened : Option (List ℕ)) × tells (Holds path node id opened) × ArePieces opened pieces

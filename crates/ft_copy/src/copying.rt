@@ -9,7 +9,7 @@ ghost use Rattle.ft_copy.specs.Walks.{is_dotted, standing};
 
 use crate::file::copy_file;
 use crate::firsts::Firsts;
-use crate::found::{Found, FoundFile, Place, ROOT};
+use crate::found::{Found, FoundFile, FoundFolder, Place, ROOT};
 use crate::limits::CopyLimits;
 use crate::linking::make_links;
 use crate::source::Source;
@@ -17,14 +17,14 @@ use crate::target::Target;
 use crate::trouble::{Stopped, Trouble};
 use crate::walk::{Walk, enter, put_off};
 use ft_base::Sequence;
-use ft_cells::Attributes;
 use ft_path::LONGEST_PATH;
 use std::alloc::Global;
 use std::collections::VecDeque;
 
 /// Copies what a source tells of to a target: each directory before what stands in it, the names of
 /// a directory in the order of their bytes, a file by its bytes where it is met first and as a link
-/// where it is met again. Symbolic links are not followed, and come behind all else, so that the
+/// where it is met again. What is listed or read is what was found there, or else the copy stops.
+/// Symbolic links are not followed, and come behind all else, so that the
 /// target is asked for nothing that stands behind one. What a tree has no place for is refused,
 /// unless the source leaves it out, and so is a file that has more bytes or more names than these
 /// limits allow. Directories and files have their attributes, without S_ISUID and S_ISGID where the
@@ -67,12 +67,12 @@ fn copy_whole<S: Source, T: Target>(
         firsts: Firsts::new(alloc),
     };
     let top = match begin(source, target, &mut walk) {
-        Ok(attributes) => attributes,
+        Ok(top) => top,
         Err(trouble) => return Err(at_root(alloc, trouble)),
     };
     visit_all(limits, source, target, &mut walk)?;
     make_links(limits, source, target, &mut walk)?;
-    match target.finish(limits.kept_attributes(top)) {
+    match target.finish(limits.kept_attributes(top.attributes)) {
         Ok(()) => Ok(()),
         Err(trouble) => Err(at_root(alloc, trouble)),
     }
@@ -89,28 +89,28 @@ fn at_root(alloc: Global, trouble: Trouble) -> Stopped
     }
 }
 
-// Starts the target, enters the root, and answers its attributes.
+// Starts the target, enters the root, and answers it.
 fn begin<S: Source, T: Target>(
     source: &S,
     target: &mut T,
     walk: &mut Walk,
-) -> Result<Attributes, Trouble>
+) -> Result<FoundFolder, Trouble>
     ensures ok { IfOk result (λ top. Begins (S.tells source.now) T.does top (standing walk.old) (standing walk.new) target.old target.new) }
     ensures err { IfErr result (λ trouble. StopsBegin (S.tells source.now) T.does T.fails trouble target.old target.new) }
 {
-    let top = root_attributes(source)?;
+    let top = root_of(source)?;
     target.start()?;
-    enter(source, walk, b"".as_slice(), ROOT)?;
+    enter(source, walk, b"".as_slice(), ROOT, top.id)?;
     Ok(top)
 }
 
-// The attributes of the root. What is no directory is refused.
-fn root_attributes<S: Source>(source: &S) -> Result<Attributes, Trouble>
+// The root. What is no directory is refused.
+fn root_of<S: Source>(source: &S) -> Result<FoundFolder, Trouble>
     ensures ok { IfOk result (λ top. S.tells source.now (Finds [] ROOT (Folder top))) }
     ensures err { IfErr result (λ trouble. IsCauseAtRoot (S.tells source.now) trouble) }
 {
     match source.look(b"".as_slice(), ROOT)? {
-        Found::Folder(attributes) => Ok(attributes),
+        Found::Folder(top) => Ok(top),
         Found::File(_) | Found::Symlink(_) | Found::Special => Err(Trouble::BadTree),
     }
 }
@@ -163,9 +163,9 @@ fn visit<S: Source, T: Target>(
         return Err(Trouble::PathTooLong);
     }
     match source.look(path, place.node)? {
-        Found::Folder(attributes) => {
-            target.folder(path, limits.kept_attributes(attributes))?;
-            enter(source, walk, path, place.node)
+        Found::Folder(folder) => {
+            target.folder(path, limits.kept_attributes(folder.attributes))?;
+            enter(source, walk, path, place.node, folder.id)
         }
         Found::File(file) => visit_file(limits, source, target, walk, place, &file),
         Found::Symlink(facts) => Ok(put_off(walk, place, facts)?),

@@ -21,7 +21,7 @@ use std::io::{ErrorKind, Read};
 /// The most bytes of a piece in which a file is copied.
 pub const PIECE: usize = 65_536;
 
-/// Copies a file. One that turns out to have more bytes than the limits allow is refused.
+/// Copies this file. One that turns out to have more bytes than the limits allow is refused.
 pub(crate) fn copy_file<S: Source, T: Target>(
     alloc: Global,
     limits: CopyLimits,
@@ -30,15 +30,18 @@ pub(crate) fn copy_file<S: Source, T: Target>(
     place: &Place,
     file: &FoundFile,
 ) -> Result<(), Trouble>
-    ensures ok { OnOk result (CopiesFile limits (S.tells source.now) T.does place.now (kept_given limits file.now.given) target.old target.new) }
+    ensures ok { OnOk result (CopiesFile limits (S.tells source.now) T.does place.now file.now.facts.id (kept_given limits file.now.given) target.old target.new) }
     ensures err { (walk : Standing) → S.tells source.now (Finds place.now.path place.now.node (File file.now))
         → IfErr result (λ trouble. StopsVisit limits (S.tells source.now) T.does T.fails trouble place.now walk target.old target.new) }
 {
     let path = place.path.as_slice();
     let given = limits.kept_given(file.given);
-    let mut reader = source.open(path, place.node)?;
+    let mut opened = source.open(path, place.node)?;
+    if !opened.id.is(file.facts.id) {
+        return Err(Trouble::Read);
+    }
     target.open(path, given.attributes)?;
-    pour(alloc, limits.file_size, &mut reader, target)?;
+    pour(alloc, limits.file_size, &mut opened.file, target)?;
     target.close(given.time)
 }
 

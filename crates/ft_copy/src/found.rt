@@ -1,4 +1,7 @@
 // What a source finds.
+ghost use Rattle.std.specs.Prelude.{◌≡◌};
+ghost use Rattle.ft_copy.specs.Told.{same_file};
+
 use ft_base::Sequence;
 use ft_cells::{Attributes, Timestamp};
 use ft_path::Name;
@@ -6,11 +9,21 @@ use ft_path::Name;
 /// The number by which a source knows its root.
 pub const ROOT: u64 = 1;
 
-/// What tells a file from all others: the device that it stands on, and its number there.
+/// What tells a file, a directory or a symbolic link from all others: the device that it stands on,
+/// and its number there.
 #[derive(Clone, Copy, Debug, PartialEq, Eq, Hash)]
 pub struct FileId {
     pub device: u64,
     pub number: u64,
+}
+
+impl FileId {
+    /// Whether they are of one file.
+    pub(crate) fn is(self, other: FileId) -> bool
+        ensures { result ≡ same_file self other }
+    {
+        self.device == other.device && self.number == other.number
+    }
 }
 
 /// What is known of a file, or of a symbolic link, before it is read.
@@ -38,17 +51,45 @@ pub struct FoundFile {
     pub given: Given,
 }
 
+/// A directory that is found.
+#[derive(Clone, Copy, Debug, PartialEq, Eq)]
+pub struct FoundFolder {
+    pub id: FileId,
+    pub attributes: Attributes,
+}
+
 /// What stands at a place.
 #[derive(Clone, Copy, Debug, PartialEq, Eq)]
 pub enum Found {
-    /// A directory, which has these attributes.
-    Folder(Attributes),
+    /// A directory.
+    Folder(FoundFolder),
     /// A file.
     File(FoundFile),
     /// A symbolic link, which is not followed.
     Symlink(FileFacts),
     /// What a tree has no place for: a device, a FIFO or a socket.
     Special,
+}
+
+/// The names in a directory, and which directory was read for them.
+#[derive(Debug, PartialEq, Eq, Drop)]
+pub struct Listing {
+    pub id: FileId,
+    pub names: Vec<Listed>,
+}
+
+/// A file that was opened, and which one that is.
+#[derive(Drop)]
+pub struct Opened<F> {
+    pub id: FileId,
+    pub file: F,
+}
+
+/// Where a symbolic link leads, and which one was read for it.
+#[derive(Debug, PartialEq, Eq, Drop)]
+pub struct Leading {
+    pub id: FileId,
+    pub to: Sequence<u8>,
 }
 
 /// A name in a directory, and the number by which the source knows what it leads to. A source that

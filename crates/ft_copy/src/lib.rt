@@ -16,7 +16,10 @@ mod walk;
 
 pub use copying::copy;
 pub use file::PIECE;
-pub use found::{FileFacts, FileId, Found, FoundFile, Given, Listed, MetLink, Place, ROOT};
+pub use found::{
+    FileFacts, FileId, Found, FoundFile, FoundFolder, Given, Leading, Listed, Listing, MetLink,
+    Opened, Place, ROOT,
+};
 pub use limits::CopyLimits;
 pub use name::name_of;
 pub use source::Source;

@@ -51,28 +51,31 @@ fn make_link<S: Source, T: Target>(
         return Err(Trouble::TooManyLinks);
     }
     if link.facts.links <= 1 {
-        return copy_link(source, target, path, link.place.node);
+        return copy_link(source, target, link);
     }
     match walk.firsts.get(link.facts.id) {
         Some(first) => target.link(first.as_slice(), path),
         None => {
             let first = Vec::from_slice(walk.alloc, path)?;
             walk.firsts.insert(link.facts.id, first.into())?;
-            copy_link(source, target, path, link.place.node)
+            copy_link(source, target, link)
         }
     }
 }
 
-// Copies where a symbolic link leads.
+// Copies where this symbolic link leads.
 fn copy_link<S: Source, T: Target>(
     source: &S,
     target: &mut T,
-    path: &[u8],
-    node: u64,
+    link: &MetLink,
 ) -> Result<(), Trouble>
-    ensures ok { OnOk result (CopiesLink (S.tells source.now) T.does path.now node target.old target.new) }
-    ensures err { IfErr result (λ trouble. FailsToCopyLink (S.tells source.now) T.fails trouble path.now node target.old target.new) }
+    ensures ok { OnOk result (CopiesLink (S.tells source.now) T.does link.now.place.path link.now.place.node link.now.facts.id target.old target.new) }
+    ensures err { IfErr result (λ trouble. FailsToCopyLink (S.tells source.now) T.fails trouble link.now.place.path link.now.place.node link.now.facts.id target.old target.new) }
 {
-    let to = source.read_link(path, node)?;
-    target.symlink(to.as_slice(), path)
+    let path = link.place.path.as_slice();
+    let leading = source.read_link(path, link.place.node)?;
+    if !leading.id.is(link.facts.id) {
+        return Err(Trouble::Read);
+    }
+    target.symlink(leading.to.as_slice(), path)
 }

@@ -1,13 +1,13 @@
 // What is asked of a source.
 ghost use Rattle.std.specs.Prelude.{IfErr, IfOk, IsFalse, IsTrue, ℕ};
 
-use crate::found::{Found, Listed};
+use crate::found::{Found, Leading, Listing, Opened};
 use crate::trouble::Trouble;
-use ft_base::Sequence;
 use std::io::Read;
 
 /// What tells of a tree of directories. A place in it is told by its path, and by the number that
-/// the source gave with its name.
+/// the source gave with its name. What is listed, opened or read may be another thing by then than
+/// what was found there, so each answer says which it is of.
 pub trait Source {
     ghost use Rattle.ft_copy.specs.Told.{Told, Lists, Finds, Holds, Leads, Omits, Keeps, Refuses};
 
@@ -18,8 +18,8 @@ pub trait Source {
     ghost tells: { Self → Told → Type 0 } = { λ _ _. Unit {0} };
 
     /// The names in a directory, in any order. `.` and `..` are left out.
-    fn names(&self, path: &[u8], node: u64) -> Result<Vec<Listed>, Trouble>
-        ensures ok { IfOk result (λ names. tells self.now (Lists path.now node names.items)) }
+    fn names(&self, path: &[u8], node: u64) -> Result<Listing, Trouble>
+        ensures ok { IfOk result (λ listing. tells self.now (Lists path.now node listing.id listing.names.items)) }
         ensures err { IfErr result (λ trouble. tells self.now (Refuses path.now node trouble)) };
 
     /// What stands at a place.
@@ -28,13 +28,13 @@ pub trait Source {
         ensures err { IfErr result (λ trouble. tells self.now (Refuses path.now node trouble)) };
 
     /// Opens a file.
-    fn open(&self, path: &[u8], node: u64) -> Result<Self::File, Trouble>
-        ensures ok { IfOk result (λ file. tells self.now (Holds path.now node (Self.File.remaining file))) }
+    fn open(&self, path: &[u8], node: u64) -> Result<Opened<Self::File>, Trouble>
+        ensures ok { IfOk result (λ opened. tells self.now (Holds path.now node opened.id (Self.File.remaining opened.file))) }
         ensures err { IfErr result (λ trouble. tells self.now (Refuses path.now node trouble)) };
 
     /// Where a symbolic link leads, as it stands in the link.
-    fn read_link(&self, path: &[u8], node: u64) -> Result<Sequence<u8>, Trouble>
-        ensures ok { IfOk result (λ to. tells self.now (Leads path.now node to)) }
+    fn read_link(&self, path: &[u8], node: u64) -> Result<Leading, Trouble>
+        ensures ok { IfOk result (λ leading. tells self.now (Leads path.now node leading.id leading.to)) }
         ensures err { IfErr result (λ trouble. tells self.now (Refuses path.now node trouble)) };
 
     /// Whether what a tree has no place for is to be left out at this path.

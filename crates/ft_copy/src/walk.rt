@@ -1,10 +1,10 @@
 // The walk over a source: what is still to be visited.
 ghost use Rattle.std.specs.Prelude.{◌≡◌, ◌⊎◌, ◌++◌, OnOk, IfErr, IfOk};
-ghost use Rattle.ft_copy.specs.Told.{Refuses};
+ghost use Rattle.ft_copy.specs.Stops.{IsUnread};
 ghost use Rattle.ft_copy.specs.Walks.{Enters, PutsOff, above, child, standing};
 
 use crate::firsts::Firsts;
-use crate::found::{FileFacts, Listed, MetLink, Place};
+use crate::found::{FileFacts, FileId, Listed, MetLink, Place};
 use crate::source::Source;
 use crate::trouble::Trouble;
 use ft_base::Memory;
@@ -21,18 +21,23 @@ pub(crate) struct Walk {
     pub(crate) firsts: Firsts,
 }
 
-/// Puts what stands in a directory on top of what is still to be visited, in the order of the bytes
-/// of its names.
+/// Puts what stands in this directory on top of what is still to be visited, in the order of the
+/// bytes of its names.
 pub(crate) fn enter<S: Source>(
     source: &S,
     walk: &mut Walk,
     path: &[u8],
     node: u64,
+    id: FileId,
 ) -> Result<(), Trouble>
-    ensures ok { OnOk result (Enters (S.tells source.now) path.now node (standing walk.old) (standing walk.new)) }
-    ensures err { IfErr result (λ trouble. (trouble ≡ Trouble.Memory) ⊎ S.tells source.now (Refuses path.now node trouble)) }
+    ensures ok { OnOk result (Enters (S.tells source.now) path.now node id (standing walk.old) (standing walk.new)) }
+    ensures err { IfErr result (λ trouble. (trouble ≡ Trouble.Memory) ⊎ IsUnread (S.tells source.now) trouble path.now node id) }
 {
-    let mut names = source.names(path, node)?;
+    let listing = source.names(path, node)?;
+    if !listing.id.is(id) {
+        return Err(Trouble::Read);
+    }
+    let mut names = listing.names;
     names.sort_unstable();
     put_on_top(walk, path, names)?;
     Ok(())

@@ -1,9 +1,9 @@
 // A tree of directories in memory: one that is read, and one that is made. Each has so many turns:
 // a call takes one, and where none is left it fails.
-use ft_base::Sequence;
 use ft_cells::{Attributes, Kind, Timestamp};
 use ft_copy::{
-    FileFacts, FileId, Found, FoundFile, Given, Listed, Source, Target, Trouble, name_of,
+    FileFacts, FileId, Found, FoundFile, FoundFolder, Given, Leading, Listed, Listing, Opened,
+    Source, Target, Trouble, name_of,
 };
 use std::alloc::Global;
 use std::cell::Cell;
@@ -82,6 +82,9 @@ fn name_in<'a>(folder: &[u8], path: &'a [u8]) -> Option<&'a [u8]> {
 pub struct FakeSource<'a> {
     pub alloc: Global,
     pub rows: &'a [Row<'a>],
+    /// What stands at these paths when it is listed, opened or read, though that of the rows above
+    /// was found there.
+    pub meanwhile: &'a [Row<'a>],
     /// The path at which what a tree has no place for is left out.
     pub skipped: &'a [u8],
     pub turns: &'a Cell<u64>,
@@ -93,6 +96,11 @@ pub struct FakeFile<'a> {
     bytes: &'a [u8],
     turns: &'a Cell<u64>,
 }
+
+// The numbers of all directories that are found, and of those that come in their place.
+const FIRST: u64 = 0;
+
+const MEANWHILE: u64 = 1;
 
 // Takes a turn.
 fn take_turn(turns: &Cell<u64>) -> Result<(), Trouble> {
@@ -113,10 +121,16 @@ fn facts_of(number: u64, links: u64, bytes: &[u8]) -> FileFacts {
     }
 }
 
+// What tells a directory from the one that comes in its place.
+fn folder_id(number: u64) -> FileId {
+    FileId { device: 2, number }
+}
+
 // What stands at a path, as it is found.
 fn found_as(held: Held<'_>) -> Result<Found, Trouble> {
     if let Some(attributes) = held.folder() {
-        return Ok(Found::Folder(attributes));
+        let id = folder_id(FIRST);
+        return Ok(Found::Folder(FoundFolder { id, attributes }));
     }
     if let Some((number, links, bytes, given)) = held.file() {
         let facts = facts_of(number, links, bytes);
@@ -129,11 +143,32 @@ fn found_as(held: Held<'_>) -> Result<Found, Trouble> {
     }
 }
 
+impl<'a> FakeSource<'a> {
+    // What is listed, opened or read at a path.
+    fn held_now(&self, path: &[u8]) -> Result<Held<'a>, Trouble> {
+        take_turn(self.turns)?;
+        match self.meanwhile.iter().find(|row| row.0 == path) {
+            Some(row) => Ok(row.1),
+            None => held_at(self.rows, path).ok_or(Trouble::Read),
+        }
+    }
+
+    // Whether another thing stands there by then.
+    fn is_other(&self, path: &[u8]) -> bool {
+        self.meanwhile.iter().any(|row| row.0 == path)
+    }
+}
+
 impl<'a> Source for FakeSource<'a> {
     type File = FakeFile<'a>;
 
-    fn names(&self, path: &[u8], _node: u64) -> Result<Vec<Listed>, Trouble> {
-        take_turn(self.turns)?;
+    fn names(&self, path: &[u8], _node: u64) -> Result<Listing, Trouble> {
+        self.held_now(path)?.folder().ok_or(Trouble::Read)?;
+        let id = folder_id(if self.is_other(path) {
+            MEANWHILE
+        } else {
+            FIRST
+        });
         let mut names = Vec::new(self.alloc);
         for row in self.rows.iter().rev() {
             if let Some(bytes) = name_in(path, row.0) {
@@ -141,7 +176,7 @@ impl<'a> Source for FakeSource<'a> {
                 names.push(Listed { name, node: 0 })?;
             }
         }
-        Ok(names)
+        Ok(Listing { id, names })
     }
 
     fn look(&self, path: &[u8], _node: u64) -> Result<Found, Trouble> {
@@ -149,20 +184,24 @@ impl<'a> Source for FakeSource<'a> {
         found_as(held_at(self.rows, path).ok_or(Trouble::Read)?)
     }
 
-    fn open(&self, path: &[u8], _node: u64) -> Result<FakeFile<'a>, Trouble> {
-        take_turn(self.turns)?;
-        let held = held_at(self.rows, path).ok_or(Trouble::Read)?;
-        let (_, _, bytes, _) = held.file().ok_or(Trouble::Read)?;
-        Ok(FakeFile {
-            bytes,
-            turns: self.turns,
+    fn open(&self, path: &[u8], _node: u64) -> Result<Opened<FakeFile<'a>>, Trouble> {
+        let held = self.held_now(path)?;
+        let (number, links, bytes, _) = held.file().ok_or(Trouble::Read)?;
+        Ok(Opened {
+            id: facts_of(number, links, bytes).id,
+            file: FakeFile {
+                bytes,
+                turns: self.turns,
+            },
         })
     }
 
-    fn read_link(&self, path: &[u8], _node: u64) -> Result<Sequence<u8>, Trouble> {
-        take_turn(self.turns)?;
-        match held_at(self.rows, path) {
-            Some(Held::Symlink(_, _, to)) => Ok(Vec::from_slice(self.alloc, to)?.into()),
+    fn read_link(&self, path: &[u8], _node: u64) -> Result<Leading, Trouble> {
+        match self.held_now(path)? {
+            Held::Symlink(number, links, to) => Ok(Leading {
+                id: facts_of(number, links, to).id,
+                to: Vec::from_slice(self.alloc, to)?.into(),
+            }),
             _ => Err(Trouble::Read),
         }
     }

@@ -132,6 +132,7 @@ fn load_in(
     let source = FakeSource {
         alloc,
         rows,
+        meanwhile: &[],
         skipped,
         turns: &turns,
     };
@@ -176,12 +177,72 @@ fn links_as_script(rt: HostRuntime) -> Result<(), Fail> {
     Ok(())
 }
 
+// A directory, a file in it, and a symbolic link.
+const FOUND: &[Row<'static>] = &[
+    (b"/d", Held::Folder),
+    (b"/d/f", Held::File(0, 1, b"inside")),
+    (b"/l", Held::Symlink(1, 1, b"inside")),
+];
+
+// What comes in the place of each of them before it is listed, opened or read.
+const MEANWHILE: &[Row<'static>] = &[
+    (b"", Held::Folder),
+    (b"/d", Held::Folder),
+    (b"/d", Held::Symlink(9, 1, b"outside")),
+    (b"/d/f", Held::File(9, 1, b"outside")),
+    (b"/d/f", Held::Symlink(9, 1, b"outside")),
+    (b"/d/f", Held::Special),
+    (b"/l", Held::Symlink(9, 1, b"outside")),
+    (b"/l", Held::File(9, 1, b"outside")),
+];
+
+// Loads the tree in which this comes in the place of what was found, and puts its script behind a
+// text.
+fn load_amid(alloc: Global, meanwhile: &[Row<'_>], text: &mut Vec<u8>) -> Result<(), Stopped> {
+    let turns = Cell::new(ALL);
+    let source = FakeSource {
+        alloc,
+        rows: FOUND,
+        meanwhile,
+        skipped: b"".as_slice(),
+        turns: &turns,
+    };
+    let (_, loaded) = load(alloc, Limits::default(), false, &source, text);
+    loaded
+}
+
+// Whether a load stops at what has come in a place, and has written nothing of it.
+fn is_refused_amid(alloc: Global, row: Row<'_>) -> bool {
+    let mut text = Vec::new(alloc);
+    let loaded = load_amid(alloc, [row].as_slice(), &mut text);
+    let is_refused = loaded.is_err_and(|stopped| stopped.trouble == Trouble::Read
+        && stopped.path.as_slice() == row.0);
+    let is_told = text
+        .as_slice()
+        .windows(7)
+        .any(|part| part == b"outside".as_slice());
+    is_refused && !is_told
+}
+
+#[test]
+fn what_was_found_is_read(rt: HostRuntime) -> Result<(), Fail> {
+    let alloc = rt.alloc();
+    for (path, held) in MEANWHILE {
+        assert!(rt; is_refused_amid(alloc, (*path, *held)), "at {path:?}");
+    }
+    let mut text = Vec::new(alloc);
+    let same = [(b"/d/f".as_slice(), Held::File(0, 1, b"more"))];
+    assert!(rt; load_amid(alloc, same.as_slice(), &mut text).is_ok());
+    Ok(())
+}
+
 // The script of a tree, with set-id bits or without.
 fn script_of(alloc: Global, rows: &[Row<'_>], set_id: bool) -> Option<Vec<u8>> {
     let turns = Cell::new(ALL);
     let source = FakeSource {
         alloc,
         rows,
+        meanwhile: &[],
         skipped: b"".as_slice(),
         turns: &turns,
     };
@@ -282,6 +343,7 @@ fn begins_with(alloc: Global, size: usize, most: Limits, line: &str) -> Result<b
     let source = FakeSource {
         alloc,
         rows: rows.as_slice(),
+        meanwhile: &[],
         skipped: b"".as_slice(),
         turns: &turns,
     };

@@ -37,6 +37,7 @@ fn load_shown(alloc: Global, rows: &[Row<'_>], step: u64, seen: &mut Seen) -> u8
     let source = FakeSource {
         alloc,
         rows,
+        meanwhile: &[],
         skipped: b"".as_slice(),
         turns: &turns,
     };

@@ -287,7 +287,7 @@ module _ {T : Type 0} (held : T → Option (List ℕ)) (next fd : T → ℕ) (li
   -- a copy to a script that begins is a load
   pub loads : (set_id : Bool) (tells : Told → Type 0) (old new : T) → next old ≡ 2 → fd old ≡ 0 → Copies (copy_limits (limits old) set_id) tells scripts old new → Loads (limits old) set_id tells (held old) (held new)
   loads set_id tells old new two none h =
-      let asked = whole h.visits h.links (kept_attributes (copy_limits (limits old) set_id) h.top) in
+      let asked = whole h.visits h.links (kept_attributes (copy_limits (limits old) set_id) h.top.attributes) in
       let wrote = all_text old new asked h.did in
       let at_two = subst (λ n. Appends (held old) (held new) (text_of (limits old) asked n (fd old))) two wrote in
       let first : IsWithinCalls (limits old) (next old) = omega (arith, two) in

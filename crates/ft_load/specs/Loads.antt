@@ -4,6 +4,7 @@ use Rattle.std.specs.List.{flat_map}
 use Rattle.std.specs.Io.KnownBytes.{Appends, Keeps}
 use Rattle.ft_cells.specs.declared.attributes.Attributes.{Attributes}
 use Rattle.ft_copy.specs.declared.found.Found.TheVariants as found
+use Rattle.ft_copy.specs.declared.found.FoundFolder.{FoundFolder}
 use Rattle.ft_copy.specs.declared.found.TheConstants.{ROOT}
 use Rattle.ft_copy.specs.declared.limits.CopyLimits.{CopyLimits}
 use Rattle.ft_copy.specs.declared.trouble.Stopped.{Stopped}
@@ -30,20 +31,20 @@ whole visits links kept = Start ∷ flat_map asked_of visits ++ flat_map asked_o
 -- that was written, with what may be copied of the root's attributes. A core with these limits grants
 -- as many calls, and its files may be as large.
 pub record Loads (limits : Limits) (set_id : Bool) (tells : Told → Type 0) (held held_after : Option (List ℕ)) : Type 0 where
-  pub top : Attributes
+  pub top : FoundFolder
   pub begun : Standing
   pub visits : List Visit
   pub walked : Standing
   pub links : List Visit
   pub done : Standing
   pub folder : tells (Finds [] ROOT (found.Folder top))
-  pub root : Enters tells [] ROOT nothing begun
+  pub root : Enters tells [] ROOT top.id nothing begun
   pub walk : WalksTo (copy_limits limits set_id) tells begun visits walked
   pub all : walked.left ≡ []
   pub last : LinksTo (copy_limits limits set_id) tells walked links done
   pub all_links : done.links ≡ []
-  pub few : IsWithinCalls limits (next_of (whole visits links (kept_attributes (copy_limits limits set_id) top)) 2)
-  pub wrote : Appends held held_after (script_text limits (whole visits links (kept_attributes (copy_limits limits set_id) top)))
+  pub few : IsWithinCalls limits (next_of (whole visits links (kept_attributes (copy_limits limits set_id) top.attributes)) 2)
+  pub wrote : Appends held held_after (script_text limits (whole visits links (kept_attributes (copy_limits limits set_id) top.attributes)))
 
 -- The first of what is still to be written is not written whole.
 abbrev pub BreaksOffAt : Limits → Trouble → List Asked → ℕ → ℕ → Option (List ℕ) → Option (List ℕ) → Type 0

@@ -3,9 +3,11 @@ ghost use Rattle.std.specs.Prelude.{◌≡◌, ◌≤◌, IfOk, min};
 ghost use Rattle.ft_core.specs.Limits.{default_limits};
 
 use crate::script::{has_owners, said_mode};
-use ft_base::{Memory, Sequence};
+use ft_base::Memory;
 use ft_cells::{Attributes, Kind, Timestamp};
-use ft_copy::{CopyLimits, Found, Listed, PIECE, Source, Target, Trouble, copy};
+use ft_copy::{
+    CopyLimits, FileId, Found, Leading, Listing, Opened, PIECE, Source, Target, Trouble, copy,
+};
 use ft_core::Limits;
 use std::alloc::Global;
 use std::cell::Cell;
@@ -28,8 +30,11 @@ pub fn needs_of<S: Source>(
     ensures others { IfOk result (λ limits. limits ≡ record most { file_size = limits.file_size; calls = limits.calls }) }
 {
     let counted = CountedSource {
-        alloc,
         source,
+        id: Cell::new(FileId {
+            device: 0,
+            number: 0,
+        }),
         size: Cell::new(0),
         largest: Cell::new(0),
         pieces: Cell::new(0),
@@ -60,9 +65,9 @@ pub fn needs_of<S: Source>(
 // A source whose files are looked at and not read.
 #[derive(Drop)]
 struct CountedSource<'a, S> {
-    alloc: Global,
     source: &'a S,
-    // that of the file that was looked at last
+    // those of the file that was looked at last
+    id: Cell<FileId>,
     size: Cell<u64>,
     largest: Cell<u64>,
     // in how many pieces the files are read
@@ -72,28 +77,31 @@ struct CountedSource<'a, S> {
 impl<S: Source> Source for CountedSource<'_, S> {
     type File = &'static [u8];
 
-    fn names(&self, path: &[u8], node: u64) -> Result<Vec<Listed>, Trouble> {
+    fn names(&self, path: &[u8], node: u64) -> Result<Listing, Trouble> {
         self.source.names(path, node)
     }
 
     fn look(&self, path: &[u8], node: u64) -> Result<Found, Trouble> {
         let found = self.source.look(path, node)?;
         if let Found::File(file) = found {
+            self.id.set(file.facts.id);
             self.size.set(file.facts.size);
             self.largest.set(self.largest.get().max(file.facts.size));
         }
         Ok(found)
     }
 
-    fn open(&self, _path: &[u8], _node: u64) -> Result<&'static [u8], Trouble> {
+    fn open(&self, _path: &[u8], _node: u64) -> Result<Opened<&'static [u8]>, Trouble> {
         let pieces = self.size.get().div_ceil(PIECE as u64);
         self.pieces.set(self.pieces.get().saturating_add(pieces));
-        Ok(b"".as_slice())
+        Ok(Opened {
+            id: self.id.get(),
+            file: b"".as_slice(),
+        })
     }
 
-    // (where it leads is asked when the script is written)
-    fn read_link(&self, _path: &[u8], _node: u64) -> Result<Sequence<u8>, Trouble> {
-        Ok(Sequence::new(self.alloc))
+    fn read_link(&self, path: &[u8], node: u64) -> Result<Leading, Trouble> {
+        self.source.read_link(path, node)
     }
 
     // (what is left out is told when the script is written)

@@ -1,11 +1,12 @@
 // A directory on disk as a target.
 use crate::giving::Giving;
+use crate::held::id_of;
 use crate::removal::Removal;
 use ft_cells::{Attributes, Timestamp};
 use ft_copy::{FileId, Target, Trouble};
 use ft_path::LONGEST_PATH;
 use ft_script::write_out;
-use std::fs::{DirBuilder, File, Metadata, OpenOptions, Permissions};
+use std::fs::{DirBuilder, File, OpenOptions, Permissions};
 use std::io::{ErrorKind, Write};
 use std::os::unix::fs::{DirBuilderExt, MetadataExt, OpenOptionsExt, PermissionsExt, symlink};
 use std::{fs, io, str};
@@ -268,14 +269,6 @@ fn make_folder(rt: &HostRuntime, place: &str) -> io::Result<FileId> {
         fs::set_permissions(rt, place, Permissions::from_mode(BEGUN_FOLDER))?;
     }
     Ok(id_of(&metadata))
-}
-
-// What tells something from all else.
-fn id_of(metadata: &Metadata) -> FileId {
-    FileId {
-        device: metadata.dev(),
-        number: metadata.ino(),
-    }
 }
 
 // Why something could not be made at a place.

@@ -13,6 +13,7 @@
 mod disk_source;
 mod disk_target;
 mod giving;
+mod held;
 mod removal;
 
 ghost use Rattle.std.specs.Prelude.{◌≡◌, IfOk};
@@ -63,11 +64,7 @@ fn main(rt: HostRuntime) -> ExitCode {
             limits,
         } => load_dir(
             &rt,
-            DiskSource {
-                rt: &rt,
-                dir: dir.as_str(),
-                skip,
-            },
+            DiskSource::new(&rt, dir.as_str(), skip),
             set_id,
             quiet,
             limits,

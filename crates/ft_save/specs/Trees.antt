@@ -11,6 +11,7 @@ use Rattle.ft_cells.specs.declared.node.Form.{Form}
 use Rattle.ft_cells.specs.declared.node.Form.TheVariants as forms
 use Rattle.ft_copy.specs.declared.found.TheConstants.{ROOT}
 use Rattle.ft_copy.specs.declared.found.FileFacts.{FileFacts}
+use Rattle.ft_copy.specs.declared.found.FileId.{FileId}
 use Rattle.ft_copy.specs.declared.found.FoundFile.{FoundFile}
 use Rattle.ft_copy.specs.declared.found.Given.{Given}
 use Rattle.ft_copy.specs.declared.found.Found.{Found}
@@ -105,9 +106,13 @@ time_in (Descriptor ∷ rows) node = time_in rows node
 
 -- ---- what they tell of a tree
 
+-- what tells something from all else: its number
+abbrev pub row_id : ℕ → FileId
+row_id node = record { device = 0; number = node }
+
 -- a file, with its number, its size, and how many names it has at most
 abbrev pub file_facts : ℕ → Bool → List ℕ → FileFacts
-file_facts node more bytes = record { id = record { device = 0; number = node }; links = if more then DEFAULT_LINKS else 1; size = length bytes }
+file_facts node more bytes = record { id = row_id node; links = if more then DEFAULT_LINKS else 1; size = length bytes }
 
 -- what a file is given: the attributes and the time of its rows, or the default attributes and none
 abbrev pub given_in : List Row → ℕ → Given
@@ -139,8 +144,9 @@ IsFile rows path node form facts =
 -- What stands at a path, by its number: a plain file where there is a row of a file, or of a symbolic
 -- link, or else a plain directory; with the attributes of their rows, or the default ones.
 abbrev pub IsFound : List Row → List ℕ → ℕ → Found → Type 0
-IsFound rows path node (found.Folder attributes) =
-    (file_in rows node ≡ None) × IsPlainFolder rows path node × (attributes ≡ attributes_from kinds.Dir (attributes_in rows node))
+IsFound rows path node (found.Folder folder) =
+    (file_in rows node ≡ None) × IsPlainFolder rows path node
+    × (folder ≡ record { id = row_id node; attributes = attributes_from kinds.Dir (attributes_in rows node) })
 IsFound rows path node (found.File file) = IsFile rows path node forms.Regular file.facts × (file.given ≡ given_in rows node)
 IsFound rows path node (found.Symlink facts) = IsFile rows path node forms.Link facts
 IsFound rows path node found.Special = ⊥
@@ -165,10 +171,10 @@ IsRefused rows path node other = ⊥
 
 -- What the rows of a report tell. Nothing is to be left out.
 abbrev pub Tells : List Row → Told → Type 0
-Tells rows (Lists path node names) = names ≡ edges_in rows node
+Tells rows (Lists path node id names) = (id ≡ row_id node) × (names ≡ edges_in rows node)
 Tells rows (Finds path node found) = IsFound rows path node found
-Tells rows (Holds path node bytes) = bytes ≡ bytes_in rows node
-Tells rows (Leads path node to) = bytes_in rows node ≡ Some to
+Tells rows (Holds path node id bytes) = (id ≡ row_id node) × (bytes ≡ bytes_in rows node)
+Tells rows (Leads path node id to) = (id ≡ row_id node) × (bytes_in rows node ≡ Some to)
 Tells rows (Omits path) = ⊥
 Tells rows (Keeps path) = Unit {0}
 Tells rows (Refuses path node trouble) = IsRefused rows path node trouble

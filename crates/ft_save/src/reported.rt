@@ -1,12 +1,14 @@
 // The tree of a report, as a source.
 ghost use Rattle.std.specs.Prelude.{◌≡◌, ◌⊎◌, map, IfErr, IfOk};
 ghost use Rattle.ft_copy.specs.Told.{HasNoName};
-ghost use Rattle.ft_save.specs.Trees.{file_facts, found_as, listed};
+ghost use Rattle.ft_save.specs.Trees.{file_facts, found_as, listed, row_id};
 
 use crate::index::{Content, Edge, Index};
-use ft_base::Sequence;
 use ft_cells::{DEFAULT_LINKS, Form, Kind};
-use ft_copy::{FileFacts, FileId, Found, FoundFile, Given, Listed, ROOT, Source, Trouble, name_of};
+use ft_copy::{
+    FileFacts, FileId, Found, FoundFile, FoundFolder, Given, Leading, Listed, Listing, Opened,
+    ROOT, Source, Trouble, name_of,
+};
 use std::alloc::Global;
 
 /// The tree that a report tells of.
@@ -24,12 +26,14 @@ impl<'a> Source for Reported<'a> {
 
     ghost tells = { λ reported told. (rows : List Row) → Indexes reported.index.now rows → Tells rows told };
 
-    fn names(&self, _path: &[u8], node: u64) -> Result<Vec<Listed>, Trouble> {
+    fn names(&self, _path: &[u8], node: u64) -> Result<Listing, Trouble> {
         let alloc = self.index.alloc;
-        match self.index.edges.get(node) {
-            Some(edges) => names_of(alloc, edges.as_slice()),
-            None => Ok(Vec::new(alloc)),
-        }
+        let names = match self.index.edges.get(node) {
+            Some(edges) => names_of(alloc, edges.as_slice())?,
+            None => Vec::new(alloc),
+        };
+        let id = id_of(node);
+        Ok(Listing { id, names })
     }
 
     fn look(&self, path: &[u8], node: u64) -> Result<Found, Trouble> {
@@ -50,21 +54,30 @@ impl<'a> Source for Reported<'a> {
         if more || path.is_empty() != (node == ROOT) {
             return Err(Trouble::BadTree);
         }
-        Ok(Found::Folder(self.index.attributes_of(Kind::Dir, node)))
+        Ok(Found::Folder(FoundFolder {
+            id: id_of(node),
+            attributes: self.index.attributes_of(Kind::Dir, node),
+        }))
     }
 
-    fn open(&self, _path: &[u8], node: u64) -> Result<&'a [u8], Trouble> {
+    fn open(&self, _path: &[u8], node: u64) -> Result<Opened<&'a [u8]>, Trouble> {
         match self.index.files.get(node) {
-            Some(content) => Ok(content.bytes.as_slice()),
+            Some(content) => Ok(Opened {
+                id: id_of(node),
+                file: content.bytes.as_slice(),
+            }),
             None => Err(Trouble::Read),
         }
     }
 
-    fn read_link(&self, _path: &[u8], node: u64) -> Result<Sequence<u8>, Trouble> {
+    fn read_link(&self, _path: &[u8], node: u64) -> Result<Leading, Trouble> {
         match self.index.files.get(node) {
             Some(content) => {
                 let to = Vec::from_slice(self.index.alloc, content.bytes.as_slice())?;
-                Ok(to.into())
+                Ok(Leading {
+                    id: id_of(node),
+                    to: to.into(),
+                })
             }
             None => Err(Trouble::Read),
         }
@@ -75,15 +88,22 @@ impl<'a> Source for Reported<'a> {
     }
 }
 
+// What tells something from all else: its number.
+fn id_of(node: u64) -> FileId
+    ensures { result ≡ row_id node }
+{
+    FileId {
+        device: 0,
+        number: node,
+    }
+}
+
 // A file as it is found, which may have more names than one.
 fn found(node: u64, more: bool, content: &Content, given: Given) -> Found
     ensures { result ≡ found_as content.now.form (record { facts = file_facts node more content.now.bytes; given = given }) }
 {
     let facts = FileFacts {
-        id: FileId {
-            device: 0,
-            number: node,
-        },
+        id: id_of(node),
         links: if more { DEFAULT_LINKS } else { 1 },
         size: content.bytes.len() as u64,
     };

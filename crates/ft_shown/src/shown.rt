@@ -2,9 +2,8 @@
 ghost use Rattle.std.specs.Prelude.{◌≡◌};
 
 use crate::tally::Tally;
-use ft_base::Sequence;
 use ft_cells::{Attributes, Timestamp};
-use ft_copy::{Found, Listed, Source, Target, Trouble};
+use ft_copy::{Found, Leading, Listing, Opened, Source, Target, Trouble};
 use std::alloc::Global;
 use std::cell::RefCell;
 use std::io::Write;
@@ -60,7 +59,7 @@ impl<R: Clock, S: Source, W: Write> Source for ShownSource<'_, R, S, W> {
 
     ghost tells = { λ shown. S.tells shown.source.now };
 
-    fn names(&self, path: &[u8], node: u64) -> Result<Vec<Listed>, Trouble> {
+    fn names(&self, path: &[u8], node: u64) -> Result<Listing, Trouble> {
         self.source.names(path, node)
     }
 
@@ -73,11 +72,11 @@ impl<R: Clock, S: Source, W: Write> Source for ShownSource<'_, R, S, W> {
         Ok(found)
     }
 
-    fn open(&self, path: &[u8], node: u64) -> Result<S::File, Trouble> {
+    fn open(&self, path: &[u8], node: u64) -> Result<Opened<S::File>, Trouble> {
         self.source.open(path, node)
     }
 
-    fn read_link(&self, path: &[u8], node: u64) -> Result<Sequence<u8>, Trouble> {
+    fn read_link(&self, path: &[u8], node: u64) -> Result<Leading, Trouble> {
         self.source.read_link(path, node)
     }
 

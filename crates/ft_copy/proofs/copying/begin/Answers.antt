@@ -15,4 +15,4 @@ returns-in_err-enter-clause-err g c =
     let begun = does_one does old target Start c.in_ok-start.ensures.ok in
     at_fault c.from_residual-in_err-enter.result c.from_residual-in_err-enter.ensures.1
     (λ t is. stops_after does fails (IsCauseAtRoot tells t) t (Start ∷ []) [] old target target begun (stops_nothing does fails (IsCauseAtRoot tells t) t [] target
-    (root_unread tells c.as_slice.result.now t _ c.as_slice.ensures is c.in_err-enter.ensures.err)))
+    (root_unread tells c.in_ok-top.top c.as_slice.result.now t _ c.as_slice.ensures is c.in_ok-top.ensures.ok c.in_err-enter.ensures.err)))
