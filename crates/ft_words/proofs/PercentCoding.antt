@@ -1,15 +1,16 @@
 -- Bytes, percent-coded, and the bytes that words code.
-use Rattle.std.proofs.Common.{◌≡◌, ℕ, zero, suc, ◌+◌, ◌<◌, ◌≤◌, false, true, cond, List, [], ◌∷◌, ◌++◌, length, get_or, take, IsAscii, All, refl, sym, ap, ◌∙◌, append-nil, append_assoc, arith}
+use Rattle.std.proofs.Common.{◌≡◌, ℕ, zero, suc, ◌+◌, ◌<◌, ◌≤◌, false, true, cond, List, [], ◌∷◌, ◌++◌, length, get_or, take, IsAscii, All, refl, sym, subst, ap, ◌∙◌, append-nil, append_assoc, arith}
 use Rattle.std.proofs.lemmas.Bool.{cond_both, eq-eqb, eqb-true, false≢true}
 use Rattle.std.proofs.lemmas.Bool.Decides.{nat_tests}
 use Rattle.std.proofs.lemmas.List.Concat.{flat_map-append}
 use Rattle.std.proofs.lemmas.List.Elements.{All-nil, All-cons, All-append, All-weaker}
+use Rattle.std.proofs.lemmas.Str.{IsAscii-take}
 use Rattle.std.proofs.lemmas.Str.Ascii.{IsAscii-from_all}
 use Rattle.std.specs.Prelude.{◌==◌}
 use Rattle.percent_encoding.specs.Percent.{percent_encode_byte, percent_decode}
 use Rattle.percent_encoding.proofs.PercentLemmas.{IsEscapeByte, All-percent_encode_byte, percent_decode_not_percent}
 use Rattle.ft_words.specs.Spelling.{IsFreeOf}
-use Rattle.std.proofs.Math.Seq.{take-append-add}
+use Rattle.std.proofs.Math.Seq.{take-append-add, take-append_seam}
 use Rattle.std.proofs.lemmas.List.{length-take-le, take-append-le}
 use Rattle.ft_words.specs.Texts.{coded, coded_byte, is_coded}
 use Rattle.ft_words.proofs.Bytes.{neither}
@@ -33,6 +34,11 @@ all_low (b ∷ bs) =
 -- coded bytes are ASCII
 pub IsAscii-coded : (bytes : List ℕ) → IsAscii (coded bytes)
 IsAscii-coded bytes = IsAscii-from_all _ (all_low bytes)
+
+-- and so is the front of a text that they make
+pub IsAscii-front : (front behind bytes : List ℕ) → front ++ behind ≡ coded bytes → IsAscii front
+IsAscii-front front behind bytes whole =
+    subst (λ (text : List ℕ). IsAscii text) (ap (take (length front)) (sym whole) ∙ take-append_seam front behind) (IsAscii-take (coded bytes) (length front) (IsAscii-coded bytes))
 
 -- bytes without a `%` code themselves
 pub decode_free : (front rest : List ℕ) → IsFreeOf 37 front → percent_decode (front ++ rest) ≡ front ++ percent_decode rest

@@ -1,40 +1,41 @@
 // Bytes, percent-coded piece by piece.
-ghost use Rattle.std.specs.Prelude.{◌≡◌, ◌+◌, ◌*◌, ◌<◌, ◌≤◌, ◌++◌, length, take};
+ghost use Rattle.std.specs.Prelude.{◌≡◌, ◌<◌, ◌≤◌, ◌++◌, length, take};
 ghost use Rattle.ft_words.specs.Texts.{coded, coded_byte, is_coded};
 
-use crate::lanes::put_printed;
+use crate::lanes::{LANES, put_printed};
 use percent_encoding::percent_encode_byte;
 
-/// The most bytes that are coded at once.
-pub(crate) const PIECE: usize = 256;
+/// The most bytes that are put at once.
+pub(crate) const CODED_PIECE: usize = 256;
 
-/// The most bytes that this makes.
-pub(crate) const CODED_PIECE: usize = 3 * PIECE;
+// The most bytes that a step makes.
+const MOST_MADE: usize = LANES + 3;
 
-/// Puts bytes, percent-coded, at the front of a place, and tells how many bytes that makes.
-pub(crate) fn put_coded(bytes: &[u8], place: &mut [u8; CODED_PIECE]) -> usize
-    requires { length bytes.now ≤ PIECE }
-    ensures within { result ≤ CODED_PIECE }
-    ensures text { take result place.new ≡ coded bytes.now }
+/// Puts the first of some bytes, percent-coded, at the front of a place: all of them, or as many as
+/// there is room for. Tells how many bytes that makes, and what is left.
+pub(crate) fn put_coded<'a>(bytes: &'a [u8], place: &mut [u8; CODED_PIECE]) -> (usize, &'a [u8])
+    ensures within { result.0 ≤ CODED_PIECE }
+    ensures text { take result.0 place.new ++ coded result.1.now ≡ coded bytes.now }
+    ensures fewer { 0 < length bytes.now → length result.1.now < length bytes.now }
 {
     let mut end = 0;
     let mut rest = bytes;
-    while !rest.is_empty() {
+    while !rest.is_empty() && end <= CODED_PIECE - MOST_MADE {
         let (made, behind) = put_next(rest, &mut place[end..]);
         end += made;
         rest = behind;
     }
-    end
+    (end, rest)
 }
 
 // Puts the first of some bytes: up to sixteen that are printed as they are, and the next one. Tells
 // how many bytes that makes, and what is left.
 fn put_next<'a>(bytes: &'a [u8], place: &mut [u8]) -> (usize, &'a [u8])
     requires some { 0 < length bytes.now }
-    requires room { 3 * length bytes.now ≤ length place.old }
+    requires room { MOST_MADE ≤ length place.old }
     ensures text { take result.0 place.new ++ coded result.1.now ≡ coded bytes.now }
     ensures fewer { length result.1.now < length bytes.now }
-    ensures room { result.0 + 3 * length result.1.now ≤ 3 * length bytes.now }
+    ensures within { result.0 ≤ MOST_MADE }
     ensures len { length place.new ≡ length place.old }
 {
     let printed = put_printed(bytes, place);

@@ -14,8 +14,9 @@ pub(crate) const LANES: usize = 16;
 /// digits at the front of a place, which has room for sixteen. Tells how many they are; none of
 /// fewer than sixteen bytes.
 pub(crate) fn put_printed(bytes: &[u8], place: &mut [u8]) -> usize
-    requires { length bytes.now ≤ length place.old }
+    requires { LANES ≤ length place.old }
     ensures within { result ≤ length bytes.now }
+    ensures few { result ≤ LANES }
     ensures printed { coded (take result bytes.now) ≡ take result bytes.now }
     ensures len { length place.new ≡ length place.old }
     ensures put { take result place.new ≡ take result bytes.now }

@@ -2,7 +2,7 @@
 ghost use Rattle.std.specs.Prelude.{◌≡◌, Some};
 ghost use Rattle.ft_words.specs.Texts.{reply_text, kind_text, attributes_tail, time_tail, coded, data_text, listing, listed};
 
-use crate::coding::{CODED_PIECE, PIECE, put_coded};
+use crate::coding::{CODED_PIECE, put_coded};
 use crate::modes::{AttributesText, TimeText};
 use ft_path::Name;
 use ft_posix::Reply;
@@ -94,8 +94,7 @@ impl fmt::Display for Coded<'_> {
         let mut place = [0; CODED_PIECE];
         let mut rest = self.0;
         while !rest.is_empty() {
-            let (piece, behind) = rest.split_at(rest.len().min(PIECE));
-            let end = put_coded(piece, &mut place);
+            let (end, behind) = put_coded(rest, &mut place);
             f.write_str(ascii_str(&place[..end]))?;
             rest = behind;
         }
