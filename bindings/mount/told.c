@@ -1,0 +1,191 @@
+/* What nuz run tells of its step: a depfile and a manifest. */
+#define _GNU_SOURCE
+#include "commands.h"
+
+#include <errno.h>
+#include <nuzolged_touched.h>
+#include <stdio.h>
+#include <stdlib.h>
+#include <string.h>
+#include <sys/stat.h>
+#include <unistd.h>
+
+/* ---- files */
+
+/* Whether a file can be made in the directory that its path names. */
+static bool has_place(const char *what, const char *path) {
+    struct place place = { 0 };
+    struct stat status;
+    bool is_good = place_of(path, &place) && stat(place.dir, &status) == 0;
+    if (is_good && !S_ISDIR(status.st_mode)) {
+        errno = ENOTDIR;
+        is_good = false;
+    }
+    is_good = is_good && access(place.dir, W_OK | X_OK) == 0;
+    if (!is_good) {
+        fails(what, path);
+    }
+    place_free(&place);
+    return is_good;
+}
+
+/* Whether a path leads into the directory that is saved to, which is another one then. */
+static bool is_saved(const struct run *run, const char *path) {
+    char *to = run->to == NULL ? NULL : absolute(run->to), *file = absolute(path);
+    size_t len = to == NULL ? 0 : strlen(to);
+    while (len > 0 && to[len - 1] == '/') {
+        len--;
+    }
+    bool is_below = len > 0 && file != NULL && strncmp(file, to, len) == 0 && file[len] == '/';
+    free(to);
+    free(file);
+    return is_below;
+}
+
+bool can_tell(const struct run *run) {
+    const char *depfile = run->depfile, *manifest = run->manifest;
+    return (depfile == NULL || is_saved(run, depfile) || has_place("depfile", depfile))
+        && (manifest == NULL || is_saved(run, manifest) || has_place("manifest", manifest));
+}
+
+static bool write_text(const char *path, const char *text) {
+    size_t size = strlen(text);
+    FILE *to = fopen(path, "we");
+    bool is_written = to != NULL && fwrite(text, 1, size, to) == size;
+    if (to != NULL && fclose(to) != 0) {
+        is_written = false;
+    }
+    return is_written || fails("write", path);
+}
+
+bool write_texts(const struct run *run, const struct texts *texts) {
+    return (run->depfile == NULL || write_text(run->depfile, texts->depfile))
+        && (run->manifest == NULL || write_text(run->manifest, texts->manifest));
+}
+
+/* ---- texts */
+
+/* What the mount tells of the step, which is still live, or NULL. */
+static char *asked_for(const struct job *job, const char *word, const char *rest) {
+    size_t size = 0;
+    int number = ask(job->control, word, job->name, rest);
+    if (number != 0) {
+        const char *file = word[0] == 'd' ? job->run->depfile : job->run->manifest;
+        complain_of(job->control, number, word, file);
+        return NULL;
+    }
+    char *text = reply_of(job->control, &size);
+    if (text == NULL) {
+        fails(word, job->path);
+    }
+    return text;
+}
+
+/* ---- where the files of a depfile are */
+
+/* The directory that has the tree when the step has committed. */
+static char *top_of_mount(const struct job *job) {
+    if (job->at != NULL) {
+        return joined(job->at, "", "");
+    }
+    const char *dot = strrchr(job->name, '.');
+    char *parent = dot == NULL ? joined("job", "", "")
+                               : strndup(job->name, (size_t)(dot - job->name));
+    char *top = joined(job->dir, "/", parent == NULL ? "job" : parent);
+    free(parent);
+    return top;
+}
+
+/* How a depfile has the current directory, with a slash behind it, or NULL. */
+static char *form_of_here(void) {
+    nuz_tree *tree = NULL;
+    nuz_answer answer = { 0 };
+    char form[16384];
+    char *here = getcwd(NULL, 0), *name = here == NULL ? NULL : joined(here, "/", ".");
+    uint32_t code = name == NULL ? NUZ_BAD : nuz_tree_open(&tree, NUZ_RELAXED);
+    if (code == 0) {
+        code = nuz_depfile(tree, 0, name, NULL, form, sizeof form, &answer);
+        nuz_tree_close(tree);
+    }
+    free(name);
+    free(here);
+    bool is_whole = code == 0 && answer.size > 0 && answer.size < sizeof form;
+    form[is_whole ? answer.size : 0] = '\0';
+    char *slash = strrchr(form, '/');
+    return slash == NULL ? NULL : strndup(form, (size_t)(slash + 1 - form));
+}
+
+/* Leaves out of a depfile where the names in the current directory begin with that. A name begins
+ * behind a blank without a backslash. */
+static void make_relative(char *text) {
+    char *here = form_of_here(), *to = text, before = ' ';
+    size_t len = here == NULL ? 0 : strlen(here);
+    for (const char *from = text; *from != '\0'; from++) {
+        bool is_first = before == ' ' || from == text;
+        bool is_here = is_first && len > 0 && strncmp(from, here, len) == 0
+                    && strchr("~ \n", from[len]) == NULL;
+        from += is_here ? len : 0;
+        before = *from == ' ' && from > text && from[-1] == '\\' ? '\\' : *from;
+        *to++ = *from;
+    }
+    *to = '\0';
+    free(here);
+}
+
+/* ---- depfiles */
+
+/* A depfile whose paths stand below a directory. */
+static char *depfile_below(const struct job *job, const char *top) {
+    const char *target = job->run->target;
+    char *rest = joined(top, target == NULL ? "" : "\n", target == NULL ? "" : target);
+    char *text = asked_for(job, "depfile", rest);
+    free(rest);
+    return text;
+}
+
+/* A depfile with the targets of one, which are its first line, and what another one has read. */
+static char *depfile_of_both(const char *written, const char *read) {
+    const char *end = strchr(written, '\n'), *behind = strchr(read, '\n');
+    if (end == NULL || behind == NULL) {
+        return joined("", "", "");
+    }
+    char *targets = strndup(written, (size_t)(end - written));
+    char *text = joined(targets == NULL ? "" : targets, behind, "");
+    free(targets);
+    return text;
+}
+
+/* The depfile of a run with a mount of its own: what it has read is in the directory that was
+ * loaded, and what it has written in the one that is saved to. */
+static char *depfile_of_own(const struct job *job) {
+    const char *from = job->run->from, *to = job->run->to;
+    char *written = depfile_below(job, to == NULL ? from : to);
+    char *read = written == NULL ? NULL : depfile_below(job, from == NULL ? to : from);
+    char *text = read == NULL ? NULL : depfile_of_both(written, read);
+    free(written);
+    free(read);
+    return text;
+}
+
+static char *depfile_of_mount(const struct job *job) {
+    char *top = top_of_mount(job);
+    char *text = depfile_below(job, top);
+    free(top);
+    if (text != NULL) {
+        make_relative(text);
+    }
+    return text;
+}
+
+bool make_texts(const struct job *job, struct texts *texts) {
+    const struct run *run = job->run;
+    bool is_own = run->from != NULL || run->to != NULL;
+    if (run->depfile != NULL) {
+        texts->depfile = is_own ? depfile_of_own(job) : depfile_of_mount(job);
+    }
+    if (run->manifest != NULL) {
+        texts->manifest = asked_for(job, "manifest", NULL);
+    }
+    return (run->depfile == NULL || texts->depfile != NULL)
+        && (run->manifest == NULL || texts->manifest != NULL);
+}
