@@ -217,7 +217,7 @@ SCALARS = {
     "char": "c_char",
     "void": "c_void",
 }
-CALLBACKS = ("nuz_copy_request", "nuz_copy_around")
+CALLBACKS = ("nuz_copy_request", "nuz_copy_around", "nuz_touched_each")
 INTEGERS = {"UINT32_MAX": "u32::MAX", "UINT64_MAX": "u64::MAX"}
 
 

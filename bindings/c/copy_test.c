@@ -31,14 +31,7 @@
 #include <sys/wait.h>
 #include <unistd.h>
 
-/* Ends a test, which has failed, where this does not hold. */
-#define CHECK(holds)                                                    \
-    do {                                                                \
-        if (!(holds)) {                                                 \
-            fprintf(stderr, "line %d: not so: %s\n", __LINE__, #holds); \
-            return false;                                               \
-        }                                                               \
-    } while (0)
+#include "testing.h"
 
 /* ---- functions of the system, before each of which something may happen */
 
@@ -910,11 +903,7 @@ static bool program_is_around_each_request(void) {
 
 /* ---- all of them */
 
-static const struct {
-    const char *name;
-    bool (*test)(void);
-} TESTS[] = {
-#define TEST(name) { #name, name }
+static const test TESTS[] = {
     TEST(copies_are_alike),
     TEST(place_in_the_tree_may_be_there),
     TEST(place_on_the_disk_may_be_empty_or_replaced),
@@ -942,24 +931,20 @@ static const struct {
     TEST(program_is_around_each_request),
 };
 
+/* Nothing goes wrong any more, and nothing is left of what has failed. */
+static void clean_up(bool is_good) {
+    before = NULL;
+    if (!is_good) {
+        removed(at("out"));
+        remove_left();
+    }
+}
+
 int main(int argc, char **argv) {
-    unsigned passed = 0, failed = 0;
     top = argc > 1 ? realpath(argv[1], NULL) : NULL;
     if (top == NULL) {
         fprintf(stderr, "usage: copy_test FOLDER\n");
         return EXIT_FAILURE;
     }
-    for (size_t i = 0; i < sizeof TESTS / sizeof *TESTS; i++) {
-        bool is_good = TESTS[i].test();
-        before = NULL;
-        if (!is_good) {
-            fprintf(stderr, "%s: FAILED\n", TESTS[i].name);
-            removed(at("out"));
-            remove_left();
-        }
-        passed += is_good;
-        failed += !is_good;
-    }
-    printf("%u passed, %u failed\n", passed, failed);
-    return failed == 0 ? EXIT_SUCCESS : EXIT_FAILURE;
+    return RUN_TESTS(TESTS, clean_up);
 }

@@ -7,17 +7,7 @@
  */
 #include <nuzolged.h>
 
-#include <stdio.h>
-#include <stdlib.h>
-
-/* Ends a test, which has failed, where this does not hold. */
-#define CHECK(holds)                                                       \
-    do {                                                                   \
-        if (!(holds)) {                                                    \
-            fprintf(stderr, "line %d: not so: %s\n", __LINE__, #holds);   \
-            return false;                                                  \
-        }                                                                  \
-    } while (0)
+#include "testing.h"
 
 /* The answer that a function fills in. */
 static nuz_answer last_answer;
@@ -165,16 +155,7 @@ static bool levels_by_the_thousand(void) {
 }
 
 int main(void) {
-    bool (*const tests[])(void) = { levels_by_the_thousand, calls_by_the_million,
-                                    file_of_3_gigabytes };
-    unsigned passed = 0, failed = 0;
-    for (size_t i = 0; i < sizeof tests / sizeof *tests; i++) {
-        if (tests[i]()) {
-            passed++;
-        } else {
-            failed++;
-        }
-    }
-    printf("%u passed, %u failed\n", passed, failed);
-    return failed == 0 ? EXIT_SUCCESS : EXIT_FAILURE;
+    const test tests[] = { TEST(levels_by_the_thousand), TEST(calls_by_the_million),
+                           TEST(file_of_3_gigabytes) };
+    return RUN_TESTS(tests, NULL);
 }

@@ -1,8 +1,9 @@
 /* nuzolged.h: a POSIX file tree in memory, under nested transactions.
  *
  * Link libnuzolged, static or shared: both have all that the library needs but memcpy, memmove,
- * memset, malloc, realloc and free of the C library. (nuz_strerror, of this header, has strerror,
- * and the functions of nuzolged_copy.h a POSIX system.)
+ * memset, malloc, realloc and free of the C library. (nuz_strerror, of this header, has strerror;
+ * the functions of nuzolged_touched.h and nuzolged_cycle.h have more of stdlib.h and string.h, and
+ * those of nuzolged_copy.h a POSIX system.)
  *
  * A function carries out one request, whole, or changes nothing. It returns the code of its answer,
  * 0 if all went well, and fills in the caller's nuz_answer, which has that code and the rest. The

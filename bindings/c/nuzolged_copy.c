@@ -14,6 +14,8 @@
 #include <time.h>
 #include <unistd.h>
 
+#include "text.h"
+
 /* How many bytes are read from the disk or the tree at once. */
 enum { PIECE = 1 << 20 };
 
@@ -36,32 +38,7 @@ static bool close_after(int fd) {
     return false;
 }
 
-/* ---- bytes that grow, with a null byte behind them */
-
-typedef struct text {
-    char *at;
-    size_t len, room;
-} text;
-
-/* Makes room for so many bytes in all. */
-static bool text_room(text *text, size_t room) {
-    char *at = realloc(text->at, room);
-    if (at != NULL) {
-        text->at = at;
-        text->room = room;
-    }
-    return at != NULL;
-}
-
-static bool text_add(text *text, const char *bytes, size_t len) {
-    if (text->room - text->len <= len && !text_room(text, 2 * (text->len + len) + 64)) {
-        return false;
-    }
-    memcpy(text->at + text->len, bytes, len);
-    text->len += len;
-    text->at[text->len] = '\0';
-    return true;
-}
+/* ---- texts */
 
 /* A copy of a string that grows no more, or NULL. */
 static char *text_alone(const char *bytes, size_t len) {

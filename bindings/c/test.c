@@ -20,46 +20,11 @@
 #include <sys/mman.h>
 #include <sys/resource.h>
 
-/* Ends a test, which has failed, where this does not hold. */
-#define CHECK(holds)                                                       \
-    do {                                                                   \
-        if (!(holds)) {                                                    \
-            fprintf(stderr, "line %d: not so: %s\n", __LINE__, #holds);   \
-            return false;                                                  \
-        }                                                                  \
-    } while (0)
+#include "scarce.h"
+#include "testing.h"
 
 static uint64_t most_trees = 100000;
 static bool is_short;
-
-/* ---- memory that runs out */
-
-/* How many allocations succeed before one fails; with -1 all do. */
-static long allocations_left = -1;
-
-void *__real_malloc(size_t size);
-void *__real_realloc(void *old, size_t size);
-void *__wrap_malloc(size_t size);
-void *__wrap_realloc(void *old, size_t size);
-
-static bool runs_out(void) {
-    if (allocations_left < 0) {
-        return false;
-    }
-    if (allocations_left == 0) {
-        return true;
-    }
-    allocations_left--;
-    return false;
-}
-
-void *__wrap_malloc(size_t size) {
-    return runs_out() ? NULL : __real_malloc(size);
-}
-
-void *__wrap_realloc(void *old, size_t size) {
-    return runs_out() ? NULL : __real_realloc(old, size);
-}
 
 /* ---- what the tests begin with */
 
@@ -1607,11 +1572,7 @@ static bool request_is_made_again_after_want_of_memory(void) {
 
 /* ---- all of them */
 
-static const struct {
-    const char *name;
-    bool (*test)(void);
-} TESTS[] = {
-#define TEST(name) { #name, name }
+static const test TESTS[] = {
     TEST(no_tree_is_closed),
     TEST(version_is_that_of_the_header),
     TEST(seed_changes_no_answer),
@@ -1684,19 +1645,9 @@ static const struct {
 };
 
 int main(int argc, char **argv) {
-    unsigned passed = 0, failed = 0;
     if (argc > 1) {
         most_trees = strtoull(argv[1], NULL, 10);
         is_short = true;
     }
-    for (size_t i = 0; i < sizeof TESTS / sizeof *TESTS; i++) {
-        if (TESTS[i].test()) {
-            passed++;
-        } else {
-            fprintf(stderr, "%s: FAILED\n", TESTS[i].name);
-            failed++;
-        }
-    }
-    printf("%u passed, %u failed\n", passed, failed);
-    return failed == 0 ? EXIT_SUCCESS : EXIT_FAILURE;
+    return RUN_TESTS(TESTS, NULL);
 }

@@ -20,7 +20,7 @@ A path is absolute or not, which is the same here: there is no working directory
 symbolic link with a relative target leads on from its own directory.
 """
 from ._disk import copy_in, copy_out
-from ._errors import Deadlock, Error, Refused, Waits
+from ._errors import AnyPath, Deadlock, Error, Refused, Waits
 from ._file import RawFile
 from ._limits import Limits
 from ._path import Path
@@ -32,6 +32,7 @@ from ._tree import Tree
 __version__ = "0.1.0"
 
 __all__ = [
+    "AnyPath",
     "Deadlock",
     "Entry",
     "Error",

@@ -13,7 +13,7 @@ import os
 from typing import Callable, Union
 
 from . import _library
-from ._errors import AnyPath, Waits, error_of
+from ._errors import AnyPath, Waits, disk_path, error_of
 from ._transaction import Transaction
 from ._tree import Tree
 
@@ -88,7 +88,7 @@ def copy_in(
             is larger than the tree allows, or what the disk says. The filename is that of the disk.
     """
     _Copy(transaction).make(
-        _copy_in, _disk_path(disk), *_tree_path(path), flags=SET_ID if set_id else 0
+        _copy_in, disk_path(disk), *_tree_path(path), flags=SET_ID if set_id else 0
     )
 
 
@@ -126,18 +126,10 @@ def copy_out(
         OSError: What the disk says, as ENOTEMPTY where the directory is there.
     """
     flags = (SET_ID if set_id else 0) | (REPLACE if replace else 0) | (SYNC if sync else 0)
-    place = os.path.abspath(_disk_path(disk))
+    place = os.path.abspath(disk_path(disk))
     with contextlib.ExitStack() as stack:
         transaction = stack.enter_context(source.begin()) if isinstance(source, Tree) else source
         _Copy(transaction).make(_copy_out, *_tree_path(path), place, flags=flags)
-
-
-def _disk_path(disk: AnyPath) -> bytes:
-    """A path of the disk, which C ends at a null byte."""
-    path = os.fsencode(disk)
-    if b"\0" in path:
-        raise ValueError("embedded null byte")
-    return path
 
 
 def _tree_path(path: AnyPath) -> tuple[bytes, int]:

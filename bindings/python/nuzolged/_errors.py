@@ -61,6 +61,14 @@ def _named(paths: Sequence[AnyPath]) -> tuple[object, ...]:
     return (paths[0], None, *paths[1:]) if len(paths) == 2 else tuple(paths)
 
 
+def disk_path(disk: AnyPath) -> bytes:
+    """A path of the disk, which C ends at a null byte."""
+    path = os.fsencode(disk)
+    if b"\0" in path:
+        raise ValueError("embedded null byte")
+    return path
+
+
 def os_error(code: int, *paths: AnyPath) -> OSError:
     """The exception of an errno, about these paths."""
     return OSError(code, os.strerror(code), *_named(paths))

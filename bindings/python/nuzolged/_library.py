@@ -1,4 +1,5 @@
-"""The functions of nuzolged.h, which says what each takes and answers."""
+"""The functions of nuzolged.h and of what stands over it, whose headers say what each takes and
+answers."""
 from __future__ import annotations
 
 import ctypes
@@ -149,10 +150,11 @@ _FUNCTIONS: dict[str, tuple[type, ...]] = {
     "nuz_utime": (c_uint64, *_BYTES, *_TIME),
     "nuz_lutime": (c_uint64, *_BYTES, *_TIME),
     "nuz_futime": (c_uint64, c_uint64, *_TIME),
-    "nuz_cycle": _NUMBERS,
+    "nuz_cycle_of": (c_uint64, *_NUMBERS),
     "nuz_blocker": (c_size_t,),
     "nuz_bytes": _BUFFER,
-    "nuz_locks": (c_uint64, *_BUFFER),
+    "nuz_manifest": (c_uint64, *_BUFFER),
+    "nuz_depfile": (c_uint64, c_char_p, c_char_p, *_BUFFER),
     "nuz_request": (*_BYTES, *_BUFFER),
     "nuz_reply": _BUFFER,
 }

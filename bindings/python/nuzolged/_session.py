@@ -186,20 +186,12 @@ class Session:
             self._library.nuz_cancel(number)
             raise
 
-    def _cycle(self, number: object) -> list[int]:
-        """The transactions of a cycle of waits that begins with this one; none where there is
-        none, or no memory to tell."""
-        members = self._members()
-        if number not in members:
-            return []
-        place = members.index(number)
-        return members[place:] + members[:place]
-
-    def _members(self, room: int = _CYCLE_ROOM) -> list[int]:
-        """The transactions of a cycle of waits, if there is one."""
+    def _cycle(self, number: object, room: int = _CYCLE_ROOM) -> list[int]:
+        """The transactions of a cycle of waits that begins with this one; none if it is part of
+        none, or there is no memory to tell."""
         txns = (ctypes.c_uint64 * room)()
-        count: int = self._library.nuz_cycle(txns, room).number
-        return txns[:count] if count <= room else self._members(count)
+        count: int = self._library.nuz_cycle_of(number, txns, room).number
+        return txns[:count] if count <= room else self._cycle(number, count)
 
     def line(self, words: bytes) -> Answer:
         """Carries out a line of a script."""
@@ -245,21 +237,6 @@ class Session:
         if told.code == MEMORY:
             raise MemoryError
         return text.raw[: told.size] if told.size <= room else self._text(told.size)
-
-    def locks_and_tree(self, number: int) -> tuple[bytes, bytes]:
-        """The locks of a transaction, and the report `tree`, of one moment."""
-        with self.lock:
-            answer = self.line(b"tree")
-            if answer.code:
-                raise error_of(answer.code)
-            return self._locks(number), answer.text
-
-    def _locks(self, number: int, room: int = NAMES_ROOM) -> bytes:
-        text = ctypes.create_string_buffer(room)
-        told = self._library.nuz_locks(number, text, room)
-        if told.code:
-            raise error_of(told.code)
-        return text.raw[: told.size] if told.size <= room else self._locks(number, told.size)
 
     def put_off(self, late: Late, may_be_now: bool) -> None:
         """Makes what a finalizer asks for: at once, unless it came amid a request, or before the

@@ -1,13 +1,17 @@
-"""What a transaction has touched, put together from its locks and the names of the tree."""
+"""What a transaction has touched, by the functions of nuzolged_touched.h."""
 from __future__ import annotations
 
+import ctypes
 import os
-from dataclasses import dataclass, field
-from typing import Iterator
+from dataclasses import dataclass
+from typing import Optional
 from urllib.parse import unquote_to_bytes
 
-#: The number of the root.
-_ROOT = 1
+from ._errors import AnyPath, disk_path
+from ._session import Session
+
+#: How many bytes a text is asked for with at first.
+_ROOM = 1 << 16
 
 
 @dataclass
@@ -21,69 +25,43 @@ class Touched:
     listed: bool = False
     #: Whether it has made, changed, renamed or removed what is there.
     written: bool = False
-
-
-@dataclass
-class Names:
-    """The names of a tree."""
-
-    #: Each name of a directory, a file or a link: the number of the directory that it is in, and
-    #: the name.
-    edges: dict[int, list[tuple[int, bytes]]] = field(default_factory=dict)
+    #: Whether it has looked for what is there in vain, and has not removed it.
+    absent: bool = False
+    #: What is there now: "dir", "file", "link" or "none".
+    kind: str = "none"
 
     @classmethod
-    def of(cls, report: bytes) -> Names:
-        """Those of the report `tree`."""
-        names = cls()
-        for words in map(bytes.split, report.splitlines()):
-            if words[0] == b"edge":
-                edge = (int(words[1]), unquote_to_bytes(words[2]))
-                names.edges.setdefault(int(words[3]), []).append(edge)
-        return names
-
-    def paths(self, number: int) -> Iterator[bytes]:
-        """All paths of a directory, a file or a link; none of one that has no name."""
-        if number == _ROOT:
-            yield b"/"
-        for folder, name in self.edges.get(number, []):
-            yield from self.below(folder, name)
-
-    def below(self, folder: int, name: bytes) -> Iterator[bytes]:
-        """The path of a name in a directory, if that has one."""
-        names = [name]
-        while folder != _ROOT:
-            if folder not in self.edges:
-                return
-            folder, above = self.edges[folder][0]
-            names.append(above)
-        yield b"/" + b"/".join(reversed(names))
+    def of(cls, how: str, kind: str) -> Touched:
+        """What a line of a manifest tells."""
+        words = how.split(",")
+        is_absent = "absent" in words
+        is_read = is_absent or "read" in words
+        return cls(is_read, "listed" in words, "written" in words, is_absent, kind)
 
 
-def touched(locks: bytes, tree: bytes) -> dict[str, Touched]:
-    """The paths of the locks of a transaction, in the order of their bytes."""
-    names = Names.of(tree)
-    told: dict[bytes, Touched] = {}
-    for words in map(bytes.split, locks.splitlines()):
-        if words[0] == b"lock":
-            for path in _paths(names, words[1:]):
-                _note(told.setdefault(path, Touched()), words[1], words[-3])
-    return {os.fsdecode(path): told[path] for path in sorted(told)}
+def touched(session: Session, number: int) -> dict[str, Touched]:
+    """The paths that a transaction has touched."""
+    lines = (line.split(" ") for line in manifest(session, number).splitlines())
+    return {os.fsdecode(unquote_to_bytes(path)): Touched.of(how, kind) for path, how, kind in lines}
 
 
-def _paths(names: Names, words: list[bytes]) -> Iterator[bytes]:
-    """The paths that a lock is about. Those of parents, counts of links and descriptors are about
-    none that others do not tell."""
-    if words[0] == b"entry":
-        yield from names.below(int(words[1]), unquote_to_bytes(words[2]))
-    elif words[0] in (b"names", b"bytes", b"attributes"):
-        yield from names.paths(int(words[1]))
+def manifest(session: Session, number: int) -> str:
+    """The same as a text."""
+    return _text(session, "nuz_manifest", number).decode("ascii")
 
 
-def _note(how: Touched, part: bytes, mode: bytes) -> None:
-    """Takes note of a lock."""
-    if mode == b"write":
-        how.written = True
-    elif part == b"names":
-        how.listed = True
-    else:
-        how.read = True
+def depfile(session: Session, number: int, target: Optional[AnyPath], top: AnyPath) -> bytes:
+    """The same in the form that make and Ninja read."""
+    targets = None if target is None else disk_path(target)
+    try:
+        return _text(session, "nuz_depfile", number, targets, disk_path(top))
+    except ValueError as error:
+        if not session.is_open:
+            raise
+        raise ValueError("make or Ninja would take a name for another one") from error
+
+
+def _text(session: Session, function: str, *args: object, room: int = _ROOM) -> bytes:
+    text = ctypes.create_string_buffer(room)
+    size = session.ask((function, (*args, text, room))).size
+    return text.raw[:size] if size <= room else _text(session, function, *args, room=size)

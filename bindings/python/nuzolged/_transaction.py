@@ -7,10 +7,10 @@ import weakref
 from types import TracebackType
 from typing import TYPE_CHECKING
 
-from ._errors import Refused
+from ._errors import AnyPath, Refused
 from ._library import Answer
 from ._session import Late, Request
-from ._touched import Touched, touched
+from ._touched import Touched, depfile, manifest, touched
 from ._whole import Whole
 
 if TYPE_CHECKING:
@@ -139,10 +139,31 @@ class Transaction(Whole):
         """What it has touched so far, with what has come up to it from steps that have committed,
         by its locks: each path that it has looked up, in vain too, read, listed or written, in the
         order of their bytes. A name that has been renamed or removed since is told where it was,
-        in a directory that is still there. It takes time and memory for the whole tree."""
-        return touched(*self.session.locks_and_tree(self.number))
+        if its directory is still there. It takes time and memory for the whole tree."""
+        return touched(self.session, self.number)
 
-    def forget(self) -> None:
+    def manifest(self) -> str:
+        """What it has touched, as a text: a line `PATH HOW KIND` for each path, in the order of
+        their bytes. PATH is percent-coded, HOW has the words read or absent, listed and written
+        that apply, with a comma between two, and KIND is dir, file, link or none."""
+        return manifest(self.session, self.number)
+
+    def depfile(self, target: AnyPath | None = None, top: AnyPath = "") -> bytes:
+        """What it has touched, in the form that make and Ninja read: a target with what it depends
+        on, which is each file that it has read and each directory that it has listed, if that is
+        still there and it has not written it. Symbolic links and what it has looked for in vain are
+        left out: a manifest tells them.
+
+        Args:
+            target: The target; if there is none, each file and symbolic link that it has written.
+            top: What stands before each path of the tree, as the directory that was copied in.
+
+        Raises:
+            ValueError: A name has no form that both make and Ninja read, as one with a line feed.
+        """
+        return depfile(self.session, self.number, target, top)
+
+    def cancel_wait(self) -> None:
         """Forgets the call that it waits for, so that no report tells of it.
 
         Raises:

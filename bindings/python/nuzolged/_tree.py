@@ -25,7 +25,7 @@ class Tree:
             as long as it has to. Then it is forgotten. A call that would wait for ever is told so
             at once, by `Deadlock`. With 0 it does not wait, unless its transaction says otherwise:
             `Waits` is raised at once, and the call is kept, so that reports tell of it, until the
-            transaction makes another or forgets it.
+            transaction makes another, or cancels it by `cancel_wait`.
     """
 
     def __init__(

@@ -31,7 +31,10 @@ class WhatWasTouched(TreeTest):
             self.touched(),
             {"/d": "read", "/d/e": "read listed", "/d/f": "read", "/d/none": "read"},
         )
-        self.assertEqual(self.job.touched()["/d/none"], Touched(read=True))
+        told = self.job.touched()
+        self.assertEqual(told["/d/none"], Touched(read=True, absent=True))
+        self.assertEqual([told[path].kind for path in ("/d", "/d/f", "/d/none")],
+                         ["dir", "file", "none"])
 
     def test_writes(self):
         self.job.write_bytes("/d/g h", b"other")
@@ -63,3 +66,41 @@ class WhatWasTouched(TreeTest):
         self.job.mkdir("/a")
         self.job.commit()
         self.assertEqual(self.job.touched(), {})
+
+    def test_manifest(self):
+        self.job.stat("/d/f")
+        self.job.symlink("f", "/d/l n")
+        self.job.listdir("/d")
+        self.assertFalse(self.job.exists("/none"))
+        self.assertEqual(
+            self.job.manifest(),
+            "/d read,listed dir\n/d/f read file\n/d/l%20n written link\n/none absent none\n",
+        )
+        with self.tree.begin() as job:
+            self.assertEqual(job.manifest(), "")
+
+    def test_long_manifest(self):
+        names = [f"/{number:0200}" for number in range(500)]
+        for name in names:
+            self.assertFalse(self.job.exists(name))
+        lines = self.job.manifest().splitlines()
+        self.assertEqual(lines, [f"{name} absent none" for name in names])
+
+    def test_depfile(self):
+        self.job.read_bytes("/d/g h")
+        self.job.listdir("/d")
+        self.job.write_bytes("/out", b"made")
+        self.assertEqual(self.job.depfile("a.o"), b"a.o: \\\n  /d \\\n  /d/g\\ h\n")
+        self.assertEqual(self.job.depfile(top="/t"), b"/t/out: \\\n  /t/d \\\n  /t/d/g\\ h\n")
+        self.job.symlink("/none", "/l")
+        self.assertIn(b"/l /out: ", self.job.depfile())
+
+    def test_name_without_a_form(self):
+        for target in ("a\nb", "a=b", ""):
+            with self.assertRaisesRegex(ValueError, "make or Ninja"):
+                self.job.depfile(target)
+        with self.assertRaisesRegex(ValueError, "null byte"):
+            self.job.depfile("a\0b")
+        self.tree.close()
+        with self.assertRaisesRegex(ValueError, "closed"):
+            self.job.depfile("a")

@@ -1,5 +1,8 @@
 """Trees, transactions and their calls on paths."""
 import errno
+import os
+import subprocess
+import sys
 import unittest
 from pathlib import Path
 
@@ -63,7 +66,7 @@ class Transactions(TreeTest):
 
     def test_refusals(self):
         with self.assertRaises(Refused) as refused:
-            self.job.forget()
+            self.job.cancel_wait()
         self.assertEqual(refused.exception.name, "NoAsk")
         self.assertEqual(str(refused.exception), "the transaction waits for no call (NoAsk)")
         self.assertIsInstance(refused.exception, Error)
@@ -270,6 +273,12 @@ class Trees(unittest.TestCase):
     def test_trees_that_are_none(self):
         with self.assertRaises(TypeError):
             Tree(True)
+
+    def test_library_that_is_missing_is_told(self):
+        place = {**os.environ, "NUZOLGED_LIBRARY": "/none/libnuzolged.so.1"}
+        command = [sys.executable, "-c", "import nuzolged"]
+        ran = subprocess.run(command, env=place, capture_output=True, text=True)
+        self.assertRegex(ran.stderr, "ImportError: there is no .*NUZOLGED_LIBRARY")
 
     def test_abort_by_number(self):
         with Tree() as tree:

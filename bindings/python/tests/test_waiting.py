@@ -57,7 +57,7 @@ class AtOnce(WaitingTest):
         self.assertNotIsInstance(error, BlockingIOError)
         self.assertEqual(error.blockers, [first.number, second.number])
         self.assertEqual((error.errno, error.filename), (errno.EAGAIN, "/"))
-        third.forget()
+        third.cancel_wait()
         first.commit()
         second.abort()
         self.assertEqual(third.listdir("/"), ["a", "f"])
@@ -162,6 +162,45 @@ class ForATime(WaitingTest):
         second.abort()
         self.assertIsInstance(end(), FileNotFoundError)
         first.commit()
+
+    def with_a_deadlock(self):
+        """A tree in which transactions 2 and 3 wait for each other for ever, by lines that nobody
+        takes back. (A call of a transaction is forgotten when it is told of a deadlock.)"""
+        tree = self.shared(60)
+        for line in ("begin", "begin", "2 mkdir /2", "3 mkdir /3", "2 list /3", "3 list /2"):
+            tree.request(line)
+        return tree
+
+    def test_deadlock_is_told_beside_another_one(self):
+        tree = self.with_a_deadlock()
+        first, second = tree.begin(), tree.begin()
+        first.mkdir("/a")
+        second.mkdir("/b")
+        end = self.beside(lambda: first.stat("/b").is_dir)
+        edges = "edge 2 3 lock\nedge 3 2 lock\nedge 4 5 lock\n"
+        self.wait_for(tree, f"edges 3\n{edges}cycle 2 3\n")
+        begun = time.monotonic()
+        with self.assertRaises(Deadlock) as told:
+            second.stat("/a")
+        self.assertLess(time.monotonic() - begun, 30)
+        self.assertEqual((told.exception.cycle, told.exception.blockers), ([5, 4], [4]))
+        second.commit()
+        self.assertIs(end(), True)
+        first.commit()
+
+    def test_who_waits_behind_a_deadlock_is_told_of_none(self):
+        tree = self.with_a_deadlock()
+        third, fourth = tree.begin(timeout=0.05), tree.begin()
+        with self.assertRaises(Waits) as told:
+            third.stat("/2")
+        self.assertNotIsInstance(told.exception, Deadlock)
+        end = self.beside(lambda: fourth.stat("/2"))
+        edges = "edge 2 3 lock\nedge 3 2 lock\nedge 5 2 lock\n"
+        self.wait_for(tree, f"edges 3\n{edges}cycle 2 3\n")
+        tree.abort(2)
+        self.assertIsInstance(end(), FileNotFoundError)
+        third.abort()
+        fourth.abort()
 
     def test_job_and_step_alone_are_a_deadlock_under_moss(self):
         with Tree(moss=True, timeout=None) as tree:

@@ -203,6 +203,6 @@ fn error_of(code: u32, failure: &raw::nuz_copy_failure) -> Error {
 }
 
 /// A path of the disk.
-fn c_path(path: &Path) -> Result<CString> {
+pub(crate) fn c_path(path: &Path) -> Result<CString> {
     CString::new(path.as_os_str().as_bytes()).map_err(|_| Error::Invalid)
 }

@@ -1,4 +1,5 @@
-//! The functions of nuzolged.h, which says what each takes and answers.
+//! The functions of nuzolged.h and of what stands over it, whose headers say what each takes and
+//! answers.
 //!
 //! What the header has its caller owe is seen to by types: a handle has a tree of its own, whoever
 //! calls has it alone (`&mut`), a slice is a pointer with its length, and a buffer is borrowed by
@@ -6,15 +7,20 @@
 
 use nuzolged_sys as raw;
 use std::collections::hash_map::RandomState;
+use std::ffi::CStr;
 use std::hash::{BuildHasher, Hasher};
+use std::os::raw::c_void;
 use std::ptr::{self, NonNull};
+use std::slice;
 
 pub use raw::{
     nuz_answer as Answer, nuz_limits as Limits, NUZ_BAD as BAD, NUZ_DIR as DIR, NUZ_END as END,
     NUZ_LIMITS_GREATEST as GREATEST, NUZ_LINK as LINK, NUZ_MEMORY as MEMORY,
     NUZ_O_APPEND as APPEND, NUZ_O_CREAT as CREATE, NUZ_O_EXCL as EXCL, NUZ_O_RDONLY as READ_ONLY,
     NUZ_O_RDWR as READ_WRITE, NUZ_O_TRUNC as TRUNC, NUZ_O_WRONLY as WRITE_ONLY,
-    NUZ_STAYS as STAYS, NUZ_WAITS as WAITS,
+    NUZ_STAYS as STAYS, NUZ_TOUCHED_ABSENT as TOUCHED_ABSENT,
+    NUZ_TOUCHED_LISTED as TOUCHED_LISTED, NUZ_TOUCHED_READ as TOUCHED_READ,
+    NUZ_TOUCHED_WRITTEN as TOUCHED_WRITTEN, NUZ_WAITS as WAITS,
 };
 
 /// A handle: the tree that it owns. It is closed where it is dropped.
@@ -51,6 +57,32 @@ impl Handle {
     }
 }
 
+impl Handle {
+    /// Tells each path that a transaction has touched, with how, and the kind of what is there.
+    pub fn touched<F: FnMut(&[u8], u32, u32)>(&mut self, txn: u64, mut each: F) -> Answer {
+        let mut answer = Answer::default();
+        let context = (&mut each as *mut F).cast();
+        // SAFETY: see the head of this module. (What is called back has the closure alone.)
+        unsafe { raw::nuz_touched(self.at.as_ptr(), txn, tell::<F>, context, &mut answer) };
+        answer
+    }
+}
+
+/// Tells one path.
+///
+/// # Safety
+///
+/// `context` is a closure of this type, and `touch` is of the library.
+unsafe extern "C" fn tell<F: FnMut(&[u8], u32, u32)>(
+    context: *mut c_void,
+    touch: *const raw::nuz_touch,
+) -> u32 {
+    let (each, touch) = (&mut *context.cast::<F>(), &*touch);
+    let path = slice::from_raw_parts(touch.path.cast(), touch.len);
+    each(path, touch.how, touch.kind);
+    0
+}
+
 impl Drop for Handle {
     fn drop(&mut self) {
         // SAFETY: see the head of this module. Nobody has the tree behind this.
@@ -78,7 +110,7 @@ functions! {
     sub(txn: u64) = nuz_begin_sub(txn);
     commit(txn: u64) = nuz_commit(txn);
     abort(txn: u64) = nuz_abort(txn);
-    forget(txn: u64) = nuz_cancel(txn);
+    cancel(txn: u64) = nuz_cancel(txn);
     checkpoint() = nuz_checkpoint();
 
     mkdir(txn: u64, path: &[u8], mode: Option<u32>) =
@@ -150,9 +182,13 @@ functions! {
 
     blocker(index: usize) = nuz_blocker(index);
     bytes(buffer: &mut [u8]) = nuz_bytes(buffer.as_mut_ptr().cast(), buffer.len());
-    locks(txn: u64, buffer: &mut [u8]) =
-        nuz_locks(txn, buffer.as_mut_ptr().cast(), buffer.len());
-    cycle(txns: &mut [u64]) = nuz_cycle(txns.as_mut_ptr(), txns.len());
+    manifest(txn: u64, buffer: &mut [u8]) =
+        nuz_manifest(txn, buffer.as_mut_ptr().cast(), buffer.len());
+    depfile(txn: u64, target: Option<&CStr>, top: &CStr, buffer: &mut [u8]) =
+        nuz_depfile(txn, target.map_or(ptr::null(), CStr::as_ptr), top.as_ptr(),
+                    buffer.as_mut_ptr().cast(), buffer.len());
+    cycle_of(txn: u64, txns: &mut [u64]) =
+        nuz_cycle_of(txn, txns.as_mut_ptr(), txns.len());
     request(line: &[u8], buffer: &mut [u8]) =
         nuz_request(line.as_ptr().cast(), line.len(), buffer.as_mut_ptr().cast(),
                     buffer.len());

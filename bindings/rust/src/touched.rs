@@ -1,13 +1,14 @@
-//! What a transaction has touched, put together from its locks and the names of the tree.
+//! What a transaction has touched.
 
+use crate::disk::c_path;
 use crate::error::{Error, Result};
-use crate::sys::Handle;
-use crate::transaction::Transaction;
-use crate::tree::{answered, reply_to, Reach};
-use std::collections::{BTreeMap, HashMap};
-use std::ffi::OsString;
-use std::os::unix::ffi::OsStringExt;
-use std::path::PathBuf;
+use crate::sys::{self, Answer, Handle};
+use crate::transaction::{Kind, Transaction};
+use crate::tree::{answered, Reach};
+use std::collections::BTreeMap;
+use std::ffi::OsStr;
+use std::os::unix::ffi::OsStrExt;
+use std::path::{Path, PathBuf};
 
 /// How a transaction has touched a path.
 #[derive(Clone, Copy, Debug, Default, PartialEq, Eq)]
@@ -20,12 +21,28 @@ pub struct Touched {
     pub listed: bool,
     /// Whether it has made, changed, renamed or removed what is there.
     pub written: bool,
+    /// Whether it has looked for what is there in vain, and has not removed it.
+    pub absent: bool,
+    /// What is there now, if anything is.
+    pub kind: Option<Kind>,
+}
+
+impl Touched {
+    fn of(how: u32, kind: u32) -> Touched {
+        Touched {
+            read: how & sys::TOUCHED_READ != 0,
+            listed: how & sys::TOUCHED_LISTED != 0,
+            written: how & sys::TOUCHED_WRITTEN != 0,
+            absent: how & sys::TOUCHED_ABSENT != 0,
+            kind: (kind != 0).then(|| Kind::numbered(kind)),
+        }
+    }
 }
 
 impl<R: Reach> Transaction<R> {
     /// What it has touched so far, with what has come up to it from steps that have committed, by
     /// its locks: each path that it has looked up, in vain too, read, listed or written. A name that
-    /// has been renamed or removed since is told where it was, in a directory that is still there.
+    /// has been renamed or removed since is told where it was, if its directory is still there.
     /// It takes time and memory for the whole tree.
     ///
     /// ```
@@ -47,109 +64,85 @@ impl<R: Reach> Transaction<R> {
     ///
     /// Refused as `Memory`.
     pub fn touched(&self) -> Result<BTreeMap<PathBuf, Touched>> {
-        let (locks, tree) = self.reports(|handle, txn| {
-            let tree = reply_to(handle, "tree")?;
-            Ok((locks_of(handle, txn)?, tree))
-        })?;
-        let names = Names::of(&tree);
-        let mut told = BTreeMap::<PathBuf, Touched>::new();
-        for words in locks.lines().filter_map(|line| line.strip_prefix("lock ")) {
-            let words: Vec<&str> = words.split(' ').collect();
-            for path in names.of_lock(&words) {
-                note(told.entry(path).or_default(), &words);
-            }
-        }
+        let mut told = BTreeMap::new();
+        let note = |path: &[u8], how, kind| {
+            told.insert(OsStr::from_bytes(path).into(), Touched::of(how, kind));
+        };
+        self.reports(|handle, txn| answered(handle, |handle| handle.touched(txn, note)))?;
         Ok(told)
     }
-}
 
-/// The text of the locks of a transaction.
-fn locks_of(handle: &mut Handle, txn: u64) -> Result<String> {
-    let mut text = vec![0; 4096];
-    let mut size = answered(handle, |handle| handle.locks(txn, &mut text))?.size as usize;
-    if size > text.len() {
-        text.resize(size, 0);
-        size = answered(handle, |handle| handle.locks(txn, &mut text))?.size as usize;
+    /// The same as a text, of a line `PATH HOW KIND` for each path, in the order of their bytes.
+    /// PATH is percent-coded, HOW has the words `read` or `absent`, `listed` and `written` that
+    /// apply, with a comma between two, and KIND is `dir`, `file`, `link` or `none`.
+    ///
+    /// ```
+    /// # use nuzolged::{Result, Tree};
+    /// # fn main() -> Result<()> {
+    /// # let tree = Tree::new()?;
+    /// let job = tree.begin()?;
+    /// job.write("/a", "")?;
+    /// let step = job.begin()?;
+    /// step.rename("/a", "/b")?;
+    /// assert!(step.metadata("/c d").is_err());
+    /// let manifest = step.manifest()?;
+    /// assert_eq!(manifest, "/a written none\n/b written file\n/c%20d absent none\n");
+    /// # Ok(())
+    /// # }
+    /// ```
+    ///
+    /// # Errors
+    ///
+    /// Refused as `Memory`.
+    pub fn manifest(&self) -> Result<String> {
+        let text = self.text(|handle, txn, text| handle.manifest(txn, text))?;
+        String::from_utf8(text).map_err(|_| Error::NotUtf8)
     }
-    text.truncate(size);
-    String::from_utf8(text).map_err(|_| Error::Invalid)
-}
 
-/// The number of the root.
-const ROOT: &str = "1";
+    /// The same in the form that make and Ninja read: a target with what it depends on, which is
+    /// each file that this has read and each directory that it has listed, if that is still there
+    /// and this has not written it. Symbolic links and what it has looked for in vain are left out:
+    /// a manifest tells them.
+    ///
+    /// Without a target, each file and symbolic link that it has written is one. `top` is what
+    /// stands before each path of the tree, as the directory of the disk that was copied in.
+    ///
+    /// ```
+    /// # use nuzolged::{Result, Tree};
+    /// # fn main() -> Result<()> {
+    /// # let tree = Tree::new()?;
+    /// let job = tree.begin()?;
+    /// job.write("/a b.c", "int a;")?;
+    /// let step = job.begin()?;
+    /// step.read("/a b.c")?;
+    /// assert_eq!(step.depfile(Some("a.o".as_ref()), "/src")?, b"a.o: \\\n  /src/a\\ b.c\n");
+    /// # Ok(())
+    /// # }
+    /// ```
+    ///
+    /// # Errors
+    ///
+    /// `Invalid` if a name has no form that both make and Ninja read, as one with a line feed.
+    /// Refused as `Memory`.
+    pub fn depfile(&self, target: Option<&Path>, top: impl AsRef<Path>) -> Result<Vec<u8>> {
+        let (target, top) = (target.map(c_path).transpose()?, c_path(top.as_ref())?);
+        self.text(|handle, txn, text| handle.depfile(txn, target.as_deref(), &top, text))
+    }
 
-/// The names of a tree: those of each directory, file or link, by the number that it has in the
-/// reports, with the number of the directory that each is in.
-struct Names<'t>(HashMap<&'t str, Vec<(&'t str, &'t str)>>);
-
-impl<'t> Names<'t> {
-    /// Those of the report `tree`.
-    fn of(report: &'t str) -> Names<'t> {
-        let mut names = HashMap::<_, Vec<_>>::new();
-        for line in report.lines() {
-            let words: Vec<&str> = line.split(' ').collect();
-            if let ["edge", folder, name, number] = words[..] {
-                names.entry(number).or_default().push((folder, name));
-            }
+    /// A text, of which is told how many bytes it has, and as many are copied as have room.
+    fn text(&self, ask: impl Fn(&mut Handle, u64, &mut [u8]) -> Answer) -> Result<Vec<u8>> {
+        let mut text = vec![0; 1 << 16];
+        let ask_with = |text: &mut Vec<u8>| -> Result<usize> {
+            let told =
+                self.reports(|handle, txn| answered(handle, |handle| ask(handle, txn, text)));
+            Ok(told?.size as usize)
+        };
+        let mut size = ask_with(&mut text)?;
+        while size > text.len() {
+            text.resize(size, 0);
+            size = ask_with(&mut text)?;
         }
-        Names(names)
+        text.truncate(size);
+        Ok(text)
     }
-
-    /// The paths that a lock is about. Those of parents, counts of links and descriptors are about
-    /// none that others do not tell.
-    fn of_lock(&self, words: &[&str]) -> Vec<PathBuf> {
-        match words {
-            ["entry", folder, name, ..] => self.below(folder, name).into_iter().collect(),
-            ["names" | "bytes" | "attributes", number, ..] => self.paths(number),
-            _ => Vec::new(),
-        }
-    }
-
-    /// All paths of a directory, a file or a link; none of one that has no name.
-    fn paths(&self, number: &str) -> Vec<PathBuf> {
-        if number == ROOT {
-            return vec![PathBuf::from("/")];
-        }
-        let names = self.0.get(number).into_iter().flatten();
-        names
-            .filter_map(|(folder, name)| self.below(folder, name))
-            .collect()
-    }
-
-    /// The path of a name in a directory, if that has one.
-    fn below(&self, folder: &str, name: &str) -> Option<PathBuf> {
-        let (mut folder, mut names) = (folder, vec![name]);
-        while folder != ROOT {
-            let (above, name) = *self.0.get(folder)?.first()?;
-            folder = above;
-            names.push(name);
-        }
-        let mut path = Vec::new();
-        for name in names.iter().rev() {
-            path.push(b'/');
-            path.extend(decoded(name));
-        }
-        Some(PathBuf::from(OsString::from_vec(path)))
-    }
-}
-
-/// Takes note of a lock.
-fn note(how: &mut Touched, words: &[&str]) {
-    match words {
-        [.., "write", _, _] => how.written = true,
-        ["names", ..] => how.listed = true,
-        _ => how.read = true,
-    }
-}
-
-/// The bytes of a name of a report, in which some stand as `%` and two digits.
-fn decoded(name: &str) -> Vec<u8> {
-    let mut parts = name.split('%');
-    let mut bytes = parts.next().unwrap_or_default().as_bytes().to_vec();
-    for part in parts {
-        let (digits, rest) = part.split_at(2);
-        bytes.extend(u8::from_str_radix(digits, 16));
-        bytes.extend(rest.as_bytes());
-    }
-    bytes
 }

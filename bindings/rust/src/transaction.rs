@@ -80,7 +80,7 @@ pub struct Entry {
 }
 
 impl Kind {
-    fn numbered(number: u32) -> Kind {
+    pub(crate) fn numbered(number: u32) -> Kind {
         match number {
             sys::DIR => Kind::Dir,
             sys::LINK => Kind::Symlink,
@@ -267,7 +267,7 @@ impl<R: Reach> Transaction<R> {
         let closed = self.tree.end(|handle| {
             let closed = answered(handle, |handle| handle.close_file(self.number, fd));
             if let Err(Error::Waits(_)) = closed {
-                handle.forget(self.number);
+                handle.cancel(self.number);
             }
             closed
         });
@@ -340,9 +340,9 @@ impl<R: Reach> Transaction<R> {
     /// # Errors
     ///
     /// Refused as `NoAsk` where it waits for none.
-    #[doc(alias = "cancel")]
-    pub fn forget(&self) -> Result<()> {
-        self.ask(Handle::forget)?;
+    #[doc(alias = "nuz_cancel")]
+    pub fn cancel_wait(&self) -> Result<()> {
+        self.ask(Handle::cancel)?;
         Ok(())
     }
 

@@ -17,7 +17,8 @@ const MOST_PAUSE: Duration = Duration::from_millis(50);
 pub enum Rule {
     /// Those of transactions that are neither the caller nor around it.
     #[default]
-    Profile,
+    #[doc(alias = "NUZ_RELAXED")]
+    Relaxed,
     /// Those of transactions around the caller too, where they hold them for calls of their own.
     Moss,
 }
@@ -30,7 +31,7 @@ pub struct Tree {
 }
 
 impl Tree {
-    /// A tree of the root alone, by [`Rule::Profile`], with the greatest limits.
+    /// A tree of the root alone, by [`Rule::Relaxed`], with the greatest limits.
     ///
     /// # Errors
     ///
@@ -267,7 +268,7 @@ impl sealed::Reach for Shared {
             let left = self.limit.saturating_sub(waited);
             let cycle = waits::cycle(&mut handle, txn);
             if left.is_zero() || cycle.is_some() {
-                handle.forget(txn);
+                handle.cancel(txn);
                 return cycle.map_or(answer, |cycle| Err(Error::Deadlock(cycle)));
             }
             handle = self.sleep(handle, left.min(MOST_PAUSE));

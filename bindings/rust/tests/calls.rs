@@ -191,8 +191,8 @@ fn those_in_the_way_are_told() -> Result<()> {
     let waits = third.read_dir("/").unwrap_err();
     assert_eq!(waits, Error::Waits(vec![first.number(), second.number()]));
     assert_eq!(io::Error::from(waits).kind(), ErrorKind::WouldBlock);
-    third.forget()?;
-    assert_eq!(third.forget(), Err(Error::Refused(Refusal::NoAsk)));
+    third.cancel_wait()?;
+    assert_eq!(third.cancel_wait(), Err(Error::Refused(Refusal::NoAsk)));
     first.commit()?;
     drop(second);
     assert_eq!(third.read_dir("/")?.len(), 1);

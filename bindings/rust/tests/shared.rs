@@ -116,6 +116,51 @@ fn cycle_is_told_at_once() -> Result<()> {
     Ok(())
 }
 
+/// A tree in which transactions 1 and 2 wait for each other for ever, by lines that nobody takes
+/// back. (A call of a transaction is forgotten when it is told of a deadlock.)
+fn with_a_deadlock() -> Result<Shared> {
+    let tree = shared(LONG)?;
+    for line in ["begin", "begin", "1 mkdir /1", "2 mkdir /2", "1 list /2", "2 list /1"] {
+        tree.request(line)?;
+    }
+    Ok(tree)
+}
+
+#[test]
+fn cycle_is_told_beside_another_one() -> Result<()> {
+    let (tree, begun) = (with_a_deadlock()?, Instant::now());
+    let (first, second) = (tree.begin()?, tree.begin()?);
+    first.create_dir("/a")?;
+    second.create_dir("/b")?;
+    let waiting = thread::spawn(move || first.metadata("/b").and_then(|_| first.commit()));
+    wait_for(
+        &tree,
+        "edges 3\nedge 1 2 lock\nedge 2 1 lock\nedge 3 4 lock\ncycle 1 2\n",
+    )?;
+    assert_eq!(second.metadata("/a"), Err(Error::Deadlock(vec![4, 3])));
+    second.commit()?;
+    assert_eq!(waiting.join().expect("it does not panic"), Ok(()));
+    assert!(begun.elapsed() < LONG);
+    Ok(())
+}
+
+#[test]
+fn who_waits_behind_a_cycle_is_told_of_none() -> Result<()> {
+    let tree = with_a_deadlock()?;
+    let third = tree.with_limit(SHORT).begin()?;
+    assert_eq!(third.metadata("/1"), Err(Error::Waits(vec![1])));
+    let fourth = tree.begin()?;
+    let waiting = thread::spawn(move || fourth.metadata("/1").err());
+    wait_for(
+        &tree,
+        "edges 3\nedge 1 2 lock\nedge 2 1 lock\nedge 4 1 lock\ncycle 1 2\n",
+    )?;
+    tree.abort(1)?;
+    let told = waiting.join().expect("it does not panic");
+    assert_eq!(told.map(|error| error.kind()), Some(ErrorKind::NotFound));
+    Ok(())
+}
+
 #[test]
 fn job_and_its_step_make_a_cycle_under_moss() -> Result<()> {
     let tree = Shared::new(Tree::with_rule(Rule::Moss)?, LONG);
@@ -310,7 +355,7 @@ fn commit_over_a_live_step_aborts() -> Result<()> {
 fn refusals_are_told() -> Result<()> {
     let tree = Shared::new(Tree::builder().depth(64).build()?, LONG);
     let mut jobs = vec![tree.begin()?];
-    assert_eq!(jobs[0].forget(), Err(Error::Refused(Refusal::NoAsk)));
+    assert_eq!(jobs[0].cancel_wait(), Err(Error::Refused(Refusal::NoAsk)));
     assert_eq!(tree.checkpoint(), Err(Error::Refused(Refusal::Live)));
     let refused = loop {
         match jobs[jobs.len() - 1].begin() {

@@ -1,4 +1,4 @@
-// Written by header.py from nuzolged.h and nuzolged_copy.h.
+// Written by header.py from nuzolged.h and nuzolged_copy.h and nuzolged_cycle.h and nuzolged_touched.h.
 #![allow(clippy::doc_lazy_continuation)]
 use std::os::raw::{c_char, c_void};
 /// The version of this header and of the library that comes with it, as text and as a number: a
@@ -189,6 +189,31 @@ pub struct nuz_copy_failure {
     /// and in the tree; of each as much as has room
     pub path: [c_char; NUZ_COPY_ROOM as usize],
 }
+/// looked up, in vain too, or its bytes, target or mode were read
+pub const NUZ_TOUCHED_READ: u32 = 1;
+/// the names in the directory were listed
+pub const NUZ_TOUCHED_LISTED: u32 = 2;
+/// made, changed, renamed or removed
+pub const NUZ_TOUCHED_WRITTEN: u32 = 4;
+/// beside `NUZ_TOUCHED_READ`: nothing is there, and was not removed
+pub const NUZ_TOUCHED_ABSENT: u32 = 8;
+/// A path that a transaction has touched.
+#[repr(C)]
+#[derive(Clone, Copy, Debug)]
+pub struct nuz_touch {
+    /// the path, with a null byte behind it
+    pub path: *const c_char,
+    /// how many bytes that has
+    pub len: usize,
+    /// those above, added up
+    pub how: u32,
+    /// what is there now: `NUZ_DIR`, `NUZ_FILE` or `NUZ_LINK`, or 0 if nothing is
+    pub kind: u32,
+}
+/// Is told one path, which stays until it returns. It answers 0 to go on; another number ends it,
+/// and is answered. It may use the tree.
+pub type nuz_touched_each =
+    unsafe extern "C" fn(context: *mut c_void, touch: *const nuz_touch) -> u32;
 extern "C" {
     /// The version of the library, as `NUZ_VERSION_NUMBER` is that of this header.
     pub fn nuz_version() -> u32;
@@ -733,5 +758,75 @@ extern "C" {
         disk: *const c_char,
         options: *const nuz_copy_options,
         failure: *mut nuz_copy_failure,
+    ) -> u32;
+    /// A deadlock that txn is part of, if there is one, whatever others there are: transactions each of
+    /// which waits for the next, and the last for the first, as `nuz_cycle` tells them, but txn comes
+    /// first. number is how many, and 0 exactly if txn is part of no deadlock, also if it only waits for
+    /// transactions that are. Of several it is one of the shortest. As many numbers as have room are
+    /// copied. Answers 0 or `NUZ_MEMORY`.
+    ///
+    /// It changes nothing of the tree. If there is any deadlock, it makes the report `waits`
+    /// (docs/SCRIPT.md), which is the last answer then. It takes time and memory for all waits of the
+    /// tree.
+    /// - `txns`: where their numbers go
+    /// - `room`: how many numbers it has room for
+    pub fn nuz_cycle_of(
+        tree: *mut nuz_tree,
+        txn: u64,
+        txns: *mut u64,
+        room: usize,
+        answer: *mut nuz_answer,
+    ) -> u32;
+    /// Tells each path that txn has touched, once, in the order of their bytes: number is how many
+    /// there are. Answers 0, what each has answered, or `NUZ_MEMORY`.
+    /// - `each`: what is told them
+    /// - `context`: what each is called with
+    pub fn nuz_touched(
+        tree: *mut nuz_tree,
+        txn: u64,
+        each: nuz_touched_each,
+        context: *mut c_void,
+        answer: *mut nuz_answer,
+    ) -> u32;
+    /// The same as a text, of a line `PATH HOW KIND` for each path: number is how many lines there
+    /// are, and size how many bytes. As many as have room are copied to buffer, whose rest is untouched.
+    /// Answers 0 or `NUZ_MEMORY`.
+    ///
+    /// PATH is coded as in the reports of a script: the bytes 0 to 32, %, and 127 to 255 are % and two
+    /// hexadecimal digits. HOW has the words read or absent, listed and written, those that apply, with
+    /// a comma between two. KIND is dir, file, link or none.
+    /// - `buffer`: where the text goes
+    /// - `room`: how many bytes it has room for
+    pub fn nuz_manifest(
+        tree: *mut nuz_tree,
+        txn: u64,
+        buffer: *mut c_void,
+        room: usize,
+        answer: *mut nuz_answer,
+    ) -> u32;
+    /// The same in the form that make and Ninja read, with their escapes: a target with what it depends
+    /// on. That is each file that txn has read, and each directory that it has listed, if it is still
+    /// there and txn has not written it; number is how many these are, and size how many bytes the text
+    /// has. Symbolic links are left out, which both look through, and names looked up in vain, which
+    /// neither has a form for: a manifest tells them.
+    ///
+    /// Answers 0, `NUZ_MEMORY`, or `NUZ_BAD` if one of the two would take a name for another one: a name
+    /// with a control character or one of " & ' * ; < = > ? [ ^ ` |, a target with %, one that begins
+    /// with ~, ends with a space, a colon, a backslash or a bracket that was opened in it, or has a
+    /// backslash before #, : or $.
+    /// - `target`: the target; or null for each file and symbolic link that txn has written and is
+    /// there, and no text if there is none
+    /// - `top`: what stands before each path of the tree, as the directory of the disk that it was
+    /// copied from: a slash at its end is left out; or null for nothing
+    /// - `buffer`: where the text goes
+    /// - `room`: how many bytes it has room for
+    pub fn nuz_depfile(
+        tree: *mut nuz_tree,
+        txn: u64,
+        target: *const c_char,
+        top: *const c_char,
+        buffer: *mut c_void,
+        room: usize,
+        answer: *mut nuz_answer,
     ) -> u32;
 }
