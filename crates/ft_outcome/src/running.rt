@@ -7,9 +7,9 @@ ghost use Rattle.ft_shared.specs.Origins.{without_views};
 ghost use Rattle.ft_outcome.specs.Runs.{IsNoPlan, IsTextOfPlan, RunsPlan, StopsPlan, text_of_outcome};
 
 use crate::text::OutcomeText;
+use crate::watched::run_shown;
 use ft_base::Memory;
 use ft_jobs::{Job, JobFault, JobsOutcome, Plan};
-use ft_progress::run_shown;
 use ft_record::Recorded;
 use ft_script::write_out;
 use ft_shared::{Shared, Sharing};

@@ -12,9 +12,14 @@
 
 mod disk_source;
 mod disk_target;
+mod faults;
 mod giving;
 mod held;
+#[cfg(test)]
+mod of_status;
 mod removal;
+mod status;
+mod strictly;
 
 ghost use Rattle.std.specs.Prelude.{◌≡◌, IfOk};
 ghost use Rattle.ft_core.specs.Living.{NoneIsLive};
@@ -22,6 +27,11 @@ ghost use Rattle.ft_core.specs.States.{at_base};
 
 use crate::disk_source::DiskSource;
 use crate::disk_target::DiskTarget;
+use crate::faults::fault_line;
+use crate::status::{
+    after_failed, dot_status, failed, jobs_status, load_status, play_status, save_status,
+};
+use crate::strictly::play_strictly_status;
 use ft_after::core_after;
 use ft_command::{AskedLimits, Choice, choose};
 use ft_copy::CopyLimits;
@@ -32,10 +42,6 @@ use ft_needs::{limits_for, raised_for};
 use ft_record::Recorded;
 use ft_script::{PlayFault, write_out};
 use ft_shown::ShownTarget;
-use ft_status::{
-    after_failed, dot_status, failed, fault_line, jobs_status, load_status, play_status,
-    play_strictly_status, save_status,
-};
 use std::fs::{File, Files};
 use std::io::{ErrorKind, IsTerminal, Read, Stderr};
 use std::process::ExitCode;
