@@ -27,6 +27,10 @@ class Waits(OSError, Error):
     def __init__(self, blockers: list[int], *paths: AnyPath) -> None:
         super().__init__(errno.EAGAIN, self._text(blockers), *_named(paths))
         self.blockers = blockers
+        self._made_of: tuple[object, ...] = (blockers, *paths)
+
+    def __reduce__(self) -> tuple[object, ...]:
+        return type(self), self._made_of, {**vars(self), "filename": self.filename}
 
     @staticmethod
     def _text(numbers: list[int]) -> str:
@@ -44,6 +48,7 @@ class Deadlock(Waits):
         super().__init__(blockers, *paths)
         self.strerror = "A cycle of transactions wait for each other: " + ", ".join(map(str, cycle))
         self.cycle = cycle
+        self._made_of = (blockers, cycle, *paths)
 
 
 class Refused(RuntimeError, Error):
@@ -52,8 +57,12 @@ class Refused(RuntimeError, Error):
     name: str
 
     def __init__(self, name: str) -> None:
-        super().__init__(f"{_library.REFUSALS[name]} ({name})")
+        reason = _library.REFUSALS.get(name, "the library refuses it")
+        super().__init__(f"{reason} ({name})")
         self.name = name
+
+    def __reduce__(self) -> tuple[object, ...]:
+        return type(self), (self.name,)
 
 
 def _named(paths: Sequence[AnyPath]) -> tuple[object, ...]:

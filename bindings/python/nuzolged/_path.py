@@ -72,6 +72,10 @@ class Path:
         return self._pure.suffix
 
     @property
+    def suffixes(self) -> list[str]:
+        return self._pure.suffixes
+
+    @property
     def parts(self) -> tuple[str, ...]:
         return self._pure.parts
 
@@ -86,11 +90,23 @@ class Path:
     def with_name(self, name: str) -> Path:
         return self._with(self._pure.with_name(name))
 
+    def with_stem(self, stem: str) -> Path:
+        return self._with(self._pure.with_stem(stem))
+
     def with_suffix(self, suffix: str) -> Path:
         return self._with(self._pure.with_suffix(suffix))
 
     def relative_to(self, other: Part) -> PurePosixPath:
         return self._pure.relative_to(other)
+
+    def is_relative_to(self, other: Part) -> bool:
+        return self._pure.is_relative_to(other)
+
+    def is_absolute(self) -> bool:
+        return self._pure.is_absolute()
+
+    def as_posix(self) -> str:
+        return self._pure.as_posix()
 
     def match(self, pattern: str) -> bool:
         return self._pure.match(pattern)

@@ -181,7 +181,7 @@ class Session:
     def _sleep(self, seconds: float | None, number: object) -> None:
         """Sleeps until a transaction has ended. At an interrupt what waits is forgotten."""
         try:
-            self._ended.wait(seconds)
+            self._ended.wait(None if seconds is None else min(seconds, threading.TIMEOUT_MAX))
         except BaseException:
             self._library.nuz_cancel(number)
             raise
@@ -353,6 +353,13 @@ class Late:
                 left.popleft()
             raise
         left.popleft()
+
+
+def time_limit(timeout: float | None) -> float | None:
+    """A time limit, which has to be None or a number from 0 on."""
+    if timeout is not None and not timeout >= 0:
+        raise ValueError(f"a timeout has to be None or a number from 0 on: {timeout}")
+    return timeout
 
 
 def _end_of(timeout: float | None) -> float | None:

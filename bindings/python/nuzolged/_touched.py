@@ -50,11 +50,11 @@ def manifest(session: Session, number: int) -> str:
     return _text(session, "nuz_manifest", number).decode("ascii")
 
 
-def depfile(session: Session, number: int, target: Optional[AnyPath], top: AnyPath) -> bytes:
+def depfile(session: Session, number: int, target: Optional[AnyPath], top: AnyPath) -> str:
     """The same in the form that make and Ninja read."""
     targets = None if target is None else disk_path(target)
     try:
-        return _text(session, "nuz_depfile", number, targets, disk_path(top))
+        return os.fsdecode(_text(session, "nuz_depfile", number, targets, disk_path(top)))
     except ValueError as error:
         if not session.is_open:
             raise

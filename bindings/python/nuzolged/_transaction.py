@@ -9,7 +9,7 @@ from typing import TYPE_CHECKING
 
 from ._errors import AnyPath, Refused
 from ._library import Answer
-from ._session import Late, Request
+from ._session import Late, Request, time_limit
 from ._touched import Touched, depfile, manifest, touched
 from ._whole import Whole
 
@@ -17,8 +17,8 @@ if TYPE_CHECKING:
     from ._file import RawFile
     from ._tree import Tree
 
-#: A time limit that is not given: that of what is around it.
-SAME = -1.0
+#: A time limit that is not given: that of what is around it. (No other number is this object.)
+SAME = float("nan")
 
 
 class Transaction(Whole):
@@ -34,7 +34,7 @@ class Transaction(Whole):
 
     def __init__(self, tree: Tree, around: Transaction | None, timeout: float | None) -> None:
         self.tree = tree
-        self.timeout = timeout
+        self.timeout = time_limit(timeout)
         self._around = around
         self._has_ended = False
         self._late: Late = Late(tree.session)
@@ -73,7 +73,11 @@ class Transaction(Whole):
     def __del__(self) -> None:
         if self.number and not self.is_over:
             self._late.put("nuz_abort", self.number)
-            warnings.warn(f"neither committed nor aborted: {self!r}", ResourceWarning, source=self)
+            self._warn()
+
+    def _warn(self) -> None:
+        """Says that nobody has it any more, while it is live."""
+        warnings.warn(f"neither committed nor aborted: {self!r}", ResourceWarning, source=self)
 
     @property
     def transaction(self) -> Transaction:
@@ -97,7 +101,7 @@ class Transaction(Whole):
         Raises:
             Refused: The transaction has ended, or stands too deep, or too many have begun.
         """
-        return Transaction(self.tree, self, self.timeout if timeout == SAME else timeout)
+        return Transaction(self.tree, self, self.timeout if timeout is SAME else timeout)
 
     def within(self, timeout: float | None) -> Within:
         """Its calls, with another time limit: `job.within(0.5).mkdir("/a")`."""
@@ -148,11 +152,12 @@ class Transaction(Whole):
         that apply, with a comma between two, and KIND is dir, file, link or none."""
         return manifest(self.session, self.number)
 
-    def depfile(self, target: AnyPath | None = None, top: AnyPath = "") -> bytes:
+    def depfile(self, target: AnyPath | None = None, top: AnyPath = "") -> str:
         """What it has touched, in the form that make and Ninja read: a target with what it depends
         on, which is each file that it has read and each directory that it has listed, if that is
         still there and it has not written it. Symbolic links and what it has looked for in vain are
-        left out: a manifest tells them.
+        left out: a manifest tells them. A name that is not in the system's encoding is told as
+        `os.fsdecode` gives it, so that a file of the text is to be written by `os.fsencode`.
 
         Args:
             target: The target; if there is none, each file and symbolic link that it has written.
@@ -179,7 +184,7 @@ class Within(Whole):
         self._transaction = transaction
         self.number = transaction.number
         self.session = transaction.session
-        self.timeout = timeout
+        self.timeout = time_limit(timeout)
 
     def __repr__(self) -> str:
         return f"<{self._transaction!r} within {self.timeout} seconds>"

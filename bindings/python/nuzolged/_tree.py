@@ -4,9 +4,9 @@ from __future__ import annotations
 import os
 
 from . import _library, _limits
-from ._errors import error_of
+from ._errors import Refused, error_of
 from ._limits import Limits
-from ._session import NO_REPLY, Session
+from ._session import NO_REPLY, Session, time_limit
 from ._transaction import SAME, Transaction
 
 
@@ -32,7 +32,7 @@ class Tree:
         self, *, moss: bool = False, limits: Limits = Limits(), timeout: float | None = 0
     ) -> None:
         options = _library.MOSS if moss else _library.RELAXED
-        self.timeout = timeout
+        self.timeout = time_limit(timeout)
         self.session = Session(options, _limits.for_library(limits), keeps_waits=timeout == 0)
 
     def __repr__(self) -> str:
@@ -59,7 +59,7 @@ class Tree:
         Raises:
             Refused: As many have begun since the last checkpoint as may.
         """
-        return Transaction(self, None, self.timeout if timeout == SAME else timeout)
+        return Transaction(self, None, self.timeout if timeout is SAME else timeout)
 
     def abort(self, number: int) -> int:
         """Aborts the transaction of this number, which may be another's, and answers how many calls
@@ -68,6 +68,8 @@ class Tree:
         Raises:
             Refused: There is no such transaction, or it has ended.
         """
+        if not 0 <= number < 1 << 64:  # ctypes would cut it
+            raise Refused("NoTxn")
         return self.session.end(("nuz_abort", (number,))).number
 
     def checkpoint(self) -> None:

@@ -130,6 +130,10 @@ class Whole(Calls):
 
         A symbolic link to a directory stands among the names of directories, and is gone into with
         `followlinks` alone, where one that leads back up is gone into again and again.
+
+        Raises:
+            OSError: A directory can not be listed, as where there is none at `top`, which that of
+                `os` passes over.
         """
         here = os.fsdecode(top)
         folders: list[str] = []

@@ -1,10 +1,12 @@
-"""pytest: `nuzolged_step`, a transaction that is aborted behind each test.
+"""pytest: `nuzolged_step`, a transaction that is taken back after each test.
 
 All tests of a session share a tree, which is made once: with `nuzolged_seed = FOLDER` in the
-configuration of pytest it begins as that folder of the disk.
+configuration of pytest it begins as that folder of the disk, which stands beside the file of the
+configuration if it is relative.
 """
 from __future__ import annotations
 
+from pathlib import Path
 from typing import Iterator
 
 import pytest
@@ -25,15 +27,19 @@ def nuzolged_job(request: pytest.FixtureRequest) -> Iterator[Transaction]:
         job = tree.begin()
         seed = request.config.getini("nuzolged_seed")
         if seed:
-            copy_in(job, seed)
+            copy_in(job, _folder(request.config) / seed)
         yield job
         job.abort()
 
 
 @pytest.fixture
 def nuzolged_step(nuzolged_job: Transaction) -> Iterator[Transaction]:
-    """What one test does."""
-    step = nuzolged_job.begin()
-    yield step
-    if not step.is_over:
-        step.abort()
+    """What one test does, in a step around it, to which it may commit."""
+    around = nuzolged_job.begin()
+    yield around.begin()
+    around.abort()
+
+
+def _folder(config: pytest.Config) -> Path:
+    """The folder of the configuration."""
+    return config.inipath.parent if config.inipath else config.rootpath

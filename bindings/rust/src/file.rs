@@ -87,8 +87,8 @@ impl OpenOptions {
         }
     }
 
-    /// The flags as the library takes them, the access too. To make or cut what is not written is invalid, and so
-    /// is to cut what is written at its end.
+    /// The flags as the library takes them, the access too. To make or cut what is not written is
+    /// invalid, and so is to cut what is written at its end.
     pub(crate) fn flags(&self) -> Result<u32> {
         let access = self.access()?;
         let is_valid = match (self.write, self.append) {

@@ -124,6 +124,12 @@ impl Metadata {
         self.kind
     }
 
+    /// How many bytes a file has, or the target of a symbolic link.
+    #[allow(clippy::len_without_is_empty)] // as of `std::fs`
+    pub fn len(&self) -> u64 {
+        self.len
+    }
+
     /// Whether it is of a directory.
     pub fn is_dir(&self) -> bool {
         self.kind.is_dir()
@@ -134,7 +140,8 @@ impl Metadata {
         self.kind.is_file()
     }
 
-    /// Whether it is of a symbolic link, of which only [`symlink_metadata`](Transaction::symlink_metadata) tells.
+    /// Whether it is of a symbolic link, of which only
+    /// [`symlink_metadata`](Transaction::symlink_metadata) tells.
     pub fn is_symlink(&self) -> bool {
         self.kind.is_symlink()
     }

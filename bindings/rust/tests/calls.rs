@@ -105,7 +105,7 @@ fn files_are_read_and_written_at_offsets() -> Result<()> {
     let mut buffer = *b"......";
     assert_eq!(file.read_at(&mut buffer, 1)?, 3);
     assert_eq!(&buffer, b"\0by...");
-    assert_eq!(file.metadata()?.len, 4);
+    assert_eq!(file.metadata()?.len(), 4);
     assert_eq!(file.write_at(b"x", u64::MAX), Err(Error::Invalid));
     file.close()?;
     job.commit()
