@@ -45,7 +45,7 @@ REFUSALS = {
     "NothingToUndo": "there is no call to undo",
     "SubSince": "a step has committed since the last call",
     "Full": "all transactions or calls are used up",
-    "Deep": "the transaction stands too deep",
+    "Deep": "the transaction is too deep",
     "Live": "a transaction is live",
     "NoAsk": "the transaction waits for no call",
 }

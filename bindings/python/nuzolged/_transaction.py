@@ -99,7 +99,7 @@ class Transaction(Whole):
                 have to. If it is not given, as those of this transaction.
 
         Raises:
-            Refused: The transaction has ended, or stands too deep, or too many have begun.
+            Refused: The transaction has ended, or is too deep, or too many have begun.
         """
         return Transaction(self.tree, self, self.timeout if timeout is SAME else timeout)
 

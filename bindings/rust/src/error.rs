@@ -66,7 +66,7 @@ impl fmt::Display for Refusal {
             Refusal::NothingToUndo => "there is no call to undo",
             Refusal::SubSince => "a step has committed since the last call",
             Refusal::Full => "all transactions or calls are used up",
-            Refusal::Deep => "the transaction stands too deep",
+            Refusal::Deep => "the transaction is too deep",
             Refusal::Live => "a transaction is live",
             Refusal::NoAsk => "the transaction waits for no call",
             Refusal::BadLimits => "a limit is above the greatest",
