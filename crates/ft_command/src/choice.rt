@@ -2,7 +2,7 @@
 ghost use Rattle.std.specs.Prelude.{◌≡◌, IfOk, IfSome, Some, codes, false, map, option_map, string_bytes};
 ghost use Rattle.clap.specs.Words.{Text, app_of, found_of, kind_of, one_of, rows_of, rule_of, subcommand_rows_of};
 ghost use Rattle.ft_command.specs.Limits.{IsBadLimit};
-ghost use Rattle.ft_command.specs.CommandLine.{ChoiceOf, ErrorChoice, HasNoGlobals, IsFlag, ReadChoice, TellsAfter, TellsDir, TellsJobs, TellsRule, after_rule, bare, dir_rule, dot, file_rule, jobs, load, moss_rule, play, program, no_owners_rule, quiet_rule, save, set_id_rule, skip_rule, strict_rule, turns_rule, with_filters, with_folders};
+ghost use Rattle.ft_command.specs.CommandLine.{ChoiceOf, ErrorChoice, HasNoGlobals, IsFlag, ReadChoice, TellsAfter, TellsDir, TellsJobs, TellsRule, after_rule, bare, check_rule, dir_rule, dot, file_rule, jobs, load, moss_rule, play, program, no_owners_rule, quiet_rule, save, set_id_rule, skip_rule, strict_rule, turns_rule, with_filters, with_folders};
 
 use crate::limits::{AskedLimits, Flag, asked_limits, with_limits};
 use clap::builder::ValueParser;
@@ -25,13 +25,14 @@ pub enum Choice {
     },
     /// Draw the last report on who waits for whom.
     Dot,
-    /// Write a script that makes what this directory holds. What a tree has no place for is left
-    /// out where it is to be skipped, and modes have their bits S_ISUID and S_ISGID only where these
-    /// are asked for. How far it has come is not shown where it is to be quiet. No more is written
-    /// than these limits allow.
+    /// Write a script that makes what this directory holds, or where it is to be checked, list what
+    /// can't be loaded. That is left out where it is to be skipped, and modes have their bits
+    /// S_ISUID and S_ISGID only where these are asked for. How far it has come is not shown where
+    /// it is to be quiet. No more is written than these limits allow.
     Load {
         dir: String,
         skip: bool,
+        check: bool,
         set_id: bool,
         quiet: bool,
         limits: AskedLimits,
@@ -58,7 +59,7 @@ pub enum Choice {
         after: Option<String>,
         limits: AskedLimits,
     },
-    /// Print this help to the standard output, and end with status 0.
+    /// Print this help, or the version, to the standard output, and end with status 0.
     Help(String),
     /// Print this to the standard error, and end with status 2: the words ask for nothing that
     /// there is.
@@ -71,6 +72,9 @@ pub enum Choice {
 // they begin with the files of one directory and end with those of another.
 const EXAMPLE: &str =
     "Example:\n  ft_run play < script.ft\n  ft_run play < script.ft | ft_run dot | dot -Tsvg > waits.svg\n  ft_run jobs build.plan\n  ft_run load src > src.ft\n  ft_run jobs build.plan --after src.ft | ft_run save out";
+
+// The version of the program, which is that of the library.
+const VERSION: &str = "0.1.0";
 
 // The most times that a call of a job may be told to ask.
 const MOST_TURNS: u64 = 1_000_000;
@@ -164,6 +168,7 @@ fn load_choice(alloc: Global, found: &ArgMatches) -> Choice
     ensures { ReadChoice (Some (codes "load", rows_of (found_of found.now))) result }
 {
     let skip = found.get_flag("skip");
+    let check = found.get_flag("check");
     let set_id = found.get_flag("set-id");
     let quiet = found.get_flag("quiet");
     let limits = match asked_limits(found) {
@@ -174,6 +179,7 @@ fn load_choice(alloc: Global, found: &ArgMatches) -> Choice
         Some(dir) => Choice::Load {
             dir,
             skip,
+            check,
             set_id,
             quiet,
             limits,
@@ -316,6 +322,7 @@ fn bare<'a>(alloc: Global) -> Command<'a>
 {
     Command::new(alloc, "ft_run")
         .about("Runs scripts of transactions on a tree of directories")
+        .version(VERSION)
         .no_binary_name(true)
         .subcommand_required(true)
         .after_help(EXAMPLE)
@@ -354,6 +361,7 @@ fn load_command<'a>(alloc: Global) -> Result<Command<'a>, AllocError>
         .about("Writes a script that makes what a directory holds")
         .arg(dir_arg(alloc))?
         .arg(skip_arg(alloc))?
+        .arg(check_arg(alloc))?
         .arg(set_id_arg(alloc))?
         .arg(quiet_arg(alloc))?;
     with_limits(alloc, command)
@@ -399,7 +407,7 @@ fn dir_arg<'a>(alloc: Global) -> Arg<'a>
         .help("The directory")
 }
 
-// The flag that leaves out what a tree has no place for.
+// The flag that leaves out what can't be loaded.
 fn skip_arg<'a>(alloc: Global) -> Arg<'a>
     ensures rule { rule_of result ≡ skip_rule }
     ensures local { result.global ≡ false }
@@ -407,7 +415,18 @@ fn skip_arg<'a>(alloc: Global) -> Arg<'a>
     Arg::new(alloc, "skip")
         .long("skip")
         .action(ArgAction::SetTrue)
-        .help("Leave out devices, FIFOs and sockets, and tell of each")
+        .help("Leave out what can't be loaded, tell of it, and end with status 3")
+}
+
+// The flag that only lists what can't be loaded.
+fn check_arg<'a>(alloc: Global) -> Arg<'a>
+    ensures rule { rule_of result ≡ check_rule }
+    ensures local { result.global ≡ false }
+{
+    Arg::new(alloc, "check")
+        .long("check")
+        .action(ArgAction::SetTrue)
+        .help("Write no script, but list what can't be loaded")
 }
 
 // The flag that keeps the bits S_ISUID and S_ISGID.
@@ -511,7 +530,7 @@ fn choice_at(alloc: Global, error: &Error) -> Choice
     match error.to_string(alloc) {
         Err(_) => Choice::Fault,
         Ok(text) => {
-            if kind == ErrorKind::DisplayHelp {
+            if kind == ErrorKind::DisplayHelp || kind == ErrorKind::DisplayVersion {
                 Choice::Help(text)
             } else {
                 Choice::Usage(text)

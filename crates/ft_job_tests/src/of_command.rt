@@ -68,10 +68,24 @@ fn is_load(alloc: Global, words: &[&str], folder: &str, asked: (bool, bool, bool
         Choice::Load {
             dir,
             skip,
+            check: false,
             set_id,
             quiet,
             limits: _,
         } => dir.as_str() == folder && (skip, set_id, quiet) == asked,
+        _ => false,
+    }
+}
+
+// Whether they ask for a list of what can't be loaded of this directory.
+fn is_check(alloc: Global, words: &[&str], folder: &str) -> bool {
+    match choose(alloc, words) {
+        Choice::Load {
+            dir,
+            skip: false,
+            check: true,
+            ..
+        } => dir.as_str() == folder,
         _ => false,
     }
 }
@@ -148,6 +162,7 @@ fn choices_of_directories(rt: HostRuntime) -> Result<(), Fail> {
             (false, false, true)
         )
     );
+    assert!(rt; is_check(alloc, &["load", "src", "--check"], "src"));
     assert!(rt; is_usage(alloc, &["load"], "<DIR>"));
     assert!(rt; is_save(alloc, &["save", "out"], "out", (false, false, false)));
     assert!(rt;
@@ -197,6 +212,7 @@ fn choices(rt: HostRuntime) -> Result<(), Fail> {
         )
     );
     assert!(rt; is_help(alloc, &["play", "--help"], "play"));
+    assert!(rt; is_help(alloc, &["--version"], "ft_run 0.1.0"));
     Ok(())
 }
 
