@@ -186,6 +186,8 @@ uint32_t make_write(struct request *request) {
                   : nuz_pwrite(IN(node), node->fd, request->bytes, request->size,
                                request->offset, &answer);
     if (counted_for(node, &answer, code) != 0) {
+        /* (the kernel tells of that only who syncs) */
+        node->step->is_lost |= request->file.writepage && code != NUZ_WAITS;
         return code;
     }
     uint64_t end = (uint64_t)request->offset + answer.number;
