@@ -161,8 +161,10 @@ class BytesTest(mounts.MountTest):
         mounted = self.mount()
         serving = mounted.serving()
         taken = int(Path(f"/proc/{serving}/statm").read_text().split()[0]) * mmap.PAGESIZE
+        # (all pages are read first: one that can't be read ends the program, and is no secret)
         script = "import mmap, os; file = open('file', 'w+b'); file.truncate(64 << 20); " \
-            "memory = mmap.mmap(file.fileno(), 0); memory[:] = os.urandom(64 << 20); memory.close()"
+            "memory = mmap.mmap(file.fileno(), 0); memory[::4096]; " \
+            "memory[:] = os.urandom(64 << 20); memory.close()"
         write = "python3", "-c", script
         before = resource.prlimit(serving, resource.RLIMIT_AS, (taken + (32 << 20), -1))
         ended = mounts.nuz("run", "--in", mounted.top / "a", "--", *write, status=125)
