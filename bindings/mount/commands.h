@@ -27,6 +27,7 @@ struct serve_options {
     const char *from; /* or NULL, */
     const char *like; /* and then a directory whose mode and owner the tree has, or NULL */
     bool is_moss;
+    bool is_uncached; /* whether the kernel asks each time */
     bool is_for_all; /* whether other users may use it too */
     bool has_limit;
     struct timespec limit;

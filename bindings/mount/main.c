@@ -70,8 +70,8 @@ static void refuse(struct said *said, const char *what, const char *word) {
 enum { AT_LEAST_ONE = -1 };
 
 enum {
-    IN, FROM, TO, AT, WAIT, MOSS, ALL, FOREGROUND, DEPFILE, TARGET, MANIFEST, REPLACE, RETRIES, DOT,
-    HELP
+    IN, FROM, TO, AT, WAIT, MOSS, ALL, UNCACHED, FOREGROUND, DEPFILE, TARGET, MANIFEST, REPLACE,
+    RETRIES, DOT, HELP
 };
 
 static const struct option all_options[] = {
@@ -82,6 +82,7 @@ static const struct option all_options[] = {
     { "wait", required_argument, NULL, WAIT },
     { "moss", no_argument, NULL, MOSS },
     { "allow-other", no_argument, NULL, ALL },
+    { "no-cache", no_argument, NULL, UNCACHED },
     { "foreground", no_argument, NULL, FOREGROUND },
     { "depfile", required_argument, NULL, DEPFILE },
     { "target", required_argument, NULL, TARGET },
@@ -108,6 +109,7 @@ static void take(struct said *said, int option) {
         break;
     case MOSS: run->own.is_moss = true; break;
     case ALL: run->own.is_for_all = true; break;
+    case UNCACHED: run->own.is_uncached = true; break;
     case FOREGROUND: run->own.stays = true; break;
     case DEPFILE: run->depfile = optarg; break;
     case TARGET: run->target = optarg; break;
@@ -234,14 +236,17 @@ static int act_save(struct said *said) {
 }
 
 static const struct command commands[] = {
-    { "mount", act_mount, MAY(FROM) | MAY(WAIT) | MAY(MOSS) | MAY(ALL) | MAY(FOREGROUND), 1,
-      "nuz mount [--from FOLDER] [--wait SECONDS] [--moss] [--allow-other] [--foreground] DIR\n",
+    { "mount", act_mount,
+      MAY(FROM) | MAY(WAIT) | MAY(MOSS) | MAY(ALL) | MAY(UNCACHED) | MAY(FOREGROUND), 1,
+      "nuz mount [--from FOLDER] [--wait SECONDS] [--moss] [--allow-other] [--no-cache]\n"
+      "        [--foreground] DIR\n",
       "Mounts a tree on DIR, which is made if it is missing. DIR/job shows the tree, and mkdir\n"
       "DIR/NAME begins the step NAME. The mount ends with umount DIR, or fusermount3 -u DIR.\n"
       "  --from FOLDER   the tree begins with what FOLDER holds; without it, empty\n"
       "  --wait SECONDS  a call that has waited so long for other steps fails with EDEADLK\n"
       "  --moss          a call also waits for the locks of the steps around its own\n"
       "  --allow-other   other users may use what is mounted\n"
+      "  --no-cache      the kernel asks each time, and keeps nothing that it is told\n"
       "  --foreground    serves the mount itself, and stays\n" },
     { "run", act_run,
       MAY(IN) | MAY(FROM) | MAY(TO) | MAY(AT) | MAY(WAIT) | MAY(MOSS) | MAY(ALL) | MAY(DEPFILE)

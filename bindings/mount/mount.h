@@ -313,6 +313,7 @@ struct mount {
     struct timespec born;
     struct timespec limit; /* of a wait */
     bool has_limit;
+    double kept; /* for how many seconds the kernel may keep what it is told */
     uid_t user;
     gid_t group;
 };

@@ -54,6 +54,7 @@ static uint32_t own_root(const struct serve_options *options) {
 
 static bool open_tree(const struct serve_options *options) {
     uint64_t seed = 0;
+    served.kept = options->is_uncached ? 0 : FOREVER;
     uint32_t code = nuz_tree_open(&served.tree, options->is_moss ? NUZ_MOSS : NUZ_RELAXED);
     if (code != 0) {
         complain("%s", nuz_strerror(code));
