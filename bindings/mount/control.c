@@ -137,7 +137,7 @@ static uint32_t end_by(const struct order *order, end_step *end) {
 static uint32_t commit(const struct order *order) {
     if (order->step->is_lost) {
         control_say(order->control, "what a program has written by a memory map is not all there: "
-                                    "writing it has failed, as for want of memory");
+                                    "writing it has failed, perhaps for lack of memory");
         return EIO;
     }
     return end_by(order, step_commit);

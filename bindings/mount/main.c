@@ -240,10 +240,10 @@ static const struct command commands[] = {
       MAY(FROM) | MAY(WAIT) | MAY(MOSS) | MAY(ALL) | MAY(UNCACHED) | MAY(FOREGROUND), 1,
       "nuz mount [--from FOLDER] [--wait SECONDS] [--moss] [--allow-other] [--no-cache]\n"
       "        [--foreground] DIR\n",
-      "Mounts a tree on DIR, which is made if it is missing. DIR/job shows the tree, and mkdir\n"
+      "Mounts a tree on DIR, and makes DIR if it is missing. DIR/job shows the tree, and mkdir\n"
       "DIR/NAME begins the step NAME. The mount ends with umount DIR, or fusermount3 -u DIR.\n"
       "  --from FOLDER   the tree begins with what FOLDER holds; without it, empty\n"
-      "  --wait SECONDS  a call that has waited so long for other steps fails with EDEADLK\n"
+      "  --wait SECONDS  a call that has waited that long for other steps fails with EDEADLK\n"
       "  --moss          a call also waits for the locks of the steps around its own\n"
       "  --allow-other   other users may use what is mounted\n"
       "  --no-cache      the kernel asks each time, and keeps nothing that it is told\n"
@@ -255,32 +255,33 @@ static const struct command commands[] = {
       "nuz run [--in DIR/STEP | [--from FOLDER] [--to FOLDER [--replace]]] [--at PATH]\n"
       "        [--retries N] [--wait SECONDS] [--moss] [--allow-other]\n"
       "        [--depfile F [--target T]] [--manifest F] -- COMMAND..\n",
-      "Runs COMMAND in a step, which is committed if it ends with status 0, and else aborted.\n"
-      "Without --in, --from and --to, that is a step of the one that the current directory is in.\n"
+      "Runs COMMAND in a new step. If COMMAND ends with status 0, the step is committed, and\n"
+      "otherwise aborted. Without --in, --from and --to, it is a step of the step or job that the\n"
+      "current directory is in.\n"
       "  --in DIR/STEP   a new step of the mount on DIR, whose name is STEP\n"
-      "  --from FOLDER   a mount of its own, that begins with what FOLDER holds\n"
-      "  --to FOLDER     where the tree of such a mount is saved at the end; without it, nowhere\n"
+      "  --from FOLDER   a mount of its own, which begins with what FOLDER holds\n"
+      "  --to FOLDER     saves the tree of such a mount there at the end; without it, nowhere\n"
       "  --replace       FOLDER of --to may have something in it, and is exchanged\n"
-      "  --at PATH       the step stands in the place of the directory PATH\n"
+      "  --at PATH       the step takes the place of the directory PATH\n"
       "  --retries N     runs COMMAND again, up to N times, if a call has failed with EDEADLK\n"
       "  --wait SECONDS  as of nuz mount, with --from or --to\n"
       "  --moss          as of nuz mount, with --from or --to\n"
       "  --allow-other   as of nuz mount, with --from or --to\n"
       "  --depfile F     writes what was read and written to F, for make and Ninja\n"
-      "  --target T      the target of that, instead of all files that were written\n"
+      "  --target T      the target in F, instead of all files that were written\n"
       "  --manifest F    writes to F how each path was used\n" },
     { "commit", act_about, 0, 1, "nuz commit DIR/NAME\n",
-      "Commits a step: what it has done belongs to the step or job around it. DIR/job: makes what\n"
-      "there is the beginning, to which nuz abort DIR/job goes back.\n" },
+      "Commits a step: its work then belongs to the step or job around it. DIR/job: makes the\n"
+      "present tree the new beginning, to which nuz abort DIR/job goes back.\n" },
     { "abort", act_about, 0, 1, "nuz abort DIR/NAME\n",
-      "Takes back all that a step has done, with the steps below it. DIR/job: with all steps.\n" },
+      "Undoes all that a step has done, with the steps below it. DIR/job: with all steps.\n" },
     { "undo", act_about, 0, 1, "nuz undo DIR/NAME\n",
-      "Takes back the last change of a step that stands.\n" },
+      "Undoes the last change of a step that is not undone yet.\n" },
     { "steps", act_steps, MAY(DOT), 1, "nuz steps [--dot] DIR\n",
-      "Tells the live transactions, how many calls each has made, and who waits for whom.\n"
+      "Lists the live transactions, how many calls each has made, and who waits for whom.\n"
       "  --dot  draws who waits for whom, for Graphviz\n" },
     { "save", act_save, MAY(REPLACE), 2, "nuz save [--replace] DIR/NAME TO\n",
-      "Copies what NAME shows, mostly job, to the directory TO, all or nothing. TO has to be\n"
+      "Copies what NAME (usually job) shows to the directory TO, all or nothing. TO must be\n"
       "missing or empty.\n"
       "  --replace  TO may have something in it, and is exchanged\n" },
 };
@@ -297,7 +298,7 @@ static void tell_synopses(FILE *to) {
     for (size_t i = 0; i < COMMANDS; i++) {
         fputs(commands[i].synopsis, to);
     }
-    fputs("nuz COMMAND --help tells what its options mean; nuz --version\n", to);
+    fputs("nuz COMMAND --help explains its options, and nuz --version prints the version\n", to);
 }
 
 /* Refuses too few or too many words. */

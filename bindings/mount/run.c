@@ -15,7 +15,7 @@ bool fails(const char *what, const char *path) {
     return false;
 }
 
-/* A text from some others; or the end of the process, for want of memory. */
+/* A text from some others; or the end of the process, for lack of memory. */
 char *joined(const char *one, const char *two, const char *three) {
     char *text = NULL;
     if (asprintf(&text, "%s%s%s", one, two, three) < 0) {
