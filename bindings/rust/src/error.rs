@@ -95,8 +95,8 @@ pub enum Error {
     Deadlock(Vec<u64>),
     /// The request is refused, and nothing has changed.
     Refused(Refusal),
-    /// A path has a null byte, a line asks for nothing that there is, a file is opened as
-    /// `std::fs` opens none, or an offset or a length is 2^63 or more. Nothing has changed.
+    /// A path has a null byte, a line is not a valid request, a file is opened in a way that
+    /// `std::fs` refuses, or an offset or a length is 2^63 or more. Nothing has changed.
     Invalid,
     /// The bytes of a file are no UTF-8.
     NotUtf8,
