@@ -247,7 +247,7 @@ static const struct command commands[] = {
       "  --moss          a call also waits for the locks of the steps around its own\n"
       "  --allow-other   other users may use what is mounted\n"
       "  --no-cache      the kernel asks each time, and keeps nothing that it is told\n"
-      "  --foreground    serves the mount itself, and stays\n" },
+      "  --foreground    stays until the mount ends\n" },
     { "run", act_run,
       MAY(IN) | MAY(FROM) | MAY(TO) | MAY(AT) | MAY(WAIT) | MAY(MOSS) | MAY(ALL) | MAY(DEPFILE)
           | MAY(TARGET) | MAY(MANIFEST) | MAY(REPLACE) | MAY(RETRIES),
