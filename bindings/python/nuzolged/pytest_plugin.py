@@ -1,8 +1,8 @@
-"""pytest: `nuzolged_step`, a transaction that is taken back after each test.
+"""pytest: `nuzolged_step`, a transaction that is rolled back after each test.
 
-All tests of a session share a tree, which is made once: with `nuzolged_seed = FOLDER` in the
-configuration of pytest it begins as that folder of the disk, which stands beside the file of the
-configuration if it is relative.
+All tests of a session share a tree, which is made once. With `nuzolged_seed = FOLDER` in the
+configuration of pytest, it begins as that folder of the disk. A relative FOLDER is next to the file
+of the configuration.
 """
 from __future__ import annotations
 
@@ -22,7 +22,7 @@ def pytest_addoption(parser: pytest.Parser) -> None:
 
 @pytest.fixture(scope="session")
 def nuzolged_job(request: pytest.FixtureRequest) -> Iterator[Transaction]:
-    """What all tests begin with."""
+    """The transaction with which all tests begin."""
     with Tree() as tree:
         job = tree.begin()
         seed = request.config.getini("nuzolged_seed")
@@ -34,7 +34,7 @@ def nuzolged_job(request: pytest.FixtureRequest) -> Iterator[Transaction]:
 
 @pytest.fixture
 def nuzolged_step(nuzolged_job: Transaction) -> Iterator[Transaction]:
-    """What one test does, in a step around it, to which it may commit."""
+    """The transaction of one test, in a step around it, to which the test may commit."""
     around = nuzolged_job.begin()
     yield around.begin()
     around.abort()
