@@ -34,7 +34,7 @@ typedef struct job {
     char name[LONGEST_LINE];
 } job;
 
-/* What a line of a step does, given its two words, and what came in its way: a code. */
+/* Does what a line of a step says, given its two words. Returns 0, or the code of an error. */
 typedef uint32_t (*action)(job *, const char *, const char *);
 
 /* ---- actions */
