@@ -13,8 +13,8 @@
  *     remove PATH       removes a file
  *     need PATH         fails if the path leads to nothing
  *
- * Each step is a transaction inside that of the job. A step that fails is rolled back, with all that
- * it has done so far; the others stay. The status is 0 if no step has failed, 1 if one has, and 2 if
+ * Each step is a transaction inside that of the job. A step that fails is rolled back, with all it
+ * has done so far; the others stay. The status is 0 if no step has failed, 1 if one has, and 2 if
  * the job could not be carried out.
  */
 #include <nuzolged.h>
