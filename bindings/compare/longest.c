@@ -7,6 +7,8 @@
  *
  * It prints the milliseconds of processor time of each. docs/COST.md has the figures.
  */
+#define _POSIX_C_SOURCE 200809L
+
 #include <nuzolged.h>
 
 #include <stdio.h>
