@@ -93,8 +93,9 @@ uint32_t nuz_copy_in(nuz_tree *tree, uint64_t txn, const char *disk, const void 
  * system can't exchange two names, the existing directory is renamed first. Then for a moment
  * nothing has its name. With NUZ_COPY_SYNC the copy is whole or nothing even if the power fails.
  *
- * Returns the same as nuz_copy_in. If what was replaced can't be removed, it returns the reason for
- * that, and the copy has its name.
+ * Returns the same as nuz_copy_in, or EBUSY if another directory than at first has the name of the
+ * one to be replaced; that directory is kept. If what was replaced can't be removed, it returns the
+ * reason for that, and the copy has its name.
  * @param tree the tree; NULL if around has it
  * @param txn the transaction that makes the calls
  * @param path the directory of the tree

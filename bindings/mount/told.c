@@ -3,6 +3,7 @@
 #include "commands.h"
 
 #include <errno.h>
+#include <fcntl.h>
 #include <nuzolged_touched.h>
 #include <stdio.h>
 #include <stdlib.h>
@@ -12,9 +13,21 @@
 
 /* ---- files */
 
-/* Whether a file can be made in the directory that its path names. */
-static bool has_place(const char *what, const char *path) {
-    struct place place = { 0 };
+/* The file that a path leads to, also by a link; or is to lead to. */
+static char *file_of(const char *path) {
+    char *file = realpath(path, NULL);
+    return file != NULL ? file : joined(path, "", "");
+}
+
+/* Whether a path leads to neither a file nor a directory: what is a pipe, say, stays that. */
+static bool is_special(const char *path) {
+    struct stat status;
+    return stat(path, &status) == 0 && !S_ISREG(status.st_mode) && !S_ISDIR(status.st_mode);
+}
+
+/* Whether files can be made in the directory that a path stands in. */
+static bool has_directory(const char *path) {
+    struct place place;
     struct stat status;
     bool is_good = place_of(path, &place) && stat(place.dir, &status) == 0;
     if (is_good && !S_ISDIR(status.st_mode)) {
@@ -22,11 +35,23 @@ static bool has_place(const char *what, const char *path) {
         is_good = false;
     }
     is_good = is_good && access(place.dir, W_OK | X_OK) == 0;
-    if (!is_good) {
-        fails(what, path);
-    }
+    int number = errno;
     place_free(&place);
+    errno = number;
     return is_good;
+}
+
+/* Whether a file can be written, as it looks now. */
+static bool has_place(const char *what, const char *path) {
+    struct stat status;
+    char *file = file_of(path);
+    bool is_good = is_special(file) ? access(file, W_OK) == 0 : has_directory(file);
+    if (is_good && stat(file, &status) == 0 && S_ISDIR(status.st_mode)) {
+        errno = EISDIR;
+        is_good = false;
+    }
+    free(file);
+    return is_good || fails(what, path);
 }
 
 /* Whether a path leads into the directory that is saved to, which is another one then. */
@@ -48,19 +73,55 @@ bool can_tell(const struct run *run) {
         && (manifest == NULL || is_saved(run, manifest) || has_place("manifest", manifest));
 }
 
-static bool write_text(const char *path, const char *text) {
+/* Writes a text to an open file, and closes that. */
+static bool put(int file, const char *text) {
     size_t size = strlen(text);
-    FILE *to = fopen(path, "we");
+    FILE *to = file < 0 ? NULL : fdopen(file, "w");
     bool is_written = to != NULL && fwrite(text, 1, size, to) == size;
-    if (to != NULL && fclose(to) != 0) {
-        is_written = false;
+    return to != NULL && fclose(to) == 0 && is_written;
+}
+
+/* The mode of a file, or of a new one. */
+static mode_t mode_of(const char *path) {
+    struct stat status;
+    mode_t mask = umask(0);
+    umask(mask);
+    return stat(path, &status) == 0 ? status.st_mode & 0777 : 0666 & ~mask;
+}
+
+/* Makes a file beside the place of another one, in which it is put when it is whole. */
+static bool put_beside(const char *path, const char *text) {
+    struct place place;
+    if (!place_of(path, &place)) {
+        return false;
     }
+    char *made = joined(place.dir, "/.nuz.XXXXXX", "");
+    place_free(&place);
+    int file = mkostemp(made, O_CLOEXEC);
+    bool is_made = file >= 0;
+    bool is_put = is_made && fchmod(file, mode_of(path)) == 0 && put(file, text)
+               && rename(made, path) == 0;
+    int number = errno;
+    if (is_made && !is_put) {
+        unlink(made);
+    }
+    free(made);
+    errno = number;
+    return is_put;
+}
+
+static bool write_text(const char *path, const char *text) {
+    char *file = file_of(path);
+    bool is_written = is_special(file) ? put(open(file, O_WRONLY | O_CLOEXEC), text)
+                                       : put_beside(file, text);
+    free(file);
     return is_written || fails("write", path);
 }
 
 bool write_texts(const struct run *run, const struct texts *texts) {
-    return (run->depfile == NULL || write_text(run->depfile, texts->depfile))
-        && (run->manifest == NULL || write_text(run->manifest, texts->manifest));
+    bool has_depfile = run->depfile == NULL || write_text(run->depfile, texts->depfile);
+    bool has_manifest = run->manifest == NULL || write_text(run->manifest, texts->manifest);
+    return has_depfile && has_manifest;
 }
 
 /* ---- texts */

@@ -751,8 +751,9 @@ extern "C" {
     /// system can't exchange two names, the existing directory is renamed first. Then for a moment
     /// nothing has its name. With `NUZ_COPY_SYNC` the copy is whole or nothing even if the power fails.
     ///
-    /// Returns the same as `nuz_copy_in`. If what was replaced can't be removed, it returns the reason for
-    /// that, and the copy has its name.
+    /// Returns the same as `nuz_copy_in`, or EBUSY if another directory than at first has the name of the
+    /// one to be replaced; that directory is kept. If what was replaced can't be removed, it returns the
+    /// reason for that, and the copy has its name.
     /// - `tree`: the tree; NULL if around has it
     /// - `txn`: the transaction that makes the calls
     /// - `path`: the directory of the tree
