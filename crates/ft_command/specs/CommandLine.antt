@@ -12,6 +12,7 @@ use Rattle.ft_moss.specs.declared.rule.Rule.{Rule as LockRule}
 use Rattle.ft_moss.specs.Rules.{is_strict}
 use Rattle.ft_command.specs.Limits.{HasBadLimit, TellsLimits, limited}
 use Rattle.ft_command.specs.declared.limits.AskedLimits.{AskedLimits}
+use Rattle.ft_command.specs.declared.choice.AskedPace.{AskedPace}
 use Rattle.ft_command.specs.declared.choice.Choice.{Choice}
 use Rattle.ft_command.specs.declared.choice.Choice.TheVariants.{Play, Dot, Load, Save, Jobs, Help, Usage, Fault}
 
@@ -23,6 +24,10 @@ file_rule = record (new_rule (codes "file")) { required = true; value_names = 1 
 -- named
 abbrev pub turns_rule : Rule
 turns_rule = record (new_rule (codes "turns")) { long = Some (codes "turns"); value_names = 1; parser = Some (Unsigned 1 1000000); defaults = codes "10000" ∷ [] }
+
+-- how many threads run jobs at most: `--threads N`, from 1 to 4,096, and 64 where it is not named
+abbrev pub threads_rule : Rule
+threads_rule = record (new_rule (codes "threads")) { long = Some (codes "threads"); value_names = 1; parser = Some (Unsigned 1 4096); defaults = codes "64" ∷ [] }
 
 -- `--quiet`, where it is not to be shown how far it has come
 abbrev pub quiet_rule : Rule
@@ -77,9 +82,10 @@ load = limited (with_rule (with_rule (with_rule (with_rule (with_rule (new_app (
 abbrev pub save : App
 save = limited (with_rule (with_rule (with_rule (with_rule (new_app (codes "save")) dir_rule) set_id_rule) no_owners_rule) quiet_rule)
 
--- `jobs`, which needs a file and may have `--turns N`, `--quiet`, `--moss` and `--after FILE`
+-- `jobs`, which needs a file and may have `--turns N`, `--quiet`, `--moss`, `--after FILE` and
+-- `--threads N`
 abbrev pub jobs : App
-jobs = limited (with_rule (with_rule (with_rule (with_rule (with_rule (new_app (codes "jobs")) file_rule) turns_rule) quiet_rule) moss_rule) after_rule)
+jobs = limited (with_rule (with_rule (with_rule (with_rule (with_rule (with_rule (new_app (codes "jobs")) file_rule) turns_rule) quiet_rule) moss_rule) after_rule) threads_rule)
 
 -- no argument of the command is one of its subcommands too
 abbrev pub HasNoGlobals : Command → Type 0
@@ -113,14 +119,16 @@ abbrev pub IsFlag : Option Text → Bool → Type 0
 IsFlag None flag = flag ≡ false
 IsFlag (Some text) flag = (text ≡ codes "true" → flag ≡ true) × (text ≡ codes "false" → flag ≡ false)
 
--- The file and the turns are those that were found (clap's `first_of` and `one_of`, the digits of
--- which are the number), there is at least one turn, and it is quiet where that flag stands.
-abbrev pub TellsJobs : List Row → Text → ℕ → Bool → Type 0
-TellsJobs found file turns quiet =
-    (first_of (codes "file") found ≡ Some file)
-    × ((digits : Text) × (one_of (codes "turns") found ≡ Some digits) × (turns ≡ digits_value 10 (without_leading_plus digits)))
-    × (1 ≤ turns)
-    × IsFlag (one_of (codes "quiet") found) quiet
+-- the number of this name is that of the digits that were found (clap's `one_of`)
+abbrev pub TellsNumber : Text → List Row → ℕ → Type 0
+TellsNumber name found number = (digits : Text) × (one_of name found ≡ Some digits) × (number ≡ digits_value 10 (without_leading_plus digits))
+
+-- The file and the pace are those that were found (clap's `first_of`), there is at least one turn,
+-- and it is quiet where that flag stands.
+abbrev pub TellsJobs : List Row → Text → AskedPace → Bool → Type 0
+TellsJobs found file pace quiet =
+    (first_of (codes "file") found ≡ Some file) × TellsNumber (codes "turns") found pace.turns × (1 ≤ pace.turns)
+    × TellsNumber (codes "threads") found pace.threads × IsFlag (one_of (codes "quiet") found) quiet
 
 -- the rule is `Moss` where the flag `--moss` stands, and else `Profile`
 abbrev pub TellsRule : List Row → LockRule → Type 0
@@ -146,8 +154,8 @@ ReadChoice met (Load dir skip check set_id quiet limits) =
 ReadChoice met (Save dir set_id no_owners quiet limits) =
     (found : List Row) × (met ≡ Some (codes "save", found)) × TellsDir found (string_bytes dir) × IsFlag (one_of (codes "set-id") found) set_id
     × IsFlag (one_of (codes "no-owners") found) no_owners × IsFlag (one_of (codes "quiet") found) quiet × TellsLimits found limits
-ReadChoice met (Jobs file turns quiet rule after limits) =
-    (found : List Row) × (met ≡ Some (codes "jobs", found)) × TellsJobs found (string_bytes file) turns quiet × TellsRule found rule × TellsAfter found (option_map string_bytes after) × TellsLimits found limits
+ReadChoice met (Jobs file pace quiet rule after limits) =
+    (found : List Row) × (met ≡ Some (codes "jobs", found)) × TellsJobs found (string_bytes file) pace quiet × TellsRule found rule × TellsAfter found (option_map string_bytes after) × TellsLimits found limits
 ReadChoice met (Help text) = ⊥
 ReadChoice met (Usage text) = (name : Text) × (found : List Row) × (met ≡ Some (name, found)) × HasBadLimit found
 ReadChoice met Fault = Unit {0}
@@ -163,7 +171,7 @@ ErrorChoice kind (Play strict rule after limits) = ⊥
 ErrorChoice kind Dot = ⊥
 ErrorChoice kind (Load dir skip check set_id quiet limits) = ⊥
 ErrorChoice kind (Save dir set_id no_owners quiet limits) = ⊥
-ErrorChoice kind (Jobs file turns quiet rule after limits) = ⊥
+ErrorChoice kind (Jobs file pace quiet rule after limits) = ⊥
 ErrorChoice kind (Help text) = IsRequest kind
 ErrorChoice kind (Usage text) = (¬ IsRequest kind) × (kind ≢ OutOfMemory)
 ErrorChoice kind Fault = Unit {0}
@@ -180,7 +188,7 @@ ChoiceOf words (Play strict rule after limits) = IsCommand words (Play strict ru
 ChoiceOf words Dot = IsCommand words Dot
 ChoiceOf words (Load dir skip check set_id quiet limits) = IsCommand words (Load dir skip check set_id quiet limits)
 ChoiceOf words (Save dir set_id no_owners quiet limits) = IsCommand words (Save dir set_id no_owners quiet limits)
-ChoiceOf words (Jobs file turns quiet rule after limits) = IsCommand words (Jobs file turns quiet rule after limits)
+ChoiceOf words (Jobs file pace quiet rule after limits) = IsCommand words (Jobs file pace quiet rule after limits)
 ChoiceOf words (Help text) = (kind : ErrorKind) × IsAmong kind (fault_of program words) × IsRequest kind
 ChoiceOf words (Usage text) = ((kind : ErrorKind) × IsAmong kind (fault_of program words) × (¬ IsRequest kind)) ⊎ IsCommand words (Usage text)
 ChoiceOf words Fault = Unit {0}

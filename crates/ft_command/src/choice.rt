@@ -2,7 +2,7 @@
 ghost use Rattle.std.specs.Prelude.{◌≡◌, IfOk, IfSome, Some, codes, false, map, option_map, string_bytes};
 ghost use Rattle.clap.specs.Words.{Text, app_of, found_of, kind_of, one_of, rows_of, rule_of, subcommand_rows_of};
 ghost use Rattle.ft_command.specs.Limits.{IsBadLimit};
-ghost use Rattle.ft_command.specs.CommandLine.{ChoiceOf, ErrorChoice, HasNoGlobals, IsFlag, ReadChoice, TellsAfter, TellsDir, TellsJobs, TellsRule, after_rule, bare, check_rule, dir_rule, dot, file_rule, jobs, load, moss_rule, play, program, no_owners_rule, quiet_rule, save, set_id_rule, skip_rule, strict_rule, turns_rule, with_filters, with_folders};
+ghost use Rattle.ft_command.specs.CommandLine.{ChoiceOf, ErrorChoice, HasNoGlobals, IsFlag, ReadChoice, TellsAfter, TellsDir, TellsJobs, TellsRule, after_rule, bare, check_rule, dir_rule, dot, file_rule, jobs, load, moss_rule, play, program, no_owners_rule, quiet_rule, save, set_id_rule, skip_rule, strict_rule, threads_rule, turns_rule, with_filters, with_folders};
 
 use crate::limits::{AskedLimits, Flag, asked_limits, with_limits};
 use clap::builder::ValueParser;
@@ -48,12 +48,12 @@ pub enum Choice {
         quiet: bool,
         limits: AskedLimits,
     },
-    /// Run the jobs of the plan in a file. A call of theirs asks at most so many times, at least
-    /// once. How far they have come is not shown where it is to be quiet. Their core grants calls
-    /// by this rule and has these limits. The script in a file, if there is one, is played first.
+    /// Run the jobs of the plan in a file, at this pace. How far they have come is not shown where
+    /// it is to be quiet. Their core grants calls by this rule and has these limits. The script in a
+    /// file, if there is one, is played first.
     Jobs {
         file: String,
-        turns: u64,
+        pace: AskedPace,
         quiet: bool,
         rule: Rule,
         after: Option<String>,
@@ -68,6 +68,15 @@ pub enum Choice {
     Fault,
 }
 
+/// How the jobs of a plan are to be run.
+#[derive(Clone, Copy, Debug, PartialEq, Eq)]
+pub struct AskedPace {
+    /// A call of theirs asks at most so many times, at least once.
+    pub turns: u64,
+    /// So many threads run them at most.
+    pub threads: u64,
+}
+
 // How a script is run, how who waits for whom is drawn, how the jobs of a plan are run, and how
 // they begin with the files of one directory and end with those of another.
 const EXAMPLE: &str =
@@ -78,6 +87,9 @@ const VERSION: &str = "0.1.0";
 
 // The most times that a call of a job may be told to ask.
 const MOST_TURNS: u64 = 1_000_000;
+
+// The most threads that jobs may be given.
+const MOST_THREADS: u64 = 4096;
 
 /// What the words after the program's name ask for.
 ///
@@ -224,9 +236,9 @@ fn jobs_choice(alloc: Global, found: &ArgMatches) -> Choice
         return Choice::Fault;
     };
     match asked_of_jobs(alloc, found) {
-        Some((file, turns, quiet)) => Choice::Jobs {
+        Some((file, pace, quiet)) => Choice::Jobs {
             file,
-            turns,
+            pace,
             quiet,
             rule,
             after,
@@ -276,9 +288,9 @@ fn asked_rule(found: &ArgMatches) -> Rule
     }
 }
 
-// The file and the turns that `jobs` was given, and whether it is to be quiet. There may be no
+// The file and the pace that `jobs` was given, and whether it is to be quiet. There may be no
 // memory for the name of the file. (The crate that reads the words lets no 0 through.)
-fn asked_of_jobs(alloc: Global, found: &ArgMatches) -> Option<(String, u64, bool)>
+fn asked_of_jobs(alloc: Global, found: &ArgMatches) -> Option<(String, AskedPace, bool)>
     ensures { IfSome result (λ asked. TellsJobs (rows_of (found_of found.now)) (string_bytes asked.0) asked.1 asked.2) }
 {
     let file = found.get_str("file")?;
@@ -286,8 +298,9 @@ fn asked_of_jobs(alloc: Global, found: &ArgMatches) -> Option<(String, u64, bool
     if turns == 0 {
         return None;
     }
+    let threads = found.get_one::<u64>("threads")?;
     let file = String::from_str(alloc, file).ok()?;
-    Some((file, turns, found.get_flag("quiet")))
+    Some((file, AskedPace { turns, threads }, found.get_flag("quiet")))
 }
 
 // The command line of the program.
@@ -392,7 +405,8 @@ fn jobs_command<'a>(alloc: Global) -> Result<Command<'a>, AllocError>
         .arg(turns_arg(alloc))?
         .arg(quiet_arg(alloc))?
         .arg(moss_arg(alloc))?
-        .arg(after_arg(alloc))?;
+        .arg(after_arg(alloc))?
+        .arg(threads_arg(alloc))?;
     with_limits(alloc, command)
 }
 
@@ -495,6 +509,19 @@ fn turns_arg<'a>(alloc: Global) -> Arg<'a>
         .value_parser(ValueParser::unsigned(1, MOST_TURNS))
         .default_value("10000")
         .help("How often a call that waits asks at most")
+}
+
+// How many threads run jobs at most.
+fn threads_arg<'a>(alloc: Global) -> Arg<'a>
+    ensures rule { rule_of result ≡ threads_rule }
+    ensures local { result.global ≡ false }
+{
+    Arg::new(alloc, "threads")
+        .long("threads")
+        .value_name("N")
+        .value_parser(ValueParser::unsigned(1, MOST_THREADS))
+        .default_value("64")
+        .help("How many threads run the jobs at most")
 }
 
 // The flag that leaves out how far it has come.

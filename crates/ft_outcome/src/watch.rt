@@ -115,7 +115,7 @@ impl<'a> Watch<'a> {
             return Place::Elsewhere;
         };
         match job.steps.as_slice().get(step.saturating_sub(1) as usize) {
-            Some(Step::Call(_) | Step::CallOn(_)) => Place::Asks,
+            Some(Step::Call(_) | Step::CallOn(_) | Step::Try(_) | Step::TryOn(_)) => Place::Asks,
             _ => Place::Elsewhere,
         }
     }

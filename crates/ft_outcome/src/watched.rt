@@ -1,9 +1,9 @@
 // The jobs of a plan, shown while they run.
-ghost use Rattle.std.specs.Prelude.{◌≢◌, ◌≤◌, IfOk, IfErr};
+ghost use Rattle.std.specs.Prelude.{◌≢◌, IfOk, IfErr};
 ghost use Rattle.ft_reports.specs.Reports.{AreReports};
 
 use crate::watch::Watch;
-use ft_jobs::{JobFault, JobsOutcome, OpenGate, Plan, Report, report_jobs, run_jobs};
+use ft_jobs::{JobFault, JobsOutcome, OpenGate, Pace, Plan, Report, report_jobs, run_jobs};
 use ft_shared::Manager;
 use std::alloc::Global;
 use std::io::Write;
@@ -20,17 +20,16 @@ pub fn run_shown<M: Manager, R: Threads + Wait + Clock + Sync, S: Write + Send +
     alloc: Global,
     plan: &Plan,
     manager: M,
-    turns: u64,
+    pace: Pace,
     screen: Option<S>,
 ) -> Result<JobsOutcome, JobFault>
-    requires { 1 ≤ turns }
     ensures ok { IfOk result (λ outcome. AreReports outcome.core.state plan.now outcome.reports.items) }
     ensures core { IfOk result (λ outcome. M.hands_back outcome.core.state) }
     ensures cause { IfErr result (λ fault. fault ≢ JobFault.BadPlan) }
 {
     match (screen, Watch::new(alloc, plan.jobs())) {
-        (Some(screen), Ok(watch)) => run_watched(rt, alloc, plan, manager, turns, &watch, screen),
-        _ => run_jobs(rt, alloc, plan, manager, &OpenGate, turns),
+        (Some(screen), Ok(watch)) => run_watched(rt, alloc, plan, manager, pace, &watch, screen),
+        _ => run_jobs(rt, alloc, plan, manager, &OpenGate, pace),
     }
 }
 
@@ -40,16 +39,15 @@ fn run_watched<M: Manager, R: Threads + Wait + Clock + Sync, S: Write + Send + D
     alloc: Global,
     plan: &Plan,
     manager: M,
-    turns: u64,
+    pace: Pace,
     watch: &Watch<'_>,
     screen: S,
 ) -> Result<JobsOutcome, JobFault>
-    requires { 1 ≤ turns }
     ensures ok { IfOk result (λ outcome. AreReports outcome.core.state plan.now outcome.reports.items) }
     ensures core { IfOk result (λ outcome. M.hands_back outcome.core.state) }
     ensures cause { IfErr result (λ fault. fault ≢ JobFault.BadPlan) }
 {
-    let run = report_watched(rt, alloc, plan, &manager, turns, watch, screen);
+    let run = report_watched(rt, alloc, plan, &manager, pace, watch, screen);
     let core = manager.into_core(rt);
     JobsOutcome::compared(alloc, plan, core, run?)
 }
@@ -60,24 +58,17 @@ fn report_watched<M: Manager, R: Threads + Wait + Clock + Sync, S: Write + Send 
     alloc: Global,
     plan: &Plan,
     manager: &M,
-    turns: u64,
+    pace: Pace,
     watch: &Watch<'_>,
     screen: S,
 ) -> Result<Vec<Report>, JobFault>
-    requires { 1 ≤ turns }
     ensures { IfErr result (λ fault. fault ≢ JobFault.BadPlan) }
 {
-    thread::scope(
-        thread::scope_env(),
-        rt,
-        move |scope|
-            requires { 1 ≤ turns }
-        {
-            let mut screen = screen;
-            let _ = scope.spawn(move || watch.show(rt, alloc, &mut screen));
-            let run = report_jobs(rt, alloc, plan, manager, watch, turns);
-            watch.stop(rt);
-            run
-        },
-    )
+    thread::scope(thread::scope_env(), rt, move |scope| {
+        let mut screen = screen;
+        let _ = scope.spawn(move || watch.show(rt, alloc, &mut screen));
+        let run = report_jobs(rt, alloc, plan, manager, watch, pace);
+        watch.stop(rt);
+        run
+    })
 }

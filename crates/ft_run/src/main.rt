@@ -6,8 +6,8 @@
 //!
 //! It ends with status 0, also after a help text, with 1 after a fault, of which a line
 //! `fault: NAME` tells on standard error, with 2 where the command line asks for nothing that there
-//! is, and with 3 where a line of a strict script did not do what it asks for, or `load` has left
-//! something out, of which lines tell too.
+//! is, and with 3 where a line of a strict script did not do what it asks for, a job of a strict
+//! plan did not end as it means, or `load` has left something out; what is written tells which.
 #![tactic(auto)]
 
 mod causes;
@@ -41,7 +41,7 @@ use ft_base::Memory;
 use ft_command::{AskedLimits, Choice, choose};
 use ft_copy::{CopyLimits, Source};
 use ft_core::{Core, Limits, Rule};
-use ft_jobs::LONGEST_PLAN;
+use ft_jobs::{LONGEST_PLAN, Pace};
 use ft_load::needs_of;
 use ft_needs::{limits_for, raised_for};
 use ft_record::Recorded;
@@ -103,7 +103,7 @@ fn main(rt: HostRuntime) -> ExitCode {
         ),
         Choice::Jobs {
             file,
-            turns,
+            pace,
             quiet,
             rule,
             after,
@@ -114,7 +114,10 @@ fn main(rt: HostRuntime) -> ExitCode {
                 alloc,
                 core,
                 plan.as_slice(),
-                turns,
+                Pace {
+                    turns: pace.turns,
+                    threads: pace.threads,
+                },
                 screen(&rt, quiet),
                 &mut rt.stdout(),
                 &mut rt.stderr(),

@@ -2,6 +2,7 @@
 use crate::status::{jobs_status, play_status};
 use ft_after::core_after;
 use ft_core::{Limits, Rule};
+use ft_jobs::Pace;
 use ft_record::Recorded;
 use std::alloc::Global;
 use std::io;
@@ -127,7 +128,7 @@ fn jobs_program_text(rt: HostRuntime) -> Result<(), Fail> {
         alloc,
         core,
         ONE_JOB,
-        1,
+        Pace::of_turns(1),
         None::<Narrow>,
         &mut output,
         &mut errors,
@@ -141,7 +142,7 @@ fn jobs_program_text(rt: HostRuntime) -> Result<(), Fail> {
         alloc,
         core,
         b"".as_slice(),
-        1,
+        Pace::of_turns(1),
         None::<Narrow>,
         &mut output,
         &mut errors,
@@ -161,7 +162,7 @@ fn output_that_fails(rt: HostRuntime) -> Result<(), Fail> {
         alloc,
         core,
         ONE_JOB,
-        1,
+        Pace::of_turns(1),
         None::<Narrow>,
         &mut output,
         &mut errors,

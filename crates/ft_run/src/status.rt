@@ -1,5 +1,5 @@
 // The status that the program ends with.
-ghost use Rattle.std.specs.Prelude.{◌≡◌, ◌≤◌, ◌⊎◌};
+ghost use Rattle.std.specs.Prelude.{◌≡◌, ◌⊎◌, true, false};
 ghost use Rattle.std.specs.Io.KnownBytes.{Keeps};
 ghost use Rattle.ft_dot.specs.Drawn.{Draws, StopsDrawing};
 ghost use Rattle.ft_outcome.specs.Runs.{RunsPlan, StopsPlan};
@@ -15,6 +15,7 @@ use ft_after::AfterFault;
 use ft_copy::{CopyLimits, Source, Stopped, Target};
 use ft_core::{Core, Limits};
 use ft_dot::draw;
+use ft_jobs::Pace;
 use ft_load::load;
 use ft_outcome::{RunFault, run_plan};
 use ft_record::Recorded;
@@ -76,29 +77,30 @@ pub fn dot_status<R: Read, W: Write, E: Write>(
 }
 
 /// Runs the jobs of a plan on a core where no transaction is live, and answers the status to end
-/// with: 0, or 1 after a fault, of which a line tells on `errors`. Where that line can't be
-/// written, the status is the same. How far the jobs have come is shown on a screen while they run,
-/// if there is one.
+/// with: 0; 3 where the plan is strict and a job did not end as it means; or 1 after a fault, of
+/// which a line tells on `errors`. Where that line can't be written, the status is the same. How
+/// far the jobs have come is shown on a screen while they run, if there is one.
 pub fn jobs_status<R: Threads + Wait + Clock + Sync, S: Write + Send + Drop, W: Write, E: Write>(
     rt: &R,
     alloc: Global,
     core: Recorded,
     plan: &[u8],
-    turns: u64,
+    pace: Pace,
     screen: Option<S>,
     writer: &mut W,
     errors: &mut E,
 ) -> u8
-    requires turns { 1 ≤ turns }
-    requires none_live { NoneIsLive core.state }
-    ensures status { (result ≡ 0) ⊎ (result ≡ 1) }
-    ensures quiet { result ≡ 0 → Keeps (E.contents errors.old) (E.contents errors.new) }
-    ensures ok { result ≡ 0 → RunsPlan core.state plan.now (W.contents writer.old) (W.contents writer.new) }
+    requires { NoneIsLive core.state }
+    ensures status { (result ≡ 0) ⊎ (result ≡ 1) ⊎ (result ≡ 3) }
+    ensures quiet { (result ≡ 0) ⊎ (result ≡ 3) → Keeps (E.contents errors.old) (E.contents errors.new) }
+    ensures ok { result ≡ 0 → RunsPlan true core.state plan.now (W.contents writer.old) (W.contents writer.new) }
+    ensures unmet { result ≡ 3 → RunsPlan false core.state plan.now (W.contents writer.old) (W.contents writer.new) }
     ensures fault { result ≡ 1 → (fault : RunFault) × StopsPlan fault core.state plan.now (W.contents writer.old) (W.contents writer.new)
         × WritesFront (E.contents errors.old) (E.contents errors.new) (run_fault_line fault) }
 {
-    match run_plan(rt, alloc, core, plan, turns, screen, writer) {
-        Ok(()) => 0,
+    match run_plan(rt, alloc, core, plan, pace, screen, writer) {
+        Ok(is_met) if is_met => 0,
+        Ok(_) => 3,
         Err(fault) => failed(errors, run_fault_line(fault)),
     }
 }
