@@ -41,7 +41,7 @@ class Whole(Calls):
     def islink(self, path: AnyPath) -> bool:
         """Whether a path leads to a symbolic link."""
         found = self._found(path, follow_symlinks=False)
-        return found is not None and found.is_link
+        return found is not None and found.is_symlink()
 
     def realpath(self, path: AnyPath) -> str:
         """The path from the root to what a path leads to, with no symbolic link, `.` or `..` in it,
