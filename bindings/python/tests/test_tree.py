@@ -1,6 +1,7 @@
 """Trees, transactions and their calls on paths."""
 import copy
 import errno
+import gc
 import os
 import pickle
 import subprocess
@@ -298,8 +299,13 @@ class Paths(TreeTest):
 
 class Trees(unittest.TestCase):
     def test_trees_that_are_none(self):
+        told = []
+        self.addCleanup(setattr, sys, "unraisablehook", sys.unraisablehook)
+        sys.unraisablehook = lambda what: told.append(str(what.exc_value))
         with self.assertRaises(TypeError):
             Tree(True)
+        gc.collect()
+        self.assertEqual(told, [])
 
     def test_library_that_is_missing_is_told(self):
         place = {**os.environ, "NUZOLGED_LIBRARY": "/none/libnuzolged.so.1"}
