@@ -52,9 +52,9 @@ nuz_tree *nuz_shared_lock(nuz_shared *shared);
 void nuz_shared_unlock(nuz_shared *shared);
 
 /** Waits for the call that txn has just made, if its code is NUZ_WAITS, and returns what the call
- * returns in the end. The thread has the lock, which is free while it sleeps. The call is made again
- * when a transaction has ended, and every 50 milliseconds. The data that it reads or lists goes to
- * buffer, as with nuz_retry.
+ * returns in the end. The thread has the lock, which is free while the thread sleeps. The call is
+ * made again when a transaction has ended, and every 50 milliseconds. The data that it reads or
+ * lists goes to buffer, as with nuz_retry.
  *
  * If the call would wait forever, EDEADLK is returned at once: the transactions in blockers wait
  * for each other, and txn comes first. number is how many there are. No call returns EDEADLK

@@ -150,7 +150,8 @@ static bool call_that_need_not_wait_does_not(void) {
 
 static bool deadlock_is_told_at_once(void) {
     CHECK(opened());
-    call one = { begin(), NUZ_FOREVER, .path = "/a" }, other = { begin(), NUZ_FOREVER, .path = "/b" };
+    call one = { begin(), NUZ_FOREVER, .path = "/a" };
+    call other = { begin(), NUZ_FOREVER, .path = "/b" };
     make_directory(&one);
     make_directory(&other);
     one.path = "/b", other.path = "/a";
