@@ -27,6 +27,9 @@ static bool opened(void) {
     return nuz_tree_open(&tree, 0) == 0 && nuz_shared_open(&shared, tree) == 0;
 }
 
+/* Longer than any of these waits, in milliseconds, so that none is for ever. */
+enum { LONG = 60000 };
+
 /* A call of a transaction on a path, in a thread of its own if it has to wait. */
 typedef struct call {
     uint64_t txn;
@@ -87,7 +90,7 @@ static bool waits_for_nothing(uint64_t txn) {
 
 static bool call_goes_on_when_the_other_has_ended(void) {
     CHECK(opened());
-    call one = { .txn = begin(), .path = "/a" }, other = { begin(), NUZ_FOREVER, .path = "/" };
+    call one = { .txn = begin(), .path = "/a" }, other = { begin(), LONG, .path = "/" };
     make_directory(&one);
     CHECK(one.code == 0 && begins_to_wait(&other));
     CHECK(nuz_shared_commit(shared, one.txn, &answer) == 0 && has_ended(&other));
@@ -99,7 +102,7 @@ static bool call_goes_on_when_the_other_has_ended(void) {
 
 static bool abort_wakes_too(void) {
     CHECK(opened());
-    call one = { .txn = begin(), .path = "/a" }, other = { begin(), NUZ_FOREVER, .path = "/" };
+    call one = { .txn = begin(), .path = "/a" }, other = { begin(), LONG, .path = "/" };
     make_directory(&one);
     CHECK(begins_to_wait(&other));
     CHECK(nuz_shared_abort(shared, one.txn, &answer) == 0 && answer.number == 1);
@@ -110,7 +113,7 @@ static bool abort_wakes_too(void) {
 
 static bool end_that_wakes_nobody_is_noticed(void) {
     CHECK(opened());
-    call one = { .txn = begin(), .path = "/a" }, other = { begin(), NUZ_FOREVER, .path = "/" };
+    call one = { .txn = begin(), .path = "/a" }, other = { begin(), LONG, .path = "/" };
     make_directory(&one);
     CHECK(begins_to_wait(&other));
     nuz_abort(nuz_shared_lock(shared), one.txn, &answer);
@@ -141,7 +144,7 @@ static bool time_may_be_over(void) {
 
 static bool call_that_need_not_wait_does_not(void) {
     CHECK(opened());
-    call one = { begin(), NUZ_FOREVER, .path = "/no/a" };
+    call one = { begin(), LONG, .path = "/no/a" };
     make_directory(&one);
     CHECK(one.code == ENOENT && one.answer.code == ENOENT);
     nuz_shared_close(shared);
@@ -150,8 +153,8 @@ static bool call_that_need_not_wait_does_not(void) {
 
 static bool deadlock_is_told_at_once(void) {
     CHECK(opened());
-    call one = { begin(), NUZ_FOREVER, .path = "/a" };
-    call other = { begin(), NUZ_FOREVER, .path = "/b" };
+    call one = { begin(), LONG, .path = "/a" };
+    call other = { begin(), LONG, .path = "/b" };
     make_directory(&one);
     make_directory(&other);
     one.path = "/b", other.path = "/a";
@@ -210,10 +213,10 @@ static void *add(void *order) {
             const char *path = paths[(first + i) % 2];
             nuz_tree *tree = nuz_shared_lock(shared);
             nuz_stat(tree, txn, NUZ_S(path), &told);
-            code = nuz_shared_wait(shared, txn, NUZ_FOREVER, NULL, 0, &told);
+            code = nuz_shared_wait(shared, txn, LONG, NULL, 0, &told);
             if (code == 0) {
                 nuz_truncate(tree, txn, NUZ_S(path), (int64_t)told.size + 1, &told);
-                code = nuz_shared_wait(shared, txn, NUZ_FOREVER, NULL, 0, &told);
+                code = nuz_shared_wait(shared, txn, LONG, NULL, 0, &told);
             }
             nuz_shared_unlock(shared);
         }
