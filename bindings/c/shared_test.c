@@ -28,7 +28,7 @@ static bool opened(void) {
 }
 
 /* Longer than any of these waits, in milliseconds, so that none is for ever. */
-enum { LONG = 60000 };
+enum { LONG = 20000 };
 
 /* A call of a transaction on a path, in a thread of its own if it has to wait. */
 typedef struct call {
