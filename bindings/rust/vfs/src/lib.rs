@@ -30,6 +30,11 @@ impl TransactionFS {
         &self.transaction
     }
 
+    fn is_dir(&self, path: &str) -> bool {
+        let metadata = self.transaction.metadata(in_tree(path));
+        metadata.map_or(false, |metadata| metadata.is_dir())
+    }
+
     fn open(&self, path: &str, options: &OpenOptions) -> VfsResult<OwnedFile<Shared>> {
         let opened = self.transaction.open_owned(in_tree(path), options);
         opened.map_err(of_vfs)
@@ -47,12 +52,14 @@ impl FileSystem for TransactionFS {
     }
 
     fn create_dir(&self, path: &str) -> VfsResult<()> {
-        match self.transaction.create_dir(in_tree(path)) {
-            Err(error) if error.kind() == io::ErrorKind::AlreadyExists => {
-                Err(existing(self.metadata(path)?.file_type))
+        let made = self.transaction.create_dir(in_tree(path));
+        made.map_err(|error| match error.kind() {
+            io::ErrorKind::AlreadyExists if self.is_dir(path) => {
+                VfsErrorKind::DirectoryExists.into()
             }
-            made => made.map_err(of_vfs),
-        }
+            io::ErrorKind::AlreadyExists => VfsErrorKind::FileExists.into(),
+            _ => of_vfs(error),
+        })
     }
 
     fn open_file(&self, path: &str) -> VfsResult<Box<dyn SeekAndRead + Send>> {
@@ -133,12 +140,5 @@ fn of_vfs(error: Error) -> VfsError {
     match error {
         Error::Invalid => VfsErrorKind::InvalidPath.into(),
         error => VfsErrorKind::IoError(error.into()).into(),
-    }
-}
-
-fn existing(file_type: VfsFileType) -> VfsError {
-    match file_type {
-        VfsFileType::Directory => VfsErrorKind::DirectoryExists.into(),
-        VfsFileType::File => VfsErrorKind::FileExists.into(),
     }
 }

@@ -139,6 +139,8 @@ fn links_lead_on_and_names_are_text() -> Tested {
         ("bytes".into(), 5)
     );
     assert!(!fs.exists("/none")? && is_missing(fs.metadata("/none")));
+    let error = fs.create_dir("/none").unwrap_err();
+    assert!(matches!(error.kind(), VfsErrorKind::FileExists));
     fs.transaction().write(OsStr::from_bytes(b"/\xff"), "")?;
     let error = fs.read_dir("").err().expect("a name is not text");
     assert!(matches!(error.kind(), VfsErrorKind::Other(_)));
