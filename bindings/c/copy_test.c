@@ -819,6 +819,36 @@ static bool failure_of_a_copy_in_is_told(void) {
     return true;
 }
 
+static int synced, synced_before;
+
+/* Counts what is put on the disk, in all and before a name is given. */
+static int count_synced(const char *function, int folder, const char *name) {
+    (void)folder, (void)name;
+    if (strncmp(function, "renameat", 8) == 0) {
+        synced_before = synced;
+    }
+    synced += strcmp(function, "fsync") == 0;
+    return 0;
+}
+
+/* Three directories and two files, and then the directory above. */
+static bool all_is_on_the_disk_before_it_gets_its_name(void) {
+    job job;
+    CHECK(made_source() && begun(&job) && copy_in(&job, at("in"), "/", NULL) == 0);
+    for (int with = 0; with < 4; with++) {
+        bool syncs = with & 1, replaces = with & 2;
+        uint32_t flags = (syncs ? NUZ_COPY_SYNC : 0) | (replaces ? NUZ_COPY_REPLACE : 0);
+        CHECK(made_old(replaces));
+        synced = synced_before = 0;
+        before = count_synced;
+        CHECK(copy_out(&job, at("out"), flags, NULL) == 0);
+        before = NULL;
+        CHECK(synced_before == (syncs ? 5 : 0) && synced == (syncs ? 6 : 0));
+    }
+    ended(&job);
+    return made_old(false);
+}
+
 static int die(const char *function, int folder, const char *name) {
     (void)folder, (void)name;
     if (is_of_disk(function) && calls_left-- == 0) {
@@ -960,6 +990,7 @@ static const test TESTS[] = {
     TEST(full_disk_is_told),
     TEST(failure_leaves_nothing),
     TEST(failure_of_a_copy_in_is_told),
+    TEST(all_is_on_the_disk_before_it_gets_its_name),
     TEST(death_leaves_all_or_nothing),
     TEST(too_deep_a_directory_is_told),
     TEST(copy_that_waits_is_told),

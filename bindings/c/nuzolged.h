@@ -3,7 +3,7 @@
  * Link libnuzolged, static or shared. Either one has all that the library needs, except memcpy,
  * memmove, memset, malloc, realloc and free of the C library. (nuz_strerror, in this header, also
  * needs strerror. The functions of nuzolged_touched.h and nuzolged_cycle.h need more of stdlib.h
- * and string.h, and those of nuzolged_copy.h need a POSIX system.)
+ * and string.h, and those of nuzolged_copy.h and nuzolged_shared.h need a POSIX system.)
  *
  * A function carries out one request as a whole, or changes nothing. It returns the code of its
  * answer, which is 0 if all went well. It fills in the caller's nuz_answer with that code and the

@@ -5,7 +5,8 @@
  *     cc -O2 -I../c longest.c ../out/libnuzolged.a -o longest
  *     ./longest
  *
- * It prints the milliseconds of processor time of each. docs/COST.md has the figures.
+ * It prints the milliseconds of processor time of each, and the most memory that it has had up to
+ * there. docs/COST.md has the figures.
  */
 #define _POSIX_C_SOURCE 200809L
 
@@ -13,6 +14,7 @@
 
 #include <stdio.h>
 #include <stdlib.h>
+#include <sys/resource.h>
 #include <time.h>
 
 enum { FILES = 100000, FOLDERS = 100, LEVELS = 64, READERS = 20000, WAITERS = 1000 };
@@ -35,7 +37,10 @@ static double milliseconds(void) {
 }
 
 static void print_since(const char *what, double begun) {
-    printf("%-52s %10.3f ms\n", what, milliseconds() - begun);
+    double ended = milliseconds();
+    struct rusage used;
+    getrusage(RUSAGE_SELF, &used);
+    printf("%-52s %10.3f ms %6ld MB\n", what, ended - begun, used.ru_maxrss / 1024);
 }
 
 static uint64_t begin(void) {
@@ -123,6 +128,17 @@ static void block(void) {
     }
 }
 
+/* Has many look at a name that one has made. */
+static void wait_for_one(void) {
+    must(nuz_mkdir(tree, begin(), NUZ_S("/name"), NUZ_DEFAULT_MODE, &answer));
+    for (int i = 0; i < WAITERS; i++) {
+        nuz_stat(tree, begin(), NUZ_S("/name"), &answer);
+    }
+    double begun = milliseconds();
+    must(nuz_cycle(tree, NULL, 0, &answer));
+    print_since("nuz_cycle of 1,000 calls that one transaction blocks", begun);
+}
+
 static void report(void) {
     block();
     double begun = milliseconds();
@@ -138,6 +154,7 @@ int main(void) {
     in_a_tree(commit_files_among_others);
     in_a_tree(abort_files);
     in_a_tree(commit_levels);
+    in_a_tree(wait_for_one);
     in_a_tree(report);
     return EXIT_SUCCESS;
 }

@@ -158,12 +158,12 @@ class Calls:
     def isdir(self, path: AnyPath) -> bool:
         """Returns whether a path leads to a directory."""
         found = self._found(path)
-        return found is not None and found.is_dir
+        return found is not None and found.is_dir()
 
     def isfile(self, path: AnyPath) -> bool:
         """Returns whether a path leads to a file."""
         found = self._found(path)
-        return found is not None and found.is_file
+        return found is not None and found.is_file()
 
     def _found(self, path: AnyPath, follow_symlinks: bool = True) -> Info | None:
         """What a path leads to, if it leads to anything."""

@@ -41,7 +41,7 @@ class Whole(Calls):
     def islink(self, path: AnyPath) -> bool:
         """Returns whether a path leads to a symbolic link."""
         found = self._found(path, follow_symlinks=False)
-        return found is not None and found.is_link
+        return found is not None and found.is_symlink()
 
     def realpath(self, path: AnyPath) -> str:
         """Returns the path from the root to what a path leads to, without symbolic links, `.` and

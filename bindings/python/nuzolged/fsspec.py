@@ -100,8 +100,8 @@ class NuzolgedFileSystem(AbstractFileSystem):  # type: ignore[misc]
 
     @staticmethod
     def _told(path: str, info: Info) -> dict[str, Any]:
-        kind = "link" if info.is_link else "directory" if info.is_dir else "file"
-        told = {"name": path, "size": info.size, "type": kind, "islink": info.is_link}
+        kind, is_link = "directory" if info.is_dir() else info.kind, info.is_symlink()
+        told = {"name": path, "size": info.size, "type": kind, "islink": is_link}
         told |= {"ino": info.number, "nlink": info.links, "mode": info.st_mode}
         return {**told, "uid": info.owner, "gid": info.group, "mtime": info.st_mtime}
 
@@ -147,7 +147,7 @@ class NuzolgedFileSystem(AbstractFileSystem):  # type: ignore[misc]
 
     def _rm(self, path: str) -> None:
         path = self._strip_protocol(path)
-        if self.at.lstat(path).is_dir:
+        if self.at.lstat(path).is_dir():
             self.at.rmdir(path)
         else:
             self.at.unlink(path)
@@ -157,7 +157,7 @@ class NuzolgedFileSystem(AbstractFileSystem):  # type: ignore[misc]
 
     def cp_file(self, path1: str, path2: str, **_: Any) -> None:
         old, new = self._strip_protocol(path1), self._strip_protocol(path2)
-        if self.at.lstat(old).is_dir:
+        if self.at.lstat(old).is_dir():
             self.at.makedirs(new, exist_ok=True)
         else:
             self.at.copyfile(old, new, follow_symlinks=False)

@@ -1,6 +1,7 @@
 """Trees, transactions and their calls on paths."""
 import copy
 import errno
+import gc
 import os
 import pickle
 import subprocess
@@ -216,7 +217,7 @@ class Paths(TreeTest):
         self.assertEqual((a.name, a.path, a.is_dir(), a.is_file()), ("a", "/a", False, True))
         self.assertEqual((b.name, b.path, b.is_dir(), b.is_file()), ("b", "/b", True, False))
         self.assertEqual(a.stat().st_size, 4)
-        info = Info(is_dir=True, number=2, links=1, size=0, mode=0o755)
+        info = Info("dir", number=2, links=1, size=0, mode=0o755)
         self.assertEqual(self.job.stat("/b"), info)
         self.job.rmdir("/b")
         self.assertEqual(self.job.listdir("/"), ["a"])
@@ -224,7 +225,7 @@ class Paths(TreeTest):
     def test_files(self):
         self.job.write_bytes("/f", b"four")
         self.job.link("/f", "/g")
-        self.assertEqual(self.job.stat("/g"), Info(is_dir=False, number=2, links=2, size=4))
+        self.assertEqual(self.job.stat("/g"), Info("file", number=2, links=2, size=4))
         self.job.rename("/g", "/h")
         self.job.unlink("/f")
         self.job.truncate("/h", 2)
@@ -298,8 +299,13 @@ class Paths(TreeTest):
 
 class Trees(unittest.TestCase):
     def test_trees_that_are_none(self):
+        told = []
+        self.addCleanup(setattr, sys, "unraisablehook", sys.unraisablehook)
+        sys.unraisablehook = lambda what: told.append(str(what.exc_value))
         with self.assertRaises(TypeError):
             Tree(True)
+        gc.collect()
+        self.assertEqual(told, [])
 
     def test_library_that_is_missing_is_told(self):
         place = {**os.environ, "NUZOLGED_LIBRARY": "/none/libnuzolged.so.1"}

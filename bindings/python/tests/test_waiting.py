@@ -143,7 +143,7 @@ class ForATime(WaitingTest):
         self.assert_gives_up(tree, lambda: second.within(0.04).stat("/a"), 0.04)
         self.assert_gives_up(tree, lambda: second.within(0).stat("/a"), 0)
         first.commit()
-        self.assertTrue(second.stat("/a").is_dir)
+        self.assertTrue(second.stat("/a").is_dir())
         for transaction in (second, step, third):
             transaction.abort()
 
@@ -176,7 +176,7 @@ class ForATime(WaitingTest):
         first, second = tree.begin(), tree.begin()
         first.mkdir("/a")
         second.mkdir("/b")
-        end = self.beside(lambda: first.stat("/b").is_dir)
+        end = self.beside(lambda: first.stat("/b").is_dir())
         self.wait_for(tree, "edges 1\nedge 2 3 lock\nranks 2:1 3:0\n")
         begun = time.monotonic()
         with self.assertRaises(Deadlock) as told:
@@ -201,7 +201,7 @@ class ForATime(WaitingTest):
         first, second = tree.begin(), tree.begin()
         first.mkdir("/a")
         second.mkdir("/b")
-        end = self.beside(lambda: first.stat("/b").is_dir)
+        end = self.beside(lambda: first.stat("/b").is_dir())
         edges = "edge 2 3 lock\nedge 3 2 lock\nedge 4 5 lock\n"
         self.wait_for(tree, f"edges 3\n{edges}cycle 2 3\n")
         begun = time.monotonic()

@@ -6,6 +6,7 @@ use crate::sys::{self, Answer, Handle};
 use crate::transaction::{signed, Metadata, Transaction};
 use crate::tree::Reach;
 use std::io::{self, SeekFrom};
+use std::os::unix::fs::FileExt;
 use std::path::{Path, PathBuf};
 use std::sync::Arc;
 
@@ -238,6 +239,17 @@ impl<H: Holder> OpenFile<H> {
         self.ask(Handle::close_file)?;
         self.is_open = false;
         Ok(())
+    }
+}
+
+/// The same with `io::Error`s, and with `read_exact_at` and `write_all_at`.
+impl<H: Holder> FileExt for OpenFile<H> {
+    fn read_at(&self, buffer: &mut [u8], offset: u64) -> io::Result<usize> {
+        Ok(OpenFile::read_at(self, buffer, offset)?)
+    }
+
+    fn write_at(&self, bytes: &[u8], offset: u64) -> io::Result<usize> {
+        Ok(OpenFile::write_at(self, bytes, offset)?)
     }
 }
 

@@ -1,4 +1,4 @@
-// Written by header.py from nuzolged.h and nuzolged_copy.h and nuzolged_cycle.h and nuzolged_touched.h.
+// Written by header.py from nuzolged.h and nuzolged_copy.h and nuzolged_cycle.h and nuzolged_shared.h and nuzolged_touched.h.
 #![allow(clippy::doc_lazy_continuation)]
 use std::os::raw::{c_char, c_void};
 /// The version of this header, and of the library that comes with it, as text and as a number. The
@@ -190,6 +190,24 @@ pub struct nuz_copy_failure {
     pub disk: [c_char; NUZ_COPY_ROOM as usize],
     /// and in the tree; as much of each as has room
     pub path: [c_char; NUZ_COPY_ROOM as usize],
+}
+/// A tree with a lock. A program has only pointers to it.
+#[repr(C)]
+pub struct nuz_shared {
+    _private: [u8; 0],
+}
+/// As a time, no limit.
+pub const NUZ_FOREVER: u32 = u32::MAX;
+/// The context of `nuz_shared_around`.
+#[repr(C)]
+#[derive(Clone, Copy, Debug)]
+pub struct nuz_shared_copy {
+    /// `shared`
+    pub shared: *mut nuz_shared,
+    /// the transaction of the copy
+    pub txn: u64,
+    /// how long each request waits, or `NUZ_FOREVER`
+    pub milliseconds: u32,
 }
 /// looked up, even in vain, or its bytes, target or mode were read
 pub const NUZ_TOUCHED_READ: u32 = 1;
@@ -787,6 +805,51 @@ extern "C" {
         txns: *mut u64,
         room: usize,
         answer: *mut nuz_answer,
+    ) -> u32;
+    /// Shares a tree. From here on only the shared tree uses it, and closes it. Returns 0, or
+    /// `NUZ_MEMORY`: then nothing has changed.
+    /// - `shared`: receives the shared tree, which the caller closes, or null
+    /// - `tree`: an open tree
+    pub fn nuz_shared_open(shared: *mut *mut nuz_shared, tree: *mut nuz_tree) -> u32;
+    /// Frees a shared tree with its tree. No thread uses it any more. If shared is null, it does
+    /// nothing.
+    pub fn nuz_shared_close(shared: *mut nuz_shared);
+    /// Takes the lock, and returns the tree. The thread does not have the lock yet.
+    pub fn nuz_shared_lock(shared: *mut nuz_shared) -> *mut nuz_tree;
+    /// Releases the lock, which the thread has.
+    pub fn nuz_shared_unlock(shared: *mut nuz_shared);
+    /// Waits for the call that txn has just made, if its code is `NUZ_WAITS`, and returns what the call
+    /// returns in the end. The thread has the lock, which is free while the thread sleeps. The call is
+    /// made again when a transaction has ended, and every 50 milliseconds. The data that it reads or
+    /// lists goes to buffer, as with `nuz_retry`.
+    ///
+    /// If the call would wait forever, EDEADLK is returned at once: the transactions in blockers wait
+    /// for each other, and txn comes first. number is how many there are. No call returns EDEADLK
+    /// itself. If the time is over, `NUZ_WAITS` is returned. In both cases the call is forgotten.
+    /// - `milliseconds`: how long it waits at most, or `NUZ_FOREVER`
+    /// - `answer`: the answer of the call, which is replaced by that of the last one
+    pub fn nuz_shared_wait(
+        shared: *mut nuz_shared,
+        txn: u64,
+        milliseconds: u32,
+        buffer: *mut c_void,
+        room: usize,
+        answer: *mut nuz_answer,
+    ) -> u32;
+    /// Commits txn as `nuz_commit` does, and wakes those that wait. The thread does not have the lock.
+    /// (They notice other ends within 50 milliseconds.)
+    pub fn nuz_shared_commit(shared: *mut nuz_shared, txn: u64, answer: *mut nuz_answer) -> u32;
+    /// The same, but aborts txn as `nuz_abort` does.
+    pub fn nuz_shared_abort(shared: *mut nuz_shared, txn: u64, answer: *mut nuz_answer) -> u32;
+    /// Is the function around of a copy (nuzolged_copy.h): takes the lock for each request, and waits
+    /// as `nuz_shared_wait` does.
+    /// - `context`: a `nuz_shared_copy`
+    /// - `make`: what makes the request
+    /// - `request`: the request
+    pub fn nuz_shared_around(
+        context: *mut c_void,
+        make: nuz_copy_request,
+        request: *mut c_void,
     ) -> u32;
     /// Passes every path that txn has touched to a function, once, in the order of the paths' bytes:
     /// number is how many there are. Returns 0, what the function returned, or `NUZ_MEMORY`.
