@@ -1,4 +1,4 @@
-use Rattle.std.proofs.Common.{List, ◌∙◌, ap}
+use Rattle.std.proofs.Common.{List, ◌∙◌, ap, rules}
 use Rattle.ft_plan.specs.declared.job.Job.{Job}
 use Rattle.ft_outcome.specs.Runs.{text_of_outcome}
 use Rattle.ft_outcome.proofs.Unrun.{bad_before, no_bad_plan}
