@@ -41,6 +41,9 @@ class Session:
 
     _at: int | None = None
 
+    #: What answers in the place of the library once the tree is closed.
+    _closed: Any = ClosedTree()
+
     def __init__(self, options: int, limits: Limits, keeps_waits: bool) -> None:
         handle = ctypes.c_void_p()
         #: Whether a call that does not wait, and has to, is kept.
@@ -70,7 +73,9 @@ class Session:
         self._ended = threading.Condition(self.lock)
 
     def __del__(self) -> None:
-        library.nuz_tree_close(self._at)
+        """Frees the tree. (Finalizers of its transactions and files may come after it.)"""
+        at, self._at, self._library = self._at, None, self._closed
+        library.nuz_tree_close(at)
 
     @property
     def is_open(self) -> bool:
@@ -79,7 +84,7 @@ class Session:
     def close(self) -> None:
         """Frees the tree, which wakes those that wait."""
         with self.lock:
-            at, self._at, self._library = self._at, None, ClosedTree()
+            at, self._at, self._library = self._at, None, self._closed
             library.nuz_tree_close(at)
             self._ended.notify_all()
 

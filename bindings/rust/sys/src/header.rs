@@ -445,7 +445,8 @@ extern "C" {
     ) -> u32;
     /// Opens a file at offset 0: number is the descriptor. Also returns `NUZ_BAD` for flags that are not
     /// valid. A descriptor belongs to the tree. Any transaction may use it once the transaction that
-    /// opened it has committed. The caller closes it. Errors: EINVAL, EEXIST, EISDIR.
+    /// opened it has committed. The caller closes it. An undo or an abort of its opening removes it.
+    /// Errors: EINVAL, EEXIST, EISDIR.
     /// - `flags`: one of `NUZ_O_RDONLY`, `NUZ_O_WRONLY` and `NUZ_O_RDWR`, and any of `NUZ_O_CREAT`,
     /// `NUZ_O_EXCL`, `NUZ_O_TRUNC` and `NUZ_O_APPEND`
     /// - `mode`: the mode of a file that is made, without a umask, or `NUZ_DEFAULT_MODE`. An existing

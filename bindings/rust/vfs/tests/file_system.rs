@@ -132,7 +132,7 @@ fn links_lead_on_and_names_are_text() -> Tested {
     let fs = new()?;
     write(&fs, "/f", b"bytes")?;
     fs.transaction().symlink("f", "/link")?;
-    fs.transaction().symlink("none", "/none")?;
+    fs.transaction().symlink("nothing", "/none")?;
     assert_eq!(fs.read_dir("")?.collect::<Vec<_>>(), ["f", "link", "none"]);
     assert_eq!(
         (read(&fs, "/link")?, fs.metadata("/link")?.len),
