@@ -120,9 +120,10 @@ int was_sent(void);
 
 /* ---- what it tells of its step (told.c) */
 
-/* The texts that are wanted, for their reader to free. */
+/* The texts that are wanted, and the paths of their files, for their reader to free. */
 struct texts {
-    char *depfile, *manifest;
+    char *depfile, *depfile_at;
+    char *manifest, *manifest_at;
 };
 
 /* Whether all that is to be told has a place. */

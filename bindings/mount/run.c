@@ -146,6 +146,17 @@ static bool can_bind(const struct job *job) {
     return false;
 }
 
+/* Whether a mount of this run would be in the directory that is saved to. */
+static bool is_in_target(const struct job *job) {
+    char *top = job->target.dir < 0 ? NULL : realpath(job->target.path, NULL);
+    bool is_inside = top != NULL && is_at_or_below(job->dir, top);
+    free(top);
+    if (is_inside) {
+        complain("save %s: the mount of the step would be in it", job->target.said);
+    }
+    return is_inside;
+}
+
 /* Makes a directory for a mount of this run. */
 static bool have_directory(struct job *job) {
     const char *folder = getenv("TMPDIR");
@@ -155,7 +166,8 @@ static bool have_directory(struct job *job) {
     }
     job->dir = joined(top, "/nuz.XXXXXX", "");
     free(top);
-    return can_bind(job) && (mkdtemp(job->dir) != NULL || fails("mount", job->dir));
+    return can_bind(job) && !is_in_target(job)
+        && (mkdtemp(job->dir) != NULL || fails("mount", job->dir));
 }
 
 /* Begins a mount for this run, in a directory of its own. */
@@ -218,7 +230,9 @@ static int commit(struct job *job) {
         status = NOT_TOLD;
     }
     free(texts.depfile);
+    free(texts.depfile_at);
     free(texts.manifest);
+    free(texts.manifest_at);
     return status;
 }
 

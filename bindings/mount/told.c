@@ -5,6 +5,7 @@
 #include <errno.h>
 #include <fcntl.h>
 #include <nuzolged_touched.h>
+#include <signal.h>
 #include <stdio.h>
 #include <stdlib.h>
 #include <string.h>
@@ -17,6 +18,17 @@
 static char *file_of(const char *path) {
     char *file = realpath(path, NULL);
     return file != NULL ? file : joined(path, "", "");
+}
+
+/* Which stream of this process a path names, as /dev/stdout and /dev/fd/3 do, or -1. */
+static int stream_of(const char *path) {
+    int number, size = 0;
+    if (strcmp(path, "/dev/stdout") == 0 || strcmp(path, "/dev/stderr") == 0) {
+        return path[8] == 'o' ? STDOUT_FILENO : STDERR_FILENO;
+    }
+    bool is_stream = sscanf(path, "/dev/fd/%9d%n", &number, &size) == 1
+                  || sscanf(path, "/proc/self/fd/%9d%n", &number, &size) == 1;
+    return is_stream && path[size] == '\0' ? number : -1;
 }
 
 /* Whether a path leads to neither a file nor a directory: what is a pipe, say, stays that. */
@@ -44,6 +56,9 @@ static bool has_directory(const char *path) {
 /* Whether a file can be written, as it looks now. */
 static bool has_place(const char *what, const char *path) {
     struct stat status;
+    if (stream_of(path) >= 0) {
+        return fcntl(stream_of(path), F_GETFD) >= 0 || fails(what, path);
+    }
     char *file = file_of(path);
     bool is_good = is_special(file) ? access(file, W_OK) == 0 : has_directory(file);
     if (is_good && stat(file, &status) == 0 && S_ISDIR(status.st_mode)) {
@@ -65,6 +80,12 @@ static bool is_saved(const struct run *run, const char *path) {
     free(to);
     free(file);
     return is_below;
+}
+
+/* The path of a file that is to be written, also when the current directory has been replaced. */
+static char *path_then(const struct run *run, const char *path) {
+    char *then = run->to == NULL ? NULL : absolute(path);
+    return then == NULL ? joined(path, "", "") : then;
 }
 
 bool can_tell(const struct run *run) {
@@ -110,17 +131,24 @@ static bool put_beside(const char *path, const char *text) {
     return is_put;
 }
 
-static bool write_text(const char *path, const char *text) {
+/* Writes a text to a file, whose path the command line has. */
+static bool write_text(const char *said, const char *path, const char *text) {
     char *file = file_of(path);
-    bool is_written = is_special(file) ? put(open(file, O_WRONLY | O_CLOEXEC), text)
+    int stream = stream_of(path);
+    bool is_written = stream >= 0      ? put(fcntl(stream, F_DUPFD_CLOEXEC, 0), text)
+                    : is_special(file) ? put(open(file, O_WRONLY | O_CLOEXEC), text)
                                        : put_beside(file, text);
     free(file);
-    return is_written || fails("write", path);
+    return is_written || fails("write", said);
 }
 
+/* (That nobody reads a pipe any more is a failure like others.) */
 bool write_texts(const struct run *run, const struct texts *texts) {
-    bool has_depfile = run->depfile == NULL || write_text(run->depfile, texts->depfile);
-    bool has_manifest = run->manifest == NULL || write_text(run->manifest, texts->manifest);
+    signal(SIGPIPE, SIG_IGN);
+    bool has_depfile = run->depfile == NULL
+                    || write_text(run->depfile, texts->depfile_at, texts->depfile);
+    bool has_manifest = run->manifest == NULL
+                     || write_text(run->manifest, texts->manifest_at, texts->manifest);
     return has_depfile && has_manifest;
 }
 
@@ -243,9 +271,11 @@ bool make_texts(const struct job *job, struct texts *texts) {
     bool is_own = run->from != NULL || run->to != NULL;
     if (run->depfile != NULL) {
         texts->depfile = is_own ? depfile_of_own(job) : depfile_of_mount(job);
+        texts->depfile_at = path_then(run, run->depfile);
     }
     if (run->manifest != NULL) {
         texts->manifest = asked_for(job, "manifest", NULL);
+        texts->manifest_at = path_then(run, run->manifest);
     }
     return (run->depfile == NULL || texts->depfile != NULL)
         && (run->manifest == NULL || texts->manifest != NULL);

@@ -559,6 +559,20 @@ class ReadAndWrittenTest(RunTest):
                 self.assertEqual((self.target / "deps").read_text(), "target/made:\n")
                 self.assertIn("/made read,written file", (self.target / "used").read_text())
 
+    def test_files_in_the_current_folder_that_is_saved(self) -> None:
+        self.folder("target", file="old")
+        os.symlink(".", self.disk / "place")
+        for here, name, target in (("target", "deps", self.target),
+                                   ("target", "deps", self.disk / "place" / "target"),
+                                   ("target/sub", "deps", ".."),
+                                   ("target/sub", "../deps", self.target)):
+            with self.subTest(here=here, name=name, target=target):
+                (self.disk / here).mkdir(exist_ok=True)
+                (self.disk / here / name).unlink(missing_ok=True)
+                self.run_it("--from", self.target, "--to", target, "--replace", "--depfile", name,
+                            "--", "touch", "made", cwd=self.disk / here)
+                self.assertIn("/made:", (self.disk / here / name).read_text())
+
     def test_depfile_in_a_folder_that_was_listed(self) -> None:
         job = self.mount("--from", self.source).job
         self.run_it("--depfile", "deps", "--", "sh", "-c", "ls >names", cwd=job)
@@ -594,6 +608,31 @@ class ReadAndWrittenTest(RunTest):
         self.assertEqual((self.disk / "place").stat().st_mode & 0o777, 0o600)
         self.assertEqual(self.run_it(*words, "/dev/stdout", "--", "true").stdout, "it:\n")
         self.run_it(*words, "/dev/full", "--", "true", status=74)
+
+    def test_streams_go_on(self) -> None:
+        """A stream that is a file keeps what was written to it."""
+        for name, number, other in (("/dev/stdout", 1, "stdout"), ("/dev/fd/2", 2, "stderr")):
+            with self.subTest(name=name), open(self.told, "w+", encoding="utf-8") as file:
+                file.write("before\n")
+                file.flush()
+                self.run_it("--from", self.source, "--target", "it", "--depfile", name, "--", "sh",
+                            "-c", f"echo command >&{number}", capture_output=False,
+                            **{other: file})
+                file.seek(0)
+                self.assertEqual(file.read(), "before\ncommand\nit:\n")
+        self.assertEqual(self.run_it("--from", self.source, "--depfile", "/dev/fd/9", "--", "true",
+                                     status=125).stderr,
+                         "nuz: depfile /dev/fd/9: Bad file descriptor\n")
+
+    def test_nobody_reads_a_pipe(self) -> None:
+        read, write = os.pipe()
+        os.close(read)
+        with open(write, "wb") as pipe:
+            self.run_it("--from", self.source, "--to", self.target, "--manifest", "/dev/stdout",
+                        "--", "touch", "new", capture_output=False, stdout=pipe,
+                        stderr=subprocess.DEVNULL, status=74)
+        self.assertTrue((self.target / "new").exists())
+        self.assert_nothing_left()
 
     def test_target(self) -> None:
         self.run_it("--from", "source", "--depfile", self.told, "--target", "a b", "--",

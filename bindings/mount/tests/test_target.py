@@ -98,6 +98,18 @@ class OneAtATimeTest(RunTest):
         self.assertEqual([], list(self.disk.glob(".target.*")))
 
 
+class OwnMountBelowTest(RunTest):
+    def test_refused_at_first(self) -> None:
+        told = self.disk / "told"
+        for target, words in ((self.temporary, []), (self.disk, ["--replace"])):
+            with self.subTest(target=target):
+                ended = self.run_it("--to", target, *words, "--", "touch", told, status=125)
+                self.assertEqual(ended.stderr, f"nuz: save {target}: the mount of the step would "
+                                 "be in it\n")
+                self.assertFalse(told.exists())
+        self.assert_nothing_left()
+
+
 class MountBelowTest(RunTest):
     """What is mounted in a directory keeps that from being replaced, or at least removed."""
 
