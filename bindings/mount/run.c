@@ -339,7 +339,7 @@ int run(const struct run *run) {
     job.at = run->at == NULL ? NULL : realpath(run->at, NULL);
     if (run->at != NULL && job.at == NULL) {
         fails("bind", run->at);
-    } else if ((run->to == NULL || target_take(&job.target, -1)) && can_tell(run) && find(&job)) {
+    } else if (can_tell(run) && (run->to == NULL || target_take(&job.target, -1)) && find(&job)) {
         status = begin(&job) == 0 ? run_and_end(&job) : RUN_FAILED;
         if (run->from != NULL || run->to != NULL) {
             end_own(&job);

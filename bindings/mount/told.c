@@ -69,17 +69,24 @@ static bool has_place(const char *what, const char *path) {
     return is_good || fails(what, path);
 }
 
+/* Where a path leads, seen from the directory that is saved to. */
+enum where { ELSEWHERE, ITSELF, BELOW };
+
 /* Whether a path leads into the directory that is saved to, which is another one then. */
-static bool is_saved(const struct run *run, const char *path) {
+static enum where where_of(const struct run *run, const char *path) {
     char *to = run->to == NULL ? NULL : absolute(run->to), *file = absolute(path);
     size_t len = to == NULL ? 0 : strlen(to);
     while (len > 0 && to[len - 1] == '/') {
         len--;
     }
-    bool is_below = len > 0 && file != NULL && strncmp(file, to, len) == 0 && file[len] == '/';
+    bool is_there = len > 0 && file != NULL && strncmp(file, to, len) == 0;
+    const char *rest = is_there ? file + len : "elsewhere";
+    enum where where = rest[strspn(rest, "/")] == '\0' ? ITSELF
+                     : rest[0] == '/'                  ? BELOW
+                                                       : ELSEWHERE;
     free(to);
     free(file);
-    return is_below;
+    return where;
 }
 
 /* The path of a file that is to be written, also when the current directory has been replaced. */
@@ -88,10 +95,20 @@ static char *path_then(const struct run *run, const char *path) {
     return then == NULL ? joined(path, "", "") : then;
 }
 
+/* Whether a file can be written when the step has ended, as it looks now. */
+static bool has_place_then(const struct run *run, const char *what, const char *path) {
+    enum where where = where_of(run, path);
+    if (where == ITSELF || path[0] == '\0') {
+        errno = where == ITSELF ? EISDIR : ENOENT;
+        return fails(what, path);
+    }
+    return where == BELOW || has_place(what, path);
+}
+
 bool can_tell(const struct run *run) {
     const char *depfile = run->depfile, *manifest = run->manifest;
-    return (depfile == NULL || is_saved(run, depfile) || has_place("depfile", depfile))
-        && (manifest == NULL || is_saved(run, manifest) || has_place("manifest", manifest));
+    return (depfile == NULL || has_place_then(run, "depfile", depfile))
+        && (manifest == NULL || has_place_then(run, "manifest", manifest));
 }
 
 /* Writes a text to an open file, and closes that. */

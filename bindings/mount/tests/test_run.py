@@ -217,6 +217,11 @@ class StatusTest(RunTest):
                 (["--to", "/", "--replace"], "save /: it can't be replaced"),
                 (["--depfile", "place"], "depfile place: Is a directory"),
                 (["--depfile", "nothing/f"], "depfile nothing/f: No such file or directory"),
+                (["--depfile", ""], "depfile : No such file or directory"),
+                (["--to", "new", "--depfile", "new"], "depfile new: Is a directory"),
+                (["--to", "new", "--manifest", "new/"], "manifest new/: Is a directory"),
+                (["--to", "new", "--manifest", "/dev/fd/3"],
+                 "manifest /dev/fd/3: Bad file descriptor"),
                 (["--manifest", "place/file/f"], "manifest place/file/f: Not a directory")):
             with self.subTest(words=words):
                 ended = self.run_it("--from", self.source, *words, "--", "sh", "-c",
