@@ -11,3 +11,6 @@ returns-in-Err-clause-fault g c one =
 
 pub returns-in-Ok-clause-quiet : goal.returns-in-Ok-clause-quiet
 returns-in-Ok-clause-quiet g c = λ none. keeps_refl (g.E.Write.contents c.args.errors.now)
+
+pub returns-in-Ok-2-clause-quiet : goal.returns-in-Ok-2-clause-quiet
+returns-in-Ok-2-clause-quiet g c = λ none. keeps_refl (g.E.Write.contents c.args.errors.now)
