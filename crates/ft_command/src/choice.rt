@@ -12,23 +12,23 @@ use ft_moss::Rule;
 use std::alloc::{AllocError, Global};
 use std::convert::AsStr;
 
-/// What the program is to do.
+/// A task of the program.
 #[derive(Debug, Drop)]
 pub enum Choice {
     /// Run a script on a core that grants calls by this rule and has these limits, after the script
-    /// in a file, if there is one. Each of its lines has to do what it asks for where it is strict.
+    /// in a file, if there is one. If the run is strict, each line must do what it requests.
     Play {
         strict: bool,
         rule: Rule,
         after: Option<String>,
         limits: AskedLimits,
     },
-    /// Draw the last report on who waits for whom.
+    /// Draw the last report of which transaction waits for which.
     Dot,
-    /// Write a script that makes what this directory holds, or where it is to be checked, list what
-    /// can't be loaded. That is left out where it is to be skipped, and modes have their bits
-    /// S_ISUID and S_ISGID only where these are asked for. How far it has come is not shown where
-    /// it is to be quiet. No more is written than these limits allow.
+    /// Write a script that makes what this directory holds, or list what can't be loaded, if it is
+    /// to be checked. What can't be loaded is left out if it is to be skipped. Modes have their
+    /// bits S_ISUID and S_ISGID only if these are requested. Progress is not shown if it is to be
+    /// quiet. No more is written than these limits allow.
     Load {
         dir: String,
         skip: bool,
@@ -38,9 +38,9 @@ pub enum Choice {
         limits: AskedLimits,
     },
     /// Make this directory of the tree with which replies end. Modes have their bits S_ISUID and
-    /// S_ISGID only where these are asked for, and no owner and no group is set where that is not
-    /// wanted. How far it has come is not shown where it is to be quiet. A file that is larger than
-    /// these limits allow is refused.
+    /// S_ISGID only if these are requested, and no owner and no group is set if that is not wanted.
+    /// Progress is not shown if it is to be quiet. A file that is larger than these limits allow is
+    /// refused.
     Save {
         dir: String,
         set_id: bool,
@@ -48,9 +48,9 @@ pub enum Choice {
         quiet: bool,
         limits: AskedLimits,
     },
-    /// Run the jobs of the plan in a file, at this pace. How far they have come is not shown where
-    /// it is to be quiet. Their core grants calls by this rule and has these limits. The script in a
-    /// file, if there is one, is played first.
+    /// Run the jobs of the plan in a file, at this pace. Progress is not shown if it is to be
+    /// quiet. Their core grants calls by this rule and has these limits. The script in a file, if
+    /// there is one, is played first.
     Jobs {
         file: String,
         pace: AskedPace,
@@ -61,8 +61,7 @@ pub enum Choice {
     },
     /// Print this help, or the version, to the standard output, and end with status 0.
     Help(String),
-    /// Print this to the standard error, and end with status 2: the words ask for nothing that
-    /// there is.
+    /// Print this to the standard error, and end with status 2: the arguments are not valid.
     Usage(String),
     /// There was no memory to read the words.
     Fault,
@@ -73,7 +72,7 @@ pub enum Choice {
 pub struct AskedPace {
     /// A call of theirs asks at most so many times, at least once.
     pub turns: u64,
-    /// So many threads run them at most.
+    /// At most so many threads run them.
     pub threads: u64,
 }
 
@@ -91,9 +90,9 @@ const MOST_TURNS: u64 = 1_000_000;
 // The most threads that jobs may be given.
 const MOST_THREADS: u64 = 4096;
 
-/// What the words after the program's name ask for.
+/// Returns the task that the arguments after the program's name request.
 ///
-/// The texts are those of the crate that reads the words.
+/// The texts are those of the crate that reads the arguments.
 pub fn choose<'a, S: AsStr>(alloc: Global, words: &'a [S]) -> Choice
     ensures { ChoiceOf (map S.text words.entry.now) result }
 {

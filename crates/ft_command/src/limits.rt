@@ -10,7 +10,7 @@ use ft_core::Limits;
 use ft_needs::{limit_of, size_of};
 use std::alloc::{AllocError, Global};
 
-/// The limits that are asked for, each where its flag stands.
+/// The limits that are requested, each with its flag.
 #[derive(Clone, Copy, Debug, PartialEq, Eq)]
 pub struct AskedLimits {
     pub file_size: Option<u64>,
@@ -62,7 +62,7 @@ impl Flag {
         }
     }
 
-    /// The limit that a value of it tells.
+    /// The limit that a value of it gives.
     pub(crate) fn limit_of(self, value: &str) -> Option<u64>
         ensures { result ≡ flag_limit self value.now }
     {
@@ -76,7 +76,7 @@ impl Flag {
         }
     }
 
-    /// What a value of it may be.
+    /// The values that it may have.
     pub(crate) fn values(self) -> &'static str {
         match self {
             Flag::LargestFile => "a number of bytes up to 2^47, with K, M or G behind it",
@@ -86,7 +86,7 @@ impl Flag {
     }
 }
 
-/// The limits that flags ask for, or one of them whose value is no limit.
+/// Returns the limits that flags request, or one of the flags whose value is no limit.
 pub(crate) fn asked_limits(found: &ArgMatches) -> Result<AskedLimits, Flag>
     ensures ok { IfOk result (TellsLimits (rows_of (found_of found.now))) }
     ensures err { IfErr result (λ flag. IsBadLimit flag (rows_of (found_of found.now))) }

@@ -11,10 +11,10 @@ use ft_waits::{Edge, EdgeKind, Verdict};
 use ft_words::{Lines, Words, number_of, split_once};
 use std::alloc::{AllocError, Global};
 
-/// The last report among the lines of replies.
+/// Returns the last report among the lines of replies.
 ///
 /// A report is a line `edges N`, N lines `edge FROM TO KIND`, and a line `cycle A B ..` or `ranks
-/// T:RANK ..`. Lines that begin as a report and do not end as one are none. Fails only for want of
+/// T:RANK ..`. Lines that begin as a report and do not end as one are none. Fails only for lack of
 /// memory.
 pub fn last_report(alloc: Global, lines: Lines<'_>) -> Result<Option<Report>, Memory>
     ensures { IfOk result (λ report. report ≡ last_report lines.entry) }

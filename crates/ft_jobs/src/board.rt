@@ -6,7 +6,7 @@ use ft_reports::{End, Report, ended_as_meant, is_must, place_of};
 use std::alloc::Global;
 use std::sync::{Condvar, Mutex, Wait};
 
-/// Where the jobs of a plan stand, for their threads to share.
+/// The state of the jobs of a plan, which their threads share.
 #[derive(Drop)]
 pub struct Board {
     places: Mutex<Places>,
@@ -52,7 +52,7 @@ pub enum Start {
     Top,
     /// Under this transaction.
     Under(TxnId),
-    /// It does not begin: its parent has not come to its subjobs, or one that it comes after has
+    /// It does not begin: its parent has not reached its subjobs, or one that it comes after has
     /// not committed.
     Never,
 }
@@ -77,7 +77,7 @@ impl Board {
         })
     }
 
-    /// Takes the first job that may start, once one may; none where all are taken.
+    /// Takes the first job that may start, once one may; none if all are taken.
     pub fn take<R: Wait>(&self, rt: &R) -> Option<usize> {
         let mut places = self.moved.wait_while(rt, self.places.lock(rt), |places| {
             places.has_ahead() && places.next().is_none()
@@ -87,7 +87,7 @@ impl Board {
         Some(at)
     }
 
-    /// Takes the first subjob of a job that may start, once one may; none where all have ended.
+    /// Takes the first subjob of a job that may start, once one may; none if all have ended.
     pub fn take_below<R: Wait>(&self, rt: &R, parent: usize) -> Option<usize> {
         let mut places = self.moved.wait_while(rt, self.places.lock(rt), |places| {
             places.has_live_below(parent) && places.next_below(parent).is_none()

@@ -11,7 +11,7 @@ use std::alloc::Global;
 use std::sync::Wait;
 use std::time::Clock;
 
-/// What the threads of all jobs share.
+/// The parts that the threads of all jobs share.
 #[derive(Drop)]
 pub struct Work<'a, M, G> {
     pub alloc: Global,

@@ -18,8 +18,8 @@ use std::io::Write;
 // The path of the root.
 const ROOT_PATH: &[u8] = b"/";
 
-/// A script of one transaction, which is written as what it is asked for comes in. It is for a core
-/// that is new, where the transaction is number 1 and the first call has stamp 2.
+/// A script of one transaction, which is written as its requests come in. It is for a core that is
+/// new: the transaction is number 1 and the first call has stamp 2.
 #[derive(Drop)]
 pub(crate) struct Script<W> {
     pub(crate) alloc: Global,
@@ -173,7 +173,7 @@ fn path_of(alloc: Global, bytes: &[u8]) -> Result<FilePath, Trouble>
     }
 }
 
-/// The mode of what is made, where it has to be said: it is not that which a directory or file
+/// Returns the mode of what is made, if it must be set: it is not that which a directory or file
 /// gets anyway.
 pub(crate) fn said_mode(kind: Kind, mode: u16) -> Option<u16>
     ensures { result ≡ said_mode kind mode }

@@ -44,14 +44,14 @@ impl From<JobFault> for RunFault {
     }
 }
 
-/// Reads a plan, runs its jobs on a core where no transaction is live, in threads, and
-/// writes what they came to: the text is of this core, as the jobs left it. How far they have
-/// come is shown on a screen while they run, if there is one. Answers whether each job ended as the
-/// plan means, which is so of any plan that is not strict.
+/// Reads a plan, runs its jobs in threads on a core in which no transaction is live, and writes
+/// their outcome: the text is of this core, as the jobs left it. How far they have come is shown on
+/// a screen while they run, if there is one. Returns whether each job ended as the plan means,
+/// which is so of any plan that is not strict.
 ///
 /// A fault ends the run.
-/// - Jobs: the bytes are no plan, or memory was wanted, a thread could not be started, or what the
-///   jobs report is not what happened. Nothing was written.
+/// - Jobs: the bytes are no plan, or there was not enough memory, a thread could not be started, or
+///   what the jobs report is not what happened. Nothing was written.
 /// - Write: a write failed, was interrupted or took nothing. A part of the text was written.
 pub fn run_plan<R: Threads + Wait + Clock + Sync, S: Write + Send + Drop, W: Write>(
     rt: &R,

@@ -9,7 +9,7 @@ use ft_replies::fault_name;
 use ft_words::{CallText, ReplyText, TreeText};
 use std::fmt;
 
-/// What jobs came to: what became of each, the calls that were granted, and what the tree holds.
+/// The outcome of jobs: what became of each, the calls that were granted, and what the tree holds.
 /// Each line has its line feed.
 #[derive(Clone, Copy)]
 pub struct OutcomeText<'a> {
@@ -17,9 +17,9 @@ pub struct OutcomeText<'a> {
     pub jobs: &'a [Job],
     /// The report of each, in the same order.
     pub reports: &'a [Report],
-    /// What has happened.
+    /// The events.
     pub history: &'a [Event],
-    /// What the tree holds.
+    /// The text of the tree.
     pub tree: &'a TreeText<'a>,
 }
 

@@ -11,7 +11,7 @@ use std::time::{Clock, Duration};
 /// How far the jobs of a plan have come. It is a gate that lets each step pass at once, and takes
 /// note of it.
 ///
-/// No clause says what it shows.
+/// No clause constrains what it shows.
 #[derive(Drop)]
 pub struct Watch<'a> {
     jobs: &'a [Job],
@@ -58,9 +58,9 @@ impl<'a> Watch<'a> {
         })
     }
 
-    /// Shows how far the jobs have come, on a line of a screen that it writes anew ten times a
-    /// second at most, until `stop` is called; then the line is erased. Where it was called within
-    /// the first tenth of a second, nothing is written.
+    /// Shows how far the jobs have come, on a line of a screen that it writes anew at most ten
+    /// times a second, until `stop` is called; then the line is erased. If it was called within the
+    /// first tenth of a second, nothing is written.
     ///
     /// A line that can't be made or written is left out.
     pub fn show<R: Wait + Clock, S: Write>(&self, rt: &R, alloc: Global, screen: &mut S) {
@@ -79,7 +79,7 @@ impl<'a> Watch<'a> {
         }
     }
 
-    /// Has `show` come to its end.
+    /// Ends `show`.
     pub fn stop<R: Wait>(&self, rt: &R) {
         self.noted.lock(rt).is_over = true;
         self.over.notify_all();

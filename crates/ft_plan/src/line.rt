@@ -10,7 +10,7 @@ use ft_base::Sequence;
 use ft_words::{Unread, Words, call_of, descriptor_call_of};
 use std::alloc::Global;
 
-/// What a line of a plan says.
+/// The meaning of a line of a plan.
 #[derive(Debug, PartialEq, Eq, Drop)]
 pub enum PlanLine {
     /// A job of this name and kind begins, under that one if one is named.
@@ -21,7 +21,7 @@ pub enum PlanLine {
     Step(Step),
 }
 
-/// What the words of a line of a plan say, which is strict or is not.
+/// Returns the meaning of the words of a line of a plan, which is strict or is not.
 pub fn line_of(alloc: Global, strict: bool, words: Words<'_>) -> Result<PlanLine, Unread>
     ensures { Reads result (line_of strict words.entry) }
 {

@@ -14,9 +14,9 @@ use ft_words::{Lines, Words};
 use std::alloc::Global;
 use std::marker::Model;
 
-/// The jobs that lines tell of.
+/// Returns the jobs that lines describe.
 ///
-/// Answers BadPlan where the lines are not those of any jobs.
+/// Returns BadPlan if the lines are not those of any jobs.
 pub fn jobs_of(alloc: Global, text: &[u8]) -> Result<Vec<Job>, JobFault>
     ensures ok { IfOk result (λ jobs. plan_said (lines_of text.now) ≡ Some (plan_lines jobs.items)) }
     ensures bad { IsErrOf result JobFault.BadPlan → (jobs : List Job) → plan_said (lines_of text.now) ≡ Some (plan_lines jobs) → ⊥ }

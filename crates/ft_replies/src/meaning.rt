@@ -10,9 +10,9 @@ use ft_core::{Request, TxnId};
 use ft_words::{Unread, Words, call_of, number_of};
 use std::alloc::Global;
 
-/// What a line means. Its line feed is no part of it.
+/// Returns the meaning of a line. Its line feed is no part of it.
 ///
-/// Fails only for want of memory.
+/// Fails only for lack of memory.
 pub fn meaning_of(alloc: Global, line: &[u8]) -> Result<Line, Memory>
     ensures { IfOk result (λ meaning. meaning ≡ meaning_of line.now) }
 {

@@ -8,7 +8,7 @@ use ft_core::TxnId;
 use ft_waits::{Edge, Verdict};
 use std::fmt;
 
-/// Waits-for edges, and what they come to.
+/// Waits-for edges, and their verdict.
 #[derive(Clone, Copy)]
 pub struct WaitsText<'a> {
     pub edges: &'a [Edge],

@@ -18,7 +18,7 @@ use ft_record::Recorded;
 use std::alloc::Global;
 
 /// Whether these are the reports of what happened to the jobs of a plan, in the core that they
-/// left. Its only error is want of memory.
+/// left. Its only error is out of memory.
 pub fn are_reports(
     alloc: Global,
     plan: &Plan,

@@ -106,7 +106,7 @@ pub fn had_committed(events: &[Event], txn: TxnId, before: TxnId) -> bool
     seen.had
 }
 
-/// What is seen of one transaction beside another.
+/// The facts of one transaction with another.
 #[derive(Clone, Copy)]
 struct Seen {
     /// It has committed.

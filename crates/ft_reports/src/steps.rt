@@ -10,8 +10,8 @@ use ft_calls::{Call, Reply};
 use ft_plan::{Job, JobKind, Step};
 use std::alloc::Global;
 
-/// The call that a step asks for, where the steps opened these descriptors; none where it asks for
-/// none.
+/// Returns the call that a step requests, if the steps opened these descriptors; none if it
+/// requests none.
 pub fn asked(alloc: Global, step: &Step, descriptors: &[u64]) -> Result<Option<Call>, Memory>
     ensures { IfOk result (λ call. call ≡ asked_by descriptors.now step.now) }
 {
@@ -56,7 +56,7 @@ fn opened_at(descriptors: &[u64], step: u64) -> u64
     descriptors.get(before as usize).copied().unwrap_or(0)
 }
 
-/// The descriptor that an open answered, or 0, which is none, where it failed.
+/// Returns the descriptor that an open returned, or 0, which is none, if it failed.
 pub fn descriptor_in(reply: &Reply) -> u64
     ensures { result ≡ descriptor_in reply.now }
 {
@@ -147,8 +147,8 @@ fn extent_of(
     Ok(Extent::Whole)
 }
 
-/// Whether the calls of a report are those of the steps of its job: all of them where its last step
-/// ended the job, those up to a step where that failed, and else the first of them.
+/// Whether the calls of a report are those of the steps of its job: all of them if its last step
+/// ended the job, those up to a step if that failed, and else the first of them.
 pub fn is_done(alloc: Global, steps: &[Step], report: &Report) -> Result<bool, Memory>
     ensures { IfOk result (λ done. IsTrue done ↔ IsDone steps.now report.now.end report.now.calls) }
 {
@@ -232,7 +232,7 @@ fn is_at_end(steps: &[Step], end: End, extent: Extent) -> bool
     }
 }
 
-/// Whether each call of a job of this kind has to do what it asks for, where it is not tried.
+/// Whether each call of a job of this kind must do what it requests, if it is not tried.
 pub fn is_strict(kind: JobKind) -> bool
     ensures { result ≡ is_strict kind }
 {
@@ -246,7 +246,7 @@ fn may_fail(step: &Step) -> bool
     matches!(step, Step::Try(_) | Step::TryOn(_))
 }
 
-/// Whether a strict job goes on behind this call of a step: it did what it asks for, or may fail.
+/// Whether a strict job goes on after this call of a step: it did what it requests, or may fail.
 pub fn goes_on(step: &Step, call: &CallReport) -> bool
     ensures { result ≡ goes_on step.now call.now }
 {
@@ -278,7 +278,7 @@ fn all_go_on(steps: &[Step], calls: &[CallReport]) -> bool
 }
 
 /// Whether the calls of a report, and its end, are those of a job of this kind: a strict one goes
-/// on behind each call but that of the step that has failed, and waits for nothing in vain; no
+/// on after each call except that of the step that has failed, and waits for nothing in vain; no
 /// other fails.
 pub fn is_of_kind(job: &Job, report: &Report) -> bool
     ensures { result ≡ is_of_kind job.now.kind job.now.steps report.now.end report.now.calls }

@@ -21,10 +21,10 @@ const MODES: u32 = 0o10000;
 
 /// A directory on disk, which is read and never written.
 ///
-/// Symbolic links are not followed, also one that comes in the place of a directory meanwhile: what
-/// stands in a directory is looked up in the one that was listed, or else nothing is told. What was
-/// opened, listed or read is told with what tells it from all else, so that who has looked there
-/// before knows whether it is the same.
+/// Symbolic links are not followed, even one that takes the place of a directory meanwhile. An
+/// entry of a directory is looked up in the one that was listed, or else nothing is reported.
+/// Whatever was opened, listed or read is reported with what distinguishes it from all else, so
+/// that a caller that has looked there before knows whether it is the same.
 #[derive(Drop)]
 pub struct DiskSource<'a> {
     rt: &'a HostRuntime,
@@ -40,7 +40,7 @@ pub struct DiskSource<'a> {
 
 impl<'a> DiskSource<'a> {
     /// Nothing is read yet. A name that is no text is refused with its directory, unless such names
-    /// are to be told: then it is refused when it is looked at.
+    /// are to be listed: then it is refused when it is looked at.
     pub fn new(
         rt: &'a HostRuntime,
         dir: &'a str,

@@ -20,8 +20,8 @@ const BEGUN_FOLDER: u32 = 0o700;
 
 const BEGUN_FILE: u32 = 0o600;
 
-/// A directory that is to be made on disk. It is made under another name beside its place, and gets
-/// its own when it is whole.
+/// A directory that is to be made on disk. It is made under another name alongside its place, and
+/// gets its own when it is whole.
 ///
 /// Files get their modes, owners and times when they are closed, and directories at the end, those
 /// in a directory before it, so that one that nobody may write can be filled.

@@ -7,7 +7,7 @@ use ft_jobs::JobFault;
 use ft_outcome::RunFault;
 use ft_script::PlayFault;
 
-/// The line that tells of a fault, with its line feed.
+/// Returns the line that reports a fault, with its line feed.
 pub fn fault_line(fault: PlayFault) -> &'static str
     ensures { result.now ≡ fault_line fault }
 {

@@ -13,7 +13,8 @@ const SET_GROUP_ID: u16 = 0o2000;
 /// Gives open files and directories what they are to have, and counts what could not be kept.
 ///
 /// Only the superuser gives owners and groups, as with tar, and if the system refuses one, all else
-/// goes on. What does not get its owner and its group has no S_ISUID and S_ISGID.
+/// goes on. A file or directory that does not get its owner and its group has no S_ISUID and
+/// S_ISGID.
 #[derive(Drop)]
 pub struct Giving {
     // whether owners and groups are set
@@ -39,9 +40,9 @@ impl Giving {
         }
     }
 
-    /// Gives an open file or directory its mode, its owner and its group, and its S_ISUID and S_ISGID
-    /// last, since a change of the owner takes these away. Whoever may give owners may perhaps
-    /// set no mode behind that.
+    /// Gives an open file or directory its mode, its owner and its group, and its S_ISUID and
+    /// S_ISGID last, since a change of the owner removes these. Whoever may give owners may perhaps
+    /// set no mode after that.
     pub fn give(&mut self, file: &File, attributes: Attributes) -> io::Result<()> {
         set_mode(file, attributes.mode % SET_GROUP_ID)?;
         if self.own(file, attributes)? && attributes.mode >= SET_GROUP_ID {
@@ -69,8 +70,8 @@ impl Giving {
         Ok(is_given)
     }
 
-    /// Gives an open file the time of its bytes, and the moment where that is none which the system
-    /// can be given. It is read back, since a file system may cut what it has no room for.
+    /// Gives an open file the time of its bytes, and the present moment if there is none which the
+    /// system can be given. It is read back, since a file system may cut what it has no room for.
     pub fn set_time(&mut self, file: &File, time: Option<Timestamp>) -> io::Result<()> {
         let is_set = match time.and_then(system_time).or(self.moment) {
             Some(set) => file.set_modified(set).is_ok(),
@@ -86,7 +87,7 @@ impl Giving {
         Ok(())
     }
 
-    /// What could not be kept, in lines.
+    /// Returns what could not be kept, in lines.
     pub fn losses(&self, alloc: Global) -> Result<String, AllocError> {
         let mut lines = String::new(alloc);
         if self.owners_lost > 0 {

@@ -1,13 +1,13 @@
 //! The program `ft_run`: `ft_run play` runs a script of transactions on a tree of directories, from
-//! standard input to standard output; `ft_run dot` draws the last report on who waits for whom
-//! among the replies that such a run wrote; `ft_run jobs FILE` runs the jobs of a plan in threads,
-//! and prints what they came to; `ft_run load DIR` writes a script that makes what a directory
+//! standard input to standard output; `ft_run dot` draws the last report of which transaction waits
+//! for which among the replies that such a run wrote; `ft_run jobs FILE` runs the jobs of a plan in
+//! threads, and prints their outcome; `ft_run load DIR` writes a script that makes what a directory
 //! holds, and `ft_run save DIR` makes a directory of the tree with which replies end.
 //!
-//! It ends with status 0, also after a help text, with 1 after a fault, of which a line
-//! `fault: NAME` tells on standard error, with 2 where the command line asks for nothing that there
-//! is, and with 3 where a line of a strict script did not do what it asks for, a job of a strict
-//! plan did not end as it means, or `load` has left something out; what is written tells which.
+//! It ends with status 0, even after a help text; with 1 after a fault, which a line `fault: NAME`
+//! on standard error reports; and with 2 if the command line is not valid. It ends with 3 if a line
+//! of a strict script did not do what it requests, a job of a strict plan did not end as it means,
+//! or `load` has left something out; its output says which.
 #![tactic(auto)]
 
 mod causes;

@@ -19,9 +19,9 @@ const REASONS: [Trouble; 6] = [
     Trouble::Read,
 ];
 
-/// A directory on disk, which tells of what can't be loaded as of something special, and leaves
-/// that out. To know whether something can be loaded, it is listed, opened or read when it is looked
-/// at. At the root nothing is left out.
+/// A directory on disk, which reports what can't be loaded as something special, and leaves that
+/// out. To know whether something can be loaded, it is listed, opened or read when it is looked at.
+/// At the root nothing is left out.
 #[derive(Drop)]
 pub struct SkippingSource<'a, 'b> {
     rt: &'a HostRuntime,
@@ -39,7 +39,7 @@ pub struct SkippingSource<'a, 'b> {
 }
 
 impl<'a, 'b> SkippingSource<'a, 'b> {
-    /// Nothing was left out yet, and nothing is told until `begin`.
+    /// Nothing was left out yet, and nothing is reported until `begin`.
     pub fn new(
         rt: &'a HostRuntime,
         disk: &'b DiskSource<'a>,
@@ -66,12 +66,12 @@ impl<'a, 'b> SkippingSource<'a, 'b> {
         }
     }
 
-    /// From now on what is left out is told and counted.
+    /// From now on what is left out is reported and counted.
     pub fn begin(&self) {
         self.is_told.set(true);
     }
 
-    /// Tells how much was left out and why, and answers whether anything was.
+    /// Prints how much was left out and why, and returns whether anything was.
     pub fn tell(&self) -> Result<bool, AllocError> {
         let alloc = self.rt.alloc();
         let mut line = String::new(alloc);

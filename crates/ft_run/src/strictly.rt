@@ -18,9 +18,9 @@ use std::io::{Read, Write};
 // So many bytes of a line are shown.
 const LONGEST_SHOWN: usize = 200;
 
-/// Runs a strict script on a core, and answers the status to end with: 0; 1 after a fault of
-/// reading, writing or memory; or 3 after the first line that did not do what it asks for. Of both
-/// a line tells on `errors`. Where that can't be written, the status is the same.
+/// Runs a strict script on a core, and returns the status to end with: 0; 1 after a fault of
+/// reading, writing or memory; or 3 after the first line that did not do what it requests. A line
+/// on `errors` reports either. If that can't be written, the status is the same.
 pub fn play_strictly_status<R: Read, W: Write, E: Write>(
     alloc: Global,
     core: Core,

@@ -17,14 +17,14 @@ pub(crate) struct Edge {
     pub(crate) node: u64,
 }
 
-/// What a file holds: one that is a symbolic link, where it leads.
+/// The contents of a file; if it is a symbolic link, where it leads.
 #[derive(Drop)]
 pub(crate) struct Content {
     pub(crate) form: Form,
     pub(crate) bytes: Sequence<u8>,
 }
 
-/// The rows of a report, by the numbers that they tell of.
+/// The rows of a report, by the numbers that they describe.
 #[derive(Drop)]
 pub(crate) struct Index {
     pub(crate) alloc: Global,
@@ -48,7 +48,7 @@ impl Index {
     ghost use Rattle.ft_cells.specs.Attributes.{attributes_from};
     ghost use Rattle.ft_save.specs.Trees.{Indexes, attributes_in, has_names, has_one_row};
 
-    /// Whether there is just one row of this number, of a directory or a file.
+    /// Whether there is exactly one row of this number, of a directory or a file.
     pub(crate) fn has_one_row(&self, node: u64) -> bool
         ensures { (rows : List Row) → Indexes self.now rows → result ≡ has_one_row rows node }
     {

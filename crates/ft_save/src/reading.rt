@@ -13,10 +13,10 @@ use ft_words::{Lines, Words, integer_of, mode_of, number_of, short_number_of};
 use percent_encoding::percent_decode;
 use std::alloc::Global;
 
-/// The rows of the report of what the tree holds with which replies end.
+/// Returns the rows of the report of the tree with which replies end.
 ///
-/// A report is a line `tree N` and N rows. Nothing may stand behind it, and its last line has its
-/// line feed: replies that were cut off end with no report. Fails only for want of memory.
+/// A report is a line `tree N` and N rows. Nothing may come after it, and its last line has its
+/// line feed: replies that were cut off end with no report. Fails only for lack of memory.
 pub(crate) fn tree_told(alloc: Global, replies: &[u8]) -> Result<Option<Vec<Row>>, Memory>
     ensures { IfOk result (λ rows. option_map (λ list. list.items) rows ≡ tree_told replies.now) }
 {

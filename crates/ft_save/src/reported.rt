@@ -11,7 +11,7 @@ use ft_copy::{
 };
 use std::alloc::Global;
 
-/// The tree that a report tells of.
+/// The tree that a report describes.
 #[derive(Clone, Copy)]
 pub(crate) struct Reported<'a> {
     pub(crate) index: &'a Index,

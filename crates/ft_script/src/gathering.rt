@@ -35,8 +35,8 @@ impl Script {
         })
     }
 
-    /// Reads more, if all that was read stands in lines, and once all replies to these are written.
-    /// Answers whether there is something to cut; if not, the script has ended.
+    /// Reads more, if all that was read is in lines that have ended, and once all replies to these
+    /// are written. Returns whether there is something to cut; if not, the script has ended.
     pub(crate) fn read_more<R: Read>(&mut self, reader: &mut R) -> Result<bool, PlayFault>
         requires written { self.old.replies.items ≡ [] }
         ensures bytes { OnOk result ((read : List ℕ) × Consumes (R.remaining reader.old) (R.remaining reader.new) read × (uncut self.new.lines ≡ uncut self.old.lines ++ read)) }

@@ -46,7 +46,7 @@ impl Handle {
         }
     }
 
-    /// What it holds.
+    /// Returns its contents.
     fn into_loose(self) -> Option<Loose<Session, Global>>
         ensures { option_map (λ loose. loose.value) result ≡ self.session }
     {

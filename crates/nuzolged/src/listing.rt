@@ -7,8 +7,8 @@ use ft_path::Name;
 use ft_session::copy_into;
 use ft_tree::Kind;
 
-/// Copies names into a buffer, each with its kind before it and a null byte behind it, as far as
-/// they have room: how many bytes they have in all.
+/// Copies names into a buffer, each with its kind before it and a null byte after it, as far as
+/// they have room. Returns how many bytes they have in all.
 pub(crate) fn copy_listing(names: &[(Name, Kind)], buffer: &mut [u8]) -> usize
     ensures size { result ≡ size_of (listing names.now) }
     ensures bytes { buffer.new ≡ filled (listing names.now) buffer.old }

@@ -45,7 +45,7 @@ impl TreePointer {
         }
     }
 
-    /// What it leads to.
+    /// Returns the handle to which it leads.
     fn into_loose(self) -> Option<Loose<Handle, Global>>
         ensures { option_map (λ loose. loose.value) result ≡ self.tree }
     {

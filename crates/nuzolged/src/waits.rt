@@ -11,8 +11,8 @@ use ft_core::{Core, Pending, TxnId};
 use ft_waits::{Verdict, judged_edges};
 use std::alloc::Global;
 
-/// The transactions for which a transaction waits now: how many there are is told, and as many as
-/// have room are copied.
+/// Copies the transactions for which a transaction waits now. The answer holds how many there are,
+/// and as many as have room are copied.
 #[unsafe(no_mangle)]
 pub extern "C" fn nuz_blockers(
     alloc: Global,
@@ -29,8 +29,8 @@ pub extern "C" fn nuz_blockers(
     tell(alloc, tree, told, answer)
 }
 
-/// The transactions of a deadlock, if there is one: how many there are is told, and as many as have
-/// room are copied.
+/// Copies the transactions of a deadlock, if there is one. The answer holds how many there are, and
+/// as many as have room are copied.
 #[unsafe(no_mangle)]
 pub extern "C" fn nuz_cycle(
     alloc: Global,
