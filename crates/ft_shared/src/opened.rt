@@ -40,8 +40,8 @@ impl<C: Shareable> Model for Opened<C> {
     ghost invariant = { λ a. (C.forgotten a.core ≡ Some 0) × IsOpened (C.stored a.core).state a.blank.book a.blank.nothing a.blank.first a.blank.second };
 }
 
-/// The reason why a core has no views: it can't be shared, or there was not enough memory or no place
-/// for the reader.
+/// The reason why a core has no views: it can't be shared, or there was not enough memory or no
+/// place for the reader.
 #[derive(Debug, PartialEq, Eq, Clone, Copy)]
 pub enum Cause {
     Fault(Fault),
