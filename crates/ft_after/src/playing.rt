@@ -77,7 +77,7 @@ pub fn play_first(alloc: Global, script: &[u8], core: &mut Core) -> Result<(), A
     }
 }
 
-// Plays the lines of a script, and tells how many there are.
+// Plays the lines of a script, and returns how many there are.
 fn play_all(alloc: Global, script: &[u8], core: &mut Core) -> Result<u64, AfterFault>
     ensures ok { OnOk result (PlaysWell core.old.state (lines_of script.now) core.new.state) }
     ensures count { IfOk result (λ count. count ≡ length (lines_of script.now)) }
@@ -95,7 +95,7 @@ fn play_all(alloc: Global, script: &[u8], core: &mut Core) -> Result<u64, AfterF
     Ok(number)
 }
 
-// Plays a line, and answers whether it did what it asks for.
+// Plays a line, and returns whether it did what it requests.
 fn play_line(alloc: Global, line: &[u8], core: &mut Core) -> Result<bool, AfterFault>
     ensures well { IfOk result (λ well. well ≡ true → GoesWell core.old.state (meaning_of line.now) core.new.state) }
     ensures badly { IfOk result (λ well. well ≡ false → GoesBadly core.old.state (meaning_of line.now) core.new.state) }
@@ -108,7 +108,7 @@ fn play_line(alloc: Global, line: &[u8], core: &mut Core) -> Result<bool, AfterF
     }
 }
 
-// Carries out a request, and answers whether it was granted and did not fail. Its only error is
+// Carries out a request, and returns whether it was granted and did not fail. Its only error is
 // that there was no memory for it.
 fn does_well(core: &mut Core, request: Request) -> Result<bool, Memory>
     ensures well { IfOk result (λ well. well ≡ true → GoesWell core.old.state (Line.Request request) core.new.state) }

@@ -38,7 +38,7 @@ impl Place {
         Place::of(index.wrapping_mul(7919).checked_rem(size).unwrap_or(0))
     }
 
-    /// From which level on the directory is the first one there, so that those above it have to be
+    /// From which level on the directory is the first one there, so that those above it must be
     /// made too.
     pub fn new_levels(self) -> &'static [Level] {
         match (self.second, self.third) {

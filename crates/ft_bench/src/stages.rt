@@ -10,7 +10,7 @@ use std::mem;
 /// What is asked again and again, in a transaction that has made many directories.
 #[derive(Clone, Copy, PartialEq, Eq)]
 pub enum Stage {
-    /// The path of a call is made, and no call: what the others take beside their asks.
+    /// The path of a call is made, and no call: what the others take besides their asks.
     Call,
     /// A directory is asked for, each time beside another one.
     Ask,
@@ -79,7 +79,7 @@ fn fill(alloc: Global, core: &mut Core, txn: TxnId, size: u64) -> Result<(), Fai
     Ok(())
 }
 
-/// Makes a directory, and those above it where it is the first in them.
+/// Makes a directory, and those above it if it is the first in them.
 fn add(alloc: Global, core: &mut Core, txn: TxnId, place: Place) -> Result<(), Failed> {
     for level in place.new_levels() {
         let path = place.path(alloc, *level)?;

@@ -76,8 +76,8 @@ pub struct AskedPace {
     pub threads: u64,
 }
 
-// How a script is run, how who waits for whom is drawn, how the jobs of a plan are run, and how
-// they begin with the files of one directory and end with those of another.
+// Examples: a script is run, its waits-for edges are drawn, the jobs of a plan are run, and jobs
+// begin with the files of one directory and end with those of another.
 const EXAMPLE: &str =
     "Example:\n  ft_run play < script.ft\n  ft_run play < script.ft | ft_run dot | dot -Tsvg > waits.svg\n  ft_run jobs build.plan\n  ft_run load src > src.ft\n  ft_run jobs build.plan --after src.ft | ft_run save out";
 
@@ -105,7 +105,7 @@ pub fn choose<'a, S: AsStr>(alloc: Global, words: &'a [S]) -> Choice
     }
 }
 
-// The choice where the words could be read. The crate that reads them knows no other subcommand.
+// The choice if the words could be read. The crate that reads them knows no other subcommand.
 fn choice_of(alloc: Global, matches: &ArgMatches) -> Choice
     ensures { ReadChoice (subcommand_rows_of matches.now) result }
 {
@@ -127,7 +127,7 @@ fn choice_of(alloc: Global, matches: &ArgMatches) -> Choice
     }
 }
 
-// The choice where a script is to be run.
+// The choice if a script is to be run.
 fn play_choice(alloc: Global, found: &ArgMatches) -> Choice
     ensures { ReadChoice (Some (codes "play", rows_of (found_of found.now))) result }
 {
@@ -148,7 +148,7 @@ fn play_choice(alloc: Global, found: &ArgMatches) -> Choice
     }
 }
 
-// The choice where a report is to be drawn. The limits are for the other commands of a pipe.
+// The choice if a report is to be drawn. The limits are for the other commands of a pipe.
 fn dot_choice(alloc: Global, found: &ArgMatches) -> Choice
     ensures { ReadChoice (Some (codes "dot", rows_of (found_of found.now))) result }
 {
@@ -158,7 +158,7 @@ fn dot_choice(alloc: Global, found: &ArgMatches) -> Choice
     }
 }
 
-// The choice where the value of a flag is no limit.
+// The choice if the value of a flag is no limit.
 fn misused(alloc: Global, found: &ArgMatches, flag: Flag) -> Choice
     ensures { (name : Text) → IsBadLimit flag (rows_of (found_of found.now)) → ReadChoice (Some (name, rows_of (found_of found.now))) result }
 {
@@ -174,7 +174,7 @@ fn misused(alloc: Global, found: &ArgMatches, flag: Flag) -> Choice
     }
 }
 
-// The choice where a directory is to be loaded.
+// The choice if a directory is to be loaded.
 fn load_choice(alloc: Global, found: &ArgMatches) -> Choice
     ensures { ReadChoice (Some (codes "load", rows_of (found_of found.now))) result }
 {
@@ -199,7 +199,7 @@ fn load_choice(alloc: Global, found: &ArgMatches) -> Choice
     }
 }
 
-// The choice where a directory is to be saved.
+// The choice if a directory is to be saved.
 fn save_choice(alloc: Global, found: &ArgMatches) -> Choice
     ensures { ReadChoice (Some (codes "save", rows_of (found_of found.now))) result }
 {
@@ -222,7 +222,7 @@ fn save_choice(alloc: Global, found: &ArgMatches) -> Choice
     }
 }
 
-// The choice where the jobs of a plan are to be run.
+// The choice if the jobs of a plan are to be run.
 fn jobs_choice(alloc: Global, found: &ArgMatches) -> Choice
     ensures { ReadChoice (Some (codes "jobs", rows_of (found_of found.now))) result }
 {
@@ -269,7 +269,7 @@ fn asked_dir(alloc: Global, found: &ArgMatches) -> Option<String>
     Some(dir)
 }
 
-// Whether each line has to do what it asks for.
+// Whether each line must do what it requests.
 fn asked_strict(found: &ArgMatches) -> bool
     ensures { IsFlag (one_of (codes "strict") (rows_of (found_of found.now))) result }
 {
@@ -353,7 +353,7 @@ fn play_command<'a>(alloc: Global) -> Result<Command<'a>, AllocError>
     with_limits(alloc, command)
 }
 
-// The part of it that draws who waits for whom.
+// The part of it that draws which transaction waits for which.
 fn dot_command<'a>(alloc: Global) -> Result<Command<'a>, AllocError>
     ensures app { IfOk result (λ command. app_of command ≡ dot) }
     ensures local { IfOk result HasNoGlobals }
@@ -464,7 +464,7 @@ fn no_owners_arg<'a>(alloc: Global) -> Arg<'a>
         .help("Set no owners and no groups, which else the superuser sets")
 }
 
-// The flag that ends a run at the first line that does not do what it asks for.
+// The flag that ends a run at the first line that does not do what it requests.
 fn strict_arg<'a>(alloc: Global) -> Arg<'a>
     ensures rule { rule_of result ≡ strict_rule }
     ensures local { result.global ≡ false }
@@ -534,7 +534,7 @@ fn quiet_arg<'a>(alloc: Global) -> Arg<'a>
         .help("Don't show on a terminal how far it has come")
 }
 
-// The flag that asks for Moss's rule for holders.
+// The flag that requests Moss's rule for holders.
 fn moss_arg<'a>(alloc: Global) -> Arg<'a>
     ensures rule { rule_of result ≡ moss_rule }
     ensures local { result.global ≡ false }
@@ -545,7 +545,7 @@ fn moss_arg<'a>(alloc: Global) -> Arg<'a>
         .help("Let a lock that a parent holds be in its children's way too")
 }
 
-// The choice where the words could not be read.
+// The choice if the words could not be read.
 fn choice_at(alloc: Global, error: &Error) -> Choice
     ensures { ErrorChoice (kind_of error.now) result }
 {

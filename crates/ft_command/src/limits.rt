@@ -99,7 +99,7 @@ pub(crate) fn asked_limits(found: &ArgMatches) -> Result<AskedLimits, Flag>
     })
 }
 
-// The limit that a flag asks for, where it stands; or the flag, where its value is no limit.
+// The limit that a flag requests, if it is given; or the flag, if its value is no limit.
 fn asked_limit(found: &ArgMatches, flag: Flag) -> Result<Option<u64>, Flag>
     ensures ok { IfOk result (IsAsked flag (rows_of (found_of found.now))) }
     ensures err { IfErr result (λ bad. (bad ≡ flag) × IsBadLimit flag (rows_of (found_of found.now))) }

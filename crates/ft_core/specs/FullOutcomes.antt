@@ -26,7 +26,7 @@ abbrev pub IsToldInFull : State → Call → FullOutcome → Type 0
 IsToldInFull s call (full.Granted k made reply kept accesses) = (made ≡ call) × (kept ≡ Some reply) × (accesses.items ≡ accesses_now s call)
 IsToldInFull s call (full.Waits blockers) = Unit {0}
 
--- the reply of a call that was tried and made, a second time where that was wanted
+-- the reply of a call that was tried and made, a second time if that was wanted
 abbrev pub IsTwice : Bool → Made → Tried → Type 0
 IsTwice twice made WasMade = made.kept ≡ cond twice (Some made.reply) None
 IsTwice twice made (Blocked blockers) = Unit {0}

@@ -1,6 +1,6 @@
--- What has happened, told as a history of the calls on a tree. Which transactions live,
--- which calls stand, who owns which locks and what an undo takes back follow from it alone,
--- by the definitions of ft_history.
+-- What has happened, told as a history of the calls on a tree. Which transactions live, which calls
+-- stand, who owns which locks and what an undo undoes follow from it alone, by the definitions of
+-- ft_history.
 use Rattle.std.specs.Prelude.{ℕ, List, [], ◌∷◌, map}
 use Rattle.ft_laws.specs.Calls.{Done}
 use Rattle.ft_history.specs.History.{Event as Happening, parent}

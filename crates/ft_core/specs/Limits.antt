@@ -24,8 +24,8 @@ of_tree l = record { file_size = l.file_size; links = l.links }
 abbrev pub of_history : Limits → HistoryLimits
 of_history l = record { depth = l.depth; transactions = l.transactions; calls = l.calls }
 
--- where nobody asks for more: files of a mebibyte with 1,000 links, transactions 64 deep, 100,000
--- of them, and 1,000,000 calls
+-- if nobody asks for more: files of a mebibyte with 1,000 links, transactions 64 deep, 100,000 of
+-- them, and 1,000,000 calls
 abbrev pub default_limits : Limits
 default_limits = record {
   file_size = default_of_tree.file_size;

@@ -16,7 +16,7 @@ use Rattle.ft_core.specs.Histories.{told}
 use Rattle.ft_core.specs.States.{State, history, fate_of, has_live_child, standing_calls, tree_of}
 
 -- The headline: tidied, the cells are the tree of the state, which is what the plain tree holds
--- after the standing calls alone, from the base; made so in turn they give the replies that they
+-- after only the standing calls, from the base; made so in turn they give the replies that they
 -- got, and they stand in the order of their stamps.
 pub record IsHeadline (s : State) (cells : Cells) : Type 0 where
   pub tree : tidy cells ≡ tree_of s

@@ -1,4 +1,4 @@
--- What a core tells of its locks, of who waits for whom, and of live children.
+-- What a core tells of its locks, of which transaction waits for which, and of live children.
 use Rattle.std.specs.Prelude.{◌≡◌, ◌<◌, ◌↔◌, ℕ, true, Option, Some, None, List, [], ◌∷◌, map}
 use Rattle.std.specs.FinMap as finite
 use Rattle.std.specs.Ordering.{nat_cmp, ordering_then}
@@ -22,8 +22,7 @@ pub record AreLockLines (s : State) (lines : List LockLine) : Type 0 where
   pub order : Pairs (λ x y. line_cmp x y ≡ Less) lines
   pub exact : (l : LockLine) → In l lines ↔ (is_lock (history s) l ≡ true)
 
--- who is in the way of a call now: by the rule, with the accesses that the call
--- has on the tree of the state
+-- who blocks a call now: by the rule, with the accesses that the call has on the tree of the state
 abbrev pub blockers_now : State → ℕ → Call → List ℕ
 blockers_now s t call = exact_rule s t (accesses_now s call)
 
@@ -31,7 +30,7 @@ blockers_now s t call = exact_rule s t (accesses_now s call)
 abbrev pub waits_from : State → List (ℕ × Call) → List (ℕ × List ℕ)
 waits_from s asks = map (λ ask. (ask.0, blockers_now s ask.0 ask.1)) asks
 
--- each transaction that waits for a call, in rising order, with who is in the way of it now
+-- each transaction that waits for a call, in rising order, with who blocks it now
 abbrev pub waits : State → List (ℕ × List ℕ)
 waits s = waits_from s (finite.entries s.asks)
 

@@ -1,7 +1,7 @@
--- The state of a core: what its contracts say of it, and what a reader has to believe, with
+-- The state of a core: what its contracts say of it, and what a reader must believe, with
 -- Histories, Living, Steps, Promises, Reports, Sweeps and Reached. What follows from the events
 -- alone is said by ft_history at the calls of ft_posix, and not a second time here. (Rules of this
--- project, where no source is given.)
+-- project, if no source is given.)
 use Rattle.std.specs.Prelude.{ℕ, ◌+◌, Bool, not, ◌||◌, ◌==◌, nat_le, nat_lt, List, [], ◌∷◌, ◌++◌, Option, Some, None, length, refl}
 use Rattle.std.specs.Ordering.{nat_cmp}
 use Rattle.std.specs.FinMap as finite
@@ -50,7 +50,7 @@ Asks = finite.FinMap nat_cmp Call
 -- the rule for holders, the limits of what may happen, the base, what has happened since, who waits
 -- for what, and the last numbers given
 pub record State : Type 0 where
-  -- by which rule it is told who is in the way of a call; it never changes
+  -- by which rule it is told who blocks a call; it never changes
   pub rule : Rule
   -- what is allowed of the history; it never changes, and those of the tree are the tree's
   pub limits : HistoryLimits
@@ -94,7 +94,7 @@ pub record StoredState : Type 0 where
 abbrev pub coded_stored : Coded StoredState
 coded_stored = code_by (State × Cells) (coded× coded_state tree.the_row.coded) (λ s. (s.state, s.cells)) (λ p. record { state = p.0; cells = p.1 }) (λ _. refl)
 
--- the root alone, of number 1, in a tree with these limits; no transaction, and the stamp 1
+-- only the root, of number 1, in a tree with these limits; no transaction, and the stamp 1
 abbrev pub first_base : TreeLimits → Base
 first_base limits = record { tree = tidy (fresh_cells limits); last_txn = 0; last_stamp = 1 }
 
@@ -148,7 +148,7 @@ has_live s = nat_lt 0 (length (live_transactions s))
 abbrev pub standing_calls : State → List Granted
 standing_calls s = standing posix_calls (history s)
 
--- The tree of a state: what the plain tree holds after the standing calls alone, in the order of
+-- The tree of a state: what the plain tree holds after only the standing calls, in the order of
 -- their stamps, from the base: no locks, no logs, no transactions.
 abbrev pub tree_of : State → PlainTree
 tree_of s = tree_after s.base.tree (standing_calls s)
@@ -244,8 +244,8 @@ count_owned s t = length (passing (λ c. is_some_and (owner_of posix_calls (hist
 abbrev pub count_live : State → ℕ → ℕ
 count_live s t = length (passing (over posix_calls (history s) t) (live_transactions s))
 
--- the tree as it stands is the base, and what has happened is forgotten; the
--- last numbers, the rule and the limits stay
+-- the present tree is the base, and what has happened is forgotten; the last numbers, the rule and
+-- the limits stay
 abbrev pub base_now : State → Base
 base_now s = record { tree = tree_of s; last_txn = s.last_txn; last_stamp = s.last_stamp }
 

@@ -66,8 +66,8 @@ impl Core {
         Ok(self.abort_live(txn))
     }
 
-    /// Takes back what the live transactions at or below a live one have done, each before its
-    /// parent, and ends them.
+    /// Undoes what the live transactions at or below a live one have done, each before its parent,
+    /// and ends them.
     fn abort_live(&mut self, txn: TxnId) -> FullAbort
         requires { fate_of self.old.state txn ≡ Some Live }
         ensures calls { result.calls ≡ count_standing self.old.state txn }

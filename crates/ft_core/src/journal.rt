@@ -27,7 +27,7 @@ pub(crate) struct Terms {
 
 pub(crate) struct Journal {
     terms: Terms,
-    // (no bytes: what has happened is seen by clauses alone)
+    // (no bytes: only clauses see what has happened)
     past: Past,
     asks: Table<Call>,
     subs: PagedTable<Option<u64>>,

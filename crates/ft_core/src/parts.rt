@@ -1,4 +1,4 @@
-// The parts of a core: the tree, and what is kept beside it.
+// The parts of a core: the tree, and what is kept alongside it.
 ghost use Rattle.std.specs.Prelude.{◌≡◌, ◌<◌, ◌≤◌, ◌^◌, ◌+◌, ◌∷◌, ℕ, List, [], Some, None, cond, true, false, length, take, map, IfOk, OnOk, OnErr};
 ghost use Rattle.ft_base.specs.Chains.{list_in};
 ghost use Rattle.ft_tree.specs.Sound.{AreSoundCells, IsFree};
@@ -154,7 +154,7 @@ impl Parts {
         ensures tried { IfOk result (IsTried rule self.old self.new asker.txn asker.stamp call.now made.new) }
         ensures unmade { OnErr result (IsUnmade self.old self.new) }
     {
-        // (they are let go in one place, behind all that may end the call)
+        // (they are released in one place, after all that may end the call)
         let mut edits = Edits::new(alloc);
         self.try_with(alloc, asker, call, rule, &mut edits, memo, made)
     }

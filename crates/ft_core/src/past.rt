@@ -1,4 +1,4 @@
-// What has happened, for proofs alone.
+// The past, only for proofs.
 ghost use Rattle.std.specs.Prelude.{◌≡◌, List, []};
 ghost use Rattle.std.specs.Borrow.{ftrue};
 ghost use Rattle.ft_cells.specs.Plain.{PlainTree};

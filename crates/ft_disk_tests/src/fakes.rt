@@ -14,7 +14,7 @@ use std::time::{Clock, Duration};
 // ---- what stands where
 
 /// What stands at a path. A directory and a file have the default attributes, and a file no time,
-/// where nothing else is said.
+/// if nothing else is said.
 #[derive(Clone, Copy)]
 pub enum Held<'a> {
     Folder,
@@ -30,11 +30,11 @@ pub enum Held<'a> {
     Special,
 }
 
-/// A path, and what stands there.
+/// A path, and what is there.
 pub type Row<'a> = (&'a [u8], Held<'a>);
 
 impl<'a> Held<'a> {
-    // Its attributes, where it is a directory.
+    // Its attributes, if it is a directory.
     fn folder(self) -> Option<Attributes> {
         match self {
             Held::Folder => Some(Attributes::of(Kind::Dir)),
@@ -43,7 +43,7 @@ impl<'a> Held<'a> {
         }
     }
 
-    // Its number, the count of its names, its bytes and what it is given, where it is a file.
+    // Its number, the count of its names, its bytes and what it is given, if it is a file.
     fn file(self) -> Option<(u64, u64, &'a [u8], Given)> {
         let given = Given {
             attributes: Attributes::of(Kind::File),
@@ -57,7 +57,7 @@ impl<'a> Held<'a> {
     }
 }
 
-// What stands at a path, where something does: at the root a directory, where no row tells of it.
+// What stands at a path, if something does: at the root a directory, if no row tells of it.
 fn held_at<'a>(rows: &[Row<'a>], path: &[u8]) -> Option<Held<'a>> {
     match rows.iter().find(|row| row.0 == path) {
         Some(row) => Some(row.1),
@@ -66,7 +66,7 @@ fn held_at<'a>(rows: &[Row<'a>], path: &[u8]) -> Option<Held<'a>> {
     }
 }
 
-// The name that leads from a directory to a path, where it is one name.
+// The name that leads from a directory to a path, if it is one name.
 fn name_in<'a>(folder: &[u8], path: &'a [u8]) -> Option<&'a [u8]> {
     let name = path.strip_prefix(folder)?.strip_prefix(b"/".as_slice())?;
     if name.contains(&b'/') {
@@ -270,8 +270,8 @@ impl FakeTarget {
         self.made.is_empty() && self.files.is_empty()
     }
 
-    /// Whether the tree is whole and has just these rows, made in this order. The first may be that
-    /// of the root, which else has the default attributes.
+    /// Whether the tree is whole and has exactly these rows, made in this order. The first may be
+    /// that of the root, which else has the default attributes.
     pub fn holds(&self, rows: &[Row<'_>]) -> bool {
         let (root, rows) = match rows.split_first() {
             Some((row, rows)) if row.0.is_empty() => (row.1.folder(), rows),
@@ -326,7 +326,7 @@ impl FakeTarget {
         self.made.iter().find(|made| made.path.as_slice() == path)
     }
 
-    // Makes something in a directory, where its name is free, and takes a turn.
+    // Makes something in a directory, if its name is free, and takes a turn.
     fn put(&mut self, path: &[u8], what: What) -> Result<(), Trouble> {
         let is_in_folder = self.made.iter().any(|made| matches!(made.what, What::Folder(_))
             && name_in(made.path.as_slice(), path).is_some());
@@ -338,7 +338,7 @@ impl FakeTarget {
         self.take_turn()
     }
 
-    // Adds a file or a symbolic link of these bytes, and answers its number.
+    // Adds a file or a symbolic link of these bytes, and returns its number.
     fn add(&mut self, bytes: Vec<u8>, attributes: Attributes) -> Result<usize, Trouble> {
         let number = self.files.len();
         self.files.push(bytes)?;

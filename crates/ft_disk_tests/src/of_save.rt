@@ -1,4 +1,4 @@
-// What no clause says: that a save comes to its end, and what is left where it does not.
+// What no clause states: that a save comes to its end, and what is left if it does not.
 use crate::fakes::{FakeTarget, Held, Row};
 use crate::of_load::{
     SCRIPT, SCRIPT_WITH_ATTRIBUTES, SCRIPT_WITH_LINKS, TREE, WITH_ATTRIBUTES, WITH_LINKS,
@@ -42,7 +42,7 @@ const CALLS: u64 = 9;
 
 const LINK_CALLS: u64 = 12;
 
-/// What may be saved where nobody asks for more, with set-id bits or without.
+/// What may be saved if nobody asks for more, with set-id bits or without.
 pub fn default_limits(set_id: bool) -> CopyLimits {
     let TreeLimits { file_size, links } = TreeLimits::default();
     CopyLimits {
@@ -246,7 +246,7 @@ fn names_that_lead_elsewhere(rt: HostRuntime) -> Result<(), Fail> {
     Ok(())
 }
 
-// Whether a report of a file of so many bytes is saved, where a file may have as many as this.
+// Whether a report of a file of so many bytes is saved, if a file may have as many as this.
 fn is_saved_within(alloc: Global, size: usize, file_size: u64) -> Result<bool, Fail> {
     let bytes = vec![in alloc; b'x'; size]?;
     let head = format!(in alloc; "tree 3\ndir 1\nedge 1 f 2\nfile 2 {size} ")?;

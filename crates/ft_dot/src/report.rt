@@ -1,4 +1,4 @@
-// A report of who waits for whom.
+// A report of which transaction waits for which.
 use ft_base::Sequence;
 use ft_waits::{Edge, Verdict};
 

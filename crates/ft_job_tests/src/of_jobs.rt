@@ -20,7 +20,7 @@ use std::time::{Clock, Duration};
 /// there.
 const MEETING_TURNS: u64 = 10_000;
 
-/// How often calls are asked for under a manager that lies, where some wait in vain.
+/// How often calls are asked for under a manager that lies, if some wait in vain.
 const FEW_TURNS: u64 = 3;
 
 /// Two jobs side by side, of which the first has two subjobs.
@@ -113,7 +113,7 @@ fn run_meeting<R: Threads + Wait + Clock + Sync>(
     )?)
 }
 
-/// Whether the calls of a history have just these stamps, in this order.
+/// Whether the calls of a history have exactly these stamps, in this order.
 fn has_stamps(history: &[Event], stamps: &[u64]) -> bool {
     let told = history.iter().filter_map(|event| match event {
         Event::Call { stamp, .. } => Some(*stamp),

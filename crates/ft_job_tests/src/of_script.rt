@@ -1,4 +1,4 @@
-// What no clause says: readers and writers that fail, halt or take little, and the time that the
+// What no clause states: readers and writers that fail, halt or take little, and the time that the
 // most reads take. Scripts alone are case files, which the built program plays.
 use ft_core::Core;
 use ft_script::{LONGEST_LINE, MOST_READS, PlayFault, play};

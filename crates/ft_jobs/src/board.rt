@@ -1,4 +1,5 @@
-// Where the jobs of a plan stand: which may start, who waits for whom of them, and their reports.
+// Where the jobs of a plan stand: which may start, which transaction waits for which of them, and
+// their reports.
 use ft_base::{Memory, Sequence};
 use ft_core::TxnId;
 use ft_plan::{Job, JobName};

@@ -18,7 +18,7 @@ use Rattle.ft_copy.specs.Stops.{IsCause, IsReached, Reached, asked_before, asked
 use Rattle.ft_core.specs.declared.limits.Limits.{Limits}
 use Rattle.ft_load.specs.Scripts.{BreaksOff, IsWithinCalls, fd_of, next_of, script_text}
 
--- what may be copied where a core has these limits, with set-id bits or without
+-- what may be copied if a core has these limits, with set-id bits or without
 abbrev pub copy_limits : Limits → Bool → CopyLimits
 copy_limits limits set_id = record { file_size = limits.file_size; links = limits.links; set_id = set_id }
 

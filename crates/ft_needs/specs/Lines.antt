@@ -26,7 +26,7 @@ with_flags [] limits = Some limits
 with_flags (flag ∷ []) limits = None
 with_flags (flag ∷ value ∷ more) limits = option_and_then (with_flags more) (with_flag flag value limits)
 
--- the words behind `# needs`
+-- the words after `# needs`
 abbrev pub flags_of : List (List ℕ) → Option (List (List ℕ))
 flags_of [] = None
 flags_of (first ∷ []) = None
@@ -48,7 +48,7 @@ raised_for limits script = raised_by_first limits (lines_of script)
 
 -- ---- how it is written
 
--- so many of a unit, with its letter, where it is a whole number of them
+-- so many of a unit, with its letter, if it is a whole number of them
 abbrev pub units_text : ℕ → ℕ → ℕ → List ℕ → List ℕ
 units_text size unit letter other = if size % unit == 0 then decimal (size / unit) ++ letter ∷ [] else other
 
@@ -56,7 +56,7 @@ units_text size unit letter other = if size % unit == 0 then decimal (size / uni
 abbrev pub size_text : ℕ → List ℕ
 size_text size = units_text size (2 ^ 30) 71 (units_text size (2 ^ 20) 77 (units_text size (2 ^ 10) 75 (decimal size)))
 
--- a flag with its value, after a space, where the limit is above the one that needs no flag
+-- a flag with its value, after a space, if the limit is above the one that needs no flag
 abbrev pub flag_text : List ℕ → ℕ → ℕ → List ℕ → List ℕ
 flag_text flag limit default value = if nat_le limit default then [] else codes " " ++ flag ++ codes " " ++ value
 

@@ -5,11 +5,11 @@ use Rattle.std.specs.Borrow.{Bor}
 use Rattle.std.specs.Fmt.{decimal}
 use Rattle.std.specs.List.{flat_map}
 
--- a name behind a space
+-- a name after a space
 abbrev pub name_text : Bor (List ℕ) → List ℕ
 name_text name = codes " " ++ name.now
 
--- `; waiting:` and these names, or nothing where there are none
+-- `; waiting:` and these names, or nothing if there are none
 abbrev pub waiting_text : List (Bor (List ℕ)) → List ℕ
 waiting_text [] = []
 waiting_text (name ∷ names) = codes "; waiting:" ++ flat_map name_text (name ∷ names)

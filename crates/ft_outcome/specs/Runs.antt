@@ -22,7 +22,7 @@ text_of_outcome jobs outcome = outcome_text jobs outcome.reports.items outcome.c
 
 -- The bytes are the plan of some jobs, and the text is that of an outcome of them: they have run on
 -- a core that was in this state, and their reports are what happened; and whether they ended as the
--- plan means, where it is strict.
+-- plan means, if it is strict.
 pub record IsTextOfPlan (met : Bool) (from : State) (bytes text : List ℕ) : Type 0 where
   pub jobs : List Job
   pub outcome : JobsOutcome

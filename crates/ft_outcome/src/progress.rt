@@ -48,7 +48,7 @@ impl fmt::Display for WaitingText<'_> {
     }
 }
 
-// Names, each behind a space.
+// Names, each after a space.
 #[derive(Clone, Copy)]
 struct Names<'a>(&'a [&'a JobName]);
 

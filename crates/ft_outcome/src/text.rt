@@ -73,7 +73,7 @@ impl fmt::Display for JobText<'_> {
     }
 }
 
-// The number of a transaction, or `-` where there is none.
+// The number of a transaction, or `-` if there is none.
 #[derive(Clone, Copy)]
 struct TxnText(Option<TxnId>);
 

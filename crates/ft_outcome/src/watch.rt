@@ -100,7 +100,7 @@ impl<'a> Watch<'a> {
         format!(in alloc; "{progress}")
     }
 
-    // Pauses, for less where the jobs end meanwhile. Whether they have ended.
+    // Pauses, for less if the jobs end meanwhile. Whether they have ended.
     fn is_over_soon<R: Wait + Clock>(&self, rt: &R) -> bool {
         let pause = Duration::from_millis(PAUSE);
         let (noted, _) = self

@@ -69,7 +69,7 @@ fn has_two_pages(body: &Body) -> Result<bool, Memory> {
     Ok(body.pages() == 2 && body.len() == 1_048_576 && shows(body, 4_094, 4, b"\0ab\0")?)
 }
 
-/// Cuts a body at the end of its first page, lengthens it, and takes both back.
+/// Cuts a body at the end of its first page, lengthens it, and undoes both.
 fn cuts_and_lengthens(body: &mut Body) -> Result<bool, Memory>
     ensures { OnOk result (body.new ≡ body.old) }
 {

@@ -17,7 +17,7 @@ use Rattle.ft_plan.specs.declared.job.Step.TheVariants.{Call, CallOn, Try, TryOn
 use Rattle.ft_plan.specs.declared.line.PlanLine.{PlanLine}
 use Rattle.ft_plan.specs.declared.line.PlanLine.TheVariants as line
 
--- BadPlan for words that spell nothing, Memory where memory was wanting
+-- BadPlan for words that spell nothing, Memory if there is not enough memory
 abbrev pub fault_from : Unread → JobFault
 fault_from Misspelt = faults.BadPlan
 fault_from NoMemory = faults.Memory
@@ -30,7 +30,7 @@ is_name_byte b = is_ascii_lowercase b || is_ascii_digit b || (b == 95) || (b == 
 abbrev pub is_job_name : List ℕ → Bool
 is_job_name word = nat_le 1 (length word) && nat_le (length word) 32 && list_all is_name_byte word
 
--- the word, where it is a name
+-- the word, if it is a name
 abbrev pub job_name_of : List ℕ → Option (List ℕ)
 job_name_of word = if is_job_name word then Some word else None
 
@@ -46,18 +46,18 @@ heading kind name [] = option_map (λ n. line.Job n None kind) (job_name_of name
 heading kind name (parent ∷ []) = subheading kind name parent
 heading kind name (parent ∷ other ∷ words) = None
 
--- behind `must`: both names
+-- after `must`: both names
 abbrev pub must_line : List (List ℕ) → Option PlanLine
 must_line [] = None
 must_line (name ∷ []) = None
 must_line (name ∷ parent ∷ []) = subheading Must name parent
 must_line (name ∷ parent ∷ other ∷ words) = None
 
--- behind `job` in a strict plan
+-- after `job` in a strict plan
 abbrev pub strict_job_line : List ℕ → List (List ℕ) → Option PlanLine
 strict_job_line word words = if bytes_eq word (codes "must") then must_line words else heading Strict word words
 
--- behind `job`
+-- after `job`
 abbrev pub job_line : Bool → List (List ℕ) → Option PlanLine
 job_line strict [] = None
 job_line strict (word ∷ words) = if strict then strict_job_line word words else heading Free word words
@@ -74,7 +74,7 @@ abbrev pub line_after : List (List ℕ) → Option PlanLine
 line_after [] = None
 line_after (name ∷ names) = Some (line.After (name ∷ names))
 
--- behind `after`
+-- after `after`
 abbrev pub after_line : List (List ℕ) → Option PlanLine
 after_line words = option_and_then line_after (names_of words)
 
@@ -84,7 +84,7 @@ after_line words = option_and_then line_after (names_of words)
 abbrev pub lone_steps : List (List ℕ × Step)
 lone_steps = (codes "subs", Subs) ∷ (codes "commit", Commit) ∷ (codes "abort", Abort) ∷ []
 
--- the step, where nothing stands behind its word
+-- the step, if nothing stands after its word
 abbrev pub alone : List (List ℕ) → Step → Option Step
 alone [] step = Some step
 alone (word ∷ words) step = None
@@ -102,13 +102,13 @@ call_step name words = option_map_or Some (on_opened name words) (option_map Cal
 abbrev pub plain_step : List ℕ → List (List ℕ) → Option Step
 plain_step word others = option_map_or (alone others) (look_up lone_steps word) (call_step word others)
 
--- the step where its call may fail
+-- the step if its call may fail
 abbrev pub tried : Step → Step
 tried (Call call) = Try call
 tried (CallOn call) = TryOn call
 tried step = step
 
--- behind `try`: a call
+-- after `try`: a call
 abbrev pub tried_step : List (List ℕ) → Option Step
 tried_step [] = None
 tried_step (word ∷ others) = option_map tried (call_step word others)
@@ -121,7 +121,7 @@ step_of strict word others = if strict && bytes_eq word (codes "try") then tried
 abbrev pub inner_line : Bool → List ℕ → List (List ℕ) → Option PlanLine
 inner_line strict word others = if strict && bytes_eq word (codes "after") then after_line others else option_map line.Step (step_of strict word others)
 
--- What the words of a line of a plan say; `None` where they say nothing. Some words say something
+-- What the words of a line of a plan say; `None` where they say nothing. Some words mean something
 -- in a strict plan alone.
 abbrev pub line_of : Bool → List (List ℕ) → Option PlanLine
 line_of strict [] = None
@@ -135,8 +135,8 @@ is_strict_line [] = false
 is_strict_line (word ∷ []) = bytes_eq word (codes "strict")
 is_strict_line (word ∷ other ∷ words) = false
 
--- The lines behind that one, where all before it are silent; `None` where another says something
--- first, or none does.
+-- The lines after that one, if all before it are silent; `None` if another says something first, or
+-- none does.
 abbrev pub behind_strict : List (List ℕ) → Option (List (List ℕ))
 behind_strict [] = None
 behind_strict (bytes ∷ lines) = option_map_or (λ words. if is_strict_line words then Some lines else None) (words_of_line bytes) (behind_strict lines)

@@ -20,9 +20,9 @@ HasBegun ended (Some begun) = Unit {0}
 pub data Place : Type 0 where
   -- before the first job
   Ahead : Place
-  -- behind the line that begins a job
+  -- after the line that begins a job
   Opened : Place
-  -- further behind it
+  -- further after it
   Within : Place
 
 -- where the next line stands
@@ -31,7 +31,7 @@ place_behind (line.Job name parent kind) = Opened
 place_behind (line.After names) = Within
 place_behind (line.Step step) = Within
 
--- where the next line stands behind these
+-- where the next line stands after these
 abbrev pub place_after : Place → List PlanLine → Place
 place_after place [] = place
 place_after place (first ∷ lines) = place_after (place_behind first) lines
@@ -42,7 +42,7 @@ takes_step Ahead = false
 takes_step Opened = true
 takes_step Within = true
 
--- what a job comes after stands on the line behind the one that begins it
+-- what a job comes after stands on the line after the one that begins it
 abbrev pub takes_after : Place → Bool
 takes_after Ahead = false
 takes_after Opened = true
@@ -55,10 +55,10 @@ fits place (line.After []) = false
 fits place (line.After (name ∷ names)) = takes_after place
 fits place (line.Step step) = takes_step place
 
--- a line that may not stand behind these
+-- a line that may not stand after these
 abbrev pub IsStray : List PlanLine → PlanLine → Type 0
 IsStray lines next = fits (place_after Ahead lines) next ≡ false
 
--- what lines say behind others
+-- what lines say after others
 abbrev pub behind_all : List PlanLine → Option (List PlanLine) → Option (List PlanLine)
 behind_all so_far more = option_map (λ lines. so_far ++ lines) more

@@ -18,7 +18,7 @@ use Rattle.ft_plan.specs.Lines.{line_of, behind_strict}
 
 -- ---- how a plan is written
 
--- what the lines say, silent ones left out; `None` where one of the others says nothing
+-- what the lines say, silent ones left out; `None` if one of the others says nothing
 abbrev pub said : Bool → List (List ℕ) → Option (List PlanLine)
 said strict [] = Some []
 said strict (bytes ∷ lines) =
@@ -141,7 +141,7 @@ is_on_opened before (steps.CallOn call) = option_map_or is_open (step_at before 
 is_on_opened before (steps.TryOn call) = option_map_or is_open (step_at before (descriptor call)) false
 is_on_opened before step = true
 
--- Among these jobs: it starts its subjobs in just one step where it has any, and else in none.
+-- Among these jobs: it starts its subjobs in exactly one step if it has any, and else in none.
 abbrev pub starts_subjobs : List Job → Job → Bool
 starts_subjobs jobs job = count_by is_subs job.steps == (if list_any (is_subjob_of job.name) jobs then 1 else 0)
 
@@ -155,16 +155,16 @@ is_job jobs job = ends_last job.steps && (all_behind is_on_opened [] job.steps &
 abbrev pub is_free : Job → Bool
 is_free job = is_free_kind job.kind
 
--- the most jobs of a plan: fewer where one of them is free
+-- the most jobs of a plan: fewer if one of them is free
 abbrev pub most_jobs : List Job → ℕ
 most_jobs jobs = if list_any is_free jobs then 64 else 4096
 
--- 1 to 64 jobs, or 4,096 where all are strict, each opened by those before it, and with the steps
--- that it may have
+-- 1 to 64 jobs, or 4,096 if all are strict, each opened by those before it, and with the steps that
+-- it may have
 abbrev pub is_plan : List Job → Bool
 is_plan jobs = (nat_le 1 (length jobs) && nat_le (length jobs) (most_jobs jobs)) && (all_behind is_opened [] jobs && list_all (is_job jobs) jobs)
 
--- The bytes are at most 8,388,608, their lines say just these jobs, and the jobs are a plan.
+-- The bytes are at most 8,388,608, their lines say exactly these jobs, and the jobs are a plan.
 pub record IsPlanOf (bytes : List ℕ) (jobs : List Job) : Type 0 where
   pub size : nat_le (length bytes) LONGEST_PLAN ≡ true
   pub lines : plan_said (lines_of bytes) ≡ Some (plan_lines jobs)

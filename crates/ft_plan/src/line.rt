@@ -53,7 +53,7 @@ fn job_line(alloc: Global, strict: bool, words: Words<'_>) -> Result<PlanLine, U
     heading(alloc, JobKind::Strict, word, words)
 }
 
-// Behind `must` both names have to stand.
+// After `must` both names must stand.
 fn must_line(alloc: Global, words: Words<'_>) -> Result<PlanLine, Unread>
     ensures { Reads result (must_line words.entry) }
 {
@@ -90,7 +90,7 @@ fn subheading(alloc: Global, kind: JobKind, name: &[u8], parent: &[u8]) -> Resul
     Ok(PlanLine::Job(name, Some(parent), kind))
 }
 
-// The names of the jobs that have to have committed: one at least.
+// The names of the jobs that must have committed: one at least.
 fn after_line(alloc: Global, words: Words<'_>) -> Result<PlanLine, Unread>
     ensures { Reads result (after_line words.entry) }
 {
@@ -137,7 +137,7 @@ fn tried_step(alloc: Global, words: Words<'_>) -> Result<Step, Unread>
     Ok(tried(step))
 }
 
-// The step where its call may fail.
+// The step if its call may fail.
 fn tried(step: Step) -> Step
     ensures { result ≡ tried step }
 {

@@ -28,7 +28,7 @@ pub fn jobs_of(alloc: Global, text: &[u8]) -> Result<Vec<Job>, JobFault>
     }
 }
 
-// The lines behind the one that says that a plan is strict, where all before it are silent.
+// The lines after the one that says that a plan is strict, if all before it are silent.
 fn behind_strict(lines: Lines<'_>) -> Option<Lines<'_>>
     ensures { result ≡ behind_strict lines.entry }
 {
@@ -88,7 +88,7 @@ impl Begun {
         Ok(())
     }
 
-    // Whether no line stands behind the one that begins it.
+    // Whether no line stands after the one that begins it.
     fn is_new(&self) -> bool
         ensures { IsTrue result ↔ ((self.now.after.items ≡ []) × (self.now.steps.items ≡ [])) }
     {
@@ -155,7 +155,7 @@ impl Jobs {
     }
 
     // Takes the next line. A step that no job stands before is no plan, and neither is a line on
-    // what a job comes after that does not stand behind the one that begins it.
+    // what a job comes after that does not stand after the one that begins it.
     fn take(&mut self, line: PlanLine) -> Result<(), JobFault>
         ensures ok { OnOk result (self.new ≡ self.old ++ line ∷ []) }
         ensures bad { IsErrOf result JobFault.BadPlan → IsStray self.old line }
@@ -216,7 +216,7 @@ impl Jobs {
         Ok(())
     }
 
-    // All jobs, where no line follows.
+    // All jobs, if no line follows.
     fn end(self) -> Result<Vec<Job>, Memory>
         ensures { IfOk result (λ jobs. plan_lines jobs.items ≡ self) }
     {

@@ -71,7 +71,7 @@ fn are_opened(jobs: &[Job]) -> bool
     true
 }
 
-// The same of one job behind others.
+// The same of one job after others.
 fn is_opened(before: &[Job], job: &Job) -> bool
     ensures { result ≡ is_opened before.now job.now }
 {
@@ -217,7 +217,7 @@ fn are_on_opened(steps: &[Step]) -> bool
     true
 }
 
-// The same of one step behind others.
+// The same of one step after others.
 fn is_on_opened(before: &[Step], step: &Step) -> bool
     ensures { result ≡ is_on_opened before.now step.now }
 {

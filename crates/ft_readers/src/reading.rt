@@ -33,7 +33,7 @@ impl<'a, J: Sharing + Sync> Gate for Publishing<'a, J> {
     fn pass<R: Wait + Clock>(&self, _rt: &R, _job: u64, _step: u64) {}
 
     fn ended<R: Wait + Clock>(&self, rt: &R, _job: u64) {
-        // Where there is no memory for it, the next one publishes this too.
+        // If there is not enough memory for it, the next one publishes this too.
         let _ = self.shared.publish(rt);
     }
 }

@@ -23,9 +23,9 @@ use Rattle.ft_replies.specs.Reports.{locks_text, attribute_locks_text, waits_tex
 abbrev pub IsLegal : State → Request → Answer → State → Type 0
 IsLegal = IsStep exact_rule
 
--- the text of a report, without the line feed behind it: for `tree`, of the rows of the tree of
--- the state; for `locks` and `attributes`, of the locks of its history in their order, each of the
--- two of those that it tells of; for `waits`, of its waits-for edges and a verdict on them
+-- the text of a report, without the line feed after it: for `tree`, of the rows of the tree of the
+-- state; for `locks` and `attributes`, of the locks of its history in their order, each of the two
+-- of those that it tells of; for `waits`, of its waits-for edges and a verdict on them
 abbrev pub IsReportText : State → Report → List ℕ → Type 0
 IsReportText s Tree text = text ≡ tree_text (rows_of (tree_of s))
 IsReportText s Locks text = (locks : List LockLine) × AreLockLines s locks × (text ≡ locks_text locks)

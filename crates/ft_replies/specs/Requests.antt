@@ -38,7 +38,7 @@ abbrev pub asked_by : List (List ℕ) → Option Line
 asked_by [] = None
 asked_by (first ∷ words) = option_map_or (λ txn. asked_by_txn txn words) (number_of first) (asked_by_word first words)
 
--- where a line asks for nothing that there is, it is bad
+-- if a line is not a valid request, it is bad
 abbrev pub or_bad : Option Line → Line
 or_bad None = line.Bad
 or_bad (Some meaning) = meaning

@@ -1,4 +1,4 @@
-// What a line of a script means.
+// The meaning of a line of a script.
 use ft_core::Request;
 
 /// The meaning of a line.

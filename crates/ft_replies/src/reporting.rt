@@ -1,4 +1,4 @@
-// Reports of how things stand.
+// Reports of the present state.
 ghost use Rattle.std.specs.Prelude.{IfOk, IfSome, string_bytes};
 ghost use Rattle.ft_replies.specs.Lines.{IsReport, IsWholeReport};
 

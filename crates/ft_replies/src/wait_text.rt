@@ -1,4 +1,4 @@
-// The text of who waits for whom.
+// The text of which transaction waits for which.
 ghost use Rattle.std.specs.Prelude.{◌≡◌, ◌++◌, Some};
 ghost use Rattle.ft_words.specs.Texts.{lines_text};
 ghost use Rattle.ft_replies.specs.Reports.{waits_text, edge_text, rank_list, verdict_text};

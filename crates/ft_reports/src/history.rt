@@ -81,7 +81,7 @@ pub fn parent_of(events: &[Event], txn: TxnId) -> Option<TxnId>
     parent
 }
 
-// The parent of a transaction after the event, where it was this one before.
+// The parent of a transaction after the event, if it was this one before.
 fn parent_after(event: &Event, txn: TxnId, before: Option<TxnId>) -> Option<TxnId>
     ensures { result ≡ parent_after txn before event.now }
 {
@@ -115,7 +115,7 @@ struct Seen {
     had: bool,
 }
 
-// What is seen after the event, where this was seen before.
+// What is seen after the event, if this was seen before.
 fn seen_after(event: &Event, txn: TxnId, before: TxnId, seen: Seen) -> Seen
     ensures { result ≡ seen_after txn before seen event.now }
 {

@@ -66,7 +66,7 @@ pub fn descriptor_in(reply: &Reply) -> u64
     }
 }
 
-// Whether a step asks for a call.
+// Whether a step requests a call.
 fn is_call(step: &Step) -> bool
     ensures { result ≡ is_call step.now }
 {
@@ -200,7 +200,7 @@ fn is_failing(step: &Step) -> bool
     is_call(step) || is_subs(step)
 }
 
-// Whether these calls are all that the steps ask for.
+// Whether these calls are all that the steps request.
 fn are_all_of(alloc: Global, steps: &[Step], calls: &[CallReport]) -> Result<bool, Memory>
     ensures { IfOk result (λ all. IsTrue all ↔ AreAllOf (asked_with steps.now calls.now) calls.now) }
 {
@@ -209,7 +209,7 @@ fn are_all_of(alloc: Global, steps: &[Step], calls: &[CallReport]) -> Result<boo
     Ok(extent == Extent::Whole)
 }
 
-// The same where the end names no step.
+// The same if the end names no step.
 fn comes_to(alloc: Global, steps: &[Step], end: End, calls: &[CallReport]) -> Result<bool, Memory>
     requires { names_step end ≡ false }
     ensures { IfOk result (λ done. IsTrue done ↔ IsDone steps.now end calls.now) }
@@ -219,8 +219,8 @@ fn comes_to(alloc: Global, steps: &[Step], end: End, calls: &[CallReport]) -> Re
     Ok(is_at_end(steps, end, extent))
 }
 
-// Whether a job with calls to this extent may have ended so: where the end names a step, that is
-// the last one, and all calls were made.
+// Whether a job with calls to this extent may have ended so: if the end names a step, that is the
+// last one, and all calls were made.
 fn is_at_end(steps: &[Step], end: End, extent: Extent) -> bool
     ensures { IsTrue result ↔ IsAtEnd steps.now end extent }
 {

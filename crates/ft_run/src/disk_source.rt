@@ -32,7 +32,7 @@ pub struct DiskSource<'a> {
     causes: &'a Causes,
     // whether names that are no text are told: then they are refused when they are looked at
     tells_names: bool,
-    // the directories that were listed: the number of what stands in one is its place here
+    // the directories that were listed: the number of what is in one is its place here
     listed: RefCell<Vec<FileId>>,
     // the one that is held open, and its number
     held: Cell<Option<(u64, Held)>>,
@@ -138,7 +138,7 @@ impl<'a> DiskSource<'a> {
         Ok(())
     }
 
-    // Holds a directory open that was listed, and answers its number.
+    // Holds a directory open that was listed, and returns its number.
     fn hold(&self, held: Held) -> Result<u64, Trouble> {
         let Ok(mut listed) = self.listed.try_borrow_mut() else {
             return Err(Trouble::Read);

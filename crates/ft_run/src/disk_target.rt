@@ -55,7 +55,7 @@ struct Begun {
     folders: Vec<(Made, Attributes)>,
     // what gives it all
     giving: Giving,
-    // what it is removed with where it is given up, also where there is no memory any more
+    // what it is removed with if it is given up, even if there is no memory any more
     removal: Removal,
 }
 

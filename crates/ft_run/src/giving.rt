@@ -51,7 +51,7 @@ impl Giving {
         Ok(())
     }
 
-    // Gives it its owner and its group, and answers whether it has them.
+    // Gives it its owner and its group, and returns whether it has them.
     fn own(&mut self, file: &File, attributes: Attributes) -> io::Result<bool> {
         if is_owned(&file.metadata()?, attributes) {
             return Ok(true);
@@ -118,7 +118,7 @@ fn is_timed(metadata: &Metadata, time: Timestamp) -> bool {
 }
 
 // Whether the system lets nobody, or not this process, set such an owner: without the right to, in a
-// space of users where there is none such, or on a file system that has no owners.
+// user namespace without such an owner, or on a file system that has no owners.
 fn is_refused(error: &io::Error) -> bool {
     matches!(
         error.kind(),

@@ -1,4 +1,4 @@
-// A directory on disk that is held open, so that what stands in it is got at by itself.
+// A directory on disk that is held open, so that what is in it is got at by itself.
 use ft_copy::FileId;
 use std::fs::{File, Metadata};
 use std::os::fd::AsRawFd;

@@ -137,7 +137,7 @@ fn words_given(rt: &HostRuntime) -> io::Result<Vec<String>> {
 }
 
 // Runs the script on standard input, which may say on its first line which limits it needs. Each of
-// its lines has to do what it asks for where it is strict.
+// its lines must do what it requests if it is strict.
 fn run_script(
     rt: &HostRuntime,
     strict: bool,
@@ -174,7 +174,7 @@ fn fault_of(error: &io::Error) -> PlayFault {
     }
 }
 
-// The core and the plan of a run of jobs. Where one of them could not be had, it was told, and the
+// The core and the plan of a run of jobs. If one of them could not be had, it was told, and the
 // status to end with is answered.
 fn begun_jobs(
     rt: &HostRuntime,
@@ -229,8 +229,8 @@ struct Loading {
 }
 
 // Writes a script of a directory to standard output, or lists there what of it can't be loaded.
-// What the script needs is no more than is asked for, or where nothing is, than a core can have
-// that is played with flags. Ends with status 3 where something was left out.
+// What the script needs is no more than is asked for, or if nothing is, than a core can have that
+// is played with flags. Ends with status 3 if something was left out.
 fn load_dir(rt: &HostRuntime, dir: &str, loading: &Loading, asked: AskedLimits) -> u8 {
     let causes = Causes::new();
     let most = asked.over(Limits {
@@ -257,7 +257,7 @@ fn load_disk<'a>(
     load_from(rt, &disk, causes, loading, needs)
 }
 
-// The same where what can't be loaded is left out or listed.
+// The same if what can't be loaded is left out or listed.
 fn load_rest<'a>(
     rt: &'a HostRuntime,
     disk: &DiskSource<'a>,
@@ -283,8 +283,8 @@ fn load_rest<'a>(
     status
 }
 
-// Writes a script of a source, which needs this, to standard output, or none where the source is
-// only checked.
+// Writes a script of a source, which needs this, to standard output, or none if the source is only
+// checked.
 fn load_from<S: Source>(
     rt: &HostRuntime,
     source: &S,
@@ -363,7 +363,7 @@ fn save_dir(rt: &HostRuntime, dir: &str, saving: &Saving, asked: AskedLimits) ->
 }
 
 // A core that grants calls by this rule, on which the script in a file was played first, if there
-// is one. It has the limits that are asked for, and else those that are needed or, where they are
+// is one. It has the limits that are asked for, and else those that are needed or, if they are
 // greater, those that this script needs. Where that could not be, it was told, and the status to
 // end with is answered.
 fn core_for(

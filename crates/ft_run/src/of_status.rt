@@ -1,4 +1,4 @@
-// What no clause says: the line that tells of a fault, and what jobs came to.
+// What no clause states: the line that tells of a fault, and what jobs came to.
 use crate::status::{jobs_status, play_status};
 use ft_after::core_after;
 use ft_core::{Limits, Rule};

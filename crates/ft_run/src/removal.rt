@@ -1,4 +1,4 @@
-// How a directory on disk is removed where there may be no memory.
+// How a directory on disk is removed if there may be no memory.
 use ft_path::LONGEST_PATH;
 use std::alloc::{AllocError, Global};
 use std::fs::{Files, Permissions};
@@ -69,7 +69,7 @@ impl Removal {
     }
 
     // Removes the directory at the path, which is empty, and goes back to the one that it is in.
-    // Answers whether there is more to do: the path of the whole has so many bytes.
+    // Returns whether there is more to do: the path of the whole has so many bytes.
     fn leave<F: Files>(&mut self, files: &F, top: usize) -> bool {
         let is_removed = match text_of(self.path.as_slice()) {
             Some(path) => files.remove_dir(path).is_ok(),

@@ -120,7 +120,7 @@ impl<'a, 'b> SkippingSource<'a, 'b> {
         Ok(())
     }
 
-    // Looks at a place, and fails for the reason why what stands there can't be loaded.
+    // Looks at a place, and fails for the reason why what is there can't be loaded.
     fn try_out(&self, path: &[u8], node: u64) -> Result<Found, Trouble> {
         let found = self.disk.look(path, node)?;
         match found {
@@ -143,7 +143,7 @@ impl<'a, 'b> SkippingSource<'a, 'b> {
         Ok(found)
     }
 
-    // Fails where something has too many names.
+    // Fails if something has too many names.
     fn judge(&self, facts: FileFacts) -> Result<(), Trouble> {
         if facts.links > self.limits.links {
             return Err(Trouble::TooManyLinks);
@@ -151,7 +151,7 @@ impl<'a, 'b> SkippingSource<'a, 'b> {
         Ok(())
     }
 
-    // Leaves out a name of a directory by which the path is too long, and answers whether it does.
+    // Leaves out a name of a directory by which the path is too long, and returns whether it does.
     fn is_too_long(&self, path: &[u8], listed: &Listed) -> Result<bool, Trouble> {
         let name = listed.name.as_bytes();
         if path.len().saturating_add(name.len()) < LONGEST_PATH {

@@ -47,8 +47,8 @@ pub fn play_strictly_status<R: Read, W: Write, E: Write>(
     }
 }
 
-// Tells which line did not do what it asks for, and answers the status that it ends with. Where
-// there is no memory for that, that is told.
+// Tells which line did not do what it requests, and returns the status that it ends with. If there
+// is not enough memory for that, that is told.
 fn line_failed<E: Write>(alloc: Global, errors: &mut E, failed: &FailedLine) -> u8
     ensures status { result ≡ 3 }
     ensures line { TellsLine (E.contents errors.old) (E.contents errors.new) (strict_line failed.now) }

@@ -70,7 +70,7 @@ time_of words = option_and_then (λ t. timed t.0 t.1 t.2) (three number_of integ
 abbrev pub fd_of : List (List ℕ) → Option Row
 fd_of words = option_map (λ f. Descriptor) (three number_of number_of (both Some (only number_of)) words)
 
--- the row that the words behind its name tell
+-- the row that the words after its name tell
 abbrev pub row_by : List ℕ → List (List ℕ) → Option Row
 row_by word words =
     if bytes_eq word (codes "dir") then folder_of words
@@ -88,7 +88,7 @@ row_of (word ∷ words) = row_by word words
 
 -- ---- reports
 
--- lines that are just so many rows
+-- lines that are exactly so many rows
 abbrev pub rows_of : ℕ → List (List ℕ) → Option (List Row)
 rows_of zero [] = Some []
 rows_of zero (line ∷ lines) = None
@@ -99,7 +99,7 @@ rows_of (suc count) (line ∷ lines) = option_and_then (λ row. option_map (λ r
 abbrev pub tree_at : List ℕ → List (List ℕ) → Option (List Row)
 tree_at line lines = option_and_then (λ count. rows_of count lines) (count_of (words_of line))
 
--- one of two, the second where it is there
+-- one of two, the second if it is there
 abbrev pub later : {A : Type 0} → Option A → Option A → Option A
 later first None = first
 later first (Some other) = Some other

@@ -135,7 +135,7 @@ fn add_own(index: &mut Index, node: u64) -> Result<(), Memory>
     Ok(())
 }
 
-// Puts a name behind those of its directory.
+// Puts a name after those of its directory.
 fn add_edge(index: &mut Index, folder: u64, edge: Edge) -> Result<(), Memory>
     ensures { OnOk result (PutsName index.old folder edge index.new) }
 {

@@ -52,7 +52,7 @@ fn last_tree(alloc: Global, lines: Lines<'_>) -> Result<Option<Vec<Row>>, Memory
     Ok(last)
 }
 
-// The rows of lines that are just so many.
+// The rows of lines that are exactly so many.
 fn rows_in(alloc: Global, count: u64, lines: Lines<'_>) -> Result<Option<Vec<Row>>, Memory>
     ensures { IfOk result (λ rows. option_map (λ list. list.items) rows ≡ rows_of count lines.entry) }
 {

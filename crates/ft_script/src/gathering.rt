@@ -49,7 +49,7 @@ impl Script {
         self.lines.read_more(reader)
     }
 
-    /// Whether fewer replies are gathered than have to be written.
+    /// Whether fewer replies are gathered than must be written.
     pub(crate) fn may_gather(&self) -> bool
         ensures yes { result ≡ true → length self.now.replies.items < MOST_GATHERED }
         ensures no { result ≡ false → MOST_GATHERED ≤ length self.now.replies.items }

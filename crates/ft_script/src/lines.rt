@@ -128,7 +128,7 @@ impl ScriptLines {
         }
     }
 
-    /// Cuts the last line, which has no line feed, if it has a byte. Answers whether it has.
+    /// Cuts the last line, which has no line feed, if it has a byte. Returns whether it has.
     pub(crate) fn cut_last(&mut self) -> bool
         requires { HasRoom self.old }
         ensures some { result ≡ true → (uncut self.old ≡ cut_line self.new) × (0 < length (cut_line self.new)) × IsFreeOf 10 (cut_line self.new) × Fits (cut_line self.new) }
@@ -184,7 +184,7 @@ fn drop_cut(line: &mut Vec<u8>, is_cut: bool)
     }
 }
 
-// Puts bytes behind those of a line that has begun.
+// Puts bytes after those of a line that has begun.
 fn lengthen(begun: &mut Vec<u8>, piece: &[u8]) -> Result<(), PlayFault>
     ensures ok { OnOk result (begun.new.items ≡ begun.old.items ++ piece.now) }
     ensures fits { OnOk result (Fits begun.new.items) }

@@ -97,7 +97,7 @@ pub fn play_strictly<R: Read, W: Write>(
 }
 
 // Carries out the lines that were read, until enough replies are gathered, or up to the first that
-// did not do what it asks for, and answers the reply to that.
+// did not do what it requests, and returns the reply to that.
 fn answer_strictly(
     alloc: Global,
     script: &mut Script,

@@ -58,7 +58,7 @@ stands undone h stamp txn = not (undone stamp) && not (is_gone posix_calls h txn
 abbrev pub is_open_call : (ℕ → Bool) → History → Option Event → Bool
 is_open_call undone h = by_call false (λ stamp txn call. stands undone h stamp txn && not (is_committed posix_calls h (root (parent posix_calls h) txn)))
 
--- a call as a list, empty where there is none
+-- a call as a list, empty if there is none
 abbrev pub option_list : Option StampedCall → List StampedCall
 option_list None = []
 option_list (Some call) = call ∷ []
@@ -95,11 +95,11 @@ pub record IsWalkBy (forgotten : ℕ) (walk : Walk) (h : History) (events : List
   -- of which are all committed calls that were not given out.
   pub split : map stamped (committed_part posix_calls h) ≡ given ++ joined (standing_call h) (reverse walk.closing.items)
 
--- The same, where the history is that of the events.
+-- The same, if the history is that of the events.
 abbrev pub IsWalk : ℕ → Walk → List Event → List StampedCall → Type 0
 IsWalk forgotten walk events given = IsWalkBy forgotten walk (told events) events given
 
--- So it is, where these are the first events of the state.
+-- So it is, if these are the first events of the state.
 abbrev pub IsWalkOf : ℕ → Walk → State → List StampedCall → Type 0
 IsWalkOf forgotten walk s given = IsWalk forgotten walk (take (forgotten + walk.passed) s.events) given
 

@@ -84,7 +84,7 @@ impl Walk {
         None
     }
 
-    /// Goes over the next event. Want of memory changes nothing.
+    /// Goes over the next event. Lack of memory changes nothing.
     fn pass(&mut self, core: &Core, events: &[Event]) -> Result<(), Memory>
         requires reached { IsReached core.now }
         requires next { self.old.passed < length events.now }

@@ -64,7 +64,7 @@ impl Last {
     }
 
     /// Copies the reply into a buffer as a script shows it, as much of it as has room: how many
-    /// bytes there are in all. Want of memory for its text leaves the buffer as it is.
+    /// bytes there are in all. Lack of memory for its text leaves the buffer as it is.
     pub fn copy_reply(&self, alloc: Global, buffer: &mut [u8]) -> Result<usize, Memory>
         ensures count { IfOk result (λ count. count ≡ length (reply_text self.now)) }
         ensures bytes { IfOk result (λ _. buffer.new ≡ filled (reply_text self.now) buffer.old) }

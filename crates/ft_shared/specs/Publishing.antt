@@ -33,7 +33,7 @@ pub record Publishing : Type 0 where
   pub held : Option StampedCall
   pub commits : GoneOver
 
--- the held call as a list, empty where there is none
+-- the held call as a list, empty if there is none
 abbrev pub listed : Option StampedCall → Calls
 listed None = []
 listed (Some call) = call ∷ []
@@ -70,14 +70,14 @@ pub record IsPublishing (opened : Views) (shows : Calls → Type 0) (book : Book
   pub given : commits.given ≡ fed.calls ++ listed held
   pub stands : IsPrefix commits.given (committed_in commits.events)
 
--- what stands behind the lock: a core, how many events it has forgotten where it keeps any, and the
--- list that is published where it has views
+-- what is behind the lock: a core, how many events it has forgotten where it keeps any, and the
+-- list that is published if it has views
 pub record Backed : Type 0 where
   pub core : StoredState
   pub forgotten : Option ℕ
   pub published : Option Calls
 
--- the list that readers see, where there are views
+-- the list that readers see, if there are views
 abbrev pub published_in : Option Publishing → Option Calls
 published_in None = None
 published_in (Some p) = Some p.published
@@ -98,7 +98,7 @@ pub record IsBehind (origin : Origin) (core : State) (forgotten : Option ℕ) (p
   pub goes_on : GoesOn origin.from core
   pub views : HasPublisher origin.shown core forgotten publisher
 
--- why nothing was published: NoViews where there are no views, else Memory
+-- why nothing was published: NoViews if there are no views, else Memory
 abbrev pub fault_of_publish : Bool → Fault
 fault_of_publish false = NoViews
 fault_of_publish true = MemoryFault
@@ -111,6 +111,6 @@ coded_gone_over = code_by (List Event × (ℕ × Calls)) (coded× (coded_list ev
 abbrev pub coded_publishing : Coded Publishing
 coded_publishing = code_by (Calls × (Calls × (Calls × (Option StampedCall × GoneOver)))) (coded× coded_calls (coded× coded_calls (coded× coded_calls (coded× (coded_option stamped.the_row.coded) coded_gone_over)))) (λ l. (l.published, (l.fed, (l.told, (l.held, l.commits))))) (λ p. record { published = p.0; fed = p.1.0; told = p.1.1.0; held = p.1.1.1.0; commits = p.1.1.1.1 }) (λ _. refl)
 
--- how what stands behind the lock is coded
+-- how what is behind the lock is coded
 abbrev pub coded_backed : Coded Backed
 coded_backed = code_by (StoredState × (Option ℕ × Option Calls)) (coded× coded_stored (coded× (coded_option coded_ℕ) (coded_option coded_calls))) (λ b. (b.core, (b.forgotten, b.published))) (λ p. record { core = p.0; forgotten = p.1.0; published = p.1.1 }) (λ _. refl)

@@ -26,7 +26,7 @@ pub(crate) struct Publisher<J: Naming> {
     commits: Commits,
     // The list that the writer was given.
     fed: Front,
-    // The list that the book has: the same, or one call more, where there was no memory to give it.
+    // The list that the book has: the same, or one call more, if there was no memory to give it.
     told: Front,
     // A call that was taken from the core, and not yet given to the writer.
     held: Option<StampedCall>,
@@ -191,7 +191,7 @@ impl<J: Naming> Publisher<J> {
         if self.told.len() > self.fed.len() {
             return Ok(());
         }
-        // The book has gone on without this publisher only where another one had it, and none has.
+        // The book has gone on without this publisher only if another one had it, and none has.
         let Some(told) = self.told.with(&self.book, call) else {
             return Err(Memory);
         };

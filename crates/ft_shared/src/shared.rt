@@ -39,8 +39,8 @@ pub const MOST_PAUSE: u64 = 5;
 /// behind the lock: whenever the lock is got, its history is a legal one from a sound base, which
 /// goes on from the state that was shared (`J` names that state), and its tree is what a plain tree
 /// holds after only the standing calls. No clause can say how far it had come: each says that the
-/// answer is a legal one of some core that goes on from there (`InCoreFrom`). No clause says that a
-/// call returns.
+/// answer is a legal one of some core that goes on from there (`InCoreFrom`). No clause states that
+/// a call returns.
 ///
 /// There is no checkpoint here: once as many transactions were begun, or calls granted, since the
 /// base as the limits of the core allow, it is `Full` for good, until `into_core` gives it back.
@@ -155,7 +155,7 @@ impl<J: Sharing, C: Shareable> Shared<J, C> {
     {
         match call.copy(self.alloc) {
             Ok(copy) => self.ask(rt, txn, copy),
-            // Other refusals stand before want of memory, and the core tells which.
+            // Other refusals stand before lack of memory, and the core tells which.
             Err(Memory) => self.ask_copy(rt, txn, call),
         }
     }

@@ -43,14 +43,14 @@ pub(crate) fn strict_line_of(alloc: Global, line: &[u8]) -> Result<StrictLine, M
     })
 }
 
-// What stands behind `try `, where a line begins so.
+// What stands after `try `, if a line begins so.
 fn tried(line: &[u8]) -> Option<&[u8]>
     ensures { option_copied result ≡ tried line.now }
 {
     line.strip_prefix(b"try ".as_slice())
 }
 
-// Whether a line asks for something that there is.
+// Whether a line is a valid request.
 fn is_asking(line: &Line) -> bool
     ensures { result ≡ is_asking line.now }
 {

@@ -1,4 +1,4 @@
-// Whether a request does what it asks for.
+// Whether a request was granted and did not fail.
 ghost use Rattle.std.specs.Prelude.{◌≡◌, ◌↔◌, IfOk, IsTrue, OnErr};
 ghost use Rattle.ft_strict.specs.Wells.{IsMet, is_well};
 

@@ -15,7 +15,7 @@ pub enum Line<'a> {
     Mkdir(u64, &'a [u8]),
     Rmdir(u64, &'a [u8]),
     List(u64, &'a [u8]),
-    /// To read and write, and made where it is not there.
+    /// To read and write, and made if it is not there.
     Open(u64, &'a [u8]),
     Unlink(u64, &'a [u8]),
     /// Its target, and then its path.
@@ -48,7 +48,7 @@ pub enum Wanted<'a> {
     Txn(u64),
     Done(u64),
     Failed(u64, Errno),
-    /// The names in their order, one behind the other.
+    /// The names in their order, one after the other.
     Names(u64, &'a [u8]),
     /// The same, and each the name of a directory.
     Directories(u64, &'a [u8]),
@@ -170,7 +170,7 @@ fn request(alloc: Global, line: Line) -> Result<Request, Fail> {
     }
 }
 
-/// Whether the names are these, one behind the other.
+/// Whether the names are these, one after the other.
 fn are_names(names: &[(Name, Kind)], wanted: &[u8]) -> bool {
     let all = names.iter().flat_map(|(name, _)| name.as_bytes());
     all.copied().eq(wanted.iter().copied())
@@ -293,7 +293,8 @@ impl Answers for Recorded {
     }
 }
 
-/// Carries a script out, one request for each line, and says whether each is answered as it says.
+/// Carries a script out, one request for each line, and returns whether each is answered as it
+/// says.
 pub fn plays<A: Answers>(
     alloc: Global,
     answers: &mut A,

@@ -22,7 +22,7 @@ fn stat_call(alloc: Global) -> Result<Call, Fail> {
     Ok(Call::Stat { path })
 }
 
-/// Whether a core tells a deadlock of two, where there is one.
+/// Whether a core tells a deadlock of two, if there is one.
 fn tells_deadlock<R: Wait>(rt: &R, shared: &Shared) -> Result<bool, Fail> {
     let (edges, verdict) = shared.waits(rt)?;
     Ok(is_deadlock(edges.as_slice(), &verdict))

@@ -285,7 +285,7 @@ fn views_of_another_base(rt: HostRuntime) -> Result<(), Fail> {
     Ok(())
 }
 
-/// A reader sees the names of a base of which all was taken back: none.
+/// A reader sees the names of a base of which all was undone: none.
 struct BareBase;
 
 impl Steps for BareBase {
@@ -383,7 +383,7 @@ const READERS: u64 = 4;
 
 const LOOKS: u64 = 300;
 
-/// Makes a directory in a transaction of its own, and answers how many calls are published then.
+/// Makes a directory in a transaction of its own, and returns how many calls are published then.
 fn publish_one<J: Sharing, R: Wait>(
     rt: &R,
     alloc: Global,
@@ -398,7 +398,7 @@ fn publish_one<J: Sharing, R: Wait>(
     published(rt, shared).ok()
 }
 
-/// Publishes directories one by one, and says whether each makes it one call more.
+/// Publishes directories one by one, and returns whether each makes it one call more.
 fn publish_each<J: Sharing, R: Wait>(rt: &R, alloc: Global, shared: &Shared<J>) -> bool {
     for number in 0..DIRECTORIES {
         if publish_one(rt, alloc, shared, number) != Some(number + 1) {

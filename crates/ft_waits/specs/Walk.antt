@@ -67,8 +67,8 @@ pub record AreRanked (edges : List Edge) (unseen : Txns) (ranks : Ranks) : Type 
 abbrev pub path_txns : List Step → List ℕ
 path_txns steps = map (λ step. step.txn) steps
 
--- the whole walk, where these steps are on the path: they differ, and each transaction that is
--- named is unseen, ranked or on the path
+-- the whole walk, if these steps are on the path: they differ, and each transaction that is named
+-- is unseen, ranked or on the path
 pub record IsWalk (edges : List Edge) (unseen : Txns) (ranks : Ranks) (steps : List Step) : Type 0 where
   pub ranked : AreRanked edges unseen ranks
   pub steps_are : All (IsStep edges ranks) steps

@@ -43,7 +43,7 @@ pub fn judged_edges(core: &Core) -> Result<(Vec<Edge>, Verdict), Memory>
 
 /// These waits-for edges, and the verdict on them.
 ///
-/// Want of memory is the only refusal.
+/// Out of memory is the only refusal.
 pub fn with_verdict(edges: Vec<Edge>) -> Result<(Vec<Edge>, Verdict), Memory>
     ensures edges { IfOk result (λ told. told.0.items ≡ edges.items) }
     ensures verdict { IfOk result (λ told. IsVerdict edges.items told.1) }

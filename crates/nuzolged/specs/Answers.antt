@@ -5,7 +5,7 @@ use Rattle.ft_session.specs.Parts.{blockers_in}
 use Rattle.nuzolged.specs.declared.told.Told.{Told}
 use Rattle.nuzolged.specs.declared.answered.Answered.{Answered}
 
--- the transaction at a place, or 0 where there is none
+-- the transaction at a place, or 0 if there is none
 abbrev pub blocker_or_none : List ℕ → ℕ → ℕ
 blocker_or_none blockers index = unwrap_or (slice_get blockers index) 0
 

@@ -29,17 +29,17 @@ cut_path path = take (LONGEST_PATH + 1) path
 abbrev pub cut_mode : ℕ → ℕ
 cut_mode mode = min mode (MOST_MODE + 1)
 
--- how many bytes a file of the tree may have, or one where it may have none
+-- how many bytes a file of the tree may have, or one if it may have none
 abbrev pub most_of : TreeLimits → ℕ
 most_of limits = max 1 limits.file_size
 
 -- as many bytes of a write as a file of the tree may have: where they go is known when it is
--- granted; and one where it may have none, since to write none is no error
+-- granted; and one if it may have none, since to write none is no error
 abbrev pub cut_bytes : TreeLimits → List ℕ → List ℕ
 cut_bytes limits bytes = take (most_of limits) bytes
 
 -- as many bytes of a pwrite as have room at its place (POSIX.1-2017, System Interfaces, pwrite);
--- and one where none has, since to write none is no error
+-- and one if none has, since to write none is no error
 abbrev pub most_at : TreeLimits → ℤ → ℕ
 most_at limits (pos at) = max 1 (room_at limits.file_size at)
 most_at limits (negsuc n) = 1
@@ -89,7 +89,7 @@ cut_event limits (Abort t) = Abort t
 abbrev pub limits_in : State → TreeLimits
 limits_in s = s.base.tree.limits
 
--- Two states are the same, but for what could be cut from the calls that were made and from those
+-- Two states are the same, except what could be cut from the calls that were made and from those
 -- that wait.
 pub record AreAlike (s s' : State) : Type 0 where
   pub rule : s'.rule ≡ s.rule

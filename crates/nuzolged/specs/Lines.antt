@@ -10,8 +10,8 @@ use Rattle.ft_session.specs.declared.session.Session.{Session}
 use Rattle.nuzolged.specs.declared.told.Told.{Told}
 use Rattle.nuzolged.specs.Numbers.{told_of, told_size, no_memory, closed, bad}
 
--- The line was carried out, and what it came to is told. Or nothing has changed: it asks for
--- nothing that there is, or there was no memory.
+-- The line was carried out, and what it came to is told. Or nothing has changed: it is not a valid
+-- request, or there was no memory.
 abbrev pub IsLineTold : Session → Line → Told → Session → Type 0
 IsLineTold old line told new = (IsCarriedOut old line new × (told ≡ told_of new.last)) ⊎ (IsSame old new × (((line ≡ Bad) × (told ≡ bad)) ⊎ (told ≡ no_memory)))
 

@@ -54,7 +54,7 @@ no_memory = told 1001 0 0
 abbrev pub closed : Told
 closed = told 1200 0 0
 
--- an argument is none that there is
+-- an argument is not valid
 abbrev pub bad : Told
 bad = told 1201 0 0
 
@@ -75,7 +75,7 @@ errno_number errno.ENOTEMPTY = 39
 errno_number errno.ELOOP = 40
 errno_number errno.EOVERFLOW = 75
 
--- the numbers of refusals stand behind those of errors
+-- the numbers of refusals stand after those of errors
 abbrev pub fault_number : Fault → ℕ
 fault_number fault.Memory = 1001
 fault_number fault.NoTxn = 1002
@@ -90,12 +90,12 @@ fault_number fault.NoAsk = 1010
 fault_number fault.NoViews = 1011
 fault_number fault.BadLimits = 1012
 
--- what is told for a time where there is none
+-- what is told for a time if there is none
 abbrev pub epoch : Timestamp
 epoch = record { seconds = pos 0; nanoseconds = 0 }
 
--- what `stat` tells: the attributes also where they are those that one has anyway, and whether
--- there is a time
+-- what `stat` tells: the attributes even if they are those that one has anyway, and whether there
+-- is a time
 abbrev pub told_of_info : ℕ → Kind → ℕ → ℕ → ℕ → Attributes → Option Timestamp → Told
 told_of_info stamp kind number links size attributes time = record {
   code = 0;

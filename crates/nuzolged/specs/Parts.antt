@@ -15,7 +15,7 @@ use Rattle.nuzolged.specs.Numbers.{told, told_size, told_name, closed, bad}
 
 -- ---- a name of a list
 
--- its kind, and how many bytes it has; `bad` where there is none
+-- its kind, and how many bytes it has; `bad` if there is none
 abbrev pub named : Option (List ℕ × Kind) → Told
 named None = bad
 named (Some name) = told_name name.1 (length name.0)
@@ -45,7 +45,7 @@ name_bytes (Some session) index = name_bytes_at session.last index
 
 -- ---- a transaction for which a call waits
 
--- its number; `bad` where there is none
+-- its number; `bad` if there is none
 abbrev pub numbered : Option ℕ → Told
 numbered None = bad
 numbered (Some txn) = told 0 0 txn
@@ -77,7 +77,7 @@ abbrev pub data_in : Last → Option (List ℕ)
 data_in (last.Answer answer) = data_answered answer
 data_in (last.Text text) = None
 
--- how many there are; `bad` where there are none
+-- how many there are; `bad` if there are none
 abbrev pub data_count : Option (List ℕ) → Told
 data_count None = bad
 data_count (Some bytes) = told_size (size_of bytes)

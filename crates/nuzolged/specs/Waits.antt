@@ -1,4 +1,4 @@
--- What is told of who waits for whom.
+-- What is told of which transaction waits for which.
 use Rattle.std.specs.Prelude.{◌≡◌, ◌⊎◌, ◌==◌, ℕ, cond, List, [], ◌∷◌, length, Option, Some, None, MatchOption}
 use Rattle.std.specs.FinMap as finite
 use Rattle.ft_posix.specs.declared.call.Call.{Call}
@@ -25,7 +25,7 @@ AreTold txns told before after = (told ≡ told_with 0 0 (length txns)) × (afte
 abbrev pub IsToldAlone : Told → Told → List ℕ → List ℕ → Type 0
 IsToldAlone this told before after = (told ≡ this) × (after ≡ before)
 
--- the transactions in the way of one, in a list of all that wait; none where it does not
+-- the transactions in the way of one, in a list of all that wait; none if it does not
 abbrev pub blockers_listed : List Pending → ℕ → List ℕ
 blockers_listed [] txn = []
 blockers_listed (wait ∷ waits) txn = cond (txn == wait.txn) wait.blockers.items (blockers_listed waits txn)

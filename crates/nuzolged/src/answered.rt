@@ -90,7 +90,7 @@ fn first_of(blockers: &[TxnId]) -> [u64; BLOCKERS]
     ]
 }
 
-// A transaction of a list, or 0 where there is none.
+// A transaction of a list, or 0 if there is none.
 fn blocker_or_none(blockers: &[TxnId], index: usize) -> u64
     ensures { result ≡ blocker_or_none blockers.now index }
 {

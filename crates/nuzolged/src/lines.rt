@@ -102,7 +102,7 @@ fn size_of_reply(alloc: Global, last: &Last, buffer: &mut [u8]) -> u64
     }
 }
 
-// Copies the reply to the last request, and tells how many bytes it has.
+// Copies the reply to the last request, and returns how many bytes it has.
 fn copy_reply(alloc: Global, tree: &mut Handle, buffer: &mut [u8]) -> Told
     ensures same { tree.new.session ≡ tree.old.session }
     ensures reply { IsReplied tree.old.session result buffer.old buffer.new }

@@ -32,7 +32,7 @@ pub(crate) fn listing_size(names: &[(Name, Kind)]) -> u64
     size
 }
 
-// Copies a name behind what has been copied: how many bytes that is.
+// Copies a name after what has been copied: how many bytes that is.
 fn copy_entry(name: &Name, kind: Kind, buffer: &mut [u8], at: usize) -> usize
     ensures { GoesOn (entry_of (name.now, kind)) at buffer.old result buffer.new }
 {
@@ -41,7 +41,7 @@ fn copy_entry(name: &Name, kind: Kind, buffer: &mut [u8], at: usize) -> usize
     copy_behind(&[0], buffer, at)
 }
 
-// Copies bytes behind what has been copied: how many bytes that is.
+// Copies bytes after what has been copied: how many bytes that is.
 fn copy_behind(bytes: &[u8], buffer: &mut [u8], at: usize) -> usize
     ensures { GoesOn bytes.now at buffer.old result buffer.new }
 {

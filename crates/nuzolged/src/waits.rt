@@ -89,7 +89,7 @@ fn tell_blockers(core: &Core, txn: TxnId, txns: &mut [u64]) -> Told
     }
 }
 
-// The transactions in the way of one, in a list of all that wait; none where it does not.
+// The transactions in the way of one, in a list of all that wait; none if it does not.
 fn blockers_listed<'a>(waits: &'a [Pending], txn: TxnId) -> &'a [TxnId]
     ensures { result.now ≡ blockers_listed waits.now txn }
 {
@@ -121,7 +121,7 @@ fn members_of(verdict: &Verdict) -> &[TxnId]
     }
 }
 
-// Copies the numbers of transactions, as many as have room, and tells how many there are.
+// Copies the numbers of transactions, as many as have room, and returns how many there are.
 fn tell_txns(list: &[TxnId], txns: &mut [u64]) -> Told
     ensures { AreTold list.now result txns.old txns.new }
 {
