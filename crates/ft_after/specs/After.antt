@@ -1,4 +1,4 @@
--- What a script does that is played first.
+-- A script that is played first, and its effect.
 use Rattle.std.specs.Prelude.{◌≡◌, ◌⊎◌, ℕ, suc, true, false, List, [], ◌∷◌, ◌++◌, length, cond, Option, None, Some}
 use Rattle.ft_moss.specs.declared.rule.Rule.{Rule}
 use Rattle.ft_core.specs.declared.request.Answer.{Answer}
@@ -33,8 +33,8 @@ abbrev pub PlaysWell : State → List (List ℕ) → State → Type 0
 PlaysWell old [] new = new ≡ old
 PlaysWell old (bytes ∷ lines) new = (middle : State) × GoesWell old (meaning_of bytes) middle × PlaysWell middle lines new
 
--- They were played, no transaction was live after the last, and the tree as it then stood is the
--- new beginning.
+-- They were played, no transaction was live after the last, and the tree at that moment is the new
+-- base.
 abbrev pub IsPlayedFirst : State → List (List ℕ) → State → Type 0
 IsPlayedFirst old lines new = (played : State) × PlaysWell old lines played × (has_live played ≡ false) × (new ≡ after_checkpoint played)
 
@@ -54,7 +54,7 @@ LeavesLive number old lines new = (number ≡ length lines) × PlaysWell old lin
 abbrev pub WantsMemory : State → List (List ℕ) → State → Type 0
 WantsMemory old lines new = (done : List (List ℕ)) × (rest : List (List ℕ)) × (lines ≡ done ++ rest) × PlaysWell old done new
 
--- What came if they were not played.
+-- The fault if they were not played.
 abbrev pub StopsFirst : AfterFault → State → List (List ℕ) → State → Type 0
 StopsFirst Memory old lines new = WantsMemory old lines new
 StopsFirst BadLimits old lines new = ⊥

@@ -63,8 +63,8 @@ fn new_core(alloc: Global, rule: Rule, limits: Limits, seed: u64) -> Result<Core
 /// `checkpoint` does.
 ///
 /// Each line must do what it requests. A line that is not a valid request, and a request that is
-/// refused, fails or waits, end the run with their number. So does a transaction that is left live.
-/// If there is not enough memory, even for a request, that is the fault. Reports are left out.
+/// refused, fails or waits, end the run with their number. A transaction that is left live ends it
+/// too. If there is not enough memory, even for a request, that is the fault. Reports are left out.
 pub fn play_first(alloc: Global, script: &[u8], core: &mut Core) -> Result<(), AfterFault>
     ensures ok { OnOk result (IsPlayedFirst core.old.state (lines_of script.now) core.new.state) }
     ensures fault { IfErr result (λ fault. StopsFirst fault core.old.state (lines_of script.now) core.new.state) }

@@ -32,7 +32,7 @@ threads_rule = record (new_rule (codes "threads")) { long = Some (codes "threads
 abbrev pub quiet_rule : Rule
 quiet_rule = record (new_rule (codes "quiet")) { long = Some (codes "quiet"); action = Some SetTrue }
 
--- `--moss`: a lock that an ancestor holds is in the way too
+-- `--moss`: a lock that an ancestor holds blocks too
 abbrev pub moss_rule : Rule
 moss_rule = record (new_rule (codes "moss")) { long = Some (codes "moss"); action = Some SetTrue }
 
@@ -44,7 +44,7 @@ dir_rule = record (new_rule (codes "dir")) { required = true; value_names = 1 }
 abbrev pub skip_rule : Rule
 skip_rule = record (new_rule (codes "skip")) { long = Some (codes "skip"); action = Some SetTrue }
 
--- `--check`, where that is only listed
+-- `--check`: that is only listed
 abbrev pub check_rule : Rule
 check_rule = record (new_rule (codes "check")) { long = Some (codes "check"); action = Some SetTrue }
 
@@ -112,8 +112,8 @@ program = with_subcommand with_folders jobs.top
 abbrev pub Met : Type 0
 Met = Option (Text × List Row)
 
--- A flag stands where the text that was found for it is `true`, and does not where that is
--- `false`, or nothing was found.
+-- A flag is given if the text that was found for it is `true`, and is not if that is `false`, or
+-- nothing was found.
 abbrev pub IsFlag : Option Text → Bool → Type 0
 IsFlag None flag = flag ≡ false
 IsFlag (Some text) flag = (text ≡ codes "true" → flag ≡ true) × (text ≡ codes "false" → flag ≡ false)
@@ -123,13 +123,13 @@ abbrev pub TellsNumber : Text → List Row → ℕ → Type 0
 TellsNumber name found number = (digits : Text) × (one_of name found ≡ Some digits) × (number ≡ digits_value 10 (without_leading_plus digits))
 
 -- The file and the pace are those that were found (clap's `first_of`), there is at least one turn,
--- and it is quiet where that flag stands.
+-- and it is quiet if that flag is given.
 abbrev pub TellsJobs : List Row → Text → AskedPace → Bool → Type 0
 TellsJobs found file pace quiet =
     (first_of (codes "file") found ≡ Some file) × TellsNumber (codes "turns") found pace.turns × (1 ≤ pace.turns)
     × TellsNumber (codes "threads") found pace.threads × IsFlag (one_of (codes "quiet") found) quiet
 
--- the rule is `Moss` if the flag `--moss` stands, and else `Profile`
+-- the rule is `Moss` if the flag `--moss` is given, and else `Profile`
 abbrev pub TellsRule : List Row → LockRule → Type 0
 TellsRule found rule = IsFlag (one_of (codes "moss") found) (is_strict rule)
 
@@ -163,8 +163,8 @@ ReadChoice met Fault = Unit {0}
 abbrev pub IsRequest : ErrorKind → Type 0
 IsRequest kind = (kind ≡ DisplayHelp) ⊎ (kind ≡ DisplayVersion)
 
--- The choice at an error of this kind: a help text just for a request of help or of the version,
--- and a usage text for a mistake. Lack of memory may stand in place of any.
+-- The choice at an error of this kind: a help text exactly at a request of help or of the version,
+-- and a usage text at a mistake. Lack of memory may take the place of any.
 abbrev pub ErrorChoice : ErrorKind → Choice → Type 0
 ErrorChoice kind (Play strict rule after limits) = ⊥
 ErrorChoice kind Dot = ⊥

@@ -22,7 +22,7 @@ limit_rule flag = record (new_rule (flag_name flag)) { long = Some (flag_name fl
 abbrev pub limited : App → App
 limited app = with_rule (with_rule (with_rule (with_rule app (limit_rule LargestFile)) (limit_rule MostCalls)) (limit_rule MostTransactions)) (limit_rule Deepest)
 
--- the limit that the value of a flag tells: a size may have a unit after it
+-- the limit that the value of a flag gives: a size may have a unit after it
 abbrev pub flag_limit : Flag → Text → Option ℕ
 flag_limit LargestFile text = size_of text greatest_limits.file_size
 flag_limit MostCalls text = limit_of text greatest_limits.calls

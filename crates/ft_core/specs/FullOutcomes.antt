@@ -1,4 +1,4 @@
--- What became of a call that was asked for, with all that was made of it.
+-- The outcome of a call that was requested, with all that was made of it.
 use Rattle.std.specs.Prelude.{◌≡◌, Bool, cond, Some, None}
 use Rattle.ft_posix.specs.declared.call.Call.{Call}
 use Rattle.ft_core.specs.declared.parts.Made.{Made}
@@ -12,7 +12,7 @@ use Rattle.ft_core.specs.declared.request.Answer.{Answer}
 use Rattle.ft_core.specs.Steps.{outcome_answer}
 use Rattle.ft_core.specs.States.{State, accesses_now}
 
--- what is told of it
+-- the outcome that its asker gets
 abbrev pub outcome_of : FullOutcome → Outcome
 outcome_of (full.Granted k call reply kept accesses) = outcome.Granted k reply
 outcome_of (full.Waits blockers) = outcome.Waits blockers

@@ -73,14 +73,14 @@ MayWantMemory (Abort t) = ⊥
 MayWantMemory (Undo t) = ⊥
 MayWantMemory Checkpoint = Unit {0}
 
--- A rule says who blocks a call of a transaction with these accesses, in a state: its base counts
--- too, since two states with the same events may have different trees.
+-- A rule returns the blockers of a call of a transaction with these accesses, in a state: its base
+-- counts too, since two states with the same events may have different trees.
 abbrev pub BlockingRule : Type 0
 BlockingRule = State → ℕ → List Access → List ℕ
 
--- by the rule of the state, in rising order (Moss, the locking rules): who owns a
--- conflicting lock and is neither the asker nor an ancestor of it, and by Moss's own rule
--- each ancestor that holds one too
+-- by the rule of the state, in rising order (Moss, the locking rules): each transaction that owns a
+-- conflicting lock and is neither the asker nor an ancestor of it, and by Moss's own rule also each
+-- ancestor that holds one
 abbrev pub exact_rule : BlockingRule
 exact_rule s t accesses = blockers_by s.rule (history s) t (map as_place accesses)
 
@@ -98,8 +98,8 @@ IsUndone s (Found c) k s' = (k ≡ c.call.stamp) × (s' ≡ after_undo s k)
 IsUndone s SubSinceTarget k s' = ⊥
 IsUndone s Nothing k s' = ⊥
 
--- The answer to a request that nothing refuses but, perhaps, lack of memory, with the state after
--- it.
+-- The answer to a request that nothing refuses except, perhaps, lack of memory, with the state
+-- after it.
 abbrev pub IsAnswered : BlockingRule → State → Request → Answer → State → Type 0
 IsAnswered rule s r (Refused fault) s' = (fault ≡ Memory) × MayWantMemory r × (s' ≡ s)
 IsAnswered rule s Begin (Txn t) s' = (t ≡ next_txn s) × (s' ≡ after_begin s None)
@@ -129,7 +129,7 @@ abbrev pub begin_request : Option ℕ → Request
 begin_request None = Begin
 begin_request (Some t) = Sub t
 
--- What the methods answer, as answers to requests.
+-- The results of the methods, as answers to requests.
 
 -- the answer of a method that can be refused
 abbrev pub answer_with : {A : Type 0} → (A → Answer) → Result A Fault → Answer

@@ -1,4 +1,4 @@
--- What comes of trying a call on the parts of a core.
+-- The outcome of a call that is tried on the parts of a core.
 use Rattle.std.specs.Prelude.{◌≡◌, ◌≢◌, ℕ, List, []}
 use Rattle.ft_posix.specs.declared.call.Call.{Call}
 use Rattle.ft_posix.specs.Accesses.{accesses_of}

@@ -75,7 +75,8 @@ impl Core {
         ensures ended { self.new.state ≡ after_abort self.old.state txn }
         ensures alone { (before : StateOf) → RanAlone before self.old.state txn → tree_of (after_abort self.old.state txn) ≡ tree_of before }
     {
-        // (no more calls stand than stamps are given, and each transaction has a number of its own)
+        // (no more calls are standing than stamps are given, and each transaction has a number of
+        // its own)
         let mut calls = 0;
         let mut transactions = 0;
         let mut last = txn;

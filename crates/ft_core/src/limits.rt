@@ -1,4 +1,4 @@
-// What a core allows.
+// The limits of a core.
 ghost use Rattle.std.specs.Prelude.{◌≡◌};
 ghost use Rattle.ft_core.specs.Limits.{default_limits, greatest_limits, are_within, of_tree};
 

@@ -1,4 +1,4 @@
-// Where the front of a path leads a transaction that holds the entries on its way.
+// The place to which the front of a path leads a transaction that holds the entries on its way.
 ghost use Rattle.std.specs.Prelude.{◌≡◌, ℕ, true, false, None, Some, IfOk, IfSome};
 ghost use Rattle.std.specs.Option.{option_copied, option_to_list};
 ghost use Rattle.ft_tree.specs.Views.{view_of};

@@ -1,4 +1,4 @@
-// What a core tells of its locks, of which transaction waits for which, and of live children.
+// Reports of a core: its locks, which transaction waits for which, and live children.
 ghost use Rattle.std.specs.Prelude.{◌≡◌, ◌<◌, ◌++◌, map, IfOk, OnOk};
 ghost use Rattle.std.specs.FinMap as finite;
 ghost use Rattle.ft_laws.specs.Lists.{Each, Pairs};

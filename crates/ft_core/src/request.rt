@@ -1,4 +1,4 @@
-// What is asked of a core, what it answers, and what has happened.
+// Requests to a core, their answers, and events.
 
 use crate::fault::Fault;
 use ft_base::Sequence;

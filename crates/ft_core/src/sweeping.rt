@@ -13,9 +13,9 @@ impl Core {
     /// many it dropped, or the largest number if there were more. Takes no memory, and the time of
     /// what was released.
     ///
-    /// What an undo or an abort may need stays, and nothing is seen of a sweep: the state is the
-    /// same. No place of no use is left but those that are locked, and where no transaction is live
-    /// none at all.
+    /// Whatever an undo or an abort may need stays, and nothing is seen of a sweep: the state is
+    /// the same. No place of no use is left except those that are locked, and if no transaction is
+    /// live none at all.
     pub fn sweep(&mut self) -> u64
         ensures same { self.new.state ≡ self.old.state }
         ensures count { places_in self.old.cells < 2 ^ 64 - 1 → places_in self.old.cells ≡ result + places_in self.new.cells }

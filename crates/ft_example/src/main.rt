@@ -1,5 +1,5 @@
-//! An example of the crates in use: one job with two steps, of which the first fails and leaves
-//! nothing behind.
+//! An example of the crates in use: one job with two steps. The first step fails and leaves
+//! nothing.
 #![tactic(auto)]
 
 mod steps;

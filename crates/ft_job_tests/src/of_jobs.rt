@@ -133,7 +133,7 @@ fn meets<R: Threads + Wait + Clock + Sync>(rt: &R, alloc: Global) -> Result<bool
     Ok(have_made && has_all && rows == 9 && gate.met.load(Ordering::SeqCst) == 4)
 }
 
-/// Whether a job has used up its turns behind its mkdir, or has committed, and found nothing of the
+/// Whether a job has used up its turns after its mkdir, or has committed, and found nothing of the
 /// other one.
 fn has_crossed(report: &Report) -> bool {
     match (report.end, report.calls.as_slice()) {
@@ -158,11 +158,11 @@ fn crosses<R: Threads + Wait + Clock + Sync>(rt: &R, alloc: Global) -> Result<bo
     Ok(have_crossed && has_waited && gate.met.load(Ordering::SeqCst) == 2)
 }
 
-/// What a manager does otherwise than it says.
+/// An untruth of a manager.
 #[derive(Clone, Copy)]
 enum Lie {
     Nothing,
-    /// It tells of a call that is done as one that failed.
+    /// It reports a call that is done as one that failed.
     DoneIsFailed,
     /// It begins subtransactions at the top.
     SubsAtTop,

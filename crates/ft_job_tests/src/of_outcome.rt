@@ -1,4 +1,4 @@
-// What jobs came to, as text.
+// The outcome of jobs, as text.
 use ft_base::{Memory, Sequence};
 use ft_core::{Fault, TxnId};
 use ft_jobs::{End, Plan, Report};

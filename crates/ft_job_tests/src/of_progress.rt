@@ -1,4 +1,4 @@
-// The line that tells how far jobs have come, and the screen that it is written on.
+// The line that shows how far jobs have come, and the screen that it is written on.
 use ft_jobs::Gate;
 use ft_outcome::Watch;
 use ft_plan::Plan;
@@ -68,7 +68,8 @@ fn jobs_are_watched(rt: HostRuntime) -> Result<(), Fail> {
     Ok(())
 }
 
-// What a screen has got when the first job has asked for a call, and has waited for so long.
+// Returns what a screen has got when the first job has asked for a call, and has waited for so
+// long.
 fn shown<R: Threads + Wait + Clock + Sync>(
     rt: &R,
     alloc: Global,

@@ -1,5 +1,5 @@
-// What no clause states: readers and writers that fail, halt or take little, and the time that the
-// most reads take. Scripts alone are case files, which the built program plays.
+// No clause states this: readers and writers that fail, halt or take little, and the time that the
+// most reads take. Scripts are case files, which the built program plays.
 use ft_core::Core;
 use ft_script::{LONGEST_LINE, MOST_READS, PlayFault, play};
 use std::alloc::Global;

@@ -1,5 +1,5 @@
-// Where the jobs of a plan stand: which may start, which transaction waits for which of them, and
-// their reports.
+// The state of the jobs of a plan: which may start, which of them waits for which, and their
+// reports.
 use ft_base::{Memory, Sequence};
 use ft_core::TxnId;
 use ft_plan::{Job, JobName};
@@ -11,7 +11,7 @@ use std::sync::{Condvar, Mutex, Wait};
 #[derive(Drop)]
 pub struct Board {
     places: Mutex<Places>,
-    // A job has come to its subjobs, or has ended.
+    // A job has reached its subjobs, or has ended.
     moved: Condvar,
 }
 
@@ -25,11 +25,11 @@ struct Places {
 // A job among the others.
 #[derive(Drop)]
 struct Place {
-    // Where the job stands that it is a subjob of, if it is one.
+    // The place of the job that it is a subjob of, if it is one.
     parent: Option<usize>,
     // Whether it takes that one along.
     is_must: bool,
-    // Where those stand that it comes after.
+    // The places of those that it comes after.
     after: Vec<usize>,
     phase: Phase,
 }
@@ -39,7 +39,7 @@ struct Place {
 enum Phase {
     // No thread has taken it yet.
     Ahead,
-    // It has not come to its subjobs yet.
+    // It has not reached its subjobs yet.
     Taken,
     // Its subjobs may begin, under this transaction.
     AtSubs(TxnId),
@@ -152,7 +152,7 @@ impl Place {
     }
 }
 
-// Where the jobs of these names stand.
+// Returns the places of the jobs of these names.
 fn places_of(alloc: Global, jobs: &[Job], names: &[JobName]) -> Result<Vec<usize>, Memory> {
     let mut places = Vec::new(alloc);
     for name in names {

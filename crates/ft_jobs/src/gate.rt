@@ -1,4 +1,4 @@
-// What may hold up the steps of jobs, and is told how far they come.
+// A gate may hold up the steps of jobs, and learns how far they come.
 use std::sync::Wait;
 use std::time::Clock;
 

@@ -1,4 +1,4 @@
-// What a script of a tree of directories needs of its core.
+// The limits that a script of a tree of directories needs of its core.
 ghost use Rattle.std.specs.Prelude.{◌≡◌, ◌≤◌, IfOk, min};
 ghost use Rattle.ft_core.specs.Limits.{default_limits};
 
@@ -105,13 +105,13 @@ impl<S: Source> Source for CountedSource<'_, S> {
         self.source.read_link(path, node)
     }
 
-    // (what is left out is told when the script is written)
+    // (what is left out is reported when the script is written)
     fn omits(&self, _path: &[u8]) -> Result<bool, Trouble> {
         Ok(true)
     }
 }
 
-// How many calls a script makes beside those that write.
+// How many calls a script makes besides those that write.
 #[derive(Drop)]
 struct CallCount {
     count: u64,

@@ -192,7 +192,7 @@ pub(crate) fn has_owners(attributes: Attributes) -> bool
     attributes.owner != 0 || attributes.group != 0
 }
 
-// The call that sets the owner and the group of what is at a path, where they must be said.
+// The call that sets the owner and the group of what is at a path, if they must be set.
 fn chown_of(alloc: Global, path: &[u8], attributes: Attributes) -> Result<Option<Call>, Trouble>
     ensures ok { IfOk result (λ call. call ≡ chown_of path.now attributes) }
     ensures err { IfErr result (λ trouble. (trouble ≡ Trouble.Memory) ⊎ ((trouble ≡ Trouble.BadName) × (has_nul path.now ≡ true))) }
@@ -229,7 +229,7 @@ fn futime_of(fd: u64, time: Option<Timestamp>) -> Option<Call>
     Some(Call::Futime { fd, time })
 }
 
-// The call that sets the mode of the directory at a path, where it must be said.
+// The call that sets the mode of the directory at a path, if it must be set.
 fn chmod_of(alloc: Global, path: &[u8], attributes: Attributes) -> Result<Option<Call>, Trouble>
     ensures ok { IfOk result (λ call. call ≡ chmod_of path.now attributes) }
     ensures err { IfErr result (λ trouble. (trouble ≡ Trouble.Memory) ⊎ ((trouble ≡ Trouble.BadName) × (has_nul path.now ≡ true))) }

@@ -1,4 +1,4 @@
--- What is read of a script for the line on which it says what it needs.
+-- The part of a script that is read for the line of its needs.
 use Rattle.std.specs.Prelude.{◌≡◌, ◌⊎◌, ◌≤◌, ℕ, List, ◌∷◌, ◌++◌, length, Option}
 use Rattle.std.specs.Io.KnownBytes.{IsAtEnd}
 use Rattle.ft_needs.specs.declared.front.TheConstants.{LONGEST_NEEDS}

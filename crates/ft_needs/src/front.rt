@@ -1,4 +1,4 @@
-// What is read of a script before it is played.
+// The part of a script that is read before it is played.
 ghost use Rattle.std.specs.Prelude.{◌≡◌, IfOk, true};
 ghost use Rattle.std.specs.Io.KnownBytes.{Consumes};
 ghost use Rattle.ft_needs.specs.Fronts.{HasLine, IsFront};

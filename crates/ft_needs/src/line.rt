@@ -1,4 +1,4 @@
-// The line on which a script says which limits it needs.
+// The line that lists the limits which a script needs.
 ghost use Rattle.std.specs.Prelude.{◌≡◌, Some};
 ghost use Rattle.ft_needs.specs.Lines.{flag_text, flags_text, needs_text, raised_by, raised_for, size_text, with_flag, with_flags};
 

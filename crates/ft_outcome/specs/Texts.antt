@@ -1,4 +1,4 @@
--- The text of what jobs came to. (The format is this project's own: docs/SCRIPT.md, Plans.)
+-- The text of the outcome of jobs. (The format is this project's own: docs/SCRIPT.md, Plans.)
 use Rattle.std.specs.Prelude.{ℕ, Bool, true, false, List, [], ◌∷◌, ◌++◌, codes, Option, None, Some}
 use Rattle.std.specs.Fmt.{decimal}
 use Rattle.std.specs.List.{flat_map, count_by, zip}

@@ -1,4 +1,4 @@
-// Runs a plan: reads it, runs its jobs in threads, and writes what they came to.
+// Runs a plan: reads it, runs its jobs in threads, and writes their outcome.
 ghost use Rattle.std.specs.Prelude.{◌≡◌, ◌≢◌, IfOk, IfErr, IsErrOf, string_bytes};
 ghost use Rattle.ft_core.specs.Living.{NoneIsLive};
 ghost use Rattle.ft_record.specs.Going.{GoesOn};
@@ -73,7 +73,8 @@ pub fn run_plan<R: Threads + Wait + Clock + Sync, S: Write + Send + Drop, W: Wri
     }
 }
 
-// Runs the jobs of a plan, and tells what they came to, and whether that is as the plan means.
+// Runs the jobs of a plan, and returns the text of their outcome, and whether that is as the plan
+// means.
 fn text_of<R: Threads + Wait + Clock + Sync, S: Write + Send + Drop>(
     rt: &R,
     alloc: Global,
@@ -93,7 +94,7 @@ fn text_of<R: Threads + Wait + Clock + Sync, S: Write + Send + Drop>(
     Ok((text, met))
 }
 
-// What jobs came to.
+// Returns the text of the outcome of jobs.
 fn told(alloc: Global, jobs: &[Job], outcome: &JobsOutcome) -> Result<String, Memory>
     ensures { IfOk result (λ text. string_bytes text ≡ text_of_outcome jobs.now outcome.now) }
 {
@@ -108,7 +109,7 @@ fn told(alloc: Global, jobs: &[Job], outcome: &JobsOutcome) -> Result<String, Me
     Ok(format!(in alloc; "{text}")?)
 }
 
-// Runs the jobs of a plan on a core, which the name tells.
+// Runs the jobs of a plan on a core, which the name `J` describes.
 fn run_on<J: Sharing + Send + Sync, R: Threads + Wait + Clock + Sync, S: Write + Send + Drop>(
     rt: &R,
     alloc: Global,

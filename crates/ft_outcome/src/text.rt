@@ -1,4 +1,4 @@
-// The text of what jobs came to.
+// The text of the outcome of jobs.
 ghost use Rattle.std.specs.Prelude.{◌≡◌, Some};
 ghost use Rattle.std.specs.List.{flat_map, count_by};
 ghost use Rattle.ft_outcome.specs.Texts.{txn_text, end_text, job_text, jobs_text, is_call, event_text, history_text, outcome_text};
@@ -54,7 +54,7 @@ impl fmt::Display for JobLines<'_> {
     }
 }
 
-// What became of a job.
+// The outcome of a job.
 #[derive(Clone, Copy)]
 struct JobText<'a>(&'a Job, &'a Report);
 

@@ -1,4 +1,4 @@
-// What is seen of jobs while they run.
+// The progress of jobs while they run.
 use crate::progress::Progress;
 use ft_jobs::Gate;
 use ft_plan::{Job, JobName, Step};
@@ -20,7 +20,7 @@ pub struct Watch<'a> {
     over: Condvar,
 }
 
-// What was noted.
+// The notes.
 #[derive(Drop)]
 struct Noted {
     places: Vec<Place>,
@@ -28,7 +28,7 @@ struct Noted {
     is_over: bool,
 }
 
-// Where a job is.
+// The place of a job.
 #[derive(Clone, Copy, PartialEq, Eq)]
 enum Place {
     // At no call.
@@ -109,7 +109,7 @@ impl<'a> Watch<'a> {
         noted.is_over
     }
 
-    // Where a job is when it comes to this step.
+    // Returns the place of a job when it comes to this step.
     fn place_at(&self, job: u64, step: u64) -> Place {
         let Some(job) = self.jobs.get(job as usize) else {
             return Place::Elsewhere;
@@ -150,8 +150,8 @@ impl Noted {
         }
     }
 
-    // Notes that somebody has looked: who asks now waits at the next look, unless the job has gone
-    // on.
+    // Notes that somebody has looked: a job that asks now waits at the next look, unless it has
+    // gone on.
     fn look(&mut self) {
         for place in &mut self.places {
             if *place == Place::Asks {
