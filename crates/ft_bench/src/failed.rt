@@ -19,7 +19,7 @@ pub enum Failed {
 }
 
 impl Failed {
-    /// What is told of it.
+    /// The text that reports it.
     pub fn text(self) -> &'static str {
         match self {
             Failed::Usage => "usage: ft_bench WHAT COUNT SIZE\n",

@@ -1,4 +1,4 @@
-// What is measured of calls on a tree.
+// Measures of calls on a tree.
 use crate::failed::Failed;
 use crate::growth::Growth;
 use crate::paths::{Level, Place, path};
@@ -8,7 +8,7 @@ use ft_tree::AccessMode;
 use std::alloc::Global;
 use std::mem;
 
-/// What is done again and again.
+/// A measure that is repeated.
 #[derive(Clone, Copy, PartialEq, Eq)]
 pub enum Measure {
     /// The path of a call is made, and no call: what the others take besides their calls.
@@ -102,7 +102,7 @@ fn open(alloc: Global, growth: &mut Growth) -> Result<u64, Failed> {
     number(growth, &call)
 }
 
-/// The number that a call answers.
+/// Returns the number in the reply to a call.
 fn number(growth: &mut Growth, call: &Call) -> Result<u64, Failed> {
     match growth.perform(call)? {
         Reply::Number(number) => Ok(number),
@@ -110,8 +110,8 @@ fn number(growth: &mut Growth, call: &Call) -> Result<u64, Failed> {
     }
 }
 
-/// Does a measure as often as `count` says, over a tree of this size, each time at another
-/// directory: how often it went well.
+/// Does a measure `count` times, over a tree of this size, each time at another directory, and
+/// returns how often it went well.
 fn run_on(
     alloc: Global,
     growth: &mut Growth,

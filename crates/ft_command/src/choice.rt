@@ -25,10 +25,10 @@ pub enum Choice {
     },
     /// Draw the last report of which transaction waits for which.
     Dot,
-    /// Write a script that makes what this directory holds, or list what can't be loaded, if it is
-    /// to be checked. What can't be loaded is left out if it is to be skipped. Modes have their
-    /// bits S_ISUID and S_ISGID only if these are requested. Progress is not shown if it is to be
-    /// quiet. No more is written than these limits allow.
+    /// Write a script that makes what this directory holds, or list the things in it that can't be
+    /// loaded, if it is to be checked. They are left out if they are to be skipped. Modes have
+    /// their bits S_ISUID and S_ISGID only if these are requested. Progress is not shown if it is
+    /// to be quiet. No more is written than these limits allow.
     Load {
         dir: String,
         skip: bool,
@@ -84,7 +84,7 @@ const EXAMPLE: &str =
 // The version of the program, which is that of the library.
 const VERSION: &str = "0.1.0";
 
-// The most times that a call of a job may be told to ask.
+// The greatest number of attempts that may be set for a call of a job.
 const MOST_TURNS: u64 = 1_000_000;
 
 // The most threads that jobs may be given.

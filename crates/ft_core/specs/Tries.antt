@@ -28,7 +28,7 @@ abbrev pub IsTried : Rule → Parts → Parts → ℕ → ℕ → Call → Made 
 IsTried rule old new t k call made WasMade = IsMade rule old new t k call made
 IsTried rule old new t k call made (Blocked blockers) = IsBlocked rule old new t k call blockers.items
 
--- its accesses are all told, if it was made
+-- all its accesses are given, if it was made
 abbrev pub IsWhole : Parts → ℕ → Call → Made → Tried → Type 0
 IsWhole old k call made WasMade = made.accesses.items ≡ accesses_of old.tree k call
 IsWhole old k call made (Blocked blockers) = Unit {0}

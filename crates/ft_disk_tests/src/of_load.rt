@@ -1,5 +1,5 @@
-// What no clause states: that a load comes to its end, its text as it stands in a script, and which
-// fault comes where.
+// No clause states this: that a load comes to its end, its text in a script, and which fault comes
+// at which place.
 use crate::fakes::{FakeSource, Held, Row};
 use ft_cells::{Attributes, Timestamp};
 use ft_copy::{Given, Stopped, Trouble};
@@ -28,7 +28,7 @@ pub const SCRIPT: &str =
     "begin\n1 open wcx /%25\n1 write 2 a%20b\n1 close 2\n1 mkdir /a\n1 mkdir /a/empty\n1 open wcx /a/nothing\n1 close 7\n1 open wcx /a-\n1 write 9 %00%FF\n1 close 9\n1 link /%25 /b%FF\ncommit 1\n";
 
 /// Symbolic links out of the tree, to themselves and to nowhere, one of two names, and one that
-/// would stand before the directory to which it leads. They come after all else.
+/// would come before the directory to which it leads. They come after all else.
 pub const WITH_LINKS: &[Row<'static>] = &[
     (b"/d", Held::Folder),
     (b"/d/f", Held::File(0, 1, b"x")),
@@ -184,7 +184,7 @@ const FOUND: &[Row<'static>] = &[
     (b"/l", Held::Symlink(1, 1, b"inside")),
 ];
 
-// What comes in the place of each of them before it is listed, opened or read.
+// The things that come in the place of each of them before it is listed, opened or read.
 const MEANWHILE: &[Row<'static>] = &[
     (b"", Held::Folder),
     (b"/d", Held::Folder),
@@ -267,7 +267,7 @@ fn modes_owners_and_times_as_script(rt: HostRuntime) -> Result<(), Fail> {
     Ok(())
 }
 
-/// What a tree has no place for, amid directories.
+/// A thing that a tree has no place for, amid directories.
 pub const WITH_SPECIAL: &[Row<'static>] = &[
     (b"/dev", Held::Folder),
     (b"/dev/s y", Held::Special),

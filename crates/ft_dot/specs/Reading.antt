@@ -18,7 +18,7 @@ abbrev pub behind : List ℕ → List (List ℕ) → Option (List (List ℕ))
 behind word [] = None
 behind word (first ∷ others) = if bytes_eq first word then Some others else None
 
--- what a reader reads from each, where it reads them all
+-- the results of a reader for each, if it reads them all
 abbrev pub each : {A B : Type 0} → (A → Option B) → List A → Option (List B)
 each read [] = Some []
 each read (x ∷ xs) = option_and_then (λ y. option_map (λ ys. y ∷ ys) (each read xs)) (read x)

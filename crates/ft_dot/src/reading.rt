@@ -57,7 +57,7 @@ fn report_in(alloc: Global, count: u64, lines: Lines<'_>) -> Result<Option<Repor
     }))
 }
 
-// The count of edges that a line tells.
+// The count of edges on a line.
 fn count_in(line: &[u8]) -> Option<u64>
     ensures { result ≡ count_of (words_of line.now) }
 {
@@ -68,7 +68,7 @@ fn count_in(line: &[u8]) -> Option<u64>
     number_of(words.only()?)
 }
 
-// The edge that a line tells.
+// The edge on a line.
 fn edge_in(line: &[u8]) -> Option<Edge>
     ensures { result ≡ edge_of (words_of line.now) }
 {
@@ -95,7 +95,7 @@ fn kind_of(word: &[u8]) -> Option<EdgeKind>
     }
 }
 
-// The verdict that a line tells.
+// The verdict on a line.
 fn verdict_in(alloc: Global, line: &[u8]) -> Result<Option<Verdict>, AllocError>
     ensures { IfOk result (λ verdict. verdict ≡ verdict_of (words_of line.now)) }
 {

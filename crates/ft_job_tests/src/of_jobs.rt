@@ -73,7 +73,7 @@ impl Gate for Meeting {
     }
 }
 
-/// Whether a job has committed, with a mkdir and a stat that tells of the new directory.
+/// Whether a job has committed, with a mkdir and a stat that shows the new directory.
 fn has_made(report: &Report) -> bool {
     let [made, told] = report.calls.as_slice() else {
         return false;
@@ -240,7 +240,8 @@ impl Manager for Lying {
     }
 }
 
-/// The ends of the jobs of the worked plan, or why they are not told, under a manager that lies so.
+/// The ends of the jobs of the worked plan, or why they are not reported, under a manager that lies
+/// so.
 fn ends_under<R: Threads + Wait + Clock + Sync>(
     rt: &R,
     alloc: Global,
@@ -264,7 +265,7 @@ fn ends_under<R: Threads + Wait + Clock + Sync>(
     }
 }
 
-/// The ends that reports tell of.
+/// The ends in reports.
 fn ends_of(alloc: Global, reports: &[Report]) -> Result<Vec<End>, Fail> {
     let mut ends = Vec::new(alloc);
     for report in reports {

@@ -93,7 +93,7 @@ impl Write for Counting<'_> {
     }
 }
 
-// What a writer does once it has no more room.
+// The behaviour of a writer that has no more room.
 #[derive(Clone, Copy)]
 enum AtEnd {
     Nothing,

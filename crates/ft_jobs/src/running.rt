@@ -108,8 +108,8 @@ pub fn report_jobs<M: Manager, G: Gate, R: Threads + Wait + Clock + Sync>(
     Ok(board.into_reports())
 }
 
-// Starts a thread for each job, but so many at most, and waits until all have ended. Whether all
-// could be started: behind one that could not, no other is.
+// Starts a thread for each job, but at most so many, and waits until all have ended. Returns
+// whether all could be started: after one that could not, no other is.
 fn start_all<M: Manager, G: Gate, R: Threads + Wait + Clock + Sync>(
     rt: &R,
     work: &Work<'_, M, G>,

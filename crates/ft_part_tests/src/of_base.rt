@@ -1,4 +1,4 @@
-// What no clause states: printed text, and that long lists are joined at once.
+// No clause states this: printed text, and that long lists are joined at once.
 use ft_base::{Chains, Memory};
 use std::test::Fail;
 

@@ -11,7 +11,7 @@ fn holds(body: &Body, bytes: &[u8]) -> Result<bool, Memory> {
     Ok(read.as_slice() == bytes)
 }
 
-/// Whether these bytes, and no others of as many as asked for, stand at an offset.
+/// Whether these bytes, and no others of as many as asked for, are at an offset.
 fn shows(body: &Body, offset: u64, count: u64, bytes: &[u8]) -> Result<bool, Memory> {
     let read = body.read_at(offset, count)?;
     Ok(read.as_slice() == bytes)

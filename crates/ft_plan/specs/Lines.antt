@@ -1,4 +1,5 @@
--- What a line of a plan says. (The format of plans is this project's own: docs/SCRIPT.md, Plans.)
+-- The meaning of a line of a plan. (The format of plans is this project's own: docs/SCRIPT.md,
+-- Plans.)
 use Rattle.std.specs.Prelude.{◌==◌, ◌||◌, ◌&&◌, ℕ, Bool, false, nat_le, List, [], ◌∷◌, length, codes, if◌then◌else◌, Option, None, Some, option_and_then, option_map}
 use Rattle.std.specs.Char.{is_ascii_digit, is_ascii_lowercase}
 use Rattle.std.specs.List.{list_all}
@@ -40,7 +41,7 @@ job_name_of word = if is_job_name word then Some word else None
 abbrev pub subheading : JobKind → List ℕ → List ℕ → Option PlanLine
 subheading kind name parent = option_and_then (λ n. option_map (λ p. line.Job n (Some p) kind) (job_name_of parent)) (job_name_of name)
 
--- a name, and at most one more, that of the job which it stands under
+-- a name, and at most one more, that of the job which is around it
 abbrev pub heading : JobKind → List ℕ → List (List ℕ) → Option PlanLine
 heading kind name [] = option_map (λ n. line.Job n None kind) (job_name_of name)
 heading kind name (parent ∷ []) = subheading kind name parent
@@ -80,21 +81,21 @@ after_line words = option_and_then line_after (names_of words)
 
 -- ---- steps
 
--- `subs`, `commit` and `abort`, which stand alone on their line
+-- `subs`, `commit` and `abort`, each the only word of its line
 abbrev pub lone_steps : List (List ℕ × Step)
 lone_steps = (codes "subs", Subs) ∷ (codes "commit", Commit) ∷ (codes "abort", Abort) ∷ []
 
--- the step, if nothing stands after its word
+-- the step, if nothing comes after its word
 abbrev pub alone : List (List ℕ) → Step → Option Step
 alone [] step = Some step
 alone (word ∷ words) step = None
 
--- A call in which `@` and the number of a step stand in place of the descriptor: it is read as
--- the call on the descriptor of that number, and told apart as `CallOn`.
+-- A call with `@` and the number of a step in place of the descriptor: it is read as the call on
+-- the descriptor of that number, and marked as `CallOn`.
 abbrev pub on_opened : List ℕ → List (List ℕ) → Option Step
 on_opened name words = option_map CallOn (option_and_then (read_by descriptor_calls name) (stripped 64 words))
 
--- a call, as `on_opened` or as it stands in a script
+-- a call, as `on_opened` or as in a script
 abbrev pub call_step : List ℕ → List (List ℕ) → Option Step
 call_step name words = option_map_or Some (on_opened name words) (option_map Call (call_of name words))
 
@@ -113,16 +114,16 @@ abbrev pub tried_step : List (List ℕ) → Option Step
 tried_step [] = None
 tried_step (word ∷ others) = option_map tried (call_step word others)
 
--- a step; in a strict plan `try` may stand before a call
+-- a step; in a strict plan `try` may come before a call
 abbrev pub step_of : Bool → List ℕ → List (List ℕ) → Option Step
 step_of strict word others = if strict && bytes_eq word (codes "try") then tried_step others else plain_step word others
 
--- what a line says that begins no job: what the job comes after, in a strict plan, or a step
+-- a line that begins no job: what the job comes after, in a strict plan, or a step
 abbrev pub inner_line : Bool → List ℕ → List (List ℕ) → Option PlanLine
 inner_line strict word others = if strict && bytes_eq word (codes "after") then after_line others else option_map line.Step (step_of strict word others)
 
--- What the words of a line of a plan say; `None` where they say nothing. Some words mean something
--- in a strict plan alone.
+-- The meaning of the words of a line of a plan; `None` if they have none. Some words have a meaning
+-- only in a strict plan.
 abbrev pub line_of : Bool → List (List ℕ) → Option PlanLine
 line_of strict [] = None
 line_of strict (word ∷ others) = if bytes_eq word (codes "job") then job_line strict others else inner_line strict word others

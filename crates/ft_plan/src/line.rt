@@ -1,4 +1,4 @@
-// What a line of a plan says.
+// The meaning of a line of a plan.
 ghost use Rattle.std.specs.Prelude.{◌≡◌, ◌&&◌, codes, if◌then◌else◌, Some, None, IfOk, IsErrOf};
 ghost use Rattle.std.specs.Str.{bytes_eq};
 ghost use Rattle.ft_words.specs.Calls.{Reads, look_up};
@@ -37,8 +37,8 @@ pub fn line_of(alloc: Global, strict: bool, words: Words<'_>) -> Result<PlanLine
     Ok(PlanLine::Step(step))
 }
 
-// A job begins: its name, and that of the job which it stands under. In a strict plan `must` may
-// stand before both.
+// A job begins: its name, and that of the job which is around it. In a strict plan `must` may come
+// before both.
 fn job_line(alloc: Global, strict: bool, words: Words<'_>) -> Result<PlanLine, Unread>
     ensures { Reads result (job_line strict words.entry) }
 {
@@ -53,7 +53,7 @@ fn job_line(alloc: Global, strict: bool, words: Words<'_>) -> Result<PlanLine, U
     heading(alloc, JobKind::Strict, word, words)
 }
 
-// After `must` both names must stand.
+// After `must` there must be both names.
 fn must_line(alloc: Global, words: Words<'_>) -> Result<PlanLine, Unread>
     ensures { Reads result (must_line words.entry) }
 {
@@ -175,7 +175,7 @@ fn lone_step(word: &[u8]) -> Option<Step>
     }
 }
 
-// A call, which may stand on the descriptor that an earlier step opened.
+// A call, which may be on the descriptor that an earlier step opened.
 fn call_step(alloc: Global, name: &[u8], words: Words<'_>) -> Result<Step, Unread>
     ensures { Reads result (call_step name.now words.entry) }
 {

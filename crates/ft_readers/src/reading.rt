@@ -1,4 +1,4 @@
-// A thread that reads beside jobs.
+// A thread that reads alongside jobs.
 ghost use Rattle.std.specs.Prelude.{◌≡◌};
 ghost use Rattle.ft_shared.specs.Opening.{named_by};
 

@@ -1,5 +1,4 @@
--- What a core that keeps what has happened since it last forgot is seen as, and what it keeps true
--- of itself.
+-- A core that keeps the events since it last forgot: its view, and its invariant.
 use Rattle.std.specs.Prelude.{◌≡◌, ◌≤◌, ◌+◌, ℕ, Bool, ◌&&◌, List, [], length, drop, is_some, Option, Some, None, refl}
 use Rattle.std.specs.Coded.{Coded, code_by, coded×, coded_ℕ}
 use Rattle.std.specs.declared.snapshot.Snapshot.{Snapshot}

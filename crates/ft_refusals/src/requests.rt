@@ -1,4 +1,4 @@
-// Requests to a core, and what is told of it before and behind one that is refused.
+// Requests to a core, and its description before and after one that is refused.
 use anyhow::{Result, bail};
 use ft_base::Memory;
 use ft_core::{Answer, Fault};

@@ -1,4 +1,4 @@
-// What is done, and what is told of it.
+// The steps, and their output.
 ghost use Rattle.std.specs.Prelude.{◌≡◌};
 ghost use Rattle.ft_shared.specs.Opening.{named_by};
 

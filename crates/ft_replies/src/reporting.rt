@@ -38,7 +38,7 @@ pub fn whole_report_of(alloc: Global, report: Report, core: &Core) -> Result<Opt
     }
 }
 
-// What the tree holds.
+// The report of the tree.
 fn tree_report(alloc: Global, core: &Core) -> Result<Option<String>, Memory>
     ensures { IfOk result (λ told. IfSome told (λ text. IsWholeReport core.now.state Report.Tree (string_bytes text))) }
 {

@@ -1,5 +1,5 @@
--- What the steps of a job ask for. (The rules for jobs are this project's own: docs/SCRIPT.md,
--- Plans.)
+-- The calls that the steps of a job request. (The rules for jobs are this project's own:
+-- docs/SCRIPT.md, Plans.)
 use Rattle.std.specs.Prelude.{◌≡◌, ◌≢◌, ◌⊎◌, ℕ, zero, suc, ◌+◌, ◌-◌, Bool, true, false, not, ◌&&◌, ◌||◌, List, [], ◌∷◌, ◌++◌, length, drop, take, if◌then◌else◌, MatchOption, Option, None, Some, map, option_and_then}
 use Rattle.std.specs.Option.{unwrap_or}
 use Rattle.std.specs.List.{filter_map, slice_get}
@@ -32,7 +32,7 @@ is_call does.Subs = false
 is_call does.Commit = false
 is_call does.Abort = false
 
--- the descriptor that an open answered, or 0, which is none, where it failed
+-- the descriptor that an open returned, or 0, which is none, if it failed
 abbrev pub descriptor_in : Reply → ℕ
 descriptor_in (answer.Number n) = n
 descriptor_in reply = 0
@@ -144,7 +144,7 @@ may_fail step = false
 abbrev pub goes_on : Step → CallReport → Bool
 goes_on step c = may_fail step || is_well (Granted c.stamp c.reply)
 
--- behind the first of these calls, if the step asks for one
+-- after the first of these calls, if the step requests one
 abbrev pub first_goes_on : Step → List CallReport → Bool
 first_goes_on step [] = true
 first_goes_on step (c ∷ calls) = not (is_call step) || goes_on step c
@@ -163,17 +163,18 @@ names_step end = false
 abbrev pub is_failing : Step → Bool
 is_failing step = is_call step || is_subs step
 
--- before so many steps the step stands, if it may fail
+-- the step is before so many steps, if it may fail
 abbrev pub place_if_failing : ℕ → Step → Option ℕ
 place_if_failing before step = if is_failing step then Some before else None
 
--- before how many steps the one of this number stands, if it may fail; the first has the number 1
+-- the number of steps that the one of this number is before, if it may fail; the first has the
+-- number 1
 abbrev pub failing_place : List Step → ℕ → Option ℕ
 failing_place steps zero = None
 failing_place steps (suc before) = option_and_then (place_if_failing before) (slice_get steps before)
 
--- After so many steps stands one whose call was not granted, or failed and may not, or one without
--- a call: these are the calls up to there.
+-- The step after so many has a call that was not granted, or failed and may not, or has no call:
+-- these are the calls up to there.
 abbrev pub StopsBehind : List Step → List CallReport → ℕ → Type 0
 StopsBehind steps calls before =
     AreAllOf (asked_with (take before steps) calls) calls
@@ -199,9 +200,9 @@ is_of_kind kind steps end calls = if is_strict kind then goes_strictly steps end
 
 -- ---- how far a job came, all in all
 
--- A job that ended so has made these calls of its steps: where it ended as Committed or Aborted
--- all of them, and its last step is that commit or abort; where a step failed those up to it; else
--- the first of them.
+-- A job that ended so has made these calls of its steps. If it ended as Committed or Aborted, they
+-- are all of them, and its last step is that commit or abort. If a step failed, they are those up
+-- to it; else the first of them.
 abbrev pub IsDone : List Step → End → List CallReport → Type 0
 IsDone steps Committed calls = AreAllOf (asked_with steps calls) calls × EndsWith steps does.Commit
 IsDone steps Aborted calls = AreAllOf (asked_with steps calls) calls × EndsWith steps does.Abort

@@ -29,7 +29,7 @@ abbrev pub parent_behind : ℕ → Option ℕ → List Event → Option ℕ
 parent_behind t before [] = before
 parent_behind t before (e ∷ events) = parent_behind t (parent_after t before e) events
 
--- what is seen of x beside t after the event, if this was seen before
+-- what is seen of x with t after the event, if this was seen before
 abbrev pub seen_after : ℕ → ℕ → Seen → Event → Seen
 seen_after t x seen (Begin u p) = cond (t == u) (record { committed = seen.committed; had = seen.committed }) seen
 seen_after t x seen (CallEvent stamp asker call reply accesses) = seen

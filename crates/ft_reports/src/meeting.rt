@@ -80,7 +80,7 @@ pub fn is_must(kind: JobKind) -> bool
     matches!(kind, JobKind::Must)
 }
 
-// Whether a job stands under the one of this name.
+// Whether a job is under the one of this name.
 fn is_subjob_of(name: &[u8], job: &Job) -> bool
     ensures { result ≡ is_subjob_of name.now job.now }
 {

@@ -1,4 +1,4 @@
-// What becomes of jobs.
+// The outcomes of jobs.
 use ft_base::Sequence;
 use ft_calls::{Call, Reply};
 use ft_core::{Fault, TxnId};

@@ -1,4 +1,4 @@
-// What the steps of a job ask for.
+// The calls that the steps of a job request.
 ghost use Rattle.std.specs.Prelude.{◌≡◌, ◌≢◌, ◌↔◌, ◌-◌, false, IfOk, IsTrue, take, MatchOption};
 ghost use Rattle.std.specs.List.{list_any, slice_get};
 ghost use Rattle.ft_plan.specs.Plans.{is_subs};
@@ -46,7 +46,7 @@ fn on_opened(mut call: Call, descriptors: &[u64]) -> Call
     call
 }
 
-// What the step of this number opened. The first has the number 1.
+// The descriptor that the step of this number opened. The first has the number 1.
 fn opened_at(descriptors: &[u64], step: u64) -> u64
     ensures { result ≡ opened_at descriptors.now step }
 {
@@ -76,7 +76,7 @@ fn is_call(step: &Step) -> bool
     )
 }
 
-// What a step opened, if these are the calls from it on.
+// The descriptor that a step opened, if these are the calls from it on.
 fn opened_by(step: &Step, calls: &[CallReport]) -> u64
     ensures { result ≡ opened_by step.now calls.now }
 {
@@ -121,7 +121,7 @@ enum Extent {
     Other,
 }
 
-// How much these calls are of what the steps ask for, where they opened these descriptors.
+// The extent of these calls among those that the steps request, if they opened these descriptors.
 fn extent_of(
     alloc: Global,
     steps: &[Step],
@@ -182,7 +182,8 @@ fn stops_at(
     are_all_of(alloc, made, calls)
 }
 
-// Before how many steps the one of this number stands, if it may fail. The first has the number 1.
+// The number of steps that the one of this number is before, if it may fail. The first has the
+// number 1.
 fn failing_place(steps: &[Step], number: u64) -> Option<usize>
     ensures { result ≡ failing_place steps.now number }
 {

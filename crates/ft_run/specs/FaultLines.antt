@@ -1,4 +1,4 @@
--- The line that tells of a fault, with its line feed.
+-- The line that reports a fault, with its line feed.
 use Rattle.std.specs.Prelude.{◌⊎◌, ℕ, List, [], ◌∷◌, ◌++◌, take, Option, codes, string_bytes}
 use Rattle.std.specs.Str.Lines.{strip_carriage_return}
 use Rattle.std.specs.Fmt.{decimal}

@@ -13,10 +13,10 @@ use std::io::Read;
 use std::os::unix::fs::MetadataExt;
 use std::{fs, str};
 
-// So many bytes of names are read at once.
+// How many bytes of names are read at once.
 const NAMES: usize = 4_096;
 
-// How many modes there are. The system tells the kind of a file above them.
+// How many modes there are. The system puts the kind of a file above them.
 const MODES: u32 = 0o10000;
 
 /// A directory on disk, which is read and never written.
@@ -30,7 +30,7 @@ pub struct DiskSource<'a> {
     rt: &'a HostRuntime,
     dir: &'a str,
     causes: &'a Causes,
-    // whether names that are no text are told: then they are refused when they are looked at
+    // whether names that are no text are listed: then they are refused when they are looked at
     tells_names: bool,
     // the directories that were listed: the number of what is in one is its place here
     listed: RefCell<Vec<FileId>>,
@@ -57,7 +57,7 @@ impl<'a> DiskSource<'a> {
         }
     }
 
-    // Where a path of the tree stands on disk. A path that is no text has no place there.
+    // The place of a path of the tree on disk. A path that is no text has no place there.
     fn place(&self, path: &[u8]) -> Result<String, Trouble> {
         let Ok(path) = str::from_utf8(path) else {
             return Err(Trouble::BadName);
@@ -181,8 +181,8 @@ impl<'a> Source for DiskSource<'a> {
         }
     }
 
-    // (The kit opens no file without following a symbolic link, nor without waiting for a FIFO. What
-    // a link leads to that has come meanwhile is another file than the one that was looked at.)
+    // (The kit opens no file without following a symbolic link, nor without waiting for a FIFO. A
+    // link that has come meanwhile leads to another file than the one that was looked at.)
     fn open(&self, path: &[u8], node: u64) -> Result<Opened<Noted<'a, File>>, Trouble> {
         let place = self.reached(path, node)?;
         let file = File::open(self.rt, place.as_str()).map_err(|error| self.causes.of_read(error))?;
@@ -215,7 +215,7 @@ impl<'a> Source for DiskSource<'a> {
     }
 }
 
-// What the system tells of what stands somewhere.
+// What the system reports of a directory or file.
 fn found(metadata: &Metadata) -> Found {
     if metadata.is_dir() {
         return Found::Folder(FoundFolder {
@@ -241,7 +241,7 @@ fn found(metadata: &Metadata) -> Found {
     }
 }
 
-// The mode of what stands somewhere, without its kind, and its owners.
+// The mode of a directory or file, without its kind, and its owners.
 fn attributes_of(metadata: &Metadata) -> Attributes {
     Attributes {
         mode: (metadata.mode() % MODES) as u16,

@@ -1,4 +1,4 @@
-// The line that tells of a fault.
+// The line that reports a fault.
 ghost use Rattle.std.specs.Prelude.{◌≡◌};
 ghost use Rattle.ft_run.specs.FaultLines.{fault_line, run_fault_line, trouble_name};
 

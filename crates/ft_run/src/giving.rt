@@ -28,8 +28,9 @@ pub struct Giving {
 }
 
 impl Giving {
-    /// Owners and groups are set if that is wanted, by the superuser, to whom then the directory at
-    /// this place belongs, which was made before. Files that have no time get that of now.
+    /// Owners and groups are set if that is wanted, by the superuser. Then the directory at this
+    /// place, which was made before, belongs to the superuser. Files that have no time get that of
+    /// now.
     pub fn new(rt: &HostRuntime, wants_owners: bool, made: &str) -> Giving {
         let is_superuser = fs::symlink_metadata(rt, made).is_ok_and(|made| made.uid() == 0);
         Giving {

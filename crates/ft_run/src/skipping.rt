@@ -9,7 +9,7 @@ use std::alloc::AllocError;
 use std::cell::Cell;
 use std::fs::File;
 
-// Why something is left out, in the order in which that is told at the end.
+// The reasons to leave something out, in the order in which they are reported at the end.
 const REASONS: [Trouble; 6] = [
     Trouble::Special,
     Trouble::TooLarge,
@@ -28,9 +28,9 @@ pub struct SkippingSource<'a, 'b> {
     disk: &'b DiskSource<'a>,
     causes: &'a Causes,
     limits: CopyLimits,
-    // whether what is left out is listed on standard output, and not told on standard error
+    // whether what is left out is listed on standard output, and not reported on standard error
     is_listed: bool,
-    // whether it is told and counted
+    // whether it is reported and counted
     is_told: Cell<bool>,
     // why what was looked at last can't be loaded
     why: Cell<Trouble>,
@@ -90,7 +90,7 @@ impl<'a, 'b> SkippingSource<'a, 'b> {
         Ok(true)
     }
 
-    // Writes a line to where it is told what is left out.
+    // Writes a line to the stream that reports what is left out.
     fn write(&self, line: &str) {
         let _ = if self.is_listed {
             write_out(&mut self.rt.stdout(), line.as_bytes())

@@ -196,8 +196,8 @@ fn save_failed<E: Write>(alloc: Global, errors: &mut E, fault: &SaveFault) -> u8
     }
 }
 
-// Tells why a copy was not made, and where. If there is not enough memory for the line, that is
-// told.
+// Reports why a copy was not made, and at which path. If there is not enough memory for the line,
+// that is reported.
 fn stopped_failed<E: Write>(alloc: Global, errors: &mut E, stopped: &Stopped) -> u8
     ensures status { result ≡ 1 }
     ensures line { TellsLine (E.contents errors.old) (E.contents errors.new) (stopped_line stopped.now) }

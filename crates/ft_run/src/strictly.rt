@@ -15,7 +15,7 @@ use ft_script::{FailedLine, PlayFault, StrictFault, play_strictly, write_out};
 use std::alloc::{AllocError, Global};
 use std::io::{Read, Write};
 
-// So many bytes of a line are shown.
+// How many bytes of a line are shown.
 const LONGEST_SHOWN: usize = 200;
 
 /// Runs a strict script on a core, and returns the status to end with: 0; 1 after a fault of
@@ -47,8 +47,8 @@ pub fn play_strictly_status<R: Read, W: Write, E: Write>(
     }
 }
 
-// Tells which line did not do what it requests, and returns the status that it ends with. If there
-// is not enough memory for that, that is told.
+// Reports which line did not do what it requests, and returns the status that it ends with. If
+// there is not enough memory for that, that is reported.
 fn line_failed<E: Write>(alloc: Global, errors: &mut E, failed: &FailedLine) -> u8
     ensures status { result ≡ 3 }
     ensures line { TellsLine (E.contents errors.old) (E.contents errors.new) (strict_line failed.now) }
@@ -60,7 +60,7 @@ fn line_failed<E: Write>(alloc: Global, errors: &mut E, failed: &FailedLine) -> 
     3
 }
 
-// The line that tells of it.
+// The line that reports it.
 fn strict_line(alloc: Global, failed: &FailedLine) -> Result<Vec<u8>, AllocError>
     ensures { IfOk result (λ text. text.items ≡ strict_line failed.now) }
 {

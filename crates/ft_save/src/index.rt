@@ -1,4 +1,4 @@
-// The rows of a report, by the numbers that they tell of.
+// The rows of a report, by the numbers that they describe.
 ghost use Rattle.std.specs.Prelude.{◌≡◌, List, [], ◌∷◌, OnOk, IfOk};
 ghost use Rattle.std.specs.Option.{unwrap_or};
 ghost use Rattle.std.specs.FinMap as finite;

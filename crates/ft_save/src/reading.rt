@@ -75,7 +75,7 @@ fn rows_in(alloc: Global, count: u64, lines: Lines<'_>) -> Result<Option<Vec<Row
     Ok(Some(rows))
 }
 
-// The count of rows that a line tells.
+// The count of rows on a line.
 fn count_in(line: &[u8]) -> Option<u64>
     ensures { result ≡ count_of (words_of line.now) }
 {
@@ -86,7 +86,7 @@ fn count_in(line: &[u8]) -> Option<u64>
     number_of(words.only()?)
 }
 
-// The row that a line tells.
+// The row that a line describes.
 fn row_in(alloc: Global, line: &[u8]) -> Result<Option<Row>, Memory>
     ensures { IfOk result (λ row. row ≡ row_of (words_of line.now)) }
 {
@@ -143,7 +143,7 @@ fn edge_words<'a>(words: Words<'a>) -> Option<(u64, &'a [u8], u64)>
     Some((folder, name, node))
 }
 
-// `NODE SIZE DATA`, where the data may be absent with its space.
+// `NODE SIZE DATA`; the data may be absent with its space.
 fn file_in(alloc: Global, words: Words<'_>) -> Result<Option<Row>, Memory>
     ensures { IfOk result (λ row. row ≡ file_of words.entry) }
 {

@@ -61,7 +61,7 @@ fn last_rows<R: Read>(alloc: Global, reader: &mut R) -> Result<Vec<Row>, SaveFau
     rows.ok_or(SaveFault::NoTree)
 }
 
-// Copies the tree that rows tell of.
+// Copies the tree that rows describe.
 fn copy_rows<T: Target>(
     alloc: Global,
     limits: CopyLimits,

@@ -1,5 +1,5 @@
--- What is gathered between two writes: lines are cut from bytes that were read, and carried out one
--- after another.
+-- The replies that are gathered between two writes: lines are cut from bytes that were read, and
+-- carried out one after another.
 use Rattle.std.specs.Prelude.{◌≡◌, ◌⊎◌, ◌+◌, ◌<◌, ℕ, suc, Bool, true, false, List, [], ◌∷◌, ◌++◌, length, Option, string_bytes}
 use Rattle.std.specs.Io.KnownBytes.{Appends}
 use Rattle.ft_core.specs.States.{State}
@@ -37,8 +37,8 @@ Gathers answers bytes rest count count_after text old new =
 abbrev pub FailsGathering : List ℕ → ℕ → ℕ → List ℕ → List ℕ → List ℕ → State → State → Type 0
 FailsGathering bytes count count_after line reply text old new = (rest : List ℕ) × GathersLines AnswersStrictly false bytes rest count count_after line reply text old new
 
--- What became of the bytes behind lines at which a fault came: there was no memory for the next
--- line or its reply, or it is too long.
+-- The effect of a fault on the bytes after lines that were carried out: there was no memory for the
+-- next line or its reply, or it is too long.
 abbrev pub StopsAnswering : Answers → PlayFault → List ℕ → State → State → Type 0
 StopsAnswering answers Memory bytes old new = (new ≡ old) ⊎ ((rest : List ℕ) × (line : List ℕ) × GivesLine bytes rest line × MayAnswer answers line old new)
 StopsAnswering answers TooLong bytes old new = BeginsTooLong bytes × (new ≡ old)
@@ -56,7 +56,7 @@ pub record StopsGathering (answers : Answers) (fault : PlayFault) (bytes text : 
   pub few : length text < MOST_GATHERED
   pub stops : StopsAnswering answers fault rest state new
 
--- What became of the last line of a strict script, if so many lines were cut with it.
+-- The outcome of the last line of a strict script, if so many lines were cut with it.
 abbrev pub StopsLastStrictly : StrictFault → ℕ → List ℕ → Option (List ℕ) → Option (List ℕ) → State → State → Type 0
 StopsLastStrictly (Play fault) count line before after old new = StopsLine AnswersStrictly fault line before after old new
 StopsLastStrictly (Line failed) count line before after old new =

@@ -33,7 +33,7 @@ unscanned lines = lines.end - lines.start
 abbrev pub to_read : ScriptLines → ℕ
 to_read lines = unscanned lines + (CHUNK + 1) * lines.reads_left
 
--- all that was read stands in lines, and one more can be counted
+-- all that was read is in lines, and one more can be counted
 abbrev pub HasRoom : ScriptLines → Type 0
 HasRoom lines = (lines.start ≡ lines.end) × (lines.count + 1 + lines.end + CHUNK * lines.reads_left ≤ CHUNK * MOST_READS + lines.start)
 

@@ -1,8 +1,8 @@
--- What a run of a script writes. What a reader has left and a writer holds (`Consumes`,
--- `Appends`, `Keeps`, `IsAtEnd`) are std's words (KnownBytes). They claim nothing of a reader or
--- a writer whose bytes no contract knows, as standard input and output. So the clauses of `play`
--- say for those that some bytes were read and that what was handed to the writer is the text of a
--- run of their lines, as far as the writer's own contract says what it took.
+-- The text that a run of a script writes. For what a reader has left and a writer holds,
+-- `Consumes`, `Appends`, `Keeps` and `IsAtEnd` are std's words (KnownBytes). They claim nothing of
+-- a reader or a writer whose bytes no contract knows, as standard input and output. For those the
+-- clauses of `play` say only that some bytes were read and that what was handed to the writer is
+-- the text of a run of their lines, as far as the writer's own contract says what it took.
 use Rattle.std.specs.Prelude.{◌≡◌, ◌⊎◌, ◌<◌, ℕ, suc, Bool, true, false, List, [], ◌∷◌, ◌++◌, length, Option, string_bytes}
 use Rattle.std.specs.List.{AllByRecursion}
 use Rattle.std.specs.Io.KnownBytes.{Appends, Consumes, IsAtEnd, Keeps}
@@ -56,7 +56,7 @@ MayAnswer answers bytes old new = (new ≡ old) ⊎ ((on : Bool) × (text : List
 
 -- ---- faults
 
--- What became of the line at which a fault came, if its reply was to be written alone. At Memory
+-- The outcome of the line at which a fault came, if its reply was to be written alone. At Memory
 -- (for the line or for its reply's text) nothing of its reply was written, and it was carried out
 -- or not. At Write it was carried out, and a part of its reply was written.
 abbrev pub StopsLine : Answers → PlayFault → List ℕ → Option (List ℕ) → Option (List ℕ) → State → State → Type 0
@@ -88,7 +88,7 @@ pub record LosesReplies (answers : Answers) (ends : Type 0) (bytes : List ℕ) (
 abbrev pub Stays : Option (List ℕ) → Option (List ℕ) → State → State → Type 0
 Stays before after old new = Keeps before after × (new ≡ old)
 
--- What a fault left of the bytes after the lines that were taken before it, whose replies were
+-- The effect of a fault on the bytes after the lines that were taken before it, whose replies were
 -- written. At Memory: nothing more, or the next line was carried out or not. At Write: the replies
 -- to more lines were lost. At Read and Turns: there is no line feed in them, and nothing more was
 -- taken or written. At TooLong: they begin with a line that is too long, and nothing more was taken
@@ -101,7 +101,7 @@ StopsIn answers Turns ends rest before after old new = IsFreeOf 10 rest × Stays
 StopsIn answers TooLong ends rest before after old new = BeginsTooLong rest × Stays before after old new
 
 -- A line of a strict script was carried out and its reply written, and the run does not go on after
--- it: the fault tells its number, from 1, if so many lines were taken before it, its bytes, and its
+-- it. The fault has its number, from 1, if so many lines were taken before it, its bytes, and its
 -- reply.
 abbrev pub FailsLine : FailedLine → ℕ → List ℕ → Option (List ℕ) → Option (List ℕ) → State → State → Type 0
 FailsLine failed taken bytes before after old new =

@@ -12,7 +12,7 @@ use ft_base::Memory;
 use std::alloc::Global;
 use std::io::{Read, Write};
 
-// So many bytes of replies are written before the next line is carried out.
+// How many bytes of replies are written before the next line is carried out.
 const MOST_GATHERED: usize = 65_536;
 
 /// A script, and the replies to it that are not written yet.

@@ -22,7 +22,7 @@ const CHUNK: usize = 65_536;
 pub(crate) struct ScriptLines {
     // what was read last
     chunk: Vec<u8>,
-    // where what was read and is in no line yet stands in it
+    // the place in it of what was read and is in no line yet
     start: usize,
     end: usize,
     // the line that has begun, or was cut last

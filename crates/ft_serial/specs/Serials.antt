@@ -45,16 +45,16 @@ pub record RunsSerially (s : State) : Type 0 where
   pub distinct : Pairs (λ a b. a.call.stamp ≢ b.call.stamp) (serial_list posix_calls (history s))
   -- and their stamps are above the base's last one.
   pub since : Each (λ c. s.base.last_stamp < c.call.stamp) (serial_list posix_calls (history s))
-  -- The committed calls alone give their replies too.
+  -- If only the committed calls are made, they give their replies too.
   pub committed : GiveReplies s.base.tree (committed_part posix_calls (history s))
 
--- The base, the rule and the limits are the same, and the events and the committed calls from before
--- stand first.
+-- The base, the rule and the limits are the same, and the events and the committed calls from
+-- before come first.
 pub record Grows (old new : State) : Type 0 where
   pub goes_on : GoesOn old new
   pub committed : IsPrefix (committed_calls old) (committed_calls new)
 
--- So it is after each request except a checkpoint, which makes the tree the base and forgets what
--- has happened.
+-- This holds after each request except a checkpoint, which makes the tree the base and forgets the
+-- events.
 abbrev pub CommittedStays : Type 0
 CommittedStays = (old : State) (new : StoredState) (request : Request) (answer : Answer) → IsReached new → request ≢ Checkpoint → IsStep exact_rule old request answer new.state → Grows old new.state

@@ -79,8 +79,8 @@ impl Commits {
         ensures err { OnErr result (self.new.given ≡ self.old.given) }
         ensures forgotten { self.new.forgotten ≡ self.old.forgotten }
 
-        // For who goes on with a later core: what was gone over and given out comes first in this
-        // one.
+        // For a caller that goes on with a later core: what was gone over and given out comes first
+        // in this one.
         ensures events { IsPrefix self.new.events core.now.state.events }
         ensures given { IsPrefix self.new.given (committed_calls core.now.state) }
         ensures kept { IsPrefix self.new.given (committed_in self.new.events) }

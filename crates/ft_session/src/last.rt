@@ -1,4 +1,4 @@
-// What the last request came to, and its parts.
+// The outcome of the last request, and its parts.
 ghost use Rattle.std.specs.Prelude.{◌≡◌, length, option_map, IfOk, OnErr};
 ghost use Rattle.ft_session.specs.Buffers.{filled};
 ghost use Rattle.ft_session.specs.Parts.{names_in, blockers_in, bytes_in, reply_text};

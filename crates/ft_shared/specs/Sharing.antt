@@ -1,4 +1,4 @@
--- What a shared core keeps of what has happened.
+-- The events that a shared core keeps.
 use Rattle.std.specs.Prelude.{ℕ, List, [], drop, Option, Some, None}
 use Rattle.ft_core.specs.declared.request.Event.{Event}
 use Rattle.ft_core.specs.States.{State}

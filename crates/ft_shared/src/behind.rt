@@ -1,4 +1,4 @@
-// What stands behind the lock.
+// The value behind the lock.
 ghost use Rattle.std.specs.Prelude.{◌≡◌, true, length, cond, is_some, Some, None, IfSome, IfOk, IfErr, IsTrue, OnOk, OnErr};
 ghost use mathlib.Core.List.{IsPrefix};
 ghost use Rattle.ft_core.specs.declared.request.Request.TheVariants.{Begin, Sub, Ask, Retry, Drop as DropAsk, Commit};
@@ -182,7 +182,7 @@ impl<J: Sharing, C: Shareable> Behind<J, C> {
         ensures same { OnErr result (self.new.published ≡ self.old.published) }
         ensures fault { IfErr result (λ fault. fault ≡ fault_of_publish J.origin.shown) }
 
-        // What has happened is forgotten then, if the core ever forgets.
+        // The events are forgotten then, if the core ever forgets.
         ensures forgotten { OnOk result (self.new.forgotten ≡ cond C.forgets (Some (length self.old.core.state.events)) self.old.forgotten) }
     {
         let Some(publisher) = &mut self.publisher else {

@@ -1,4 +1,4 @@
-// What job threads ask of the transactions that they share.
+// The requests of job threads to the transactions that they share.
 ghost use Rattle.std.specs.Prelude.{◌≤◌};
 ghost use Rattle.ft_core.specs.States.{State};
 
@@ -15,7 +15,7 @@ use std::time::Clock;
 /// No answer is promised to be true: the caller that takes a manager must find out for itself, when
 /// it has the core back. A manager may promise something of that core (`hands_back`).
 pub trait Manager: Sync {
-    // What holds of the state of the core that is handed back. By default nothing is said.
+    // A fact of the state of the core that is handed back. By default nothing is said.
     ghost hands_back: { State → Type 0 } = { λ _. Unit {0} };
 
     /// Begins a top-level transaction.

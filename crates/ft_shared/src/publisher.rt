@@ -1,4 +1,4 @@
-// What publishes the committed calls of a core.
+// The publisher of the committed calls of a core.
 ghost use Rattle.std.specs.Prelude.{◌≡◌, ◌++◌, ◌∷◌, [], drop, length, None, MatchBool, IfOk, IsSome, OnOk, OnErr};
 ghost use mathlib.Core.List.{IsPrefix};
 ghost use Rattle.ft_serial.specs.Serials.{committed_calls, committed_in};
@@ -222,8 +222,8 @@ impl<J: Naming> Publisher<J> {
         }
     }
 
-    /// Shows readers what the writer was given, which is whole. It waits for those that read the
-    /// other copy.
+    /// Shows readers the calls that the writer was given, which are whole transactions. It waits
+    /// for the readers of the other copy.
     fn show<R: Wait>(&mut self, rt: &R) -> Result<(), Memory>
         requires { J.shows self.old.fed }
         ensures others { (self.new.fed ≡ self.old.fed) × (self.new.commits ≡ self.old.commits) }

@@ -1,4 +1,4 @@
-// What threads may share.
+// Cores that threads may share.
 ghost use Rattle.std.specs.Prelude.{◌≡◌, ◌≤◌, ◌<◌, ◌+◌, ◌-◌, ◌^◌, ℕ, Bool, true, false, Option, Some, None, cond, length};
 ghost use Rattle.ft_tree.specs.Tidy.{tidy};
 ghost use Rattle.ft_forest.specs.declared.TheConstants.{LAST_NUMBER as last_number};
@@ -22,7 +22,7 @@ pub trait Shareable {
     // Its core.
     ghost stored: { Self → StoredState };
 
-    // How many events since its base it has forgotten; none where it keeps no events.
+    // How many events since its base it has forgotten; none if it keeps no events.
     ghost forgotten: { Self → Option ℕ };
 
     // Whether it forgets events when it is asked to.

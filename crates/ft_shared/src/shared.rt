@@ -155,7 +155,7 @@ impl<J: Sharing, C: Shareable> Shared<J, C> {
     {
         match call.copy(self.alloc) {
             Ok(copy) => self.ask(rt, txn, copy),
-            // Other refusals stand before lack of memory, and the core tells which.
+            // Other refusals come before Memory, and the core returns the right one.
             Err(Memory) => self.ask_copy(rt, txn, call),
         }
     }

@@ -1,4 +1,4 @@
-// What is shared, and the views of it, as proofs name them.
+// The shared state, and the views of it, as proofs name them.
 use ft_view::Naming;
 use std::marker::{Brand, PhantomData};
 

@@ -1,5 +1,5 @@
--- What is written for a line of a strict script, and whether the run goes on after it. (The format
--- is this project's own: docs/SCRIPT.md.)
+-- The text that is written for a line of a strict script, and whether the run goes on after it.
+-- (The format is this project's own: docs/SCRIPT.md.)
 use Rattle.std.specs.Prelude.{◌≡◌, ℕ, Bool, true, false, ◌||◌, List, [], ◌∷◌, ◌++◌, codes, take, drop, if◌then◌else◌, MatchBool, Option, None, Some}
 use Rattle.std.specs.Option.{option_map_or}
 use Rattle.std.specs.Str.{bytes_eq}
@@ -29,8 +29,8 @@ is_asking (line.Report report) = true
 abbrev pub tried_meaning : Line → Line
 tried_meaning meaning = if is_asking meaning then meaning else line.Bad
 
--- What a line of a strict script means: what it means without `--strict`, or, after `try `, what is
--- there.
+-- The meaning of a line of a strict script: its meaning without `--strict`, or, after `try `, that
+-- of the rest.
 abbrev pub strict_meaning_of : List ℕ → Line
 strict_meaning_of bytes = option_map_or (λ behind. tried_meaning (meaning_of behind)) (tried bytes) (meaning_of bytes)
 
@@ -38,15 +38,16 @@ strict_meaning_of bytes = option_map_or (λ behind. tried_meaning (meaning_of be
 abbrev pub may_fail : List ℕ → Bool
 may_fail bytes = option_map_or (λ behind. is_asking (meaning_of behind)) (tried bytes) false
 
--- What is written for a report, and whether it is told: a tree is not while a transaction is live.
+-- The text that is written for a report, and whether it is given: a tree is not while a transaction
+-- is live.
 abbrev pub Tells : Bool → State → Report → List ℕ → Type 0
 Tells well s Tree text = MatchBool (has_live s) ((well ≡ false) × (text ≡ codes "refused Live" ++ 10 ∷ [])) ((well ≡ true) × IsWholeReport s Tree text)
 Tells well s Locks text = (well ≡ true) × IsWholeReport s Locks text
 Tells well s Attributes text = (well ≡ true) × IsWholeReport s Attributes text
 Tells well s Waits text = (well ≡ true) × IsWholeReport s Waits text
 
--- What is written for a line that is carried out, whether it did what it requests, and the state
--- then.
+-- The text that is written for a line that is carried out, whether it did what it requests, and the
+-- state then.
 abbrev pub Does : Bool → State → Line → List ℕ → State → Type 0
 Does well old line.Silent text new = (well ≡ true) × (text ≡ []) × (new ≡ old)
 Does well old line.Bad text new = (well ≡ false) × (text ≡ codes "bad line" ++ 10 ∷ []) × (new ≡ old)

@@ -1,4 +1,4 @@
-// What a line of a strict script means.
+// The meaning of a line of a strict script.
 ghost use Rattle.std.specs.Prelude.{◌≡◌, IfOk, option_copied};
 ghost use Rattle.ft_strict.specs.Strict.{is_asking, may_fail, strict_meaning_of, tried};
 
@@ -43,7 +43,7 @@ pub(crate) fn strict_line_of(alloc: Global, line: &[u8]) -> Result<StrictLine, M
     })
 }
 
-// What stands after `try `, if a line begins so.
+// The text after `try `, if a line begins so.
 fn tried(line: &[u8]) -> Option<&[u8]>
     ensures { option_copied result ≡ tried line.now }
 {

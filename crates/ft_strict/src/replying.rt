@@ -37,7 +37,7 @@ pub fn strict_reply_to(alloc: Global, line: &[u8], core: &mut Core) -> Result<St
     })
 }
 
-// Carries out what a line asks for, and gives the text of its reply, and whether it did that.
+// Carries out the request of a line, and returns the text of its reply, and whether it did that.
 fn reply_to_meaning(alloc: Global, line: Line, core: &mut Core) -> Result<(String, bool), Memory>
     ensures ok { IfOk result (λ reply. Does reply.1 core.old.state line (string_bytes reply.0) core.new.state) }
     ensures err { OnErr result ((core.new.state ≡ core.old.state)
@@ -66,7 +66,7 @@ fn reply_to_request(
     Ok((text, is_well(&answer)))
 }
 
-// A report, and whether it is told: a tree is not while a transaction is live.
+// A report, and whether it is given: a tree is not while a transaction is live.
 fn reply_to_report(alloc: Global, report: Report, core: &Core) -> Result<(String, bool), Memory>
     ensures { IfOk result (λ reply. Tells reply.1 core.now.state report (string_bytes reply.0)) }
 {

@@ -1,4 +1,4 @@
-// Requests and the answers that they are to get, from whoever answers them.
+// Requests, and the answers that they are to get from a core, however it is reached.
 use ft_calls::{Call, Reply};
 use ft_core::{Answer, Core, Fault, Request, TxnId};
 use ft_path::{Errno, FilePath, Name};
@@ -176,7 +176,7 @@ fn are_names(names: &[(Name, Kind)], wanted: &[u8]) -> bool {
     all.copied().eq(wanted.iter().copied())
 }
 
-/// Whether a reply tells of such a thing, with this number, so many links and this size.
+/// Whether a reply describes such a thing, with this number, so many links and this size.
 fn is_info(reply: &Reply, wanted: Kind, numbers: [u64; 3]) -> bool {
     match reply {
         Reply::Info {
@@ -198,7 +198,7 @@ fn of_seconds(seconds: i64) -> Timestamp {
     }
 }
 
-/// Whether a reply tells of this mode, with owner and group 0, and of this time.
+/// Whether a reply has this mode, with owner and group 0, and this time.
 fn has_attributes(reply: &Reply, mode: Option<u16>, seconds: Option<i64>) -> bool {
     let wanted = mode.map(|mode| Attributes {
         mode,
@@ -265,7 +265,7 @@ fn is_answer(answer: &Answer, wanted: Wanted) -> bool {
     }
 }
 
-/// What answers requests.
+/// A receiver of requests.
 pub trait Answers {
     fn answer_to(&mut self, request: Request) -> Answer;
 }

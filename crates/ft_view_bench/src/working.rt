@@ -1,4 +1,4 @@
-// What is counted.
+// The work that is counted.
 ghost use Rattle.std.specs.Prelude.{◌≡◌};
 ghost use Rattle.ft_shared.specs.Opening.{named_by};
 

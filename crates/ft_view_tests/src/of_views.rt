@@ -1,4 +1,4 @@
-// Views of what has committed: what readers see before a publish and after it, beside one, and from
+// Views of what has committed: what readers see before a publish and after it, during one, and from
 // another base.
 ghost use Rattle.std.specs.Prelude.{◌≡◌};
 ghost use Rattle.ft_shared.specs.Opening.{named_by};
@@ -19,7 +19,7 @@ use std::test::Fail;
 use std::thread;
 use std::thread::Threads;
 
-/// What is done with the views of a core, and whether all is answered as it should be.
+/// The steps with the views of a core, and whether all is answered as it should be.
 trait Steps {
     fn take<J: Sharing, R: Wait>(
         &self,
@@ -408,7 +408,7 @@ fn publish_each<J: Sharing, R: Wait>(rt: &R, alloc: Global, shared: &Shared<J>) 
     true
 }
 
-/// How many calls a reader is told of, where the list has as many names.
+/// How many calls a reader sees, if the list has as many names.
 fn count<J: Sharing>(reader: &mut Reader<ViewsOf<J>>, path: &FilePath) -> Option<u64> {
     match &reader.list(path) {
         Ok((calls, Reply::Names(names))) if names.len() as u64 == *calls => Some(*calls),

@@ -1,4 +1,4 @@
--- How a walk stands. No public clause cites it.
+-- The state of a walk. No public clause cites it.
 use Rattle.std.specs.Prelude.{List}
 use Rattle.ft_waits.specs.declared.walk.Step.{Step}
 use Rattle.ft_waits.specs.declared.walk.Walk.{Walk}

@@ -15,7 +15,7 @@ HasEdge edges from to = Any (λ edge. (edge.from ≡ from) × (edge.to ≡ to)) 
 abbrev pub IsNamed : List Edge → ℕ → Type 0
 IsNamed edges txn = Any (λ edge. (edge.from ≡ txn) ⊎ (edge.to ≡ txn)) edges
 
--- the first of some transactions; where there is none, `to`
+-- the first of some transactions; if there is none, `to`
 abbrev pub first_or : List ℕ → ℕ → ℕ
 first_or [] to = to
 first_or (txn ∷ others) to = txn

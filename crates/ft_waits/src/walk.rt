@@ -65,7 +65,7 @@ impl<'a> Walk<'a> {
         ensures at_rest { IfOk result (λ walk. walk.path.items ≡ []) }
     {
         let unseen = txns_named(alloc, edges)?;
-        // No transaction stands on the path twice.
+        // No transaction is on the path twice.
         let path = Vec::with_capacity(alloc, unseen.len())?;
         Ok(Walk {
             alloc,

@@ -1,4 +1,4 @@
--- What a request through a handle came to.
+-- The outcome of a request through a handle.
 use Rattle.std.specs.Prelude.{◌≡◌, ◌⊎◌, ◌||◌, ◌==◌, ℕ, ℤ, Bool, true, false, cond, List, Option, Some, None, Result, Ok, Err, suc, zero}
 use Rattle.ft_path.specs.Name.{has_nul}
 use Rattle.ft_cells.specs.declared.attributes.Timestamp.{Timestamp}
@@ -26,7 +26,7 @@ abbrev pub IsAsked : Option Session → Request → Told → Option Session → 
 IsAsked None request told new = (told ≡ closed) × (new ≡ None)
 IsAsked (Some old) request told new = (session : Session) × (answer : Answer) × (new ≡ Some session) × HasAnswered old request answer session × (told ≡ told_of_answer answer)
 
--- what the tree behind a handle allows
+-- the limits of the tree of a handle
 abbrev pub limits_of : Option Session → TreeLimits
 limits_of None = default_limits
 limits_of (Some session) = limits_in session.core.state

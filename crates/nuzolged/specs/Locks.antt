@@ -1,4 +1,4 @@
--- What is told of the locks of a transaction.
+-- The answer about the locks of a transaction.
 use Rattle.std.specs.Prelude.{◌≡◌, ◌⊎◌, ◌==◌, ℕ, List, [], ◌∷◌, ◌++◌, filter, length, Option, Some, None}
 use Rattle.ft_moss.specs.declared.line.LockLine.{LockLine}
 use Rattle.ft_core.specs.States.{State}

@@ -1,4 +1,4 @@
--- What an opened handle holds.
+-- The contents of an opened handle.
 use Rattle.std.specs.Prelude.{◌≡◌, ◌⊎◌, ◌==◌, ◌&&◌, ℕ, Bool, cond, true, List, [], Option, Some, None, suc, zero, slice_index}
 use Rattle.ft_moss.specs.declared.rule.Rule.{Rule}
 use Rattle.ft_moss.specs.declared.rule.Rule.TheVariants.{Profile, Moss}

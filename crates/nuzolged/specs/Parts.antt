@@ -1,4 +1,4 @@
--- What is told of the parts of the last answer.
+-- The parts of the last answer.
 use Rattle.std.specs.Prelude.{ℕ, List, length, Option, Some, None, slice_get}
 use Rattle.ft_cells.specs.declared.node.Kind.{Kind}
 use Rattle.ft_posix.specs.declared.call.Reply.{Reply}
@@ -72,7 +72,7 @@ abbrev pub data_answered : Answer → Option (List ℕ)
 data_answered (Granted stamp reply) = data_of reply
 data_answered other = None
 
--- the same of what the last request came to
+-- the same of the outcome of the last request
 abbrev pub data_in : Last → Option (List ℕ)
 data_in (last.Answer answer) = data_answered answer
 data_in (last.Text text) = None

@@ -1,4 +1,4 @@
-// What C is told.
+// Answers in C.
 ghost use Rattle.std.specs.Prelude.{◌≡◌};
 ghost use Rattle.nuzolged.specs.Answers.{IsTold, IsToldWith, first_blockers, first_of, blocker_or_none};
 

@@ -1,4 +1,4 @@
-// What a tree allows, as C gives it.
+// The limits of a tree, as C gives them.
 ghost use Rattle.std.specs.Prelude.{◌≡◌};
 ghost use Rattle.nuzolged.specs.Opened.{is_zero, limits_given};
 

@@ -83,7 +83,7 @@ pub(crate) fn copy_data(alloc: Global, tree: &mut Handle, buffer: &mut [u8]) -> 
     }
 }
 
-// Copies a name of the list, and tells of it.
+// Copies a name of the list, and returns its kind and its length.
 fn copy_name(alloc: Global, tree: &mut Handle, index: usize, buffer: &mut [u8]) -> Told
     ensures same { tree.new.session ≡ tree.old.session }
     ensures told { result ≡ name_told tree.old.session index }

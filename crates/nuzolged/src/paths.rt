@@ -278,7 +278,7 @@ pub extern "C" fn nuz_open(
     tell(alloc, tree, told, answer)
 }
 
-// What is read of a path into a buffer.
+// A kind of read of a path into a buffer.
 #[derive(Clone, Copy, Debug, PartialEq, Eq)]
 enum Reads {
     // The names of a directory.

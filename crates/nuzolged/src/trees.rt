@@ -81,7 +81,7 @@ fn open(alloc: Global, tree: &mut TreePointer, options: u32, limits: Option<Core
     }
 }
 
-// A handle of a new tree; else the code that says why there is none.
+// A handle of a new tree; else the code of the reason why there is none.
 fn new_tree(alloc: Global, options: u32, limits: Option<CoreLimits>) -> Result<Box<Handle>, u32>
     ensures new { IfOk result (λ handle. IsOpened (rule_of options) limits 0 (Some handle.value)) }
     ensures refused { IfErr result (λ code. IsOpened (rule_of options) limits code None) }

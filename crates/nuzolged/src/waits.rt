@@ -89,7 +89,7 @@ fn tell_blockers(core: &Core, txn: TxnId, txns: &mut [u64]) -> Told
     }
 }
 
-// The transactions in the way of one, in a list of all that wait; none if it does not.
+// The blockers of a transaction, in a list of all that wait; none if it does not.
 fn blockers_listed<'a>(waits: &'a [Pending], txn: TxnId) -> &'a [TxnId]
     ensures { result.now ≡ blockers_listed waits.now txn }
 {
