@@ -333,7 +333,7 @@ fn bare<'a>(alloc: Global) -> Command<'a>
     ensures { app_of result ≡ bare }
 {
     Command::new(alloc, "ft_run")
-        .about("Runs scripts of transactions on a tree of directories")
+        .about("Runs transaction scripts on an in-memory file tree")
         .version(VERSION)
         .no_binary_name(true)
         .subcommand_required(true)
@@ -359,7 +359,7 @@ fn dot_command<'a>(alloc: Global) -> Result<Command<'a>, AllocError>
     ensures local { IfOk result HasNoGlobals }
 {
     let command = Command::new(alloc, "dot").about(
-        "Draws who waits for whom: the last report among replies, in the DOT language",
+        "Writes the last waits-for report as a Graphviz graph",
     );
     with_limits(alloc, command)
 }
@@ -370,7 +370,7 @@ fn load_command<'a>(alloc: Global) -> Result<Command<'a>, AllocError>
     ensures local { IfOk result HasNoGlobals }
 {
     let command = Command::new(alloc, "load")
-        .about("Writes a script that makes what a directory holds")
+        .about("Writes a script that makes the contents of a directory")
         .arg(dir_arg(alloc))?
         .arg(skip_arg(alloc))?
         .arg(check_arg(alloc))?
@@ -385,7 +385,7 @@ fn save_command<'a>(alloc: Global) -> Result<Command<'a>, AllocError>
     ensures local { IfOk result HasNoGlobals }
 {
     let command = Command::new(alloc, "save")
-        .about("Makes a directory of the tree with which replies end")
+        .about("Makes a directory from the tree at the end of replies")
         .arg(dir_arg(alloc))?
         .arg(set_id_arg(alloc))?
         .arg(no_owners_arg(alloc))?
@@ -399,7 +399,7 @@ fn jobs_command<'a>(alloc: Global) -> Result<Command<'a>, AllocError>
     ensures local { IfOk result HasNoGlobals }
 {
     let command = Command::new(alloc, "jobs")
-        .about("Runs the jobs of a plan in threads, and prints what they came to")
+        .about("Runs the jobs of a plan in threads, and prints the outcome")
         .arg(file_arg(alloc))?
         .arg(turns_arg(alloc))?
         .arg(quiet_arg(alloc))?
@@ -428,7 +428,7 @@ fn skip_arg<'a>(alloc: Global) -> Arg<'a>
     Arg::new(alloc, "skip")
         .long("skip")
         .action(ArgAction::SetTrue)
-        .help("Leave out what can't be loaded, tell of it, and end with status 3")
+        .help("Leave out what can't be loaded, list it, and end with status 3")
 }
 
 // The flag that only lists what can't be loaded.
@@ -461,7 +461,7 @@ fn no_owners_arg<'a>(alloc: Global) -> Arg<'a>
     Arg::new(alloc, "no-owners")
         .long("no-owners")
         .action(ArgAction::SetTrue)
-        .help("Set no owners and no groups, which else the superuser sets")
+        .help("Do not set owners and groups, even as the superuser")
 }
 
 // The flag that ends a run at the first line that does not do what it requests.
@@ -472,7 +472,7 @@ fn strict_arg<'a>(alloc: Global) -> Arg<'a>
     Arg::new(alloc, "strict")
         .long("strict")
         .action(ArgAction::SetTrue)
-        .help("End with status 3 at the first line that does not do what it asks for")
+        .help("End with status 3 at the first line that is invalid, refused, fails or waits")
 }
 
 // The script that is played first.
@@ -483,7 +483,7 @@ fn after_arg<'a>(alloc: Global) -> Arg<'a>
     Arg::new(alloc, "after")
         .long("after")
         .value_name("FILE")
-        .help("A script that is played first, without its replies")
+        .help("Play this script first, without printing its replies")
 }
 
 // The plan of it.
@@ -507,7 +507,7 @@ fn turns_arg<'a>(alloc: Global) -> Arg<'a>
         .value_name("N")
         .value_parser(ValueParser::unsigned(1, MOST_TURNS))
         .default_value("10000")
-        .help("How often a call that waits asks at most")
+        .help("Maximum number of attempts per blocked call")
 }
 
 // How many threads run jobs at most.
@@ -520,7 +520,7 @@ fn threads_arg<'a>(alloc: Global) -> Arg<'a>
         .value_name("N")
         .value_parser(ValueParser::unsigned(1, MOST_THREADS))
         .default_value("64")
-        .help("How many threads run the jobs at most")
+        .help("Maximum number of threads that run jobs")
 }
 
 // The flag that leaves out how far it has come.
@@ -531,7 +531,7 @@ fn quiet_arg<'a>(alloc: Global) -> Arg<'a>
     Arg::new(alloc, "quiet")
         .long("quiet")
         .action(ArgAction::SetTrue)
-        .help("Don't show on a terminal how far it has come")
+        .help("Do not show progress")
 }
 
 // The flag that requests Moss's rule for holders.
@@ -542,7 +542,7 @@ fn moss_arg<'a>(alloc: Global) -> Arg<'a>
     Arg::new(alloc, "moss")
         .long("moss")
         .action(ArgAction::SetTrue)
-        .help("Let a lock that a parent holds be in its children's way too")
+        .help("Also block calls on locks that an ancestor holds (Moss's stricter rule)")
 }
 
 // The choice if the words could not be read.

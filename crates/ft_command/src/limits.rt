@@ -79,7 +79,7 @@ impl Flag {
     /// The values that it may have.
     pub(crate) fn values(self) -> &'static str {
         match self {
-            Flag::LargestFile => "a number of bytes up to 2^47, with K, M or G behind it",
+            Flag::LargestFile => "a number of bytes up to 2^47, with or without K, M or G",
             Flag::MostCalls | Flag::MostTransactions => "a number up to 2^62",
             Flag::Deepest => "a number up to 4096",
         }
@@ -125,22 +125,22 @@ pub(crate) fn with_limits<'a>(
         .arg(limit_arg(
             alloc,
             Flag::LargestFile,
-            "How many bytes a file may have, as 3G, or none",
+            "Maximum bytes of a file, such as 3G, or none",
         ))?
         .arg(limit_arg(
             alloc,
             Flag::MostCalls,
-            "How many calls are granted, or none",
+            "Maximum number of granted calls, or none",
         ))?
         .arg(limit_arg(
             alloc,
             Flag::MostTransactions,
-            "How many transactions begin, or none",
+            "Maximum number of transactions, or none",
         ))?
         .arg(limit_arg(
             alloc,
             Flag::Deepest,
-            "How deep a transaction may stand, or none",
+            "Maximum depth of nested transactions, or none",
         ))
 }
 
