@@ -380,8 +380,8 @@ class Calls:
             encoding: For a text; UTF-8 if none is given.
             errors: For a text, as of Python's `open`.
             newline: For a text, as of Python's `open`.
-            permissions: Those of a file that is made (`mode` of `os.open`), 0o644 if none are given;
-                there is no umask. An existing file keeps its own.
+            permissions: Those of a file that is made (`mode` of `os.open`): 0o644 if none are
+                given. There is no umask. An existing file keeps its own.
 
         Raises:
             FileNotFoundError, FileExistsError, IsADirectoryError: As of Python's `open`.

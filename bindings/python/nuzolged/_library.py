@@ -38,14 +38,14 @@ CLOSED = 1200
 
 #: The refusals 1001 and on, by the names that a script has for them (docs/SCRIPT.md).
 REFUSALS = {
-    "Memory": "there is no memory",
+    "Memory": "there is not enough memory",
     "NoTxn": "there is no such transaction",
     "Ended": "the transaction has ended",
     "ChildLive": "the transaction has a live step",
     "NothingToUndo": "there is no call to undo",
     "SubSince": "a step has committed since the last call",
-    "Full": "all transactions or calls are used up",
-    "Deep": "the transaction is too deep",
+    "Full": "the limit on transactions or calls is reached",
+    "Deep": "the transaction is at the greatest depth",
     "Live": "a transaction is live",
     "NoAsk": "the transaction waits for no call",
 }
@@ -71,8 +71,8 @@ class Limits(ctypes.Structure):
 
 
 class Numbers(NamedTuple):
-    """The numbers of an answer: the members of `nuz_answer`, each in its place, up to the length of a
-    reply."""
+    """The numbers of an answer: the members of `nuz_answer`, each in its place, up to the length of
+    a reply."""
 
     code: int
     kind: int = 0
@@ -171,9 +171,9 @@ def signed(number: int) -> int:
 
 
 def _places() -> Iterator[str]:
-    """The places where the library may be: the file that NUZOLGED_LIBRARY names; this package, as in
-    a wheel; the folder into which `make` builds it; the lib folder of the place where this package
-    was installed; and else the places where the system looks for libraries."""
+    """The places where the library may be: the file that NUZOLGED_LIBRARY names; this package, as
+    in a wheel; the folder into which `make` builds it; the lib folder of the place where this
+    package was installed; and else the places where the system looks for libraries."""
     named = os.environ.get("NUZOLGED_LIBRARY")
     if named:
         yield named

@@ -160,7 +160,8 @@ class Session:
         self._held.pop(number, None)
 
     def _abort_unknown(self) -> None:
-        """Aborts the transaction that the last request began, if an interrupt has lost its number."""
+        """Aborts the transaction that the last request began, if an interrupt has lost its
+        number."""
         words = self._text().split()
         if words[:1] == [b"txn"] and int(words[1]) > self.newest:
             self.newest = int(words[1])
@@ -282,8 +283,8 @@ class Session:
             self.try_once(("nuz_abort", (held.number,)))
 
     def try_once(self, request: Request) -> bool:
-        """Makes a request whose answer nobody needs. Returns False if it may succeed when it is made
-        again."""
+        """Makes a request whose answer nobody needs. Returns False if it may succeed when it is
+        made again."""
         function, args = request
         with self.lock:
             code: int = getattr(self._library, function)(*args).code

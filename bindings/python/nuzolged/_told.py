@@ -122,8 +122,8 @@ class Entry(Generic[Name]):
         return self.path
 
     def is_dir(self, *, follow_symlinks: bool = True) -> bool:
-        """Whether it was a directory when the names were listed, or, if symbolic links are followed,
-        a symbolic link that leads to one now."""
+        """Whether it was a directory when the names were listed, or, if symbolic links are
+        followed, a symbolic link that leads to one now."""
         if self.is_symlink() and follow_symlinks:
             return self._calls.isdir(self.path)
         return self._kind == DIR

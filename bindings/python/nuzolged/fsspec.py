@@ -1,5 +1,5 @@
-"""fsspec: a file system over a transaction. `with fs.transaction:` is a step. If an exception leaves
-it, the step undoes everything, even `mkdir`, `mv` and `rm`.
+"""fsspec: a file system over a transaction. `with fs.transaction:` is a step. If an exception
+leaves it, the step undoes everything, even `mkdir`, `mv` and `rm`.
 
     fs = fsspec.filesystem("nuzolged", transaction=job)
     fsspec.open("nuzolged:///out/log", "wb", transaction=job)
