@@ -400,7 +400,7 @@ uint32_t nuz_touched(nuz_tree *tree, uint64_t txn, nuz_touched_each *each, void 
     return code;
 }
 
-/* Answers a text, which this takes, and copies as much of it as has room. */
+/* Fills in an answer with a text, which this takes, and copies as much of it as has room. */
 static uint32_t answered_text(nuz_answer *answer, uint32_t code, size_t number, text *text,
                               void *buffer, size_t room) {
     size_t size = code == 0 ? text->len : 0, copied = size < room ? size : room;

@@ -37,7 +37,7 @@ static bool count_of(const char *word, long *count) {
 
 /* ---- options */
 
-/* What the words behind a command say: options, of which it takes some, and others. */
+/* The words after a command: options, of which it takes some, and others. */
 struct said {
     const struct command *command;
     struct run run;
@@ -46,8 +46,8 @@ struct said {
     int count;
 };
 
-/* A command: what it does, which options it takes, how many words it has to have beside them (run:
- * at least one), and what its help says. */
+/* A command: its function, the options that it takes, how many other words it must have (run: at
+ * least one), and its help text. */
 struct command {
     const char *word;
     int (*act)(struct said *said);
@@ -66,7 +66,7 @@ static void refuse(struct said *said, const char *what, const char *word) {
     said->is_bad = true;
 }
 
-/* How many words `nuz run` has to have. */
+/* How many words `nuz run` must have. */
 enum { AT_LEAST_ONE = -1 };
 
 enum {

@@ -47,7 +47,7 @@ static void put(struct table *table, struct link *link) {
     *slot = link;
 }
 
-/* Puts all things of a place where they go. */
+/* Puts all things of a place into their new places. */
 static void put_all(struct table *table, struct link *link) {
     while (link != NULL) {
         struct link *next = link->next;

@@ -44,7 +44,7 @@ static bool has_mount(const char *path) {
     return each != NULL;
 }
 
-/* Whether a directory has nothing in it, or else errno tells why not. */
+/* Whether a directory has nothing in it; if not, errno says why. */
 static bool is_empty(const char *path) {
     struct dirent **names = NULL;
     int count = scandir(path, &names, NULL, NULL);
