@@ -142,7 +142,7 @@ char *reply_of(int control, size_t *size) {
 void complain_of(int control, int number, const char *word, const char *path) {
     size_t size = 0;
     char *text = control < 0 ? NULL : reply_of(control, &size);
-    const char *said = number == EMEDIUMTYPE ? "there is no mount of nuz" : strerror(number);
+    const char *said = number == EMEDIUMTYPE ? "not a nuz mount" : strerror(number);
     complain("%s %s: %s", word, path, size > 0 && text != NULL ? text : said);
     free(text);
 }
@@ -153,7 +153,7 @@ int ask_about(const char *word, const char *path) {
     int control = place_of(path, &place) ? control_of_mount(place.dir) : -1;
     int number = control < 0 ? errno : ask(control, word, place.name, NULL);
     if (number == EMEDIUMTYPE) {
-        complain("%s %s: this is no DIR/NAME of a mount of nuz", word, path);
+        complain("%s %s: not DIR/NAME of a nuz mount", word, path);
     } else if (number != 0) {
         complain_of(control, number, word, path);
     }

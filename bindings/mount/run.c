@@ -67,7 +67,7 @@ static bool find_parent(struct job *job) {
         is_found = true;
     }
     if (!is_found) {
-        complain("run: this is no directory of a mount: say --in, or --from and --to");
+        complain("run: the current directory is not in a mount: give --in, or --from and --to");
     }
     return is_found;
 }
@@ -76,7 +76,7 @@ static bool find_parent(struct job *job) {
 static bool find_named(struct job *job) {
     struct place place;
     if (!place_of(job->run->in, &place)) {
-        complain("run %s: this is no DIR/STEP of a mount of nuz", job->run->in);
+        complain("run %s: not DIR/STEP of a nuz mount", job->run->in);
         place_free(&place);
         return false;
     }
@@ -92,9 +92,9 @@ static bool find_named(struct job *job) {
 /* Says why a step could not begin. */
 static void fails_to_begin(const struct job *job, int number) {
     if (number == EEXIST) {
-        complain("run %s: a transaction has that name, and --in names a new one", job->path);
+        complain("run %s: a transaction has that name, and --in needs a new name", job->path);
     } else if (number == EMEDIUMTYPE) {
-        complain("run %s: this is no DIR/STEP of a mount of nuz", job->path);
+        complain("run %s: not DIR/STEP of a nuz mount", job->path);
     } else {
         complain_of(job->control, number, "run", job->path);
     }
@@ -141,7 +141,7 @@ static bool can_bind(const struct job *job) {
         return true;
     }
     complain("run: --at %s: %s", job->at,
-             strcmp(job->at, "/") == 0 ? "nothing can be in the place of the root"
+             strcmp(job->at, "/") == 0 ? "nothing can take the place of the root"
                                        : "the mount of the step is in this directory");
     return false;
 }
@@ -225,7 +225,7 @@ static int commit(struct job *job) {
     struct texts texts = { 0 };
     int status = make_texts(job, &texts) && commit_and_save(job) ? 0 : RUN_FAILED;
     if (status == 0 && !write_texts(job->run, &texts)) {
-        complain("run %s: the step is committed%s all the same", job->path,
+        complain("run %s: the step is committed%s even so", job->path,
                  job->run->to == NULL ? "" : ", and saved,");
         status = NOT_TOLD;
     }
@@ -258,7 +258,7 @@ static void abort_step(struct job *job) {
 
 /* Says that a step is broken, and what comes of that. */
 static void tell_broken(const struct job *job, bool runs_again) {
-    complain("run %s: a call has failed with EDEADLK, so that steps do not wait for each other or "
+    complain("run %s: a call has failed with EDEADLK, because steps would wait for each other or "
              "for too long; the step is aborted, and %s", job->path,
              runs_again ? "the command runs again" : "can be run again, as with --retries");
 }

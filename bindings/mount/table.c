@@ -6,7 +6,7 @@
 /* Ends the mount: what it has noted of the tree would not be true without this memory. */
 static void *memory_or_end(void *at) {
     if (at == NULL) {
-        fprintf(stderr, "nuz: no memory\n");
+        fprintf(stderr, "nuz: out of memory\n");
         abort();
     }
     return at;
