@@ -209,7 +209,8 @@ static int act_run(struct said *said) {
     const struct run *asked = &said->run;
     bool is_own = asked->from != NULL || asked->to != NULL;
     if (is_own && asked->in != NULL) {
-        refuse(said, "--in is for an existing mount, --from and --to are for a mount of its own", "");
+        refuse(said, "--in is for an existing mount, --from and --to are for a mount of its "
+                     "own", "");
     } else if (!is_own && (asked->own.has_limit || asked->own.is_moss || asked->own.is_for_all)) {
         refuse(said, "--wait, --moss and --allow-other need a mount of its own, with --from or "
                      "--to", "");
@@ -278,7 +279,8 @@ static const struct command commands[] = {
     { "undo", act_about, 0, 1, "nuz undo DIR/NAME\n",
       "Undoes the last change of a step that is not undone yet.\n" },
     { "steps", act_steps, MAY(DOT), 1, "nuz steps [--dot] DIR\n",
-      "Lists the live transactions, how many calls each has made, and which ones wait for which.\n"
+      "Lists the live transactions, how many calls each has made, and which ones wait for\n"
+      "which.\n"
       "  --dot  writes the waits-for graph, for Graphviz\n" },
     { "save", act_save, MAY(REPLACE), 2, "nuz save [--replace] DIR/NAME TO\n",
       "Copies what NAME (usually job) shows to the directory TO, all or nothing. TO must be\n"
