@@ -76,7 +76,7 @@ def are_default(kind, info):
 
 
 def tail(kind, info):
-    """The end of a stat's reply, after the size: nothing for a link: its attributes are not kept."""
+    """The end of a stat's reply, after the size: nothing for a link, which keeps none."""
     is_left = kind == "link" or are_default(kind, info)
     return "" if is_left else f" attributes {told(info)}"
 

@@ -1,4 +1,4 @@
-"""Directories that somebody else changes while they are loaded: something comes in the place of what
+"""Directories that somebody else changes while they are loaded: something replaces the thing that
 was found, right before each call of the program in turn, for good and for that call alone.
 
 Nothing outside the directory may come into the script, and no file, directory or link
