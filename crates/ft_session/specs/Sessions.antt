@@ -1,4 +1,4 @@
--- What a request leaves of a session.
+-- The session after a request.
 use Rattle.std.specs.Prelude.{◌≡◌, ◌⊎◌, ℕ, List, []}
 use Rattle.ft_core.specs.declared.request.Request.{Request}
 use Rattle.ft_core.specs.declared.request.Answer.{Answer}
@@ -13,12 +13,12 @@ use Rattle.ft_session.specs.declared.session.Session.{Session}
 abbrev pub HasAnswered : Session → Request → Answer → Session → Type 0
 HasAnswered old request answer new = IsStep exact_rule old.core.state request answer new.core.state × (new.last ≡ last.Answer answer)
 
--- the state of the core and what the last request came to are as they were
+-- the state of the core and the outcome of the last request are as they were
 abbrev pub IsSame : Session → Session → Type 0
 IsSame old new = (new.core.state ≡ old.core.state) × (new.last ≡ old.last)
 
--- What a line leaves that was carried out: a request, as that; a report has its text kept, and
--- one that asks for nothing an empty text.
+-- The session after a line that was carried out: a request, as that; a report has its text kept,
+-- and a line that is not a valid request an empty text.
 abbrev pub IsCarriedOut : Session → Line → Session → Type 0
 IsCarriedOut old (line.Request request) new = (answer : Answer) × HasAnswered old request answer new
 IsCarriedOut old (line.Report report) new = (text : List ℕ) × IsReport old.core.state report text × (new.core.state ≡ old.core.state) × (new.last ≡ last.Text text)

@@ -21,7 +21,7 @@ use std::alloc::Global;
 pub enum LineFault {
     /// There was no memory left.
     Memory,
-    /// It asks for nothing that there is.
+    /// It is not a valid request.
     Bad,
 }
 
@@ -55,15 +55,15 @@ impl Session {
         }
     }
 
-    /// Carries out a request. What a commit or an abort has let go is swept, where it is not
-    /// refused.
+    /// Carries out a request. After a commit or an abort that is not refused, what it has released
+    /// is swept.
     pub fn ask(&mut self, request: Request)
         ensures { (answer : AnswerOf) × HasAnswered self.old request answer self.new }
     {
         self.last = Last::Answer(carry_out(&mut self.core, request));
     }
 
-    /// Makes the tree as it stands the base, as that request does. Takes no memory.
+    /// Makes the present tree the base, as that request does. Takes no memory.
     pub fn checkpoint(&mut self)
         ensures asked { (answer : AnswerOf) × HasAnswered self.old Checkpoint answer self.new }
         ensures live { (self.new.last ≡ Last.Answer Cleared) ⊎ (self.new.last ≡ Last.Answer (Refused LiveFault)) }
@@ -75,7 +75,7 @@ impl Session {
         self.last = Last::Answer(answer);
     }
 
-    /// Answers a call in a transaction that is not made, for want of memory. It is refused as the
+    /// Answers a call in a transaction that is not made, for lack of memory. It is refused as the
     /// core refuses each call there, and else Memory.
     pub fn refuse_ask(&mut self, txn: TxnId)
         ensures { (call : CallOf) → (answer : AnswerOf) × HasAnswered self.old (Ask txn call) answer self.new }
@@ -85,8 +85,8 @@ impl Session {
 
     /// Carries out one line of a script, without its line feed.
     ///
-    /// Refuses a line that asks for nothing that there is. Else it fails only for want of memory:
-    /// for the words of the line, or for the text of a report.
+    /// Refuses a line that is not a valid request. Else it fails only for lack of memory: for the
+    /// words of the line, or for the text of a report.
     pub fn request(&mut self, alloc: Global, line: &[u8]) -> Result<(), LineFault>
         ensures ok { OnOk result (IsCarriedOut self.old (meaning_of line.now) self.new) }
         ensures bad { IfErr result (λ fault. fault ≡ LineFault.Bad → meaning_of line.now ≡ BadLine) }
@@ -113,7 +113,7 @@ impl Session {
     }
 }
 
-// What a call in a transaction is refused for which there is no memory.
+// The refusal of a call in a transaction for which there is no memory.
 fn refusal(core: &Core, txn: TxnId) -> Fault
     ensures { (call : CallOf) → IsStep exact_rule core.now.state (Ask txn call) (Refused result) core.now.state }
 {

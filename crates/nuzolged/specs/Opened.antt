@@ -1,4 +1,4 @@
--- What an opened handle holds.
+-- The contents of an opened handle.
 use Rattle.std.specs.Prelude.{◌≡◌, ◌⊎◌, ◌==◌, ◌&&◌, ℕ, Bool, cond, true, List, [], Option, Some, None, suc, zero, slice_index}
 use Rattle.ft_moss.specs.declared.rule.Rule.{Rule}
 use Rattle.ft_moss.specs.declared.rule.Rule.TheVariants.{Profile, Moss}
@@ -19,7 +19,7 @@ rule_of zero = Some Profile
 rule_of (suc zero) = Some Moss
 rule_of (suc (suc number)) = None
 
--- the limits that C gives but for those that are reserved
+-- the limits that C gives except those that are reserved
 abbrev pub plain_limits : Limits → CoreLimits
 plain_limits limits = record {
   file_size = limits.file_size;
@@ -33,7 +33,7 @@ plain_limits limits = record {
 abbrev pub is_zero : List ℕ → Bool
 is_zero reserved = slice_index reserved 0 == 0 && slice_index reserved 1 == 0 && slice_index reserved 2 == 0
 
--- the limits that C gives, as a core has them; none where a reserved one is not 0, which no core has
+-- the limits that C gives, as a core has them; none if a reserved one is not 0, which no core has
 abbrev pub limits_given : Limits → Option CoreLimits
 limits_given limits = cond (is_zero limits.reserved) (Some (plain_limits limits)) None
 

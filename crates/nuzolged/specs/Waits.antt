@@ -1,4 +1,4 @@
--- What is told of who waits for whom.
+-- The answer about which transaction waits for which.
 use Rattle.std.specs.Prelude.{◌≡◌, ◌⊎◌, ◌==◌, ℕ, cond, List, [], ◌∷◌, length, Option, Some, None, MatchOption}
 use Rattle.std.specs.FinMap as finite
 use Rattle.ft_posix.specs.declared.call.Call.{Call}
@@ -17,7 +17,7 @@ use Rattle.ft_session.specs.declared.session.Session.{Session}
 use Rattle.nuzolged.specs.declared.told.Told.{Told}
 use Rattle.nuzolged.specs.Numbers.{told as told_with, no_memory, closed, fault_number}
 
--- it is told how many transactions there are, and as many as have room are copied
+-- the answer has how many transactions there are, and as many as have room are copied
 abbrev pub AreTold : List ℕ → Told → List ℕ → List ℕ → Type 0
 AreTold txns told before after = (told ≡ told_with 0 0 (length txns)) × (after ≡ filled txns before)
 
@@ -25,13 +25,12 @@ AreTold txns told before after = (told ≡ told_with 0 0 (length txns)) × (afte
 abbrev pub IsToldAlone : Told → Told → List ℕ → List ℕ → Type 0
 IsToldAlone this told before after = (told ≡ this) × (after ≡ before)
 
--- the transactions in the way of one, in a list of all that wait; none where it does not
+-- the blockers of a transaction, in a list of all that wait; none if it does not
 abbrev pub blockers_listed : List Pending → ℕ → List ℕ
 blockers_listed [] txn = []
 blockers_listed (wait ∷ waits) txn = cond (txn == wait.txn) wait.blockers.items (blockers_listed waits txn)
 
--- The transactions in the way of the call that a transaction waits for are told; or there was no
--- memory.
+-- The blockers of the call that a transaction waits for are copied; or there was no memory.
 abbrev pub AreBlockers : State → ℕ → Told → List ℕ → List ℕ → Type 0
 AreBlockers s txn told before after =
     ((call : Call) × (finite.get s.asks txn ≡ Some call) × AreTold (blockers_now s txn call) told before after) ⊎ IsToldAlone no_memory told before after
@@ -51,7 +50,8 @@ abbrev pub members_of : Verdict → List ℕ
 members_of (Cycle members) = members
 members_of (Ranked ranks) = []
 
--- The cycle is told of a verdict on just the waits-for edges of the state; or there was no memory.
+-- The cycle is that of a verdict on exactly the waits-for edges of the state; or there was no
+-- memory.
 abbrev pub HasCycle : State → Told → List ℕ → List ℕ → Type 0
 HasCycle s told before after =
     ((edges : List Edge) × (verdict : Verdict) × AreEdgesOf s edges × IsVerdict edges verdict × AreTold (members_of verdict) told before after) ⊎ IsToldAlone no_memory told before after

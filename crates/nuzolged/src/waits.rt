@@ -11,8 +11,8 @@ use ft_core::{Core, Pending, TxnId};
 use ft_waits::{Verdict, judged_edges};
 use std::alloc::Global;
 
-/// The transactions for which a transaction waits now: how many there are is told, and as many as
-/// have room are copied.
+/// Copies the transactions for which a transaction waits now. The answer holds how many there are,
+/// and as many as have room are copied.
 #[unsafe(no_mangle)]
 pub extern "C" fn nuz_blockers(
     alloc: Global,
@@ -29,8 +29,8 @@ pub extern "C" fn nuz_blockers(
     tell(alloc, tree, told, answer)
 }
 
-/// The transactions of a deadlock, if there is one: how many there are is told, and as many as have
-/// room are copied.
+/// Copies the transactions of a deadlock, if there is one. The answer holds how many there are, and
+/// as many as have room are copied.
 #[unsafe(no_mangle)]
 pub extern "C" fn nuz_cycle(
     alloc: Global,
@@ -89,7 +89,7 @@ fn tell_blockers(core: &Core, txn: TxnId, txns: &mut [u64]) -> Told
     }
 }
 
-// The transactions in the way of one, in a list of all that wait; none where it does not.
+// The blockers of a transaction, in a list of all that wait; none if it does not.
 fn blockers_listed<'a>(waits: &'a [Pending], txn: TxnId) -> &'a [TxnId]
     ensures { result.now ≡ blockers_listed waits.now txn }
 {
@@ -121,7 +121,7 @@ fn members_of(verdict: &Verdict) -> &[TxnId]
     }
 }
 
-// Copies the numbers of transactions, as many as have room, and tells how many there are.
+// Copies the numbers of transactions, as many as have room, and returns how many there are.
 fn tell_txns(list: &[TxnId], txns: &mut [u64]) -> Told
     ensures { AreTold list.now result txns.old txns.new }
 {
