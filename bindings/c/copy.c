@@ -1,11 +1,11 @@
 /* copy [--set-id] [--replace] [--sync] FROM TO: copies a directory of the disk into a tree, in a
- * transaction, and what has committed out of it to another. */
+ * transaction, and copies what has committed out to another directory. */
 #include <nuzolged_copy.h>
 
 #include <stdio.h>
 #include <stdlib.h>
 
-/* Copies in, and commits; or takes back what has been copied. */
+/* Copies in, and commits; or undoes what has been copied. */
 static uint32_t copied_in(nuz_tree *tree, const char *from, const nuz_copy_options *how,
                           nuz_copy_failure *failure) {
     nuz_answer job, ended;

@@ -375,6 +375,40 @@ static bool place_is_replaced_in_steps(void) {
     return removed(at("out"));
 }
 
+static const char *swaps_before;
+
+/* Puts another directory in the place of a copy, once. */
+static int swap_place(const char *function, int folder, const char *name) {
+    (void)folder, (void)name;
+    if (swaps_before == NULL || strcmp(function, swaps_before) != 0) {
+        return 0;
+    }
+    swaps_before = NULL;
+    bool is_swapped = rename(at("out"), at("aside")) == 0 && rename(at("other"), at("out")) == 0;
+    return is_swapped ? 0 : EIO;
+}
+
+static bool another_directory_is_not_replaced(void) {
+    const char *functions[] = { "mkdirat", "fchmod", "renameat2" };
+    job job;
+    nuz_copy_failure failure;
+    CHECK(made_source() && begun(&job) && copy_in(&job, at("in"), "/", NULL) == 0);
+    for (size_t i = 0; i < sizeof functions / sizeof functions[0]; i++) {
+        CHECK(mkdir(at("out"), 0700) == 0 && mkdir(at("other"), 0700) == 0);
+        CHECK(disk_file(at("out/mine"), 0644, "mine"));
+        CHECK(disk_file(at("other/file"), 0644, "of somebody else"));
+        swaps_before = functions[i];
+        before = swap_place;
+        uint32_t code = copy_out(&job, at("out"), NUZ_COPY_REPLACE, &failure);
+        before = NULL;
+        CHECK(code == EBUSY && failure.on_disk && strcmp(failure.disk, at("out")) == 0);
+        CHECK(disk_has(at("out/file"), "of somebody else") && disk_has(at("aside/mine"), "mine"));
+        CHECK(left() == 0 && removed(at("out")) && removed(at("aside")));
+    }
+    ended(&job);
+    return true;
+}
+
 static bool modes_that_shut_their_owner_out_are_copied(void) {
     job job;
     CHECK(begun(&job) && tree_folder(&job, job.txn, "/shut", 0) == 0);
@@ -785,6 +819,36 @@ static bool failure_of_a_copy_in_is_told(void) {
     return true;
 }
 
+static int synced, synced_before;
+
+/* Counts what is put on the disk, in all and before a name is given. */
+static int count_synced(const char *function, int folder, const char *name) {
+    (void)folder, (void)name;
+    if (strncmp(function, "renameat", 8) == 0) {
+        synced_before = synced;
+    }
+    synced += strcmp(function, "fsync") == 0;
+    return 0;
+}
+
+/* Three directories and two files, and then the directory above. */
+static bool all_is_on_the_disk_before_it_gets_its_name(void) {
+    job job;
+    CHECK(made_source() && begun(&job) && copy_in(&job, at("in"), "/", NULL) == 0);
+    for (int with = 0; with < 4; with++) {
+        bool syncs = with & 1, replaces = with & 2;
+        uint32_t flags = (syncs ? NUZ_COPY_SYNC : 0) | (replaces ? NUZ_COPY_REPLACE : 0);
+        CHECK(made_old(replaces));
+        synced = synced_before = 0;
+        before = count_synced;
+        CHECK(copy_out(&job, at("out"), flags, NULL) == 0);
+        before = NULL;
+        CHECK(synced_before == (syncs ? 5 : 0) && synced == (syncs ? 6 : 0));
+    }
+    ended(&job);
+    return made_old(false);
+}
+
 static int die(const char *function, int folder, const char *name) {
     (void)folder, (void)name;
     if (is_of_disk(function) && calls_left-- == 0) {
@@ -908,6 +972,7 @@ static const test TESTS[] = {
     TEST(place_in_the_tree_may_be_there),
     TEST(place_on_the_disk_may_be_empty_or_replaced),
     TEST(place_is_replaced_in_steps),
+    TEST(another_directory_is_not_replaced),
     TEST(modes_that_shut_their_owner_out_are_copied),
     TEST(bits_that_run_as_another_are_asked_for),
     TEST(owners_are_copied_by_root),
@@ -925,6 +990,7 @@ static const test TESTS[] = {
     TEST(full_disk_is_told),
     TEST(failure_leaves_nothing),
     TEST(failure_of_a_copy_in_is_told),
+    TEST(all_is_on_the_disk_before_it_gets_its_name),
     TEST(death_leaves_all_or_nothing),
     TEST(too_deep_a_directory_is_told),
     TEST(copy_that_waits_is_told),

@@ -5,7 +5,7 @@
 #include <stdio.h>
 #include <stdlib.h>
 
-/* Makes a file of these bytes. Answers 0, or the code of what stood in the way. */
+/* Makes a file with these bytes. Returns 0, or the code of an error. */
 static uint32_t make_file(nuz_tree *tree, uint64_t txn, const char *path, const char *bytes) {
     const uint32_t flags = NUZ_O_WRONLY | NUZ_O_CREAT | NUZ_O_EXCL;
     nuz_answer opened, answer;

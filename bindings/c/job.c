@@ -11,11 +11,11 @@
  *     copy FROM TO      copies a file
  *     move FROM TO      renames a file or a directory
  *     remove PATH       removes a file
- *     need PATH         fails where the path leads to nothing
+ *     need PATH         fails if the path leads to nothing
  *
- * Each step is a transaction inside that of the job. One that fails is taken back, with all it has
- * done so far; the others stay. The status is 0 where no step has failed, 1 where one has, and
- * 2 where the job could not be carried out.
+ * Each step is a transaction inside that of the job. A step that fails is rolled back, with all it
+ * has done so far; the others stay. The status is 0 if no step has failed, 1 if one has, and 2 if
+ * the job could not be carried out.
  */
 #include <nuzolged.h>
 
@@ -34,7 +34,7 @@ typedef struct job {
     char name[LONGEST_LINE];
 } job;
 
-/* What a line of a step does, given its two words, and what came in its way: a code. */
+/* Does what a line of a step says, given its two words. Returns 0, or the code of an error. */
 typedef uint32_t (*action)(job *, const char *, const char *);
 
 /* ---- actions */

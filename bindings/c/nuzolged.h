@@ -1,41 +1,43 @@
 /* nuzolged.h: a POSIX file tree in memory, under nested transactions.
  *
- * Link libnuzolged, static or shared: both have all that the library needs but memcpy, memmove,
- * memset, malloc, realloc and free of the C library. (nuz_strerror, of this header, has strerror;
- * the functions of nuzolged_touched.h and nuzolged_cycle.h have more of stdlib.h and string.h, and
- * those of nuzolged_copy.h a POSIX system.)
+ * Link libnuzolged, static or shared. Either one has all that the library needs, except memcpy,
+ * memmove, memset, malloc, realloc and free of the C library. (nuz_strerror, in this header, also
+ * needs strerror. The functions of nuzolged_touched.h and nuzolged_cycle.h need more of stdlib.h
+ * and string.h, and those of nuzolged_copy.h and nuzolged_shared.h need a POSIX system.)
  *
- * A function carries out one request, whole, or changes nothing. It returns the code of its answer,
- * 0 if all went well, and fills in the caller's nuz_answer, which has that code and the rest. The
- * library starts no thread, takes no lock, calls nobody back, and never ends the process.
+ * A function carries out one request as a whole, or changes nothing. It returns the code of its
+ * answer, which is 0 if all went well. It fills in the caller's nuz_answer with that code and the
+ * rest of the answer. The library starts no thread, takes no lock, makes no callback, and never
+ * ends the process.
  *
- * What the caller owes, and nothing checks:
+ * The caller has these duties, which nothing checks:
  *
  * - A nuz_tree comes from nuz_tree_open or nuz_tree_open_with, and is not used after
- *   nuz_tree_close. It may go to another thread.
- * - One function of a tree runs at a time. Threads that share a tree take a lock around each call,
- *   and around a call with the nuz_name, nuz_blocker, nuz_bytes or nuz_reply that belong to it.
- * - A pointer comes with a length, and has at least so many bytes, or numbers, behind it. With the
- *   length 0 it may be null; no other pointer may, but that of nuz_tree_close. What a function
- *   writes to lies apart from all else that it is given.
- * - No function is called from a signal handler, nor in a child of fork before exec, where the
- *   process has threads.
+ *   nuz_tree_close. It may be passed to another thread.
+ * - One function of a tree runs at a time. Threads that share a tree take a lock around each call.
+ *   They keep the lock for each nuz_name, nuz_blocker, nuz_bytes or nuz_reply that belongs to the
+ *   call.
+ * - A pointer comes with a length, and points to at least that many bytes or numbers. It may be
+ *   null if the length is 0. No other pointer may be null, except that of nuz_tree_close. The
+ *   memory to which a function writes overlaps nothing else that the function is given.
+ * - No function is called from a signal handler. If the process has threads, no function is called
+ *   in a child of fork before exec.
  *
  * The caller keeps all that it passes: paths, bytes and lines are copied, and no pointer is kept.
- * Of the bytes of nuz_write no more are copied than a file may have, of those of nuz_pwrite no more
- * than could have room behind its offset, and of a path no more than tells that it is too long. So
- * a long write is best made in pieces.
- * The tree keeps all that it holds: no pointer into it is given out.
+ * At most as much of a path is copied as shows that it is too long. nuz_write copies at most as
+ * many bytes as a file may have. nuz_pwrite copies at most as many as could fit after its offset.
+ * So a long write is best made in pieces. The tree keeps all that it holds: the library gives out
+ * no pointer into it.
  *
- * The names of directories, files and symbolic links, and their targets, are bytes, of no encoding.
- * A path is absolute or not, which is the same here: there is no working directory but the root. A
- * target that is not absolute begins in the directory of its link.
+ * The names of directories, files and symbolic links are bytes, in no encoding, and so are the
+ * targets of links. A path may be absolute or not. Both are the same here, since the only working
+ * directory is the root. A target that is not absolute begins in the directory of its link.
  *
- * What keeps a program going when the library is newer than its header, without being compiled
- * again: functions keep their arguments, an answer and limits keep their size and the places of
- * their members, and a member to come takes the place of a reserved one. A reserved member of an
- * answer is 0 where the library does not know it, and one of the limits has to be 0. Whatever else
- * changes gets another soname than libnuzolged.so.1.
+ * A program keeps working, without being compiled again, if the library is newer than its header.
+ * Functions keep their arguments. An answer and limits keep their size and the places of their
+ * members. A future member takes the place of a reserved one. A reserved member of an answer is 0
+ * if the library does not know it. A reserved member of limits has to be 0. Any other change gets
+ * another soname than libnuzolged.so.1.
  */
 #ifndef NUZOLGED_H
 #define NUZOLGED_H
@@ -49,62 +51,62 @@
 extern "C" {
 #endif
 
-/* The version of this header and of the library that comes with it, as text and as a number: a
- * million for each major one, and a thousand for each minor one. */
+/* The version of this header, and of the library that comes with it, as text and as a number. The
+ * number has a million for each major version, and a thousand for each minor one. */
 #define NUZ_VERSION "0.1.0"
 #define NUZ_VERSION_NUMBER 1000
 
-/* A tree with its transactions. A program has pointers to it alone. */
+/* A tree with its transactions. A program has only pointers to it. */
 typedef struct nuz_tree nuz_tree;
 
 /* How many blockers an answer has room for. */
 #define NUZ_BLOCKERS 8
 
-/* What a request came to. A function sets all its members, whatever stood in them before, and those
- * that it does not speak of to 0. */
+/* The result of a request. A function sets all members, whatever they held before. It sets the
+ * members that its description does not mention to 0. */
 typedef struct nuz_answer {
-    uint32_t code;   /* 0, an errno, or one of the codes below: what the function returns too */
+    uint32_t code;   /* 0, an errno, or one of the codes below; the function also returns it */
     uint32_t kind;   /* NUZ_DIR, NUZ_FILE or NUZ_LINK */
-    uint64_t stamp;  /* of a call that was granted: its place among all of them */
+    uint64_t stamp;  /* of a granted call: its place among all granted calls */
     uint64_t number; /* a transaction, a descriptor, an offset, a count, or the number of a file */
     uint64_t links;  /* how many names a file or symbolic link has */
     uint64_t size;   /* how many bytes there are */
-    uint32_t mode;   /* of a directory, file or link: the 12 bits of sys/stat.h, and no kind */
+    uint32_t mode;   /* of a directory, file or link: the 12 bits of sys/stat.h, without the kind */
     uint32_t owner;  /* its owner, a user ID */
-    uint32_t group;  /* and its group ID */
+    uint32_t group;  /* its group, a group ID */
     bool has_time;   /* whether the bytes of a file have a time */
-    int64_t seconds; /* that time, since the Epoch: whole seconds, less than 0 before it */
-    uint32_t nanoseconds;            /* and nanoseconds beside them, which always count forward */
+    int64_t seconds; /* that time since the Epoch, in whole seconds; less than 0 before it */
+    uint32_t nanoseconds;            /* and the nanoseconds to add, which always count forward */
     uint64_t reply;                  /* of nuz_request: how many bytes its reply has */
-    uint64_t blockers[NUZ_BLOCKERS]; /* of a call that waits: the first for which it does */
-    uint64_t reserved[6];            /* 0, for members to come */
+    uint64_t blockers[NUZ_BLOCKERS]; /* of a waiting call: the first transactions that block it */
+    uint64_t reserved[6];            /* 0, for future members */
 } nuz_answer;
 
 /* The codes of an answer.
  *
- * 0          The request was carried out; a call was granted, and has its stamp.
+ * 0          The request was carried out. If it was a call, it was granted and has its stamp.
  * 1 to 75    An errno, as Linux numbers them (errno.h). The call was granted, has its stamp,
- *            failed, and changed nothing of the tree. As any other it has locks, counts towards
- *            NUZ_FULL, and is what an undo may take back. Only calls answer one.
+ *            failed, and changed nothing of the tree. Like any granted call it has locks, counts
+ *            towards NUZ_FULL, and may be undone. Only calls return an errno.
  * 1001-1012  The request is refused. Nothing of the tree has changed.
- * 1100       NUZ_WAITS. The call waits for transactions: number is for how many, and blockers has
- *            the first of them, in rising order; nuz_blockers tells all. The call is kept:
- *            nuz_retry makes it, and nuz_cancel forgets it; a further call replaces it.
- * 1201       NUZ_BAD. A path has a null byte, or another argument is none that there is, as the
- *            function says. Nothing has changed.
+ * 1100       NUZ_WAITS. The call waits for transactions. number is how many there are. blockers
+ *            has the first of them, in ascending order, and nuz_blockers lists all. The call is
+ *            kept: nuz_retry makes it, nuz_cancel forgets it, and another call replaces it.
+ * 1201       NUZ_BAD. A path has a null byte, or another argument is not valid, as the function
+ *            explains. Nothing has changed.
  */
 enum {
-    NUZ_MEMORY = 1001,          /* there was no memory */
-    NUZ_NO_TXN = 1002,          /* no transaction has this number since the last checkpoint */
-    NUZ_ENDED = 1003,           /* the transaction has committed or is aborted */
+    NUZ_MEMORY = 1001,          /* out of memory */
+    NUZ_NO_TXN = 1002,          /* no transaction since the last checkpoint has this number */
+    NUZ_ENDED = 1003,           /* the transaction has committed or was aborted */
     NUZ_CHILD_LIVE = 1004,      /* the transaction has a live subtransaction */
     NUZ_NOTHING_TO_UNDO = 1005, /* the transaction has no call that could be undone */
-    NUZ_SUB_SINCE = 1006,       /* a subtransaction has committed since its last call */
-    NUZ_FULL = 1007,            /* no more transactions or calls before a checkpoint */
-    NUZ_DEEP = 1008,            /* the transaction stands as deep as one may */
+    NUZ_SUB_SINCE = 1006,       /* since its last call, a subtransaction has committed */
+    NUZ_FULL = 1007,            /* no more transactions or calls are possible before a checkpoint */
+    NUZ_DEEP = 1008,            /* the transaction is as deep as one may be */
     NUZ_LIVE = 1009,            /* a transaction is live */
     NUZ_NO_ASK = 1010,          /* the transaction waits for no call */
-    NUZ_BAD_LIMITS = 1012,      /* a limit is above the greatest that there is */
+    NUZ_BAD_LIMITS = 1012,      /* a limit is above the greatest */
     NUZ_WAITS = 1100,
     NUZ_BAD = 1201
 };
@@ -112,59 +114,62 @@ enum {
 /* Kinds: a directory, a file, a symbolic link. */
 enum { NUZ_DIR = 1, NUZ_FILE = 2, NUZ_LINK = 3 };
 
-/* What a tree allows, from its opening to its end. Each limit may be anything up to the greatest. A
- * tree that is told nothing has the greatest, so that memory alone ends a job. */
+/* The limits of a tree, from its opening to its end. Each limit may be any number up to the
+ * greatest. A tree that is given no limits has the greatest ones, so that only lack of memory ends
+ * a job. */
 typedef struct nuz_limits {
-    uint64_t file_size;    /* how many bytes a file may have: more is EFBIG */
-    uint64_t links;        /* how many names a file may have: one more is EMLINK */
-    uint64_t depth;        /* how deep a transaction may stand, one of nuz_begin at 1: NUZ_DEEP */
-    uint64_t transactions; /* how many may begin before a checkpoint: one more is NUZ_FULL */
-    uint64_t calls;        /* how many may be granted before a checkpoint: one more is NUZ_FULL */
-    uint64_t reserved[3];  /* 0, for limits to come: else NUZ_BAD_LIMITS */
+    uint64_t file_size;    /* how many bytes a file may have; more is EFBIG */
+    uint64_t links;        /* how many names a file may have; one more is EMLINK */
+    uint64_t depth;        /* how deep a transaction may be, 1 for nuz_begin; deeper is NUZ_DEEP */
+    uint64_t transactions; /* how many may begin before a checkpoint; one more is NUZ_FULL */
+    uint64_t calls;        /* how many may be granted before a checkpoint; one more is NUZ_FULL */
+    uint64_t reserved[3];  /* 0, for future limits; else NUZ_BAD_LIMITS */
 } nuz_limits;
 
-/* The greatest: files of 2^47 bytes, 2^32 names of one, 4,096 transactions inside each other, and
- * 2^62 transactions and calls. */
+/* The greatest limits: files of 2^47 bytes, 2^32 names of one file, 4,096 transactions inside each
+ * other, 2^62 transactions and 2^62 calls. */
 #define NUZ_LIMITS_GREATEST \
     { UINT64_C(1) << 47, UINT64_C(1) << 32, 4096, UINT64_C(1) << 62, UINT64_C(1) << 62, { 0 } }
 
-/* Those of a script, where the program that plays it is told nothing (docs/SCRIPT.md): files of a
- * mebibyte. */
+/* The limits of a script if the program that plays it is given none (docs/SCRIPT.md). A file may
+ * have a mebibyte. */
 #define NUZ_LIMITS_SCRIPT { 1048576, 1000, 64, 100000, 1000000, { 0 } }
 
-/* The options of a tree, together in one word. A call waits where a transaction has a conflicting
- * lock that is neither the caller nor above it. With NUZ_MOSS it waits too for a transaction above
- * it that holds such a lock itself, and does not only keep it for one below that has committed. */
+/* The options of a tree, combined in one number. A call waits if a transaction that is neither the
+ * caller nor above it has a conflicting lock. With NUZ_MOSS the call also waits for a transaction
+ * above the caller that holds such a lock itself. It does not wait for one that only keeps the lock
+ * for a committed transaction below it. */
 enum { NUZ_RELAXED = 0, NUZ_MOSS = 1 };
 
-/* The flags of nuz_open, together in one word: one of the first three, and any of the others. They
- * are those of fcntl.h as Linux numbers them. */
+/* The flags of nuz_open, combined in one number: one of the first three, and any of the others.
+ * They are those of fcntl.h as Linux numbers them. */
 enum {
     NUZ_O_RDONLY = 0,     /* reads */
     NUZ_O_WRONLY = 1,     /* writes */
     NUZ_O_RDWR = 2,       /* does both */
-    NUZ_O_CREAT = 0100,   /* makes the file where it is missing; also where a link leads to it */
-    NUZ_O_EXCL = 0200,    /* with NUZ_O_CREAT: it has to be missing, and so has a link there */
-    NUZ_O_TRUNC = 01000,  /* cuts it to nothing, and its time goes */
+    NUZ_O_CREAT = 0100,   /* makes the file if it is missing, even if a link leads to it */
+    NUZ_O_EXCL = 0200,    /* with NUZ_O_CREAT: neither the file nor a link may be there */
+    NUZ_O_TRUNC = 01000,  /* cuts it to no bytes, and removes its time */
     NUZ_O_APPEND = 02000  /* each write is at its end */
 };
 
-/* As a mode of nuz_mkdir or nuz_open: the default one, 0755 of a directory and 0644 of a file. */
+/* As a mode of nuz_mkdir or nuz_open, this is the default: 0755 for a directory and 0644 for a
+ * file. */
 #define NUZ_DEFAULT_MODE UINT32_MAX
 
-/* The whence of nuz_lseek, as SEEK_SET, SEEK_CUR and SEEK_END. */
+/* The whence of nuz_lseek, like SEEK_SET, SEEK_CUR and SEEK_END. */
 enum { NUZ_SET = 0, NUZ_CUR = 1, NUZ_END = 2 };
 
-/* As an owner or a group of nuz_chown, nuz_lchown and nuz_fchown: the one that is there stays. It
- * is the (uid_t)-1 of chown. */
+/* As an owner or a group of nuz_chown, nuz_lchown and nuz_fchown, this keeps the present one. It is
+ * the (uid_t)-1 of chown. */
 #define NUZ_STAYS UINT32_MAX
 
-/* A C string as the two arguments of a path, a line or bytes. It is told twice: so give it a name,
- * and no call. */
+/* A C string as the two arguments of a path, a line or bytes. The macro uses its argument twice, so
+ * give it a name and not a call. */
 #define NUZ_S(text) (text), strlen(text)
 
-/** What a code says, for people. The text of an errno is that of strerror, which the next call of
- * strerror may replace; the others stay. */
+/** Returns the text of a code, for people to read. The text of an errno is that of strerror, and
+ * the next call of strerror may replace it. The other texts stay. */
 static inline const char *nuz_strerror(uint32_t code) {
     switch (code) {
     case 0: return "carried out";
@@ -175,7 +180,7 @@ static inline const char *nuz_strerror(uint32_t code) {
     case NUZ_NOTHING_TO_UNDO: return "there is no call to undo";
     case NUZ_SUB_SINCE: return "a subtransaction has committed since the last call";
     case NUZ_FULL: return "all transactions or calls are used up";
-    case NUZ_DEEP: return "the transaction stands too deep";
+    case NUZ_DEEP: return "the transaction is too deep";
     case NUZ_LIVE: return "a transaction is live";
     case NUZ_NO_ASK: return "the transaction waits for no call";
     case NUZ_BAD_LIMITS: return "a limit is above the greatest";
@@ -187,36 +192,36 @@ static inline const char *nuz_strerror(uint32_t code) {
 
 /* ---- trees */
 
-/** The version of the library, as NUZ_VERSION_NUMBER is that of this header. */
+/** Returns the version of the library. NUZ_VERSION_NUMBER is that of this header. */
 uint32_t nuz_version(void);
 
-/** Opens a tree: the root alone, and no transaction. Its limits are NUZ_LIMITS_GREATEST. Returns 0;
- * NUZ_BAD if an option is none that there is; or NUZ_MEMORY.
- * @param tree where the tree goes, which is the caller's to close, or null if there is none: what
- * stood there does not matter
+/** Opens a tree that has only its root, and no transaction. Its limits are NUZ_LIMITS_GREATEST.
+ * Returns 0, or NUZ_BAD if an option is not valid, or NUZ_MEMORY.
+ * @param tree receives the tree, which the caller closes, or null if there is none. Its previous
+ * value does not matter
  * @param options NUZ_MOSS, or 0 */
 uint32_t nuz_tree_open(nuz_tree **tree, uint32_t options);
 
-/** The same with these limits, which stay, through checkpoints too. Returns NUZ_BAD_LIMITS if one
- * of them is above the greatest, and the options are good.
+/** The same with these limits, which last, even through checkpoints. Also returns NUZ_BAD_LIMITS if
+ * the options are valid and a limit is above the greatest.
  * @param limits what the tree allows, each at most the greatest */
 uint32_t nuz_tree_open_with(nuz_tree **tree, uint32_t options, const nuz_limits *limits);
 
-/** Mixes a number into the hashes by which the tree finds names, so that whoever can't guess it
- * can't choose names that take long to find. To be called once, right after the tree was opened,
- * with a number of getrandom(2) or the like, if names come from strangers; without it the number is
- * 0. It changes no answer, and takes no memory. */
+/** Mixes a number into the hashes by which the tree finds names. Anyone who can't guess the number
+ * can't choose names that take long to find. If names come from strangers, call this once, right
+ * after the tree was opened. Pass a number from getrandom(2) or the like. Without this call the
+ * number is 0. The function changes no answer, and takes no memory. */
 void nuz_tree_seed(nuz_tree *tree, uint64_t seed);
 
-/** Frees a tree, with all its transactions, live ones too. With null it does nothing. */
+/** Frees a tree with all its transactions, even live ones. If tree is null, it does nothing. */
 void nuz_tree_close(nuz_tree *tree);
 
 /* ---- transactions
  *
- * Each of these answers the refusals that it names, in their order, or what it says. Those that
- * take no memory never answer NUZ_MEMORY. */
+ * Each of these functions returns the first of the listed refusals that applies, or else what its
+ * description says. A function that takes no memory never returns NUZ_MEMORY. */
 
-/** Begins a transaction: number is that of the transaction. The caller ends it, by a commit or an
+/** Begins a transaction: number is that of the transaction. The caller ends it by a commit or an
  * abort. Refused: NUZ_FULL, NUZ_MEMORY. */
 uint32_t nuz_begin(nuz_tree *tree, nuz_answer *answer);
 
@@ -224,17 +229,18 @@ uint32_t nuz_begin(nuz_tree *tree, nuz_answer *answer);
  * NUZ_ENDED, NUZ_DEEP, NUZ_FULL, NUZ_MEMORY. */
 uint32_t nuz_begin_sub(nuz_tree *tree, uint64_t txn, nuz_answer *answer);
 
-/** Commits txn: hands what it did to the transaction around it, or to the tree. Takes no memory.
- * Refused: NUZ_NO_TXN, NUZ_ENDED, NUZ_CHILD_LIVE. */
+/** Commits txn. This hands what txn did to the transaction around it, or to the tree. Takes no
+ * memory. Refused: NUZ_NO_TXN, NUZ_ENDED, NUZ_CHILD_LIVE. */
 uint32_t nuz_commit(nuz_tree *tree, uint64_t txn, nuz_answer *answer);
 
-/** Aborts txn with all that is live below it, and takes back what they did, and what committed
- * subtransactions of it did: number is how many calls. Takes no memory. Refused: NUZ_NO_TXN,
+/** Aborts txn and all live transactions below it. Their calls are rolled back, and so are those of
+ * committed subtransactions: number is how many calls. Takes no memory. Refused: NUZ_NO_TXN,
  * NUZ_ENDED. */
 uint32_t nuz_abort(nuz_tree *tree, uint64_t txn, nuz_answer *answer);
 
-/** Takes back the last of txn's own calls that stand: stamp is that of the call. It may be one that
- * only looked, as nuz_stat, or that failed. Takes no memory. Refused: NUZ_NO_TXN, NUZ_ENDED,
+/** Undoes the last of txn's own standing calls: stamp is that of the call. A standing call is a
+ * granted one that no undo and no abort has rolled back. The undone call may be one that only read,
+ * like nuz_stat, or one that failed. Takes no memory. Refused: NUZ_NO_TXN, NUZ_ENDED,
  * NUZ_CHILD_LIVE, then NUZ_SUB_SINCE or NUZ_NOTHING_TO_UNDO. */
 uint32_t nuz_undo(nuz_tree *tree, uint64_t txn, nuz_answer *answer);
 
@@ -242,164 +248,176 @@ uint32_t nuz_undo(nuz_tree *tree, uint64_t txn, nuz_answer *answer);
  * NUZ_NO_ASK. */
 uint32_t nuz_cancel(nuz_tree *tree, uint64_t txn, nuz_answer *answer);
 
-/** Makes the call that txn waits for, and answers as that call; or it waits further, by NUZ_WAITS.
- * What nuz_read, nuz_pread, nuz_readlink or nuz_list_all would have copied goes to buffer, as they
- * would have copied it, and so does what nuz_list counts. A read asks for as many bytes as it had
- * room for when it was called. Refused: NUZ_NO_TXN, NUZ_ENDED, NUZ_NO_ASK, NUZ_FULL, NUZ_MEMORY.
+/** Makes the call that txn waits for, and returns what that call returns. If the call still has to
+ * wait, it returns NUZ_WAITS. The data that nuz_read, nuz_pread, nuz_readlink or nuz_list_all would
+ * have copied goes to buffer in the same form. So do the names that nuz_list counts. A read
+ * requests as many bytes as it had room for when it was called. Refused: NUZ_NO_TXN, NUZ_ENDED,
+ * NUZ_NO_ASK, NUZ_FULL, NUZ_MEMORY.
  * @param buffer where the bytes go
  * @param room how many bytes it has room for */
 uint32_t nuz_retry(nuz_tree *tree, uint64_t txn, void *buffer, size_t room, nuz_answer *answer);
 
-/** Makes the tree as it stands the beginning, and forgets the transactions and what has happened:
- * transactions and calls are counted from here, and numbers go on. Until then each transaction that
- * has ended takes 8 bytes. Takes no memory. Refused: NUZ_LIVE. */
+/** Makes the present tree the new beginning, and forgets the transactions and the history.
+ * Transactions and calls are counted from here, and their numbers continue. Until then each
+ * transaction that has ended takes 8 bytes. Takes no memory. Refused: NUZ_LIVE. */
 uint32_t nuz_checkpoint(nuz_tree *tree, nuz_answer *answer);
 
 /* ---- calls
  *
- * Throughout, txn is the number of the transaction that makes the call, path a path of len bytes,
- * and fd the number of a descriptor.
+ * txn is the number of the transaction that makes the call. path is a path of len bytes. fd is the
+ * number of a descriptor.
  *
- * Each makes one call inside txn, and does what POSIX.1-2017 says of the function of that name
- * (nuz_list and nuz_list_all: readdir; nuz_utime and nuz_lutime: utimensat; nuz_futime: futimens).
- * Each answers NUZ_BAD if a path has a null byte; the refusals NUZ_NO_TXN, NUZ_ENDED, NUZ_FULL and
- * NUZ_MEMORY, in this order; NUZ_WAITS; or was granted, with its stamp: 0, or one of the errnos
- * that it names. A path also gives ENOENT, ENOTDIR, ENAMETOOLONG and ELOOP.
+ * Each function makes one call inside txn. The call does what POSIX.1-2017 says of the function of
+ * that name. (nuz_list and nuz_list_all follow readdir, nuz_utime and nuz_lutime follow utimensat,
+ * and nuz_futime follows futimens.)
  *
- * A symbolic link is followed where more of the path, or a slash, stands behind it. A last one is
+ * Each function returns one of these codes:
+ *
+ * - NUZ_BAD, if a path has a null byte;
+ * - the first that applies of NUZ_NO_TXN, NUZ_ENDED, NUZ_FULL and NUZ_MEMORY, if the call is
+ *   refused;
+ * - NUZ_WAITS, if the call waits;
+ * - 0, or one of the errors that the function lists, if the call is granted. It then has its stamp.
+ *
+ * A call with a path may also fail with ENOENT, ENOTDIR, ENAMETOOLONG and ELOOP.
+ *
+ * A symbolic link is followed if more of the path, or a slash, comes after it. A last link is
  * followed by nuz_stat, nuz_list, nuz_list_all, nuz_truncate, nuz_open (except with NUZ_O_CREAT and
- * NUZ_O_EXCL), nuz_chmod, nuz_chown and nuz_utime, and by no other call, for which it is what the
- * path leads to. A path through more than 40 links, as where they lead to each other, is ELOOP. */
+ * NUZ_O_EXCL), nuz_chmod, nuz_chown and nuz_utime. For every other call, the path leads to the link
+ * itself. A path through more than 40 links is ELOOP: for example, if links lead to each other. */
 
-/** Makes a directory, with owner 0 and group 0. EEXIST; EINVAL for a mode above 07777.
- * @param mode the mode of the directory, whose 12 bits are all set as they are given: there is no
- * umask; or NUZ_DEFAULT_MODE */
+/** Makes a directory, with owner 0 and group 0. Errors: EEXIST, and EINVAL for a mode above 07777.
+ * @param mode the mode of the directory, or NUZ_DEFAULT_MODE. All 12 bits are set as given: there
+ * is no umask */
 uint32_t nuz_mkdir(nuz_tree *tree, uint64_t txn, const void *path, size_t len, uint32_t mode,
                    nuz_answer *answer);
 
-/** Removes an empty directory. EINVAL, ENOTEMPTY, EBUSY. */
+/** Removes an empty directory. Errors: EINVAL, ENOTEMPTY, EBUSY. */
 uint32_t nuz_rmdir(nuz_tree *tree, uint64_t txn, const void *path, size_t len, nuz_answer *answer);
 
-/** How many names a directory has, without . and ..: number. nuz_name tells each; size is as of
- * nuz_list_all. */
+/** Counts the names in a directory, without . and .., into number. nuz_name returns each name. size
+ * is the same as for nuz_list_all. */
 uint32_t nuz_list(nuz_tree *tree, uint64_t txn, const void *path, size_t len, nuz_answer *answer);
 
-/** All names of a directory, without . and .., in the order of their bytes: number is how many. For
- * each there stand in buffer, behind each other, a byte with the kind of what it is a name of, its
- * bytes, and a null byte: so a name is a C string from the second byte on. size is how many bytes
- * that is in all. As many as have room are copied: where size is more than room, the rest is
- * missing, and nuz_bytes has all of it. The rest of buffer is untouched, and all of it where the
- * answer is another. Where it waits, they come by nuz_retry.
- * @param buffer where they go
+/** Lists all names in a directory, without . and .., in the order of their bytes: number is how
+ * many. For each name, buffer gets the kind of what it names as one byte, the bytes of the name,
+ * and a null byte. So a name is a C string from the second byte on. size is how many bytes there
+ * are in all. As many as have room are copied. If size is more than room, the rest is missing, and
+ * nuz_bytes copies all the names. The rest of buffer is untouched. If the code is not 0, all of
+ * buffer is untouched. If the call waits, nuz_retry copies the names.
+ * @param buffer where the names go
  * @param room how many bytes it has room for */
 uint32_t nuz_list_all(nuz_tree *tree, uint64_t txn, const void *path, size_t len, void *buffer,
                       size_t room, nuz_answer *answer);
 
-/** What a path leads to: kind, number, links and size; mode, owner and group, the default ones too;
- * and, if has_time is true, the time of a file's bytes in seconds and nanoseconds. A directory has
- * one link and size 0, and no time. A last symbolic link is followed: kind is never NUZ_LINK. */
+/** Returns the status of what a path leads to. This is kind, number, links and size, and mode,
+ * owner and group, even if these are the default ones. If has_time is true, seconds and nanoseconds
+ * are the time of a file's bytes. A directory has one link, size 0, and no time. A last symbolic
+ * link is followed, so kind is never NUZ_LINK. */
 uint32_t nuz_stat(nuz_tree *tree, uint64_t txn, const void *path, size_t len, nuz_answer *answer);
 
-/** The same, but a last symbolic link is not followed: its size is the length of its target, its
- * mode 0777, and its owner and group are 0. It has no time. */
+/** The same, but a last symbolic link is not followed. The size of a link is the length of its
+ * target, its mode is 0777, and its owner and its group are 0. It has no time. */
 uint32_t nuz_lstat(nuz_tree *tree, uint64_t txn, const void *path, size_t len, nuz_answer *answer);
 
-/** Removes a name of a file or symbolic link. A file lives while a descriptor has it open.
- * EPERM. */
+/** Removes a name of a file or symbolic link. A file lives as long as a descriptor has it open.
+ * Errors: EPERM. */
 uint32_t nuz_unlink(nuz_tree *tree, uint64_t txn, const void *path, size_t len, nuz_answer *answer);
 
-/** Cuts a file to size bytes, or adds zeros up to them. Its time goes. EINVAL, EFBIG, EISDIR.
- * @param size how many bytes the file has then */
+/** Cuts a file to size bytes, or extends it to them with zeros. The file's time is removed. Errors:
+ * EINVAL, EFBIG, EISDIR.
+ * @param size how many bytes the file then has */
 uint32_t nuz_truncate(nuz_tree *tree, uint64_t txn, const void *path, size_t len, int64_t size,
                       nuz_answer *answer);
 
-/** Gives a file or symbolic link a further name. EPERM, EEXIST, EMLINK.
- * @param from the name that there is
- * @param from_len how many bytes that has
+/** Gives a file or symbolic link a further name. Errors: EPERM, EEXIST, EMLINK.
+ * @param from the existing name
+ * @param from_len how many bytes from has
  * @param to the further name
- * @param to_len how many bytes that has */
+ * @param to_len how many bytes to has */
 uint32_t nuz_link(nuz_tree *tree, uint64_t txn, const void *from, size_t from_len, const void *to,
                   size_t to_len, nuz_answer *answer);
 
-/** Gives a file, a symbolic link or a directory another name, in place of what had that name.
- * EINVAL, EBUSY, EISDIR, ENOTEMPTY.
+/** Gives a file, a symbolic link or a directory another name, and replaces what had that name.
+ * Errors: EINVAL, EBUSY, EISDIR, ENOTEMPTY.
  * @param from the old name
- * @param from_len how many bytes that has
+ * @param from_len how many bytes from has
  * @param to the new name
- * @param to_len how many bytes that has */
+ * @param to_len how many bytes to has */
 uint32_t nuz_rename(nuz_tree *tree, uint64_t txn, const void *from, size_t from_len, const void *to,
                     size_t to_len, nuz_answer *answer);
 
-/** Makes a symbolic link, whose target stays as it is given: whether it leads to anything is seen
- * when the link is followed. EEXIST; ENOENT too for a target of no bytes, ENAMETOOLONG for one of
- * more than 4,095, and NUZ_BAD for one with a null byte.
+/** Makes a symbolic link. Its target is kept as it is given: only following the link shows if it
+ * leads to anything. Errors: EEXIST; also ENOENT for a target of no bytes, and ENAMETOOLONG for one
+ * of more than 4,095. Returns NUZ_BAD for a target with a null byte.
  * @param target where the link leads
- * @param target_len how many bytes that has
+ * @param target_len how many bytes target has
  * @param path the name of the link
- * @param len how many bytes that has */
+ * @param len how many bytes path has */
 uint32_t nuz_symlink(nuz_tree *tree, uint64_t txn, const void *target, size_t target_len,
                      const void *path, size_t len, nuz_answer *answer);
 
-/** Reads the target of a symbolic link: number is how many bytes it has, all of them, 1 to 4,095.
- * As many as have room stand at the front of buffer: where number is more than room, the rest is
- * missing, and nuz_bytes has all of it. The rest of buffer is untouched, with no null byte behind
- * the target, and all of buffer where the answer is another. Where it waits, the target comes by
- * nuz_retry. EINVAL for what is no symbolic link.
+/** Reads the target of a symbolic link: number is how many bytes all of it has, 1 to 4,095. As many
+ * as have room are copied to the front of buffer. If number is more than room, the rest is missing,
+ * and nuz_bytes copies the whole target. The rest of buffer is untouched, and no null byte follows
+ * the target. If the code is not 0, all of buffer is untouched. If the call waits, nuz_retry copies
+ * the target. Errors: EINVAL for anything that is not a symbolic link.
  * @param buffer where the target goes
  * @param room how many bytes it has room for */
 uint32_t nuz_readlink(nuz_tree *tree, uint64_t txn, const void *path, size_t len, void *buffer,
                       size_t room, nuz_answer *answer);
 
-/** Opens a file at offset 0: number is the descriptor. NUZ_BAD also for flags that are none. A
- * descriptor is the tree's: any transaction may use it once that of its open has committed. The
- * caller closes it. EINVAL, EEXIST, EISDIR.
+/** Opens a file at offset 0: number is the descriptor. Also returns NUZ_BAD for flags that are not
+ * valid. A descriptor belongs to the tree. Any transaction may use it once the transaction that
+ * opened it has committed. The caller closes it. An undo or an abort of its opening removes it.
+ * Errors: EINVAL, EEXIST, EISDIR.
  * @param flags one of NUZ_O_RDONLY, NUZ_O_WRONLY and NUZ_O_RDWR, and any of NUZ_O_CREAT,
  * NUZ_O_EXCL, NUZ_O_TRUNC and NUZ_O_APPEND
- * @param mode the mode of a file that is made, without a umask, or NUZ_DEFAULT_MODE; a file that is
- * there keeps its own. EINVAL for one above 07777, whether or not a file would be made */
+ * @param mode the mode of a file that is made, without a umask, or NUZ_DEFAULT_MODE. An existing
+ * file keeps its own. A mode above 07777 is EINVAL, whether or not a file would be made */
 uint32_t nuz_open(nuz_tree *tree, uint64_t txn, const void *path, size_t len, uint32_t flags,
                   uint32_t mode, nuz_answer *answer);
 
-/** Closes a descriptor. EBADF. */
+/** Closes a descriptor. Errors: EBADF. */
 uint32_t nuz_close(nuz_tree *tree, uint64_t txn, uint64_t fd, nuz_answer *answer);
 
-/** What a descriptor has open, as nuz_stat tells it. EBADF. */
+/** Returns the status of what a descriptor has open, in the form of nuz_stat. Errors: EBADF. */
 uint32_t nuz_fstat(nuz_tree *tree, uint64_t txn, uint64_t fd, nuz_answer *answer);
 
-/** Cuts the file of a descriptor to size bytes, or adds zeros up to them. Its time goes. EBADF,
- * EINVAL, EFBIG.
- * @param size how many bytes the file has then */
+/** Cuts the file of a descriptor to size bytes, or extends it to them with zeros. The file's time
+ * is removed. Errors: EBADF, EINVAL, EFBIG.
+ * @param size how many bytes the file then has */
 uint32_t nuz_ftruncate(nuz_tree *tree, uint64_t txn, uint64_t fd, int64_t size, nuz_answer *answer);
 
-/** Sets the offset of a descriptor: number is the new one. whence is NUZ_SET, NUZ_CUR or NUZ_END,
- * and NUZ_BAD is answered for another. EBADF, EINVAL, EOVERFLOW.
+/** Sets the offset of a descriptor: number is the new one. Returns NUZ_BAD if whence is not
+ * NUZ_SET, NUZ_CUR or NUZ_END. Errors: EBADF, EINVAL, EOVERFLOW.
  * @param off how far
  * @param whence from where: NUZ_SET, NUZ_CUR or NUZ_END */
 uint32_t nuz_lseek(nuz_tree *tree, uint64_t txn, uint64_t fd, int64_t off, uint32_t whence,
                    nuz_answer *answer);
 
 /** Reads at the offset as many bytes as buffer has room for, and moves the offset: number is how
- * many there were, which stand at the front of buffer. The rest of buffer is untouched, and all of
- * it where the answer is another. Where it waits, the bytes come by nuz_retry. EBADF.
+ * many there were. They are at the front of buffer, and its rest is untouched. If the code is not
+ * 0, all of buffer is untouched. If the call waits, nuz_retry copies the bytes. Errors: EBADF.
  * @param buffer where the bytes go
  * @param room how many bytes it has room for */
 uint32_t nuz_read(nuz_tree *tree, uint64_t txn, uint64_t fd, void *buffer, size_t room,
                   nuz_answer *answer);
 
-/** The same at off, and the offset stays. EBADF, EINVAL.
+/** The same at off, and the offset does not move. Errors: EBADF, EINVAL.
  * @param off where it begins to read */
 uint32_t nuz_pread(nuz_tree *tree, uint64_t txn, uint64_t fd, void *buffer, size_t room,
                    int64_t off, nuz_answer *answer);
 
-/** Writes at the offset, or at the end of a file that is open for appending, as many bytes as have
- * room in the file, and moves the offset: number is how many. Where there are some, the file's time
- * goes. EBADF, EFBIG.
- * @param bytes what is written
- * @param len how many bytes that has */
+/** Writes at the offset, or at the end of a file that is open for appending, and moves the offset.
+ * As many bytes are written as the file has room for: number is how many. If there are any, the
+ * file's time is removed. Errors: EBADF, EFBIG.
+ * @param bytes the bytes to write
+ * @param len how many there are */
 uint32_t nuz_write(nuz_tree *tree, uint64_t txn, uint64_t fd, const void *bytes, size_t len,
                    nuz_answer *answer);
 
-/** The same at off, and the offset stays. EBADF, EINVAL, EFBIG.
+/** The same at off, and the offset does not move. Errors: EBADF, EINVAL, EFBIG.
  * @param off where it begins to write */
 uint32_t nuz_pwrite(nuz_tree *tree, uint64_t txn, uint64_t fd, const void *bytes, size_t len,
                     int64_t off, nuz_answer *answer);
@@ -407,46 +425,47 @@ uint32_t nuz_pwrite(nuz_tree *tree, uint64_t txn, uint64_t fd, const void *bytes
 /* ---- modes, owners and times
  *
  * No mode and no owner forbids a call anything. A mode has 12 bits, those of S_IRWXU, S_IRWXG,
- * S_IRWXO, S_ISUID, S_ISGID and S_ISVTX, and one above 07777 is EINVAL. Only nuz_chmod and
- * nuz_fchmod change a mode: what changes the owner or the bytes leaves S_ISUID and S_ISGID.
+ * S_IRWXO, S_ISUID, S_ISGID and S_ISVTX. A mode above 07777 is EINVAL. Only nuz_chmod and
+ * nuz_fchmod change a mode. A change of the owner or of the bytes keeps S_ISUID and S_ISGID.
  *
- * A file has a time if one was set for the bytes that it has: a write, a cut or NUZ_O_TRUNC takes
- * it away, even if the bytes stay the same, and an undo or an abort brings it back. No clock
- * is read. A directory and a symbolic link have no time, and to set one is EINVAL, as are
- * 1,000,000,000 nanoseconds or more, so that UTIME_NOW and UTIME_OMIT are too.
+ * A file has a time if one was set for its present bytes. A write, a cut or NUZ_O_TRUNC removes the
+ * time, even if the bytes stay the same. An undo or an abort restores it. No clock is read. A
+ * directory and a symbolic link have no time, and setting one is EINVAL. So are 1,000,000,000
+ * nanoseconds or more, and therefore UTIME_NOW and UTIME_OMIT.
  *
  * A last symbolic link is followed, except by nuz_lchown and nuz_lutime. The calls on a descriptor
- * take any that is open, for reading alone too. */
+ * take any open one, even if it is only open for reading. */
 
-/** Sets the mode of a directory or file. EINVAL.
- * @param mode the mode that it has then */
+/** Sets the mode of a directory or file. Errors: EINVAL.
+ * @param mode the new mode */
 uint32_t nuz_chmod(nuz_tree *tree, uint64_t txn, const void *path, size_t len, uint32_t mode,
                    nuz_answer *answer);
 
-/** Sets the mode of the file of a descriptor. EBADF, EINVAL.
- * @param mode the mode that it has then */
+/** Sets the mode of the file of a descriptor. Errors: EBADF, EINVAL.
+ * @param mode the new mode */
 uint32_t nuz_fchmod(nuz_tree *tree, uint64_t txn, uint64_t fd, uint32_t mode, nuz_answer *answer);
 
-/** Sets the owner and the group of a directory or file; with NUZ_STAYS that one stays.
- * @param owner the owner that it has then, or NUZ_STAYS
- * @param group the group that it has then, or NUZ_STAYS */
+/** Sets the owner and the group of a directory or file. NUZ_STAYS keeps the present one.
+ * @param owner the new owner, or NUZ_STAYS
+ * @param group the new group, or NUZ_STAYS */
 uint32_t nuz_chown(nuz_tree *tree, uint64_t txn, const void *path, size_t len, uint32_t owner,
                    uint32_t group, nuz_answer *answer);
 
-/** The same, but a last symbolic link is not followed: its owner and its group are 0, and to set
- * others is EINVAL. */
+/** The same, but a last symbolic link is not followed. The owner and the group of a link are 0, and
+ * setting others is EINVAL. */
 uint32_t nuz_lchown(nuz_tree *tree, uint64_t txn, const void *path, size_t len, uint32_t owner,
                     uint32_t group, nuz_answer *answer);
 
-/** Sets the owner and the group of the file of a descriptor; with NUZ_STAYS that one stays. EBADF.
- * @param owner the owner that it has then, or NUZ_STAYS
- * @param group the group that it has then, or NUZ_STAYS */
+/** Sets the owner and the group of the file of a descriptor. NUZ_STAYS keeps the present one.
+ * Errors: EBADF.
+ * @param owner the new owner, or NUZ_STAYS
+ * @param group the new group, or NUZ_STAYS */
 uint32_t nuz_fchown(nuz_tree *tree, uint64_t txn, uint64_t fd, uint32_t owner, uint32_t group,
                     nuz_answer *answer);
 
-/** Sets the time of a file's bytes. EINVAL.
+/** Sets the time of a file's bytes. Errors: EINVAL.
  * @param seconds whole seconds since the Epoch, less than 0 before it
- * @param nanoseconds those beside them, at most 999,999,999 */
+ * @param nanoseconds the nanoseconds to add, at most 999,999,999 */
 uint32_t nuz_utime(nuz_tree *tree, uint64_t txn, const void *path, size_t len, int64_t seconds,
                    uint32_t nanoseconds, nuz_answer *answer);
 
@@ -454,96 +473,101 @@ uint32_t nuz_utime(nuz_tree *tree, uint64_t txn, const void *path, size_t len, i
 uint32_t nuz_lutime(nuz_tree *tree, uint64_t txn, const void *path, size_t len, int64_t seconds,
                     uint32_t nanoseconds, nuz_answer *answer);
 
-/** Sets the time of the bytes of a descriptor's file. EBADF, EINVAL.
+/** Sets the time of the bytes of a descriptor's file. Errors: EBADF, EINVAL.
  * @param seconds whole seconds since the Epoch, less than 0 before it
- * @param nanoseconds those beside them, at most 999,999,999 */
+ * @param nanoseconds the nanoseconds to add, at most 999,999,999 */
 uint32_t nuz_futime(nuz_tree *tree, uint64_t txn, uint64_t fd, int64_t seconds,
                     uint32_t nanoseconds, nuz_answer *answer);
 
 /* ---- who waits for whom */
 
-/** The transactions for which txn waits now, in rising order: number is how many. There may be none
- * any more: then nuz_retry makes the call. As many as have room are copied. It changes nothing, and
- * the last answer stays. Refused as nuz_retry is: NUZ_NO_TXN, NUZ_ENDED, NUZ_NO_ASK, NUZ_FULL,
- * NUZ_MEMORY.
+/** Lists the transactions for which txn waits now, in ascending order: number is how many. If there
+ * are none any more, nuz_retry makes the call. As many numbers as have room are copied. The
+ * function changes nothing, and the last answer stays. Refused as nuz_retry is: NUZ_NO_TXN,
+ * NUZ_ENDED, NUZ_NO_ASK, NUZ_FULL, NUZ_MEMORY.
  * @param txns where their numbers go
  * @param room how many numbers it has room for */
 uint32_t nuz_blockers(nuz_tree *tree, uint64_t txn, uint64_t *txns, size_t room,
                       nuz_answer *answer);
 
-/** A deadlock, if there is one: transactions each of which waits for the next, and the last for the
- * first, for a lock or because the next is a live subtransaction of it. number is how many, and 0
- * exactly if there is no deadlock. The least comes first; which deadlock is told where there are
- * several is left open. As many numbers as have room are copied. It changes nothing, and the last
- * answer stays. It takes time and memory for all waits of the tree. Refused: NUZ_MEMORY.
+/** Finds a deadlock, if there is one. In a deadlock each transaction waits for the next, and the
+ * last for the first. Each one waits for a lock, or because the next is a live subtransaction of
+ * it. number is how many transactions there are, and 0 exactly if there is no deadlock. The least
+ * comes first. If there are several deadlocks, it is left open which one is returned. As many
+ * numbers as have room are copied. The function changes nothing, and the last answer stays. It
+ * takes time and memory for all waits of the tree. Refused: NUZ_MEMORY.
  * @param txns where their numbers go
  * @param room how many numbers it has room for */
 uint32_t nuz_cycle(nuz_tree *tree, uint64_t *txns, size_t room, nuz_answer *answer);
 
 /* ---- what a transaction has touched */
 
-/** The locks of txn: what it has read and written, and what came up to it from subtransactions that
- * have committed. They are told as two reports of a script tell them, `locks` and then `attributes`
- * (docs/SCRIPT.md), with just those of txn: size is how many bytes the text has. As many as have
- * room are copied to buffer, whose rest is untouched. So a line `lock entry D NAME read ..` is of a
- * name that txn has looked for in directory D, in vain too, and one with `write` of a name that it
- * has made, changed or removed. A transaction that has ended, or none, has no locks. It changes
- * nothing, and the last answer stays. Refused: NUZ_MEMORY.
+/** Writes the locks of txn as text. They show what it has read and written, and what came up to it
+ * from committed subtransactions. The text has the form of two reports of a script, `locks` and
+ * then `attributes` (docs/SCRIPT.md), with only the locks of txn. size is how many bytes it has. As
+ * many as have room are copied to buffer, whose rest is untouched. A line `lock entry D NAME read
+ * ..` is for a name that txn has looked up in directory D, even in vain. A line with `write` is for
+ * a name that txn has made, changed or removed. If txn has ended, or is no transaction, it has no
+ * locks. The function changes nothing, and the last answer stays. Refused: NUZ_MEMORY.
  * @param buffer where the text goes
  * @param room how many bytes it has room for */
 uint32_t nuz_locks(nuz_tree *tree, uint64_t txn, void *buffer, size_t room, nuz_answer *answer);
 
 /* ---- parts of the last answer
  *
- * They read the answer to the last request of this tree that was carried out, refused or made to
- * wait, and change nothing. (NUZ_BAD answers none.) Each answers 0, or NUZ_BAD if that answer has
- * no such part. A request that was given room enough has told the same. */
+ * These functions read the last answer of this tree, and change nothing. It is the answer to the
+ * last request that was carried out, refused or made to wait. (A request that returned NUZ_BAD does
+ * not count.) Each function returns 0, or NUZ_BAD if the last answer has no such part. If the
+ * request was given enough room, it has already copied the same data. */
 
-/** A name of a list, counted from 0, in the order of bytes: kind, and in size how long it is. As
- * much of it as has room is copied to buffer, whose rest is untouched; there is no null byte behind
- * it. A name has 1 to 255 bytes.
+/** Returns a name of a list: kind is the kind of what it names, and size is the length of the name.
+ * Names are counted from 0, in the order of their bytes. As much of the name as has room is copied
+ * to buffer, whose rest is untouched. No null byte follows it. A name has 1 to 255 bytes.
  * @param index which one, from 0
  * @param buffer where its bytes go
  * @param room how many bytes it has room for */
 uint32_t nuz_name(nuz_tree *tree, size_t index, void *buffer, size_t room, nuz_answer *answer);
 
-/** A transaction for which the call waits, counted from 0, in rising order: number is that of the
- * transaction.
+/** Returns a transaction for which the call waits: number is that of the transaction. Transactions
+ * are counted from 0, in ascending order.
  * @param index which one, from 0 */
 uint32_t nuz_blocker(nuz_tree *tree, size_t index, nuz_answer *answer);
 
-/** The bytes of a read, of the target that nuz_readlink has read, or of a list, as nuz_list_all
- * tells it: size is how many. As many of them as have room are copied to buffer, whose rest is
- * untouched.
- * @param buffer where they go
+/** Copies the bytes of a read, of the target that nuz_readlink has read, or of a list in the form
+ * of nuz_list_all. size is how many there are. As many as have room are copied to buffer, whose
+ * rest is untouched.
+ * @param buffer where the bytes go
  * @param room how many bytes it has room for */
 uint32_t nuz_bytes(nuz_tree *tree, void *buffer, size_t room, nuz_answer *answer);
 
 /* ---- lines of a script
  *
- * The same requests as text, and reports, which have no other form (docs/SCRIPT.md). */
+ * A line is one of the same requests as text, or a report, which has no other form
+ * (docs/SCRIPT.md). */
 
-/** Carries out one line, without its line feed. A request is answered as its function answers it.
- * A report, `tree`, `locks`, `attributes` or `waits`, changes nothing of the tree, and is answered
- * 0; so is an empty line or a comment, which asks for nothing. NUZ_BAD: the line asks for none of
- * these. NUZ_MEMORY too if there was none for the words of the line, or for the text of a report:
- * then the last answer stays. If there was none for what a report tells of, its reply is
+/** Carries out one line, without its line feed. For a request, the function returns what the
+ * request's own function returns. For a report, `tree`, `locks`, `attributes` or `waits`, it
+ * returns 0, and changes nothing of the tree. It also returns 0 for an empty line or a comment,
+ * which requests nothing. It returns NUZ_BAD if the line is none of these. It also returns
+ * NUZ_MEMORY if there is not enough memory for the words of the line or for the text of a report.
+ * The last answer then stays. If there is not enough memory for the data of a report, the reply is
  * `refused Memory`.
  *
- * The reply goes to buffer, as nuz_reply tells it: reply is how many bytes it has. As many of them
- * as have room are copied, and the rest of buffer is untouched. With NUZ_BAD and NUZ_MEMORY there
- * is no reply: reply is 0. With UINT64_MAX there was no memory for its text: nuz_reply tells it
- * when there is.
+ * The reply goes to buffer in the form of nuz_reply: reply is how many bytes it has. As many as
+ * have room are copied, and the rest of buffer is untouched. With NUZ_BAD and NUZ_MEMORY there is
+ * no reply, and reply is 0. If there is no memory for the text of the reply, reply is UINT64_MAX.
+ * Then nuz_reply copies the text once there is memory.
  * @param line the line
- * @param len how many bytes that has
+ * @param len how many bytes line has
  * @param buffer where the reply goes
  * @param room how many bytes it has room for */
 uint32_t nuz_request(nuz_tree *tree, const void *line, size_t len, void *buffer, size_t room,
                      nuz_answer *answer);
 
-/** The text of the reply to the last request, whether it was a line or not, each of its lines with
- * its line feed: size is how many bytes. As many of them as have room are copied to buffer, whose
- * rest is untouched. NUZ_MEMORY: there was none for the text; ask again.
+/** Copies the text of the reply to the last request, whether or not it was a line. Each line of the
+ * reply has its line feed, and size is how many bytes there are. As many as have room are copied to
+ * buffer, whose rest is untouched. Returns NUZ_MEMORY if there is no memory for the text: then call
+ * it again.
  * @param buffer where the text goes
  * @param room how many bytes it has room for */
 uint32_t nuz_reply(nuz_tree *tree, void *buffer, size_t room, nuz_answer *answer);

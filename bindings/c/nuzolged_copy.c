@@ -145,6 +145,8 @@ typedef struct copy {
     int top; /* the directory that it makes */
     size_t disk_top; /* how long the path of that is, */
     text name; /* and its last name */
+    bool was_there; /* whether there was something before the copy, */
+    struct stat before; /* and what */
     folder *folders;
     size_t count, room;
     struct timespec now; /* the time of what has none */
@@ -924,21 +926,49 @@ static bool exchange(int above, const char *one, const char *other) {
     return exchange_in_steps(above, one, other);
 }
 
+/* Whether a name leads to what the copy has found in its place; or else errno tells why not. */
+static bool is_before(const copy *copy, int above, const char *name) {
+    struct stat there;
+    if (fstatat(above, name, &there, AT_SYMLINK_NOFOLLOW) != 0) {
+        return false;
+    }
+    bool is_same = there.st_dev == copy->before.st_dev && there.st_ino == copy->before.st_ino;
+    errno = is_same ? errno : EBUSY;
+    return is_same;
+}
+
+/* Exchanges the copy with what was there before it. Whatever else has got its name gets it back.
+ * Tells whether what is left beside it is to be removed. */
+static bool replace(copy *copy, int above, const char *made, bool *is_left) {
+    const char *name = copy->name.at;
+    *is_left = true;
+    if (!S_ISDIR(copy->before.st_mode)) {
+        return fails(copy, ENOTDIR, true);
+    }
+    if (!is_before(copy, above, name) || !exchange(above, made, name)) {
+        return disk_fails(copy);
+    }
+    if (!is_before(copy, above, made)) {
+        disk_fails(copy);
+        *is_left = exchange(above, made, name);
+        return false;
+    }
+    return true;
+}
+
 /* Gives the copy its name. Whether something is left then of the name under which it was made. */
 static bool give_name(copy *copy, int above, const char *made, bool *is_left) {
     struct stat there;
-    const char *name = copy->name.at;
-    bool replaces = copy->how.flags & NUZ_COPY_REPLACE
-                 && fstatat(above, name, &there, AT_SYMLINK_NOFOLLOW) == 0;
-    if (replaces && !S_ISDIR(there.st_mode)) {
-        return fails(copy, ENOTDIR, true);
+    bool is_named;
+    if (copy->was_there && copy->how.flags & NUZ_COPY_REPLACE
+        && fstatat(above, copy->name.at, &there, AT_SYMLINK_NOFOLLOW) == 0) {
+        is_named = replace(copy, above, made, is_left);
+    } else {
+        is_named = renameat(above, made, above, copy->name.at) == 0 || disk_fails(copy);
+        *is_left = !is_named;
     }
-    *is_left = replaces;
-    bool is_named = replaces ? exchange(above, made, name)
-                             : renameat(above, made, above, name) == 0;
     if (!is_named) {
-        *is_left = true;
-        return disk_fails(copy);
+        return false;
     }
     return !(copy->how.flags & NUZ_COPY_SYNC) || fsync(above) == 0 || disk_fails(copy);
 }
@@ -964,6 +994,7 @@ static bool left_fails(copy *copy, const char *made) {
 /* Copies to a directory beside the place of the copy, which then gets its name. */
 static bool out_beside(copy *copy, int above, const nuz_answer *told) {
     char made[256];
+    copy->was_there = fstatat(above, copy->name.at, &copy->before, AT_SYMLINK_NOFOLLOW) == 0;
     if (!make_beside(copy, above, made)) {
         return false;
     }

@@ -1,6 +1,6 @@
 /* nuzolged_cycle.h: the deadlock of one transaction.
  *
- * It comes in libnuzolged too, and is written over the functions of nuzolged.h; it is tested, and
+ * It is part of libnuzolged too, and is written over the functions of nuzolged.h. It is tested, and
  * not proved.
  */
 #ifndef NUZOLGED_CYCLE_H
@@ -12,14 +12,14 @@
 extern "C" {
 #endif
 
-/** A deadlock that txn is part of, if there is one, whatever others there are: transactions each of
- * which waits for the next, and the last for the first, as nuz_cycle tells them, but txn comes
- * first. number is how many, and 0 exactly if txn is part of no deadlock, also if it only waits for
- * transactions that are. Of several it is one of the shortest. As many numbers as have room are
- * copied. Answers 0 or NUZ_MEMORY.
+/** Finds a deadlock that txn is part of, if there is one, whatever other deadlocks there are. Each
+ * transaction in it waits for the next, and the last for the first, as in nuz_cycle, but txn comes
+ * first. number is how many there are, and 0 exactly if txn is part of no deadlock. It is also 0 if
+ * txn only waits for transactions in a deadlock. If txn is part of several, this finds one of the
+ * shortest. As many numbers as have room are copied. Returns 0 or NUZ_MEMORY.
  *
  * It changes nothing of the tree. If there is any deadlock, it makes the report `waits`
- * (docs/SCRIPT.md), which is the last answer then. It takes time and memory for all waits of the
+ * (docs/SCRIPT.md), which is then the last answer. It takes time and memory for all waits of the
  * tree.
  * @param txns where their numbers go
  * @param room how many numbers it has room for */

@@ -3,8 +3,8 @@
  *     play play [--moss] [--largest-file N] [--most-calls N] [--most-transactions N]
  *               [--deepest N] < SCRIPT
  *
- * It is for the case files, which are so tried on the library too. The status is 0 where each line
- * was carried out, and else 1.
+ * It tries the case files on the library. The status is 0 if each line was carried out, and
+ * otherwise 1.
  */
 #define _GNU_SOURCE
 #include <nuzolged.h>

@@ -1,4 +1,4 @@
-/* report.h: reports of a script, as what stands over nuzolged.h reads them. */
+/* report.h: reports of a script, as the layers over nuzolged.h read them. */
 #ifndef NUZOLGED_REPORT_H
 #define NUZOLGED_REPORT_H
 
@@ -6,10 +6,10 @@
 
 #include "text.h"
 
-/* How many bytes a report is asked for with at first. */
+/* The room with which a report is first requested, in bytes. */
 enum { REPORT_ROOM = 1 << 16 };
 
-/* Makes a report, whose first word is told. */
+/* Makes the report of a line. A reply that does not begin with first is NUZ_MEMORY. */
 static inline uint32_t make_report(nuz_tree *tree, const char *line, const char *first,
                                    text *text) {
     nuz_answer told;
@@ -22,7 +22,7 @@ static inline uint32_t make_report(nuz_tree *tree, const char *line, const char 
         bool has_room = told.reply != UINT64_MAX && text_room(text, text->len);
         code = has_room ? nuz_reply(tree, text->at, text->room, &told) : NUZ_MEMORY;
     }
-    /* (it is `refused Memory` if there was none for what it tells of) */
+    /* (it is `refused Memory` if there was not enough memory for its data) */
     size_t len = strlen(first);
     bool is_told = code == 0 && text->len > len && memcmp(text->at, first, len) == 0;
     return code == 0 && !is_told ? NUZ_MEMORY : code;
@@ -33,7 +33,8 @@ typedef struct word {
     size_t len;
 } word;
 
-/* Takes what stands before the next such byte, or before the end, and that byte too. */
+/* Takes what comes before the next byte end, or all of rest, and removes it and that byte from
+ * rest. */
 static inline word taken(word *rest, char end) {
     const char *found = rest->len == 0 ? NULL : memchr(rest->at, end, rest->len);
     word word = { rest->at, found != NULL ? (size_t)(found - rest->at) : rest->len };
@@ -55,7 +56,7 @@ static inline uint64_t number_of(word word) {
     return number;
 }
 
-/* An array that has room for one more, or NULL. */
+/* Returns an array that has room for one more, or NULL. */
 static inline void *grown(void *at, size_t count, size_t *room, size_t size) {
     if (count < *room) {
         return at;
@@ -66,7 +67,7 @@ static inline void *grown(void *at, size_t count, size_t *room, size_t size) {
     return made;
 }
 
-/* Answers a code, and how many there were; of a text its size too. */
+/* Fills in an answer with a code, a count and, for a text, its size. Returns the code. */
 static inline uint32_t answered(nuz_answer *answer, uint32_t code, uint64_t number, uint64_t size) {
     memset(answer, 0, sizeof *answer);
     answer->code = code;

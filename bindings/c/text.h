@@ -1,4 +1,4 @@
-/* text.h: bytes that grow, with a null byte behind them, for what stands over nuzolged.h. */
+/* text.h: bytes that grow, with a null byte at the end, for the layers over nuzolged.h. */
 #ifndef NUZOLGED_TEXT_H
 #define NUZOLGED_TEXT_H
 
@@ -11,7 +11,7 @@ typedef struct text {
     size_t len, room;
 } text;
 
-/* Makes room for so many bytes in all. */
+/* Makes room for this many bytes in all. */
 static inline bool text_room(text *text, size_t room) {
     char *at = realloc(text->at, room);
     if (at != NULL) {

@@ -16,6 +16,7 @@ of the library from Python.
 """
 from __future__ import annotations
 
+import itertools
 import os
 import subprocess
 import sys
@@ -89,6 +90,29 @@ def rounds_of_sqlite(base: Any, rounds: int) -> None:
         assert listed.fetchall() == [(f"{folder}/name",)]
 
 
+def rounds_of_lmdb(change: Any, rounds: int) -> None:
+    """The same with keys that are paths."""
+    for number in range(rounds):
+        folder = b"/%d" % number
+        file, name = folder + b"/file", folder + b"/name"
+        assert change.put(folder, b"", overwrite=False)
+        assert change.put(file, b"", overwrite=False)
+        change.put(file, DATA)
+        assert len(change.get(file)) == len(DATA)
+        assert change.get(file) == DATA
+        change.put(name, change.get(file))
+        assert change.delete(file)
+        assert names_below(change, folder + b"/") == [name]
+
+
+def names_below(change: Any, front: bytes) -> list[bytes]:
+    """The keys that begin so."""
+    with change.cursor() as cursor:
+        cursor.set_range(front)
+        keys = cursor.iternext(keys=True, values=False)
+        return list(itertools.takewhile(lambda key: key.startswith(front), keys))
+
+
 def by_library(rounds: int, _: str) -> None:
     from nuzolged import Tree
 
@@ -109,6 +133,13 @@ def by_sqlite(rounds: int, _: str) -> None:
         rounds_of_sqlite(base, rounds)
 
 
+def by_lmdb(rounds: int, top: str) -> None:
+    import lmdb  # type: ignore[import]
+
+    with lmdb.open(top, map_size=1 << 30, sync=False) as base, base.begin(write=True) as change:
+        rounds_of_lmdb(change, rounds)
+
+
 def by_system(rounds: int, top: str) -> None:
     rounds_of_os(os, top, rounds)
 
@@ -125,6 +156,7 @@ def by_stats(rounds: int, _: str) -> None:
 
 WAYS_OF_PYTHON: dict[str, Callable[[int, str], None]] = {
     "library": by_library,
+    "lmdb": by_lmdb,
     "pyfakefs": by_pyfakefs,
     "sqlite": by_sqlite,
     "stats": by_stats,

@@ -48,7 +48,7 @@ void any_status(const struct node *node, struct stat *status) {
 static uint32_t reply_status(const struct request *request, const struct node *node) {
     struct stat status;
     any_status(node, &status);
-    fuse_reply_attr(request->fuse, &status, FOREVER);
+    fuse_reply_attr(request->fuse, &status, served.kept);
     return 0;
 }
 

@@ -25,8 +25,12 @@ struct stale {
     pthread_mutex_t lock;
     pthread_cond_t told;
     bool is_told;
-    int users; /* how many threads */
+    int users; /* how many threads, and the list of those that are not told */
+    struct stale *next;
 };
+
+/* What the kernel has not been told yet, or not long ago. */
+static struct stale *untold;
 
 struct stale *stale_new(void) {
     static uint64_t count;
@@ -94,6 +98,44 @@ static void leave(struct stale *stale) {
     }
 }
 
+/* Takes what has been told out of the list. */
+static void forget_told(void) {
+    struct stale **at = &untold;
+    while (*at != NULL) {
+        struct stale *stale = *at;
+        pthread_mutex_lock(&stale->lock);
+        bool is_told = stale->is_told;
+        pthread_mutex_unlock(&stale->lock);
+        if (is_told) {
+            *at = stale->next;
+            leave(stale);
+        } else {
+            at = &stale->next;
+        }
+    }
+}
+
+static bool is_of_step(const struct item *item, const char *name) {
+    return item->inode == FUSE_ROOT_ID && item->name != NULL && strcmp(item->name, name) == 0;
+}
+
+static bool has_step(const struct stale *stale, const char *name) {
+    size_t i = 0;
+    while (i < stale->count && !is_of_step(&stale->items[i], name)) {
+        i++;
+    }
+    return i < stale->count;
+}
+
+bool stale_has_step(const char *name) {
+    forget_told();
+    const struct stale *stale = untold;
+    while (stale != NULL && !has_step(stale, name)) {
+        stale = stale->next;
+    }
+    return stale != NULL;
+}
+
 static void *tell_all(void *at) {
     struct stale *stale = at;
     tell(stale, false);
@@ -135,10 +177,13 @@ static void begin(void *(*what)(void *), struct stale *stale) {
 void stale_let_go(struct stale *stale, fuse_req_t reply, size_t written) {
     stale->reply = reply;
     stale->written = written;
-    stale->users = reply == NULL ? 1 : 2;
+    stale->users = reply == NULL ? 2 : 3;
     for (size_t i = 0; i < stale->count; i++) {
         stale->items[i].is_locked = waits_about(stale->items[i].inode);
     }
+    forget_told();
+    stale->next = untold;
+    untold = stale;
     begin(tell_all, stale);
     if (reply != NULL) {
         begin(reply_when_told, stale);

@@ -4,8 +4,8 @@
 #include <sys/statvfs.h>
 #include <sys/sysinfo.h>
 
-/* As much room as the machine has memory, in blocks of a page: where fallocate is not supported, the
- * C library writes a byte a block. */
+/* As much room as the machine has memory, in blocks of a page: if fallocate is not supported, the C
+ * library writes a byte a block. */
 enum { BLOCK = 4096 };
 static uint32_t make_statfs(struct request *request) {
     struct sysinfo info;
@@ -162,7 +162,7 @@ static void on_write(fuse_req_t fuse, fuse_ino_t inode, const char *bytes, size_
         return;
     }
     serve(&(struct request){ fuse, make_write, .node = node_at(inode), .bytes = bytes,
-                             .size = size, .offset = offset });
+                             .size = size, .offset = offset, .file = *file });
 }
 
 static void on_release(fuse_req_t fuse, fuse_ino_t inode, struct fuse_file_info *file) {

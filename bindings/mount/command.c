@@ -148,10 +148,10 @@ void complain_of(int control, int number, const char *word, const char *path) {
 }
 
 /* Makes a request about the transaction DIR/NAME. */
-int ask_about(const char *word, const char *path, const char *rest) {
+int ask_about(const char *word, const char *path) {
     struct place place;
     int control = place_of(path, &place) ? control_of_mount(place.dir) : -1;
-    int number = control < 0 ? errno : ask(control, word, place.name, rest);
+    int number = control < 0 ? errno : ask(control, word, place.name, NULL);
     if (number == EMEDIUMTYPE) {
         complain("%s %s: this is no DIR/NAME of a mount of nuz", word, path);
     } else if (number != 0) {

@@ -133,19 +133,71 @@ static uint32_t end_by(const struct order *order, end_step *end) {
     return code;
 }
 
+/* Commits a step, unless it lacks something that a program has written. */
+static uint32_t commit(const struct order *order) {
+    if (order->step->is_lost) {
+        control_say(order->control, "what a program has written by a memory map is not all there: "
+                                    "writing it has failed, perhaps for lack of memory");
+        return EIO;
+    }
+    return end_by(order, step_commit);
+}
+
+static uint32_t undo(const struct order *order) {
+    uint32_t code = end_by(order, step_undo);
+    if (code == EBUSY) {
+        control_say(order->control, "a file is open that was opened since, or to be written");
+    }
+    return code;
+}
+
 /* Has a step be aborted when the control file is closed. */
-static uint32_t hold(const struct order *order) {
+static void hold(const struct order *order) {
     struct control *control = order->control;
     free(control->held);
     control->held = copy_of(order->name);
     control->held_txn = order->step->txn;
-    return written(order);
 }
 
-/* Begins a step that is held from its beginning. */
+/* Has a step wait for the transactions whose numbers are in a text. */
+static void wait_for_all(const struct order *order, const char *numbers) {
+    struct wait wait = { .step = order->step };
+    char *end;
+    for (uint64_t txn; txn = strtoull(numbers, &end, 10), end != numbers; numbers = end) {
+        wait_add(&wait, txn);
+    }
+    reply_when_ended(order->fuse, order->written, &wait);
+}
+
+/* Begins a step that is held from its beginning, and replies when those have ended that it has to
+ * wait for. (What the kernel knows under its name is not one that has ended, as after mkdir.) */
 static uint32_t begin_held(struct order *order) {
-    uint32_t code = step_begin(order->name, &order->step);
-    return code == 0 ? hold(order) : code;
+    uint32_t code = stale_has_step(order->name) ? EBUSY : step_begin(order->name, &order->step);
+    if (code == 0) {
+        hold(order);
+        wait_for_all(order, order->rest == NULL ? "" : order->rest);
+    }
+    return code;
+}
+
+/* Fails with EDEADLK if a call in a step has, and tells who was in its way. */
+static uint32_t whole(const struct order *order) {
+    const struct step *step = order->step;
+    if (!step->is_broken) {
+        return written(order);
+    }
+    char *text = NULL;
+    size_t size = 0;
+    FILE *to = open_memstream(&text, &size);
+    for (size_t i = 0; to != NULL && i < step->in_way_count; i++) {
+        fprintf(to, "%ju ", (uintmax_t)step->in_way[i]);
+    }
+    if (to != NULL) {
+        fputc('\n', to);
+        fclose(to);
+    }
+    set_reply(order->control, text, size);
+    return EDEADLK;
 }
 
 static uint32_t save(const struct order *order, bool replaces) {
@@ -180,15 +232,16 @@ static uint32_t touched(const struct order *order, bool is_depfile) {
 static uint32_t order_about_step(const struct order *order) {
     const char *word = order->word;
     if (strcmp(word, "commit") == 0) {
-        return end_by(order, step_commit);
+        return commit(order);
     } else if (strcmp(word, "abort") == 0) {
         return end_by(order, step_abort);
     } else if (strcmp(word, "undo") == 0) {
-        return end_by(order, step_undo);
+        return undo(order);
     } else if (strcmp(word, "hold") == 0) {
-        return hold(order);
+        hold(order);
+        return written(order);
     } else if (strcmp(word, "whole") == 0) {
-        return order->step->is_broken ? EDEADLK : written(order);
+        return whole(order);
     } else if (strcmp(word, "save") == 0) {
         return save(order, false);
     } else if (strcmp(word, "replace") == 0) {

@@ -99,7 +99,7 @@ uint32_t make_open(struct request *request) {
         take_set_id(request->node);
     }
     request->file.fh = handle_of(request->file.flags);
-    request->file.keep_cache = 1;
+    request->file.keep_cache = served.kept > 0;
     fuse_reply_open(request->fuse, &request->file);
     return 0;
 }
@@ -121,7 +121,7 @@ uint32_t make_create(struct request *request) {
     node->opens++;
     node->lookups++;
     request->file.fh = WRITES;
-    request->file.keep_cache = 1;
+    request->file.keep_cache = served.kept > 0;
     fuse_reply_create(request->fuse, &entry, &request->file);
     return 0;
 }
@@ -186,6 +186,8 @@ uint32_t make_write(struct request *request) {
                   : nuz_pwrite(IN(node), node->fd, request->bytes, request->size,
                                request->offset, &answer);
     if (counted_for(node, &answer, code) != 0) {
+        /* (the kernel tells of that only who syncs) */
+        node->step->is_lost |= request->file.writepage && code != NUZ_WAITS;
         return code;
     }
     uint64_t end = (uint64_t)request->offset + answer.number;

@@ -13,7 +13,7 @@ enum { OFFSET_DOTS = 2 };
 
 uint32_t list_open(struct request *request) {
     request->file.fh = (uint64_t)(uintptr_t)allocate(sizeof(struct listing));
-    request->file.cache_readdir = request->node != &served.top;
+    request->file.cache_readdir = request->node != &served.top && served.kept > 0;
     request->file.keep_cache = request->file.cache_readdir;
     fuse_reply_open(request->fuse, &request->file);
     return 0;

@@ -3,13 +3,16 @@
 #include "commands.h"
 
 #include <errno.h>
+#include <fcntl.h>
 #include <getopt.h>
 #include <nuzolged.h>
+#include <signal.h>
 #include <stdio.h>
 #include <stdlib.h>
 #include <string.h>
 #include <sys/stat.h>
 #include <sys/wait.h>
+#include <unistd.h>
 
 /* A decimal number of seconds, as 10 or 0.5. */
 bool seconds_of(const char *word, struct timespec *time) {
@@ -22,6 +25,14 @@ bool seconds_of(const char *word, struct timespec *time) {
         time->tv_nsec = (long)((seconds - (double)time->tv_sec) * 1e9);
     }
     return is_good;
+}
+
+/* How often, in digits. */
+static bool count_of(const char *word, long *count) {
+    char *end;
+    errno = 0;
+    *count = strtol(word, &end, 10);
+    return errno == 0 && word[0] >= '0' && word[0] <= '9' && *end == '\0';
 }
 
 /* ---- options */
@@ -59,7 +70,8 @@ static void refuse(struct said *said, const char *what, const char *word) {
 enum { AT_LEAST_ONE = -1 };
 
 enum {
-    IN, FROM, TO, AT, WAIT, MOSS, ALL, FOREGROUND, DEPFILE, TARGET, MANIFEST, REPLACE, DOT, HELP
+    IN, FROM, TO, AT, WAIT, MOSS, ALL, UNCACHED, FOREGROUND, DEPFILE, TARGET, MANIFEST, REPLACE,
+    RETRIES, DOT, HELP
 };
 
 static const struct option all_options[] = {
@@ -70,11 +82,13 @@ static const struct option all_options[] = {
     { "wait", required_argument, NULL, WAIT },
     { "moss", no_argument, NULL, MOSS },
     { "allow-other", no_argument, NULL, ALL },
+    { "no-cache", no_argument, NULL, UNCACHED },
     { "foreground", no_argument, NULL, FOREGROUND },
     { "depfile", required_argument, NULL, DEPFILE },
     { "target", required_argument, NULL, TARGET },
     { "manifest", required_argument, NULL, MANIFEST },
     { "replace", no_argument, NULL, REPLACE },
+    { "retries", required_argument, NULL, RETRIES },
     { "dot", no_argument, NULL, DOT },
     { "help", no_argument, NULL, HELP },
     { NULL, 0, NULL, 0 },
@@ -95,11 +109,17 @@ static void take(struct said *said, int option) {
         break;
     case MOSS: run->own.is_moss = true; break;
     case ALL: run->own.is_for_all = true; break;
+    case UNCACHED: run->own.is_uncached = true; break;
     case FOREGROUND: run->own.stays = true; break;
     case DEPFILE: run->depfile = optarg; break;
     case TARGET: run->target = optarg; break;
     case MANIFEST: run->manifest = optarg; break;
     case REPLACE: run->replaces = true; break;
+    case RETRIES:
+        if (!count_of(optarg, &run->retries)) {
+            refuse(said, "this is no number: ", optarg);
+        }
+        break;
     case DOT: said->has_dot = true; break;
     default: said->has_help = true;
     }
@@ -111,10 +131,12 @@ static void read_options(struct said *said, int count, char **words) {
     int option;
     opterr = 0;
     optind = 1;
-    const char *order = said->command->count == AT_LEAST_ONE ? "+:" : ":";
+    const char *order = said->command->count == AT_LEAST_ONE ? "+:h" : ":h";
     while ((option = getopt_long(count, words, order, all_options, NULL)) != -1) {
         if (option == ':') {
             refuse(said, "a word is missing behind ", words[optind - 1]);
+        } else if (option == 'h') {
+            said->has_help = true;
         } else if (option >= 32 || (allowed >> option & 1) == 0) {
             refuse(said, "there is no such option, or it takes no word: ", words[optind - 1]);
         } else {
@@ -128,6 +150,26 @@ static void read_options(struct said *said, int count, char **words) {
 #define MAY(option) (1u << (option))
 
 /* ---- commands */
+
+/* The process that serves a mount which stays. */
+static pid_t serving;
+
+static void hand_on(int number) {
+    kill(serving, number);
+}
+
+/* Waits until a mount has ended that stays, and hands on the signals that end it. */
+static bool stays(pid_t process) {
+    struct sigaction action = { .sa_handler = hand_on };
+    int ended = 0;
+    serving = process;
+    sigaction(SIGTERM, &action, NULL);
+    sigaction(SIGHUP, &action, NULL);
+    sigaction(SIGINT, &action, NULL);
+    while (waitpid(process, &ended, 0) < 0 && errno == EINTR) {
+    }
+    return ended == 0;
+}
 
 /* Mounts on a directory that is there, and is none of a mount itself. */
 static int mount_on(const char *path, struct said *said) {
@@ -146,11 +188,7 @@ static int mount_on(const char *path, struct said *said) {
     options->from = said->run.from;
     pid_t process = dir == NULL ? -1 : serve_begin(options);
     free(dir);
-    int ended = 0;
-    if (process > 0 && options->stays) {
-        waitpid(process, &ended, 0);
-    }
-    return process > 0 && ended == 0 ? DONE : NOT_DONE;
+    return process > 0 && (!options->stays || stays(process)) ? DONE : NOT_DONE;
 }
 
 static int act_mount(struct said *said) {
@@ -172,8 +210,9 @@ static int act_run(struct said *said) {
     bool is_own = asked->from != NULL || asked->to != NULL;
     if (is_own && asked->in != NULL) {
         refuse(said, "--in is of a mount that is there, --from and --to are of one of its own", "");
-    } else if (!is_own && (asked->own.has_limit || asked->own.is_moss)) {
-        refuse(said, "--wait and --moss are of a mount of its own, with --from or --to", "");
+    } else if (!is_own && (asked->own.has_limit || asked->own.is_moss || asked->own.is_for_all)) {
+        refuse(said, "--wait, --moss and --allow-other are of a mount of its own, with --from or "
+                     "--to", "");
     } else if (asked->replaces && asked->to == NULL) {
         refuse(said, "--replace is of --to", "");
     } else if (asked->target != NULL && asked->depfile == NULL) {
@@ -185,7 +224,7 @@ static int act_run(struct said *said) {
 
 /* commit, abort and undo. */
 static int act_about(struct said *said) {
-    return ask_about(said->command->word, said->words[0], NULL);
+    return ask_about(said->command->word, said->words[0]);
 }
 
 static int act_steps(struct said *said) {
@@ -193,56 +232,56 @@ static int act_steps(struct said *said) {
 }
 
 static int act_save(struct said *said) {
-    char *to = absolute(said->words[1]);
-    int status = NOT_DONE;
-    if (to == NULL) {
-        complain("save %s: %s", said->words[1], strerror(errno));
-    } else {
-        status = ask_about(said->run.replaces ? "replace" : "save", said->words[0], to);
-    }
-    free(to);
-    return status;
+    return save(said->words[0], said->words[1], said->run.replaces);
 }
 
 static const struct command commands[] = {
-    { "mount", act_mount, MAY(FROM) | MAY(WAIT) | MAY(MOSS) | MAY(ALL) | MAY(FOREGROUND), 1,
-      "nuz mount [--from FOLDER] [--wait SECONDS] [--moss] [--allow-other] [--foreground] DIR\n",
-      "Mounts a tree on DIR, which is made if it is missing. DIR/job shows the tree, and mkdir\n"
+    { "mount", act_mount,
+      MAY(FROM) | MAY(WAIT) | MAY(MOSS) | MAY(ALL) | MAY(UNCACHED) | MAY(FOREGROUND), 1,
+      "nuz mount [--from FOLDER] [--wait SECONDS] [--moss] [--allow-other] [--no-cache]\n"
+      "        [--foreground] DIR\n",
+      "Mounts a tree on DIR, and makes DIR if it is missing. DIR/job shows the tree, and mkdir\n"
       "DIR/NAME begins the step NAME. The mount ends with umount DIR, or fusermount3 -u DIR.\n"
       "  --from FOLDER   the tree begins with what FOLDER holds; without it, empty\n"
-      "  --wait SECONDS  a call that has waited so long for other steps fails with EDEADLK\n"
+      "  --wait SECONDS  a call that has waited that long for other steps fails with EDEADLK\n"
       "  --moss          a call also waits for the locks of the steps around its own\n"
       "  --allow-other   other users may use what is mounted\n"
-      "  --foreground    serves the mount itself, and stays\n" },
+      "  --no-cache      the kernel asks each time, and keeps nothing that it is told\n"
+      "  --foreground    stays until the mount ends\n" },
     { "run", act_run,
-      MAY(IN) | MAY(FROM) | MAY(TO) | MAY(AT) | MAY(WAIT) | MAY(MOSS) | MAY(DEPFILE) | MAY(TARGET)
-          | MAY(MANIFEST) | MAY(REPLACE),
+      MAY(IN) | MAY(FROM) | MAY(TO) | MAY(AT) | MAY(WAIT) | MAY(MOSS) | MAY(ALL) | MAY(DEPFILE)
+          | MAY(TARGET) | MAY(MANIFEST) | MAY(REPLACE) | MAY(RETRIES),
       AT_LEAST_ONE,
       "nuz run [--in DIR/STEP | [--from FOLDER] [--to FOLDER [--replace]]] [--at PATH]\n"
-      "        [--wait SECONDS] [--moss] [--depfile F [--target T]] [--manifest F] -- COMMAND..\n",
-      "Runs COMMAND in a step, which is committed if it ends with status 0, and else aborted.\n"
-      "Without --in, --from and --to, that is a step of the one that the current directory is in.\n"
+      "        [--retries N] [--wait SECONDS] [--moss] [--allow-other]\n"
+      "        [--depfile F [--target T]] [--manifest F] -- COMMAND..\n",
+      "Runs COMMAND in a new step. If COMMAND ends with status 0, the step is committed, and\n"
+      "otherwise aborted. Without --in, --from and --to, it is a step of the step or job that the\n"
+      "current directory is in.\n"
       "  --in DIR/STEP   a new step of the mount on DIR, whose name is STEP\n"
-      "  --from FOLDER   a mount of its own, that begins with what FOLDER holds\n"
-      "  --to FOLDER     where the tree of such a mount is saved at the end; without it, nowhere\n"
+      "  --from FOLDER   a mount of its own, which begins with what FOLDER holds\n"
+      "  --to FOLDER     saves the tree of such a mount there at the end; without it, nowhere\n"
       "  --replace       FOLDER of --to may have something in it, and is exchanged\n"
-      "  --at PATH       the step stands in the place of the directory PATH\n"
-      "  --wait, --moss  as of nuz mount, with --from or --to\n"
+      "  --at PATH       the step takes the place of the directory PATH\n"
+      "  --retries N     runs COMMAND again, up to N times, if a call has failed with EDEADLK\n"
+      "  --wait SECONDS  as of nuz mount, with --from or --to\n"
+      "  --moss          as of nuz mount, with --from or --to\n"
+      "  --allow-other   as of nuz mount, with --from or --to\n"
       "  --depfile F     writes what was read and written to F, for make and Ninja\n"
-      "  --target T      the target of that, instead of all files that were written\n"
+      "  --target T      the target in F, instead of all files that were written\n"
       "  --manifest F    writes to F how each path was used\n" },
     { "commit", act_about, 0, 1, "nuz commit DIR/NAME\n",
-      "Commits a step: what it has done belongs to the step or job around it. DIR/job: makes what\n"
-      "there is the beginning, to which nuz abort DIR/job goes back.\n" },
+      "Commits a step: its work then belongs to the step or job around it. DIR/job: makes the\n"
+      "present tree the new beginning, to which nuz abort DIR/job goes back.\n" },
     { "abort", act_about, 0, 1, "nuz abort DIR/NAME\n",
-      "Takes back all that a step has done, with the steps below it. DIR/job: with all steps.\n" },
+      "Undoes all that a step has done, with the steps below it. DIR/job: with all steps.\n" },
     { "undo", act_about, 0, 1, "nuz undo DIR/NAME\n",
-      "Takes back the last change of a step that stands.\n" },
+      "Undoes the last change of a step that is not undone yet.\n" },
     { "steps", act_steps, MAY(DOT), 1, "nuz steps [--dot] DIR\n",
-      "Tells the live transactions, how many calls each has made, and who waits for whom.\n"
+      "Lists the live transactions, how many calls each has made, and who waits for whom.\n"
       "  --dot  draws who waits for whom, for Graphviz\n" },
     { "save", act_save, MAY(REPLACE), 2, "nuz save [--replace] DIR/NAME TO\n",
-      "Copies what NAME shows, mostly job, to the directory TO, all or nothing. TO has to be\n"
+      "Copies what NAME (usually job) shows to the directory TO, all or nothing. TO must be\n"
       "missing or empty.\n"
       "  --replace  TO may have something in it, and is exchanged\n" },
 };
@@ -259,7 +298,7 @@ static void tell_synopses(FILE *to) {
     for (size_t i = 0; i < COMMANDS; i++) {
         fputs(commands[i].synopsis, to);
     }
-    fputs("nuz COMMAND --help tells what its options mean; nuz --version\n", to);
+    fputs("nuz COMMAND --help explains its options, and nuz --version prints the version\n", to);
 }
 
 /* Refuses too few or too many words. */
@@ -287,14 +326,27 @@ static int do_command(const struct command *command, int count, char **words) {
     return command->act(&said);
 }
 
+/* Opens the streams that are closed, or other files would come in their place. */
+static void have_streams(void) {
+    int file;
+    do {
+        file = open("/dev/null", O_RDWR);
+    } while (file >= 0 && file <= STDERR_FILENO);
+    if (file >= 0) {
+        close(file);
+    }
+}
+
 int main(int count, char **words) {
+    have_streams();
     const char *word = count > 1 ? words[1] : "";
     for (size_t i = 0; i < COMMANDS; i++) {
         if (strcmp(word, commands[i].word) == 0) {
             return do_command(&commands[i], count - 1, words + 1);
         }
     }
-    if (strcmp(word, "--help") == 0) {
+    bool is_help = strcmp(word, "-h") == 0 || strcmp(word, "help") == 0;
+    if (is_help || strcmp(word, "--help") == 0) {
         tell_synopses(stdout);
         return told_well();
     } else if (strcmp(word, "--version") == 0) {

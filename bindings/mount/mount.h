@@ -134,7 +134,10 @@ struct step {
     bool is_seen;    /* by a search for a cycle */
     bool is_removed; /* whether the kernel removes its directory itself */
     bool is_kept;    /* whether a copy goes on with it */
-    bool is_broken;  /* whether a call in it has failed with EDEADLK */
+    bool is_lost;    /* whether the kernel could not write what a program has put into memory */
+    bool is_broken;  /* whether a call in it has failed with EDEADLK: */
+    uint64_t *in_way; /* who has to end before it can be tried again */
+    size_t in_way_count;
     size_t steps;    /* how many live ones stand directly in it */
     size_t nodes;    /* how many nodes it has */
     uint64_t calls;  /* that were granted, with those of steps that have committed */
@@ -154,6 +157,8 @@ struct control;
 
 struct step *step_named(const char *name, size_t len);
 struct step *step_of_txn(uint64_t txn);
+/* The outermost transaction around a step that another one does not stand in, or the step. */
+struct step *step_apart(struct step *step, const struct step *other);
 uint32_t step_begin(const char *name, struct step **begun);
 uint32_t step_begin_in(struct step *parent, char *name, struct step **begun);
 uint32_t step_commit(struct step *step, struct stale **stale);
@@ -180,6 +185,7 @@ uint32_t set_time(struct node *node, uint64_t *stamp);
 /* That a step waits for others. */
 struct wait {
     struct step *step;
+    bool is_given; /* for whom, and not told by a call of the tree */
     uint64_t *blockers;
     size_t count, room;
     struct timespec until;
@@ -210,6 +216,11 @@ struct request {
 };
 
 void serve(struct request *request);
+/* Adds a transaction to those that a step is given to wait for. */
+void wait_add(struct wait *wait, uint64_t txn);
+/* Replies to a write when all transactions have ended that a step is given to wait for, whose list
+ * it frees; or with an error. */
+void reply_when_ended(fuse_req_t fuse, size_t written, const struct wait *wait);
 void waits_try_again(void);
 void waits_end_of(const struct step *step);
 /* Whether a request waits that is about something, so that the kernel may have that locked. */
@@ -217,6 +228,8 @@ bool waits_about(fuse_ino_t inode);
 /* Ends the requests that have waited for too long, and those of programs that a signal has come to.
  * Answers in how many milliseconds that is to be done again, or -1 if not before a request. */
 int waits_look(void);
+/* How often it is looked whether a signal has come, in milliseconds. */
+enum { LOOK_EVERY = 100 };
 /* Whether a signal has come to the program of a request that interrupts it. */
 bool has_signal(fuse_req_t fuse);
 
@@ -240,6 +253,8 @@ void stale_node(struct stale *stale, struct node *node);
 /* Tells the kernel, in a thread of its own, and then that so many bytes of a request were written,
  * unless that is NULL. */
 void stale_let_go(struct stale *stale, fuse_req_t reply, size_t written);
+/* Whether the kernel still has to forget a step of a name that has ended. */
+bool stale_has_step(const char *name);
 
 /* ---- the kernel's requests (calls.c), and those of the control file (control.c) */
 
@@ -267,11 +282,20 @@ struct save {
     struct control *control; /* to what it has open until it is replied to */
     bool is_watched;   /* whether a signal has come that did not end it: another one may */
     bool is_over;      /* whether it has to end */
+    pthread_t thread;
     struct save *next;
 };
 
 /* Begins a copy, which replies when it has ended. */
 uint32_t save_begin(const struct save *save);
+/* Interrupts the copies that have been given up: they may wait for the disk, which may be a mount
+ * too. Answers as waits_look does. */
+int saves_look(void);
+
+/* ---- the beginning (load.c) */
+
+/* Has the tree hold a folder, and makes that its beginning. */
+bool load(const char *folder);
 
 /* ---- the mount */
 
@@ -289,6 +313,7 @@ struct mount {
     struct timespec born;
     struct timespec limit; /* of a wait */
     bool has_limit;
+    double kept; /* for how many seconds the kernel may keep what it is told */
     uid_t user;
     gid_t group;
 };

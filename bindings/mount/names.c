@@ -10,8 +10,8 @@
 struct fuse_entry_param entry_of(struct node *node) {
     struct fuse_entry_param entry = {
         .ino = inode_of(node),
-        .attr_timeout = node->step == NULL || node->is_told ? FOREVER : 0,
-        .entry_timeout = node_is_control(node) ? 0 : FOREVER,
+        .attr_timeout = node->step == NULL || node->is_told ? served.kept : 0,
+        .entry_timeout = node_is_control(node) ? 0 : served.kept,
     };
     any_status(node, &entry.attr);
     return entry;
@@ -29,7 +29,7 @@ uint32_t reply_entry(const struct request *request, struct node *node) {
 
 /* Tells it that a name leads to nothing, which stays so until the step itself changes it. */
 static uint32_t reply_absent(const struct request *request) {
-    struct fuse_entry_param entry = { .entry_timeout = FOREVER };
+    struct fuse_entry_param entry = { .entry_timeout = served.kept };
     fuse_reply_entry(request->fuse, &entry);
     return 0;
 }

@@ -2,7 +2,10 @@
  * of its own inside the one that is saved, which is aborted at its end: so it leaves no locks. */
 #include "mount.h"
 
+#include "commands.h"
+
 #include <nuzolged_copy.h>
+#include <signal.h>
 #include <stdio.h>
 
 /* The copies that are being made, since a program may give one up. */
@@ -21,7 +24,7 @@ static uint32_t wait_for_end(struct save *save, const struct timespec *until) {
     if (code != 0) {
         return code;
     }
-    struct timespec soon = time_ahead((struct timespec){ 0, 100000000 });
+    struct timespec soon = time_ahead((struct timespec){ 0, LOOK_EVERY * 1000000 });
     pthread_cond_timedwait(&served.ended, &served.lock, &soon);
     wait_ends(&wait);
     return served.has_limit && milliseconds_until(until) == 0 ? EDEADLK : 0;
@@ -52,14 +55,23 @@ static void forget(struct save *save) {
     free(save);
 }
 
-/* Says what stood in the way of a copy, and where. */
-static void say(struct save *save, uint32_t code, const nuz_copy_failure *failure) {
+/* Says what stood in the way of a copy, and where; or of removing what was there before it. */
+static void say(struct save *save, bool is_saved, uint32_t code,
+                const nuz_copy_failure *failure) {
     const char *place = failure->on_disk ? failure->disk : failure->path;
     size_t size = strlen(place) + 200;
     char *text = allocate(size);
-    snprintf(text, size, "%s: %s", place, nuz_strerror(code));
+    snprintf(text, size, "%s%s: %s", is_saved ? "what was there before is left: " : "", place,
+             nuz_strerror(code));
     control_say(save->control, text);
     free(text);
+}
+
+/* Whether a copy has its name: what stood in the way may have been in the way of removing what was
+ * replaced, which stands beside it. */
+static bool has_name(const struct save *save, uint32_t code, const nuz_copy_failure *failure) {
+    return code == 0
+        || (save->replaces && failure->on_disk && !is_at_or_below(failure->disk, save->to));
 }
 
 /* Ends the transaction of a copy, and replies to who has asked for it. */
@@ -67,9 +79,12 @@ static void end(struct save *save, uint32_t code, const nuz_copy_failure *failur
     struct stale *stale;
     fuse_req_t fuse = save->fuse;
     size_t written = save->written;
+    bool is_saved = has_name(save, code, failure);
     pthread_mutex_lock(&served.lock);
     if (code != 0) {
-        say(save, code, failure);
+        say(save, is_saved, code, failure);
+    } else if (save->step->is_live && save->step->parent->is_lost) {
+        control_say(save->control, "not all that a program has written by a memory map is there");
     }
     save->step->is_kept = false;
     if (save->step->is_live && step_abort(save->step, &stale) == 0) {
@@ -79,7 +94,7 @@ static void end(struct save *save, uint32_t code, const nuz_copy_failure *failur
     }
     forget(save);
     pthread_mutex_unlock(&served.lock);
-    if (code == 0) {
+    if (is_saved) {
         fuse_reply_write(fuse, written);
     } else {
         fuse_reply_err(fuse, errno_of(code));
@@ -88,6 +103,10 @@ static void end(struct save *save, uint32_t code, const nuz_copy_failure *failur
 
 static void *copy(void *at) {
     struct save *save = at;
+    sigset_t signals;
+    sigemptyset(&signals);
+    sigaddset(&signals, SIGUSR1);
+    pthread_sigmask(SIG_UNBLOCK, &signals, NULL);
     nuz_copy_options options = {
         .flags = NUZ_COPY_SET_ID | (save->replaces ? (uint32_t)NUZ_COPY_REPLACE : 0),
         .around = around,
@@ -115,8 +134,20 @@ static void interrupted(fuse_req_t fuse, void *ignored) {
     pthread_mutex_unlock(&served.lock);
 }
 
+int saves_look(void) {
+    int again = -1;
+    for (struct save *save = saves; save != NULL; save = save->next) {
+        if (save->is_watched) {
+            again = LOOK_EVERY;
+        }
+        if (is_given_up(save)) {
+            pthread_kill(save->thread, SIGUSR1);
+        }
+    }
+    return again;
+}
+
 uint32_t save_begin(const struct save *begun) {
-    pthread_t thread;
     struct save *save = allocate(sizeof *save);
     *save = *begun;
     save->step->is_kept = true;
@@ -126,8 +157,8 @@ uint32_t save_begin(const struct save *begun) {
     if (!save->is_watched) {
         fuse_req_interrupt_func(save->fuse, interrupted, NULL);
     }
-    if (pthread_create(&thread, NULL, copy, save) == 0) {
-        pthread_detach(thread);
+    if (pthread_create(&save->thread, NULL, copy, save) == 0) {
+        pthread_detach(save->thread);
         return 0;
     }
     struct stale *stale;

@@ -5,7 +5,6 @@
 
 #include <fcntl.h>
 #include <linux/fuse.h>
-#include <nuzolged_copy.h>
 #include <poll.h>
 #include <signal.h>
 #include <stdio.h>
@@ -22,33 +21,29 @@ struct mount served = {
 
 /* ---- the tree */
 
-/* Has the tree hold a folder, and makes that its beginning. */
-static bool load(const char *folder) {
-    nuz_answer job, answer;
-    nuz_copy_options options = { .flags = NUZ_COPY_SET_ID };
-    nuz_copy_failure failure = { 0 };
-    uint32_t code = nuz_begin(served.tree, &job);
-    if (code == 0) {
-        code = nuz_copy_in(served.tree, job.number, folder, NUZ_S("/"), &options, &failure);
+/* The mode and owner of an empty tree: those of the directory that it is to replace, or else of a
+ * new one. */
+static struct stat root_of(const struct serve_options *options) {
+    struct stat status;
+    if (options->like == NULL || lstat(options->like, &status) != 0) {
+        mode_t mask = umask(0);
+        umask(mask);
+        status.st_mode = 0777 & ~mask;
+        status.st_uid = served.user;
+        status.st_gid = served.group;
     }
-    if (code == 0) {
-        code = nuz_commit(served.tree, job.number, &answer);
-        nuz_checkpoint(served.tree, &answer);
-    }
-    if (code != 0) {
-        complain("load %s: %s", failure.disk[0] == '\0' ? folder : failure.disk,
-                 code == ENOTSUP ? "pipes, sockets and devices can't be loaded"
-                                 : nuz_strerror(code));
-    }
-    return code == 0;
+    return status;
 }
 
-/* Has an empty tree belong to the user who mounts it. */
-static uint32_t own_root(void) {
+static uint32_t own_root(const struct serve_options *options) {
     nuz_answer job, answer;
+    const struct stat root = root_of(options);
     uint32_t code = nuz_begin(served.tree, &job);
     if (code == 0) {
-        code = nuz_chown(served.tree, job.number, NUZ_S("/"), served.user, served.group, &answer);
+        code = nuz_chown(served.tree, job.number, NUZ_S("/"), root.st_uid, root.st_gid, &answer);
+    }
+    if (code == 0) {
+        code = nuz_chmod(served.tree, job.number, NUZ_S("/"), root.st_mode & 07777, &answer);
     }
     if (code == 0) {
         code = nuz_commit(served.tree, job.number, &answer);
@@ -59,6 +54,7 @@ static uint32_t own_root(void) {
 
 static bool open_tree(const struct serve_options *options) {
     uint64_t seed = 0;
+    served.kept = options->is_uncached ? 0 : FOREVER;
     uint32_t code = nuz_tree_open(&served.tree, options->is_moss ? NUZ_MOSS : NUZ_RELAXED);
     if (code != 0) {
         complain("%s", nuz_strerror(code));
@@ -70,7 +66,7 @@ static bool open_tree(const struct serve_options *options) {
     if (options->from != NULL && !load(options->from)) {
         return false;
     }
-    code = options->from == NULL && served.user != 0 ? own_root() : 0;
+    code = options->from == NULL ? own_root(options) : 0;
     code = code == 0 ? job_begin() : code;
     if (code != 0) {
         complain("%s", nuz_strerror(code));
@@ -80,8 +76,14 @@ static bool open_tree(const struct serve_options *options) {
 
 /* ---- the session */
 
-/* Has waits be timed by a clock that nobody sets. */
+static void do_nothing(int ignored) {
+    (void)ignored;
+}
+
+/* Has waits be timed by a clock that nobody sets, and threads be interrupted by SIGUSR1. */
 static void prepare(const struct serve_options *options) {
+    const struct sigaction action = { .sa_handler = do_nothing };
+    sigaction(SIGUSR1, &action, NULL);
     pthread_condattr_t attributes;
     pthread_condattr_init(&attributes);
     pthread_condattr_setclock(&attributes, CLOCK_MONOTONIC);
@@ -98,15 +100,22 @@ static void prepare(const struct serve_options *options) {
  * for does not keep others of its directory waiting, and that set-id bits are left to the mount. */
 enum { ASKED_FOR = FUSE_PARALLEL_DIROPS | FUSE_HANDLE_KILLPRIV };
 
-/* Writes a reply. The first one is that in which the mount says what it asks for. */
-static ssize_t write_reply(int fd, struct iovec *parts, int count, void *ignored) {
-    static bool has_asked;
-    (void)ignored;
-    if (!has_asked && count > 1 && parts[1].iov_len > offsetof(struct fuse_init_out, flags)) {
+/* Asks for more, in the reply in which the mount says what it asks for. */
+static void ask_for_more(const struct iovec *parts, int count) {
+    if (count > 1 && parts[1].iov_len > offsetof(struct fuse_init_out, flags)) {
         struct fuse_init_out *init = parts[1].iov_base;
         init->flags |= ASKED_FOR;
     }
-    has_asked = true;
+}
+
+/* Writes a reply. The first one is that one, before there are other threads. */
+static ssize_t write_reply(int fd, struct iovec *parts, int count, void *ignored) {
+    static bool has_asked;
+    (void)ignored;
+    if (!has_asked) {
+        ask_for_more(parts, count);
+        has_asked = true;
+    }
     return writev(fd, parts, count);
 }
 
@@ -129,6 +138,9 @@ static bool open_session(const struct serve_options *options) {
     const struct fuse_custom_io io = { .writev = write_reply, .read = read_request };
     served.session = fuse_session_new(&arguments, &operations, sizeof operations, NULL);
     fuse_opt_free_args(&arguments);
+    if (options->is_own || options->stays) {
+        signal(SIGTERM, SIG_DFL); /* (libfuse has its handler only in the place of that) */
+    }
     return served.session != NULL && fuse_set_signal_handlers(served.session) == 0
         && fuse_session_mount(served.session, options->dir) == 0
         && fuse_session_custom_io(served.session, &io, fuse_session_fd(served.session)) == 0;
@@ -138,8 +150,9 @@ static bool open_session(const struct serve_options *options) {
  * request came. */
 static bool has_request(void) {
     pthread_mutex_lock(&served.lock);
-    int timeout = waits_look();
+    int timeout = waits_look(), look = saves_look();
     pthread_mutex_unlock(&served.lock);
+    timeout = look >= 0 && (timeout < 0 || look < timeout) ? look : timeout;
     struct pollfd poll_for = { .fd = fuse_session_fd(served.session), .events = POLLIN };
     return timeout < 0 || poll(&poll_for, 1, timeout) > 0;
 }
@@ -216,6 +229,24 @@ static void read_far_ahead(const char *dir) {
     }
 }
 
+/* The directory of a mount that ends with its parent, which may be killed before it can be used. */
+static const char *own_dir;
+
+static void remove_own(int ignored) {
+    (void)ignored;
+    rmdir(own_dir);
+    _exit(1);
+}
+
+/* Has the process end with its parent. */
+static void end_with_parent(const struct serve_options *options, pid_t parent) {
+    own_dir = options->is_own ? options->dir : "";
+    signal(SIGTERM, remove_own);
+    if (prctl(PR_SET_PDEATHSIG, SIGTERM) != 0 || getppid() != parent) {
+        remove_own(SIGTERM);
+    }
+}
+
 /* What the process behind a mount does. It keeps nothing open that somebody waits to be closed. */
 static _Noreturn void be_mount(const struct serve_options *options, pid_t parent,
                                const int ready[2]) {
@@ -227,9 +258,8 @@ static _Noreturn void be_mount(const struct serve_options *options, pid_t parent
     if (!options->stays) {
         setsid();
     }
-    bool ends_with_parent = options->stays || options->is_own;
-    if (ends_with_parent && (prctl(PR_SET_PDEATHSIG, SIGTERM) != 0 || getppid() != parent)) {
-        exit(1);
+    if (options->stays || options->is_own) {
+        end_with_parent(options, parent);
     }
     exit(serve_until_end(options, ready[1]));
 }

@@ -31,6 +31,13 @@ static bool stands_in(const struct step *step, const struct step *other) {
     return step == other;
 }
 
+struct step *step_apart(struct step *step, const struct step *other) {
+    while (step->parent != NULL && !stands_in(other, step->parent)) {
+        step = step->parent;
+    }
+    return step;
+}
+
 uint32_t counted(struct step *step, const nuz_answer *answer, uint32_t code) {
     step->calls += answer->stamp != 0;
     return code;
@@ -286,6 +293,7 @@ void step_free_if_over(struct step *step) {
     drop_changes(step, 0);
     free(step->changes);
     free(step->marks);
+    free(step->in_way);
     free(step->name);
     free(step);
 }

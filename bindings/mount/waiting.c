@@ -24,10 +24,13 @@ int errno_of(uint32_t code) {
 
 /* ---- who waits for whom */
 
-/* Learns for whom a step waits, from the call that it has made last. */
+/* Learns for whom a step waits, from the call that it has made last, unless that is given. */
 static void learn_blockers(struct wait *wait) {
     nuz_answer answer;
     uint32_t code;
+    if (wait->is_given) {
+        return;
+    }
     while ((code = nuz_blockers(served.tree, wait->step->txn, wait->blockers, wait->room,
                                 &answer)) == 0
            && answer.number > wait->room) {
@@ -141,11 +144,29 @@ bool waits_about(fuse_ino_t inode) {
     return each != NULL;
 }
 
+/* Notes that a call in a step fails with EDEADLK, and who was in the way of the first one. (Who
+ * stands around them gets their locks.) */
+static void note_broken(const struct wait *wait) {
+    struct step *step = wait->step;
+    if (step->is_broken) {
+        return;
+    }
+    step->is_broken = true;
+    step->in_way = allocate((wait->count + 1) * sizeof *step->in_way);
+    for (size_t i = 0; i < wait->count; i++) {
+        struct step *blocker = step_of_txn(wait->blockers[i]);
+        if (blocker != NULL) {
+            step->in_way[step->in_way_count++] = step_apart(blocker, step)->txn;
+        }
+    }
+}
+
 /* Ends a request that has waited, or would have to, with an error. */
 static void fail(const struct request *request, uint32_t code) {
-    struct step *step = request->wait.step;
-    step->is_broken = step->is_broken || code == EDEADLK;
-    cancel(step);
+    if (code == EDEADLK) {
+        note_broken(&request->wait);
+    }
+    cancel(request->wait.step);
     fuse_reply_err(request->fuse, errno_of(code));
 }
 
@@ -153,10 +174,10 @@ static void fail(const struct request *request, uint32_t code) {
 static void leave(struct request **at, uint32_t code) {
     struct request *request = *at;
     *at = request->next;
-    remove_wait(&request->wait);
     if (code != 0) {
         fail(request, code);
     }
+    remove_wait(&request->wait);
     free((char *)request->name);
     free((char *)request->other_name);
     free((char *)request->bytes);
@@ -199,9 +220,6 @@ void waits_end_of(const struct step *step) {
         }
     }
 }
-
-/* How often it is looked whether a signal has come, in milliseconds. */
-enum { LOOK_EVERY = 100 };
 
 int milliseconds_until(const struct timespec *until) {
     struct timespec time;
@@ -327,7 +345,7 @@ static void keep(const struct request *request) {
  * wait for more than when they were made last, since who reads what is read goes on.) */
 static void park(struct request *request) {
     struct wait *wait = &request->wait;
-    *wait = (struct wait){ .step = request->node->step, .until = time_ahead(served.limit) };
+    wait->until = time_ahead(served.limit);
     learn_blockers(wait);
     waits_try_again();
     request->is_watched = fuse_req_interrupted(request->fuse) != 0;
@@ -338,8 +356,8 @@ static void park(struct request *request) {
         keep(request);
         return;
     }
-    free(wait->blockers);
     fail(request, code);
+    free(wait->blockers);
 }
 
 /* Carries out a request, at once or when it may be. */
@@ -347,11 +365,64 @@ void serve(struct request *request) {
     pthread_mutex_lock(&served.lock);
     uint32_t code = request->make(request);
     if (code == NUZ_WAITS) {
+        request->wait = (struct wait){ .step = request->node->step };
         park(request);
     } else if (code != 0) {
         fuse_reply_err(request->fuse, errno_of(code));
     }
     pthread_mutex_unlock(&served.lock);
+}
+
+/* ---- steps that begin when others have ended */
+
+static uint32_t make_reply(struct request *request) {
+    const struct wait *wait = &request->wait;
+    for (size_t i = 0; i < wait->count; i++) {
+        if (step_of_txn(wait->blockers[i]) != NULL) {
+            return NUZ_WAITS;
+        }
+    }
+    fuse_reply_write(request->fuse, request->size);
+    return 0;
+}
+
+void wait_add(struct wait *wait, uint64_t txn) {
+    if (wait->count == wait->room) {
+        wait->blockers = enlarge(wait->blockers, &wait->room, sizeof *wait->blockers);
+    }
+    wait->blockers[wait->count++] = txn;
+}
+
+/* Whether two wait for one of the same that is live. */
+static bool wait_alike(const struct wait *one, const struct wait *other) {
+    size_t i = 0;
+    while (i < one->count && (step_of_txn(one->blockers[i]) == NULL
+                              || !has_blocker(other, step_of_txn(one->blockers[i])))) {
+        i++;
+    }
+    return i < one->count;
+}
+
+/* Has a step wait for those too that wait for one of the same before they begin, unless that closes
+ * a cycle: else they would be in each other's way again. */
+static void line_up(struct wait *wait) {
+    for (const struct request *each = served.parked; each != NULL; each = each->next) {
+        if (each->wait.is_given && wait_alike(&each->wait, wait)) {
+            wait_add(wait, each->wait.step->txn);
+            wait->count -= closes_cycle(wait);
+        }
+    }
+}
+
+void reply_when_ended(fuse_req_t fuse, size_t written, const struct wait *wait) {
+    struct request request = { fuse, make_reply, .size = written, .wait = *wait };
+    request.wait.is_given = true;
+    line_up(&request.wait);
+    if (make_reply(&request) == NUZ_WAITS) {
+        park(&request);
+    } else {
+        free(request.wait.blockers);
+    }
 }
 
 /* ---- copies that wait */

@@ -51,6 +51,11 @@ class BesideTest(mounts.MountTest):
     def test_by_the_rule_of_moss(self) -> None:
         self.assert_all_alike(self.mount("--moss"), COUNT // 5)
 
+    def test_without_the_cache_of_the_kernel(self) -> None:
+        mounted = self.mount("--no-cache")
+        self.assert_all_alike(mounted, COUNT // 2)
+        self.assert_free(mounted)
+
     def test_in_the_job(self) -> None:
         mounted = self.mount()
         self.assert_alike(mounted.job, self.memory, SEED + 1, COUNT // 5)

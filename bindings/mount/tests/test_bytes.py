@@ -4,6 +4,7 @@ from __future__ import annotations
 import mmap
 import os
 import random
+import resource
 import shutil
 from pathlib import Path
 
@@ -154,6 +155,26 @@ class BytesTest(mounts.MountTest):
                 held = bytearray(3 * 4_096 + 100)
                 held[4_094:4_094 + len(how)] = held[12_338:12_338 + len(how)] = how.encode()
                 self.assertEqual((mounted.job / how).read_bytes(), held)
+
+    def test_no_memory_for_what_is_written_by_memory(self) -> None:
+        """What the program could not see has failed: so the step can't be committed."""
+        mounted = self.mount()
+        serving = mounted.serving()
+        taken = int(Path(f"/proc/{serving}/statm").read_text().split()[0]) * mmap.PAGESIZE
+        # (all pages are read first: one that can't be read ends the program, and is no secret)
+        script = "import mmap, os; file = open('file', 'w+b'); file.truncate(64 << 20); " \
+            "memory = mmap.mmap(file.fileno(), 0); memory[::4096]; " \
+            "memory[:] = os.urandom(64 << 20); memory.close()"
+        write = "python3", "-c", script
+        before = resource.prlimit(serving, resource.RLIMIT_AS, (taken + (32 << 20), -1))
+        ended = mounts.nuz("run", "--in", mounted.top / "a", "--", *write, status=125)
+        left = os.listdir(mounted.job)
+        mounts.run(*write, cwd=mounted.job)
+        resource.prlimit(serving, resource.RLIMIT_AS, before)
+        self.assertIn("by a memory map is not all there", ended.stderr)
+        self.assertEqual(left, [])
+        ended = mounts.nuz("save", mounted.job, self.disk / "saved")
+        self.assertIn("it is saved, but not all that a program has written", ended.stderr)
 
     def test_three_gigabytes_with_holes(self) -> None:
         mounted = self.mount()

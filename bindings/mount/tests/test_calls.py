@@ -6,6 +6,7 @@ import errno
 import fcntl
 import os
 import random
+import re
 import shutil
 import socket
 import stat
@@ -131,6 +132,29 @@ class CallsTest(InStepTest):
         mounts.run("cmp", self.step / "copy", self.disk / "data")
         mounts.run("dd", f"if={self.disk}/data", f"of={self.step}/parts", "bs=777")
         mounts.run("cmp", self.step / "parts", self.disk / "data")
+
+    def calls(self) -> int:
+        """How many calls of the tree the step has made."""
+        found = re.search(r"(?m)^step txn \d+ calls (\d+)$", self.mounted.steps())
+        return int(found[1]) if found else -1
+
+    def test_a_call_has_a_megabyte(self) -> None:
+        megabytes = 8
+        # (of memory that nobody has touched the kernel writes a page at a time)
+        data = random.Random(1).randbytes(megabytes << 20)
+        with open(self.file, "r+b", buffering=0) as file:
+            before = self.calls()
+            self.assertEqual(file.write(data), len(data))
+            self.assertEqual(self.calls() - before, megabytes)
+        self.mounted.commit("step")
+        if os.geteuid() != 0:
+            return  # (only root may have the kernel read so far ahead)
+        self.mounted.begin("step")
+        with open(self.file, "rb", buffering=0) as file:
+            before = self.calls()
+            while file.read(1 << 20):
+                pass
+            self.assertLessEqual(self.calls() - before, megabytes + 1)
 
     def test_lines_that_many_append(self) -> None:
         script = 'for n in $(seq 100); do echo "$1 $n" >>"$0"; done'

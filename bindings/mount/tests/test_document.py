@@ -1,13 +1,17 @@
-"""What docs/MOUNT.md shows, as it is typed there."""
+"""What docs/MOUNT.md shows, as it is typed there, and the manual page."""
 from __future__ import annotations
 
 import os
 import re
+import shutil
+import unittest
 from pathlib import Path
 
 import mounts
 
 DOCUMENT = Path(__file__).resolve().parents[3] / "docs" / "MOUNT.md"
+PAGE = Path(__file__).resolve().parents[1] / "nuz.1"
+COMMANDS = "mount", "run", "commit", "abort", "undo", "steps", "save"
 # stands behind what each command prints
 MARK = "---- end of a command"
 
@@ -40,3 +44,29 @@ class DocumentTest(mounts.MountTest):
             with self.subTest(command=command):
                 self.assertEqual(found, text)
         self.assertEqual(len(printed), len(shown) + 1)
+
+
+class ManualTest(unittest.TestCase):
+    def test_page_is_well_formed(self) -> None:
+        if not shutil.which("groff"):
+            self.skipTest("groff is not there")
+        ended = mounts.run("groff", "-ww", "-b", "-man", "-Tutf8", "-z", PAGE)
+        self.assertEqual(ended.stdout + ended.stderr, "")
+
+    def test_page_and_help_and_document_have_the_same_options(self) -> None:
+        page = PAGE.read_text(encoding="utf-8").replace("\\-", "-")
+        helps = "".join(mounts.nuz(command, "--help").stdout for command in COMMANDS)
+        document = DOCUMENT.read_text(encoding="utf-8").partition("\n## Commands\n")[2]
+        found = [set(re.findall(r"--[a-z]+(?:-[a-z]+)*", text))
+                 for text in (page, helps, document)]
+        self.assertEqual(found[0] - {"--help", "--version"}, found[1])
+        self.assertEqual(found[0], found[2])
+        described = re.findall(r"(?m)^\.TP\n\.BI? +(--[a-z-]+)", page)
+        self.assertEqual(sorted(described), sorted(found[0]))
+
+    def test_page_has_all_commands(self) -> None:
+        page = PAGE.read_text(encoding="utf-8")
+        for command in COMMANDS:
+            with self.subTest(command=command):
+                self.assertIn(f"\\fBnuz {command}\\fR", page)
+                self.assertIn(f"\n.TP\n.B nuz {command}\n", page)

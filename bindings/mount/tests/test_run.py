@@ -67,6 +67,17 @@ class FromToTest(RunTest):
         self.assertEqual(sorted(os.listdir(self.target)), ["file", "gone", "new"])
         self.assert_nothing_left()
 
+    def test_for_other_users(self) -> None:
+        if os.geteuid() != 0:
+            self.skipTest("only root can be others")
+        (self.source / "file").chmod(0o644)
+        command = "python3", "-c", "import os; os.setgroups([]); os.setgid(65534); " \
+            "os.setuid(65534); print(open('file').read())"
+        words = "--from", self.source, "--", *command
+        self.assertIn("Permission denied", self.run_it(*words, status=1).stderr)
+        self.assertEqual(self.run_it("--allow-other", *words).stdout, "old\n")
+        self.assert_nothing_left()
+
     def test_from_alone_and_to_alone(self) -> None:
         self.run_it("--from", self.source, "--", "grep", "-q", "old", "file")
         self.run_it("--to", self.target, "--", "sh", "-c", "ls; echo new >file")
@@ -154,7 +165,10 @@ class StatusTest(RunTest):
                 (["--"], "a word is missing"),
                 (["--replace", "--", "true"], "--replace is of --to"),
                 (["--wait", "abc", "--", "true"], "this is no number of seconds: abc"),
-                (["--wait", "1", "--", "true"], "--wait and --moss are of a mount of its own"),
+                (["--wait", "1", "--", "true"], "--wait, .* are of a mount of its own"),
+                (["--allow-other", "--", "true"], ".* --allow-other are of a mount of its own"),
+                (["--retries", "-1", "--", "true"], "this is no number: -1"),
+                (["--retries", "2x", "--", "true"], "this is no number: 2x"),
                 (["--in", "a", "--to", "b", "--", "true"], "--in is of a mount that is there"),
                 (["--target", "a", "--", "true"], "--target is of --depfile")):
             with self.subTest(words=words):
@@ -163,6 +177,8 @@ class StatusTest(RunTest):
     def test_help(self) -> None:
         self.assertRegex(mounts.nuz("--version").stdout, r"^nuz \d+\.\d+\.\d+\n$")
         told = mounts.nuz("--help").stdout
+        self.assertEqual([mounts.nuz(word).stdout for word in ("-h", "help")], [told] * 2)
+        self.assertEqual(mounts.nuz("save", "-h").stdout, mounts.nuz("save", "--help").stdout)
         for word in ("mount", "run", "commit", "abort", "undo", "steps", "save"):
             with self.subTest(word=word):
                 help_of = mounts.nuz(word, "--help").stdout
@@ -190,14 +206,22 @@ class StatusTest(RunTest):
         self.mounts_before = self.mounts_here()
         os.symlink(self.source, self.disk / "told")
         for words, why in (
-                (["--to", "place"], "save place: Directory not empty"),
+                (["--to", "place"], "save place: it is not empty, and only --replace replaces it"),
                 (["--to", "nothing/target"], "save nothing/target: No such file or directory"),
                 (["--to", "told", "--replace"], "save told: Not a directory"),
                 (["--to", "told"], "save told: Not a directory"),
                 (["--to", "place/file"], "save place/file: Not a directory"),
                 (["--to", ""], "save : No such file or directory"),
-                (["--to", "mount", "--replace"], "save mount: Device or resource busy"),
+                (["--to", "mount", "--replace"],
+                 "save mount: something is mounted on it or below it"),
+                (["--to", "/", "--replace"], "save /: it can't be replaced"),
+                (["--depfile", "place"], "depfile place: Is a directory"),
                 (["--depfile", "nothing/f"], "depfile nothing/f: No such file or directory"),
+                (["--depfile", ""], "depfile : No such file or directory"),
+                (["--to", "new", "--depfile", "new"], "depfile new: Is a directory"),
+                (["--to", "new", "--manifest", "new/"], "manifest new/: Is a directory"),
+                (["--to", "new", "--manifest", "/dev/fd/3"],
+                 "manifest /dev/fd/3: Bad file descriptor"),
                 (["--manifest", "place/file/f"], "manifest place/file/f: Not a directory")):
             with self.subTest(words=words):
                 ended = self.run_it("--from", self.source, *words, "--", "sh", "-c",
@@ -222,6 +246,50 @@ class StatusTest(RunTest):
         ended = self.run_it("--from", self.source, "--", "sh", "-c", "cat; echo wrong >&2",
                             input="text", stdin=None)
         self.assertEqual((ended.stdout, ended.stderr), ("text", "wrong\n"))
+
+    def test_reasons(self) -> None:
+        mounted = self.mount()
+        with open(mounted.begin("a") / "file", "w"):
+            self.assertIn("a file is open", mounted.undo("a", status=1).stderr)
+        mounted.undo("a")
+        ended = self.run_it("--from", self.source, "--", "no-such-command", status=127)
+        self.assertEqual(ended.stderr, "nuz: run no-such-command: there is no such command\n")
+
+    def test_streams_that_are_closed(self) -> None:
+        """As the programs have them that others begin at night."""
+        for closed in ("<&- >&-", "<&- >&- 2>&-", "2>&-"):
+            with self.subTest(closed=closed):
+                shutil.rmtree(self.target, ignore_errors=True)
+                script = f'"$@" {closed}'
+                mounts.run("sh", "-c", script, "sh", mounts.NUZ, "run", "--to", self.target, "--",
+                           "sh", "-c", "echo new >new", env=self.environment)
+                self.assertEqual((self.target / "new").read_text(), "new\n")
+        top = self.disk / "mount"
+        self.addCleanup(mounts.run, "fusermount3", "-u", top)
+        mounts.run("sh", "-c", '"$@" <&- >&- 2>&-', "sh", mounts.NUZ, "mount", top)
+        self.assertEqual(os.listdir(top), ["job"])
+
+    def test_signals_end_a_command_that_is_stopped(self) -> None:
+        running = self.begin("sleep", "100")
+        below = mounts.children(running.pid)
+        mounts.signal_all(below, signal.SIGSTOP)
+        running.send_signal(signal.SIGTERM)
+        # (the mount of the run is stopped too, and not by the signal)
+        mounts.signal_all(below[:1], signal.SIGCONT)
+        self.assertTrue(mounts.ended_within(running))
+
+    def test_killed_while_it_loads(self) -> None:
+        (self.source / "large").write_bytes(bytes(64 << 20))
+        running = mounts.start(mounts.NUZ, "run", "--from", self.source, "--", "true",
+                               env=self.environment)
+        self.assertTrue(mounts.wait_until(lambda: bool(mounts.children(running.pid))))
+        below = mounts.children(running.pid)
+        mounts.signal_all(below, signal.SIGSTOP)
+        self.assertEqual(self.mounts_here(), self.mounts_before)
+        running.kill()
+        running.wait()
+        mounts.signal_all(below, signal.SIGCONT)
+        self.assert_nothing_left()
 
     def test_signals_go_to_the_command(self) -> None:
         for number in (signal.SIGTERM, signal.SIGHUP, signal.SIGINT):
@@ -296,24 +364,6 @@ class StepOfMountTest(RunTest):
         script = f'{mounts.NUZ} run -- sh -c "rm file; exit 1" || {mounts.NUZ} run -- rm gone'
         self.run_it("--in", self.mounted.top / "a", "--", "sh", "-c", script)
         self.assertEqual(sorted(os.listdir(self.mounted.job)), ["file", "folder"])
-
-    def test_a_call_that_would_have_waited_for_ever(self) -> None:
-        """The step is aborted, whether or not the command minds the error."""
-        for ending, status in (("true", 125), ("exit 3", 3)):
-            with self.subTest(status=status):
-                other = self.mounted.begin("other")
-                (other / "file").write_text("of other")
-                waiting = mounts.start(
-                    "sh", "-c", f"until test -e {self.mounted.top}/a/folder/made; do :; done;"
-                    f" cat {other}/folder/made")
-                steps = f"{mounts.NUZ} steps {self.mounted.top}"
-                script = f"touch folder/made; until {steps} | grep -q '^other.* waits'; do :; done"
-                ended = self.run_it("--in", self.mounted.top / "a", "--", "sh", "-c",
-                                    f"{script}; cat file; {ending}", status=status)
-                self.assertRegex(ended.stderr, "(?m)^nuz: run .*/a: a call has failed with EDEADLK")
-                waiting.wait()
-                self.assertFalse((self.mounted.job / "folder" / "made").exists())
-                self.mounted.abort("other")
 
     def test_outside_of_a_mount(self) -> None:
         self.assertRegex(self.run_it("--", "true", cwd=self.disk, status=125).stderr, "^nuz: ")
@@ -514,10 +564,80 @@ class ReadAndWrittenTest(RunTest):
                 self.assertEqual((self.target / "deps").read_text(), "target/made:\n")
                 self.assertIn("/made read,written file", (self.target / "used").read_text())
 
+    def test_files_in_the_current_folder_that_is_saved(self) -> None:
+        self.folder("target", file="old")
+        os.symlink(".", self.disk / "place")
+        for here, name, target in (("target", "deps", self.target),
+                                   ("target", "deps", self.disk / "place" / "target"),
+                                   ("target/sub", "deps", ".."),
+                                   ("target/sub", "../deps", self.target)):
+            with self.subTest(here=here, name=name, target=target):
+                (self.disk / here).mkdir(exist_ok=True)
+                (self.disk / here / name).unlink(missing_ok=True)
+                self.run_it("--from", self.target, "--to", target, "--replace", "--depfile", name,
+                            "--", "touch", "made", cwd=self.disk / here)
+                self.assertIn("/made:", (self.disk / here / name).read_text())
+
     def test_depfile_in_a_folder_that_was_listed(self) -> None:
         job = self.mount("--from", self.source).job
         self.run_it("--depfile", "deps", "--", "sh", "-c", "ls >names", cwd=job)
         self.assertTrue((job / "deps").read_text().startswith("names:"))
+
+    def test_file_is_whole_or_as_it_was(self) -> None:
+        """What is saved stays, and its status says so."""
+        if os.geteuid() != 0:
+            self.skipTest("only root can mount a disk that is full")
+        full = self.folder("place")
+        mounts.run("mount", "-t", "tmpfs", "-o", "size=16k", "tmpfs", full)
+        self.addCleanup(mounts.run, "umount", full)
+        (full / "deps").write_text("before")
+        with self.assertRaises(OSError), open(full / "large", "wb", buffering=0) as large:
+            while True:
+                large.write(bytes(4_096))
+        ended = self.run_it("--from", self.source, "--to", self.target, "--depfile", full / "deps",
+                            "--manifest", self.told, "--", "touch", "new", status=74)
+        self.assertRegex(ended.stderr, "deps: No space left(?s:.*)is committed, and saved, all")
+        self.assertEqual((full / "deps").read_text(), "before")
+        self.assertEqual(sorted(os.listdir(full)), ["deps", "large"])
+        self.assertTrue((self.target / "new").exists())
+        self.assertIn("/new read,written file", self.told.read_text())
+
+    def test_what_a_file_is_stays(self) -> None:
+        (self.disk / "place").write_text("before")
+        (self.disk / "place").chmod(0o600)
+        os.symlink("place", self.told)
+        words = "--from", self.source, "--target", "it", "--depfile"
+        self.run_it(*words, self.told, "--", "true")
+        self.assertEqual(os.readlink(self.told), "place")
+        self.assertEqual((self.disk / "place").read_text(), "it:\n")
+        self.assertEqual((self.disk / "place").stat().st_mode & 0o777, 0o600)
+        self.assertEqual(self.run_it(*words, "/dev/stdout", "--", "true").stdout, "it:\n")
+        self.run_it(*words, "/dev/full", "--", "true", status=74)
+
+    def test_streams_go_on(self) -> None:
+        """A stream that is a file keeps what was written to it."""
+        for name, number, other in (("/dev/stdout", 1, "stdout"), ("/dev/fd/2", 2, "stderr")):
+            with self.subTest(name=name), open(self.told, "w+", encoding="utf-8") as file:
+                file.write("before\n")
+                file.flush()
+                self.run_it("--from", self.source, "--target", "it", "--depfile", name, "--", "sh",
+                            "-c", f"echo command >&{number}", capture_output=False,
+                            **{other: file})
+                file.seek(0)
+                self.assertEqual(file.read(), "before\ncommand\nit:\n")
+        self.assertEqual(self.run_it("--from", self.source, "--depfile", "/dev/fd/9", "--", "true",
+                                     status=125).stderr,
+                         "nuz: depfile /dev/fd/9: Bad file descriptor\n")
+
+    def test_nobody_reads_a_pipe(self) -> None:
+        read, write = os.pipe()
+        os.close(read)
+        with open(write, "wb") as pipe:
+            self.run_it("--from", self.source, "--to", self.target, "--manifest", "/dev/stdout",
+                        "--", "touch", "new", capture_output=False, stdout=pipe,
+                        stderr=subprocess.DEVNULL, status=74)
+        self.assertTrue((self.target / "new").exists())
+        self.assert_nothing_left()
 
     def test_target(self) -> None:
         self.run_it("--from", "source", "--depfile", self.told, "--target", "a b", "--",

@@ -216,7 +216,10 @@ class WaitingTest(StepsTest):
 
     def test_killed_where_it_waits(self) -> None:
         (self.a / "file").write_text("new")
-        waiting = [ask("cat", self.b / "file"), ask("sh", "-c", f"echo x >>{self.b}/file")]
+        waiting = [ask("cat", self.b / "file")]
+        self.assert_waits("b", *waiting)
+        # (the kernel has this one wait for the other, without the mount)
+        waiting.append(ask("sh", "-c", f"echo x >>{self.b}/file"))
         self.assert_waits("b", *waiting)
         for each in waiting:
             each.kill()
@@ -588,6 +591,23 @@ class EndTest(StepsTest):
             self.assert_gone(mounted, pid)
             self.assertEqual(waiting.wait(mounts.AT_ONCE), 1)
             waiting.communicate()
+
+    def test_in_the_foreground(self) -> None:
+        top = self.disk / "mount"
+        for end in (lambda it: it.terminate(), lambda it: mounts.run("fusermount3", "-u", top),
+                    lambda it: it.kill()):
+            serving = mounts.start(mounts.NUZ, "mount", "--foreground", top)
+            self.addCleanup(mounts.run, "fusermount3", "-u", "-z", top, status=None)
+            self.addCleanup(serving.kill)
+            self.assertTrue(mounts.wait_until((top / "job").exists))
+            (top / "a").mkdir()
+            time.sleep(A_WHILE)
+            self.assertIsNone(serving.poll())
+            end(serving)
+            self.assertTrue(mounts.ended_within(serving))
+            self.assertTrue(mounts.wait_until(lambda: not os.path.ismount(top)))
+            self.assertIn(serving.returncode, (0, -signal.SIGKILL))
+            self.assertEqual(os.listdir(top), [])
 
     def test_by_umount(self) -> None:
         mounted = self.mount()

@@ -2,12 +2,12 @@
 
     install.py FOLDER PACKAGE..
 
-A package is installed as a whole or not at all: where a file of it is there already, or can not be
-read, nothing of it is left, and the others stay. The folder is replaced at the end, at once, by one
-that has all of what was installed, or, where that fails, is as it was; so too where the power fails
-meanwhile. Modes, times, files with more names and symbolic links stay so, and owners if root
-installs; if anything else is met, as a pipe, nothing of that package, or of the folder, is
-installed. The status is 0 if each package was installed, and else 1.
+A package is installed as a whole or not at all: if one of its files exists already, or can't be
+read, nothing of it is left, and the others stay. At the end, a folder with everything that was
+installed replaces the old one, all at once. If that fails, or the power fails meanwhile, the folder
+is as it was. Modes, times, files with several names and symbolic links are kept, and owners if root
+installs. If there is anything else, like a pipe, nothing of that package, or of the folder, is
+installed. The status is 0 if each package was installed, and otherwise 1.
 """
 from __future__ import annotations
 
@@ -18,7 +18,7 @@ from nuzolged import Transaction, Tree, copy_in, copy_out
 
 
 def install(job: Transaction, package: str) -> bool:
-    """Installs a package in a step of its own, and tells whether that went well."""
+    """Installs a package in a step of its own, and returns whether that went well."""
     name = os.path.basename(os.path.normpath(package))
     try:
         with job.begin() as step:
@@ -31,7 +31,7 @@ def install(job: Transaction, package: str) -> bool:
 
 
 def install_all(folder: str, packages: list[str]) -> bool:
-    """Installs packages into a folder, and tells whether all went well."""
+    """Installs packages into a folder, and returns whether all went well."""
     with Tree() as tree:
         with tree.begin() as job:
             copy_in(job, folder)
@@ -42,7 +42,7 @@ def install_all(folder: str, packages: list[str]) -> bool:
 
 
 def main(folder: str, packages: list[str]) -> bool:
-    """The same; where the folder can not be read or replaced, it is told."""
+    """Does the same, and prints a line if the folder can't be read or replaced."""
     try:
         return install_all(os.path.normpath(folder), packages)
     except OSError as error:

@@ -9,15 +9,15 @@
             job.listdir("/out")
         copy_out(tree, "/tmp/result")       # a directory of the disk
 
-What stands in the way of a call is the OSError of its errno, as FileNotFoundError, with the
-filename. `Waits`, an OSError, says for which other transactions a call waits; to ask again, make
-it again, or give the tree a `timeout`. `Deadlock`, which is a `Waits`, says that they wait for each
-other. `Refused` says why a request is none that can be made now. `Waits` and `Refused` are
-`Error`s. Want of memory is a MemoryError, and a path with a null byte, a closed tree or a closed
-file a ValueError.
+A call that fails raises the OSError of its errno, like FileNotFoundError, with the filename.
+`Waits`, an OSError, lists the transactions that a call waits for; to ask again, make the call
+again, or give the tree a `timeout`. `Deadlock`, which is a `Waits`, means that transactions wait
+for each other. `Refused` says why a request can't be made now. `Waits` and `Refused` are `Error`s.
+Lack of memory is a MemoryError. A path with a null byte, a closed tree or a closed file is a
+ValueError.
 
-A path is absolute or not, which is the same here: there is no working directory but the root. A
-symbolic link with a relative target leads on from its own directory.
+Absolute and relative paths are the same here: the working directory is always the root. A symbolic
+link with a relative target leads on from its own directory.
 """
 from ._disk import copy_in, copy_out
 from ._errors import AnyPath, Deadlock, Error, Refused, Waits

@@ -21,14 +21,14 @@ Nanoseconds = Optional[tuple[int, int]]
 
 
 def mode_of(mode: int) -> int:
-    """A mode, without the kind that `st_mode` has too: so `stat(..).st_mode | 0o111` is one."""
+    """A mode, without the kind that `st_mode` also has: so `stat(..).st_mode | 0o111` is one."""
     if isinstance(mode, bool):
         raise TypeError("a mode is a number, and exist_ok or parents a keyword")
     return _unsigned(mode & ~_KIND)
 
 
 def owner_of(number: int) -> int:
-    """An owner or a group, of which -1 stands for the one that there is."""
+    """An owner or a group; -1 means the present one."""
     if number == -1:
         return _library.STAYS
     if number == _library.STAYS:
@@ -37,8 +37,8 @@ def owner_of(number: int) -> int:
 
 
 def time_of(times: Times, ns: Nanoseconds) -> tuple[int, int]:
-    """A time of modification in seconds and nanoseconds, as `os.utime` is given it: now, if it is
-    given none."""
+    """A time of modification in seconds and nanoseconds, as `os.utime` takes it. Without one, it is
+    now."""
     if times is not None and ns is not None:
         raise ValueError("either times or ns is given, and not both")
     if ns is not None:

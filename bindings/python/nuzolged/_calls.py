@@ -35,9 +35,9 @@ def encoded(path: AnyPath) -> bytes:
 
 
 class Calls:
-    """The calls of a transaction. What stands in the way of each is raised: the OSError of its
-    errno with the filename, `Waits`, or `Refused`, where the transaction has ended. A path with a
-    null byte is a ValueError."""
+    """The calls of a transaction. A call that fails raises the OSError of its errno with the
+    filename. A blocked call raises `Waits`, and `Refused` means that the transaction has ended. A
+    path with a null byte is a ValueError."""
 
     #: The number of the transaction that makes the calls, and its tree.
     number: int
@@ -64,10 +64,10 @@ class Calls:
         """Makes a directory.
 
         Args:
-            path: Its path. What is above it has to be there.
-            mode: Its mode, at most 0o7777: there is no umask. The kind that `st_mode` has too is
-                passed over.
-            exist_ok: Whether it may be there already; then its mode stays.
+            path: Its path. The directory above it has to exist.
+            mode: Its mode, at most 0o7777: there is no umask. The kind that `st_mode` also has is
+                ignored.
+            exist_ok: Whether it may exist already; then its mode stays.
 
         Raises:
             FileExistsError: The path leads to something; with `exist_ok`, to a file.
@@ -86,7 +86,7 @@ class Calls:
         """Removes an empty directory.
 
         Raises:
-            OSError: ENOTEMPTY where it is not empty, EBUSY where it is the root.
+            OSError: ENOTEMPTY if it is not empty, EBUSY if it is the root.
             NotADirectoryError: The path leads to a file.
         """
         self._on("nuz_rmdir", path)
@@ -101,8 +101,8 @@ class Calls:
     def scandir(self, path: AnyPath) -> list[Entry[str]] | list[Entry[bytes]]: ...
 
     def scandir(self, path: AnyPath = "/") -> list[Entry[str]] | list[Entry[bytes]]:
-        """The names of a directory in the order of their bytes, each with what it leads to. They
-        are bytes where the path is. All of them are of one moment."""
+        """Returns the names of a directory in the order of their bytes, each with what it leads to.
+        They are bytes if the path is. All of them are of one moment."""
         names = self._names(path)
         folder = os.fspath(path)
         if isinstance(folder, bytes):
@@ -119,7 +119,7 @@ class Calls:
     def listdir(self, path: AnyPath) -> list[str] | list[bytes]: ...
 
     def listdir(self, path: AnyPath = "/") -> list[str] | list[bytes]:
-        """The names of a directory, in the order of their bytes. They are bytes where the path
+        """Returns the names of a directory, in the order of their bytes. They are bytes if the path
         is."""
         names = [name for name, _ in self._names(path)]
         if isinstance(os.fspath(path), bytes):
@@ -127,7 +127,7 @@ class Calls:
         return [os.fsdecode(name) for name in names]
 
     def _names(self, path: AnyPath) -> list[tuple[bytes, int]]:
-        """The names of a directory, each with the kind of what it is of."""
+        """The names of a directory, each with its kind."""
         room = ctypes.create_string_buffer(NAMES_ROOM)
         take = self.transaction.session.take_names
         listed = self._on(
@@ -136,7 +136,7 @@ class Calls:
         return listed.names
 
     def stat(self, path: AnyPath, *, follow_symlinks: bool = True) -> Info:
-        """What a path leads to.
+        """Returns what a path leads to.
 
         Args:
             path: The path.
@@ -144,7 +144,7 @@ class Calls:
 
         Raises:
             FileNotFoundError: It leads to nothing.
-            NotADirectoryError: It goes on behind a file.
+            NotADirectoryError: It continues after a file.
             OSError: ELOOP where it leads through more than 40 symbolic links.
         """
         raw = encoded(path)
@@ -152,19 +152,18 @@ class Calls:
         return info_of(self.session.ask(request, (path,), self.timeout))
 
     def lstat(self, path: AnyPath) -> Info:
-        """What a path leads to, where a last symbolic link is not followed. Raises what `stat`
-        raises."""
+        """Does the same as `stat`, but does not follow a last symbolic link."""
         return self.stat(path, follow_symlinks=False)
 
     def isdir(self, path: AnyPath) -> bool:
-        """Whether a path leads to a directory."""
+        """Returns whether a path leads to a directory."""
         found = self._found(path)
-        return found is not None and found.is_dir
+        return found is not None and found.is_dir()
 
     def isfile(self, path: AnyPath) -> bool:
-        """Whether a path leads to a file."""
+        """Returns whether a path leads to a file."""
         found = self._found(path)
-        return found is not None and found.is_file
+        return found is not None and found.is_file()
 
     def _found(self, path: AnyPath, follow_symlinks: bool = True) -> Info | None:
         """What a path leads to, if it leads to anything."""
@@ -179,8 +178,8 @@ class Calls:
         """Makes a symbolic link.
 
         Args:
-            target: Where it leads: it stays as it is given, and need not lead to anything. A
-                relative one begins in the directory of the link.
+            target: Where it leads. It stays as given, and need not lead to anything. A relative
+                one begins in the directory of the link.
             path: Its path.
 
         Raises:
@@ -200,10 +199,10 @@ class Calls:
     def readlink(self, path: AnyPath) -> str | bytes: ...
 
     def readlink(self, path: AnyPath) -> str | bytes:
-        """The target of a symbolic link. It is of bytes where the path is.
+        """Returns the target of a symbolic link. It is bytes if the path is.
 
         Raises:
-            OSError: EINVAL where it is no symbolic link.
+            OSError: EINVAL if it is no symbolic link.
         """
         room = ctypes.create_string_buffer(_LONGEST_TARGET)
         size = self._on("nuz_readlink", path, room, _LONGEST_TARGET).number
@@ -224,7 +223,7 @@ class Calls:
 
         Args:
             path: Its path.
-            mode: At most 0o7777; the kind that `st_mode` has too is passed over.
+            mode: At most 0o7777; the kind that `st_mode` also has is ignored.
 
         Raises:
             OSError: EINVAL if the mode is above 0o7777.
@@ -238,7 +237,7 @@ class Calls:
     def chown(
         self, path: AnyPath, uid: int, gid: int, *, follow_symlinks: bool = True
     ) -> None:
-        """Sets the owner and the group of a file or directory. Its mode stays, also the bits by
+        """Sets the owner and the group of a file or directory. The mode stays, even the bits by
         which a file runs as its owner or group.
 
         Args:
@@ -256,7 +255,7 @@ class Calls:
         self._on(function, path, owner_of(uid), owner_of(gid))
 
     def lchown(self, path: AnyPath, uid: int, gid: int) -> None:
-        """The same as `chown`, but a last symbolic link is not followed."""
+        """Does the same as `chown`, but does not follow a last symbolic link."""
         self.chown(path, uid, gid, follow_symlinks=False)
 
     def fchown(self, file: Any, uid: int, gid: int) -> None:
@@ -271,15 +270,14 @@ class Calls:
         ns: Nanoseconds = None,
         follow_symlinks: bool = True,
     ) -> None:
-        """Sets the time of a file's bytes: what writes to the file later, or gives it a length,
-        takes the time away, even if the bytes stay the same. A tree reads no clock, and a file that
-        nobody gave a time has none.
+        """Sets the time of a file's bytes. A later call that writes to the file, or sets its
+        length, removes the time, even if the bytes stay the same. A tree reads no clock: if nobody
+        gave a file a time, it has none.
 
         Args:
             path: Its path.
             times: The time of access, which is not kept, and that of the bytes, in seconds.
-            ns: The same in nanoseconds. If neither is given, the time is that at which this is
-                called.
+            ns: The same in nanoseconds. If neither is given, the time is that of this call.
             follow_symlinks: Whether a last symbolic link is followed.
 
         Raises:
@@ -290,36 +288,35 @@ class Calls:
         self._on(function, path, *time_of(times, ns))
 
     def futime(self, file: Any, times: Times = None, *, ns: Nanoseconds = None) -> None:
-        """Sets the time of an open file's bytes, as `utime` does. What is buffered is written
-        first; what is written after that takes the time away."""
+        """Sets the time of an open file's bytes, as `utime` does. Its buffer is written first; a
+        later write removes the time."""
         _file.below(file)._ask_by(self, "nuz_futime", *time_of(times, ns))
 
     def truncate(self, path: AnyPath, size: int) -> None:
         """Cuts a file to `size` bytes, or adds zeros up to them. A last symbolic link is followed.
 
         Raises:
-            OSError: EINVAL where the size is below 0, EFBIG where it is above the limit.
+            OSError: EINVAL if the size is below 0, EFBIG if it is above the limit.
             IsADirectoryError: The path leads to a directory.
         """
         self._on("nuz_truncate", path, _library.signed(size))
 
     def link(self, old: AnyPath, new: AnyPath) -> None:
-        """Gives a file or symbolic link a further name.
+        """Gives a file or symbolic link another name, besides those that it has.
 
         Raises:
             FileExistsError: The new path leads to something.
             PermissionError: The old path leads to a directory.
-            OSError: EMLINK where the file has as many names as it may.
+            OSError: EMLINK if the file has as many names as it may.
         """
         self._on_both("nuz_link", old, new)
 
     def rename(self, old: AnyPath, new: AnyPath) -> None:
-        """Gives a file, a symbolic link or a directory another name, in place of what had that
-        name.
+        """Gives a file, a symbolic link or a directory a new name, and replaces what had that name.
 
         Raises:
-            OSError: ENOTEMPTY where the new path leads to a directory that is not empty, EINVAL
-                where it is below the old one.
+            OSError: ENOTEMPTY if the new path leads to a directory that is not empty, EINVAL if it
+                is below the old one.
             IsADirectoryError: A file would take the place of a directory.
         """
         self._on_both("nuz_rename", old, new)
@@ -373,8 +370,8 @@ class Calls:
     ) -> IO[Any]:
         """Opens a file, as Python's `open` does, with the classes of `io`.
 
-        The file is of the tree alone: it has no `fileno`, so that no other process can have it, as
-        by `subprocess`, and no `mmap`.
+        The file is only in the tree: it has no `fileno`, so no other process can have it, as by
+        `subprocess`, and no `mmap`.
 
         Args:
             path: Its path.

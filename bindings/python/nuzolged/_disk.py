@@ -1,8 +1,8 @@
 """Copies from and to directories of the disk, by the functions of nuzolged_copy.h.
 
-Directories, files and their bytes are copied, symbolic links and their targets, that two names are
-of one file or link, and the modes, owners and times that a tree holds: the owner and the time of a
-symbolic link, and the time of a directory, are not among them.
+A copy has directories, files with their bytes, symbolic links with their targets, and the modes,
+owners and times that a tree holds. Names of one file or link stay such. The owner and the time of a
+symbolic link, and the time of a directory, are not copied.
 """
 from __future__ import annotations
 
@@ -36,7 +36,7 @@ class _Options(ctypes.Structure):
 
 
 class _Failure(ctypes.Structure):
-    """`nuz_copy_failure`: what stood in the way."""
+    """`nuz_copy_failure`: why a copy has failed."""
 
     code: int
     on_disk: bool
@@ -66,26 +66,26 @@ _copy_out = _declared("nuz_copy_out", ctypes.c_char_p, ctypes.c_size_t, ctypes.c
 def copy_in(
     transaction: Transaction, disk: AnyPath, path: AnyPath = "/", *, set_id: bool = False
 ) -> None:
-    """Copies what is below a directory of the disk to a directory of the tree, with its modes,
-    owners and times. Two names of a file stay such, where both are copied. Symbolic links are
-    copied with their targets as they are, and not followed below `disk`.
+    """Copies everything below a directory of the disk to a directory of the tree, with its modes,
+    owners and times. Two names of a file stay names of one file, if both are copied. Symbolic links
+    are copied with their targets as they are, and not followed below `disk`.
 
-    Directories that are there already are kept with their modes and owners, also where a symbolic
-    link of the tree leads to them; but the root of an empty tree gets those of `disk`, unless it
-    has been given others. A file or link that is there is a FileExistsError: so make the copy in a
-    step, which takes away what has been copied before that. What changes on the disk meanwhile is
-    copied before or after that.
+    Existing directories of the tree keep their modes and owners, even if a symbolic link of the
+    tree leads to them. However, the root of an empty tree gets those of `disk`, unless it has been
+    given others. An existing file or link is a FileExistsError: make the copy in a step, which
+    undoes what has been copied before that. Whatever changes on the disk meanwhile is copied as it
+    is before the change, or as it is after it.
 
     Args:
         transaction: The transaction that makes the calls.
         disk: The directory of the disk.
-        path: The directory of the tree. It is made where it is missing.
-        set_id: Whether the bits of a mode are copied by which a file runs as its owner or group.
+        path: The directory of the tree. It is made if it is missing.
+        set_id: Whether to copy the bits of a mode by which a file runs as its owner or group.
 
     Raises:
-        FileExistsError: A file is there already. The filename is its path in the tree.
-        OSError: ENOTSUP where something is no file, directory or symbolic link, EFBIG where a file
-            is larger than the tree allows, or what the disk says. The filename is that of the disk.
+        FileExistsError: A file exists already. The filename is its path in the tree.
+        OSError: ENOTSUP if something is no file, directory or symbolic link, EFBIG if a file is
+            larger than the tree allows, or an error of the disk. The filename is that of the disk.
     """
     _Copy(transaction).make(
         _copy_in, disk_path(disk), *_tree_path(path), flags=SET_ID if set_id else 0
@@ -101,29 +101,29 @@ def copy_out(
     replace: bool = False,
     sync: bool = False,
 ) -> None:
-    """Copies what is below a directory of the tree to a directory of the disk, with its modes,
-    owners and times: all of it, or nothing, since it gets its name at the end; so too if this
-    process dies.
+    """Copies everything below a directory of the tree to a directory of the disk, with its modes,
+    owners and times. It copies all of it or nothing, even if this process dies, since the directory
+    gets its name at the end.
 
     Symbolic links are made with their targets as they are: nothing is written through one, wherever
     it leads. If root makes the copy, owners are those of the tree, as far as the system lets it set
-    them; else all belongs to this process. Files that have no time in the tree get that of the
-    copy, all the same one.
+    them; otherwise everything belongs to this process. Files without a time in the tree get the
+    time of the copy, all the same one.
 
     Args:
-        source: The tree, as what has committed left it, or a transaction. What is buffered in its
-            open files is not in it yet: so commit first, and copy from the tree.
-        disk: The directory of the disk. It is not there yet or is empty, unless it is replaced.
+        source: The tree, with what has committed, or a transaction. Data in the buffers of its
+            open files is not there yet: so commit first, and copy from the tree.
+        disk: The directory of the disk. It is missing or empty, unless it is replaced.
         path: The directory of the tree.
-        set_id: Whether the bits of a mode are copied by which a file runs as its owner or group. A
-            file that gets another owner or group than it has in the tree has none in any case.
-        replace: Whether a directory that is there is replaced, at once where the file system can,
-            and removed.
-        sync: Whether all of it stands on the disk before it gets its name, so that it is whole or
-            nothing where the power fails, too.
+        set_id: Whether to copy the bits of a mode by which a file runs as its owner or group. A
+            file that gets another owner or group than it has in the tree never has these bits.
+        replace: Whether to replace an existing directory, all at once if the file system can, and
+            remove it.
+        sync: Whether all of it is on the disk before it gets its name, so that it is whole or not
+            there at all even if the power fails.
 
     Raises:
-        OSError: What the disk says, as ENOTEMPTY where the directory is there.
+        OSError: An error of the disk, such as ENOTEMPTY if the directory exists.
     """
     flags = (SET_ID if set_id else 0) | (REPLACE if replace else 0) | (SYNC if sync else 0)
     place = os.path.abspath(disk_path(disk))
@@ -146,7 +146,7 @@ class _Copy:
         self._raised: BaseException | None = None
 
     def make(self, function: Callable[..., int], *args: object, flags: int) -> None:
-        """Makes it, and raises what stood in the way."""
+        """Makes the copy, and raises its error."""
         failure = _Failure()
         options = _Options(flags, _Around(self._around), None)
         transaction = self._transaction
@@ -160,7 +160,7 @@ class _Copy:
             raise error_of(code, os.fsdecode(failure.disk if is_of_disk else failure.path))
 
     def _around(self, _: int | None, make: int, request: int) -> int:
-        """Makes one request, and answers its code. (No exception goes through C.)"""
+        """Makes one request, and returns its code. (No exception goes through C.)"""
         try:
             return self._transaction._ask("copy_request", make, request).number
         except BaseException as error:

@@ -1,4 +1,4 @@
-"""What stands in the way of a request."""
+"""Why a request was not carried out."""
 from __future__ import annotations
 
 import errno
@@ -12,14 +12,14 @@ AnyPath = Union[str, bytes, "os.PathLike[str]", "os.PathLike[bytes]"]
 
 
 class Error(Exception):
-    """What stands in the way of a request and is the errno of no call: `Waits` or `Refused`."""
+    """Why a request was not carried out, if not by the errno of a call: `Waits` or `Refused`."""
 
 
 class Waits(OSError, Error):
     """The call waits for the transactions `blockers`. To ask again, make the call again.
 
-    Its errno is EAGAIN. It is no BlockingIOError, which the buffers of `io` would take for their
-    own and replace.
+    Its errno is EAGAIN. It is not a BlockingIOError, because the buffers of `io` would take that
+    for their own and replace it.
     """
 
     blockers: list[int]
@@ -27,6 +27,10 @@ class Waits(OSError, Error):
     def __init__(self, blockers: list[int], *paths: AnyPath) -> None:
         super().__init__(errno.EAGAIN, self._text(blockers), *_named(paths))
         self.blockers = blockers
+        self._made_of: tuple[object, ...] = (blockers, *paths)
+
+    def __reduce__(self) -> tuple[object, ...]:
+        return type(self), self._made_of, {**vars(self), "filename": self.filename}
 
     @staticmethod
     def _text(numbers: list[int]) -> str:
@@ -34,9 +38,9 @@ class Waits(OSError, Error):
 
 
 class Deadlock(Waits):
-    """The call would wait for ever: each of the transactions `cycle` waits for the next one, and
-    the last for the first, which is the one that asked. Its call is forgotten. Abort it, or let it
-    do something else, and the others go on."""
+    """The call would wait forever: each of the transactions `cycle` waits for the next one, and the
+    last waits for the first, which made the call. The call is forgotten. Abort that transaction, or
+    let it do something else; the others then continue."""
 
     cycle: list[int]
 
@@ -44,6 +48,7 @@ class Deadlock(Waits):
         super().__init__(blockers, *paths)
         self.strerror = "A cycle of transactions wait for each other: " + ", ".join(map(str, cycle))
         self.cycle = cycle
+        self._made_of = (blockers, cycle, *paths)
 
 
 class Refused(RuntimeError, Error):
@@ -52,12 +57,16 @@ class Refused(RuntimeError, Error):
     name: str
 
     def __init__(self, name: str) -> None:
-        super().__init__(f"{_library.REFUSALS[name]} ({name})")
+        reason = _library.REFUSALS.get(name, "the library refuses it")
+        super().__init__(f"{reason} ({name})")
         self.name = name
+
+    def __reduce__(self) -> tuple[object, ...]:
+        return type(self), (self.name,)
 
 
 def _named(paths: Sequence[AnyPath]) -> tuple[object, ...]:
-    """Paths as arguments of an OSError: between two there stands one that only Windows uses."""
+    """Paths as arguments of an OSError: between two comes one that only Windows uses."""
     return (paths[0], None, *paths[1:]) if len(paths) == 2 else tuple(paths)
 
 

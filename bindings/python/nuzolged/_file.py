@@ -86,7 +86,7 @@ class RawFile(io.RawIOBase):
         return self._ask(function, room, len(view), *at).number
 
     def readall(self) -> bytes:
-        """All bytes from the offset to the end, as many as there are now."""
+        """Returns all bytes from the offset to the end, as many as there are now."""
         self._has_to(self._asked.reads, "read")
         here = self.tell()
         left = max(self.seek(0, os.SEEK_END) - here, 0)
@@ -96,7 +96,7 @@ class RawFile(io.RawIOBase):
         return bytes(data[:count])
 
     def read_whole(self) -> bytes:
-        """All bytes from its beginning to its end. A small file takes one call."""
+        """Returns all bytes from the beginning to the end. A small file takes one call."""
         first = self.pread(_SMALL, 0)
         if len(first) < _SMALL:
             return first
@@ -104,7 +104,7 @@ class RawFile(io.RawIOBase):
         return self.readall()
 
     def pieces(self) -> Iterator[bytes]:
-        """All bytes from its beginning to its end, in pieces that have room in memory."""
+        """Yields all bytes from the beginning to the end, in pieces that fit in memory."""
         left = self.seek(0, os.SEEK_END)
         self.seek(0)
         while left > 0:
@@ -113,7 +113,7 @@ class RawFile(io.RawIOBase):
             yield piece
 
     def pread(self, size: int, offset: int) -> bytes:
-        """Up to `size` bytes at an offset. That of the file stays."""
+        """Returns up to `size` bytes at an offset. The offset of the file stays."""
         self._has_to(self._asked.reads, "read")
         data = bytearray(size)
         return bytes(data[: self._read_to(data, "nuz_pread", _library.signed(offset))])
@@ -127,14 +127,14 @@ class RawFile(io.RawIOBase):
         return self._ask("nuz_write", raw, len(raw)).number
 
     def write_all(self, data: Any) -> None:
-        """Writes all of it, or raises what stood in the way of the rest."""
+        """Writes all of it, or raises the error of the rest."""
         left = memoryview(data).cast("B")
         while left:
             left = left[self.write(left) :]
 
     def pwrite(self, data: Any, offset: int) -> int:
-        """Writes at an offset as many bytes as have room, and answers how many. That of the file
-        stays."""
+        """Writes at an offset as many bytes as have room, and returns how many. The offset of the
+        file stays."""
         self._has_to(self._asked.writes, "write")
         raw = memoryview(data).cast("B")[: _library.MOST_WRITTEN].tobytes()
         return self._ask("nuz_pwrite", raw, len(raw), _library.signed(offset)).number
@@ -154,13 +154,13 @@ class RawFile(io.RawIOBase):
         return size
 
     def stat(self) -> Info:
-        """What there is to tell of it."""
+        """Returns what `stat` reports about the file."""
         return info_of(self._ask("nuz_fstat"))
 
     def close(self) -> None:
-        """Closes it. Where that has to wait, or has no memory, it is open still, and may be closed
-        again. Where nobody has it any more it does not wait: what is left to write and to close is
-        done before its transaction commits."""
+        """Closes the file. If that has to wait, or lacks memory, the file is still open, and may be
+        closed again. A file that nobody has any more does not wait: what is left to write and to
+        close is done before its transaction commits."""
         if self.closed:
             return
         if self._fd is None:
@@ -180,12 +180,12 @@ class RawFile(io.RawIOBase):
             self._transaction._late.put_close(*self._named())
 
     def _forget(self, fd: int) -> bool:
-        """Tells the transaction that it has no such file. Whether it had one."""
+        """Removes the file from its transaction, and returns whether it was there."""
         return self._transaction._files.pop(fd, None) is not None
 
     def _close_now(self) -> None:
-        """Closes it. Where its transaction, or one around it, has ended, or the tree is closed,
-        that is closed already."""
+        """Closes the file. If its transaction, or one around it, has ended, or the tree is closed,
+        the file is closed already."""
         try:
             self._ask("nuz_close")
         except Refused as refused:
@@ -199,7 +199,7 @@ class RawFile(io.RawIOBase):
         return (self._transaction.number, self._fd, *args)
 
     def _dealloc_warn(self, source: object) -> None:
-        """A buffer calls it where nobody has the buffer any more, before it writes what it has."""
+        """A buffer that nobody has any more calls this before it writes its bytes."""
         self._is_dropped = True
 
 
@@ -208,10 +208,10 @@ Text = tuple[Optional[str], Optional[str], Optional[str]]
 
 
 def below(file: Any) -> RawFile:
-    """The file that is below a buffer, or below a text, which is written to it first.
+    """Returns the file below a buffer or a text, whose bytes are written to it first.
 
     Raises:
-        TypeError: It is no open file of a transaction.
+        TypeError: It is not an open file of a transaction.
     """
     if hasattr(file, "flush"):
         file.flush()
@@ -243,8 +243,8 @@ def opened(
 
 
 class _UnderText(io.BufferedIOBase):
-    """A buffer below a text. The garbage collector may find it before the text, which has more to
-    write: so it writes then, and is closed by the text."""
+    """A buffer below a text. The garbage collector may find the buffer before the text, which has
+    more to write: so the buffer writes then, and the text closes it."""
 
     raw: Any
 
@@ -269,7 +269,7 @@ class _RandomUnderText(_UnderText, io.BufferedRandom):  # type: ignore[misc]
 
 
 def _wrapped(raw: Any, name: str, buffering: int, text: Text) -> Any:
-    """A file with a buffer, and with an encoding where it is of text."""
+    """A file with a buffer, and with an encoding if it is of text."""
     mode = Mode.of(name)
     size = buffering if buffering > 1 else io.DEFAULT_BUFFER_SIZE
     if not mode.is_text:

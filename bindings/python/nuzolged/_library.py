@@ -4,6 +4,7 @@ from __future__ import annotations
 
 import ctypes
 import itertools
+import operator
 import os
 import struct
 from ctypes import POINTER, c_char_p, c_int64, c_size_t, c_uint32, c_uint64, c_void_p
@@ -44,15 +45,16 @@ REFUSALS = {
     "NothingToUndo": "there is no call to undo",
     "SubSince": "a step has committed since the last call",
     "Full": "all transactions or calls are used up",
-    "Deep": "the transaction stands too deep",
+    "Deep": "the transaction is too deep",
     "Live": "a transaction is live",
     "NoAsk": "the transaction waits for no call",
 }
 
 
 def name_of(code: int) -> str:
-    """The name of a refusal."""
-    return list(REFUSALS)[code - MEMORY]
+    """The name of a refusal; of one that a later library knows, its code."""
+    names = dict(enumerate(REFUSALS, MEMORY))
+    return names.get(code, str(code))
 
 
 class Limits(ctypes.Structure):
@@ -162,6 +164,7 @@ _FUNCTIONS: dict[str, tuple[type, ...]] = {
 
 def signed(number: int) -> int:
     """An offset or a size, which has to be one of 64 bits: ctypes would cut it to them."""
+    number = operator.index(number)
     if not -(1 << 63) <= number < 1 << 63:
         raise OverflowError(f"an offset or a size of more than 64 bits: {number}")
     return number

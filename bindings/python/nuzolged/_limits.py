@@ -17,22 +17,22 @@ _GREATEST = {
 
 @dataclass(frozen=True)
 class Limits:
-    """What a tree allows. None stands for the greatest that there is.
+    """What a tree allows. None means the greatest limit.
 
     A limit above the greatest, or below 0, is a ValueError.
     """
 
-    #: How many bytes a file may have, at most 2^47: more is an OSError, EFBIG.
+    #: How many bytes a file may have, at most 2^47. More is an OSError, EFBIG.
     file_size: int | None = None
-    #: How many names a file may have, at most 2^32: one more is an OSError, EMLINK.
+    #: How many names a file may have, at most 2^32. One more is an OSError, EMLINK.
     links: int | None = None
-    #: How deep a transaction may stand, at most 4,096, where one of the tree has depth 1: a step
-    #: below it is `Refused`, Deep.
+    #: How deep a transaction may be, at most 4,096. One of the tree has depth 1. A step below the
+    #: deepest is `Refused`, Deep.
     depth: int | None = None
-    #: How many transactions may begin before a checkpoint, at most 2^62: one more is `Refused`,
+    #: How many transactions may begin before a checkpoint, at most 2^62. One more is `Refused`,
     #: Full.
     transactions: int | None = None
-    #: How many calls may be granted before a checkpoint, at most 2^62: one more is `Refused`, Full.
+    #: How many calls may be granted before a checkpoint, at most 2^62. One more is `Refused`, Full.
     calls: int | None = None
 
     def __post_init__(self) -> None:

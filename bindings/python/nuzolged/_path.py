@@ -18,7 +18,7 @@ Part = Union[str, "os.PathLike[str]"]
 class Path:
     """A path of a tree, by which a transaction makes calls: `transaction.path("/a") / "b"`.
 
-    What it is called, it has from `pathlib.PurePosixPath`; what it does, from the transaction.
+    Its names come from `pathlib.PurePosixPath`, and its calls from the transaction.
     """
 
     __slots__ = ("_calls", "_pure")
@@ -72,6 +72,10 @@ class Path:
         return self._pure.suffix
 
     @property
+    def suffixes(self) -> list[str]:
+        return self._pure.suffixes
+
+    @property
     def parts(self) -> tuple[str, ...]:
         return self._pure.parts
 
@@ -86,11 +90,23 @@ class Path:
     def with_name(self, name: str) -> Path:
         return self._with(self._pure.with_name(name))
 
+    def with_stem(self, stem: str) -> Path:
+        return self._with(self._pure.with_stem(stem))
+
     def with_suffix(self, suffix: str) -> Path:
         return self._with(self._pure.with_suffix(suffix))
 
     def relative_to(self, other: Part) -> PurePosixPath:
         return self._pure.relative_to(other)
+
+    def is_relative_to(self, other: Part) -> bool:
+        return self._pure.is_relative_to(other)
+
+    def is_absolute(self) -> bool:
+        return self._pure.is_absolute()
+
+    def as_posix(self) -> str:
+        return self._pure.as_posix()
 
     def match(self, pattern: str) -> bool:
         return self._pure.match(pattern)
@@ -114,7 +130,7 @@ class Path:
         return self._calls.islink(self)
 
     def readlink(self) -> Path:
-        """The target of a symbolic link, as a path."""
+        """Returns the target of a symbolic link, as a path."""
         return self._with(PurePosixPath(self._calls.readlink(str(self._pure))))
 
     def resolve(self) -> Path:
@@ -125,11 +141,11 @@ class Path:
         return self.stat().number == self._calls.stat(other).number
 
     def iterdir(self) -> Iterator[Path]:
-        """The paths in a directory, in the order of the bytes of their names."""
+        """Returns the paths in a directory, in the order of the bytes of their names."""
         return (self / name for name in self._calls.listdir(str(self._pure)))
 
     def glob(self, pattern: str) -> list[Path]:
-        """The paths below it that fit a pattern, in order, as those of `Transaction.glob` do."""
+        """Returns the paths below it that match a pattern, in order, as `Transaction.glob` does."""
         found = self._calls.glob(str(self._pure / pattern))
         return [self._with(PurePosixPath(path)) for path in found]
 
@@ -143,7 +159,7 @@ class Path:
         make(self, mode, exist_ok=exist_ok)
 
     def touch(self, mode: int = 0o644, exist_ok: bool = True) -> None:
-        """Makes a file of no bytes, if it is missing. The time of one that is there stays."""
+        """Makes an empty file, if it is missing. An existing file keeps its time."""
         self.open("ab" if exist_ok else "xb", 0, permissions=mode).close()
 
     def chmod(self, mode: int) -> None:
@@ -160,7 +176,7 @@ class Path:
                 raise
 
     def rename(self, target: AnyPath) -> Path:
-        """Gives it another name, in place of what had that name, and answers its new path."""
+        """Gives it another name, replaces what had that name, and returns the new path."""
         self._calls.rename(self, target)
         return self._with(PurePosixPath(os.fsdecode(target)))
 
@@ -172,7 +188,7 @@ class Path:
         self._calls.symlink(target, self)
 
     def hardlink_to(self, target: AnyPath) -> None:
-        """Makes it a further name of the file `target`."""
+        """Makes it another name of the file `target`."""
         self._calls.link(target, self)
 
     def open(

@@ -41,6 +41,9 @@ class Session:
 
     _at: int | None = None
 
+    #: What answers in the place of the library once the tree is closed.
+    _closed: Any = ClosedTree()
+
     def __init__(self, options: int, limits: Limits, keeps_waits: bool) -> None:
         handle = ctypes.c_void_p()
         #: Whether a call that does not wait, and has to, is kept.
@@ -70,7 +73,9 @@ class Session:
         self._ended = threading.Condition(self.lock)
 
     def __del__(self) -> None:
-        library.nuz_tree_close(self._at)
+        """Frees the tree. (Finalizers of its transactions and files may come after it.)"""
+        at, self._at, self._library = self._at, None, self._closed
+        library.nuz_tree_close(at)
 
     @property
     def is_open(self) -> bool:
@@ -79,7 +84,7 @@ class Session:
     def close(self) -> None:
         """Frees the tree, which wakes those that wait."""
         with self.lock:
-            at, self._at, self._library = self._at, None, ClosedTree()
+            at, self._at, self._library = self._at, None, self._closed
             library.nuz_tree_close(at)
             self._ended.notify_all()
 
@@ -181,7 +186,7 @@ class Session:
     def _sleep(self, seconds: float | None, number: object) -> None:
         """Sleeps until a transaction has ended. At an interrupt what waits is forgotten."""
         try:
-            self._ended.wait(seconds)
+            self._ended.wait(None if seconds is None else min(seconds, threading.TIMEOUT_MAX))
         except BaseException:
             self._library.nuz_cancel(number)
             raise
@@ -353,6 +358,13 @@ class Late:
                 left.popleft()
             raise
         left.popleft()
+
+
+def time_limit(timeout: float | None) -> float | None:
+    """A time limit, which has to be None or a number from 0 on."""
+    if timeout is not None and not timeout >= 0:
+        raise ValueError(f"a timeout has to be None or a number from 0 on: {timeout}")
+    return timeout
 
 
 def _end_of(timeout: float | None) -> float | None:

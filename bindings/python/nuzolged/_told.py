@@ -12,6 +12,12 @@ if TYPE_CHECKING:
 
 Name = TypeVar("Name", str, bytes)
 
+#: What there is at a path, as a `Touched` names it too.
+_KINDS = {DIR: "dir", FILE: "file", LINK: "link"}
+
+#: The bits of `st_mode` for a kind.
+_FORMATS = {"dir": stat.S_IFDIR, "file": stat.S_IFREG, "link": stat.S_IFLNK}
+
 #: What the text of a name says of it, but for a file.
 _OF_KIND = {DIR: " of a directory", LINK: " of a symbolic link"}
 
@@ -20,17 +26,21 @@ _made = tuple.__new__
 
 
 class Info(NamedTuple):
-    """What there is to tell of a file, directory or symbolic link; also as `os.stat` names it."""
+    """The status of a file, directory or symbolic link.
 
-    is_dir: bool
+    It has the fields of `os.stat_result` for what a tree holds: no `st_dev`, and no time but that
+    of a file's bytes. `is_dir`, `is_file` and `is_symlink` are methods, as those of `pathlib.Path`
+    and `os.DirEntry` are.
+    """
+
+    #: "dir", "file" or "link". Only `lstat` returns a link.
+    kind: str
     #: Its number in the tree, which no other has or has had.
     number: int
     #: How many names a file or symbolic link has. A directory has one link.
     links: int
     #: How many bytes a file has, or the target of a symbolic link.
     size: int
-    #: Whether it is a symbolic link, of which only `lstat` tells.
-    is_link: bool = False
     #: Its permissions, at most 0o7777: those of a symbolic link are 0o777.
     mode: int = 0o644
     owner: int = 0
@@ -39,16 +49,22 @@ class Info(NamedTuple):
     #: a directory or a symbolic link.
     time_ns: Optional[int] = None
 
-    @property
+    def is_dir(self) -> bool:
+        """Whether it is a directory."""
+        return self.kind == "dir"
+
     def is_file(self) -> bool:
-        return not (self.is_dir or self.is_link)
+        """Whether it is a file."""
+        return self.kind == "file"
+
+    def is_symlink(self) -> bool:
+        """Whether it is a symbolic link."""
+        return self.kind == "link"
 
     @property
     def st_mode(self) -> int:
         """The kind and the permissions."""
-        if self.is_link:
-            return stat.S_IFLNK | self.mode
-        return (stat.S_IFDIR if self.is_dir else stat.S_IFREG) | self.mode
+        return _FORMATS[self.kind] | self.mode
 
     @property
     def st_ino(self) -> int:
@@ -85,8 +101,7 @@ def info_of(answer: Answer) -> Info:
     """What an answer tells of what a path leads to."""
     _, kind, _, number, links, size, mode, owner, group, has_time, seconds, rest, _ = answer
     time_ns = seconds * 1_000_000_000 + rest if has_time else None
-    told = kind == DIR, number, links, size, kind == LINK, mode, owner, group, time_ns
-    return _made(Info, told)
+    return _made(Info, (_KINDS[kind], number, links, size, mode, owner, group, time_ns))
 
 
 class Entry(Generic[Name]):

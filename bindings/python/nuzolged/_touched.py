@@ -1,4 +1,4 @@
-"""What a transaction has touched, by the functions of nuzolged_touched.h."""
+"""The paths that a transaction has touched, by the functions of nuzolged_touched.h."""
 from __future__ import annotations
 
 import ctypes
@@ -18,21 +18,21 @@ _ROOM = 1 << 16
 class Touched:
     """How a transaction has touched a path."""
 
-    #: Whether it has looked what the path leads to, or that it leads to nothing; or has read the
-    #: bytes, the target or the mode and owners there.
+    #: Whether it has looked up what the path leads to, even in vain, or has read the bytes, the
+    #: target or the mode and owners there.
     read: bool = False
     #: Whether it has listed the directory there.
     listed: bool = False
     #: Whether it has made, changed, renamed or removed what is there.
     written: bool = False
-    #: Whether it has looked for what is there in vain, and has not removed it.
+    #: Whether it has looked up the path in vain, and has not removed anything there.
     absent: bool = False
-    #: What is there now: "dir", "file", "link" or "none".
+    #: The kind of what is there now: "dir", "file", "link" or "none".
     kind: str = "none"
 
     @classmethod
     def of(cls, how: str, kind: str) -> Touched:
-        """What a line of a manifest tells."""
+        """The meaning of a line of a manifest."""
         words = how.split(",")
         is_absent = "absent" in words
         is_read = is_absent or "read" in words
@@ -50,11 +50,11 @@ def manifest(session: Session, number: int) -> str:
     return _text(session, "nuz_manifest", number).decode("ascii")
 
 
-def depfile(session: Session, number: int, target: Optional[AnyPath], top: AnyPath) -> bytes:
+def depfile(session: Session, number: int, target: Optional[AnyPath], top: AnyPath) -> str:
     """The same in the form that make and Ninja read."""
     targets = None if target is None else disk_path(target)
     try:
-        return _text(session, "nuz_depfile", number, targets, disk_path(top))
+        return os.fsdecode(_text(session, "nuz_depfile", number, targets, disk_path(top)))
     except ValueError as error:
         if not session.is_open:
             raise

@@ -4,27 +4,27 @@ from __future__ import annotations
 import os
 
 from . import _library, _limits
-from ._errors import error_of
+from ._errors import Refused, error_of
 from ._limits import Limits
-from ._session import NO_REPLY, Session
+from ._session import NO_REPLY, Session, time_limit
 from ._transaction import SAME, Transaction
 
 
 class Tree:
-    """A tree: at first the root alone. As a context it is closed at the end.
+    """A tree, which has only the root at first. As a context it is closed at the end.
 
-    Threads may share it: one request is made at a time. A fork waits until none is made, and the
-    child has a copy.
+    Threads may share it: one request is made at a time. A fork waits until no request is being
+    made, and the child has a copy.
 
     Args:
-        moss: Whether a call waits for a transaction around it too, where that holds a conflicting
-            lock for a call of its own.
-        limits: What it allows, through checkpoints too. Without them each limit is the greatest,
-            and memory alone ends a job.
+        moss: Whether a call also waits for a transaction around it that holds a conflicting lock
+            for a call of its own.
+        limits: What it allows, even through checkpoints. Without them each limit is the greatest,
+            and only lack of memory ends a job.
         timeout: How many seconds a call waits for transactions of other threads to end; with None,
-            as long as it has to. Then it is forgotten. A call that would wait for ever is told so
-            at once, by `Deadlock`. With 0 it does not wait, unless its transaction says otherwise:
-            `Waits` is raised at once, and the call is kept, so that reports tell of it, until the
+            as long as it has to. Then it is forgotten. A call that would wait forever raises
+            `Deadlock` at once. With 0 it does not wait, unless its transaction has another timeout:
+            `Waits` is raised at once, and the call is kept, so that reports list it, until the
             transaction makes another, or cancels it by `cancel_wait`.
     """
 
@@ -32,7 +32,7 @@ class Tree:
         self, *, moss: bool = False, limits: Limits = Limits(), timeout: float | None = 0
     ) -> None:
         options = _library.MOSS if moss else _library.RELAXED
-        self.timeout = timeout
+        self.timeout = time_limit(timeout)
         self.session = Session(options, _limits.for_library(limits), keeps_waits=timeout == 0)
 
     def __repr__(self) -> str:
@@ -45,8 +45,8 @@ class Tree:
         self.close()
 
     def close(self) -> None:
-        """Frees the tree, with all transactions. A closed one stays so: what is asked of it then
-        raises a ValueError."""
+        """Frees the tree, with all transactions. It stays closed: every request to it then raises a
+        ValueError."""
         self.session.close()
 
     def begin(self, *, timeout: float | None = SAME) -> Transaction:
@@ -54,25 +54,27 @@ class Tree:
 
         Args:
             timeout: How many seconds its calls wait for others to end; with None, as long as they
-                have to. If it is not given, as the tree says.
+                have to. By default, as long as the tree says.
 
         Raises:
-            Refused: As many have begun since the last checkpoint as may.
+            Refused: The limit on transactions since the last checkpoint is reached.
         """
-        return Transaction(self, None, self.timeout if timeout == SAME else timeout)
+        return Transaction(self, None, self.timeout if timeout is SAME else timeout)
 
     def abort(self, number: int) -> int:
-        """Aborts the transaction of this number, which may be another's, and answers how many calls
-        were taken back.
+        """Aborts the transaction of this number, which may be another's, and returns how many calls
+        were undone.
 
         Raises:
             Refused: There is no such transaction, or it has ended.
         """
+        if not 0 <= number < 1 << 64:  # ctypes would cut it
+            raise Refused("NoTxn")
         return self.session.end(("nuz_abort", (number,))).number
 
     def checkpoint(self) -> None:
-        """Makes the tree as it stands the beginning, and forgets the transactions: those and calls
-        are counted from here. Takes no memory.
+        """Makes the present tree the beginning, and forgets the transactions. Transactions and
+        calls are counted from here on. This takes no memory.
 
         Raises:
             Refused: A transaction is live.
@@ -80,8 +82,8 @@ class Tree:
         self.session.ask(("nuz_checkpoint", ()))
 
     def request(self, line: str) -> str:
-        """Carries out one line of a script, a report such as `tree`, `locks` or `waits` too, and
-        answers the text of the reply. It does not wait.
+        """Carries out one line of a script without waiting, and returns the text of the reply. The
+        line may also ask for a report, such as `tree`, `locks` or `waits`.
 
         Raises:
             ValueError: It is no line of a script.

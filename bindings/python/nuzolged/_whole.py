@@ -1,5 +1,5 @@
-"""What takes several calls. Where one of them fails, those before it stand: to have all or nothing,
-do it in a step."""
+"""Functions that make several calls. If one of these fails, the calls before it are not undone: to
+have all or nothing, use a step."""
 from __future__ import annotations
 
 import errno
@@ -27,28 +27,28 @@ class Whole(Calls):
     """Calls on whole files and trees."""
 
     def path(self, path: AnyPath = "/") -> Path:
-        """A path with the methods of `pathlib.Path`, by which this transaction makes calls."""
+        """Returns a path with the methods of `pathlib.Path`, whose calls this transaction makes."""
         return Path(self, os.fsdecode(path))
 
     def exists(self, path: AnyPath) -> bool:
-        """Whether a path leads to anything."""
+        """Returns whether a path leads to anything."""
         return self._found(path) is not None
 
     def lexists(self, path: AnyPath) -> bool:
-        """Whether a path leads to anything; also to a symbolic link that leads to nothing."""
+        """Returns whether a path leads to anything, even if that is a link to nothing."""
         return self._found(path, follow_symlinks=False) is not None
 
     def islink(self, path: AnyPath) -> bool:
-        """Whether a path leads to a symbolic link."""
+        """Returns whether a path leads to a symbolic link."""
         found = self._found(path, follow_symlinks=False)
-        return found is not None and found.is_link
+        return found is not None and found.is_symlink()
 
     def realpath(self, path: AnyPath) -> str:
-        """The path from the root to what a path leads to, with no symbolic link, `.` or `..` in it,
-        as `os.path.realpath` tells it. What is missing stays as it is.
+        """Returns the path from the root to what a path leads to, without symbolic links, `.` and
+        `..`, as `os.path.realpath` does. Missing parts stay as they are.
 
         Raises:
-            OSError: ELOOP where it leads through more than 40 symbolic links.
+            OSError: ELOOP if it leads through more than 40 symbolic links.
         """
         real, left, followed = "/", os.fsdecode(path).split("/")[::-1], 0
         while left:
@@ -72,12 +72,12 @@ class Whole(Calls):
     def makedirs(
         self, path: AnyPath, mode: int = DIRECTORY_MODE, exist_ok: bool = False
     ) -> None:
-        """Makes a directory, and those above it, where they are missing.
+        """Makes a directory and those above it, if they are missing.
 
         Args:
             path: Its path.
             mode: Its mode; those above it have that of a new directory.
-            exist_ok: Whether it may be there already, as those above it may.
+            exist_ok: Whether it may exist already, as those above it may.
 
         Raises:
             FileExistsError: It is there already; with `exist_ok`, it is a file.
@@ -89,17 +89,17 @@ class Whole(Calls):
         self.mkdir(path, mode, exist_ok=exist_ok)
 
     def read_bytes(self, path: AnyPath) -> bytes:
-        """All bytes of a file."""
+        """Returns all bytes of a file."""
         with self._raw(path, "rb") as file:
             return file.read_whole()
 
     def read_text(self, path: AnyPath, encoding: str = "utf-8", errors: str = "strict") -> str:
-        """All of a file, as text."""
+        """Returns all of a file, as text."""
         with self.open(path, "r", -1, encoding, errors) as file:
             return file.read()
 
     def write_bytes(self, path: AnyPath, data: bytes) -> None:
-        """Makes a file of these bytes, in place of those that it had."""
+        """Makes a file with these bytes, or replaces the bytes of an existing one."""
         view = memoryview(data)
         with self._raw(path, "wb") as file:
             file.write_all(view)
@@ -107,29 +107,33 @@ class Whole(Calls):
     def write_text(
         self, path: AnyPath, text: str, encoding: str = "utf-8", errors: str = "strict"
     ) -> None:
-        """Makes a file of a text, in place of what it had."""
+        """Makes a file with a text, or replaces the bytes of an existing one."""
         self.write_bytes(path, text.encode(encoding, errors))
 
     def _raw(self, path: AnyPath, mode: str, permissions: int | None = None) -> _file.RawFile:
         return _file.RawFile(self, path, mode, permissions)
 
     def remove(self, path: AnyPath) -> None:
-        """The same as `unlink`."""
+        """Does the same as `unlink`."""
         self.unlink(path)
 
     def replace(self, old: AnyPath, new: AnyPath) -> None:
-        """The same as `rename`, which replaces what is there."""
+        """Does the same as `rename`, which replaces what has the new name."""
         self.rename(old, new)
 
     def walk(
         self, top: AnyPath = "/", topdown: bool = True, followlinks: bool = False
     ) -> Iterator[tuple[str, list[str], list[str]]]:
-        """The directories at and below `top`, as `os.walk` tells them: the path of each, the names
-        of directories in it, and those of files. Where it goes down, a name that is taken out of
-        the second list is passed over.
+        """Yields the directories at and below `top`, as `os.walk` does: the path of each, the names
+        of directories in it, and those of files. With `topdown`, a name that you remove from the
+        second list is passed over.
 
-        A symbolic link to a directory stands among the names of directories, and is gone into with
-        `followlinks` alone, where one that leads back up is gone into again and again.
+        A symbolic link to a directory is among the names of directories. The walk enters it only
+        with `followlinks`, and then enters one that leads back up again and again.
+
+        Raises:
+            OSError: A directory can not be listed, as where there is none at `top`, which that of
+                `os` passes over.
         """
         here = os.fsdecode(top)
         folders: list[str] = []
@@ -148,9 +152,9 @@ class Whole(Calls):
             yield here, folders, files
 
     def glob(self, pattern: AnyPath) -> list[str]:
-        """The paths that fit a pattern, in order, as `glob.glob` tells them: `**` is any number of
-        directories, none of them through a symbolic link, and a name that begins with a dot fits
-        what begins with a dot alone."""
+        """Returns the paths that match a pattern, in order, as `glob.glob` does. `**` is any number
+        of directories, none of them through a symbolic link. A name that begins with a dot matches
+        only a pattern that begins with a dot."""
         parts = [part for part in os.fsdecode(pattern).split("/") if part]
         top = "/" if os.fsdecode(pattern).startswith("/") else ""
         return sorted(set(self._fitting(top, parts)))
@@ -180,8 +184,8 @@ class Whole(Calls):
                 yield path
 
     def rmtree(self, path: AnyPath) -> None:
-        """Removes a directory with all below it. Symbolic links are removed, and what they lead to
-        stays.
+        """Removes a directory with everything below it. Symbolic links are removed, but not what
+        they lead to.
 
         Raises:
             NotADirectoryError: The path leads to a file, or is a symbolic link.
@@ -196,13 +200,13 @@ class Whole(Calls):
         self.rmdir(path)
 
     def copyfile(self, old: AnyPath, new: AnyPath, *, follow_symlinks: bool = True) -> None:
-        """Makes a file of the bytes of another, in place of those that it had. A new file has mode
-        0o644, and one that is there keeps its own.
+        """Gives a file, which is made if it is missing, the bytes of another. A new file has mode
+        0o644, and an existing one keeps its own.
 
         Args:
             old: The file.
             new: The path of the copy. A symbolic link there is followed.
-            follow_symlinks: Whether the bytes of what a symbolic link leads to are copied; else
+            follow_symlinks: Whether to copy the bytes of what a symbolic link leads to; otherwise
                 such a link is made.
 
         Raises:
@@ -219,12 +223,12 @@ class Whole(Calls):
                 target.write_all(piece)
 
     def copy(self, old: AnyPath, new: AnyPath, *, follow_symlinks: bool = True) -> str:
-        """Copies a file with its mode, into `new` if that is a directory, and answers the path of
-        the copy. For the rest it is as `copyfile`."""
+        """Copies a file with its mode, into `new` if that is a directory, and returns the path of
+        the copy. Otherwise it is like `copyfile`."""
         return self._copy(old, new, follow_symlinks, with_time=False)
 
     def copy2(self, old: AnyPath, new: AnyPath, *, follow_symlinks: bool = True) -> str:
-        """The same, with its time too, if it has one."""
+        """Does the same, and also copies the time, if there is one."""
         return self._copy(old, new, follow_symlinks, with_time=True)
 
     def _copy(self, old: AnyPath, new: AnyPath, follow_symlinks: bool, with_time: bool) -> str:
@@ -246,14 +250,15 @@ class Whole(Calls):
             self.utime(new, ns=(told.time_ns, told.time_ns))
 
     def copytree(self, old: AnyPath, new: AnyPath, dirs_exist_ok: bool = False) -> None:
-        """Copies a directory with all below it, as `copy2` copies each file. Files with several
-        names below it stay such, and symbolic links stay symbolic links, with the same targets.
+        """Copies a directory with everything below it, as `copy2` copies each file. Files with
+        several names below it keep them, and symbolic links stay symbolic links, with the same
+        targets.
 
         Args:
             old: The directory.
             new: The path of the copy.
-            dirs_exist_ok: Whether directories may be there already; files and symbolic links are
-                replaced then.
+            dirs_exist_ok: Whether directories may exist already; files and symbolic links are
+                then replaced.
 
         Raises:
             OSError: EINVAL where the copy would be below the directory.
@@ -293,7 +298,7 @@ class Whole(Calls):
             self.unlink(path)
 
     def move(self, old: AnyPath, new: AnyPath) -> str:
-        """Moves a file or a directory, into `new` where that is a directory, and answers its new
+        """Moves a file or a directory, into `new` if that is a directory, and returns its new
         path."""
         target = os.fsdecode(new)
         if self.isdir(target):
@@ -305,7 +310,7 @@ class Whole(Calls):
 
 
 def _below(folder: str) -> str:
-    """What the paths at and below a folder begin with, if a slash stands behind each."""
+    """What the paths at and below a folder begin with, if a slash follows each."""
     return folder.rstrip("/") + "/"
 
 

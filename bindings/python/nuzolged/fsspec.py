@@ -1,7 +1,15 @@
 """fsspec: a file system over a transaction. `with fs.transaction:` is a step, which takes back all
-that was done where it is left by an exception: `mkdir`, `mv` and `rm` too."""
+that was done if it is left by an exception: `mkdir`, `mv` and `rm` too.
+
+    fs = fsspec.filesystem("nuzolged", transaction=job)
+    fsspec.open("nuzolged:///out/log", "wb", transaction=job)
+
+Without a transaction each is a new tree, which nobody else has.
+"""
 from __future__ import annotations
 
+import datetime
+import io
 import os
 import posixpath
 from typing import Any
@@ -24,6 +32,24 @@ class Step(FsspecTransaction):  # type: ignore[misc]
         self.fs.end_step(commit)
 
 
+class Own(Transaction):
+    """The transaction of a file system that was given none. Nobody was to commit it."""
+
+    def _warn(self) -> None:
+        pass
+
+
+class Reader(io.BufferedReader):
+    """A file that is read, and tells its size, by which fsspec finds the end."""
+
+    @property
+    def size(self) -> int:
+        here = self.tell()
+        end = self.seek(0, os.SEEK_END)
+        self.seek(here)
+        return end
+
+
 class NuzolgedFileSystem(AbstractFileSystem):  # type: ignore[misc]
     """The file system of a transaction; of one of a new tree where none is given."""
 
@@ -34,7 +60,7 @@ class NuzolgedFileSystem(AbstractFileSystem):  # type: ignore[misc]
 
     def __init__(self, transaction: Transaction | None = None, **options: Any) -> None:
         super().__init__(**options)
-        self._steps = [transaction or Tree().begin()]
+        self._steps = [transaction or Own(Tree(), None, 0)]
 
     @property
     def at(self) -> Transaction:
@@ -58,10 +84,11 @@ class NuzolgedFileSystem(AbstractFileSystem):  # type: ignore[misc]
 
     def end_step(self, commit: bool) -> None:
         step = self._steps.pop()
-        if commit:
-            step.commit()
-        else:
+        if not commit:
             step.abort()
+            return
+        with step:  # which is aborted if it can't be committed
+            pass
 
     @classmethod
     def _strip_protocol(cls, path: Any) -> Any:
@@ -73,8 +100,8 @@ class NuzolgedFileSystem(AbstractFileSystem):  # type: ignore[misc]
 
     @staticmethod
     def _told(path: str, info: Info) -> dict[str, Any]:
-        kind = "link" if info.is_link else "directory" if info.is_dir else "file"
-        told = {"name": path, "size": info.size, "type": kind, "islink": info.is_link}
+        kind, is_link = "directory" if info.is_dir() else info.kind, info.is_symlink()
+        told = {"name": path, "size": info.size, "type": kind, "islink": is_link}
         told |= {"ino": info.number, "nlink": info.links, "mode": info.st_mode}
         return {**told, "uid": info.owner, "gid": info.group, "mtime": info.st_mtime}
 
@@ -120,7 +147,7 @@ class NuzolgedFileSystem(AbstractFileSystem):  # type: ignore[misc]
 
     def _rm(self, path: str) -> None:
         path = self._strip_protocol(path)
-        if self.at.lstat(path).is_dir:
+        if self.at.lstat(path).is_dir():
             self.at.rmdir(path)
         else:
             self.at.unlink(path)
@@ -130,10 +157,28 @@ class NuzolgedFileSystem(AbstractFileSystem):  # type: ignore[misc]
 
     def cp_file(self, path1: str, path2: str, **_: Any) -> None:
         old, new = self._strip_protocol(path1), self._strip_protocol(path2)
-        if self.at.lstat(old).is_dir:
+        if self.at.lstat(old).is_dir():
             self.at.makedirs(new, exist_ok=True)
         else:
             self.at.copyfile(old, new, follow_symlinks=False)
 
+    def touch(self, path: str, truncate: bool = True, **_: Any) -> None:
+        """Makes an empty file. One that is there is emptied, or else gets the time of now."""
+        path = self._strip_protocol(path)
+        if not truncate and self.at.exists(path):
+            self.at.utime(path)
+        else:
+            self.at.write_bytes(path, b"")
+
+    def modified(self, path: str) -> datetime.datetime | None:
+        """The time of a file's bytes, if it has one."""
+        time = self.at.stat(self._strip_protocol(path)).st_mtime
+        utc = datetime.timezone.utc
+        return None if time is None else datetime.datetime.fromtimestamp(time, utc)
+
     def _open(self, path: str, mode: str = "rb", **_: Any) -> Any:
-        return self.at.open(self._strip_protocol(path), mode)
+        path = self._strip_protocol(path)
+        if mode == "rb":
+            raw: Any = self.at.open(path, "rb", 0)
+            return Reader(raw)
+        return self.at.open(path, mode)

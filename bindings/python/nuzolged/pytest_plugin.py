@@ -1,10 +1,12 @@
-"""pytest: `nuzolged_step`, a transaction that is aborted behind each test.
+"""pytest: `nuzolged_step`, a transaction that is rolled back after each test.
 
-All tests of a session share a tree, which is made once: with `nuzolged_seed = FOLDER` in the
-configuration of pytest it begins as that folder of the disk.
+All tests of a session share a tree, which is made once. With `nuzolged_seed = FOLDER` in the
+configuration of pytest, it begins as that folder of the disk. A relative FOLDER is next to the file
+of the configuration.
 """
 from __future__ import annotations
 
+from pathlib import Path
 from typing import Iterator
 
 import pytest
@@ -20,20 +22,24 @@ def pytest_addoption(parser: pytest.Parser) -> None:
 
 @pytest.fixture(scope="session")
 def nuzolged_job(request: pytest.FixtureRequest) -> Iterator[Transaction]:
-    """What all tests begin with."""
+    """The transaction with which all tests begin."""
     with Tree() as tree:
         job = tree.begin()
         seed = request.config.getini("nuzolged_seed")
         if seed:
-            copy_in(job, seed)
+            copy_in(job, _folder(request.config) / seed)
         yield job
         job.abort()
 
 
 @pytest.fixture
 def nuzolged_step(nuzolged_job: Transaction) -> Iterator[Transaction]:
-    """What one test does."""
-    step = nuzolged_job.begin()
-    yield step
-    if not step.is_over:
-        step.abort()
+    """The transaction of one test, in a step around it, to which the test may commit."""
+    around = nuzolged_job.begin()
+    yield around.begin()
+    around.abort()
+
+
+def _folder(config: pytest.Config) -> Path:
+    """The folder of the configuration."""
+    return config.inipath.parent if config.inipath else config.rootpath

@@ -37,9 +37,9 @@ class AttributesTest(unittest.TestCase):
 class Modes(AttributesTest):
     def test_those_of_what_is_new(self):
         told = self.job.stat("/d")
-        self.assertEqual(told, Info(True, told.number, 1, 0, mode=0o755))
+        self.assertEqual(told, Info("dir", told.number, 1, 0, mode=0o755))
         told = self.job.stat("/d/f")
-        self.assertEqual(told, Info(False, told.number, 1, 4, mode=0o644))
+        self.assertEqual(told, Info("file", told.number, 1, 4, mode=0o644))
         self.assertEqual(told.st_mode, stat.S_IFREG | 0o644)
         self.assertEqual((told.st_uid, told.st_gid, told.st_mtime), (0, 0, None))
         link = self.job.lstat("/to_f")

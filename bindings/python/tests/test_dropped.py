@@ -3,6 +3,7 @@ import gc
 import os
 import random
 import signal
+import subprocess
 import sys
 import threading
 import time
@@ -191,6 +192,34 @@ class Dropped(unittest.TestCase):
                 signal.setitimer(signal.ITIMER_REAL, 0)
             except KeyboardInterrupt:
                 pass
+
+
+#: Trees with live transactions and open files, which the garbage collector finds all together, the
+#: trees first.
+GARBAGE = """
+import gc
+from nuzolged import Tree
+
+class Cycle:
+    pass
+
+for number in range(50):
+    cycle = Cycle()
+    cycle.me, cycle.tree = cycle, Tree()
+    cycle.job = cycle.tree.begin()
+    cycle.file = cycle.job.open("/f", "w")
+    cycle.file.write("bytes")
+del cycle
+gc.collect()
+"""
+
+
+class Trees(unittest.TestCase):
+    def test_tree_that_is_found_before_what_it_has(self):
+        # (memory that is freed is filled, so that none of it is used)
+        place = {**os.environ, "MALLOC_PERTURB_": "165"}
+        ran = subprocess.run([sys.executable, "-c", GARBAGE], env=place, capture_output=True)
+        self.assertEqual((ran.returncode, ran.stderr), (0, b""))
 
 
 class Neighbours(unittest.TestCase):

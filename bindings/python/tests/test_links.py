@@ -82,8 +82,8 @@ class Looks(LinksTest):
         self.assert_alike(self.job.readlink, os.readlink)
         self.assertEqual(self.job.readlink(b"/to_f"), b"d/f")
         told = self.job.lstat("/to_f")
-        self.assertEqual(told, Info(False, told.number, links=1, size=3, is_link=True, mode=0o777))
-        self.assertFalse(told.is_dir or told.is_file)
+        self.assertEqual(told, Info("link", told.number, links=1, size=3, mode=0o777))
+        self.assertEqual((told.is_dir(), told.is_file(), told.is_symlink()), (False, False, True))
 
     def test_names(self):
         self.assert_alike(self.job.listdir, lambda path: sorted(os.listdir(path)))
@@ -277,12 +277,12 @@ class Whole(LinksTest):
         self.job.copytree("/d", "/new", dirs_exist_ok=True)
         self.assertEqual(self.job.read_text("/kept"), "kept")
         self.assertEqual(self.job.readlink("/new/up"), LINKS["d/up"])
-        self.assertTrue(self.job.lstat("/new/f").is_file)
+        self.assertTrue(self.job.lstat("/new/f").is_file())
 
     def test_copyfile(self):
         self.job.copyfile("/to_f", "/copy")
         self.job.copyfile("/to_f", "/link", follow_symlinks=False)
-        self.assertTrue(self.job.lstat("/copy").is_file)
+        self.assertTrue(self.job.lstat("/copy").is_file())
         self.assertEqual(self.job.readlink("/link"), "d/f")
         with self.assertRaises(shutil.SameFileError):
             self.job.copyfile("/d/f", "/to_f")
@@ -313,7 +313,7 @@ class Whole(LinksTest):
         self.assertTrue(link.is_symlink() and link.is_file() and not link.is_dir())
         self.assertEqual(link.readlink(), self.job.path("d/f"))
         self.assertEqual((top / "to_to_d" / "up").resolve(), top / "d" / "f")
-        self.assertTrue(link.lstat().is_link and link.stat(follow_symlinks=False).is_link)
+        self.assertTrue(link.lstat().is_symlink() and link.stat(follow_symlinks=False).is_symlink())
         self.assertTrue(link.samefile("/d/f"))
         (top / "new").symlink_to("nothing")
         self.assertFalse((top / "new").exists())

@@ -1,4 +1,6 @@
 """What a transaction has touched."""
+import os
+
 from nuzolged import Touched
 from test_tree import TreeTest
 
@@ -90,10 +92,14 @@ class WhatWasTouched(TreeTest):
         self.job.read_bytes("/d/g h")
         self.job.listdir("/d")
         self.job.write_bytes("/out", b"made")
-        self.assertEqual(self.job.depfile("a.o"), b"a.o: \\\n  /d \\\n  /d/g\\ h\n")
-        self.assertEqual(self.job.depfile(top="/t"), b"/t/out: \\\n  /t/d \\\n  /t/d/g\\ h\n")
+        self.assertEqual(self.job.depfile("a.o"), "a.o: \\\n  /d \\\n  /d/g\\ h\n")
+        self.assertEqual(self.job.depfile(top="/t"), "/t/out: \\\n  /t/d \\\n  /t/d/g\\ h\n")
         self.job.symlink("/none", "/l")
-        self.assertIn(b"/l /out: ", self.job.depfile())
+        self.assertIn("/l /out: ", self.job.depfile())
+
+    def test_name_of_any_bytes(self):
+        self.job.write_bytes(b"/\xff", b"made")
+        self.assertEqual(self.job.depfile(), os.fsdecode(b"/\xff:\n"))
 
     def test_name_without_a_form(self):
         for target in ("a\nb", "a=b", ""):

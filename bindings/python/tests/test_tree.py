@@ -1,12 +1,16 @@
 """Trees, transactions and their calls on paths."""
+import copy
 import errno
+import gc
 import os
+import pickle
 import subprocess
 import sys
 import unittest
 from pathlib import Path
 
-from nuzolged import Error, Info, Limits, Refused, Tree, Waits
+from nuzolged import Deadlock, Error, Info, Limits, Refused, Tree, Waits
+from nuzolged._errors import error_of
 
 
 class TreeTest(unittest.TestCase):
@@ -213,7 +217,7 @@ class Paths(TreeTest):
         self.assertEqual((a.name, a.path, a.is_dir(), a.is_file()), ("a", "/a", False, True))
         self.assertEqual((b.name, b.path, b.is_dir(), b.is_file()), ("b", "/b", True, False))
         self.assertEqual(a.stat().st_size, 4)
-        info = Info(is_dir=True, number=2, links=1, size=0, mode=0o755)
+        info = Info("dir", number=2, links=1, size=0, mode=0o755)
         self.assertEqual(self.job.stat("/b"), info)
         self.job.rmdir("/b")
         self.assertEqual(self.job.listdir("/"), ["a"])
@@ -221,7 +225,7 @@ class Paths(TreeTest):
     def test_files(self):
         self.job.write_bytes("/f", b"four")
         self.job.link("/f", "/g")
-        self.assertEqual(self.job.stat("/g"), Info(is_dir=False, number=2, links=2, size=4))
+        self.assertEqual(self.job.stat("/g"), Info("file", number=2, links=2, size=4))
         self.job.rename("/g", "/h")
         self.job.unlink("/f")
         self.job.truncate("/h", 2)
@@ -264,6 +268,30 @@ class Paths(TreeTest):
             self.job.rmdir("/")
         self.assertEqual(full.exception.errno, errno.EBUSY)
 
+    def test_sizes_that_are_none(self):
+        self.job.write_bytes("/f", b"bytes")
+        with self.job.open("/f", "rb", 0) as file:
+            for size in (1.0, "1", None):
+                with self.assertRaises(TypeError):
+                    self.job.truncate("/f", size)
+                with self.assertRaises(TypeError):
+                    file.seek(size)
+
+    def test_refusal_of_a_later_library(self):
+        error = error_of(1099)
+        self.assertEqual((type(error), error.name), (Refused, "1099"))
+        self.assertEqual(str(error), "the library refuses it (1099)")
+
+    def test_exceptions_go_between_processes(self):
+        for error in (Waits([3, 4], "/a"), Deadlock([3], [2, 3], "/a", "/b"), Refused("Live")):
+            told = (str(error), vars(error), getattr(error, "filename", None))
+            for other in (pickle.loads(pickle.dumps(error)), copy.copy(error)):
+                self.assertIs(type(other), type(error))
+                self.assertEqual((str(other), vars(other), getattr(other, "filename", None)), told)
+        error = Waits([3])  # of a copy, which knows the path later
+        error.filename = "/a"
+        self.assertEqual(str(pickle.loads(pickle.dumps(error))), str(error))
+
     def test_null_bytes(self):
         with self.assertRaisesRegex(ValueError, "null byte"):
             self.job.mkdir("/a\0b")
@@ -271,8 +299,13 @@ class Paths(TreeTest):
 
 class Trees(unittest.TestCase):
     def test_trees_that_are_none(self):
+        told = []
+        self.addCleanup(setattr, sys, "unraisablehook", sys.unraisablehook)
+        sys.unraisablehook = lambda what: told.append(str(what.exc_value))
         with self.assertRaises(TypeError):
             Tree(True)
+        gc.collect()
+        self.assertEqual(told, [])
 
     def test_library_that_is_missing_is_told(self):
         place = {**os.environ, "NUZOLGED_LIBRARY": "/none/libnuzolged.so.1"}
@@ -290,6 +323,10 @@ class Trees(unittest.TestCase):
             self.assertEqual(refused.exception.name, "Ended")
             with self.assertWarnsRegex(ResourceWarning, "Transaction 1"):
                 del job
+            for number in (-1, (1 << 64) + 1):
+                with self.assertRaises(Refused) as refused:
+                    tree.abort(number)
+                self.assertEqual(refused.exception.name, "NoTxn")
 
     def test_closed_tree(self):
         with Tree() as tree:

@@ -1,5 +1,6 @@
 """Calls that wait for other transactions."""
 import errno
+import math
 import threading
 import time
 import unittest
@@ -142,16 +143,40 @@ class ForATime(WaitingTest):
         self.assert_gives_up(tree, lambda: second.within(0.04).stat("/a"), 0.04)
         self.assert_gives_up(tree, lambda: second.within(0).stat("/a"), 0)
         first.commit()
-        self.assertTrue(second.stat("/a").is_dir)
+        self.assertTrue(second.stat("/a").is_dir())
         for transaction in (second, step, third):
             transaction.abort()
+
+    def test_limits_that_are_none(self):
+        tree = self.shared(1)
+        with tree.begin() as job:
+            for limit in (-1, -1.0, math.nan):
+                for refused in (
+                    lambda: Tree(timeout=limit),
+                    lambda: tree.begin(timeout=limit),
+                    lambda: job.begin(timeout=limit),
+                    lambda: job.within(limit),
+                ):
+                    with self.assertRaisesRegex(ValueError, "timeout"):
+                        refused()
+
+    def test_limits_that_nobody_lives_to_see(self):
+        for limit in (math.inf, 1e30):
+            tree = self.shared(limit)
+            first, second = tree.begin(), tree.begin()
+            first.mkdir("/a")
+            end = self.beside(lambda: second.mkdir("/a"))
+            self.wait_for(tree, "edges 1\nedge 3 2 lock\nranks 2:0 3:1\n")
+            first.abort()
+            self.assertIsNone(end())
+            second.commit()
 
     def test_deadlock_is_told_at_once(self):
         tree = self.shared(60)
         first, second = tree.begin(), tree.begin()
         first.mkdir("/a")
         second.mkdir("/b")
-        end = self.beside(lambda: first.stat("/b").is_dir)
+        end = self.beside(lambda: first.stat("/b").is_dir())
         self.wait_for(tree, "edges 1\nedge 2 3 lock\nranks 2:1 3:0\n")
         begun = time.monotonic()
         with self.assertRaises(Deadlock) as told:
@@ -176,7 +201,7 @@ class ForATime(WaitingTest):
         first, second = tree.begin(), tree.begin()
         first.mkdir("/a")
         second.mkdir("/b")
-        end = self.beside(lambda: first.stat("/b").is_dir)
+        end = self.beside(lambda: first.stat("/b").is_dir())
         edges = "edge 2 3 lock\nedge 3 2 lock\nedge 4 5 lock\n"
         self.wait_for(tree, f"edges 3\n{edges}cycle 2 3\n")
         begun = time.monotonic()

@@ -1,5 +1,6 @@
 """What takes several calls: whole files and trees, paths, and what stands on them."""
 import errno
+import gc
 import importlib.util
 import os
 import shutil
@@ -7,6 +8,7 @@ import subprocess
 import sys
 import tempfile
 import unittest
+import warnings
 from pathlib import PurePosixPath
 
 from nuzolged import Tree
@@ -109,6 +111,8 @@ class Paths(WholeTest):
         self.assertEqual([str(above) for above in path.parents], ["/a/b", "/a", "/"])
         self.assertTrue(path.match("*.txt") and path.parts[1:] == ("a", "b", "one.txt"))
         self.assertLess(path.parent, path)
+        self.assertEqual((path.suffixes, str(path.with_stem("two"))), ([".txt"], "/a/b/two.txt"))
+        self.assertTrue(path.is_absolute() and path.is_relative_to("/a") and path.as_posix())
         self.assertEqual(len({path, self.job.path("/a/b/one.txt")}), 1)
 
     def test_calls(self):
@@ -167,6 +171,47 @@ class Fsspec(WholeTest):
         self.assertEqual((told["uid"], told["gid"]), (0, 0))
         self.assertFalse(fs.exists("/z"))
 
+    def test_files(self):
+        from nuzolged.fsspec import NuzolgedFileSystem
+
+        fs = NuzolgedFileSystem(self.job, skip_instance_cache=True)
+        fs.pipe("/f", b"some bytes")
+        self.assertEqual((fs.head("/f", 4), fs.tail("/f", 5)), (b"some", b"bytes"))
+        self.assertEqual(fs.read_block("/f", 2, 100), b"me bytes")
+        self.assertIsNone(fs.modified("/f"))
+        self.job.utime("/f", (0, 7))
+        self.assertEqual(fs.modified("/f").timestamp(), 7)
+        fs.touch("/f", truncate=False)
+        self.assertGreater(fs.modified("/f").timestamp(), 1e9)
+        self.assertEqual(fs.size("/f"), 10)
+        fs.touch("/f")
+        fs.touch("/g", truncate=False)
+        self.assertEqual((fs.size("/f"), fs.size("/g")), (0, 0))
+
+    def test_step_that_can_not_be_committed_is_aborted(self):
+        from nuzolged.fsspec import NuzolgedFileSystem
+
+        fs = NuzolgedFileSystem(self.job, skip_instance_cache=True)
+        with self.assertRaisesRegex(ValueError, "open file"), fs.transaction:
+            file = fs.open("/left", "wb")
+        self.assertIs(fs.at, self.job)
+        self.assertFalse(fs.exists("/left"))
+        file.close()
+
+    def test_tree_of_its_own(self):
+        from nuzolged.fsspec import NuzolgedFileSystem
+
+        with warnings.catch_warnings(record=True) as told:
+            warnings.simplefilter("always")
+            fs = NuzolgedFileSystem(skip_instance_cache=True)
+            file = fs.open("/f", "wb")
+            del fs
+            file.write(b"bytes")
+            file.close()
+            del file
+            gc.collect()
+        self.assertEqual(told, [])
+
     def test_links(self):
         from nuzolged.fsspec import NuzolgedFileSystem
 
@@ -202,9 +247,11 @@ class Pytest(unittest.TestCase):
                     file.write(f"def test_{name}(nuzolged_step):\n")
                     file.write("    assert nuzolged_step.listdir() == ['seeded']\n")
                     file.write("    nuzolged_step.mkdir('/a')\n")
+                    file.write("    nuzolged_step.commit()\n")
             options = ("-q", "-p", "nuzolged.pytest_plugin", "-p", "no:cacheprovider")
-            seed = ("-o", f"nuzolged_seed={folder}/seed", "--rootdir", folder)
-            command = [sys.executable, "-m", "pytest", *options, *seed, folder]
+            with open(f"{folder}/pytest.ini", "w") as file:
+                file.write("[pytest]\nnuzolged_seed = seed\n")
+            command = [sys.executable, "-m", "pytest", *options, folder]
             ran = subprocess.run(command, capture_output=True, text=True)
         self.assertIn("2 passed", ran.stdout, ran.stderr)
 

@@ -8,9 +8,9 @@
 //!     /out/main.o: /src/main.c
 //!     # nothing
 //!
-//! A target is made of its inputs, one after another, in a thread and a step of its own, once the
-//! targets among its inputs are made that stand above it. A step that fails leaves nothing behind,
-//! and what needs its target is left out; the others stay.
+//! A target is made of its inputs, one after another, in a thread and a step of its own, after the
+//! targets among its inputs that come before it. A step that fails leaves nothing behind, and what
+//! needs its target is left out; the others stay.
 
 use nuzolged::{Error, OpenOptions, Shared, Transaction, Tree};
 use std::fmt;
@@ -23,7 +23,7 @@ use std::time::Duration;
 /// How long a step waits for the locks of others.
 const LIMIT: Duration = Duration::from_secs(60);
 
-/// What each target adds its name to.
+/// The file to which each target adds its name.
 const LOG: &str = "/log";
 
 struct Target<'a> {
@@ -97,7 +97,7 @@ impl Board {
     }
 }
 
-/// Builds all targets, each in a thread, and tells what became of each.
+/// Builds all targets, each in a thread, and returns what became of each.
 fn build_all(job: &Transaction<Shared>, targets: &[Target]) -> Vec<End> {
     let made = Mutex::new(targets.iter().map(|_| None).collect());
     let board = Board {
@@ -137,7 +137,7 @@ fn build(job: &Transaction<Shared>, targets: &[Target], at: usize, board: &Board
     end
 }
 
-/// Makes a target, in a step that is aborted where `?` leaves it.
+/// Makes a target, in a step that is aborted if `?` leaves it.
 fn make(job: &Transaction<Shared>, target: &Target) -> io::Result<()> {
     let step = job.begin()?;
     let mut output = step.open(target.path, OpenOptions::new().write(true).create_new(true))?;
@@ -152,13 +152,13 @@ fn make(job: &Transaction<Shared>, target: &Target) -> io::Result<()> {
     Ok(step.commit()?)
 }
 
-/// Makes the directories above a path, where they are missing.
+/// Makes the directories above a path, if they are missing.
 fn make_parents(job: &Transaction<Shared>, path: &str) -> Result<(), Error> {
     let above = Path::new(path).parent().unwrap_or(Path::new("/"));
     job.create_dir_all(above)
 }
 
-/// Makes what the targets begin with: the sources, and the directories of all files.
+/// Makes the sources and the directories of all files, with which the targets begin.
 fn prepare(job: &Transaction<Shared>, plan: &Plan) -> Result<(), Error> {
     for (path, text) in &plan.sources {
         make_parents(job, path)?;

@@ -8,7 +8,7 @@ use crate::tree::Reach;
 use std::path::Path;
 use std::time::{Duration, SystemTime, UNIX_EPOCH};
 
-/// What the mode of a `std::fs::Metadata` has beside the permissions: the kind.
+/// What the mode of a `std::fs::Metadata` has besides the permissions: the kind.
 const KIND: u32 = 0o170_000;
 
 /// The bits that let a file be written.
@@ -24,12 +24,12 @@ pub struct Permissions {
 }
 
 impl Permissions {
-    /// Those of a mode. The kind that the mode of a `std::fs::Metadata` has too is passed over.
+    /// Returns the permissions of a mode. The kind in the mode of a `std::fs::Metadata` is ignored.
     pub fn from_mode(mode: u32) -> Permissions {
         Permissions { mode: mode & !KIND }
     }
 
-    /// Their mode.
+    /// Returns their mode.
     pub fn mode(&self) -> u32 {
         self.mode
     }
@@ -39,7 +39,7 @@ impl Permissions {
         *self = Permissions::from_mode(mode);
     }
 
-    /// Whether they let nobody write.
+    /// Returns whether they let nobody write.
     pub fn readonly(&self) -> bool {
         self.mode & WRITE == 0
     }
@@ -51,19 +51,19 @@ impl Permissions {
 }
 
 /// The times that [`set_times`](Transaction::set_times) sets, as `std::fs` has them. A tree keeps
-/// that of a file's bytes alone.
+/// only the time of a file's bytes.
 #[derive(Clone, Copy, Debug, Default, PartialEq, Eq)]
 pub struct FileTimes {
     modified: Option<SystemTime>,
 }
 
 impl FileTimes {
-    /// None is set yet.
+    /// Returns times of which none is set.
     pub fn new() -> FileTimes {
         FileTimes::default()
     }
 
-    /// The time of the bytes.
+    /// Sets the time of the bytes.
     #[must_use = "times are set by `set_times`"]
     pub fn set_modified(mut self, time: SystemTime) -> FileTimes {
         self.modified = Some(time);
@@ -72,15 +72,15 @@ impl FileTimes {
 }
 
 impl Metadata {
-    /// Its permissions.
+    /// Returns the permissions.
     pub fn permissions(&self) -> Permissions {
         Permissions::from_mode(self.mode)
     }
 }
 
 impl<R: Reach> Transaction<R> {
-    /// Makes a directory with a mode, as [`Permissions::from_mode`] takes it: there is no umask,
-    /// and all 12 bits are set as they are given.
+    /// Makes a directory with a mode, as [`Permissions::from_mode`] takes it. There is no umask,
+    /// and all 12 bits are set as given.
     ///
     /// # Errors
     ///
@@ -121,7 +121,7 @@ impl<R: Reach> Transaction<R> {
     }
 
     /// Sets the owner and the group of a file or a directory; one that is `None` stays. The mode
-    /// stays too, also the bits by which a file runs as its owner or group. A last symbolic link is
+    /// stays too, even the bits by which a file runs as its owner or group. A last symbolic link is
     /// followed.
     ///
     /// # Errors
@@ -135,7 +135,7 @@ impl<R: Reach> Transaction<R> {
         Ok(())
     }
 
-    /// The same, but a last symbolic link is not followed: its owner and its group are 0, and no
+    /// Does the same, but does not follow a last symbolic link, whose owner and group are 0: no
     /// others can be set.
     ///
     /// # Errors
@@ -155,10 +155,10 @@ impl<R: Reach> Transaction<R> {
         Ok(())
     }
 
-    /// Sets the time of a file's bytes: what writes to the file later, or gives it a length, takes
-    /// the time away, even if the bytes stay the same. A tree reads no clock, and a file that
-    /// nobody gave a time has none. If `times` has none, nothing is asked. A last symbolic link is
-    /// followed.
+    /// Sets the time of a file's bytes. A later call that writes to the file, or sets its length,
+    /// removes the time, even if the bytes stay the same. A tree reads no clock: if nobody gave a
+    /// file a time, it has none. If `times` has no time, no request is made. A last symbolic link
+    /// is followed.
     ///
     /// ```
     /// # use nuzolged::{FileTimes, Result, Tree};
@@ -189,7 +189,7 @@ impl<R: Reach> Transaction<R> {
         Ok(())
     }
 
-    /// The same, but a last symbolic link is not followed: it has no time.
+    /// Does the same, but does not follow a last symbolic link, which has no time.
     ///
     /// # Errors
     ///
@@ -207,7 +207,7 @@ impl<R: Reach> Transaction<R> {
 }
 
 impl<H: Holder> OpenFile<H> {
-    /// Sets its permissions. It may be open for reading alone.
+    /// Sets the permissions, even of a file that is open only for reading.
     ///
     /// # Errors
     ///
@@ -218,7 +218,7 @@ impl<H: Holder> OpenFile<H> {
         Ok(())
     }
 
-    /// Sets its owner and its group, as [`Transaction::chown`] does.
+    /// Sets the owner and the group, as [`Transaction::chown`] does.
     ///
     /// # Errors
     ///
@@ -230,8 +230,8 @@ impl<H: Holder> OpenFile<H> {
         Ok(())
     }
 
-    /// Sets the time of its bytes, as [`Transaction::set_times`] does. What is written after that
-    /// takes the time away: so flush a `BufWriter` before.
+    /// Sets the time of the bytes, as [`Transaction::set_times`] does. A later write removes the
+    /// time: so flush a `BufWriter` first.
     ///
     /// # Errors
     ///
@@ -242,7 +242,7 @@ impl<H: Holder> OpenFile<H> {
             .map_or(Ok(()), |time| self.set_modified(time))
     }
 
-    /// The same, given the time of the bytes alone.
+    /// Does the same, given only the time of the bytes.
     ///
     /// # Errors
     ///

@@ -4,8 +4,9 @@ use crate::error::Result;
 use crate::sys::{Limits, GREATEST};
 use crate::tree::{Rule, Tree};
 
-/// How a tree is made: by [`Tree::builder`]. A limit that is not set is the greatest that there is,
-/// so that memory alone ends a job. The limits of a tree stay, through checkpoints too.
+/// Makes a tree with a rule and limits of its own; [`Tree::builder`] makes the builder. A limit
+/// that is not set is the greatest, so only lack of memory ends a job. The limits of a tree stay,
+/// even through checkpoints.
 #[derive(Clone, Copy, Debug, PartialEq, Eq)]
 #[must_use = "a tree is made by `build`"]
 pub struct Builder {
@@ -21,51 +22,51 @@ impl Builder {
         }
     }
 
-    /// Sets which locks are in a call's way.
+    /// Sets which locks block a call.
     pub fn rule(mut self, rule: Rule) -> Builder {
         self.rule = rule;
         self
     }
 
-    /// How many bytes a file may have, at most 2^47: more is the error EFBIG.
+    /// Sets how many bytes a file may have, at most 2^47. More is the error EFBIG.
     pub fn file_size(mut self, most: u64) -> Builder {
         self.limits.file_size = most;
         self
     }
 
-    /// How many names a file may have, at most 2^32: one more is the error EMLINK.
+    /// Sets how many names a file may have, at most 2^32. One more is the error EMLINK.
     pub fn links(mut self, most: u64) -> Builder {
         self.limits.links = most;
         self
     }
 
-    /// How deep a transaction may stand, at most 4,096, where one of the tree has depth 1: a step
-    /// below it is refused as [`Deep`](crate::Refusal::Deep).
+    /// Sets how deep a transaction may be, at most 4,096. One of the tree has depth 1. A step below
+    /// the deepest is refused as [`Deep`](crate::Refusal::Deep).
     pub fn depth(mut self, most: u64) -> Builder {
         self.limits.depth = most;
         self
     }
 
-    /// How many transactions may begin before a checkpoint, at most 2^62: one more is refused as
-    /// [`Full`](crate::Refusal::Full).
+    /// Sets how many transactions may begin before a checkpoint, at most 2^62. One more is refused
+    /// as [`Full`](crate::Refusal::Full).
     pub fn transactions(mut self, most: u64) -> Builder {
         self.limits.transactions = most;
         self
     }
 
-    /// How many calls may be granted before a checkpoint, at most 2^62: one more is refused as
+    /// Sets how many calls may be granted before a checkpoint, at most 2^62. One more is refused as
     /// [`Full`](crate::Refusal::Full).
     pub fn calls(mut self, most: u64) -> Builder {
         self.limits.calls = most;
         self
     }
 
-    /// A tree of the root alone.
+    /// Makes a tree that has only the root.
     ///
     /// # Errors
     ///
-    /// Refused as [`BadLimits`](crate::Refusal::BadLimits) where a limit is above the greatest, or
-    /// as `Memory`.
+    /// Refused as [`BadLimits`](crate::Refusal::BadLimits) if a limit is above the greatest, or as
+    /// `Memory`.
     pub fn build(self) -> Result<Tree> {
         Tree::open(self.rule, self.limits)
     }

@@ -11,30 +11,30 @@ use std::os::raw::c_void;
 use std::os::unix::ffi::OsStrExt;
 use std::path::Path;
 
-/// How a directory is copied from or to the disk. At first nothing is set.
+/// How a directory is copied from or to the disk.
 #[derive(Clone, Copy, Debug, Default, PartialEq, Eq)]
 pub struct CopyOptions {
     flags: u32,
 }
 
 impl CopyOptions {
-    /// None is set yet.
+    /// Returns options of which none is set.
     pub const fn new() -> CopyOptions {
         CopyOptions { flags: 0 }
     }
 
-    /// Whether the bits of a mode are copied by which a file runs as its owner or its group.
+    /// Sets whether a copy keeps the bits of a mode by which a file runs as its owner or group.
     pub fn set_id(&mut self, set_id: bool) -> &mut CopyOptions {
         self.set(raw::NUZ_COPY_SET_ID, set_id)
     }
 
-    /// Whether a copy out replaces a directory that is there, at once, and removes it.
+    /// Sets whether a copy out replaces an existing directory, all at once, and removes it.
     pub fn replace(&mut self, replace: bool) -> &mut CopyOptions {
         self.set(raw::NUZ_COPY_REPLACE, replace)
     }
 
-    /// Whether all of a copy out stands on the disk before it gets its name, so that it is whole or
-    /// nothing where the power fails, too.
+    /// Sets whether all of a copy out is on the disk before it gets its name, so that it is whole
+    /// or not there at all even if the power fails.
     pub fn sync(&mut self, sync: bool) -> &mut CopyOptions {
         self.set(raw::NUZ_COPY_SYNC, sync)
     }
@@ -46,14 +46,15 @@ impl CopyOptions {
 }
 
 impl<R: Reach> Transaction<R> {
-    /// Copies what is below a directory of the disk to a directory of the tree, which is made if it
-    /// is missing, with modes, owners, times and links. Two names of a file stay such, if both are
-    /// copied. Symbolic links are copied with their targets as they are, and not followed below
-    /// `disk`; what changes on the disk meanwhile is copied as it is when it is opened.
+    /// Copies everything below a directory of the disk to a directory of the tree, with modes,
+    /// owners, times and links. The directory of the tree is made if it is missing. Two names of a
+    /// file stay names of one file, if both are copied. Symbolic links are copied with their
+    /// targets as they are, and not followed below `disk`. Whatever changes on the disk meanwhile
+    /// is copied as it is when it is opened.
     ///
-    /// Directories that are there already keep their modes and owners; but the root of an empty
-    /// tree gets those of `disk`, unless it has been given others. What has been copied before an
-    /// error stays: so make the copy in a step, which takes it away.
+    /// Existing directories of the tree keep their modes and owners. However, the root of an empty
+    /// tree gets those of `disk`, unless it has been given others. A copy that fails leaves what it
+    /// has copied so far: make it in a step, which undoes that.
     ///
     /// ```
     /// # use nuzolged::{CopyOptions, Result, Tree};
@@ -74,9 +75,9 @@ impl<R: Reach> Transaction<R> {
     ///
     /// # Errors
     ///
-    /// What the disk says, with its path: ENOTSUP if something is neither a file, a directory nor a
-    /// symbolic link, EFBIG if a file is larger than the tree allows. What the tree says, with its
-    /// path: EEXIST if a file or link is there. `Waits`, `Deadlock`, or refused.
+    /// Errors of the disk, with its path: ENOTSUP if something is neither a file, a directory nor a
+    /// symbolic link, EFBIG if a file is larger than the tree allows. Errors of the tree, with its
+    /// path: EEXIST if a file or link has the name. `Waits`, `Deadlock`, or refused.
     pub fn copy_in(
         &self,
         disk: impl AsRef<Path>,
@@ -94,17 +95,18 @@ impl<R: Reach> Transaction<R> {
         })
     }
 
-    /// Copies what is below a directory of the tree to a directory of the disk, with modes, owners,
-    /// times and links: all of it, or nothing, since it gets its name at the end. Nothing is written
-    /// through a symbolic link. Nobody else can read what is copied before all of it is.
+    /// Copies everything below a directory of the tree to a directory of the disk, with modes,
+    /// owners, times and links. It copies all of it or nothing, since the directory gets its name
+    /// at the end. Nothing is written through a symbolic link. Nobody else can read the copy before
+    /// it is whole.
     ///
-    /// If root makes the copy, owners are those of the tree; else all belongs to this process. Files
-    /// that have no time in the tree get that of the copy, all the same one.
+    /// If root makes the copy, owners are those of the tree; otherwise everything belongs to this
+    /// process. Files without a time in the tree get the time of the copy, all the same one.
     ///
     /// # Errors
     ///
-    /// What the disk says, with its path: ENOTEMPTY if the directory is there, is not empty and is
-    /// not to be replaced, EINVAL if its last name is `.` or `..`. What the tree says, with its
+    /// Errors of the disk, with its path: ENOTEMPTY if the directory exists, is not empty and is
+    /// not to be replaced, EINVAL if its last name is `.` or `..`. Errors of the tree, with its
     /// path: ENOTDIR if it is a file. `Waits`, `Deadlock`, or refused.
     pub fn copy_out(
         &self,
@@ -147,13 +149,13 @@ impl<R: Reach> Transaction<R> {
     }
 }
 
-/// What each request of a copy needs, and what stood in the way of the last one that waited.
+/// What each request of a copy needs, and the error of the last one that waited.
 struct Asked<'t, R: Reach> {
     transaction: &'t Transaction<R>,
     last: Option<Error>,
 }
 
-/// No tree, of which the library asks nothing where something is around each request.
+/// No tree: the library does not use one if something is around each request.
 const NO_TREE: *mut raw::nuz_tree = std::ptr::null_mut();
 
 /// Makes a request of a copy, as the transaction makes its own.

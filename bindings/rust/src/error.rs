@@ -1,4 +1,4 @@
-//! What stands in the way of a request.
+//! Why a request was not carried out.
 
 use crate::sys;
 use std::path::{Path, PathBuf};
@@ -8,7 +8,7 @@ use std::{error, fmt, io};
 #[derive(Clone, Copy, Debug, PartialEq, Eq, Hash)]
 #[non_exhaustive]
 pub enum Refusal {
-    /// There was no memory.
+    /// The library is out of memory.
     Memory,
     /// No transaction has this number since the last checkpoint.
     NoTxn,
@@ -20,19 +20,19 @@ pub enum Refusal {
     NothingToUndo,
     /// A step of the transaction has committed since its last call.
     SubSince,
-    /// As many transactions or calls have been made as there may be; a checkpoint helps.
+    /// The limit on transactions or on calls is reached; a checkpoint helps.
     Full,
-    /// The transaction stands as deep as one may.
+    /// The transaction is at the greatest depth.
     Deep,
     /// A transaction is live.
     Live,
     /// The transaction waits for no call.
     NoAsk,
-    /// A limit is above the greatest. No transaction answers it, but [`Builder::build`].
+    /// A limit is above the greatest. Only [`Builder::build`] returns this.
     ///
     /// [`Builder::build`]: crate::Builder::build
     BadLimits,
-    /// One that a later library knows, by its code.
+    /// A refusal of a later library, by its code.
     Other(u32),
 }
 
@@ -66,7 +66,7 @@ impl fmt::Display for Refusal {
             Refusal::NothingToUndo => "there is no call to undo",
             Refusal::SubSince => "a step has committed since the last call",
             Refusal::Full => "all transactions or calls are used up",
-            Refusal::Deep => "the transaction stands too deep",
+            Refusal::Deep => "the transaction is too deep",
             Refusal::Live => "a transaction is live",
             Refusal::NoAsk => "the transaction waits for no call",
             Refusal::BadLimits => "a limit is above the greatest",
@@ -74,7 +74,7 @@ impl fmt::Display for Refusal {
     }
 }
 
-/// What stood in the way of a request.
+/// Why a request was not carried out.
 #[derive(Clone, Debug, PartialEq, Eq)]
 #[non_exhaustive]
 pub enum Error {
@@ -83,26 +83,26 @@ pub enum Error {
     Errno {
         /// The error number of the system, as of [`io::Error::raw_os_error`].
         number: i32,
-        /// The path or the two paths that the call was given, or with which its file was opened.
+        /// The path or the two paths of the call, or the path by which its file was opened.
         paths: Vec<PathBuf>,
     },
-    /// The call waits for the transactions of these numbers, in rising order. To ask again, make
+    /// The call waits for the transactions with these numbers, in rising order. To ask again, make
     /// the call again.
     Waits(Vec<u64>),
-    /// The call would wait for ever: each of these transactions waits for the next one, and the
-    /// last for the first, which made the call. That is forgotten. Drop that transaction, or let
-    /// it do something else, and the others go on.
+    /// The call would wait forever: each of these transactions waits for the next one, and the last
+    /// waits for the first, which made the call. The call is forgotten. Drop that transaction, or
+    /// let it do something else; the others then continue.
     Deadlock(Vec<u64>),
     /// The request is refused, and nothing has changed.
     Refused(Refusal),
-    /// A path has a null byte, a line asks for nothing that there is, a file is opened as
-    /// `std::fs` opens none, or an offset or a length is 2^63 or more. Nothing has changed.
+    /// A path has a null byte, a line is not a valid request, a file is opened in a way that
+    /// `std::fs` refuses, or an offset or a length is 2^63 or more. Nothing has changed.
     Invalid,
-    /// The bytes of a file are no UTF-8.
+    /// The bytes of a file are not UTF-8.
     NotUtf8,
 }
 
-/// What this crate answers.
+/// What this crate returns.
 pub type Result<T> = std::result::Result<T, Error>;
 
 impl Error {
@@ -126,7 +126,7 @@ impl Error {
         self
     }
 
-    /// Its kind: that of the system's error, or `WouldBlock` where a call waits.
+    /// Returns the kind: that of the system's error, or `WouldBlock` if a call waits.
     pub fn kind(&self) -> io::ErrorKind {
         match self {
             Error::Errno { number, .. } => io::Error::from_raw_os_error(*number).kind(),
@@ -139,7 +139,7 @@ impl Error {
         }
     }
 
-    /// The error number of the system, of a call that failed.
+    /// Returns the error number of the system, if a call failed.
     pub fn raw_os_error(&self) -> Option<i32> {
         match self {
             Error::Errno { number, .. } => Some(*number),
@@ -147,7 +147,7 @@ impl Error {
         }
     }
 
-    /// The paths of a call that failed.
+    /// Returns the paths of a call that failed.
     pub fn paths(&self) -> &[PathBuf] {
         match self {
             Error::Errno { paths, .. } => paths,
@@ -155,8 +155,8 @@ impl Error {
         }
     }
 
-    /// The error inside an `io::Error` that came of one of this crate and has no error number, as
-    /// where a write to a [`File`](crate::File) waits.
+    /// Returns the error of this crate inside an `io::Error` that has no error number, for example
+    /// if a write to a [`File`](crate::File) waits.
     pub fn inside(error: &io::Error) -> Option<&Error> {
         error.get_ref()?.downcast_ref()
     }
@@ -185,8 +185,8 @@ impl fmt::Display for Error {
 
 impl error::Error for Error {}
 
-/// An error number stays one, so that its kind is that of the system's; it has no path then. The
-/// others have the error inside.
+/// An error number stays one, so its kind is that of the system's; it then has no path. The other
+/// errors are inside the `io::Error`.
 impl From<Error> for io::Error {
     fn from(error: Error) -> io::Error {
         match error.raw_os_error() {

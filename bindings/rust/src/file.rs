@@ -6,11 +6,12 @@ use crate::sys::{self, Answer, Handle};
 use crate::transaction::{signed, Metadata, Transaction};
 use crate::tree::Reach;
 use std::io::{self, SeekFrom};
+use std::os::unix::fs::FileExt;
 use std::path::{Path, PathBuf};
 use std::sync::Arc;
 
-/// How a file is opened, as `std::fs::OpenOptions` has it: what that refuses is invalid. (But a
-/// directory is not opened, for reading neither.)
+/// How a file is opened, as by `std::fs::OpenOptions`. What that type refuses is invalid here too.
+/// However, a directory can't be opened, not even for reading.
 #[derive(Clone, Copy, Debug, Default, PartialEq, Eq)]
 pub struct OpenOptions {
     read: bool,
@@ -23,50 +24,50 @@ pub struct OpenOptions {
 }
 
 impl OpenOptions {
-    /// Nothing is asked for yet.
+    /// Returns options of which none is set.
     pub fn new() -> OpenOptions {
         OpenOptions::default()
     }
 
-    /// Whether it can be read.
+    /// Sets whether the file can be read.
     pub fn read(&mut self, read: bool) -> &mut OpenOptions {
         self.read = read;
         self
     }
 
-    /// Whether it can be written.
+    /// Sets whether the file can be written.
     pub fn write(&mut self, write: bool) -> &mut OpenOptions {
         self.write = write;
         self
     }
 
-    /// Whether it is written at its end, whatever the offset is.
+    /// Sets whether writes go to the end of the file, whatever the offset is.
     pub fn append(&mut self, append: bool) -> &mut OpenOptions {
         self.append = append;
         self
     }
 
-    /// Whether a file that there is is cut to nothing.
+    /// Sets whether an existing file is cut to nothing.
     pub fn truncate(&mut self, truncate: bool) -> &mut OpenOptions {
         self.truncate = truncate;
         self
     }
 
-    /// Whether a file that is missing is made.
+    /// Sets whether a missing file is made.
     pub fn create(&mut self, create: bool) -> &mut OpenOptions {
         self.create = create;
         self
     }
 
-    /// Whether a file is made, and it is an error where there is one.
+    /// Sets whether a file is made, and an existing file is an error.
     pub fn create_new(&mut self, create_new: bool) -> &mut OpenOptions {
         self.create_new = create_new;
         self
     }
 
-    /// The mode of a file that is made, as [`Permissions::from_mode`] takes it; a file that is
-    /// there keeps its own. If no mode is given, a file is made with 0o644; there is no umask. A
-    /// mode above 0o7777 is the error EINVAL, whether a file is made or not.
+    /// Sets the mode of a file that is made, as [`Permissions::from_mode`] takes it. An existing
+    /// file keeps its own. Without this, a file is made with 0o644; there is no umask. A mode above
+    /// 0o7777 is the error EINVAL, whether a file is made or not.
     pub fn mode(&mut self, mode: u32) -> &mut OpenOptions {
         self.mode = Some(Permissions::from_mode(mode).mode());
         self
@@ -87,8 +88,8 @@ impl OpenOptions {
         }
     }
 
-    /// The flags as the library takes them, the access too. To make or cut what is not written is invalid, and so
-    /// is to cut what is written at its end.
+    /// The flags as the library takes them, the access too. To make or cut what is not written is
+    /// invalid, and so is to cut what is written at its end.
     pub(crate) fn flags(&self) -> Result<u32> {
         let access = self.access()?;
         let is_valid = match (self.write, self.append) {
@@ -108,12 +109,12 @@ impl OpenOptions {
     }
 }
 
-/// How an open file has its transaction.
+/// How an open file holds its transaction.
 pub trait Holder {
-    /// How that reaches its tree.
+    /// How the transaction reaches its tree.
     type Reach: Reach;
 
-    /// The transaction.
+    /// Returns the transaction.
     fn transaction(&self) -> &Transaction<Self::Reach>;
 }
 
@@ -136,15 +137,14 @@ impl<R: Reach> Holder for Arc<Transaction<R>> {
 /// An open file that borrows its transaction.
 pub type File<'t, R> = OpenFile<&'t Transaction<R>>;
 
-/// An open file that has its transaction with others.
+/// An open file that shares its transaction with others.
 pub type OwnedFile<R> = OpenFile<Arc<Transaction<R>>>;
 
 /// An open file of a transaction: a [`File`] or an [`OwnedFile`].
 ///
-/// It is closed where it is dropped, at once: what has to wait, or stands in the way, is left to
-/// the commit of its transaction. It has no buffer: a `BufWriter` around it spares calls, and is
-/// best flushed before the file is closed, since one that is dropped passes over what stands in the
-/// way of its last bytes.
+/// A dropped file is closed without waiting. If that is not possible, the commit of its transaction
+/// closes it. A file has no buffer: a `BufWriter` around it spares calls. Flush the `BufWriter`
+/// before you close the file, since a dropped one ignores errors of its last bytes.
 #[derive(Debug)]
 pub struct OpenFile<H: Holder> {
     holder: H,
@@ -174,19 +174,19 @@ impl<H: Holder> OpenFile<H> {
             .map_err(|error| error.about(&[&self.path]))
     }
 
-    /// The path by which it was opened.
+    /// Returns the path by which the file was opened.
     pub fn path(&self) -> &Path {
         &self.path
     }
 
-    /// Sets its offset to its end, and answers that: how many bytes it has. (`metadata` would also
-    /// wait for whoever changes its mode or its owner.)
+    /// Sets the offset to the end, and returns it: how many bytes the file has. (`metadata` would
+    /// also wait for whoever changes the mode or the owner.)
     pub(crate) fn seek_end(&self) -> Result<u64> {
         let told = self.ask(|handle, txn, fd| handle.lseek(txn, fd, 0, sys::END))?;
         Ok(told.number)
     }
 
-    /// What there is to tell of it.
+    /// Returns what `stat` reports about the file.
     ///
     /// # Errors
     ///
@@ -195,41 +195,42 @@ impl<H: Holder> OpenFile<H> {
         Ok(Metadata::of(self.ask(Handle::fstat)?))
     }
 
-    /// Cuts it to a length, or adds zeros up to it.
+    /// Cuts the file to a length, or adds zeros up to it.
     ///
     /// # Errors
     ///
-    /// EINVAL where it is not open for writing, EFBIG; `Invalid` where the length is 2^63 or more.
+    /// EINVAL if it is not open for writing, EFBIG; `Invalid` if the length is 2^63 or more.
     pub fn set_len(&self, len: u64) -> Result<()> {
         let len = signed(len)?;
         self.ask(|handle, txn, fd| handle.ftruncate(txn, fd, len))?;
         Ok(())
     }
 
-    /// Reads at an offset, and leaves that of the file: how many bytes there were.
+    /// Reads at an offset, and returns how many bytes it has read. The offset of the file stays.
     ///
     /// # Errors
     ///
-    /// EBADF where it is not open for reading; `Invalid` where the offset is 2^63 or more.
+    /// EBADF if it is not open for reading; `Invalid` if the offset is 2^63 or more.
     pub fn read_at(&self, buffer: &mut [u8], offset: u64) -> Result<usize> {
         let off = signed(offset)?;
         let got = self.ask(|handle, txn, fd| handle.pread(txn, fd, buffer, off))?;
         Ok(got.number as usize)
     }
 
-    /// Writes at an offset, and leaves that of the file: how many bytes had room.
+    /// Writes at an offset, and returns how many bytes it has written. The offset of the file
+    /// stays.
     ///
     /// # Errors
     ///
-    /// EBADF where it is not open for writing, EFBIG; `Invalid` where the offset is 2^63 or more.
+    /// EBADF if it is not open for writing, EFBIG; `Invalid` if the offset is 2^63 or more.
     pub fn write_at(&self, bytes: &[u8], offset: u64) -> Result<usize> {
         let off = signed(offset)?;
         let got = self.ask(|handle, txn, fd| handle.pwrite(txn, fd, bytes, off))?;
         Ok(got.number as usize)
     }
 
-    /// Closes it. Where that has to wait too long, or has no memory, the commit of its transaction
-    /// closes it.
+    /// Closes the file. If that has to wait too long, or lacks memory, the commit of its
+    /// transaction closes it.
     ///
     /// # Errors
     ///
@@ -238,6 +239,17 @@ impl<H: Holder> OpenFile<H> {
         self.ask(Handle::close_file)?;
         self.is_open = false;
         Ok(())
+    }
+}
+
+/// The same with `io::Error`s, and with `read_exact_at` and `write_all_at`.
+impl<H: Holder> FileExt for OpenFile<H> {
+    fn read_at(&self, buffer: &mut [u8], offset: u64) -> io::Result<usize> {
+        Ok(OpenFile::read_at(self, buffer, offset)?)
+    }
+
+    fn write_at(&self, bytes: &[u8], offset: u64) -> io::Result<usize> {
+        Ok(OpenFile::write_at(self, bytes, offset)?)
     }
 }
 

@@ -21,15 +21,15 @@
 //! # }
 //! ```
 //!
-//! [`Tree`] is for one thread at a time, and [`Shared`] for many, where a call that has to wait
-//! does so. A [`Transaction`] is aborted where it is dropped, unless it has committed; to take back
-//! a part of what it does, do that in a step and drop the step. A [`File`] is read and written by
-//! the traits of `std::io`. [`Error`] is what stands in the way of a request, and becomes an
-//! `io::Error` by `From`.
+//! [`Tree`] is for one thread at a time. [`Shared`] is for many threads, and a blocked call waits
+//! there. A dropped [`Transaction`] is aborted, unless it has committed. To undo a part of what a
+//! transaction does, do that part in a step, and drop the step. The traits of `std::io` read and
+//! write a [`File`]. [`Error`] says why a request was not carried out, and becomes an `io::Error`
+//! by `From`.
 //!
 //! [`Transaction::copy_in`] and [`Transaction::copy_out`] copy directories of the disk.
 //!
-//! A path is absolute or not, which is the same here: there is no working directory but the root. A
+//! Absolute and relative paths are the same here: the working directory is always the root. A
 //! symbolic link with a relative target leads on from its own directory.
 //!
 //! # What the borrow checker rules out

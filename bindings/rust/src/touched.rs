@@ -1,4 +1,4 @@
-//! What a transaction has touched.
+//! The paths that a transaction has touched.
 
 use crate::disk::c_path;
 use crate::error::{Error, Result};
@@ -14,16 +14,16 @@ use std::path::{Path, PathBuf};
 #[derive(Clone, Copy, Debug, Default, PartialEq, Eq)]
 #[non_exhaustive]
 pub struct Touched {
-    /// Whether it has looked what the path leads to, or that it leads to nothing; or has read the
-    /// bytes, the target or the mode and owners there.
+    /// Whether it has looked up what the path leads to, even in vain, or has read the bytes, the
+    /// target or the mode and owners there.
     pub read: bool,
     /// Whether it has listed the directory there.
     pub listed: bool,
     /// Whether it has made, changed, renamed or removed what is there.
     pub written: bool,
-    /// Whether it has looked for what is there in vain, and has not removed it.
+    /// Whether it has looked up the path in vain, and has not removed anything there.
     pub absent: bool,
-    /// What is there now, if anything is.
+    /// The kind of what is there now, if anything is.
     pub kind: Option<Kind>,
 }
 
@@ -40,10 +40,10 @@ impl Touched {
 }
 
 impl<R: Reach> Transaction<R> {
-    /// What it has touched so far, with what has come up to it from steps that have committed, by
-    /// its locks: each path that it has looked up, in vain too, read, listed or written. A name that
-    /// has been renamed or removed since is told where it was, if its directory is still there.
-    /// It takes time and memory for the whole tree.
+    /// Returns each path that the transaction has looked up (even in vain), read, listed or written
+    /// so far. The paths come from its locks, and include those of committed steps. A name that has
+    /// been renamed or removed since is listed where it was, if its directory still exists. This
+    /// takes time and memory for the whole tree.
     ///
     /// ```
     /// # use nuzolged::{Result, Tree};
@@ -72,9 +72,9 @@ impl<R: Reach> Transaction<R> {
         Ok(told)
     }
 
-    /// The same as a text, of a line `PATH HOW KIND` for each path, in the order of their bytes.
-    /// PATH is percent-coded, HOW has the words `read` or `absent`, `listed` and `written` that
-    /// apply, with a comma between two, and KIND is `dir`, `file`, `link` or `none`.
+    /// Returns the same as a text, with a line `PATH HOW KIND` for each path, in the order of their
+    /// bytes. PATH is percent-coded. HOW has the words `read` or `absent`, `listed` and `written`
+    /// that apply, with a comma between two. KIND is `dir`, `file`, `link` or `none`.
     ///
     /// ```
     /// # use nuzolged::{Result, Tree};
@@ -99,13 +99,14 @@ impl<R: Reach> Transaction<R> {
         String::from_utf8(text).map_err(|_| Error::NotUtf8)
     }
 
-    /// The same in the form that make and Ninja read: a target with what it depends on, which is
-    /// each file that this has read and each directory that it has listed, if that is still there
-    /// and this has not written it. Symbolic links and what it has looked for in vain are left out:
-    /// a manifest tells them.
+    /// Returns the same in the form that make and Ninja read: a target with what it depends on. It
+    /// depends on each file that the transaction has read and each directory that it has listed, if
+    /// these still exist and the transaction has not written them. Symbolic links and names looked
+    /// up in vain are left out: a manifest has them.
     ///
-    /// Without a target, each file and symbolic link that it has written is one. `top` is what
-    /// stands before each path of the tree, as the directory of the disk that was copied in.
+    /// Without a target, each file and symbolic link that the transaction has written is a target.
+    /// `top` comes before each path of the tree, such as the directory of the disk that was copied
+    /// in.
     ///
     /// ```
     /// # use nuzolged::{Result, Tree};
@@ -122,14 +123,14 @@ impl<R: Reach> Transaction<R> {
     ///
     /// # Errors
     ///
-    /// `Invalid` if a name has no form that both make and Ninja read, as one with a line feed.
+    /// `Invalid` if a name has no form that both make and Ninja read, such as one with a line feed.
     /// Refused as `Memory`.
     pub fn depfile(&self, target: Option<&Path>, top: impl AsRef<Path>) -> Result<Vec<u8>> {
         let (target, top) = (target.map(c_path).transpose()?, c_path(top.as_ref())?);
         self.text(|handle, txn, text| handle.depfile(txn, target.as_deref(), &top, text))
     }
 
-    /// A text, of which is told how many bytes it has, and as many are copied as have room.
+    /// Returns a text, by a request that reports its size and copies as many bytes as have room.
     fn text(&self, ask: impl Fn(&mut Handle, u64, &mut [u8]) -> Answer) -> Result<Vec<u8>> {
         let mut text = vec![0; 1 << 16];
         let ask_with = |text: &mut Vec<u8>| -> Result<usize> {

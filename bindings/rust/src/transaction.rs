@@ -13,28 +13,29 @@ use std::time::{Duration, SystemTime};
 
 /// A live transaction: of a tree, or, as a step, of the transaction around it.
 ///
-/// It is aborted where it is dropped, with all that it and its steps have done, those that have
-/// committed included. [`commit`](Transaction::commit) keeps all of it. To take back a part of what
-/// it does, do that in a step, and drop the step.
+/// A dropped transaction is aborted: everything that it and its steps have done is undone, even
+/// what steps have committed. [`commit`](Transaction::commit) keeps all of it. To undo a part of
+/// what a transaction does, do that part in a step, and drop the step.
 ///
-/// One of a `&Tree` stays in its thread, and borrows what is around it: it can be committed only
-/// once its files are closed and its steps have ended. One of a [`Shared`] may go to another
-/// thread, and so may its steps; its files borrow it too, but for an [`OwnedFile`]. Threads may
-/// share it, by `&` or as an [`Arc`]: of their calls that wait, reports tell of the last alone.
+/// A transaction of a `&Tree` stays in its thread, and borrows what is around it: it can be
+/// committed only after its files are closed and its steps have ended. A transaction of a
+/// [`Shared`] may go to another thread, and so may its steps. Its files borrow it too, except an
+/// [`OwnedFile`]. Threads may share it, by `&` or as an [`Arc`]. If several of their calls wait,
+/// reports list only the last.
 #[derive(Debug)]
 #[must_use = "a transaction that is dropped is aborted"]
 pub struct Transaction<R: Reach> {
     tree: R,
     number: u64,
     is_live: bool,
-    /// Descriptors that nobody has any more and that could not be closed yet.
+    /// Descriptors that nobody has any more, and that could not be closed yet.
     left: Mutex<Vec<u64>>,
 }
 
 /// The longest target of a symbolic link.
 const LONGEST_TARGET: usize = 4095;
 
-/// What a name leads to.
+/// The kind of what a name leads to.
 #[derive(Clone, Copy, Debug, PartialEq, Eq, Hash)]
 #[doc(alias = "FileType")]
 pub enum Kind {
@@ -46,17 +47,17 @@ pub enum Kind {
     Symlink,
 }
 
-/// What there is to tell of a file, a directory or a symbolic link.
+/// What `stat` reports about a file, a directory or a symbolic link.
 #[derive(Clone, Copy, Debug, PartialEq, Eq)]
 #[non_exhaustive]
 pub struct Metadata {
-    /// The kind, one of these.
+    /// Whether it is a file, a directory or a symbolic link.
     pub kind: Kind,
-    /// Its number in the tree, which no other has or has had.
+    /// Its number in the tree, which nothing else has or has had.
     pub number: u64,
-    /// How many names a file or symbolic link has. A directory has one link.
+    /// The number of names of a file or symbolic link. A directory has one link.
     pub links: u64,
-    /// How many bytes a file has, or the target of a symbolic link.
+    /// The number of bytes of a file, or of the target of a symbolic link.
     pub len: u64,
     /// Its mode without the kind: at most 0o7777, and 0o777 for a symbolic link.
     pub mode: u32,
@@ -75,7 +76,7 @@ pub struct Metadata {
 pub struct Entry {
     /// The name.
     pub name: OsString,
-    /// What it is of. A symbolic link is not followed.
+    /// The kind of what it leads to. A symbolic link is not followed.
     pub kind: Kind,
 }
 
@@ -88,17 +89,17 @@ impl Kind {
         }
     }
 
-    /// Whether it is a directory.
+    /// Returns whether it is a directory.
     pub fn is_dir(self) -> bool {
         self == Kind::Dir
     }
 
-    /// Whether it is a file.
+    /// Returns whether it is a file.
     pub fn is_file(self) -> bool {
         self == Kind::File
     }
 
-    /// Whether it is a symbolic link.
+    /// Returns whether it is a symbolic link.
     pub fn is_symlink(self) -> bool {
         self == Kind::Symlink
     }
@@ -119,49 +120,56 @@ impl Metadata {
         }
     }
 
-    /// What it is of.
+    /// Returns the kind.
     pub fn file_type(&self) -> Kind {
         self.kind
     }
 
-    /// Whether it is of a directory.
+    /// Returns the number of bytes of a file, or of the target of a symbolic link.
+    #[allow(clippy::len_without_is_empty)] // as of `std::fs`
+    pub fn len(&self) -> u64 {
+        self.len
+    }
+
+    /// Returns whether it is of a directory.
     pub fn is_dir(&self) -> bool {
         self.kind.is_dir()
     }
 
-    /// Whether it is of a file.
+    /// Returns whether it is of a file.
     pub fn is_file(&self) -> bool {
         self.kind.is_file()
     }
 
-    /// Whether it is of a symbolic link, of which only [`symlink_metadata`](Transaction::symlink_metadata) tells.
+    /// Returns whether it is of a symbolic link, as only
+    /// [`symlink_metadata`](Transaction::symlink_metadata) reports.
     pub fn is_symlink(&self) -> bool {
         self.kind.is_symlink()
     }
 }
 
 impl Entry {
-    /// The name.
+    /// Returns the name.
     pub fn file_name(&self) -> &OsStr {
         &self.name
     }
 
-    /// What the name is of. A symbolic link is not followed.
+    /// Returns the kind of what the name leads to. A symbolic link is not followed.
     pub fn file_type(&self) -> Kind {
         self.kind
     }
 
-    /// Whether it is of a directory.
+    /// Returns whether it is of a directory.
     pub fn is_dir(&self) -> bool {
         self.kind.is_dir()
     }
 
-    /// Whether it is of a file.
+    /// Returns whether it is of a file.
     pub fn is_file(&self) -> bool {
         self.kind.is_file()
     }
 
-    /// Whether it is of a symbolic link.
+    /// Returns whether it is of a symbolic link.
     pub fn is_symlink(&self) -> bool {
         self.kind.is_symlink()
     }
@@ -180,23 +188,23 @@ impl Transaction<&Tree> {
 
 impl Transaction<Shared> {
     /// Begins a step: a transaction inside this one, whose calls wait as long as those of this one.
-    /// A commit is refused while one is live.
+    /// A commit is refused while a step is live.
     ///
     /// # Errors
     ///
-    /// Refused as `Deep` or `Full`, or as `Ended` where one around it has been aborted.
+    /// Refused as `Deep` or `Full`, or as `Ended` if a transaction around it has been aborted.
     pub fn begin(&self) -> Result<Transaction<Shared>> {
         Ok(Transaction::of(self.tree.clone(), self.begin_step()?))
     }
 
-    /// The same transaction with another time limit. Its end is that of this one.
+    /// Returns the same transaction with another time limit. It ends when this one ends.
     pub(crate) fn alike(&self, limit: Duration) -> Transaction<Shared> {
         let mut alike = Transaction::of(self.tree.with_limit(limit), self.number);
         alike.is_live = false;
         alike
     }
 
-    /// Sets how long its calls wait from here on, and those of steps that are begun from here on.
+    /// Sets how long calls wait from here on, also those of steps that begin from here on.
     pub fn set_limit(&mut self, limit: Duration) {
         self.tree.set_limit(limit);
     }
@@ -222,7 +230,7 @@ impl<R: Reach> Transaction<R> {
         self.tree.reach(self.number, request)
     }
 
-    /// Makes a request that tells itself what stood in its way.
+    /// Makes a request that returns its own error.
     pub(crate) fn request(&self, request: impl FnMut(&mut Handle) -> Result<()>) -> Result<()> {
         self.tree.reach(self.number, request)
     }
@@ -260,7 +268,7 @@ impl<R: Reach> Transaction<R> {
             .end(|handle| answered(handle, |handle| ask(handle, self.number)))
     }
 
-    /// Closes a descriptor that nobody has any more, without waiting. Where it would have to, a
+    /// Closes a descriptor that nobody has any more, without waiting. If it would have to wait, a
     /// commit closes it.
     pub(crate) fn leave(&self, fd: u64) {
         // (who waits asks again, since a thread that shares this transaction may have lost its ask)
@@ -293,23 +301,24 @@ impl<R: Reach> Transaction<R> {
         Ok(())
     }
 
-    /// Its number, by which others are told that they wait for it.
+    /// Returns the number, by which others learn that they wait for this transaction.
     pub fn number(&self) -> u64 {
         self.number
     }
 
-    /// Commits it: hands what it did to the transaction around it, or to the tree. Where that is
-    /// refused it is aborted; [`try_commit`](Transaction::try_commit) gives it back.
+    /// Commits: hands what the transaction did to the one around it, or to the tree. If the commit
+    /// is refused, the transaction is aborted; [`try_commit`](Transaction::try_commit) gives it
+    /// back.
     ///
     /// # Errors
     ///
-    /// Refused as `ChildLive` where a step is live, or as `Ended` where one around it has been
-    /// aborted; `Waits` or `Deadlock` where a file was dropped whose close has to wait.
+    /// Refused as `ChildLive` if a step is live, or as `Ended` if a transaction around this one has
+    /// been aborted; `Waits` or `Deadlock` if a file was dropped whose close has to wait.
     pub fn commit(self) -> Result<()> {
         self.try_commit().map_err(|(_, error)| error)
     }
 
-    /// The same, but where it is refused the transaction is given back, as it was.
+    /// Does the same, but a refused commit gives the transaction back as it was.
     ///
     /// # Errors
     ///
@@ -325,21 +334,22 @@ impl<R: Reach> Transaction<R> {
         }
     }
 
-    /// Aborts it, and answers how many calls were taken back.
+    /// Aborts the transaction, and returns how many calls were undone.
     ///
     /// # Errors
     ///
-    /// Refused as `Ended` where one around it has been aborted, and it with that one.
+    /// Refused as `Ended` if a transaction around it has been aborted, and this one with it.
     pub fn abort(mut self) -> Result<u64> {
         self.is_live = false;
         Ok(self.end(Handle::abort)?.number)
     }
 
-    /// Forgets the call that it waits for. (A [`Shared`] forgets one that it gives up.)
+    /// Forgets the call that the transaction waits for. (A [`Shared`] forgets a call that it gives
+    /// up.)
     ///
     /// # Errors
     ///
-    /// Refused as `NoAsk` where it waits for none.
+    /// Refused as `NoAsk` if it waits for no call.
     #[doc(alias = "nuz_cancel")]
     pub fn cancel_wait(&self) -> Result<()> {
         self.ask(Handle::cancel)?;
@@ -350,7 +360,7 @@ impl<R: Reach> Transaction<R> {
     ///
     /// # Errors
     ///
-    /// EEXIST, or one of the path: ENOENT, ENOTDIR, ENAMETOOLONG, ELOOP. As of each call: `Waits`,
+    /// EEXIST, or one of the path: ENOENT, ENOTDIR, ENAMETOOLONG, ELOOP. As for each call: `Waits`,
     /// `Deadlock`, or refused as `Ended` or `Full`.
     #[doc(alias = "mkdir")]
     pub fn create_dir(&self, path: impl AsRef<Path>) -> Result<()> {
@@ -371,7 +381,7 @@ impl<R: Reach> Transaction<R> {
         Ok(())
     }
 
-    /// The names of a directory, in the order of their bytes.
+    /// Returns the names of a directory, in the order of their bytes.
     ///
     /// # Errors
     ///
@@ -386,7 +396,7 @@ impl<R: Reach> Transaction<R> {
         listed.map_err(|error| error.about(&[path]))
     }
 
-    /// What a path leads to, through a last symbolic link too.
+    /// Returns what `stat` reports about a path. A last symbolic link is followed.
     ///
     /// # Errors
     ///
@@ -396,7 +406,7 @@ impl<R: Reach> Transaction<R> {
         Ok(Metadata::of(self.on(path.as_ref(), Handle::stat)?))
     }
 
-    /// What a path leads to, where a last symbolic link is not followed.
+    /// Returns the same, but does not follow a last symbolic link.
     ///
     /// # Errors
     ///
@@ -434,11 +444,11 @@ impl<R: Reach> Transaction<R> {
         Ok(())
     }
 
-    /// The target of a symbolic link.
+    /// Returns the target of a symbolic link.
     ///
     /// # Errors
     ///
-    /// EINVAL where it is none, or one of the path.
+    /// EINVAL if it is no symbolic link, or one of the path.
     #[doc(alias = "readlink")]
     pub fn read_link(&self, path: impl AsRef<Path>) -> Result<PathBuf> {
         let mut target = vec![0; LONGEST_TARGET];
@@ -453,7 +463,7 @@ impl<R: Reach> Transaction<R> {
     ///
     /// # Errors
     ///
-    /// EPERM where it is a directory, or one of the path.
+    /// EPERM if it is a directory, or one of the path.
     #[doc(alias = "unlink")]
     pub fn remove_file(&self, path: impl AsRef<Path>) -> Result<()> {
         self.on(path.as_ref(), Handle::unlink)?;
@@ -464,7 +474,7 @@ impl<R: Reach> Transaction<R> {
     ///
     /// # Errors
     ///
-    /// EFBIG, EISDIR, or one of the path; `Invalid` where the length is 2^63 or more.
+    /// EFBIG, EISDIR, or one of the path; `Invalid` if the length is 2^63 or more.
     pub fn truncate(&self, path: impl AsRef<Path>, len: u64) -> Result<()> {
         let len = signed(len)?;
         self.on(path.as_ref(), |handle, txn, path| {
@@ -477,7 +487,7 @@ impl<R: Reach> Transaction<R> {
     ///
     /// # Errors
     ///
-    /// EPERM where it is a directory, EEXIST, EMLINK, or one of the paths.
+    /// EPERM if it is a directory, EEXIST, EMLINK, or one of the paths.
     #[doc(alias = "link")]
     pub fn hard_link(&self, from: impl AsRef<Path>, to: impl AsRef<Path>) -> Result<()> {
         self.on_both([from.as_ref(), to.as_ref()], |handle, txn, [from, to]| {
@@ -486,11 +496,11 @@ impl<R: Reach> Transaction<R> {
         Ok(())
     }
 
-    /// Gives a file, a symbolic link or a directory another name, in place of what had that name.
+    /// Gives a file, a symbolic link or a directory another name, and replaces what had that name.
     ///
     /// # Errors
     ///
-    /// EINVAL where that is below it, EBUSY, EISDIR, ENOTEMPTY, or one of the paths.
+    /// EINVAL if the new name is below it, EBUSY, EISDIR, ENOTEMPTY, or one of the paths.
     pub fn rename(&self, from: impl AsRef<Path>, to: impl AsRef<Path>) -> Result<()> {
         self.on_both([from.as_ref(), to.as_ref()], |handle, txn, [from, to]| {
             handle.rename(txn, from, to)
@@ -498,19 +508,19 @@ impl<R: Reach> Transaction<R> {
         Ok(())
     }
 
-    /// Opens a file, which borrows this transaction. A last symbolic link is followed, but with
+    /// Opens a file, which borrows this transaction. A last symbolic link is followed, except with
     /// [`create_new`](OpenOptions::create_new).
     ///
     /// # Errors
     ///
-    /// `Invalid` where `std::fs` opens no file so; EEXIST, EISDIR, or one of the path.
+    /// `Invalid` if `std::fs` refuses these options; EEXIST, EISDIR, or one of the path.
     pub fn open(&self, path: impl AsRef<Path>, options: &OpenOptions) -> Result<File<'_, R>> {
         let (path, fd) = self.opened(path.as_ref(), options)?;
         Ok(OpenFile::of(self, fd, path))
     }
 
-    /// Opens a file that has this transaction with others, so that it may be kept wherever, and go
-    /// to another thread. The transaction can be committed when nobody else has it.
+    /// Opens a file that shares this transaction with others. You may keep the file anywhere, and
+    /// move it to another thread. The transaction can be committed when nobody else has it.
     ///
     /// ```
     /// # use nuzolged::{OpenOptions, Result, Tree};
@@ -555,7 +565,7 @@ impl<R: Reach> Drop for Transaction<R> {
     }
 }
 
-/// A length or an offset as the library takes it: one past its reach is past each file's too.
+/// A length or an offset as the library takes it. A number beyond that is beyond each file, too.
 pub(crate) fn signed(number: u64) -> Result<i64> {
     i64::try_from(number).map_err(|_| Error::Invalid)
 }
@@ -572,12 +582,12 @@ fn entries(handle: &mut Handle, txn: u64, path: &[u8]) -> Result<Vec<Entry>> {
         room.resize(size, 0);
         handle.bytes(&mut room);
     }
-    // Behind each name stands a null byte, and so behind the last one.
+    // A null byte follows each name, even the last one.
     let names = room[..size].split(|byte| *byte == 0);
     Ok(names.take(listed.number as usize).map(entry).collect())
 }
 
-/// An entry, of which the kind stands before the name.
+/// An entry; its kind comes before its name.
 fn entry(told: &[u8]) -> Entry {
     let (kind, name) = told.split_at(1);
     Entry {

@@ -12,26 +12,26 @@ use std::time::{Duration, Instant};
 /// How long a thread sleeps at most before its call is made again.
 const MOST_PAUSE: Duration = Duration::from_millis(50);
 
-/// The locks that are in a call's way.
+/// Which locks block a call.
 #[derive(Clone, Copy, Debug, Default, PartialEq, Eq)]
 pub enum Rule {
     /// Those of transactions that are neither the caller nor around it.
     #[default]
     #[doc(alias = "NUZ_RELAXED")]
     Relaxed,
-    /// Those of transactions around the caller too, where they hold them for calls of their own.
+    /// Also those of transactions around the caller, if they hold them for calls of their own.
     Moss,
 }
 
-/// A tree: at first the root alone. It may go to another thread, and is used by one at a time;
-/// [`Shared`] is used by many.
+/// A tree, which has only the root at first. It may go to another thread, but only one thread at a
+/// time uses it; many use a [`Shared`].
 #[derive(Debug)]
 pub struct Tree {
     handle: RefCell<Handle>,
 }
 
 impl Tree {
-    /// A tree of the root alone, by [`Rule::Relaxed`], with the greatest limits.
+    /// Makes a tree with [`Rule::Relaxed`] and the greatest limits.
     ///
     /// # Errors
     ///
@@ -40,7 +40,7 @@ impl Tree {
         Tree::with_rule(Rule::default())
     }
 
-    /// A tree of the root alone, by a rule.
+    /// Makes a tree with a rule and the greatest limits.
     ///
     /// # Errors
     ///
@@ -49,7 +49,8 @@ impl Tree {
         Tree::builder().rule(rule).build()
     }
 
-    /// A tree with a rule and limits of its own: each limit that is not set is the greatest.
+    /// Returns a builder of a tree with a rule and limits of its own. A limit that is not set is
+    /// the greatest.
     ///
     /// ```
     /// # use nuzolged::{Error, Refusal, Tree};
@@ -73,14 +74,14 @@ impl Tree {
     ///
     /// # Errors
     ///
-    /// Refused as `Full` where as many have begun since the last checkpoint as may.
+    /// Refused as `Full` if the limit on transactions since the last checkpoint is reached.
     pub fn begin(&self) -> Result<Transaction<&Tree>> {
         let number = self.once(|handle| answered(handle, Handle::begin))?.number;
         Ok(Transaction::of(self, number))
     }
 
-    /// Aborts the transaction of this number, which nobody may have any more, as after
-    /// `std::mem::forget`, and answers how many calls were taken back.
+    /// Aborts the transaction of this number, and returns how many calls were undone. Nobody needs
+    /// to have the transaction any more, as after `std::mem::forget`.
     ///
     /// # Errors
     ///
@@ -90,24 +91,24 @@ impl Tree {
         Ok(aborted.number)
     }
 
-    /// Makes the tree as it stands the beginning, and forgets the transactions: those and calls are
-    /// counted from here. Takes no memory.
+    /// Makes the present tree the beginning, and forgets the transactions. Transactions and calls
+    /// are counted from here on. This takes no memory.
     ///
     /// # Errors
     ///
-    /// Refused as `Live` where one was left live, as by `std::mem::forget`.
+    /// Refused as `Live` if a transaction was left live, as by `std::mem::forget`.
     pub fn checkpoint(&mut self) -> Result<()> {
         answered(self.handle.get_mut(), Handle::checkpoint)?;
         Ok(())
     }
 
-    /// Carries out one line of a script, a report such as `tree`, `locks` or `waits` too, and
-    /// answers the text of the reply. A line may end a transaction of which somebody has a
-    /// [`Transaction`]: what that is asked for then is refused.
+    /// Carries out one line of a script, and returns the text of the reply. The line may also ask
+    /// for a report, such as `tree`, `locks` or `waits`. A line may end a transaction of which
+    /// somebody has a [`Transaction`]: its requests are then refused.
     ///
     /// # Errors
     ///
-    /// `Invalid` where it is no line of a script.
+    /// `Invalid` if it is no line of a script.
     pub fn request(&self, line: &str) -> Result<String> {
         self.once(|handle| reply_to(handle, line))
     }
@@ -116,9 +117,9 @@ impl Tree {
 /// A tree that threads share: each clone is of the same tree.
 ///
 /// A call that has to wait is made again whenever a transaction has ended, and some times a second
-/// (a call of a transaction around it may let it go on), until a time limit is over; then it is
-/// forgotten, and answers [`Error::Waits`]. Where it would wait for ever, since transactions wait for
-/// each other, it answers [`Error::Deadlock`] at once: drop the transaction that is told so, and
+/// (a call of a transaction around it may unblock it), until a time limit is over. Then the call is
+/// forgotten, and returns [`Error::Waits`]. If it would wait forever, since transactions wait for
+/// each other, it returns [`Error::Deadlock`] at once: drop the transaction that gets this, and
 /// begin again.
 #[derive(Clone, Debug)]
 pub struct Shared {
@@ -144,7 +145,7 @@ impl Shared {
         }
     }
 
-    /// The same tree with another limit, for the transactions that are begun by it.
+    /// Returns the same tree with another limit, for the transactions that are begun by it.
     #[must_use]
     pub fn with_limit(&self, limit: Duration) -> Shared {
         Shared {
@@ -157,14 +158,14 @@ impl Shared {
     ///
     /// # Errors
     ///
-    /// Refused as `Full` where as many have begun since the last checkpoint as may.
+    /// Refused as `Full` if the limit on transactions since the last checkpoint is reached.
     pub fn begin(&self) -> Result<Transaction<Shared>> {
         let number = self.once(|handle| answered(handle, Handle::begin))?.number;
         Ok(Transaction::of(self.clone(), number))
     }
 
-    /// Aborts the transaction of this number, which may be another thread's, and answers how many
-    /// calls were taken back.
+    /// Aborts the transaction of this number, which may be another thread's, and returns how many
+    /// calls were undone.
     ///
     /// # Errors
     ///
@@ -174,8 +175,8 @@ impl Shared {
         Ok(aborted.number)
     }
 
-    /// Makes the tree as it stands the beginning, and forgets the transactions: those and calls are
-    /// counted from here. Takes no memory.
+    /// Makes the present tree the beginning, and forgets the transactions. Transactions and calls
+    /// are counted from here on. This takes no memory.
     ///
     /// # Errors
     ///
@@ -185,13 +186,13 @@ impl Shared {
         Ok(())
     }
 
-    /// Carries out one line of a script, a report such as `tree`, `locks` or `waits` too, and
-    /// answers the text of the reply. It does not wait. A line may end a transaction of which
-    /// somebody has a [`Transaction`]: what that is asked for then is refused.
+    /// Carries out one line of a script without waiting, and returns the text of the reply. The
+    /// line may also ask for a report, such as `tree`, `locks` or `waits`. A line may end a
+    /// transaction of which somebody has a [`Transaction`]: its requests are then refused.
     ///
     /// # Errors
     ///
-    /// `Invalid` where it is no line of a script.
+    /// `Invalid` if it is no line of a script.
     pub fn request(&self, line: &str) -> Result<String> {
         self.end(|handle| reply_to(handle, line))
     }
@@ -286,7 +287,7 @@ impl sealed::Reach for Shared {
     }
 }
 
-/// Makes a request, and tells what stood in its way, if anything did.
+/// Makes a request, and returns its answer or its error.
 pub(crate) fn answered(
     handle: &mut Handle,
     request: impl FnOnce(&mut Handle) -> Answer,

@@ -1,5 +1,5 @@
-//! What takes several calls. Where one of them fails, those before it stand: to have all or
-//! nothing, do it in a step.
+//! Functions that make several calls. If one of these fails, the calls before it are not undone: to
+//! have all or nothing, use a step.
 
 use crate::error::{Error, Result};
 use crate::file::{File, OpenOptions};
@@ -19,13 +19,13 @@ const MOST_FOLLOWED: usize = 40;
 #[derive(Clone, Debug, PartialEq, Eq)]
 #[non_exhaustive]
 pub struct Place {
-    /// Its path, which begins with that of the walk.
+    /// The path, which begins with that of the walk.
     pub path: PathBuf,
-    /// What it is.
+    /// The kind.
     pub kind: Kind,
 }
 
-/// Goes through what is below a directory: by [`Transaction::walk`].
+/// Goes through everything below a directory ([`Transaction::walk`]).
 #[derive(Debug)]
 pub struct Walk<'t, R: Reach> {
     transaction: &'t Transaction<R>,
@@ -58,11 +58,11 @@ impl<R: Reach> Iterator for Walk<'_, R> {
 }
 
 impl<R: Reach> Transaction<R> {
-    /// Whether a path leads to anything, through a last symbolic link too.
+    /// Returns whether a path leads to anything. A last symbolic link is followed.
     ///
     /// # Errors
     ///
-    /// Those of [`metadata`](Transaction::metadata) but ENOENT and ENOTDIR.
+    /// Those of [`metadata`](Transaction::metadata), except ENOENT and ENOTDIR.
     pub fn exists(&self, path: impl AsRef<Path>) -> Result<bool> {
         const ENOTDIR: i32 = 20;
         match self.metadata(path) {
@@ -73,7 +73,8 @@ impl<R: Reach> Transaction<R> {
         }
     }
 
-    /// The path from the root to what a path leads to, with no symbolic link, `.` or `..` in it.
+    /// Returns the path from the root to what a path leads to, without symbolic links, `.` and
+    /// `..`.
     ///
     /// # Errors
     ///
@@ -106,11 +107,11 @@ impl<R: Reach> Transaction<R> {
         Ok(whole)
     }
 
-    /// All bytes of a file.
+    /// Returns all bytes of a file.
     ///
     /// # Errors
     ///
-    /// EISDIR where it is a directory, or one of the path.
+    /// EISDIR if it is a directory, or one of the path.
     pub fn read(&self, path: impl AsRef<Path>) -> Result<Vec<u8>> {
         let file = self.open(path, OpenOptions::new().read(true))?;
         let mut bytes = vec![0; file.seek_end()? as usize];
@@ -123,7 +124,7 @@ impl<R: Reach> Transaction<R> {
         Ok(bytes)
     }
 
-    /// All of a file, as a text.
+    /// Returns all of a file, as text.
     ///
     /// # Errors
     ///
@@ -132,7 +133,7 @@ impl<R: Reach> Transaction<R> {
         String::from_utf8(self.read(path)?).map_err(|_| Error::NotUtf8)
     }
 
-    /// Makes a file of these bytes, in place of those that it had.
+    /// Makes a file with these bytes, or replaces the bytes of an existing one.
     ///
     /// # Errors
     ///
@@ -149,8 +150,8 @@ impl<R: Reach> Transaction<R> {
         self.open(path, &options)
     }
 
-    /// Makes a file of the bytes and the permissions of another, in place of those that it had, and
-    /// answers how many bytes there are. If both are the same file, it stays as it is.
+    /// Gives a file, which is made if it is missing, the bytes and the permissions of another, and
+    /// returns how many bytes there are. If both are the same file, it stays as it is.
     ///
     /// # Errors
     ///
@@ -174,11 +175,11 @@ impl<R: Reach> Transaction<R> {
         source.close().map(|()| copied)
     }
 
-    /// Makes a directory, and those above it, where they are missing.
+    /// Makes a directory and those above it, if they are missing.
     ///
     /// # Errors
     ///
-    /// EEXIST where it leads to a file, ENOTDIR where something above it does, or one of the path.
+    /// EEXIST if the path leads to a file, ENOTDIR if something above it does, or one of the path.
     #[doc(alias = "mkdir -p")]
     pub fn create_dir_all(&self, path: impl AsRef<Path>) -> Result<()> {
         let path = path.as_ref();
@@ -194,13 +195,12 @@ impl<R: Reach> Transaction<R> {
         self.create_dir(path)
     }
 
-    /// Removes a directory with all below it, or, as `std::fs` does, a symbolic link. Links are
-    /// removed, and what they lead to stays.
+    /// Removes a directory with everything below it, or, as `std::fs` does, a symbolic link. Links
+    /// are removed, but not what they lead to.
     ///
     /// # Errors
     ///
-    /// ENOTDIR where it is a file, EBUSY where it is the root, which is empty then, or one of the
-    /// path.
+    /// ENOTDIR if it is a file, EBUSY if it is the root, which is empty then, or one of the path.
     #[doc(alias = "rm -r")]
     pub fn remove_dir_all(&self, path: impl AsRef<Path>) -> Result<()> {
         let path = path.as_ref();
@@ -217,13 +217,13 @@ impl<R: Reach> Transaction<R> {
         self.remove_dir(path)
     }
 
-    /// Goes through what is below a directory: each directory before what is in it, and names in
-    /// the order of their bytes. A directory is listed when it is come to. Symbolic links below it
-    /// are told, and not followed.
+    /// Goes through everything below a directory: each directory before its contents, and names in
+    /// the order of their bytes. The walk lists a directory when it comes to it. It reports
+    /// symbolic links, and does not follow them.
     ///
     /// # Errors
     ///
-    /// Those of [`read_dir`](Transaction::read_dir), here and of each directory that it comes to.
+    /// Those of [`read_dir`](Transaction::read_dir), here and for each directory that it comes to.
     pub fn walk(&self, path: impl AsRef<Path>) -> Result<Walk<'_, R>> {
         let (transaction, left) = (self, Vec::new());
         let mut walk = Walk { transaction, left };
@@ -239,7 +239,7 @@ fn parts_of(path: &Path) -> Vec<OsString> {
     parts.map(|part| part.as_os_str().to_owned()).collect()
 }
 
-/// Writes all of these bytes at an offset, or tells what stood in the way of the rest.
+/// Writes all of these bytes at an offset, or returns the error of the rest.
 fn write_all_at<R: Reach>(file: &File<'_, R>, bytes: &[u8], offset: u64) -> Result<()> {
     let mut written = 0;
     while written < bytes.len() {

@@ -5,8 +5,8 @@ use crate::tree::Shared;
 use std::ops::Deref;
 use std::time::Duration;
 
-/// The calls of a transaction, with a time limit of their own: by [`Transaction::within`]. Steps
-/// that are begun by it have that limit too.
+/// The calls of a transaction, with a time limit of their own ([`Transaction::within`]). Steps that
+/// are begun by it have that limit too.
 #[derive(Debug)]
 pub struct Within<'t> {
     /// The same transaction, which is live as long as that.
@@ -15,7 +15,7 @@ pub struct Within<'t> {
 }
 
 impl Transaction<Shared> {
-    /// Its calls, with another time limit.
+    /// Returns the calls of this transaction, with another time limit.
     ///
     /// ```
     /// # use nuzolged::{Result, Shared, Tree};

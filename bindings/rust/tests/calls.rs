@@ -4,6 +4,7 @@ use nuzolged::{Error, Kind, OpenOptions, Refusal, Result, Rule, Tree};
 use std::ffi::OsStr;
 use std::io::{self, BufRead, BufReader, ErrorKind, Read, Seek, SeekFrom, Write};
 use std::os::unix::ffi::OsStrExt;
+use std::os::unix::fs::FileExt;
 use std::path::Path;
 
 const ENOENT: i32 = 2;
@@ -105,7 +106,13 @@ fn files_are_read_and_written_at_offsets() -> Result<()> {
     let mut buffer = *b"......";
     assert_eq!(file.read_at(&mut buffer, 1)?, 3);
     assert_eq!(&buffer, b"\0by...");
-    assert_eq!(file.metadata()?.len, 4);
+    assert_eq!(file.metadata()?.len(), 4);
+    file.write_all_at(b"long", 4).expect("there is room");
+    let mut both = [0; 6];
+    file.read_exact_at(&mut both, 2).expect("there are so many");
+    assert_eq!(&both, b"bylong");
+    let error = file.read_exact_at(&mut both, 3).unwrap_err();
+    assert_eq!(error.kind(), ErrorKind::UnexpectedEof);
     assert_eq!(file.write_at(b"x", u64::MAX), Err(Error::Invalid));
     file.close()?;
     job.commit()

@@ -49,6 +49,7 @@ fn call_waits_no_longer_than_the_limit() -> Result<()> {
     let begun = Instant::now();
     assert_eq!(second.metadata("/a"), Err(Error::Waits(vec![first.number()])));
     assert!(begun.elapsed() >= SHORT);
+    assert_eq!(tree.request("waits")?, "edges 0\nranks\n");
     Ok(())
 }
 

@@ -31,9 +31,9 @@ choice_of_matches words m choice free rows h = go choice (subst (λ met. ReadCho
     go : (choice : Choice) → ReadChoice (subcommand_of program words) choice → ChoiceOf words choice
     go (Play strict rule after limits) h = (free, h)
     go Dot h = (free, h)
-    go (Load dir skip set_id quiet limits) h = (free, h)
+    go (Load dir skip check set_id quiet limits) h = (free, h)
     go (Save dir set_id no_owners quiet limits) h = (free, h)
-    go (Jobs file turns quiet rule after limits) h = (free, h)
+    go (Jobs file pace quiet rule after limits) h = (free, h)
     go (Help text) h = absurd h
     go (Usage text) h = inr (free, h)
     go Fault h = tt
@@ -41,27 +41,28 @@ choice_of_matches words m choice free rows h = go choice (subst (λ met. ReadCho
 pub choice_of_error : (words : List Text) (kind : ErrorKind) (choice : Choice) → (kind ≡ OutOfMemory) ⊎ IsAmong kind (fault_of program words) → ErrorChoice kind choice → ChoiceOf words choice
 choice_of_error words kind (Play strict rule after limits) among h = absurd h
 choice_of_error words kind Dot among h = absurd h
-choice_of_error words kind (Load dir skip set_id quiet limits) among h = absurd h
+choice_of_error words kind (Load dir skip check set_id quiet limits) among h = absurd h
 choice_of_error words kind (Save dir set_id no_owners quiet limits) among h = absurd h
-choice_of_error words kind (Jobs file turns quiet rule after limits) among h = absurd h
-choice_of_error words kind (Help text) (inl is) h = cc
-choice_of_error words kind (Help text) (inr among) h = subst (λ k. IsAmong k (fault_of program words)) h among
+choice_of_error words kind (Jobs file pace quiet rule after limits) among h = absurd h
+choice_of_error words kind (Help text) (inl is) (inl help) = cc
+choice_of_error words kind (Help text) (inl is) (inr version) = cc
+choice_of_error words kind (Help text) (inr among) h = (kind, among, h)
 choice_of_error words kind (Usage text) (inl is) h = absurd (h.1 is)
 choice_of_error words kind (Usage text) (inr among) h = inl (kind, among, h.0)
 choice_of_error words kind Fault among h = tt
 
--- ---- how often a call asks
+-- ---- how often a call asks, and how many threads there are
 
 -- the number that was read is that of the digits that were found
-pub turns_read : (E : Type 0) (G : List ℕ → Result ℕ E → Type 0) (f : Found) (read : Option ℕ) (turns : ℕ)
+pub number_read : (name : Text) (E : Type 0) (G : List ℕ → Result ℕ E → Type 0) (f : Found) (read : Option ℕ) (number : ℕ)
     → ((text : List ℕ) (x : Result ℕ E) → G text x → ParsesUnsigned 64 10 text x)
-    → (one_text f (codes "turns") ≡ None → read ≡ None) → ((text : List ℕ) → one_text f (codes "turns") ≡ Some text → ReadsOne G text read) → read ≡ Some turns
-    → (digits : Text) × (one_of (codes "turns") (rows_of f) ≡ Some digits) × (turns ≡ digits_value 10 (without_leading_plus digits))
-turns_read E G f read turns only none some is = go (one_text f (codes "turns")) refl
+    → (one_text f name ≡ None → read ≡ None) → ((text : List ℕ) → one_text f name ≡ Some text → ReadsOne G text read) → read ≡ Some number
+    → (digits : Text) × (one_of name (rows_of f) ≡ Some digits) × (number ≡ digits_value 10 (without_leading_plus digits))
+number_read name E G f read number only none some is = go (one_text f name) refl
   where
-    go : (text : Option Text) → one_text f (codes "turns") ≡ text → (digits : Text) × (one_of (codes "turns") (rows_of f) ≡ Some digits) × (turns ≡ digits_value 10 (without_leading_plus digits))
+    go : (text : Option Text) → one_text f name ≡ text → (digits : Text) × (one_of name (rows_of f) ≡ Some digits) × (number ≡ digits_value 10 (without_leading_plus digits))
     go None found = let no = none found in cc
-    go (Some text) found = (text, sym (one_text-rows f (codes "turns")) ∙ found, (only text (Ok turns) (subst (ReadsOne G text) is (some text found))).1)
+    go (Some text) found = (text, sym (one_text-rows f name) ∙ found, (only text (Ok number) (subst (ReadsOne G text) is (some text found))).1)
 
 -- ---- flags
 

@@ -7,11 +7,12 @@ use Rattle.clap.specs.declared.builder.command.Command.{Command}
 use Rattle.clap.specs.declared.builder.command.Command.TheViews.{out-Command}
 use Rattle.clap.specs.declared.builder.value_parser.ValueParser.TheVariants.{Unsigned}
 use Rattle.clap.specs.declared.error.kind.ErrorKind.{ErrorKind}
-use Rattle.clap.specs.declared.error.kind.ErrorKind.TheVariants.{DisplayHelp, OutOfMemory}
+use Rattle.clap.specs.declared.error.kind.ErrorKind.TheVariants.{DisplayHelp, DisplayVersion, OutOfMemory}
 use Rattle.ft_moss.specs.declared.rule.Rule.{Rule as LockRule}
 use Rattle.ft_moss.specs.Rules.{is_strict}
 use Rattle.ft_command.specs.Limits.{HasBadLimit, TellsLimits, limited}
 use Rattle.ft_command.specs.declared.limits.AskedLimits.{AskedLimits}
+use Rattle.ft_command.specs.declared.choice.AskedPace.{AskedPace}
 use Rattle.ft_command.specs.declared.choice.Choice.{Choice}
 use Rattle.ft_command.specs.declared.choice.Choice.TheVariants.{Play, Dot, Load, Save, Jobs, Help, Usage, Fault}
 
@@ -23,6 +24,10 @@ file_rule = record (new_rule (codes "file")) { required = true; value_names = 1 
 -- named
 abbrev pub turns_rule : Rule
 turns_rule = record (new_rule (codes "turns")) { long = Some (codes "turns"); value_names = 1; parser = Some (Unsigned 1 1000000); defaults = codes "10000" ∷ [] }
+
+-- how many threads run jobs at most: `--threads N`, from 1 to 4,096, and 64 where it is not named
+abbrev pub threads_rule : Rule
+threads_rule = record (new_rule (codes "threads")) { long = Some (codes "threads"); value_names = 1; parser = Some (Unsigned 1 4096); defaults = codes "64" ∷ [] }
 
 -- `--quiet`, where it is not to be shown how far it has come
 abbrev pub quiet_rule : Rule
@@ -36,9 +41,13 @@ moss_rule = record (new_rule (codes "moss")) { long = Some (codes "moss"); actio
 abbrev pub dir_rule : Rule
 dir_rule = record (new_rule (codes "dir")) { required = true; value_names = 1 }
 
--- `--skip`, where what a tree has no place for is left out
+-- `--skip`, where what can't be loaded is left out
 abbrev pub skip_rule : Rule
 skip_rule = record (new_rule (codes "skip")) { long = Some (codes "skip"); action = Some SetTrue }
+
+-- `--check`, where that is only listed
+abbrev pub check_rule : Rule
+check_rule = record (new_rule (codes "check")) { long = Some (codes "check"); action = Some SetTrue }
 
 -- `--set-id`, where modes keep their bits S_ISUID and S_ISGID
 abbrev pub set_id_rule : Rule
@@ -65,27 +74,28 @@ play = limited (with_rule (with_rule (with_rule (new_app (codes "play")) strict_
 abbrev pub dot : App
 dot = limited (new_app (codes "dot"))
 
--- `load`, which needs a directory and may have `--skip`, `--set-id` and `--quiet`
+-- `load`, which needs a directory and may have `--skip`, `--check`, `--set-id` and `--quiet`
 abbrev pub load : App
-load = limited (with_rule (with_rule (with_rule (with_rule (new_app (codes "load")) dir_rule) skip_rule) set_id_rule) quiet_rule)
+load = limited (with_rule (with_rule (with_rule (with_rule (with_rule (new_app (codes "load")) dir_rule) skip_rule) check_rule) set_id_rule) quiet_rule)
 
 -- `save`, which needs a directory and may have `--set-id`, `--no-owners` and `--quiet`
 abbrev pub save : App
 save = limited (with_rule (with_rule (with_rule (with_rule (new_app (codes "save")) dir_rule) set_id_rule) no_owners_rule) quiet_rule)
 
--- `jobs`, which needs a file and may have `--turns N`, `--quiet`, `--moss` and `--after FILE`
+-- `jobs`, which needs a file and may have `--turns N`, `--quiet`, `--moss`, `--after FILE` and
+-- `--threads N`
 abbrev pub jobs : App
-jobs = limited (with_rule (with_rule (with_rule (with_rule (with_rule (new_app (codes "jobs")) file_rule) turns_rule) quiet_rule) moss_rule) after_rule)
+jobs = limited (with_rule (with_rule (with_rule (with_rule (with_rule (with_rule (new_app (codes "jobs")) file_rule) turns_rule) quiet_rule) moss_rule) after_rule) threads_rule)
 
 -- no argument of the command is one of its subcommands too
 abbrev pub HasNoGlobals : Command → Type 0
 HasNoGlobals command = (out-Command command).has_globals ≡ false
 
--- the program `ft_run` needs a subcommand; the words begin behind its name
+-- the program `ft_run` needs a subcommand, and has a version; the words begin behind its name
 abbrev pub bare : App
 bare =
     let named = new_app (codes "ft_run") in
-    record named { top = record named.top { no_binary_name = true; subcommand_required = true } }
+    record named { top = record named.top { no_binary_name = true; subcommand_required = true; has_version = true } }
 
 -- it has `play` and `dot`
 abbrev pub with_filters : App
@@ -109,14 +119,16 @@ abbrev pub IsFlag : Option Text → Bool → Type 0
 IsFlag None flag = flag ≡ false
 IsFlag (Some text) flag = (text ≡ codes "true" → flag ≡ true) × (text ≡ codes "false" → flag ≡ false)
 
--- The file and the turns are those that were found (clap's `first_of` and `one_of`, the digits of
--- which are the number), there is at least one turn, and it is quiet where that flag stands.
-abbrev pub TellsJobs : List Row → Text → ℕ → Bool → Type 0
-TellsJobs found file turns quiet =
-    (first_of (codes "file") found ≡ Some file)
-    × ((digits : Text) × (one_of (codes "turns") found ≡ Some digits) × (turns ≡ digits_value 10 (without_leading_plus digits)))
-    × (1 ≤ turns)
-    × IsFlag (one_of (codes "quiet") found) quiet
+-- the number of this name is that of the digits that were found (clap's `one_of`)
+abbrev pub TellsNumber : Text → List Row → ℕ → Type 0
+TellsNumber name found number = (digits : Text) × (one_of name found ≡ Some digits) × (number ≡ digits_value 10 (without_leading_plus digits))
+
+-- The file and the pace are those that were found (clap's `first_of`), there is at least one turn,
+-- and it is quiet where that flag stands.
+abbrev pub TellsJobs : List Row → Text → AskedPace → Bool → Type 0
+TellsJobs found file pace quiet =
+    (first_of (codes "file") found ≡ Some file) × TellsNumber (codes "turns") found pace.turns × (1 ≤ pace.turns)
+    × TellsNumber (codes "threads") found pace.threads × IsFlag (one_of (codes "quiet") found) quiet
 
 -- the rule is `Moss` where the flag `--moss` stands, and else `Profile`
 abbrev pub TellsRule : List Row → LockRule → Type 0
@@ -136,28 +148,32 @@ abbrev pub ReadChoice : Met → Choice → Type 0
 ReadChoice met (Play strict rule after limits) =
     (found : List Row) × (met ≡ Some (codes "play", found)) × IsFlag (one_of (codes "strict") found) strict × TellsRule found rule × TellsAfter found (option_map string_bytes after) × TellsLimits found limits
 ReadChoice met Dot = (found : List Row) × (met ≡ Some (codes "dot", found)) × ((limits : AskedLimits) × TellsLimits found limits)
-ReadChoice met (Load dir skip set_id quiet limits) =
-    (found : List Row) × (met ≡ Some (codes "load", found)) × TellsDir found (string_bytes dir) × IsFlag (one_of (codes "skip") found) skip
+ReadChoice met (Load dir skip check set_id quiet limits) =
+    (found : List Row) × (met ≡ Some (codes "load", found)) × TellsDir found (string_bytes dir) × IsFlag (one_of (codes "skip") found) skip × IsFlag (one_of (codes "check") found) check
     × IsFlag (one_of (codes "set-id") found) set_id × IsFlag (one_of (codes "quiet") found) quiet × TellsLimits found limits
 ReadChoice met (Save dir set_id no_owners quiet limits) =
     (found : List Row) × (met ≡ Some (codes "save", found)) × TellsDir found (string_bytes dir) × IsFlag (one_of (codes "set-id") found) set_id
     × IsFlag (one_of (codes "no-owners") found) no_owners × IsFlag (one_of (codes "quiet") found) quiet × TellsLimits found limits
-ReadChoice met (Jobs file turns quiet rule after limits) =
-    (found : List Row) × (met ≡ Some (codes "jobs", found)) × TellsJobs found (string_bytes file) turns quiet × TellsRule found rule × TellsAfter found (option_map string_bytes after) × TellsLimits found limits
+ReadChoice met (Jobs file pace quiet rule after limits) =
+    (found : List Row) × (met ≡ Some (codes "jobs", found)) × TellsJobs found (string_bytes file) pace quiet × TellsRule found rule × TellsAfter found (option_map string_bytes after) × TellsLimits found limits
 ReadChoice met (Help text) = ⊥
 ReadChoice met (Usage text) = (name : Text) × (found : List Row) × (met ≡ Some (name, found)) × HasBadLimit found
 ReadChoice met Fault = Unit {0}
 
--- The choice at an error of this kind: a help text just for a request of help, and a usage text
--- for a mistake. Want of memory may stand in place of any.
+-- help or the version was asked for
+abbrev pub IsRequest : ErrorKind → Type 0
+IsRequest kind = (kind ≡ DisplayHelp) ⊎ (kind ≡ DisplayVersion)
+
+-- The choice at an error of this kind: a help text just for a request of help or of the version, and
+-- a usage text for a mistake. Want of memory may stand in place of any.
 abbrev pub ErrorChoice : ErrorKind → Choice → Type 0
 ErrorChoice kind (Play strict rule after limits) = ⊥
 ErrorChoice kind Dot = ⊥
-ErrorChoice kind (Load dir skip set_id quiet limits) = ⊥
+ErrorChoice kind (Load dir skip check set_id quiet limits) = ⊥
 ErrorChoice kind (Save dir set_id no_owners quiet limits) = ⊥
-ErrorChoice kind (Jobs file turns quiet rule after limits) = ⊥
-ErrorChoice kind (Help text) = kind ≡ DisplayHelp
-ErrorChoice kind (Usage text) = (kind ≢ DisplayHelp) × (kind ≢ OutOfMemory)
+ErrorChoice kind (Jobs file pace quiet rule after limits) = ⊥
+ErrorChoice kind (Help text) = IsRequest kind
+ErrorChoice kind (Usage text) = (¬ IsRequest kind) × (kind ≢ OutOfMemory)
 ErrorChoice kind Fault = Unit {0}
 
 -- the words have no error (clap's `fault_of`), and the subcommand that they name
@@ -166,13 +182,13 @@ abbrev pub IsCommand : List Text → Choice → Type 0
 IsCommand words choice = (fault_of program words ≡ []) × ReadChoice (subcommand_of program words) choice
 
 -- The choice that words ask for: a subcommand only where they name just that, a help text only
--- where help was asked for, a usage text only at another error or at a value that is no limit.
+-- where help or the version was asked for, a usage text only at another error or at a value that is no limit.
 abbrev pub ChoiceOf : List Text → Choice → Type 0
 ChoiceOf words (Play strict rule after limits) = IsCommand words (Play strict rule after limits)
 ChoiceOf words Dot = IsCommand words Dot
-ChoiceOf words (Load dir skip set_id quiet limits) = IsCommand words (Load dir skip set_id quiet limits)
+ChoiceOf words (Load dir skip check set_id quiet limits) = IsCommand words (Load dir skip check set_id quiet limits)
 ChoiceOf words (Save dir set_id no_owners quiet limits) = IsCommand words (Save dir set_id no_owners quiet limits)
-ChoiceOf words (Jobs file turns quiet rule after limits) = IsCommand words (Jobs file turns quiet rule after limits)
-ChoiceOf words (Help text) = IsAmong DisplayHelp (fault_of program words)
-ChoiceOf words (Usage text) = ((kind : ErrorKind) × IsAmong kind (fault_of program words) × (kind ≢ DisplayHelp)) ⊎ IsCommand words (Usage text)
+ChoiceOf words (Jobs file pace quiet rule after limits) = IsCommand words (Jobs file pace quiet rule after limits)
+ChoiceOf words (Help text) = (kind : ErrorKind) × IsAmong kind (fault_of program words) × IsRequest kind
+ChoiceOf words (Usage text) = ((kind : ErrorKind) × IsAmong kind (fault_of program words) × (¬ IsRequest kind)) ⊎ IsCommand words (Usage text)
 ChoiceOf words Fault = Unit {0}

@@ -2,7 +2,7 @@
 ghost use Rattle.std.specs.Prelude.{◌≡◌, IfOk, IfSome, Some, codes, false, map, option_map, string_bytes};
 ghost use Rattle.clap.specs.Words.{Text, app_of, found_of, kind_of, one_of, rows_of, rule_of, subcommand_rows_of};
 ghost use Rattle.ft_command.specs.Limits.{IsBadLimit};
-ghost use Rattle.ft_command.specs.CommandLine.{ChoiceOf, ErrorChoice, HasNoGlobals, IsFlag, ReadChoice, TellsAfter, TellsDir, TellsJobs, TellsRule, after_rule, bare, dir_rule, dot, file_rule, jobs, load, moss_rule, play, program, no_owners_rule, quiet_rule, save, set_id_rule, skip_rule, strict_rule, turns_rule, with_filters, with_folders};
+ghost use Rattle.ft_command.specs.CommandLine.{ChoiceOf, ErrorChoice, HasNoGlobals, IsFlag, ReadChoice, TellsAfter, TellsDir, TellsJobs, TellsRule, after_rule, bare, check_rule, dir_rule, dot, file_rule, jobs, load, moss_rule, play, program, no_owners_rule, quiet_rule, save, set_id_rule, skip_rule, strict_rule, threads_rule, turns_rule, with_filters, with_folders};
 
 use crate::limits::{AskedLimits, Flag, asked_limits, with_limits};
 use clap::builder::ValueParser;
@@ -25,13 +25,14 @@ pub enum Choice {
     },
     /// Draw the last report on who waits for whom.
     Dot,
-    /// Write a script that makes what this directory holds. What a tree has no place for is left
-    /// out where it is to be skipped, and modes have their bits S_ISUID and S_ISGID only where these
-    /// are asked for. How far it has come is not shown where it is to be quiet. No more is written
-    /// than these limits allow.
+    /// Write a script that makes what this directory holds, or where it is to be checked, list what
+    /// can't be loaded. That is left out where it is to be skipped, and modes have their bits
+    /// S_ISUID and S_ISGID only where these are asked for. How far it has come is not shown where
+    /// it is to be quiet. No more is written than these limits allow.
     Load {
         dir: String,
         skip: bool,
+        check: bool,
         set_id: bool,
         quiet: bool,
         limits: AskedLimits,
@@ -47,18 +48,18 @@ pub enum Choice {
         quiet: bool,
         limits: AskedLimits,
     },
-    /// Run the jobs of the plan in a file. A call of theirs asks at most so many times, at least
-    /// once. How far they have come is not shown where it is to be quiet. Their core grants calls
-    /// by this rule and has these limits. The script in a file, if there is one, is played first.
+    /// Run the jobs of the plan in a file, at this pace. How far they have come is not shown where
+    /// it is to be quiet. Their core grants calls by this rule and has these limits. The script in a
+    /// file, if there is one, is played first.
     Jobs {
         file: String,
-        turns: u64,
+        pace: AskedPace,
         quiet: bool,
         rule: Rule,
         after: Option<String>,
         limits: AskedLimits,
     },
-    /// Print this help to the standard output, and end with status 0.
+    /// Print this help, or the version, to the standard output, and end with status 0.
     Help(String),
     /// Print this to the standard error, and end with status 2: the words ask for nothing that
     /// there is.
@@ -67,13 +68,28 @@ pub enum Choice {
     Fault,
 }
 
+/// How the jobs of a plan are to be run.
+#[derive(Clone, Copy, Debug, PartialEq, Eq)]
+pub struct AskedPace {
+    /// A call of theirs asks at most so many times, at least once.
+    pub turns: u64,
+    /// So many threads run them at most.
+    pub threads: u64,
+}
+
 // How a script is run, how who waits for whom is drawn, how the jobs of a plan are run, and how
 // they begin with the files of one directory and end with those of another.
 const EXAMPLE: &str =
     "Example:\n  ft_run play < script.ft\n  ft_run play < script.ft | ft_run dot | dot -Tsvg > waits.svg\n  ft_run jobs build.plan\n  ft_run load src > src.ft\n  ft_run jobs build.plan --after src.ft | ft_run save out";
 
+// The version of the program, which is that of the library.
+const VERSION: &str = "0.1.0";
+
 // The most times that a call of a job may be told to ask.
 const MOST_TURNS: u64 = 1_000_000;
+
+// The most threads that jobs may be given.
+const MOST_THREADS: u64 = 4096;
 
 /// What the words after the program's name ask for.
 ///
@@ -164,6 +180,7 @@ fn load_choice(alloc: Global, found: &ArgMatches) -> Choice
     ensures { ReadChoice (Some (codes "load", rows_of (found_of found.now))) result }
 {
     let skip = found.get_flag("skip");
+    let check = found.get_flag("check");
     let set_id = found.get_flag("set-id");
     let quiet = found.get_flag("quiet");
     let limits = match asked_limits(found) {
@@ -174,6 +191,7 @@ fn load_choice(alloc: Global, found: &ArgMatches) -> Choice
         Some(dir) => Choice::Load {
             dir,
             skip,
+            check,
             set_id,
             quiet,
             limits,
@@ -218,9 +236,9 @@ fn jobs_choice(alloc: Global, found: &ArgMatches) -> Choice
         return Choice::Fault;
     };
     match asked_of_jobs(alloc, found) {
-        Some((file, turns, quiet)) => Choice::Jobs {
+        Some((file, pace, quiet)) => Choice::Jobs {
             file,
-            turns,
+            pace,
             quiet,
             rule,
             after,
@@ -270,9 +288,9 @@ fn asked_rule(found: &ArgMatches) -> Rule
     }
 }
 
-// The file and the turns that `jobs` was given, and whether it is to be quiet. There may be no
+// The file and the pace that `jobs` was given, and whether it is to be quiet. There may be no
 // memory for the name of the file. (The crate that reads the words lets no 0 through.)
-fn asked_of_jobs(alloc: Global, found: &ArgMatches) -> Option<(String, u64, bool)>
+fn asked_of_jobs(alloc: Global, found: &ArgMatches) -> Option<(String, AskedPace, bool)>
     ensures { IfSome result (λ asked. TellsJobs (rows_of (found_of found.now)) (string_bytes asked.0) asked.1 asked.2) }
 {
     let file = found.get_str("file")?;
@@ -280,8 +298,9 @@ fn asked_of_jobs(alloc: Global, found: &ArgMatches) -> Option<(String, u64, bool
     if turns == 0 {
         return None;
     }
+    let threads = found.get_one::<u64>("threads")?;
     let file = String::from_str(alloc, file).ok()?;
-    Some((file, turns, found.get_flag("quiet")))
+    Some((file, AskedPace { turns, threads }, found.get_flag("quiet")))
 }
 
 // The command line of the program.
@@ -316,6 +335,7 @@ fn bare<'a>(alloc: Global) -> Command<'a>
 {
     Command::new(alloc, "ft_run")
         .about("Runs scripts of transactions on a tree of directories")
+        .version(VERSION)
         .no_binary_name(true)
         .subcommand_required(true)
         .after_help(EXAMPLE)
@@ -354,6 +374,7 @@ fn load_command<'a>(alloc: Global) -> Result<Command<'a>, AllocError>
         .about("Writes a script that makes what a directory holds")
         .arg(dir_arg(alloc))?
         .arg(skip_arg(alloc))?
+        .arg(check_arg(alloc))?
         .arg(set_id_arg(alloc))?
         .arg(quiet_arg(alloc))?;
     with_limits(alloc, command)
@@ -384,7 +405,8 @@ fn jobs_command<'a>(alloc: Global) -> Result<Command<'a>, AllocError>
         .arg(turns_arg(alloc))?
         .arg(quiet_arg(alloc))?
         .arg(moss_arg(alloc))?
-        .arg(after_arg(alloc))?;
+        .arg(after_arg(alloc))?
+        .arg(threads_arg(alloc))?;
     with_limits(alloc, command)
 }
 
@@ -399,7 +421,7 @@ fn dir_arg<'a>(alloc: Global) -> Arg<'a>
         .help("The directory")
 }
 
-// The flag that leaves out what a tree has no place for.
+// The flag that leaves out what can't be loaded.
 fn skip_arg<'a>(alloc: Global) -> Arg<'a>
     ensures rule { rule_of result ≡ skip_rule }
     ensures local { result.global ≡ false }
@@ -407,7 +429,18 @@ fn skip_arg<'a>(alloc: Global) -> Arg<'a>
     Arg::new(alloc, "skip")
         .long("skip")
         .action(ArgAction::SetTrue)
-        .help("Leave out devices, FIFOs and sockets, and tell of each")
+        .help("Leave out what can't be loaded, tell of it, and end with status 3")
+}
+
+// The flag that only lists what can't be loaded.
+fn check_arg<'a>(alloc: Global) -> Arg<'a>
+    ensures rule { rule_of result ≡ check_rule }
+    ensures local { result.global ≡ false }
+{
+    Arg::new(alloc, "check")
+        .long("check")
+        .action(ArgAction::SetTrue)
+        .help("Write no script, but list what can't be loaded")
 }
 
 // The flag that keeps the bits S_ISUID and S_ISGID.
@@ -478,6 +511,19 @@ fn turns_arg<'a>(alloc: Global) -> Arg<'a>
         .help("How often a call that waits asks at most")
 }
 
+// How many threads run jobs at most.
+fn threads_arg<'a>(alloc: Global) -> Arg<'a>
+    ensures rule { rule_of result ≡ threads_rule }
+    ensures local { result.global ≡ false }
+{
+    Arg::new(alloc, "threads")
+        .long("threads")
+        .value_name("N")
+        .value_parser(ValueParser::unsigned(1, MOST_THREADS))
+        .default_value("64")
+        .help("How many threads run the jobs at most")
+}
+
 // The flag that leaves out how far it has come.
 fn quiet_arg<'a>(alloc: Global) -> Arg<'a>
     ensures rule { rule_of result ≡ quiet_rule }
@@ -511,7 +557,7 @@ fn choice_at(alloc: Global, error: &Error) -> Choice
     match error.to_string(alloc) {
         Err(_) => Choice::Fault,
         Ok(text) => {
-            if kind == ErrorKind::DisplayHelp {
+            if kind == ErrorKind::DisplayHelp || kind == ErrorKind::DisplayVersion {
                 Choice::Help(text)
             } else {
                 Choice::Usage(text)

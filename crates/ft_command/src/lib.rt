@@ -4,5 +4,5 @@
 mod choice;
 mod limits;
 
-pub use choice::{Choice, choose};
+pub use choice::{AskedPace, Choice, choose};
 pub use limits::AskedLimits;

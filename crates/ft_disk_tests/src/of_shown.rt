@@ -1,37 +1,23 @@
-// What a screen gets while a tree is loaded or saved, and the line that tells of a fault.
+// What a screen gets while a tree is loaded or saved. (The line that tells of a fault: hostile/round.)
 use crate::fakes::{FakeClock, FakeSource, FakeTarget, Row};
 use crate::of_load::{TREE, WITH_SPECIAL};
 use crate::of_save::{REPLIES, default_limits};
+use ft_copy::{Stopped, Trouble};
 use ft_core::Limits;
-use ft_shown::ShownTarget;
-use ft_status::{load_status, save_status};
+use ft_load::load;
+use ft_save::{SaveFault, save};
+use ft_shown::{ShownSource, ShownTarget};
 use std::alloc::Global;
 use std::cell::Cell;
 use std::test::Fail;
 
-// What is seen of a run: what it shows on a screen, and what it tells of a fault.
-#[derive(Drop)]
-struct Seen {
-    screen: Vec<u8>,
-    errors: Vec<u8>,
-}
-
-impl Seen {
-    fn new(alloc: Global) -> Seen {
-        Seen {
-            screen: Vec::new(alloc),
-            errors: Vec::new(alloc),
-        }
-    }
-
-    // Whether it is this.
-    fn is(&self, screen: &str, errors: &str) -> bool {
-        self.screen.as_slice() == screen.as_bytes() && self.errors.as_slice() == errors.as_bytes()
-    }
-}
-
-// Loads a tree, while a clock goes on by so many milliseconds at each look, and answers the status.
-fn load_shown(alloc: Global, rows: &[Row<'_>], step: u64, seen: &mut Seen) -> u8 {
+// Loads a tree, while a clock goes on by so many milliseconds at each look.
+fn load_shown(
+    alloc: Global,
+    rows: &[Row<'_>],
+    step: u64,
+    screen: &mut Vec<u8>,
+) -> Result<(), Stopped> {
     let clock = FakeClock::new(step);
     let turns = Cell::new(100);
     let source = FakeSource {
@@ -41,46 +27,59 @@ fn load_shown(alloc: Global, rows: &[Row<'_>], step: u64, seen: &mut Seen) -> u8
         skipped: b"".as_slice(),
         turns: &turns,
     };
-    let script = Vec::new(alloc);
-    let screen = Some(&mut seen.screen);
-    let (_, status) = load_status(
-        &clock,
-        alloc,
-        Limits::default(),
-        false,
-        &source,
-        screen,
-        script,
-        &mut seen.errors,
-    );
-    status
+    let shown = ShownSource::new(&clock, alloc, &source, Some(screen));
+    let (_, loaded) = load(alloc, Limits::default(), false, &shown, Vec::new(alloc));
+    shown.done();
+    loaded
 }
 
 // The same of a save in so many turns.
-fn save_shown(alloc: Global, turns: u64, step: u64, seen: &mut Seen) -> u8 {
+fn save_shown(alloc: Global, turns: u64, step: u64, screen: &mut Vec<u8>) -> Result<(), SaveFault> {
     let clock = FakeClock::new(step);
     let target = FakeTarget::new(alloc, turns);
-    let screen = Some(&mut seen.screen);
-    let mut shown = ShownTarget::new(&clock, alloc, target, screen);
-    save_status(
+    let mut shown = ShownTarget::new(&clock, alloc, target, Some(screen));
+    save(
         alloc,
         default_limits(false),
         &mut REPLIES.as_bytes(),
         &mut shown,
-        &mut seen.errors,
     )
 }
 
-// Whether a load shows this.
-fn load_shows(alloc: Global, rows: &[Row<'_>], step: u64, end: (u8, &str, &str)) -> bool {
-    let mut seen = Seen::new(alloc);
-    load_shown(alloc, rows, step, &mut seen) == end.0 && seen.is(end.1, end.2)
+// Whether a load ends well and shows this.
+fn load_shows(alloc: Global, rows: &[Row<'_>], step: u64, screen: &str) -> bool {
+    let mut seen = Vec::new(alloc);
+    load_shown(alloc, rows, step, &mut seen).is_ok() && seen.as_slice() == screen.as_bytes()
 }
 
 // Whether a save does.
-fn save_shows(alloc: Global, turns: u64, step: u64, end: (u8, &str, &str)) -> bool {
-    let mut seen = Seen::new(alloc);
-    save_shown(alloc, turns, step, &mut seen) == end.0 && seen.is(end.1, end.2)
+fn save_shows(alloc: Global, turns: u64, step: u64, screen: &str) -> bool {
+    let mut seen = Vec::new(alloc);
+    save_shown(alloc, turns, step, &mut seen).is_ok() && seen.as_slice() == screen.as_bytes()
+}
+
+// Whether a copy was stopped by this, at this path.
+fn is_stopped(stopped: &Stopped, trouble: Trouble, path: &[u8]) -> bool {
+    stopped.trouble == trouble && stopped.path.as_slice() == path
+}
+
+// Whether a load of a tree with a special file stops there, and shows nothing.
+fn load_stops(alloc: Global) -> bool {
+    let mut seen = Vec::new(alloc);
+    let Err(stopped) = load_shown(alloc, WITH_SPECIAL, 60, &mut seen) else {
+        return false;
+    };
+    is_stopped(&stopped, Trouble::Special, b"/dev/s y".as_slice()) && seen.is_empty()
+}
+
+// Whether a save of six turns stops at its second file, and what it has shown is erased.
+fn save_stops(alloc: Global) -> bool {
+    let mut seen = Vec::new(alloc);
+    let Err(SaveFault::Stopped(stopped)) = save_shown(alloc, 6, 60, &mut seen) else {
+        return false;
+    };
+    is_stopped(&stopped, Trouble::Write, b"/a/nothing".as_slice())
+        && seen.as_slice() == SAVED.as_bytes()
 }
 
 const LOADED: &str = "\r\x1b[Kdirectories: 2; files: 1\r\x1b[Kdirectories: 2; files: 3\r\x1b[K";
@@ -89,14 +88,7 @@ const LOADED: &str = "\r\x1b[Kdirectories: 2; files: 1\r\x1b[Kdirectories: 2; fi
 fn loads_are_shown(rt: HostRuntime) -> Result<(), Fail> {
     let alloc = rt.alloc();
     assert!(rt;
-        load_shows(alloc, TREE, 60, (0, LOADED, ""))
-            && load_shows(alloc, TREE, 10, (0, "", ""))
-            && load_shows(
-                alloc,
-                WITH_SPECIAL,
-                60,
-                (1, "", "fault: Special /dev/s%20y\n")
-            )
+        load_shows(alloc, TREE, 60, LOADED) && load_shows(alloc, TREE, 10, "") && load_stops(alloc)
     );
     Ok(())
 }
@@ -107,9 +99,7 @@ const SAVED: &str = "\r\x1b[Kdirectories: 1; files: 2\r\x1b[K";
 fn saves_are_shown(rt: HostRuntime) -> Result<(), Fail> {
     let alloc = rt.alloc();
     assert!(rt;
-        save_shows(alloc, 100, 60, (0, SAVED, ""))
-            && save_shows(alloc, 100, 10, (0, "", ""))
-            && save_shows(alloc, 6, 60, (1, SAVED, "fault: Write /a/nothing\n"))
+        save_shows(alloc, 100, 60, SAVED) && save_shows(alloc, 100, 10, "") && save_stops(alloc)
     );
     Ok(())
 }

@@ -51,12 +51,14 @@ fn is_jobs(alloc: Global, words: &[&str], plan: &str, most: u64, hushed: bool) -
     match choose(alloc, words) {
         Choice::Jobs {
             file,
-            turns,
+            pace,
             quiet,
             rule,
             after: None,
             ..
-        } => { file.as_str() == plan && turns == most && quiet == hushed && rule == Rule::Profile }
+        } => {
+            file.as_str() == plan && pace.turns == most && quiet == hushed && rule == Rule::Profile
+        }
         _ => false,
     }
 }
@@ -68,12 +70,31 @@ fn is_load(alloc: Global, words: &[&str], folder: &str, asked: (bool, bool, bool
         Choice::Load {
             dir,
             skip,
+            check: false,
             set_id,
             quiet,
             limits: _,
         } => dir.as_str() == folder && (skip, set_id, quiet) == asked,
         _ => false,
     }
+}
+
+// Whether they ask for a list of what can't be loaded of this directory.
+fn is_check(alloc: Global, words: &[&str], folder: &str) -> bool {
+    match choose(alloc, words) {
+        Choice::Load {
+            dir,
+            skip: false,
+            check: true,
+            ..
+        } => dir.as_str() == folder,
+        _ => false,
+    }
+}
+
+// Whether they ask for jobs in so many threads at most.
+fn is_jobs_in(alloc: Global, words: &[&str], most: u64) -> bool {
+    matches!(choose(alloc, words), Choice::Jobs { pace, .. } if pace.threads == most)
 }
 
 // Whether they ask for this directory to be made, to keep set-id bits, to set no owners and to be
@@ -102,7 +123,7 @@ fn first_file(alloc: Global, words: &[&str]) -> Option<String> {
         } => after,
         Choice::Jobs {
             file: _plan,
-            turns: _,
+            pace: _,
             quiet: _,
             rule: _,
             after,
@@ -148,6 +169,7 @@ fn choices_of_directories(rt: HostRuntime) -> Result<(), Fail> {
             (false, false, true)
         )
     );
+    assert!(rt; is_check(alloc, &["load", "src", "--check"], "src"));
     assert!(rt; is_usage(alloc, &["load"], "<DIR>"));
     assert!(rt; is_save(alloc, &["save", "out"], "out", (false, false, false)));
     assert!(rt;
@@ -197,6 +219,7 @@ fn choices(rt: HostRuntime) -> Result<(), Fail> {
         )
     );
     assert!(rt; is_help(alloc, &["play", "--help"], "play"));
+    assert!(rt; is_help(alloc, &["--version"], "ft_run 0.1.0"));
     Ok(())
 }
 
@@ -230,6 +253,29 @@ fn choices_of_jobs(rt: HostRuntime) -> Result<(), Fail> {
     );
     assert!(rt; is_usage(alloc, &["jobs"], "<FILE>"));
     assert!(rt; is_help(alloc, &["jobs", "--help"], "[default: 10000]"));
+    Ok(())
+}
+
+#[test]
+fn choices_of_threads(rt: HostRuntime) -> Result<(), Fail> {
+    let alloc = rt.alloc();
+    assert!(rt; is_jobs_in(alloc, &["jobs", "p"], 64));
+    assert!(rt; is_jobs_in(alloc, &["jobs", "p", "--threads", "4096"], 4_096));
+    assert!(rt; is_jobs_in(alloc, &["jobs", "--threads=1", "p"], 1));
+    assert!(rt;
+        is_usage(
+            alloc,
+            &["jobs", "p", "--threads", "0"],
+            "0 is not in 1..=4096"
+        )
+    );
+    assert!(rt;
+        is_usage(
+            alloc,
+            &["jobs", "p", "--threads=4097"],
+            "4097 is not in 1..=4096"
+        )
+    );
     Ok(())
 }
 

@@ -3,7 +3,7 @@ ghost use Rattle.std.specs.Prelude.{◌≤◌};
 
 use ft_calls::{Call, Reply};
 use ft_core::{Event, Fault, Outcome, TxnId};
-use ft_jobs::{End, Gate, JobFault, JobsOutcome, OpenGate, Plan, Report, run_jobs};
+use ft_jobs::{End, Gate, JobFault, JobsOutcome, OpenGate, Pace, Plan, Report, run_jobs};
 use ft_path::Errno;
 use ft_record::Recorded;
 use ft_shared::{Manager, Shared};
@@ -103,7 +103,14 @@ fn run_meeting<R: Threads + Wait + Clock + Sync>(
     requires { 1 ≤ turns }
 {
     let plan = Plan::read(alloc, plan)?;
-    Ok(run_jobs(rt, alloc, &plan, new_shared(alloc)?, gate, turns)?)
+    Ok(run_jobs(
+        rt,
+        alloc,
+        &plan,
+        new_shared(alloc)?,
+        gate,
+        Pace::of_turns(turns),
+    )?)
 }
 
 /// Whether the calls of a history have just these stamps, in this order.
@@ -244,7 +251,14 @@ fn ends_under<R: Threads + Wait + Clock + Sync>(
         shared: new_shared(alloc)?,
         lie,
     };
-    match run_jobs(rt, alloc, &plan, lying, &OpenGate, FEW_TURNS) {
+    match run_jobs(
+        rt,
+        alloc,
+        &plan,
+        lying,
+        &OpenGate,
+        Pace::of_turns(FEW_TURNS),
+    ) {
         Ok(outcome) => Ok(Ok(ends_of(alloc, outcome.reports.as_slice())?)),
         Err(fault) => Ok(Err(fault)),
     }

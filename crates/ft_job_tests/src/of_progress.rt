@@ -1,7 +1,7 @@
 // The line that tells how far jobs have come, and the screen that it is written on.
 use ft_jobs::Gate;
+use ft_outcome::Watch;
 use ft_plan::Plan;
-use ft_progress::Watch;
 use std::alloc::Global;
 use std::sync::Wait;
 use std::test::Fail;

@@ -1,8 +1,8 @@
-// Where the jobs of a plan stand: subjobs wait here for their parents, and parents for their
-// subjobs.
+// Where the jobs of a plan stand: which may start, who waits for whom of them, and their reports.
 use ft_base::{Memory, Sequence};
 use ft_core::TxnId;
-use ft_reports::{End, Report};
+use ft_plan::{Job, JobName};
+use ft_reports::{End, Report, ended_as_meant, is_must, place_of};
 use std::alloc::Global;
 use std::sync::{Condvar, Mutex, Wait};
 
@@ -14,30 +14,56 @@ pub struct Board {
     moved: Condvar,
 }
 
-// How far each job has come, and its report, which is that of a job not started until it ends.
+// All jobs, each with its report, which is that of a job not started until it ends.
 #[derive(Drop)]
 struct Places {
-    phases: Vec<Phase>,
+    places: Vec<Place>,
     reports: Vec<Report>,
+}
+
+// A job among the others.
+#[derive(Drop)]
+struct Place {
+    // Where the job stands that it is a subjob of, if it is one.
+    parent: Option<usize>,
+    // Whether it takes that one along.
+    is_must: bool,
+    // Where those stand that it comes after.
+    after: Vec<usize>,
+    phase: Phase,
 }
 
 // How far a job has come.
 #[derive(Clone, Copy)]
 enum Phase {
-    // It has not come to its subjobs yet.
+    // No thread has taken it yet.
     Ahead,
+    // It has not come to its subjobs yet.
+    Taken,
     // Its subjobs may begin, under this transaction.
     AtSubs(TxnId),
     Ended,
 }
 
+/// How a job that was taken begins.
+#[derive(Clone, Copy)]
+pub enum Start {
+    /// At the top.
+    Top,
+    /// Under this transaction.
+    Under(TxnId),
+    /// It does not begin: its parent has not come to its subjobs, or one that it comes after has
+    /// not committed.
+    Never,
+}
+
 impl Board {
-    /// A board of so many jobs, none of which has started.
-    pub fn new(alloc: Global, count: usize) -> Result<Board, Memory> {
-        let mut phases = Vec::new(alloc);
+    /// A board of these jobs, none of which has started.
+    pub fn new(alloc: Global, jobs: &[Job]) -> Result<Board, Memory> {
+        let mut places = Vec::new(alloc);
         let mut reports = Vec::new(alloc);
-        for at in 0..count {
-            phases.push(Phase::Ahead)?;
+        for (at, job) in jobs.iter().enumerate() {
+            places.push(Place::of(alloc, jobs, job)?)?;
             reports.push(Report {
                 job: at as u64,
                 txn: None,
@@ -46,9 +72,34 @@ impl Board {
             })?;
         }
         Ok(Board {
-            places: Mutex::new(Places { phases, reports }),
+            places: Mutex::new(Places { places, reports }),
             moved: Condvar::new(),
         })
+    }
+
+    /// Takes the first job that may start, once one may; none where all are taken.
+    pub fn take<R: Wait>(&self, rt: &R) -> Option<usize> {
+        let mut places = self.moved.wait_while(rt, self.places.lock(rt), |places| {
+            places.has_ahead() && places.next().is_none()
+        });
+        let at = places.next()?;
+        places.set_phase(at, Phase::Taken);
+        Some(at)
+    }
+
+    /// Takes the first subjob of a job that may start, once one may; none where all have ended.
+    pub fn take_below<R: Wait>(&self, rt: &R, parent: usize) -> Option<usize> {
+        let mut places = self.moved.wait_while(rt, self.places.lock(rt), |places| {
+            places.has_live_below(parent) && places.next_below(parent).is_none()
+        });
+        let at = places.next_below(parent)?;
+        places.set_phase(at, Phase::Taken);
+        Some(at)
+    }
+
+    /// How a job begins that was taken.
+    pub fn start_of<R: Wait>(&self, rt: &R, job: usize) -> Start {
+        self.places.lock(rt).start_of(job)
     }
 
     /// Lets the subjobs of a job begin under its transaction.
@@ -57,54 +108,139 @@ impl Board {
         self.moved.notify_all();
     }
 
+    /// Whether no subjob of a job takes it along, once all have ended.
+    pub fn is_spared<R: Wait>(&self, rt: &R, job: usize) -> bool {
+        self.places.lock(rt).is_spared(job)
+    }
+
     /// Notes that a job has ended, with its report.
     pub fn end<R: Wait>(&self, rt: &R, job: usize, report: Report) {
         self.places.lock(rt).end(job, report);
         self.moved.notify_all();
     }
 
-    /// Notes that a job will not start.
-    pub fn leave_out<R: Wait>(&self, rt: &R, job: usize) {
-        self.places.lock(rt).set_phase(job, Phase::Ended);
-        self.moved.notify_all();
-    }
-
-    /// Waits until a job has come to its subjobs, and answers its transaction; none where it has
-    /// ended before.
-    pub fn wait_for_subs<R: Wait>(&self, rt: &R, job: usize) -> Option<TxnId> {
-        let places = self.moved.wait_while(rt, self.places.lock(rt), |places| {
-            matches!(places.phase(job), Phase::Ahead)
-        });
-        match places.phase(job) {
-            Phase::AtSubs(txn) => Some(txn),
-            Phase::Ahead | Phase::Ended => None,
-        }
-    }
-
-    /// Waits until a job has ended.
-    pub fn wait_for_end<R: Wait>(&self, rt: &R, job: usize) {
-        let _places = self.moved.wait_while(rt, self.places.lock(rt), |places| {
-            !matches!(places.phase(job), Phase::Ended)
-        });
-    }
-
     /// The reports of all jobs, in their order.
     pub fn into_reports(self) -> Vec<Report> {
         let Board { places, moved: _ } = self;
-        let Places { phases: _, reports } = places.into_inner();
+        let Places { places: _, reports } = places.into_inner();
         reports
     }
 }
 
+impl Place {
+    // That of a job among these, which was not taken.
+    fn of(alloc: Global, jobs: &[Job], job: &Job) -> Result<Place, Memory> {
+        let parent = match &job.parent {
+            None => None,
+            Some(name) => place_of(jobs, name.as_bytes()),
+        };
+        Ok(Place {
+            parent,
+            is_must: is_must(job.kind),
+            after: places_of(alloc, jobs, job.after.as_slice())?,
+            phase: Phase::Ahead,
+        })
+    }
+
+    fn is_ahead(&self) -> bool {
+        matches!(self.phase, Phase::Ahead)
+    }
+
+    fn has_ended(&self) -> bool {
+        matches!(self.phase, Phase::Ended)
+    }
+}
+
+// Where the jobs of these names stand.
+fn places_of(alloc: Global, jobs: &[Job], names: &[JobName]) -> Result<Vec<usize>, Memory> {
+    let mut places = Vec::new(alloc);
+    for name in names {
+        if let Some(at) = place_of(jobs, name.as_bytes()) {
+            places.push(at)?;
+        }
+    }
+    Ok(places)
+}
+
 impl Places {
+    // The first job that may start.
+    fn next(&self) -> Option<usize> {
+        self.places.iter().position(|place| self.may_start(place))
+    }
+
+    // The first subjob of a job that may start.
+    fn next_below(&self, parent: usize) -> Option<usize> {
+        self.places.iter().position(|place| place.parent == Some(parent) && self.may_start(place))
+    }
+
+    // Whether a job was not taken.
+    fn has_ahead(&self) -> bool {
+        self.places.iter().any(|place| place.is_ahead())
+    }
+
+    // Whether a subjob of a job has not ended.
+    fn has_live_below(&self, parent: usize) -> bool {
+        self.places
+            .iter()
+            .any(|place| place.parent == Some(parent) && !place.has_ended())
+    }
+
+    // Whether it is known how a job begins that was not taken.
+    fn may_start(&self, place: &Place) -> bool {
+        if !place.is_ahead() {
+            return false;
+        }
+        let is_open = match place.parent {
+            None => true,
+            Some(parent) => matches!(self.phase(parent), Phase::AtSubs(_) | Phase::Ended),
+        };
+        is_open && place.after.iter().all(|at| self.has_ended(*at))
+    }
+
+    fn start_of(&self, job: usize) -> Start {
+        let Some(place) = self.places.get(job) else {
+            return Start::Never;
+        };
+        if !place.after.iter().all(|at| self.has_committed(*at)) {
+            return Start::Never;
+        }
+        let Some(parent) = place.parent else {
+            return Start::Top;
+        };
+        match self.phase(parent) {
+            Phase::AtSubs(txn) => Start::Under(txn),
+            Phase::Ahead | Phase::Taken | Phase::Ended => Start::Never,
+        }
+    }
+
     // How far a job has come. One that is not there has ended.
     fn phase(&self, job: usize) -> Phase {
-        self.phases.get(job).copied().unwrap_or(Phase::Ended)
+        match self.places.get(job) {
+            None => Phase::Ended,
+            Some(place) => place.phase,
+        }
+    }
+
+    fn has_ended(&self, job: usize) -> bool {
+        matches!(self.phase(job), Phase::Ended)
+    }
+
+    fn has_committed(&self, job: usize) -> bool {
+        match self.reports.get(job) {
+            None => false,
+            Some(report) => matches!(report.end, End::Committed),
+        }
+    }
+
+    fn is_spared(&self, job: usize) -> bool {
+        self.places.iter().zip(&self.reports).all(|(place, report)| {
+            !place.is_must || place.parent != Some(job) || ended_as_meant(report)
+        })
     }
 
     fn set_phase(&mut self, job: usize, phase: Phase) {
-        if let Some(place) = self.phases.get_mut(job) {
-            *place = phase;
+        if let Some(place) = self.places.get_mut(job) {
+            place.phase = phase;
         }
     }
 

@@ -1,11 +1,11 @@
 // One job, from its begin to its end.
 ghost use Rattle.std.specs.Prelude.{◌≤◌};
 
-use crate::board::Board;
+use crate::board::{Board, Start};
 use crate::gate::Gate;
 use ft_core::{Fault, Outcome, TxnId};
 use ft_plan::{Job, Step};
-use ft_reports::{CallReport, End, Report, asked, descriptor_in, place_of};
+use ft_reports::{CallReport, End, Report, asked, descriptor_in, goes_on, is_strict};
 use ft_shared::Manager;
 use std::alloc::Global;
 use std::sync::Wait;
@@ -24,155 +24,247 @@ pub struct Work<'a, M, G> {
     pub ghost some: { 1 ≤ turns },
 }
 
-/// Runs a job to its end, and notes on the board what became of it.
-pub fn run_job<M: Manager, G: Gate, R: Wait + Clock>(rt: &R, work: &Work<'_, M, G>, at: usize) {
-    let Some(job) = work.jobs.get(at) else {
-        return;
-    };
-    let report = match begin(rt, work, job) {
-        Ok(txn) => run_steps(rt, work, at, job, txn),
-        Err(end) => Report {
-            job: at as u64,
-            txn: None,
-            end,
-            calls: Vec::new(work.alloc).into(),
-        },
-    };
-    work.board.end(rt, at, report);
-    work.gate.ended(rt, at as u64);
+/// Runs jobs to their ends, one after another, until all are taken, and notes on the board what
+/// became of each.
+///
+/// While a job waits for its subjobs, those that no other thread has taken are run here: so a job
+/// that waits for another one never keeps that from a thread.
+pub fn run_in_turn<M: Manager, G: Gate, R: Wait + Clock>(rt: &R, work: &Work<'_, M, G>) {
+    // The jobs that wait for their subjobs, each of which is a subjob of the one before it.
+    let mut parked = Vec::new(work.alloc);
+    for _ in rt.forever() {
+        let run = match taken(rt, work, parked.as_slice()) {
+            Some(at) => begun(rt, work, at),
+            None => match parked.pop() {
+                None => break,
+                Some(run) => passed(rt, work, run),
+            },
+        };
+        if let Some(run) = run {
+            go_on(rt, work, run, &mut parked);
+        }
+    }
 }
 
-// Begins a job's transaction: at the top, or, once its parent has come to its subjobs, under that
-// one's. Where it has none, the answer is how the job ends.
-fn begin<M: Manager, G: Gate, R: Wait + Clock>(
+// The next job for a thread: a subjob of the job that was parked last, or any if there is none.
+fn taken<M: Manager, G: Gate, R: Wait>(
     rt: &R,
     work: &Work<'_, M, G>,
-    job: &Job,
-) -> Result<TxnId, End> {
-    let begun = match &job.parent {
-        None => work.manager.begin(rt),
-        Some(name) => {
-            let parent = place_of(work.jobs, name.as_bytes()).ok_or(End::NotStarted)?;
-            let under = work.board.wait_for_subs(rt, parent).ok_or(End::NotStarted)?;
-            work.manager.sub(rt, under)
+    parked: &[Run<'_>],
+) -> Option<usize> {
+    match parked.last() {
+        None => work.board.take(rt),
+        Some(run) => work.board.take_below(rt, run.at),
+    }
+}
+
+// Begins a job's transaction. Where it has none, the job ends.
+fn begun<'a, M: Manager, G: Gate, R: Wait + Clock>(
+    rt: &R,
+    work: &Work<'a, M, G>,
+    at: usize,
+) -> Option<Run<'a>> {
+    let job = work.jobs.get(at)?;
+    let begun = match work.board.start_of(rt, at) {
+        Start::Top => work.manager.begin(rt),
+        Start::Under(txn) => work.manager.sub(rt, txn),
+        Start::Never => {
+            end(rt, work, unbegun(work.alloc, at, End::NotStarted));
+            return None;
         }
     };
-    begun.map_err(|fault| End::Refused(fault))
+    match begun {
+        Ok(txn) => Some(Run {
+            at,
+            job,
+            txn,
+            number: 0,
+            calls: Vec::new(work.alloc),
+            descriptors: Vec::new(work.alloc),
+        }),
+        Err(fault) => {
+            end(rt, work, unbegun(work.alloc, at, End::Refused(fault)));
+            None
+        }
+    }
 }
 
-// Makes the steps of a job, and aborts its transaction where one of them could not be made.
-fn run_steps<M: Manager, G: Gate, R: Wait + Clock>(
-    rt: &R,
-    work: &Work<'_, M, G>,
-    at: usize,
-    job: &Job,
-    txn: TxnId,
-) -> Report {
-    let mut run = Run {
-        txn,
-        calls: Vec::new(work.alloc),
-        descriptors: Vec::new(work.alloc),
-    };
-    let end = run.steps(rt, work, at, job);
-    if matches!(end, End::Waited | End::Refused(_)) {
-        // It may have ended with one above it, and then this is refused.
-        let _ = work.manager.abort(rt, txn);
-    }
-    let Run {
-        txn: _,
-        calls,
-        descriptors: _,
-    } = run;
+// The report of a job that has no transaction.
+fn unbegun(alloc: Global, at: usize, end: End) -> Report {
     Report {
         job: at as u64,
-        txn: Some(txn),
+        txn: None,
         end,
-        calls: calls.into(),
+        calls: Vec::new(alloc).into(),
     }
+}
+
+// Notes how a job has ended.
+fn end<M: Manager, G: Gate, R: Wait + Clock>(rt: &R, work: &Work<'_, M, G>, report: Report) {
+    let job = report.job;
+    work.board.end(rt, job as usize, report);
+    work.gate.ended(rt, job);
+}
+
+// Passes the step at which the subjobs of a job have ended. Where one of them takes it along, it
+// ends.
+fn passed<'a, M: Manager, G: Gate, R: Wait + Clock>(
+    rt: &R,
+    work: &Work<'a, M, G>,
+    run: Run<'a>,
+) -> Option<Run<'a>> {
+    let mut run = run;
+    if !work.board.is_spared(rt, run.at) {
+        let failed = End::Failed(run.number);
+        run.finish(rt, work, failed);
+        return None;
+    }
+    let _ = run.descriptors.push(0);
+    Some(run)
+}
+
+// Makes the steps of a job up to its end, or until its subjobs start: then it is parked.
+fn go_on<'a, M: Manager, G: Gate, R: Wait + Clock>(
+    rt: &R,
+    work: &Work<'a, M, G>,
+    run: Run<'a>,
+    parked: &mut Vec<Run<'a>>,
+) {
+    let mut run = run;
+    match run.steps(rt, work) {
+        Stop::Ended(end) => run.finish(rt, work, end),
+        Stop::AtSubs => park(rt, work, run, parked),
+    }
+}
+
+// Lets the subjobs of a job start, and parks it until they have ended. Where there is no memory for
+// that, it ends.
+fn park<'a, M: Manager, G: Gate, R: Wait + Clock>(
+    rt: &R,
+    work: &Work<'a, M, G>,
+    run: Run<'a>,
+    parked: &mut Vec<Run<'a>>,
+) {
+    let mut run = run;
+    if parked.try_reserve(1).is_err() || run.descriptors.try_reserve(1).is_err() {
+        run.finish(rt, work, End::Refused(Fault::Memory));
+        return;
+    }
+    work.board.open_subs(rt, run.at, run.txn);
+    let _ = parked.push(run);
+}
+
+// Why a job goes no further for now.
+#[derive(Clone, Copy)]
+enum Stop {
+    // Its subjobs start.
+    AtSubs,
+    // It is to end so.
+    Ended(End),
 }
 
 // A job on its way: the calls that it was granted, and what each step so far opened.
 #[derive(Drop)]
-struct Run {
+struct Run<'a> {
+    // Its place in the plan.
+    at: usize,
+    job: &'a Job,
     txn: TxnId,
+    // The number of the step that it is at.
+    number: u64,
     calls: Vec<CallReport>,
     descriptors: Vec<u64>,
 }
 
-impl Run {
-    // Makes the steps one after another, until one ends the job.
+impl Run<'_> {
+    // Makes the next steps one after another, until its subjobs start or one ends the job.
     fn steps<M: Manager, G: Gate, R: Wait + Clock>(
         &mut self,
         rt: &R,
         work: &Work<'_, M, G>,
-        at: usize,
-        job: &Job,
-    ) -> End {
+    ) -> Stop {
+        let job = self.job;
         let steps = job.steps.as_slice();
-        for before in 0..steps.len() {
+        for before in self.number as usize..steps.len() {
             let step = &steps[before];
-            work.gate.pass(rt, at as u64, before as u64 + 1);
+            self.number = before as u64 + 1;
+            work.gate.pass(rt, self.at as u64, self.number);
             let made = match step {
-                Step::Call(_) | Step::CallOn(_) => self.ask(rt, work, step),
-                Step::Subs => {
-                    run_subjobs(rt, work, at, job, self.txn);
-                    Ok(0)
+                Step::Call(_) | Step::CallOn(_) | Step::Try(_) | Step::TryOn(_) => {
+                    self.ask(rt, work, step)
                 }
+                Step::Subs => return Stop::AtSubs,
                 Step::Commit => Err(commit(rt, work, self.txn)),
                 Step::Abort => Err(abort(rt, work, self.txn)),
             };
             match made {
                 Ok(descriptor) => {
-                    if self.descriptors.push(descriptor).is_err() {
-                        return End::Refused(Fault::Memory);
-                    }
+                    let _ = self.descriptors.push(descriptor);
                 }
-                Err(end) => return end,
+                Err(end) => return Stop::Ended(end),
             }
         }
         // The last step of a plan's job is a commit or an abort.
-        abort(rt, work, self.txn)
+        Stop::Ended(abort(rt, work, self.txn))
     }
 
-    // Asks for the call of a step, and answers the descriptor that it opened, or 0. The entry's
-    // place and the call's copy are made before, so that a call that is granted is reported.
+    // Asks for the call of a step, and answers the descriptor that it opened, or 0. The places of
+    // both and the call's copy are made before, so that a call that is granted is reported.
     fn ask<M: Manager, G: Gate, R: Wait + Clock>(
         &mut self,
         rt: &R,
         work: &Work<'_, M, G>,
         step: &Step,
     ) -> Result<u64, End> {
-        if self.calls.try_reserve(1).is_err() {
-            return Err(End::Refused(Fault::Memory));
+        if self.calls.try_reserve(1).is_err() || self.descriptors.try_reserve(1).is_err() {
+            return Err(self.failing(End::Refused(Fault::Memory)));
         }
         let Ok(Some(call)) = asked(work.alloc, step, self.descriptors.as_slice()) else {
-            return Err(End::Refused(Fault::Memory));
+            return Err(self.failing(End::Refused(Fault::Memory)));
         };
         match work.manager.ask_wait(rt, self.txn, &call, work.turns) {
             Ok(Outcome::Granted { stamp, reply }) => {
-                let descriptor = descriptor_in(&reply);
-                let _ = self.calls.push(CallReport { stamp, call, reply });
-                Ok(descriptor)
+                self.granted(step, CallReport { stamp, call, reply })
             }
-            Ok(Outcome::Waits { .. }) => Err(End::Waited),
-            Err(fault) => Err(End::Refused(fault)),
+            Ok(Outcome::Waits { .. }) => Err(self.failing(End::Waited)),
+            Err(fault) => Err(self.failing(End::Refused(fault))),
         }
     }
-}
 
-// Lets the subjobs of a job begin, and waits until all have ended.
-fn run_subjobs<M: Manager, G: Gate, R: Wait + Clock>(
-    rt: &R,
-    work: &Work<'_, M, G>,
-    at: usize,
-    job: &Job,
-    txn: TxnId,
-) {
-    work.board.open_subs(rt, at, txn);
-    for (other, subjob) in work.jobs.iter().enumerate() {
-        if subjob.parent.as_ref() == Some(&job.name) {
-            work.board.wait_for_end(rt, other);
+    // Notes the call that a step was granted, and answers the descriptor that it opened, or 0. In a
+    // strict job the step fails where its call did, and is not tried.
+    fn granted(&mut self, step: &Step, call: CallReport) -> Result<u64, End> {
+        let descriptor = descriptor_in(&call.reply);
+        let fails = is_strict(self.job.kind) && !goes_on(step, &call);
+        let _ = self.calls.push(call);
+        if fails {
+            return Err(End::Failed(self.number));
         }
+        Ok(descriptor)
+    }
+
+    // How the job ends where its step could not be made, which would end it so if it were not
+    // strict.
+    fn failing(&self, end: End) -> End {
+        if is_strict(self.job.kind) {
+            return End::Failed(self.number);
+        }
+        end
+    }
+
+    // Ends the job so, once its transaction is aborted where one of its steps could not be made.
+    fn finish<M: Manager, G: Gate, R: Wait + Clock>(self, rt: &R, work: &Work<'_, M, G>, how: End) {
+        if matches!(how, End::Waited | End::Refused(_) | End::Failed(_)) {
+            // It may have ended with one above it, and then this is refused.
+            let _ = work.manager.abort(rt, self.txn);
+        }
+        let report = Report {
+            job: self.at as u64,
+            txn: Some(self.txn),
+            end: how,
+            calls: self.calls.into(),
+        };
+        end(rt, work, report);
     }
 }
 

@@ -5,9 +5,11 @@
 mod board;
 mod gate;
 mod job_run;
+mod pace;
 mod running;
 
-pub use ft_plan::{Job, JobFault, JobName, LONGEST_PLAN, Plan, Step};
-pub use ft_reports::{CallReport, End, Report};
+pub use ft_plan::{Job, JobFault, JobKind, JobName, LONGEST_PLAN, Plan, Step};
+pub use ft_reports::{CallReport, End, Report, are_met};
 pub use gate::{Gate, OpenGate};
+pub use pace::{Pace, USUAL_THREADS};
 pub use running::{JobsOutcome, report_jobs, run_jobs};

@@ -1,11 +1,12 @@
 // All jobs of a plan, side by side.
-ghost use Rattle.std.specs.Prelude.{◌≡◌, ◌≢◌, ◌≤◌, ◌⊎◌, IfOk, IfErr, IsErrOf};
+ghost use Rattle.std.specs.Prelude.{◌≡◌, ◌≢◌, ◌⊎◌, IfOk, IfErr, IsErrOf};
 ghost use Rattle.ft_core.specs.Living.{NoneIsLive, SomeIsLive};
 ghost use Rattle.ft_reports.specs.Reports.{AreReports};
 
 use crate::board::Board;
 use crate::gate::Gate;
-use crate::job_run::{Work, run_job};
+use crate::job_run::{Work, run_in_turn};
+use crate::pace::Pace;
 use ft_plan::{JobFault, Plan};
 use ft_record::Recorded;
 use ft_reports::{Report, are_reports};
@@ -49,9 +50,10 @@ impl JobsOutcome {
     }
 }
 
-/// Runs the jobs of a plan, each in a thread and in a transaction of its own: a top job in one at
-/// the top, a subjob, once its parent has come to its `subs`, in one under its parent's. Each call
-/// is asked for so many times until it is granted.
+/// Runs the jobs of a plan in threads, each in a transaction of its own: a top job in one at the
+/// top, a subjob, once its parent has come to its `subs`, in one under its parent's, and a job that
+/// comes after others once these have committed. How many threads there are, and how often a call
+/// is asked for, says the pace.
 ///
 /// At the end the reports are compared with the history, whatever the manager answered. Answers
 /// Mismatch where they are not what happened or a transaction is live, and Thread where a thread
@@ -63,15 +65,14 @@ pub fn run_jobs<M: Manager, G: Gate, R: Threads + Wait + Clock + Sync>(
     plan: &Plan,
     manager: M,
     gate: &G,
-    turns: u64,
+    pace: Pace,
 ) -> Result<JobsOutcome, JobFault>
-    requires { 1 ≤ turns }
     ensures ok { IfOk result (λ outcome. AreReports outcome.core.state plan.now outcome.reports.items) }
     ensures core { IfOk result (λ outcome. M.hands_back outcome.core.state) }
     ensures none_live { IfOk result (λ outcome. NoneIsLive outcome.core.state) }
     ensures cause { IfErr result (λ fault. fault ≢ JobFault.BadPlan) }
 {
-    let run = report_jobs(rt, alloc, plan, &manager, gate, turns);
+    let run = report_jobs(rt, alloc, plan, &manager, gate, pace);
     let core = manager.into_core(rt);
     JobsOutcome::compared(alloc, plan, core, run?)
 }
@@ -87,41 +88,39 @@ pub fn report_jobs<M: Manager, G: Gate, R: Threads + Wait + Clock + Sync>(
     plan: &Plan,
     manager: &M,
     gate: &G,
-    turns: u64,
+    pace: Pace,
 ) -> Result<Vec<Report>, JobFault>
-    requires { 1 ≤ turns }
     ensures { IfErr result (λ fault. fault ≢ JobFault.BadPlan) }
 {
     let jobs = plan.jobs();
-    let board = Board::new(alloc, jobs.len())?;
+    let board = Board::new(alloc, jobs)?;
     let work = Work {
         alloc,
         jobs,
         manager,
         gate,
         board: &board,
-        turns,
+        turns: pace.turns,
     };
-    if !start_all(rt, &work) {
+    if !start_all(rt, &work, pace.threads) {
         return Err(JobFault::Thread);
     }
     Ok(board.into_reports())
 }
 
-// Starts a thread for each job, and waits until all have ended. Whether all could be started:
-// behind one that could not, no other is.
+// Starts a thread for each job, but so many at most, and waits until all have ended. Whether all
+// could be started: behind one that could not, no other is.
 fn start_all<M: Manager, G: Gate, R: Threads + Wait + Clock + Sync>(
     rt: &R,
     work: &Work<'_, M, G>,
+    most: u64,
 ) -> bool {
     thread::scope(thread::scope_env(), rt, |scope| {
-        let mut all = true;
-        for at in 0..work.jobs.len() {
-            if !all || scope.spawn(move || run_job(rt, work, at)).is_err() {
-                all = false;
-                work.board.leave_out(rt, at);
+        for _ in 0..most.min(work.jobs.len() as u64) {
+            if scope.spawn(move || run_in_turn(rt, work)).is_err() {
+                return false;
             }
         }
-        all
+        true
     })
 }

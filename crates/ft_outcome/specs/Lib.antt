@@ -1,2 +1,3 @@
-pub mod Texts
+pub mod ProgressTexts
 pub mod Runs
+pub mod Texts

@@ -6,7 +6,7 @@ use Rattle.ft_core.specs.declared.request.Event.{Event}
 use Rattle.ft_core.specs.declared.request.Event.TheVariants.{Call}
 use Rattle.ft_plan.specs.declared.job.Job.{Job}
 use Rattle.ft_reports.specs.declared.report.End.{End}
-use Rattle.ft_reports.specs.declared.report.End.TheVariants.{Committed, Aborted, Waited, Refused, NotStarted}
+use Rattle.ft_reports.specs.declared.report.End.TheVariants.{Committed, Aborted, Waited, Refused, Failed, NotStarted}
 use Rattle.ft_reports.specs.declared.report.Report.{Report}
 use Rattle.ft_replies.specs.Texts.{fault_name}
 use Rattle.ft_words.specs.CallTexts.{call_text}
@@ -19,12 +19,14 @@ abbrev pub txn_text : Option ℕ → List ℕ
 txn_text None = codes "-"
 txn_text (Some txn) = decimal txn
 
--- how a job ended; behind `refused` the name of the refusal
+-- how a job ended; behind `refused` the name of the refusal, and behind `failed` the number of the
+-- step
 abbrev pub end_text : End → List ℕ
 end_text Committed = codes "committed"
 end_text Aborted = codes "aborted"
 end_text Waited = codes "waited"
 end_text (Refused fault) = codes "refused " ++ fault_name fault
+end_text (Failed number) = codes "failed " ++ decimal number
 end_text NotStarted = codes "notstarted"
 
 -- what became of a job: `job NAME T END`

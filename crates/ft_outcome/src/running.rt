@@ -1,5 +1,5 @@
 // Runs a plan: reads it, runs its jobs in threads, and writes what they came to.
-ghost use Rattle.std.specs.Prelude.{◌≡◌, ◌≢◌, ◌≤◌, OnOk, IfOk, IfErr, IsErrOf, string_bytes};
+ghost use Rattle.std.specs.Prelude.{◌≡◌, ◌≢◌, IfOk, IfErr, IsErrOf, string_bytes};
 ghost use Rattle.ft_core.specs.Living.{NoneIsLive};
 ghost use Rattle.ft_record.specs.Going.{GoesOn};
 ghost use Rattle.ft_reports.specs.Reports.{AreReports};
@@ -7,9 +7,9 @@ ghost use Rattle.ft_shared.specs.Origins.{without_views};
 ghost use Rattle.ft_outcome.specs.Runs.{IsNoPlan, IsTextOfPlan, RunsPlan, StopsPlan, text_of_outcome};
 
 use crate::text::OutcomeText;
+use crate::watched::run_shown;
 use ft_base::Memory;
-use ft_jobs::{Job, JobFault, JobsOutcome, Plan};
-use ft_progress::run_shown;
+use ft_jobs::{Job, JobFault, JobsOutcome, Pace, Plan, are_met};
 use ft_record::Recorded;
 use ft_script::write_out;
 use ft_shared::{Shared, Sharing};
@@ -44,53 +44,53 @@ impl From<JobFault> for RunFault {
     }
 }
 
-/// Reads a plan, runs its jobs on a core where no transaction is live, each in a thread of its own,
-/// and writes what they came to: the text is of this core, as the jobs left it. A call of theirs asks at most so many times. How far they
-/// have come is shown on a screen while they run, if there is one.
+/// Reads a plan, runs its jobs on a core where no transaction is live, in threads, and
+/// writes what they came to: the text is of this core, as the jobs left it. How far they have
+/// come is shown on a screen while they run, if there is one. Answers whether each job ended as the
+/// plan means, which is so of any plan that is not strict.
 ///
 /// A fault ends the run.
 /// - Jobs: the bytes are no plan, or memory was wanted, a thread could not be started, or what the
-///   jobs report is not what
-///   happened. Nothing was written.
+///   jobs report is not what happened. Nothing was written.
 /// - Write: a write failed, was interrupted or took nothing. A part of the text was written.
 pub fn run_plan<R: Threads + Wait + Clock + Sync, S: Write + Send + Drop, W: Write>(
     rt: &R,
     alloc: Global,
     core: Recorded,
     plan: &[u8],
-    turns: u64,
+    pace: Pace,
     screen: Option<S>,
     writer: &mut W,
-) -> Result<(), RunFault>
-    requires turns { 1 ≤ turns }
-    requires none_live { NoneIsLive core.state }
-    ensures ok { OnOk result (RunsPlan core.state plan.now (W.contents writer.old) (W.contents writer.new)) }
+) -> Result<bool, RunFault>
+    requires { NoneIsLive core.state }
+    ensures ok { IfOk result (λ met. RunsPlan met core.state plan.now (W.contents writer.old) (W.contents writer.new)) }
     ensures fault { IfErr result (λ fault. StopsPlan fault core.state plan.now (W.contents writer.old) (W.contents writer.new)) }
 {
-    let text = text_of(rt, alloc, core, plan, turns, screen)?;
+    let (text, met) = text_of(rt, alloc, core, plan, pace, screen)?;
     match write_out(writer, text.as_bytes()) {
-        Ok(()) => Ok(()),
+        Ok(()) => Ok(met),
         Err(_) => Err(RunFault::Write),
     }
 }
 
-// Runs the jobs of a plan, and tells what they came to.
+// Runs the jobs of a plan, and tells what they came to, and whether that is as the plan means.
 fn text_of<R: Threads + Wait + Clock + Sync, S: Write + Send + Drop>(
     rt: &R,
     alloc: Global,
     core: Recorded,
     plan: &[u8],
-    turns: u64,
+    pace: Pace,
     screen: Option<S>,
-) -> Result<String, JobFault>
-    requires turns { 1 ≤ turns }
-    requires none_live { NoneIsLive core.state }
-    ensures ok { IfOk result (λ text. IsTextOfPlan core.state plan.now (string_bytes text)) }
+) -> Result<(String, bool), JobFault>
+    requires { NoneIsLive core.state }
+    ensures ok { IfOk result (λ told. IsTextOfPlan told.1 core.state plan.now (string_bytes told.0)) }
     ensures bad_plan { IsErrOf result JobFault.BadPlan → IsNoPlan plan.now }
 {
     let plan = Plan::read(alloc, plan)?;
-    let outcome = run_on::<Brand, R, S>(rt, alloc, core, &plan, turns, screen)?;
-    Ok(told(alloc, plan.jobs(), &outcome)?)
+    let outcome = run_on::<Brand, R, S>(rt, alloc, core, &plan, pace, screen)?;
+    let text = told(alloc, plan.jobs(), &outcome)?;
+    let met = are_met(plan.jobs(), outcome.reports.as_slice());
+    Ok((text, met))
 }
 
 // What jobs came to.
@@ -114,10 +114,9 @@ fn run_on<J: Sharing + Send + Sync, R: Threads + Wait + Clock + Sync, S: Write +
     alloc: Global,
     core: Recorded,
     plan: &Plan,
-    turns: u64,
+    pace: Pace,
     screen: Option<S>,
 ) -> Result<JobsOutcome, JobFault>
-    requires turns { 1 ≤ turns }
     requires none_live { NoneIsLive core.state }
     requires named { without_views core.state ≡ J.origin }
     ensures ok { IfOk result (λ outcome. AreReports outcome.core.state plan.now outcome.reports.items) }
@@ -125,7 +124,7 @@ fn run_on<J: Sharing + Send + Sync, R: Threads + Wait + Clock + Sync, S: Write +
     ensures cause { IfErr result (λ fault. fault ≢ JobFault.BadPlan) }
 {
     match Shared::<J>::new(core) {
-        Ok(shared) => run_shown(rt, alloc, plan, shared, turns, screen),
+        Ok(shared) => run_shown(rt, alloc, plan, shared, pace, screen),
         Err(_) => unreachable!(),
     }
 }

@@ -101,6 +101,7 @@ impl fmt::Display for EndText {
             End::Aborted => f.write_str("aborted"),
             End::Waited => f.write_str("waited"),
             End::Refused(fault) => write!(f, "refused {}", fault_name(fault)),
+            End::Failed(number) => write!(f, "failed {number}"),
             End::NotStarted => f.write_str("notstarted"),
         }
     }

@@ -1,17 +1,19 @@
 -- What a line of a plan says. (The format of plans is this project's own: docs/SCRIPT.md, Plans.)
-use Rattle.std.specs.Prelude.{◌==◌, ◌||◌, ◌&&◌, ℕ, Bool, nat_le, List, [], ◌∷◌, length, codes, if◌then◌else◌, Option, None, Some, option_and_then, option_map}
+use Rattle.std.specs.Prelude.{◌==◌, ◌||◌, ◌&&◌, ℕ, Bool, false, nat_le, List, [], ◌∷◌, length, codes, if◌then◌else◌, Option, None, Some, option_and_then, option_map}
 use Rattle.std.specs.Char.{is_ascii_digit, is_ascii_lowercase}
 use Rattle.std.specs.List.{list_all}
 use Rattle.std.specs.Option.{option_map_or}
 use Rattle.std.specs.Str.{bytes_eq}
 use Rattle.ft_words.specs.declared.unread.Unread.{Unread}
 use Rattle.ft_words.specs.declared.unread.Unread.TheVariants.{Misspelt, NoMemory}
-use Rattle.ft_words.specs.Spelling.{stripped}
+use Rattle.ft_words.specs.Spelling.{stripped, words_of_line}
 use Rattle.ft_words.specs.Calls.{look_up, call_of, read_by, descriptor_calls}
 use Rattle.ft_plan.specs.declared.fault.JobFault.{JobFault}
 use Rattle.ft_plan.specs.declared.fault.JobFault.TheVariants as faults
+use Rattle.ft_plan.specs.declared.job.JobKind.{JobKind}
+use Rattle.ft_plan.specs.declared.job.JobKind.TheVariants.{Free, Strict, Must}
 use Rattle.ft_plan.specs.declared.job.Step.{Step}
-use Rattle.ft_plan.specs.declared.job.Step.TheVariants.{Call, CallOn, Subs, Commit, Abort}
+use Rattle.ft_plan.specs.declared.job.Step.TheVariants.{Call, CallOn, Try, TryOn, Subs, Commit, Abort}
 use Rattle.ft_plan.specs.declared.line.PlanLine.{PlanLine}
 use Rattle.ft_plan.specs.declared.line.PlanLine.TheVariants as line
 
@@ -32,12 +34,51 @@ is_job_name word = nat_le 1 (length word) && nat_le (length word) 32 && list_all
 abbrev pub job_name_of : List ℕ → Option (List ℕ)
 job_name_of word = if is_job_name word then Some word else None
 
--- behind `job`: a name, and at most one more, that of the job which it stands under
-abbrev pub job_line : List (List ℕ) → Option PlanLine
-job_line [] = None
-job_line (name ∷ []) = option_map (λ n. line.Job n None) (job_name_of name)
-job_line (name ∷ parent ∷ []) = option_and_then (λ n. option_map (λ p. line.Job n (Some p)) (job_name_of parent)) (job_name_of name)
-job_line (name ∷ parent ∷ other ∷ words) = None
+-- ---- the line with which a job begins
+
+-- a job under another one, by their names
+abbrev pub subheading : JobKind → List ℕ → List ℕ → Option PlanLine
+subheading kind name parent = option_and_then (λ n. option_map (λ p. line.Job n (Some p) kind) (job_name_of parent)) (job_name_of name)
+
+-- a name, and at most one more, that of the job which it stands under
+abbrev pub heading : JobKind → List ℕ → List (List ℕ) → Option PlanLine
+heading kind name [] = option_map (λ n. line.Job n None kind) (job_name_of name)
+heading kind name (parent ∷ []) = subheading kind name parent
+heading kind name (parent ∷ other ∷ words) = None
+
+-- behind `must`: both names
+abbrev pub must_line : List (List ℕ) → Option PlanLine
+must_line [] = None
+must_line (name ∷ []) = None
+must_line (name ∷ parent ∷ []) = subheading Must name parent
+must_line (name ∷ parent ∷ other ∷ words) = None
+
+-- behind `job` in a strict plan
+abbrev pub strict_job_line : List ℕ → List (List ℕ) → Option PlanLine
+strict_job_line word words = if bytes_eq word (codes "must") then must_line words else heading Strict word words
+
+-- behind `job`
+abbrev pub job_line : Bool → List (List ℕ) → Option PlanLine
+job_line strict [] = None
+job_line strict (word ∷ words) = if strict then strict_job_line word words else heading Free word words
+
+-- ---- what it comes after
+
+-- the names that all these words are
+abbrev pub names_of : List (List ℕ) → Option (List (List ℕ))
+names_of [] = Some []
+names_of (word ∷ words) = option_and_then (λ name. option_map (λ names. name ∷ names) (names_of words)) (job_name_of word)
+
+-- those of a line, which are one at least
+abbrev pub line_after : List (List ℕ) → Option PlanLine
+line_after [] = None
+line_after (name ∷ names) = Some (line.After (name ∷ names))
+
+-- behind `after`
+abbrev pub after_line : List (List ℕ) → Option PlanLine
+after_line words = option_and_then line_after (names_of words)
+
+-- ---- steps
 
 -- `subs`, `commit` and `abort`, which stand alone on their line
 abbrev pub lone_steps : List (List ℕ × Step)
@@ -57,11 +98,45 @@ on_opened name words = option_map CallOn (option_and_then (read_by descriptor_ca
 abbrev pub call_step : List ℕ → List (List ℕ) → Option Step
 call_step name words = option_map_or Some (on_opened name words) (option_map Call (call_of name words))
 
--- a step, by its first word and the others
-abbrev pub step_of : List ℕ → List (List ℕ) → Option Step
-step_of word others = option_map_or (alone others) (look_up lone_steps word) (call_step word others)
+-- a step that is not tried, by its first word and the others
+abbrev pub plain_step : List ℕ → List (List ℕ) → Option Step
+plain_step word others = option_map_or (alone others) (look_up lone_steps word) (call_step word others)
 
--- What the words of a line say, a job or a step; `None` where they say neither.
-abbrev pub line_of : List (List ℕ) → Option PlanLine
-line_of [] = None
-line_of (word ∷ others) = if bytes_eq word (codes "job") then job_line others else option_map line.Step (step_of word others)
+-- the step where its call may fail
+abbrev pub tried : Step → Step
+tried (Call call) = Try call
+tried (CallOn call) = TryOn call
+tried step = step
+
+-- behind `try`: a call
+abbrev pub tried_step : List (List ℕ) → Option Step
+tried_step [] = None
+tried_step (word ∷ others) = option_map tried (call_step word others)
+
+-- a step; in a strict plan `try` may stand before a call
+abbrev pub step_of : Bool → List ℕ → List (List ℕ) → Option Step
+step_of strict word others = if strict && bytes_eq word (codes "try") then tried_step others else plain_step word others
+
+-- what a line says that begins no job: what the job comes after, in a strict plan, or a step
+abbrev pub inner_line : Bool → List ℕ → List (List ℕ) → Option PlanLine
+inner_line strict word others = if strict && bytes_eq word (codes "after") then after_line others else option_map line.Step (step_of strict word others)
+
+-- What the words of a line of a plan say; `None` where they say nothing. Some words say something
+-- in a strict plan alone.
+abbrev pub line_of : Bool → List (List ℕ) → Option PlanLine
+line_of strict [] = None
+line_of strict (word ∷ others) = if bytes_eq word (codes "job") then job_line strict others else inner_line strict word others
+
+-- ---- the line with which a strict plan begins
+
+-- `strict`, and nothing else
+abbrev pub is_strict_line : List (List ℕ) → Bool
+is_strict_line [] = false
+is_strict_line (word ∷ []) = bytes_eq word (codes "strict")
+is_strict_line (word ∷ other ∷ words) = false
+
+-- The lines behind that one, where all before it are silent; `None` where another says something
+-- first, or none does.
+abbrev pub behind_strict : List (List ℕ) → Option (List (List ℕ))
+behind_strict [] = None
+behind_strict (bytes ∷ lines) = option_map_or (λ words. if is_strict_line words then Some lines else None) (words_of_line bytes) (behind_strict lines)

@@ -1,24 +1,63 @@
 -- The jobs of the lines so far. No public clause cites them.
-use Rattle.std.specs.Prelude.{◌≡◌, List, [], ◌∷◌, ◌++◌, Option, None, Some, option_map, map}
+use Rattle.std.specs.Prelude.{◌≡◌, Bool, true, false, ◌&&◌, List, [], ◌∷◌, ◌++◌, Option, None, Some, option_map, map}
 use Rattle.ft_plan.specs.declared.job.Job.{Job}
 use Rattle.ft_plan.specs.declared.line.PlanLine.{PlanLine}
 use Rattle.ft_plan.specs.declared.line.PlanLine.TheVariants as line
 use Rattle.ft_plan.specs.declared.parsing.Begun.{Begun}
+use Rattle.ft_plan.specs.Plans.{after_lines}
 
 -- the lines of the job that has begun, if one has
 abbrev pub begun_lines : Option Begun → List PlanLine
 begun_lines None = []
-begun_lines (Some begun) = line.Job begun.name begun.parent ∷ map line.Step begun.steps.items
+begun_lines (Some begun) = line.Job begun.name begun.parent begun.kind ∷ after_lines begun.after.items ++ map line.Step begun.steps.items
 
 -- before the first job none has ended
 abbrev pub HasBegun : List Job → Option Begun → Type 0
 HasBegun ended None = ended ≡ []
 HasBegun ended (Some begun) = Unit {0}
 
--- a step before which no line stands
-abbrev pub IsStrayStep : List PlanLine → PlanLine → Type 0
-IsStrayStep lines (line.Job name parent) = ⊥
-IsStrayStep lines (line.Step step) = lines ≡ []
+-- where a line may stand
+pub data Place : Type 0 where
+  -- before the first job
+  Ahead : Place
+  -- behind the line that begins a job
+  Opened : Place
+  -- further behind it
+  Within : Place
+
+-- where the next line stands
+abbrev pub place_behind : PlanLine → Place
+place_behind (line.Job name parent kind) = Opened
+place_behind (line.After names) = Within
+place_behind (line.Step step) = Within
+
+-- where the next line stands behind these
+abbrev pub place_after : Place → List PlanLine → Place
+place_after place [] = place
+place_after place (first ∷ lines) = place_after (place_behind first) lines
+
+-- a step stands in a job
+abbrev pub takes_step : Place → Bool
+takes_step Ahead = false
+takes_step Opened = true
+takes_step Within = true
+
+-- what a job comes after stands on the line behind the one that begins it
+abbrev pub takes_after : Place → Bool
+takes_after Ahead = false
+takes_after Opened = true
+takes_after Within = false
+
+-- the line may stand there
+abbrev pub fits : Place → PlanLine → Bool
+fits place (line.Job name parent kind) = true
+fits place (line.After []) = false
+fits place (line.After (name ∷ names)) = takes_after place
+fits place (line.Step step) = takes_step place
+
+-- a line that may not stand behind these
+abbrev pub IsStray : List PlanLine → PlanLine → Type 0
+IsStray lines next = fits (place_after Ahead lines) next ≡ false
 
 -- what lines say behind others
 abbrev pub behind_all : List PlanLine → Option (List PlanLine) → Option (List PlanLine)

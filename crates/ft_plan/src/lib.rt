@@ -10,6 +10,6 @@ mod plan;
 mod rules;
 
 pub use fault::JobFault;
-pub use job::{Job, Step};
+pub use job::{Job, JobKind, Step};
 pub use name::JobName;
 pub use plan::{LONGEST_PLAN, Plan};

@@ -1,56 +1,156 @@
 // What a line of a plan says.
-ghost use Rattle.std.specs.Prelude.{◌≡◌, codes, if◌then◌else◌, Some, None};
+ghost use Rattle.std.specs.Prelude.{◌≡◌, ◌&&◌, codes, if◌then◌else◌, Some, None, IfOk, IsErrOf};
 ghost use Rattle.std.specs.Str.{bytes_eq};
 ghost use Rattle.ft_words.specs.Calls.{Reads, look_up};
-ghost use Rattle.ft_plan.specs.Lines.{line_of, job_line, step_of, lone_steps, alone, call_step, on_opened};
+ghost use Rattle.ft_plan.specs.Lines.{line_of, after_line, names_of, job_line, must_line, heading, subheading, step_of, plain_step, tried_step, tried, lone_steps, alone, call_step, on_opened};
 
-use crate::job::Step;
+use crate::job::{JobKind, Step};
 use crate::name::JobName;
+use ft_base::Sequence;
 use ft_words::{Unread, Words, call_of, descriptor_call_of};
 use std::alloc::Global;
 
 /// What a line of a plan says.
 #[derive(Debug, PartialEq, Eq, Drop)]
 pub enum PlanLine {
-    /// A job of this name begins, under that one if one is named.
-    Job(JobName, Option<JobName>),
+    /// A job of this name and kind begins, under that one if one is named.
+    Job(JobName, Option<JobName>, JobKind),
+    /// The job that began last starts once those of these names have committed.
+    After(Sequence<JobName>),
     /// The next step of the job that began last.
     Step(Step),
 }
 
-/// What the words of a line say.
-pub fn line_of(alloc: Global, words: Words<'_>) -> Result<PlanLine, Unread>
-    ensures { Reads result (line_of words.entry) }
+/// What the words of a line of a plan say, which is strict or is not.
+pub fn line_of(alloc: Global, strict: bool, words: Words<'_>) -> Result<PlanLine, Unread>
+    ensures { Reads result (line_of strict words.entry) }
 {
     let mut words = words;
     let word = words.next().ok_or(Unread::Misspelt)?;
     if word == b"job".as_slice() {
-        return job_line(alloc, words);
+        return job_line(alloc, strict, words);
     }
-    let step = step_of(alloc, word, words)?;
+    if strict && word == b"after".as_slice() {
+        return after_line(alloc, words);
+    }
+    let step = step_of(alloc, strict, word, words)?;
     Ok(PlanLine::Step(step))
 }
 
-// A job begins: its name, and that of the job which it stands under.
-fn job_line(alloc: Global, words: Words<'_>) -> Result<PlanLine, Unread>
-    ensures { Reads result (job_line words.entry) }
+// A job begins: its name, and that of the job which it stands under. In a strict plan `must` may
+// stand before both.
+fn job_line(alloc: Global, strict: bool, words: Words<'_>) -> Result<PlanLine, Unread>
+    ensures { Reads result (job_line strict words.entry) }
 {
     let mut words = words;
     let word = words.next().ok_or(Unread::Misspelt)?;
-    let name = JobName::read(alloc, word)?;
-    let Some(word) = words.next() else {
-        return Ok(PlanLine::Job(name, None));
-    };
+    if !strict {
+        return heading(alloc, JobKind::Free, word, words);
+    }
+    if word == b"must".as_slice() {
+        return must_line(alloc, words);
+    }
+    heading(alloc, JobKind::Strict, word, words)
+}
+
+// Behind `must` both names have to stand.
+fn must_line(alloc: Global, words: Words<'_>) -> Result<PlanLine, Unread>
+    ensures { Reads result (must_line words.entry) }
+{
+    let mut words = words;
+    let name = words.next().ok_or(Unread::Misspelt)?;
+    let parent = words.next().ok_or(Unread::Misspelt)?;
     if words.next().is_some() {
         return Err(Unread::Misspelt);
     }
-    let parent = JobName::read(alloc, word)?;
-    Ok(PlanLine::Job(name, Some(parent)))
+    subheading(alloc, JobKind::Must, name, parent)
 }
 
-// A step, by its first word.
-fn step_of(alloc: Global, word: &[u8], others: Words<'_>) -> Result<Step, Unread>
-    ensures { Reads result (step_of word.now others.entry) }
+// A job of this kind and name begins, under the one that the others name, if they do.
+fn heading(alloc: Global, kind: JobKind, name: &[u8], others: Words<'_>) -> Result<PlanLine, Unread>
+    ensures { Reads result (heading kind name.now others.entry) }
+{
+    let mut others = others;
+    let Some(parent) = others.next() else {
+        let name = JobName::read(alloc, name)?;
+        return Ok(PlanLine::Job(name, None, kind));
+    };
+    if others.next().is_some() {
+        return Err(Unread::Misspelt);
+    }
+    subheading(alloc, kind, name, parent)
+}
+
+// A job of this kind and name begins, under that one.
+fn subheading(alloc: Global, kind: JobKind, name: &[u8], parent: &[u8]) -> Result<PlanLine, Unread>
+    ensures { Reads result (subheading kind name.now parent.now) }
+{
+    let name = JobName::read(alloc, name)?;
+    let parent = JobName::read(alloc, parent)?;
+    Ok(PlanLine::Job(name, Some(parent), kind))
+}
+
+// The names of the jobs that have to have committed: one at least.
+fn after_line(alloc: Global, words: Words<'_>) -> Result<PlanLine, Unread>
+    ensures { Reads result (after_line words.entry) }
+{
+    let names = names_of(alloc, words)?;
+    if names.is_empty() {
+        return Err(Unread::Misspelt);
+    }
+    Ok(PlanLine::After(names.into()))
+}
+
+// The names that all these words are.
+#[tactic(auto, using(crate::proofs::Names::names_next, crate::proofs::Names::no_names))]
+fn names_of(alloc: Global, words: Words<'_>) -> Result<Vec<JobName>, Unread>
+    ensures read { IfOk result (λ names. names_of words.entry ≡ Some names.items) }
+    ensures misspelt { IsErrOf result Unread.Misspelt → names_of words.entry ≡ None }
+{
+    let mut names = Vec::new(alloc);
+    for word in words {
+        let name = JobName::read(alloc, word)?;
+        if names.push(name).is_err() {
+            return Err(Unread::NoMemory);
+        }
+    }
+    Ok(names)
+}
+
+// A step, by its first word. In a strict plan a call may be tried.
+fn step_of(alloc: Global, strict: bool, word: &[u8], others: Words<'_>) -> Result<Step, Unread>
+    ensures { Reads result (step_of strict word.now others.entry) }
+{
+    if strict && word == b"try".as_slice() {
+        return tried_step(alloc, others);
+    }
+    plain_step(alloc, word, others)
+}
+
+// A call that may fail.
+fn tried_step(alloc: Global, words: Words<'_>) -> Result<Step, Unread>
+    ensures { Reads result (tried_step words.entry) }
+{
+    let mut words = words;
+    let word = words.next().ok_or(Unread::Misspelt)?;
+    let step = call_step(alloc, word, words)?;
+    Ok(tried(step))
+}
+
+// The step where its call may fail.
+fn tried(step: Step) -> Step
+    ensures { result ≡ tried step }
+{
+    match step {
+        Step::Call(call) => Step::Try(call),
+        Step::CallOn(call) => Step::TryOn(call),
+        other => other,
+    }
+}
+
+// A step that is not tried.
+fn plain_step(alloc: Global, word: &[u8], others: Words<'_>) -> Result<Step, Unread>
+    ensures { Reads result (plain_step word.now others.entry) }
 {
     let mut others = others;
     match lone_step(word) {

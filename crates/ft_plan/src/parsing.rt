@@ -1,14 +1,15 @@
 // From the lines of a plan to its jobs.
-ghost use Rattle.std.specs.Prelude.{◌≡◌, ◌⊎◌, ◌++◌, ◌∷◌, [], ℕ, List, OnOk, IfOk, IfErr, IsErrOf, Some};
+ghost use Rattle.std.specs.Prelude.{◌≡◌, ◌⊎◌, ◌++◌, ◌∷◌, ◌↔◌, [], ℕ, List, IsTrue, OnOk, IfOk, IfErr, IsErrOf, Some};
 ghost use Rattle.ft_words.specs.Spelling.{lines_of};
-ghost use Rattle.ft_plan.specs.Plans.{plan_lines, said};
-ghost use Rattle.ft_plan.specs.Parsing.{begun_lines, behind_all, IsStrayStep};
+ghost use Rattle.ft_plan.specs.Plans.{plan_lines, plan_said, said};
+ghost use Rattle.ft_plan.specs.Lines.{behind_strict, is_strict_line};
+ghost use Rattle.ft_plan.specs.Parsing.{begun_lines, behind_all, IsStray};
 
 use crate::fault::JobFault;
-use crate::job::{Job, Step};
+use crate::job::{Job, JobKind, Step};
 use crate::line::{PlanLine, line_of};
 use crate::name::JobName;
-use ft_base::Memory;
+use ft_base::{Memory, Sequence};
 use ft_words::{Lines, Words};
 use std::alloc::Global;
 use std::marker::Model;
@@ -17,13 +18,52 @@ use std::marker::Model;
 ///
 /// Answers BadPlan where the lines are not those of any jobs.
 pub fn jobs_of(alloc: Global, text: &[u8]) -> Result<Vec<Job>, JobFault>
-    ensures ok { IfOk result (λ jobs. said (lines_of text.now) ≡ Some (plan_lines jobs.items)) }
-    ensures bad { IsErrOf result JobFault.BadPlan → (jobs : List Job) → said (lines_of text.now) ≡ Some (plan_lines jobs) → ⊥ }
+    ensures ok { IfOk result (λ jobs. plan_said (lines_of text.now) ≡ Some (plan_lines jobs.items)) }
+    ensures bad { IsErrOf result JobFault.BadPlan → (jobs : List Job) → plan_said (lines_of text.now) ≡ Some (plan_lines jobs) → ⊥ }
+    ensures cause { IfErr result (λ fault. (fault ≡ JobFault.BadPlan) ⊎ (fault ≡ JobFault.Memory)) }
+{
+    match behind_strict(Lines::of(text)) {
+        Some(lines) => jobs_in(alloc, true, lines),
+        None => jobs_in(alloc, false, Lines::of(text)),
+    }
+}
+
+// The lines behind the one that says that a plan is strict, where all before it are silent.
+fn behind_strict(lines: Lines<'_>) -> Option<Lines<'_>>
+    ensures { result ≡ behind_strict lines.entry }
+{
+    let mut lines = lines;
+    while let Some(line) = lines.next() {
+        if let Some(words) = Words::of_line(line) {
+            return if is_strict_line(words) {
+                Some(lines)
+            } else {
+                None
+            };
+        }
+    }
+    None
+}
+
+// Whether a line says that a plan is strict.
+fn is_strict_line(words: Words<'_>) -> bool
+    ensures { result ≡ is_strict_line words.entry }
+{
+    match words.only() {
+        Some(word) => word == b"strict".as_slice(),
+        None => false,
+    }
+}
+
+// The jobs that the lines of a plan tell of, which is strict or is not.
+fn jobs_in(alloc: Global, strict: bool, lines: Lines<'_>) -> Result<Vec<Job>, JobFault>
+    ensures ok { IfOk result (λ jobs. said strict lines.entry ≡ Some (plan_lines jobs.items)) }
+    ensures bad { IsErrOf result JobFault.BadPlan → (jobs : List Job) → said strict lines.entry ≡ Some (plan_lines jobs) → ⊥ }
     ensures cause { IfErr result (λ fault. (fault ≡ JobFault.BadPlan) ⊎ (fault ≡ JobFault.Memory)) }
 {
     let mut jobs = Jobs::new(alloc);
-    for line in Lines::of(text) {
-        jobs.read(alloc, line)?;
+    for line in lines {
+        jobs.read(alloc, strict, line)?;
     }
     Ok(jobs.end()?)
 }
@@ -33,6 +73,8 @@ pub fn jobs_of(alloc: Global, text: &[u8]) -> Result<Vec<Job>, JobFault>
 struct Begun {
     name: JobName,
     parent: Option<JobName>,
+    kind: JobKind,
+    after: Vec<JobName>,
     steps: Vec<Step>,
 }
 
@@ -40,19 +82,28 @@ impl Begun {
     // Adds a step.
     fn push(&mut self, step: Step) -> Result<(), Memory>
         ensures steps { OnOk result (self.new.steps.items ≡ self.old.steps.items ++ step ∷ []) }
-        ensures name { (self.new.name ≡ self.old.name) × (self.new.parent ≡ self.old.parent) }
+        ensures name { (self.new.name ≡ self.old.name) × (self.new.parent ≡ self.old.parent) × (self.new.kind ≡ self.old.kind) × (self.new.after ≡ self.old.after) }
     {
         self.steps.push(step)?;
         Ok(())
     }
 
+    // Whether no line stands behind the one that begins it.
+    fn is_new(&self) -> bool
+        ensures { IsTrue result ↔ ((self.now.after.items ≡ []) × (self.now.steps.items ≡ [])) }
+    {
+        self.after.is_empty() && self.steps.is_empty()
+    }
+
     // The job, which has all its steps.
     fn end(self) -> Job
-        ensures { (result.name ≡ self.name) × (result.parent ≡ self.parent) × (result.steps ≡ self.steps.items) }
+        ensures { (result.name ≡ self.name) × (result.parent ≡ self.parent) × (result.kind ≡ self.kind) × (result.after ≡ self.after.items) × (result.steps ≡ self.steps.items) }
     {
         Job {
             name: self.name,
             parent: self.parent,
+            kind: self.kind,
+            after: self.after.into(),
             steps: self.steps.into(),
         }
     }
@@ -91,41 +142,72 @@ impl Jobs {
 
     // Takes what the next line says.
     #[tactic(auto, using(crate::proofs::Grouping::said_silent, crate::proofs::Grouping::said_more))]
-    fn read(&mut self, alloc: Global, line: &[u8]) -> Result<(), JobFault>
-        ensures ok { OnOk result ((lines : List (List ℕ)) → behind_all self.old (said (line.now ∷ lines)) ≡ behind_all self.new (said lines)) }
-        ensures bad { IsErrOf result JobFault.BadPlan → (lines : List (List ℕ)) (jobs : List Job) → behind_all self.old (said (line.now ∷ lines)) ≡ Some (plan_lines jobs) → ⊥ }
+    fn read(&mut self, alloc: Global, strict: bool, line: &[u8]) -> Result<(), JobFault>
+        ensures ok { OnOk result ((lines : List (List ℕ)) → behind_all self.old (said strict (line.now ∷ lines)) ≡ behind_all self.new (said strict lines)) }
+        ensures bad { IsErrOf result JobFault.BadPlan → (lines : List (List ℕ)) (jobs : List Job) → behind_all self.old (said strict (line.now ∷ lines)) ≡ Some (plan_lines jobs) → ⊥ }
         ensures cause { IfErr result (λ fault. (fault ≡ JobFault.BadPlan) ⊎ (fault ≡ JobFault.Memory)) }
     {
         let Some(words) = Words::of_line(line) else {
             return Ok(());
         };
-        let said = line_of(alloc, words)?;
+        let said = line_of(alloc, strict, words)?;
         self.take(said)
     }
 
-    // Takes the next line. A step that no job stands before is no plan.
+    // Takes the next line. A step that no job stands before is no plan, and neither is a line on
+    // what a job comes after that does not stand behind the one that begins it.
     fn take(&mut self, line: PlanLine) -> Result<(), JobFault>
         ensures ok { OnOk result (self.new ≡ self.old ++ line ∷ []) }
-        ensures bad { IsErrOf result JobFault.BadPlan → IsStrayStep self.old line }
+        ensures bad { IsErrOf result JobFault.BadPlan → IsStray self.old line }
         ensures cause { IfErr result (λ fault. (fault ≡ JobFault.BadPlan) ⊎ (fault ≡ JobFault.Memory)) }
     {
         match line {
-            PlanLine::Job(name, parent) => self.begin(name, parent)?,
-            PlanLine::Step(step) => match &mut self.begun {
-                None => return Err(JobFault::BadPlan),
-                Some(begun) => begun.push(step)?,
-            },
+            PlanLine::Job(name, parent, kind) => Ok(self.begin(name, parent, kind)?),
+            PlanLine::After(names) => self.come_after(names),
+            PlanLine::Step(step) => self.add(step),
         }
+    }
+
+    // Takes what the job comes after that has just begun.
+    fn come_after(&mut self, names: Sequence<JobName>) -> Result<(), JobFault>
+        ensures ok { OnOk result (self.new ≡ self.old ++ PlanLine.After names ∷ []) }
+        ensures bad { IsErrOf result JobFault.BadPlan → IsStray self.old (PlanLine.After names) }
+        ensures cause { IfErr result (λ fault. fault ≡ JobFault.BadPlan) }
+    {
+        let Some(begun) = &mut self.begun else {
+            return Err(JobFault::BadPlan);
+        };
+        if names.is_empty() {
+            return Err(JobFault::BadPlan);
+        }
+        if !begun.is_new() {
+            return Err(JobFault::BadPlan);
+        }
+        begun.after = names.into_vec();
         Ok(())
     }
 
+    // Takes the next step of the job that has begun.
+    fn add(&mut self, step: Step) -> Result<(), JobFault>
+        ensures ok { OnOk result (self.new ≡ self.old ++ PlanLine.Step step ∷ []) }
+        ensures bad { IsErrOf result JobFault.BadPlan → IsStray self.old (PlanLine.Step step) }
+        ensures cause { IfErr result (λ fault. (fault ≡ JobFault.BadPlan) ⊎ (fault ≡ JobFault.Memory)) }
+    {
+        match &mut self.begun {
+            None => Err(JobFault::BadPlan),
+            Some(begun) => Ok(begun.push(step)?),
+        }
+    }
+
     // Begins the next job.
-    fn begin(&mut self, name: JobName, parent: Option<JobName>) -> Result<(), Memory>
-        ensures ok { OnOk result (self.new ≡ self.old ++ PlanLine.Job name parent ∷ []) }
+    fn begin(&mut self, name: JobName, parent: Option<JobName>, kind: JobKind) -> Result<(), Memory>
+        ensures ok { OnOk result (self.new ≡ self.old ++ PlanLine.Job name parent kind ∷ []) }
     {
         let next = Begun {
             name,
             parent,
+            kind,
+            after: Vec::new(*self.ended.allocator()),
             steps: Vec::new(*self.ended.allocator()),
         };
         if let Some(begun) = self.begun.replace(next) {

@@ -3,25 +3,52 @@ ghost use Rattle.std.specs.Prelude.{◌≡◌, ◌==◌, ◌&&◌, Bool, true, f
 ghost use Rattle.std.specs.Option.{option_map_or};
 ghost use Rattle.std.specs.List.{list_any, list_all, count_by};
 ghost use Rattle.std.specs.Str.{bytes_eq};
-ghost use Rattle.ft_plan.specs.Plans.{is_plan, is_job, starts_subjobs, all_behind, is_opened, is_named, is_subjob_of, ends_last, is_end, is_subs, is_on_opened, is_open, step_at, descriptor};
+ghost use Rattle.ft_plan.specs.Plans.{is_plan, most_jobs, is_free, is_free_kind, is_same_parent, is_sibling, comes_after, is_job, starts_subjobs, all_behind, is_opened, is_named, is_subjob_of, ends_last, is_end, is_subs, is_on_opened, is_open, step_at, descriptor};
 
-use crate::job::{Job, Step};
+use crate::job::{Job, JobKind, Step};
 use ft_posix::Call;
 
-// The most jobs of a plan.
-const MOST_JOBS: usize = 64;
+// The most jobs of a plan that is strict, and of one that is not.
+const MOST_STRICT_JOBS: usize = 4096;
+
+const MOST_FREE_JOBS: usize = 64;
 
 /// Whether these jobs make a plan.
 pub fn is_plan(jobs: &[Job]) -> bool
     ensures { result ≡ is_plan jobs.now }
 {
-    if jobs.is_empty() || jobs.len() > MOST_JOBS {
+    if jobs.is_empty() || jobs.len() > most_jobs(jobs) {
         return false;
     }
     if !are_opened(jobs) {
         return false;
     }
     are_jobs(jobs)
+}
+
+// The most jobs of a plan of these.
+fn most_jobs(jobs: &[Job]) -> usize
+    ensures { result ≡ most_jobs jobs.now }
+{
+    if has_free(jobs) {
+        MOST_FREE_JOBS
+    } else {
+        MOST_STRICT_JOBS
+    }
+}
+
+// Whether the calls of one of the jobs may all fail.
+fn has_free(jobs: &[Job]) -> bool
+    ensures { result ≡ list_any is_free jobs.now }
+{
+    jobs.iter().any(|job| is_free(job))
+}
+
+// Whether the calls of a job may all fail.
+fn is_free(job: &Job) -> bool
+    ensures { result ≡ is_free job.now }
+{
+    matches!(job.kind, JobKind::Free)
 }
 
 // Whether each of the jobs has the steps that it may have.
@@ -53,6 +80,35 @@ fn is_opened(before: &[Job], job: &Job) -> bool
             None => true,
             Some(parent) => is_named(before, parent.as_bytes()),
         }
+        && comes_after(before, job)
+}
+
+// Whether each job that this one comes after is one of these, and stands under the same one.
+fn comes_after(before: &[Job], job: &Job) -> bool
+    ensures { result ≡ comes_after before.now job.now }
+{
+    job.after
+        .as_slice()
+        .iter()
+        .all(|name| has_sibling(before, job, name.as_bytes()))
+}
+
+// Whether one of the jobs has this name, and stands under the same one as this job.
+fn has_sibling(before: &[Job], job: &Job, name: &[u8]) -> bool
+    ensures { result ≡ list_any (is_sibling job.now.parent name.now) before.now }
+{
+    before.iter().any(|other| other.name.as_bytes() == name && is_same_parent(other, job))
+}
+
+// Whether two jobs stand under the same one, or both under none.
+fn is_same_parent(job: &Job, other: &Job) -> bool
+    ensures { result ≡ is_same_parent job.now.parent other.now.parent }
+{
+    match (&job.parent, &other.parent) {
+        (None, None) => true,
+        (Some(name), Some(named)) => name.as_bytes() == named.as_bytes(),
+        _ => false,
+    }
 }
 
 // Whether one of the jobs has this name.
@@ -166,7 +222,7 @@ fn is_on_opened(before: &[Step], step: &Step) -> bool
     ensures { result ≡ is_on_opened before.now step.now }
 {
     match step {
-        Step::CallOn(call) => is_opener(step_at(before, descriptor(call))),
+        Step::CallOn(call) | Step::TryOn(call) => is_opener(step_at(before, descriptor(call))),
         _ => true,
     }
 }
@@ -175,7 +231,10 @@ fn is_on_opened(before: &[Step], step: &Step) -> bool
 fn is_opener(step: Option<&Step>) -> bool
     ensures { result ≡ option_map_or is_open (option_copied step.entry) false }
 {
-    matches!(step, Some(Step::Call(Call::Open { .. })))
+    matches!(
+        step,
+        Some(Step::Call(Call::Open { .. }) | Step::Try(Call::Open { .. }))
+    )
 }
 
 // The step of this number. The first has the number 1.

@@ -4,7 +4,7 @@ ghost use Rattle.ft_shared.specs.Opening.{named_by};
 
 use anyhow::{Result, bail};
 use ft_calls::Reply;
-use ft_jobs::{Gate, JobFault, JobsOutcome, Plan, Report, report_jobs};
+use ft_jobs::{Gate, JobFault, JobsOutcome, Pace, Plan, Report, report_jobs};
 use ft_path::FilePath;
 use ft_shared::{Opened, Shared, Sharing, ViewsOf};
 use ft_view::Reader;
@@ -67,7 +67,14 @@ fn side_by_side<J: Sharing + Send + Sync, R: Threads + Wait + Clock + Sync>(
 ) -> (Result<Vec<Report>, JobFault>, Result<Seen>) {
     thread::join(
         rt,
-        || report_jobs(rt, alloc, plan, shared, &Publishing { shared }, TURNS),
+        || report_jobs(
+            rt,
+            alloc,
+            plan,
+            shared,
+            &Publishing { shared },
+            Pace::of_turns(TURNS),
+        ),
         move || look(rt, alloc, reader, 3),
     )
 }

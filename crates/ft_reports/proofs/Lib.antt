@@ -3,3 +3,4 @@ pub mod Told
 pub mod Ending
 pub mod Following
 pub mod Fronts
+pub mod Begun

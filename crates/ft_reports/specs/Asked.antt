@@ -1,17 +1,22 @@
 -- What the steps of a job ask for. (The rules for jobs are this project's own: docs/SCRIPT.md,
 -- Plans.)
-use Rattle.std.specs.Prelude.{◌≡◌, ◌≢◌, ℕ, zero, suc, ◌-◌, Bool, true, false, List, [], ◌∷◌, ◌++◌, length, drop, if◌then◌else◌, Option, None, Some, map}
+use Rattle.std.specs.Prelude.{◌≡◌, ◌≢◌, ◌⊎◌, ℕ, zero, suc, ◌+◌, ◌-◌, Bool, true, false, not, ◌&&◌, ◌||◌, List, [], ◌∷◌, ◌++◌, length, drop, take, if◌then◌else◌, MatchOption, Option, None, Some, map, option_and_then}
 use Rattle.std.specs.Option.{unwrap_or}
 use Rattle.std.specs.List.{filter_map, slice_get}
 use Rattle.ft_posix.specs.declared.call.Call.{Call}
 use Rattle.ft_posix.specs.declared.call.Call.TheVariants as posix
 use Rattle.ft_posix.specs.declared.call.Reply.{Reply}
 use Rattle.ft_posix.specs.declared.call.Reply.TheVariants as answer
+use Rattle.ft_core.specs.declared.request.Answer.TheVariants.{Granted}
+use Rattle.ft_strict.specs.Wells.{is_well}
+use Rattle.ft_plan.specs.declared.job.JobKind.{JobKind}
+use Rattle.ft_plan.specs.declared.job.JobKind.TheVariants.{Free, Strict, Must}
+use Rattle.ft_plan.specs.Plans.{is_subs}
 use Rattle.ft_plan.specs.declared.job.Step.{Step}
 use Rattle.ft_plan.specs.declared.job.Step.TheVariants as does
 use Rattle.ft_reports.specs.declared.report.CallReport.{CallReport}
 use Rattle.ft_reports.specs.declared.report.End.{End}
-use Rattle.ft_reports.specs.declared.report.End.TheVariants.{Committed, Aborted, Waited, Refused, NotStarted}
+use Rattle.ft_reports.specs.declared.report.End.TheVariants.{Committed, Aborted, Waited, Refused, Failed, NotStarted}
 use Rattle.ft_reports.specs.declared.steps.Extent.{Extent}
 use Rattle.ft_reports.specs.declared.steps.Extent.TheVariants.{Whole, Other}
 
@@ -21,6 +26,8 @@ use Rattle.ft_reports.specs.declared.steps.Extent.TheVariants.{Whole, Other}
 abbrev pub is_call : Step → Bool
 is_call (does.Call call) = true
 is_call (does.CallOn call) = true
+is_call (does.Try call) = true
+is_call (does.TryOn call) = true
 is_call does.Subs = false
 is_call does.Commit = false
 is_call does.Abort = false
@@ -75,6 +82,8 @@ on_opened ds call = call
 abbrev pub asked_by : List ℕ → Step → Option Call
 asked_by ds (does.Call call) = Some call
 asked_by ds (does.CallOn call) = Some (on_opened ds call)
+asked_by ds (does.Try call) = Some call
+asked_by ds (does.TryOn call) = Some (on_opened ds call)
 asked_by ds does.Subs = None
 asked_by ds does.Commit = None
 asked_by ds does.Abort = None
@@ -110,16 +119,93 @@ IsAtEnd steps Aborted extent = (extent ≡ Whole) × EndsWith steps does.Abort
 IsAtEnd steps Waited extent = extent ≢ Other
 IsAtEnd steps (Refused fault) extent = extent ≢ Other
 IsAtEnd steps NotStarted extent = extent ≢ Other
+IsAtEnd steps (Failed number) extent = ⊥
 
 -- what the steps ask for, where these are their calls
 abbrev pub asked_with : List Step → List CallReport → List Call
 asked_with steps calls = all_asked (opened steps calls) steps
 
+-- ---- strict jobs
+
+-- each call of a job of this kind has to do what it asks for, where it is not tried
+abbrev pub is_strict : JobKind → Bool
+is_strict Free = false
+is_strict Strict = true
+is_strict Must = true
+
+-- a call that is tried may fail
+abbrev pub may_fail : Step → Bool
+may_fail (does.Try call) = true
+may_fail (does.TryOn call) = true
+may_fail step = false
+
+-- a strict job goes on behind this call of a step: it did what it asks for, as a line of a strict
+-- script does, or may fail
+abbrev pub goes_on : Step → CallReport → Bool
+goes_on step c = may_fail step || is_well (Granted c.stamp c.reply)
+
+-- behind the first of these calls, if the step asks for one
+abbrev pub first_goes_on : Step → List CallReport → Bool
+first_goes_on step [] = true
+first_goes_on step (c ∷ calls) = not (is_call step) || goes_on step c
+
+-- behind all of them, if they are the calls of the steps
+abbrev pub all_go_on : List Step → List CallReport → Bool
+all_go_on [] calls = true
+all_go_on (step ∷ steps) calls = first_goes_on step calls && all_go_on steps (calls_behind step calls)
+
+-- the end names a step that failed
+abbrev pub names_step : End → Bool
+names_step (Failed number) = true
+names_step end = false
+
+-- a step that may fail: a call, or the one that starts the subjobs
+abbrev pub is_failing : Step → Bool
+is_failing step = is_call step || is_subs step
+
+-- before so many steps the step stands, if it may fail
+abbrev pub place_if_failing : ℕ → Step → Option ℕ
+place_if_failing before step = if is_failing step then Some before else None
+
+-- before how many steps the one of this number stands, if it may fail; the first has the number 1
+abbrev pub failing_place : List Step → ℕ → Option ℕ
+failing_place steps zero = None
+failing_place steps (suc before) = option_and_then (place_if_failing before) (slice_get steps before)
+
+-- Behind so many steps stands one whose call was not granted, or failed and may not, or one without
+-- a call: these are the calls up to there.
+abbrev pub StopsBehind : List Step → List CallReport → ℕ → Type 0
+StopsBehind steps calls before =
+    AreAllOf (asked_with (take before steps) calls) calls
+    ⊎ (AreAllOf (asked_with (take (before + 1) steps) calls) calls × (all_go_on (take (before + 1) steps) calls ≡ false))
+
+-- the same of the step of this number, which may fail
+abbrev pub StopsAt : List Step → ℕ → List CallReport → Type 0
+StopsAt steps number calls = MatchOption (failing_place steps number) ⊥ (StopsBehind steps calls)
+
+-- A strict job that ended so went on behind each call before the step that failed; it waited for
+-- nothing in vain.
+abbrev pub goes_strictly : List Step → End → List CallReport → Bool
+goes_strictly steps (Failed number) calls = all_go_on (take (number - 1) steps) calls
+goes_strictly steps Waited calls = false
+goes_strictly steps Committed calls = all_go_on steps calls
+goes_strictly steps Aborted calls = all_go_on steps calls
+goes_strictly steps (Refused fault) calls = all_go_on steps calls
+goes_strictly steps NotStarted calls = all_go_on steps calls
+
+-- the end and the calls of a job of this kind: only a strict one fails
+abbrev pub is_of_kind : JobKind → List Step → End → List CallReport → Bool
+is_of_kind kind steps end calls = if is_strict kind then goes_strictly steps end calls else not (names_step end)
+
+-- ---- how far a job came, all in all
+
 -- A job that ended so has made these calls of its steps: where it ended as Committed or Aborted
--- all of them, and its last step is that commit or abort; else the first of them.
+-- all of them, and its last step is that commit or abort; where a step failed those up to it; else
+-- the first of them.
 abbrev pub IsDone : List Step → End → List CallReport → Type 0
 IsDone steps Committed calls = AreAllOf (asked_with steps calls) calls × EndsWith steps does.Commit
 IsDone steps Aborted calls = AreAllOf (asked_with steps calls) calls × EndsWith steps does.Abort
 IsDone steps Waited calls = AreFirstOf (asked_with steps calls) calls
 IsDone steps (Refused fault) calls = AreFirstOf (asked_with steps calls) calls
 IsDone steps NotStarted calls = AreFirstOf (asked_with steps calls) calls
+IsDone steps (Failed number) calls = StopsAt steps number calls

@@ -5,6 +5,7 @@ use Rattle.ft_core.specs.declared.request.Event.{Event}
 use Rattle.ft_core.specs.declared.request.Event.TheVariants.{Begin, Call as CallEvent, Undo, Commit, Abort}
 use Rattle.ft_reports.specs.declared.report.CallReport.{CallReport}
 use Rattle.ft_reports.specs.declared.report.Report.{Report}
+use Rattle.ft_reports.specs.declared.history.Seen.{Seen}
 use Rattle.ft_reports.specs.Reports.{is_amid, is_reported}
 
 -- what t was granted by the event, if it is a call of t
@@ -27,6 +28,19 @@ parent_after t before (Abort u) = before
 abbrev pub parent_behind : ℕ → Option ℕ → List Event → Option ℕ
 parent_behind t before [] = before
 parent_behind t before (e ∷ events) = parent_behind t (parent_after t before e) events
+
+-- what is seen of x beside t after the event, where this was seen before
+abbrev pub seen_after : ℕ → ℕ → Seen → Event → Seen
+seen_after t x seen (Begin u p) = cond (t == u) (record { committed = seen.committed; had = seen.committed }) seen
+seen_after t x seen (CallEvent stamp asker call reply accesses) = seen
+seen_after t x seen (Undo stamp) = seen
+seen_after t x seen (Commit u) = cond (x == u) (record { committed = true; had = seen.had }) seen
+seen_after t x seen (Abort u) = seen
+
+-- the same behind all these events
+abbrev pub seen_behind : ℕ → ℕ → Seen → List Event → Seen
+seen_behind t x seen [] = seen
+seen_behind t x seen (e ∷ events) = seen_behind t x (seen_after t x seen e) events
 
 -- the report has a call with this stamp
 abbrev pub has_stamp : ℕ → Report → Bool

@@ -1,17 +1,19 @@
 // Whether reports are what happened.
-ghost use Rattle.std.specs.Prelude.{◌≡◌, ◌↔◌, true, ℕ, All, MatchOption, IfOk, IsTrue, option_copied};
+ghost use Rattle.std.specs.Prelude.{◌≡◌, ◌↔◌, ◌||◌, not, true, ℕ, All, MatchOption, IfOk, IsTrue, option_copied};
 ghost use Rattle.std.specs.List.{list_all};
 ghost use Rattle.ft_core.specs.Histories.{told};
-ghost use Rattle.ft_reports.specs.Reports.{has_txn, has_txn_up_to, has_first_up_to, is_reported, is_from_least_on, is_from_first_on, is_amid, have_own_txns, report_of, txn_of, IsNested, IsOfTxn, MayLackTxn, ends_committed, may_lack_txn, may_leave_subjobs, may_be_unstarted, IsReportAt, HasItsFate, AreReports};
+ghost use Rattle.ft_reports.specs.Reports.{has_txn, has_txn_up_to, has_first_up_to, is_reported, is_from_least_on, is_from_first_on, is_amid, have_own_txns, report_of, txn_of, IsNested, IsOfTxn, MayLackTxn, ends_committed, may_lack_txn, may_leave_subjobs, steps_of, may_be_left, may_be_unstarted, may_end, is_spared, comes_last, IsReportAt, HasItsFate, AreReports};
 ghost use Rattle.ft_reports.specs.Reading.{has_stamp, is_stamp_reported, is_accounted};
 
 use crate::history::{are_calls_of, do_stamps_rise, has_ended, parent_of};
-use crate::places::place_of;
+use crate::meeting::{is_spared, may_end};
+use crate::order::{comes_last, ends_committed, may_start};
+use crate::places::{place_of, report_of, txn_of};
 use crate::report::{End, Report};
-use crate::steps::is_done;
+use crate::steps::{comes_to_subs, is_done, is_of_kind};
 use ft_base::Memory;
 use ft_core::{Event, TxnId};
-use ft_plan::{Job, Plan};
+use ft_plan::{Job, Plan, Step};
 use ft_record::Recorded;
 use std::alloc::Global;
 
@@ -58,13 +60,6 @@ fn has_its_fate(core: &Recorded, report: &Report) -> bool
     }
 }
 
-// Whether the transaction of a job that ended so is committed.
-fn ends_committed(end: End) -> bool
-    ensures { result ≡ ends_committed end }
-{
-    matches!(end, End::Committed)
-}
-
 // Whether each report is that of its job.
 fn are_each(
     alloc: Global,
@@ -100,9 +95,16 @@ fn is_report_at(
     }
     Ok(
         report.job == at as u64
+            && is_of_kind(job, report)
             && do_stamps_rise(report.calls.as_slice())
             && is_of_txn(events, jobs, reports, job, report)
-            && is_started(jobs, reports, job, report),
+            && is_started(jobs, reports, job, report)
+            && comes_last(events, jobs, reports, job, report)
+            && may_end(
+                job.steps.as_slice(),
+                report.end,
+                is_spared(jobs, reports, job.name.as_bytes()),
+            ),
     )
 }
 
@@ -131,21 +133,6 @@ fn is_nested(events: &[Event], jobs: &[Job], reports: &[Report], job: &Job, txn:
     }
 }
 
-// The transaction of the job of this name.
-fn txn_of(jobs: &[Job], reports: &[Report], name: &[u8]) -> Option<TxnId>
-    ensures { result ≡ txn_of jobs.now reports.now name.now }
-{
-    report_of(jobs, reports, name)?.txn
-}
-
-// The report of the job of this name.
-fn report_of<'a>(jobs: &[Job], reports: &'a [Report], name: &[u8]) -> Option<&'a Report>
-    ensures { option_copied result ≡ report_of jobs.now reports.now name.now }
-{
-    let at = place_of(jobs, name)?;
-    reports.get(at)
-}
-
 // Whether the job was started where its report says so, or where it was not may be unstarted.
 fn is_started(jobs: &[Job], reports: &[Report], job: &Job, report: &Report) -> bool
     ensures { IsTrue result ↔ (report.now.end ≡ End.NotStarted → may_be_unstarted jobs.now reports.now job.now ≡ true) }
@@ -156,24 +143,46 @@ fn is_started(jobs: &[Job], reports: &[Report], job: &Job, report: &Report) -> b
     }
 }
 
-// Whether the job is a subjob that its parent may have left unstarted.
+// Whether the parent of a job may have left it unstarted, or one that it comes after has not
+// committed.
 fn may_be_unstarted(jobs: &[Job], reports: &[Report], job: &Job) -> bool
     ensures { result ≡ may_be_unstarted jobs.now reports.now job.now }
+{
+    may_be_left(jobs, reports, job) || !may_start(jobs, reports, job)
+}
+
+// Whether the job is a subjob that its parent may have left unstarted.
+fn may_be_left(jobs: &[Job], reports: &[Report], job: &Job) -> bool
+    ensures { result ≡ may_be_left jobs.now reports.now job.now }
 {
     let Some(name) = &job.parent else {
         return false;
     };
     match report_of(jobs, reports, name.as_bytes()) {
         None => false,
-        Some(parent) => may_leave_subjobs(parent.end),
+        Some(parent) => may_leave_subjobs(steps_of(jobs, name.as_bytes()), parent.end),
     }
 }
 
-// Whether a job that ended so may have left its subjobs unstarted.
-fn may_leave_subjobs(end: End) -> bool
-    ensures { result ≡ may_leave_subjobs end }
+// The steps of the job of this name.
+fn steps_of<'a>(jobs: &'a [Job], name: &[u8]) -> &'a [Step]
+    ensures { result.now ≡ steps_of jobs.now name.now }
 {
-    matches!(end, End::Waited | End::Refused(_) | End::NotStarted)
+    match place_of(jobs, name).and_then(|at| jobs.get(at)) {
+        None => &[],
+        Some(job) => job.steps.as_slice(),
+    }
+}
+
+// Whether a job with these steps that ended so may have left its subjobs unstarted.
+fn may_leave_subjobs(steps: &[Step], end: End) -> bool
+    ensures { result ≡ may_leave_subjobs steps.now end }
+{
+    match end {
+        End::Waited | End::Refused(_) | End::NotStarted => true,
+        End::Failed(number) => !comes_to_subs(steps, number),
+        End::Committed | End::Aborted => false,
+    }
 }
 
 // Whether a job that ended so may have had no transaction.

@@ -5,8 +5,8 @@ ghost use Rattle.ft_history.specs.History.{parent};
 ghost use Rattle.ft_history.specs.History.Fate.{Committed as WasCommitted, Aborted as WasAborted};
 ghost use Rattle.ft_core.specs.Histories.{told};
 ghost use Rattle.ft_core.specs.States.{fate_of};
-ghost use Rattle.ft_reports.specs.Reports.{calls_of, stamps_rise};
-ghost use Rattle.ft_reports.specs.Reading.{granted_by, parent_after};
+ghost use Rattle.ft_reports.specs.Reports.{calls_of, had_committed, stamps_rise};
+ghost use Rattle.ft_reports.specs.Reading.{granted_by, parent_after, seen_after};
 
 use crate::report::CallReport;
 use ft_core::{Event, State, TxnId};
@@ -88,6 +88,47 @@ fn parent_after(event: &Event, txn: TxnId, before: Option<TxnId>) -> Option<TxnI
     match event {
         Event::Begin { txn: begun, parent } if txn == *begun => *parent,
         _ => before,
+    }
+}
+
+/// Whether one transaction had committed when another one was begun.
+#[tactic(auto, using(crate::proofs::Begun::had_is))]
+pub fn had_committed(events: &[Event], txn: TxnId, before: TxnId) -> bool
+    ensures { result ≡ had_committed (told events.now) txn before }
+{
+    let mut seen = Seen {
+        committed: false,
+        had: false,
+    };
+    for event in events {
+        seen = seen_after(event, txn, before, seen);
+    }
+    seen.had
+}
+
+/// What is seen of one transaction beside another.
+#[derive(Clone, Copy)]
+struct Seen {
+    /// It has committed.
+    committed: bool,
+    /// It had committed when the other one was begun.
+    had: bool,
+}
+
+// What is seen after the event, where this was seen before.
+fn seen_after(event: &Event, txn: TxnId, before: TxnId, seen: Seen) -> Seen
+    ensures { result ≡ seen_after txn before seen event.now }
+{
+    match event {
+        Event::Begin { txn: begun, .. } if txn == *begun => Seen {
+            committed: seen.committed,
+            had: seen.committed,
+        },
+        Event::Commit { txn: ended } if before == *ended => Seen {
+            committed: true,
+            had: seen.had,
+        },
+        _ => seen,
     }
 }
 

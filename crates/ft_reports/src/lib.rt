@@ -4,11 +4,15 @@
 
 mod comparing;
 mod history;
+mod meeting;
+mod order;
 mod places;
 mod report;
 mod steps;
 
 pub use comparing::are_reports;
+pub use meeting::{are_met, ended_as_meant, is_must};
+pub use order::may_start;
 pub use places::place_of;
 pub use report::{CallReport, End, Report};
-pub use steps::{asked, descriptor_in};
+pub use steps::{asked, descriptor_in, goes_on, is_strict};

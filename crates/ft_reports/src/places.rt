@@ -1,8 +1,10 @@
 // Jobs by their names.
-ghost use Rattle.std.specs.Prelude.{◌≡◌};
+ghost use Rattle.std.specs.Prelude.{◌≡◌, option_copied};
 ghost use Rattle.std.specs.List.{position};
-ghost use Rattle.ft_reports.specs.Reports.{is_named};
+ghost use Rattle.ft_reports.specs.Reports.{is_named, report_of, txn_of};
 
+use crate::report::Report;
+use ft_core::TxnId;
 use ft_plan::Job;
 
 /// The place of the job of this name.
@@ -17,4 +19,19 @@ fn is_named(name: &[u8], job: &Job) -> bool
     ensures { result ≡ is_named name.now job.now }
 {
     job.name.as_bytes() == name
+}
+
+/// The transaction of the job of this name.
+pub fn txn_of(jobs: &[Job], reports: &[Report], name: &[u8]) -> Option<TxnId>
+    ensures { result ≡ txn_of jobs.now reports.now name.now }
+{
+    report_of(jobs, reports, name)?.txn
+}
+
+/// The report of the job of this name.
+pub fn report_of<'a>(jobs: &[Job], reports: &'a [Report], name: &[u8]) -> Option<&'a Report>
+    ensures { option_copied result ≡ report_of jobs.now reports.now name.now }
+{
+    let at = place_of(jobs, name)?;
+    reports.get(at)
 }

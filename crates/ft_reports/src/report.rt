@@ -15,6 +15,9 @@ pub enum End {
     /// It was refused something, and then its transaction was aborted, if it had one that was still
     /// live.
     Refused(Fault),
+    /// The step of this number, counted from 1, did not do what it asks for, in a strict job, and
+    /// then its transaction was aborted.
+    Failed(u64),
     /// The job that it is a subjob of ended before it came to its subjobs.
     NotStarted,
 }
@@ -29,6 +32,15 @@ pub struct CallReport {
 
 impl CallReport {
     ghost use Rattle.std.specs.Prelude.{◌≡◌, ◌↔◌, IsTrue};
+    ghost use Rattle.ft_core.specs.declared.request.Answer.TheVariants.{Granted};
+    ghost use Rattle.ft_strict.specs.Wells.{is_well};
+
+    /// Whether it did not fail.
+    pub(crate) fn is_well(&self) -> bool
+        ensures { result ≡ is_well (Granted self.now.stamp self.now.reply) }
+    {
+        !matches!(self.reply, Reply::Failed(_))
+    }
 
     /// Whether it is of this call.
     #[tactic(auto, using(ft_core::proofs::Same::same_calls))]

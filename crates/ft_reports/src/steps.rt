@@ -1,11 +1,13 @@
 // What the steps of a job ask for.
-ghost use Rattle.std.specs.Prelude.{◌≡◌, ◌≢◌, ◌↔◌, IfOk, IsTrue};
-ghost use Rattle.ft_reports.specs.Asked.{is_call, descriptor_in, first_descriptor, opened_by, calls_behind, opened, opened_at, on_opened, asked_by, all_asked, AreAllOf, AreFirstOf, IsAtEnd, IsDone};
+ghost use Rattle.std.specs.Prelude.{◌≡◌, ◌≢◌, ◌↔◌, ◌-◌, false, IfOk, IsTrue, take, MatchOption};
+ghost use Rattle.std.specs.List.{list_any, slice_get};
+ghost use Rattle.ft_plan.specs.Plans.{is_subs};
+ghost use Rattle.ft_reports.specs.Asked.{is_call, descriptor_in, first_descriptor, opened_by, calls_behind, opened, opened_at, on_opened, asked_by, all_asked, asked_with, AreAllOf, AreFirstOf, is_strict, may_fail, goes_on, first_goes_on, all_go_on, is_of_kind, is_failing, failing_place, names_step, StopsAt, IsAtEnd, IsDone};
 
 use crate::report::{CallReport, End, Report};
 use ft_base::Memory;
 use ft_calls::{Call, Reply};
-use ft_plan::Step;
+use ft_plan::{Job, JobKind, Step};
 use std::alloc::Global;
 
 /// The call that a step asks for, where the steps opened these descriptors; none where it asks for
@@ -14,8 +16,10 @@ pub fn asked(alloc: Global, step: &Step, descriptors: &[u64]) -> Result<Option<C
     ensures { IfOk result (λ call. call ≡ asked_by descriptors.now step.now) }
 {
     match step {
-        Step::Call(call) => Ok(Some(call.copy(alloc)?)),
-        Step::CallOn(call) => Ok(Some(on_opened(call.copy(alloc)?, descriptors))),
+        Step::Call(call) | Step::Try(call) => Ok(Some(call.copy(alloc)?)),
+        Step::CallOn(call) | Step::TryOn(call) => {
+            Ok(Some(on_opened(call.copy(alloc)?, descriptors)))
+        }
         Step::Subs | Step::Commit | Step::Abort => Ok(None),
     }
 }
@@ -66,7 +70,10 @@ pub fn descriptor_in(reply: &Reply) -> u64
 fn is_call(step: &Step) -> bool
     ensures { result ≡ is_call step.now }
 {
-    matches!(step, Step::Call(_) | Step::CallOn(_))
+    matches!(
+        step,
+        Step::Call(_) | Step::CallOn(_) | Step::Try(_) | Step::TryOn(_)
+    )
 }
 
 // What a step opened, if these are the calls from it on.
@@ -141,14 +148,75 @@ fn extent_of(
 }
 
 /// Whether the calls of a report are those of the steps of its job: all of them where its last step
-/// ended the job, and else the first of them.
+/// ended the job, those up to a step where that failed, and else the first of them.
 pub fn is_done(alloc: Global, steps: &[Step], report: &Report) -> Result<bool, Memory>
     ensures { IfOk result (λ done. IsTrue done ↔ IsDone steps.now report.now.end report.now.calls) }
 {
     let calls = report.calls.as_slice();
+    match report.end {
+        End::Failed(number) => stops_at(alloc, steps, number, calls),
+        end => comes_to(alloc, steps, end, calls),
+    }
+}
+
+// Whether these calls are those of the steps up to the one of this number, which starts the
+// subjobs, or is a call that was not granted, or one that failed and may not.
+fn stops_at(
+    alloc: Global,
+    steps: &[Step],
+    number: u64,
+    calls: &[CallReport],
+) -> Result<bool, Memory>
+    ensures { IfOk result (λ stops. IsTrue stops ↔ StopsAt steps.now number calls.now) }
+{
+    let Some(before) = failing_place(steps, number) else {
+        return Ok(false);
+    };
+    if are_all_of(alloc, &steps[..before], calls)? {
+        return Ok(true);
+    }
+    let made = &steps[..before + 1];
+    if all_go_on(made, calls) {
+        return Ok(false);
+    }
+    are_all_of(alloc, made, calls)
+}
+
+// Before how many steps the one of this number stands, if it may fail. The first has the number 1.
+fn failing_place(steps: &[Step], number: u64) -> Option<usize>
+    ensures { result ≡ failing_place steps.now number }
+{
+    let before = number.checked_sub(1)? as usize;
+    match steps.get(before) {
+        Some(step) if is_failing(step) => Some(before),
+        _ => None,
+    }
+}
+
+// Whether a step may fail.
+fn is_failing(step: &Step) -> bool
+    ensures { result ≡ is_failing step.now }
+{
+    is_call(step) || is_subs(step)
+}
+
+// Whether these calls are all that the steps ask for.
+fn are_all_of(alloc: Global, steps: &[Step], calls: &[CallReport]) -> Result<bool, Memory>
+    ensures { IfOk result (λ all. IsTrue all ↔ AreAllOf (asked_with steps.now calls.now) calls.now) }
+{
     let descriptors = opened(alloc, steps, calls)?;
     let extent = extent_of(alloc, steps, descriptors.as_slice(), calls)?;
-    Ok(is_at_end(steps, report.end, extent))
+    Ok(extent == Extent::Whole)
+}
+
+// The same where the end names no step.
+fn comes_to(alloc: Global, steps: &[Step], end: End, calls: &[CallReport]) -> Result<bool, Memory>
+    requires { names_step end ≡ false }
+    ensures { IfOk result (λ done. IsTrue done ↔ IsDone steps.now end calls.now) }
+{
+    let descriptors = opened(alloc, steps, calls)?;
+    let extent = extent_of(alloc, steps, descriptors.as_slice(), calls)?;
+    Ok(is_at_end(steps, end, extent))
 }
 
 // Whether a job with calls to this extent may have ended so: where the end names a step, that is
@@ -160,5 +228,90 @@ fn is_at_end(steps: &[Step], end: End, extent: Extent) -> bool
         End::Committed => extent == Extent::Whole && matches!(steps.last(), Some(Step::Commit)),
         End::Aborted => extent == Extent::Whole && matches!(steps.last(), Some(Step::Abort)),
         End::Waited | End::Refused(_) | End::NotStarted => extent != Extent::Other,
+        End::Failed(_) => false,
     }
+}
+
+/// Whether each call of a job of this kind has to do what it asks for, where it is not tried.
+pub fn is_strict(kind: JobKind) -> bool
+    ensures { result ≡ is_strict kind }
+{
+    matches!(kind, JobKind::Strict | JobKind::Must)
+}
+
+// Whether the call of a step may fail in a strict job.
+fn may_fail(step: &Step) -> bool
+    ensures { result ≡ may_fail step.now }
+{
+    matches!(step, Step::Try(_) | Step::TryOn(_))
+}
+
+/// Whether a strict job goes on behind this call of a step: it did what it asks for, or may fail.
+pub fn goes_on(step: &Step, call: &CallReport) -> bool
+    ensures { result ≡ goes_on step.now call.now }
+{
+    may_fail(step) || call.is_well()
+}
+
+// The same of the first of these calls, if the step asks for one.
+fn first_goes_on(step: &Step, calls: &[CallReport]) -> bool
+    ensures { result ≡ first_goes_on step.now calls.now }
+{
+    match calls.first() {
+        None => true,
+        Some(call) => !is_call(step) || goes_on(step, call),
+    }
+}
+
+// The same of all of them, if they are the calls of the steps.
+fn all_go_on(steps: &[Step], calls: &[CallReport]) -> bool
+    ensures { result ≡ all_go_on steps.now calls.now }
+{
+    let mut left = calls;
+    for step in steps {
+        if !first_goes_on(step, left) {
+            return false;
+        }
+        left = calls_behind(step, left);
+    }
+    true
+}
+
+/// Whether the calls of a report, and its end, are those of a job of this kind: a strict one goes
+/// on behind each call but that of the step that has failed, and waits for nothing in vain; no
+/// other fails.
+pub fn is_of_kind(job: &Job, report: &Report) -> bool
+    ensures { result ≡ is_of_kind job.now.kind job.now.steps report.now.end report.now.calls }
+{
+    let steps = job.steps.as_slice();
+    let calls = report.calls.as_slice();
+    match (is_strict(job.kind), report.end) {
+        (false, End::Failed(_)) => false,
+        (false, _) => true,
+        (true, End::Waited) => false,
+        (true, End::Failed(number)) => { all_go_on(front(steps, number), calls) }
+        (true, _) => all_go_on(steps, calls),
+    }
+}
+
+// The steps before the one of this number, counted from 1.
+fn front(steps: &[Step], number: u64) -> &[Step]
+    ensures { result.now ≡ take (number - 1) steps.now }
+{
+    let before = number.saturating_sub(1) as usize;
+    &steps[..before.min(steps.len())]
+}
+
+/// Whether one of the steps up to the one of this number starts the subjobs.
+pub fn comes_to_subs(steps: &[Step], number: u64) -> bool
+    ensures { result ≡ list_any is_subs (take number steps.now) }
+{
+    steps.iter().take(number as usize).any(|step| is_subs(step))
+}
+
+/// Whether a step starts the subjobs.
+pub fn is_subs(step: &Step) -> bool
+    ensures { result ≡ is_subs step.now }
+{
+    matches!(step, Step::Subs)
 }

@@ -1,18 +1,20 @@
 // A directory on disk as a source.
+use crate::causes::{Causes, Noted};
 use crate::held::{Held, id_of};
 use ft_cells::{Attributes, MOST_NANOSECONDS, Timestamp};
 use ft_copy::{
     FileFacts, FileId, Found, FoundFile, FoundFolder, Given, Leading, Listed, Listing, Opened,
     Source, Trouble, name_of,
 };
-use ft_path::LONGEST_PATH;
-use ft_script::write_out;
-use ft_words::Coded;
+use ft_path::{LONGEST_PATH, Name};
 use std::cell::{Cell, RefCell};
-use std::fs::{File, Metadata};
-use std::io::ErrorKind;
+use std::fs::{File, Files, Metadata};
+use std::io::Read;
 use std::os::unix::fs::MetadataExt;
-use std::{fs, io, str};
+use std::{fs, str};
+
+// So many bytes of names are read at once.
+const NAMES: usize = 4_096;
 
 // How many modes there are. The system tells the kind of a file above them.
 const MODES: u32 = 0o10000;
@@ -27,8 +29,9 @@ const MODES: u32 = 0o10000;
 pub struct DiskSource<'a> {
     rt: &'a HostRuntime,
     dir: &'a str,
-    // whether what a tree has no place for is left out, and told on standard error
-    skip: bool,
+    causes: &'a Causes,
+    // whether names that are no text are told: then they are refused when they are looked at
+    tells_names: bool,
     // the directories that were listed: the number of what stands in one is its place here
     listed: RefCell<Vec<FileId>>,
     // the one that is held open, and its number
@@ -36,12 +39,19 @@ pub struct DiskSource<'a> {
 }
 
 impl<'a> DiskSource<'a> {
-    /// Nothing is read yet.
-    pub fn new(rt: &'a HostRuntime, dir: &'a str, skip: bool) -> DiskSource<'a> {
+    /// Nothing is read yet. A name that is no text is refused with its directory, unless such names
+    /// are to be told: then it is refused when it is looked at.
+    pub fn new(
+        rt: &'a HostRuntime,
+        dir: &'a str,
+        causes: &'a Causes,
+        tells_names: bool,
+    ) -> DiskSource<'a> {
         DiskSource {
             rt,
             dir,
-            skip,
+            causes,
+            tells_names,
             listed: RefCell::new(Vec::new(rt.alloc())),
             held: Cell::new(None),
         }
@@ -88,7 +98,44 @@ impl<'a> DiskSource<'a> {
 
     // Opens the directory of a path, by which the system gets at it at a place.
     fn opened(&self, place: &str, path: &[u8]) -> Result<Held, Trouble> {
-        Held::open(self.rt, place, self.place(path)?).map_err(trouble_of)
+        Held::open(self.rt, place, self.place(path)?).map_err(|error| self.causes.of_read(error))
+    }
+
+    // The names in an open directory.
+    fn names_in(&self, held: &Held) -> Result<Vec<Name>, Trouble> {
+        let alloc = self.rt.alloc();
+        let slashed = format!(in alloc; "{}/", held.place)?;
+        let mut listing = self
+            .rt
+            .open_dir(slashed.as_str())
+            .map_err(|error| self.causes.of_read(error))?;
+        let mut room = vec![in alloc; 0; NAMES]?;
+        let mut names = Vec::new(alloc);
+        for _ in 0..u64::MAX {
+            let count = match listing.read(room.as_mut_slice()) {
+                Ok(count) => count,
+                Err(error) => return Err(self.causes.of_read(error)),
+            };
+            if count == 0 {
+                return Ok(names);
+            }
+            self.add_names(&room[..count], &mut names)?;
+        }
+        Err(Trouble::Read)
+    }
+
+    // Adds names, each of which a null byte ends.
+    fn add_names(&self, bytes: &[u8], names: &mut Vec<Name>) -> Result<(), Trouble> {
+        for name in bytes.split(|byte| *byte == 0) {
+            if name.is_empty() || name == b".".as_slice() || name == b"..".as_slice() {
+                continue;
+            }
+            if !self.tells_names && str::from_utf8(name).is_err() {
+                return Err(Trouble::BadName);
+            }
+            names.push(name_of(self.rt.alloc(), name)?)?;
+        }
+        Ok(())
     }
 
     // Holds a directory open that was listed, and answers its number.
@@ -103,19 +150,16 @@ impl<'a> DiskSource<'a> {
     }
 }
 
-impl Source for DiskSource<'_> {
-    type File = File;
+impl<'a> Source for DiskSource<'a> {
+    type File = Noted<'a, File>;
 
     fn names(&self, path: &[u8], node: u64) -> Result<Listing, Trouble> {
         let alloc = self.rt.alloc();
         let held = self.opened(self.reached(path, node)?.as_str(), path)?;
-        let entries = fs::read_dir(self.rt, held.place.as_str()).map_err(trouble_of)?;
-        let mut found = Vec::new(alloc);
-        for entry in entries {
-            let entry = entry.map_err(trouble_of)?;
-            found.push(name_of(alloc, entry.file_name().as_bytes())?)?;
-        }
-        let id = held.id_now(self.rt).map_err(trouble_of)?;
+        let found = self.names_in(&held)?;
+        let id = held
+            .id_now(self.rt)
+            .map_err(|error| self.causes.of_read(error))?;
         let node = self.hold(held)?;
         let mut names = Vec::with_capacity(alloc, found.len())?;
         for name in found {
@@ -133,39 +177,41 @@ impl Source for DiskSource<'_> {
         };
         match fs::symlink_metadata(self.rt, place.as_str()) {
             Ok(metadata) => Ok(found(&metadata)),
-            Err(error) => Err(trouble_of(error)),
+            Err(error) => Err(self.causes.of_read(error)),
         }
     }
 
     // (The kit opens no file without following a symbolic link, nor without waiting for a FIFO. What
     // a link leads to that has come meanwhile is another file than the one that was looked at.)
-    fn open(&self, path: &[u8], node: u64) -> Result<Opened<File>, Trouble> {
+    fn open(&self, path: &[u8], node: u64) -> Result<Opened<Noted<'a, File>>, Trouble> {
         let place = self.reached(path, node)?;
-        let file = File::open(self.rt, place.as_str()).map_err(trouble_of)?;
-        let metadata = file.metadata().map_err(trouble_of)?;
+        let file = File::open(self.rt, place.as_str()).map_err(|error| self.causes.of_read(error))?;
+        let metadata = file.metadata().map_err(|error| self.causes.of_read(error))?;
         if found(&metadata) == Found::Special {
             return Err(Trouble::Special);
         }
-        let id = id_of(&metadata);
-        Ok(Opened { id, file })
+        Ok(Opened {
+            id: id_of(&metadata),
+            file: Noted::new(file, self.causes),
+        })
     }
 
     fn read_link(&self, path: &[u8], node: u64) -> Result<Leading, Trouble> {
         let place = self.reached(path, node)?;
-        let to = fs::read_link(self.rt, place.as_str()).map_err(trouble_of)?;
-        let metadata = fs::symlink_metadata(self.rt, place.as_str()).map_err(trouble_of)?;
+        let to = fs::read_link(self.rt, place.as_str()).map_err(|error| self
+            .causes
+            .of_read(error))?;
+        let metadata = fs::symlink_metadata(self.rt, place.as_str()).map_err(|error| self
+            .causes
+            .of_read(error))?;
         Ok(Leading {
             id: id_of(&metadata),
             to: to.into_string().into_bytes().into(),
         })
     }
 
-    fn omits(&self, path: &[u8]) -> Result<bool, Trouble> {
-        if self.skip {
-            let line = format!(in self.rt.alloc(); "left out: {}\n", Coded(path))?;
-            let _ = write_out(&mut self.rt.stderr(), line.as_bytes());
-        }
-        Ok(self.skip)
+    fn omits(&self, _path: &[u8]) -> Result<bool, Trouble> {
+        Ok(false)
     }
 }
 
@@ -210,15 +256,5 @@ fn time_of(metadata: &Metadata) -> Timestamp {
     Timestamp {
         seconds: metadata.mtime(),
         nanoseconds: nanoseconds.min(MOST_NANOSECONDS),
-    }
-}
-
-// Why a read failed. The kit's library gives names, and where links lead, only where that is UTF-8
-// text.
-fn trouble_of(error: io::Error) -> Trouble {
-    match error.kind() {
-        ErrorKind::OutOfMemory => Trouble::Memory,
-        ErrorKind::InvalidFilename => Trouble::BadName,
-        _ => Trouble::Read,
     }
 }

@@ -1,10 +1,10 @@
 // A directory on disk as a target.
+use crate::causes::Causes;
 use crate::giving::Giving;
 use crate::held::id_of;
 use crate::removal::Removal;
 use ft_cells::{Attributes, Timestamp};
 use ft_copy::{FileId, Target, Trouble};
-use ft_path::LONGEST_PATH;
 use ft_script::write_out;
 use std::fs::{DirBuilder, File, OpenOptions, Permissions};
 use std::io::{ErrorKind, Write};
@@ -30,6 +30,7 @@ pub struct DiskTarget<'a> {
     rt: &'a HostRuntime,
     // where it is to stand, without slashes behind it
     dir: &'a str,
+    causes: &'a Causes,
     // whether owners and groups are to be kept
     wants_owners: bool,
     // what there is until it is whole, once it was begun
@@ -77,10 +78,16 @@ impl Made {
 
 impl<'a> DiskTarget<'a> {
     /// Nothing is made yet.
-    pub fn new(rt: &'a HostRuntime, dir: &'a str, wants_owners: bool) -> DiskTarget<'a> {
+    pub fn new(
+        rt: &'a HostRuntime,
+        dir: &'a str,
+        causes: &'a Causes,
+        wants_owners: bool,
+    ) -> DiskTarget<'a> {
         DiskTarget {
             rt,
             dir: dir.trim_end_matches('/'),
+            causes,
             wants_owners,
             begun: None,
             file: None,
@@ -105,7 +112,11 @@ impl<'a> DiskTarget<'a> {
             match make_folder(self.rt, place.as_str()) {
                 Ok(id) => return Ok(Made { place, id }),
                 Err(error) if error.kind() == ErrorKind::AlreadyExists => {}
-                Err(error) => return Err(trouble_of(place.as_str(), error)),
+                // (its name is longer than that of the directory)
+                Err(error) if error.kind() == ErrorKind::InvalidFilename => {
+                    return Err(Trouble::PathTooLong);
+                }
+                Err(error) => return Err(self.causes.of_write(place.len(), error)),
             }
         }
         Err(Trouble::Exists)
@@ -137,10 +148,9 @@ impl Target for DiskTarget<'_> {
 
     fn folder(&mut self, path: &[u8], attributes: Attributes) -> Result<(), Trouble> {
         let place = self.place(path)?;
-        let id = make_folder(self.rt, place.as_str()).map_err(|error| trouble_of(
-            place.as_str(),
-            error,
-        ))?;
+        let id = make_folder(self.rt, place.as_str()).map_err(|error| self
+            .causes
+            .of_write(place.len(), error))?;
         match &mut self.begun {
             Some(begun) => Ok(begun.folders.push((Made { place, id }, attributes))?),
             None => Err(Trouble::Write),
@@ -154,22 +164,24 @@ impl Target for DiskTarget<'_> {
             .create_new(true)
             .mode(BEGUN_FILE)
             .open(self.rt, place.as_str())
-            .map_err(|error| trouble_of(place.as_str(), error))?;
+            .map_err(|error| self.causes.of_write(place.len(), error))?;
         self.file = Some(OpenFile { file, attributes });
         Ok(())
     }
 
     fn piece(&mut self, bytes: &[u8]) -> Result<(), Trouble> {
+        let causes = self.causes;
         match &mut self.file {
             Some(open) => open
                 .file
                 .write_all(bytes)
-                .map_err(|error| trouble_of("", error)),
+                .map_err(|error| causes.of_write(0, error)),
             None => Err(Trouble::Write),
         }
     }
 
     fn close(&mut self, time: Option<Timestamp>) -> Result<(), Trouble> {
+        let causes = self.causes;
         let (Some(open), Some(begun)) = (self.file.take(), &mut self.begun) else {
             return Err(Trouble::Write);
         };
@@ -177,16 +189,15 @@ impl Target for DiskTarget<'_> {
         giving
             .set_time(&open.file, time)
             .and_then(|()| giving.give(&open.file, open.attributes))
-            .map_err(|error| trouble_of("", error))
+            .map_err(|error| causes.of_write(0, error))
     }
 
     fn link(&mut self, first: &[u8], path: &[u8]) -> Result<(), Trouble> {
         let first = self.place(first)?;
         let place = self.place(path)?;
-        fs::hard_link(self.rt, first.as_str(), place.as_str()).map_err(|error| trouble_of(
-            place.as_str(),
-            error,
-        ))
+        fs::hard_link(self.rt, first.as_str(), place.as_str()).map_err(|error| self
+            .causes
+            .of_write(place.len(), error))
     }
 
     fn symlink(&mut self, to: &[u8], path: &[u8]) -> Result<(), Trouble> {
@@ -194,20 +205,23 @@ impl Target for DiskTarget<'_> {
             return Err(Trouble::BadName);
         };
         let place = self.place(path)?;
-        symlink(self.rt, to, place.as_str()).map_err(|error| trouble_of(place.as_str(), error))
+        symlink(self.rt, to, place.as_str()).map_err(|error| self
+            .causes
+            .of_write(place.len(), error))
     }
 
     fn finish(&mut self, attributes: Attributes) -> Result<(), Trouble> {
         if self.is_taken() {
             return Err(Trouble::Exists);
         }
+        let causes = self.causes;
         let Some(begun) = &mut self.begun else {
             return Err(Trouble::Write);
         };
-        begun.give_folders(self.rt, attributes)?;
+        begun.give_folders(self.rt, causes, attributes)?;
         let losses = begun.giving.losses(self.rt.alloc())?;
         let place = begun.beside.place.as_str();
-        fs::rename(self.rt, place, self.dir).map_err(|error| trouble_of(place, error))?;
+        fs::rename(self.rt, place, self.dir).map_err(|error| causes.of_write(place.len(), error))?;
         self.begun = None;
         let _ = write_out(&mut self.rt.stderr(), losses.as_bytes());
         Ok(())
@@ -227,12 +241,17 @@ impl Target for DiskTarget<'_> {
 impl Begun {
     // Gives the directories what they are to have, those in a directory before it, and the whole
     // last.
-    fn give_folders(&mut self, rt: &HostRuntime, attributes: Attributes) -> Result<(), Trouble> {
+    fn give_folders(
+        &mut self,
+        rt: &HostRuntime,
+        causes: &Causes,
+        attributes: Attributes,
+    ) -> Result<(), Trouble> {
         let giving = &mut self.giving;
         for (made, given) in self.folders.iter().rev() {
-            give_folder(rt, giving, made, *given)?;
+            give_folder(rt, causes, giving, made, *given)?;
         }
-        give_folder(rt, giving, &self.beside, attributes)
+        give_folder(rt, causes, giving, &self.beside, attributes)
     }
 }
 
@@ -240,6 +259,7 @@ impl Begun {
 // directory gets nothing, and is not opened.
 fn give_folder(
     rt: &HostRuntime,
+    causes: &Causes,
     giving: &mut Giving,
     made: &Made,
     attributes: Attributes,
@@ -248,14 +268,16 @@ fn give_folder(
     if !made.is_there(rt) {
         return Err(Trouble::Write);
     }
-    let folder = File::open(rt, place).map_err(|error| trouble_of(place, error))?;
-    let metadata = folder.metadata().map_err(|error| trouble_of(place, error))?;
+    let folder = File::open(rt, place).map_err(|error| causes.of_write(place.len(), error))?;
+    let metadata = folder
+        .metadata()
+        .map_err(|error| causes.of_write(place.len(), error))?;
     if id_of(&metadata) != made.id {
         return Err(Trouble::Write);
     }
     giving
         .give(&folder, attributes)
-        .map_err(|error| trouble_of(place, error))
+        .map_err(|error| causes.of_write(place.len(), error))
 }
 
 // Makes a directory, which only its owner gets at, whatever the umask takes away from its mode.
@@ -269,14 +291,4 @@ fn make_folder(rt: &HostRuntime, place: &str) -> io::Result<FileId> {
         fs::set_permissions(rt, place, Permissions::from_mode(BEGUN_FOLDER))?;
     }
     Ok(id_of(&metadata))
-}
-
-// Why something could not be made at a place.
-fn trouble_of(place: &str, error: io::Error) -> Trouble {
-    match error.kind() {
-        ErrorKind::OutOfMemory => Trouble::Memory,
-        ErrorKind::InvalidFilename if place.len() >= LONGEST_PATH => Trouble::PathTooLong,
-        ErrorKind::InvalidFilename => Trouble::BadName,
-        _ => Trouble::Write,
-    }
 }

@@ -6,38 +6,49 @@
 //!
 //! It ends with status 0, also after a help text, with 1 after a fault, of which a line
 //! `fault: NAME` tells on standard error, with 2 where the command line asks for nothing that there
-//! is, and with 3 where a line of a strict script did not do what it asks for, of which a line tells
-//! too.
+//! is, and with 3 where a line of a strict script did not do what it asks for, a job of a strict
+//! plan did not end as it means, or `load` has left something out; what is written tells which.
 #![tactic(auto)]
 
+mod causes;
 mod disk_source;
 mod disk_target;
+mod faults;
 mod giving;
 mod held;
+#[cfg(test)]
+mod of_status;
 mod removal;
+mod skipping;
+mod status;
+mod strictly;
 
 ghost use Rattle.std.specs.Prelude.{◌≡◌, IfOk};
 ghost use Rattle.ft_core.specs.Living.{NoneIsLive};
 ghost use Rattle.ft_core.specs.States.{at_base};
 
+use crate::causes::{Causes, Noted};
 use crate::disk_source::DiskSource;
 use crate::disk_target::DiskTarget;
+use crate::faults::fault_line;
+use crate::skipping::SkippingSource;
+use crate::status::{
+    after_failed, dot_status, failed, jobs_status, load_status, play_status, save_status,
+};
+use crate::strictly::play_strictly_status;
 use ft_after::core_after;
+use ft_base::Memory;
 use ft_command::{AskedLimits, Choice, choose};
-use ft_copy::CopyLimits;
+use ft_copy::{CopyLimits, Source};
 use ft_core::{Core, Limits, Rule};
-use ft_jobs::LONGEST_PLAN;
+use ft_jobs::{LONGEST_PLAN, Pace};
 use ft_load::needs_of;
 use ft_needs::{limits_for, raised_for};
 use ft_record::Recorded;
 use ft_script::{PlayFault, write_out};
 use ft_shown::ShownTarget;
-use ft_status::{
-    after_failed, dot_status, failed, fault_line, jobs_status, load_status, play_status,
-    play_strictly_status, save_status,
-};
 use std::fs::{File, Files};
-use std::io::{ErrorKind, IsTerminal, Read, Stderr};
+use std::io::{ErrorKind, IsTerminal, Read, Stderr, Write};
 use std::process::ExitCode;
 use std::random::RandomSource;
 use std::{env, io};
@@ -59,14 +70,19 @@ fn main(rt: HostRuntime) -> ExitCode {
         Choice::Load {
             dir,
             skip,
+            check,
             set_id,
             quiet,
             limits,
         } => load_dir(
             &rt,
-            DiskSource::new(&rt, dir.as_str(), skip),
-            set_id,
-            quiet,
+            dir.as_str(),
+            &Loading {
+                skip,
+                check,
+                set_id,
+                quiet,
+            },
             limits,
         ),
         Choice::Save {
@@ -77,14 +93,17 @@ fn main(rt: HostRuntime) -> ExitCode {
             limits,
         } => save_dir(
             &rt,
-            DiskTarget::new(&rt, dir.as_str(), !no_owners),
-            set_id,
-            quiet,
+            dir.as_str(),
+            &Saving {
+                set_id,
+                no_owners,
+                quiet,
+            },
             limits,
         ),
         Choice::Jobs {
             file,
-            turns,
+            pace,
             quiet,
             rule,
             after,
@@ -95,7 +114,10 @@ fn main(rt: HostRuntime) -> ExitCode {
                 alloc,
                 core,
                 plan.as_slice(),
-                turns,
+                Pace {
+                    turns: pace.turns,
+                    threads: pace.threads,
+                },
                 screen(&rt, quiet),
                 &mut rt.stdout(),
                 &mut rt.stderr(),
@@ -168,8 +190,19 @@ fn begun_jobs(
     };
     match read_file(rt, file, LONGEST_PLAN as u64 + 1) {
         Ok(plan) => Ok((core, plan)),
-        Err(fault) => Err(failed(&mut rt.stderr(), fault_line(fault))),
+        Err(error) => Err(unread(rt, &error)),
     }
+}
+
+// Tells that a file could not be read, and why.
+fn unread(rt: &HostRuntime, error: &io::Error) -> u8 {
+    let status = failed(&mut rt.stderr(), fault_line(fault_of(error)));
+    if fault_of(error) == PlayFault::Read {
+        let causes = Causes::new();
+        causes.note(error);
+        causes.tell(rt);
+    }
+    status
 }
 
 // Prints a help text.
@@ -186,62 +219,147 @@ fn misused(rt: &HostRuntime, text: String) -> u8 {
     2
 }
 
-// Writes a script of a directory to standard output, with what it needs on its first line: no more
-// than is asked for, or where nothing is, than a core can have that is played with flags. Where
-// standard output is a terminal, it is not shown how far it has come: the script tells.
-fn load_dir(
-    rt: &HostRuntime,
-    source: DiskSource<'_>,
+// How a directory is to be loaded.
+#[derive(Clone, Copy)]
+struct Loading {
+    skip: bool,
+    check: bool,
     set_id: bool,
     quiet: bool,
-    asked: AskedLimits,
-) -> u8 {
-    let alloc = rt.alloc();
+}
+
+// Writes a script of a directory to standard output, or lists there what of it can't be loaded.
+// What the script needs is no more than is asked for, or where nothing is, than a core can have
+// that is played with flags. Ends with status 3 where something was left out.
+fn load_dir(rt: &HostRuntime, dir: &str, loading: &Loading, asked: AskedLimits) -> u8 {
+    let causes = Causes::new();
     let most = asked.over(Limits {
         links: Limits::default().links,
         ..Limits::greatest()
     });
-    let Ok(needs) = needs_of(alloc, most, set_id, &source) else {
+    load_disk(rt, dir, &causes, loading, most)
+}
+
+// The same, within these limits.
+fn load_disk<'a>(
+    rt: &'a HostRuntime,
+    dir: &'a str,
+    causes: &'a Causes,
+    loading: &Loading,
+    most: Limits,
+) -> u8 {
+    let skips = loading.skip || loading.check;
+    let disk = DiskSource::new(rt, dir, causes, skips);
+    if skips {
+        return load_rest(rt, &disk, causes, loading, most);
+    }
+    let needs = needs_of(rt.alloc(), most, loading.set_id, &disk);
+    load_from(rt, &disk, causes, loading, needs)
+}
+
+// The same where what can't be loaded is left out or listed.
+fn load_rest<'a>(
+    rt: &'a HostRuntime,
+    disk: &DiskSource<'a>,
+    causes: &'a Causes,
+    loading: &Loading,
+    most: Limits,
+) -> u8 {
+    let allowed = CopyLimits {
+        file_size: most.file_size,
+        links: most.links,
+        set_id: loading.set_id,
+    };
+    let skipping = SkippingSource::new(rt, disk, causes, allowed, loading.check);
+    let needs = needs_of(rt.alloc(), most, loading.set_id, &skipping);
+    skipping.begin();
+    let status = load_from(rt, &skipping, causes, loading, needs);
+    let Ok(has_left_out) = skipping.tell() else {
         return failed(&mut rt.stderr(), fault_line(PlayFault::Memory));
     };
-    let screen = screen(rt, quiet || rt.stdout().is_terminal());
-    let (_, status) = load_status(
+    if has_left_out && status == 0 {
+        return 3;
+    }
+    status
+}
+
+// Writes a script of a source, which needs this, to standard output, or none where the source is
+// only checked.
+fn load_from<S: Source>(
+    rt: &HostRuntime,
+    source: &S,
+    causes: &Causes,
+    loading: &Loading,
+    needs: Result<Limits, Memory>,
+) -> u8 {
+    let Ok(needs) = needs else {
+        return failed(&mut rt.stderr(), fault_line(PlayFault::Memory));
+    };
+    causes.forget();
+    let status = if loading.check {
+        load_to(rt, source, loading, needs, io::sink())
+    } else {
+        load_to(rt, source, loading, needs, Noted::new(rt.stdout(), causes))
+    };
+    if status == 1 {
+        causes.tell(rt);
+    }
+    status
+}
+
+// Hands a script of a source, which needs this, to a writer. Where standard output is a terminal,
+// it is not shown how far it has come: what is written there tells.
+fn load_to<S: Source, W: Write + Drop>(
+    rt: &HostRuntime,
+    source: &S,
+    loading: &Loading,
+    needs: Limits,
+    script: W,
+) -> u8 {
+    let alloc = rt.alloc();
+    let set_id = loading.set_id;
+    let screen = screen(rt, loading.quiet || rt.stdout().is_terminal());
+    let mut errors = rt.stderr();
+    let (_writer, status) = load_status(
         rt,
         alloc,
         needs,
         set_id,
-        &source,
+        source,
         screen,
-        rt.stdout(),
-        &mut rt.stderr(),
+        script,
+        &mut errors,
     );
     status
 }
 
+// How a directory is to be saved.
+#[derive(Clone, Copy)]
+struct Saving {
+    set_id: bool,
+    no_owners: bool,
+    quiet: bool,
+}
+
 // Makes a directory of the tree with which standard input ends, whose files are no larger than is
 // asked for.
-fn save_dir(
-    rt: &HostRuntime,
-    target: DiskTarget<'_>,
-    set_id: bool,
-    quiet: bool,
-    asked: AskedLimits,
-) -> u8 {
+fn save_dir(rt: &HostRuntime, dir: &str, saving: &Saving, asked: AskedLimits) -> u8 {
     let alloc = rt.alloc();
+    let causes = Causes::new();
     let limits = asked.over(Limits::greatest());
     let allowed = CopyLimits {
         file_size: limits.file_size,
         links: limits.links,
-        set_id,
+        set_id: saving.set_id,
     };
-    let mut target = ShownTarget::new(rt, alloc, target, screen(rt, quiet));
-    save_status(
-        alloc,
-        allowed,
-        &mut rt.stdin(),
-        &mut target,
-        &mut rt.stderr(),
-    )
+    let target = DiskTarget::new(rt, dir, &causes, !saving.no_owners);
+    let mut target = ShownTarget::new(rt, alloc, target, screen(rt, saving.quiet));
+    let mut replies = Noted::new(rt.stdin(), &causes);
+    let status = save_status(alloc, allowed, &mut replies, &mut target, &mut rt.stderr());
+    if status == 1 {
+        causes.tell(rt);
+    }
+    status
 }
 
 // A core that grants calls by this rule, on which the script in a file was played first, if there
@@ -267,7 +385,7 @@ fn core_for(
                 let limits = asked.over(raised_for(needed, script.as_slice()));
                 core_after(alloc, rule, limits, seed, Some(script.as_slice()))
             }
-            Err(fault) => return Err(failed(&mut rt.stderr(), fault_line(fault))),
+            Err(error) => return Err(unread(rt, &error)),
         },
     };
     match begun {
@@ -296,10 +414,8 @@ fn screen(rt: &HostRuntime, quiet: bool) -> Option<Stderr> {
 }
 
 // The bytes of a file, so many at most.
-fn read_file(rt: &HostRuntime, file: &str, most: u64) -> Result<Vec<u8>, PlayFault> {
+fn read_file(rt: &HostRuntime, file: &str, most: u64) -> io::Result<Vec<u8>> {
     let mut bytes = Vec::new(rt.alloc());
-    match File::open(rt, file).and_then(|file| file.take(most).read_to_end(&mut bytes)) {
-        Ok(_) => Ok(bytes),
-        Err(error) => Err(fault_of(&error)),
-    }
+    File::open(rt, file).and_then(|file| file.take(most).read_to_end(&mut bytes))?;
+    Ok(bytes)
 }

@@ -1,7 +1,7 @@
 // Jobs whose transactions are taken away while they run.
 use ft_calls::Call;
 use ft_core::{Fault, Outcome, TxnId};
-use ft_jobs::{End, JobsOutcome, OpenGate, Plan, Report, run_jobs};
+use ft_jobs::{End, JobsOutcome, OpenGate, Pace, Plan, Report, run_jobs};
 use ft_record::Recorded;
 use ft_shared::{Manager, Shared};
 use ft_test_scripts::new_shared;
@@ -71,7 +71,7 @@ fn run_aborted<R: Threads + Wait + Clock + Sync>(
         shared: new_shared(alloc)?,
         parent: AtomicU64::new(0),
     };
-    Ok(run_jobs(rt, alloc, &plan, aborting, &OpenGate, 1)?)
+    Ok(run_jobs(rt, alloc, &plan, aborting, &OpenGate, Pace::of_turns(1))?)
 }
 
 /// Whether a job has ended so, with one call that was granted.

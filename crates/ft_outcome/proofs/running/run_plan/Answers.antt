@@ -5,7 +5,7 @@ use Rattle.ft_outcome.proofs.running.run_plan.Goals as goal
 
 pub returns-clause-fault : goal.returns-clause-fault
 returns-clause-fault g c =
-    (c.as_bytes.result.now, subst (IsTextOfPlan c.args.core.state c.args.plan.now) (sym c.as_bytes.ensures.value) c.in_ok-text.ensures.ok, c.in-Err.ensures.err)
+    (c.in_ok-text.met, c.as_bytes.result.now, subst (IsTextOfPlan c.in_ok-text.met c.args.core.state c.args.plan.now) (sym c.as_bytes.ensures.value) c.in_ok-text.ensures.ok, c.in-Err.ensures.err)
 
 pub returns-in_err-text-clause-fault : goal.returns-in_err-text-clause-fault
 returns-in_err-text-clause-fault g c =

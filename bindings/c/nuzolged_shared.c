@@ -1,0 +1,168 @@
+/* A tree that threads share, as nuzolged_shared.h says: a lock, and a condition that a transaction
+ * has ended. */
+#define _POSIX_C_SOURCE 200809L /* for the clock of a condition */
+
+#include <nuzolged_cycle.h>
+#include <nuzolged_shared.h>
+
+#include <errno.h>
+#include <pthread.h>
+#include <stdlib.h>
+#include <time.h>
+
+/* How many milliseconds a thread sleeps at most before its call is made again. */
+enum { MOST_PAUSE = 50 };
+
+struct nuz_shared {
+    nuz_tree *tree;
+    pthread_mutex_t lock;
+    pthread_cond_t ended;
+};
+
+/* A call that waits. It is made again by a retry or, if it is of a copy, by make. */
+typedef struct call {
+    uint64_t txn;
+    void *buffer;
+    size_t room;
+    nuz_answer *answer;
+    nuz_copy_request *make;
+    void *request;
+} call;
+
+static bool is_ready(nuz_shared *shared) {
+    pthread_condattr_t how;
+    if (pthread_mutex_init(&shared->lock, NULL) != 0) {
+        return false;
+    }
+    bool is_set = pthread_condattr_init(&how) == 0;
+    bool is_good = is_set && pthread_condattr_setclock(&how, CLOCK_MONOTONIC) == 0
+        && pthread_cond_init(&shared->ended, &how) == 0;
+    if (is_set) {
+        pthread_condattr_destroy(&how);
+    }
+    if (!is_good) {
+        pthread_mutex_destroy(&shared->lock);
+    }
+    return is_good;
+}
+
+uint32_t nuz_shared_open(nuz_shared **shared, nuz_tree *tree) {
+    *shared = malloc(sizeof **shared);
+    if (*shared == NULL || !is_ready(*shared)) {
+        free(*shared);
+        *shared = NULL;
+        return NUZ_MEMORY;
+    }
+    (*shared)->tree = tree;
+    return 0;
+}
+
+void nuz_shared_close(nuz_shared *shared) {
+    if (shared != NULL) {
+        pthread_cond_destroy(&shared->ended);
+        pthread_mutex_destroy(&shared->lock);
+        nuz_tree_close(shared->tree);
+        free(shared);
+    }
+}
+
+nuz_tree *nuz_shared_lock(nuz_shared *shared) {
+    pthread_mutex_lock(&shared->lock);
+    return shared->tree;
+}
+
+void nuz_shared_unlock(nuz_shared *shared) {
+    pthread_mutex_unlock(&shared->lock);
+}
+
+static uint64_t now(void) {
+    struct timespec time;
+    clock_gettime(CLOCK_MONOTONIC, &time);
+    return (uint64_t)time.tv_sec * 1000 + (uint64_t)time.tv_nsec / 1000000;
+}
+
+/* Sleeps until a transaction has ended, but no longer than to that time, or for a pause. */
+static void nap(nuz_shared *shared, uint64_t begun, uint64_t end) {
+    uint64_t woken = end - begun < MOST_PAUSE ? end : begun + MOST_PAUSE;
+    struct timespec time = { (time_t)(woken / 1000), (long)(woken % 1000) * 1000000 };
+    pthread_cond_timedwait(&shared->ended, &shared->lock, &time);
+}
+
+/* Whether a transaction is part of a deadlock, which is then the answer. */
+static bool is_dead(nuz_shared *shared, const call *call) {
+    uint64_t members[NUZ_BLOCKERS] = { 0 };
+    nuz_answer told;
+    if (nuz_cycle_of(shared->tree, call->txn, members, NUZ_BLOCKERS, &told) != 0
+        || told.number == 0) {
+        return false;
+    }
+    told.code = EDEADLK;
+    memcpy(told.blockers, members, sizeof members);
+    *call->answer = told;
+    return true;
+}
+
+static void forget(nuz_shared *shared, const call *call) {
+    nuz_answer cancelled;
+    nuz_cancel(shared->tree, call->txn, &cancelled);
+    pthread_cond_broadcast(&shared->ended);
+}
+
+static uint32_t make_again(nuz_shared *shared, const call *call) {
+    return call->make != NULL
+        ? call->make(shared->tree, call->request)
+        : nuz_retry(shared->tree, call->txn, call->buffer, call->room, call->answer);
+}
+
+/* Waits for a call as long as it has to. */
+static uint32_t waited(nuz_shared *shared, const call *call, uint32_t milliseconds) {
+    uint32_t code = NUZ_WAITS;
+    uint64_t begun = now();
+    uint64_t end = milliseconds == NUZ_FOREVER ? UINT64_MAX : begun + milliseconds;
+    while (code == NUZ_WAITS) {
+        if (is_dead(shared, call)) {
+            forget(shared, call);
+            return EDEADLK;
+        }
+        begun = now();
+        if (begun >= end) {
+            forget(shared, call);
+            return NUZ_WAITS;
+        }
+        nap(shared, begun, end);
+        code = make_again(shared, call);
+    }
+    return code;
+}
+
+uint32_t nuz_shared_wait(nuz_shared *shared, uint64_t txn, uint32_t milliseconds, void *buffer,
+                         size_t room, nuz_answer *answer) {
+    call call = { txn, buffer, room, answer, NULL, NULL };
+    return answer->code == NUZ_WAITS ? waited(shared, &call, milliseconds) : answer->code;
+}
+
+uint32_t nuz_shared_commit(nuz_shared *shared, uint64_t txn, nuz_answer *answer) {
+    uint32_t code = nuz_commit(nuz_shared_lock(shared), txn, answer);
+    pthread_cond_broadcast(&shared->ended);
+    nuz_shared_unlock(shared);
+    return code;
+}
+
+uint32_t nuz_shared_abort(nuz_shared *shared, uint64_t txn, nuz_answer *answer) {
+    uint32_t code = nuz_abort(nuz_shared_lock(shared), txn, answer);
+    pthread_cond_broadcast(&shared->ended);
+    nuz_shared_unlock(shared);
+    return code;
+}
+
+uint32_t nuz_shared_around(void *context, nuz_copy_request *make, void *request) {
+    const nuz_shared_copy *copy = context;
+    nuz_answer answer;
+    call call = { copy->txn, NULL, 0, &answer, make, request };
+    uint32_t code = make(nuz_shared_lock(copy->shared), request);
+    if (code == NUZ_WAITS) {
+        code = waited(copy->shared, &call, copy->milliseconds);
+    }
+    nuz_shared_unlock(copy->shared);
+    return code;
+}

@@ -1,0 +1,30 @@
+// How jobs are run.
+ghost use Rattle.std.specs.Prelude.{◌≤◌};
+
+/// The most threads that run jobs where nothing is said of it.
+pub const USUAL_THREADS: u64 = 64;
+
+/// How jobs are run.
+#[derive(Clone, Copy, Debug)]
+pub struct Pace {
+    /// How often a call is asked for at most.
+    pub turns: u64,
+    /// How many threads run them at most.
+    pub threads: u64,
+    pub ghost some: { 1 ≤ turns },
+}
+
+impl Pace {
+    ghost use Rattle.std.specs.Prelude.{◌≡◌};
+
+    /// A call asks so often at most, and there are 64 threads at most.
+    pub fn of_turns(turns: u64) -> Pace
+        requires { 1 ≤ turns }
+        ensures { result.turns ≡ turns }
+    {
+        Pace {
+            turns,
+            threads: USUAL_THREADS,
+        }
+    }
+}

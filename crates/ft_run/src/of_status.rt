@@ -1,0 +1,176 @@
+// What no clause says: the line that tells of a fault, and what jobs came to.
+use crate::status::{jobs_status, play_status};
+use ft_after::core_after;
+use ft_core::{Limits, Rule};
+use ft_jobs::Pace;
+use ft_record::Recorded;
+use std::alloc::Global;
+use std::io;
+use std::io::{ErrorKind, Read, Write};
+use std::test::Fail;
+
+// Gives a text, and then fails.
+#[derive(Drop)]
+struct Failing<'a> {
+    text: &'a [u8],
+}
+
+impl Read for Failing<'_> {
+    fn read(&mut self, buffer: &mut [u8]) -> io::Result<usize> {
+        if self.text.is_empty() {
+            return Err(io::Error::from(ErrorKind::Other));
+        }
+        self.text.read(buffer)
+    }
+}
+
+// Takes one byte a call, as long as it has room, and then fails.
+#[derive(Drop)]
+struct Narrow {
+    held: Vec<u8>,
+    room: usize,
+}
+
+impl Narrow {
+    fn new(alloc: Global, room: usize) -> Narrow {
+        Narrow {
+            held: Vec::new(alloc),
+            room,
+        }
+    }
+}
+
+impl Write for Narrow {
+    fn write(&mut self, buffer: &[u8]) -> io::Result<usize> {
+        let Some(byte) = buffer.first() else {
+            return Ok(0);
+        };
+        if self.held.len() >= self.room {
+            return Err(io::Error::from(ErrorKind::Other));
+        }
+        self.held.push(*byte)?;
+        Ok(1)
+    }
+
+    fn flush(&mut self) -> io::Result<()> {
+        Ok(())
+    }
+}
+
+// Whether the script of a reader ends with this status and these replies, and this is what the
+// writer of errors then holds.
+fn ends_with<R: Read>(
+    alloc: Global,
+    reader: &mut R,
+    errors: &mut Narrow,
+    end: (u8, &str),
+    held: &str,
+) -> bool {
+    let mut replies = Narrow::new(alloc, 100);
+    let Ok(core) = core_after(alloc, Rule::Profile, Limits::default(), 1, None) else {
+        return false;
+    };
+    let status = play_status(alloc, core, reader, &mut replies, errors);
+    status == end.0
+        && replies.held.as_slice() == end.1.as_bytes()
+        && errors.held.as_slice() == held.as_bytes()
+}
+
+#[test]
+fn status_and_fault_line(rt: HostRuntime) -> Result<(), Fail> {
+    let alloc = rt.alloc();
+    let mut errors = Narrow::new(alloc, 16);
+    assert!(rt;
+        ends_with(
+            alloc,
+            &mut b"begin\n".as_slice(),
+            &mut errors,
+            (0, "txn 1\n"),
+            ""
+        )
+    );
+    let mut reader = Failing { text: b"begin\n" };
+    assert!(rt;
+        ends_with(
+            alloc,
+            &mut reader,
+            &mut errors,
+            (1, "txn 1\n"),
+            "fault: Read\n"
+        )
+    );
+    assert!(rt;
+        ends_with(
+            alloc,
+            &mut reader,
+            &mut errors,
+            (1, ""),
+            "fault: Read\nfaul"
+        )
+    );
+    Ok(())
+}
+
+// One job: what it came to has one outcome.
+const ONE_JOB: &[u8] = b"job a\nmkdir /a\nlist /\ncommit\n";
+
+const ONE_OUTCOME: &str =
+    "job a 1 committed\nhistory 2\ncall 2 1 mkdir /a = ok\ncall 3 1 list / = ok 1 a/\ntree 3\ndir 1\ndir 2\nedge 1 a 2\n";
+
+#[test]
+fn jobs_program_text(rt: HostRuntime) -> Result<(), Fail> {
+    let alloc = rt.alloc();
+    let mut output = Narrow::new(alloc, 200);
+    let mut errors = Narrow::new(alloc, 100);
+    let core = Recorded::new(alloc)?;
+    let status = jobs_status(
+        &rt,
+        alloc,
+        core,
+        ONE_JOB,
+        Pace::of_turns(1),
+        None::<Narrow>,
+        &mut output,
+        &mut errors,
+    );
+    assert!(rt;
+        status == 0 && output.held.as_slice() == ONE_OUTCOME.as_bytes() && errors.held.is_empty()
+    );
+    let core = Recorded::new(alloc)?;
+    let status = jobs_status(
+        &rt,
+        alloc,
+        core,
+        b"".as_slice(),
+        Pace::of_turns(1),
+        None::<Narrow>,
+        &mut output,
+        &mut errors,
+    );
+    assert!(rt; status == 1 && errors.held.as_slice() == b"fault: BadPlan\n".as_slice());
+    Ok(())
+}
+
+#[test]
+fn output_that_fails(rt: HostRuntime) -> Result<(), Fail> {
+    let alloc = rt.alloc();
+    let mut output = Narrow::new(alloc, 10);
+    let mut errors = Narrow::new(alloc, 100);
+    let core = Recorded::new(alloc)?;
+    let status = jobs_status(
+        &rt,
+        alloc,
+        core,
+        ONE_JOB,
+        Pace::of_turns(1),
+        None::<Narrow>,
+        &mut output,
+        &mut errors,
+    );
+    assert!(rt;
+        status == 1
+            && output.held.as_slice() == b"job a 1 co".as_slice()
+            && errors.held.as_slice() == b"fault: Write\n".as_slice()
+    );
+    Ok(())
+}

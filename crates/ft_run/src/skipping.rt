@@ -1,0 +1,211 @@
+// A directory on disk of which what can't be loaded is left out.
+use crate::causes::{Causes, Noted};
+use crate::disk_source::DiskSource;
+use ft_copy::{CopyLimits, FileFacts, Found, Leading, Listed, Listing, Opened, Source, Trouble};
+use ft_path::LONGEST_PATH;
+use ft_script::write_out;
+use ft_words::Coded;
+use std::alloc::AllocError;
+use std::cell::Cell;
+use std::fs::File;
+
+// Why something is left out, in the order in which that is told at the end.
+const REASONS: [Trouble; 6] = [
+    Trouble::Special,
+    Trouble::TooLarge,
+    Trouble::TooManyLinks,
+    Trouble::PathTooLong,
+    Trouble::BadName,
+    Trouble::Read,
+];
+
+/// A directory on disk, which tells of what can't be loaded as of something special, and leaves
+/// that out. To know whether something can be loaded, it is listed, opened or read when it is looked
+/// at. At the root nothing is left out.
+#[derive(Drop)]
+pub struct SkippingSource<'a, 'b> {
+    rt: &'a HostRuntime,
+    disk: &'b DiskSource<'a>,
+    causes: &'a Causes,
+    limits: CopyLimits,
+    // whether what is left out is listed on standard output, and not told on standard error
+    is_listed: bool,
+    // whether it is told and counted
+    is_told: Cell<bool>,
+    // why what was looked at last can't be loaded
+    why: Cell<Trouble>,
+    // how much was left out for each reason
+    counts: [Cell<u64>; 6],
+}
+
+impl<'a, 'b> SkippingSource<'a, 'b> {
+    /// Nothing was left out yet, and nothing is told until `begin`.
+    pub fn new(
+        rt: &'a HostRuntime,
+        disk: &'b DiskSource<'a>,
+        causes: &'a Causes,
+        limits: CopyLimits,
+        is_listed: bool,
+    ) -> SkippingSource<'a, 'b> {
+        SkippingSource {
+            rt,
+            disk,
+            causes,
+            limits,
+            is_listed,
+            is_told: Cell::new(false),
+            why: Cell::new(Trouble::Special),
+            counts: [
+                Cell::new(0),
+                Cell::new(0),
+                Cell::new(0),
+                Cell::new(0),
+                Cell::new(0),
+                Cell::new(0),
+            ],
+        }
+    }
+
+    /// From now on what is left out is told and counted.
+    pub fn begin(&self) {
+        self.is_told.set(true);
+    }
+
+    /// Tells how much was left out and why, and answers whether anything was.
+    pub fn tell(&self) -> Result<bool, AllocError> {
+        let alloc = self.rt.alloc();
+        let mut line = String::new(alloc);
+        for (reason, count) in REASONS.iter().zip(self.counts.iter()) {
+            if count.get() > 0 {
+                let front = if line.is_empty() { "left out:" } else { "," };
+                let part = format!(in alloc; "{front} {} {reason}", count.get())?;
+                line.push_str(part.as_str())?;
+            }
+        }
+        if line.is_empty() {
+            return Ok(false);
+        }
+        line.push('\n')?;
+        self.write(line.as_str());
+        Ok(true)
+    }
+
+    // Writes a line to where it is told what is left out.
+    fn write(&self, line: &str) {
+        let _ = if self.is_listed {
+            write_out(&mut self.rt.stdout(), line.as_bytes())
+        } else {
+            write_out(&mut self.rt.stderr(), line.as_bytes())
+        };
+    }
+
+    // Tells of something that is left out, and counts it.
+    fn leave_out(&self, path: &[u8], why: Trouble) -> Result<(), AllocError> {
+        self.causes.forget();
+        if !self.is_told.get() {
+            return Ok(());
+        }
+        for (reason, count) in REASONS.iter().zip(self.counts.iter()) {
+            if *reason == why {
+                count.set(count.get().saturating_add(1));
+            }
+        }
+        let path = Coded(path);
+        let line = if self.is_listed {
+            format!(in self.rt.alloc(); "{why} {path}\n")?
+        } else {
+            format!(in self.rt.alloc(); "left out: {path}\n")?
+        };
+        self.write(line.as_str());
+        Ok(())
+    }
+
+    // Looks at a place, and fails for the reason why what stands there can't be loaded.
+    fn try_out(&self, path: &[u8], node: u64) -> Result<Found, Trouble> {
+        let found = self.disk.look(path, node)?;
+        match found {
+            Found::Folder(_) => {
+                self.disk.names(path, node)?;
+            }
+            Found::File(file) => {
+                self.judge(file.facts)?;
+                if file.facts.size > self.limits.file_size {
+                    return Err(Trouble::TooLarge);
+                }
+                self.disk.open(path, node)?;
+            }
+            Found::Symlink(facts) => {
+                self.judge(facts)?;
+                self.disk.read_link(path, node)?;
+            }
+            Found::Special => return Err(Trouble::Special),
+        }
+        Ok(found)
+    }
+
+    // Fails where something has too many names.
+    fn judge(&self, facts: FileFacts) -> Result<(), Trouble> {
+        if facts.links > self.limits.links {
+            return Err(Trouble::TooManyLinks);
+        }
+        Ok(())
+    }
+
+    // Leaves out a name of a directory by which the path is too long, and answers whether it does.
+    fn is_too_long(&self, path: &[u8], listed: &Listed) -> Result<bool, Trouble> {
+        let name = listed.name.as_bytes();
+        if path.len().saturating_add(name.len()) < LONGEST_PATH {
+            return Ok(false);
+        }
+        let mut child = Vec::from_slice(self.rt.alloc(), path)?;
+        child.push(b'/')?;
+        child.extend_from_slice(name)?;
+        self.leave_out(child.as_slice(), Trouble::PathTooLong)?;
+        Ok(true)
+    }
+}
+
+impl<'a> Source for SkippingSource<'a, '_> {
+    type File = Noted<'a, File>;
+
+    fn names(&self, path: &[u8], node: u64) -> Result<Listing, Trouble> {
+        let listing = self.disk.names(path, node)?;
+        let mut names = Vec::new(self.rt.alloc());
+        for listed in listing.names {
+            if !self.is_too_long(path, &listed)? {
+                names.push(listed)?;
+            }
+        }
+        Ok(Listing {
+            id: listing.id,
+            names,
+        })
+    }
+
+    fn look(&self, path: &[u8], node: u64) -> Result<Found, Trouble> {
+        if path.is_empty() {
+            return self.disk.look(path, node);
+        }
+        match self.try_out(path, node) {
+            Err(Trouble::Memory) => Err(Trouble::Memory),
+            Err(why) => {
+                self.why.set(why);
+                Ok(Found::Special)
+            }
+            Ok(found) => Ok(found),
+        }
+    }
+
+    fn open(&self, path: &[u8], node: u64) -> Result<Opened<Noted<'a, File>>, Trouble> {
+        self.disk.open(path, node)
+    }
+
+    fn read_link(&self, path: &[u8], node: u64) -> Result<Leading, Trouble> {
+        self.disk.read_link(path, node)
+    }
+
+    fn omits(&self, path: &[u8]) -> Result<bool, Trouble> {
+        self.leave_out(path, self.why.get())?;
+        Ok(true)
+    }
+}

@@ -1,0 +1,210 @@
+// The status that the program ends with.
+ghost use Rattle.std.specs.Prelude.{◌≡◌, ◌⊎◌, true, false};
+ghost use Rattle.std.specs.Io.KnownBytes.{Keeps};
+ghost use Rattle.ft_dot.specs.Drawn.{Draws, StopsDrawing};
+ghost use Rattle.ft_outcome.specs.Runs.{RunsPlan, StopsPlan};
+ghost use Rattle.ft_run.specs.FaultLines.{TellsLine, after_line, fault_line, run_fault_line, save_line, stopped_line};
+ghost use Rattle.ft_script.specs.Runs.{AnswersFreely, PlaysAll, StopsAt, WritesFront};
+ghost use Rattle.ft_core.specs.Living.{NoneIsLive};
+ghost use Rattle.ft_core.specs.States.{State};
+ghost use Rattle.ft_load.specs.Loads.{Loads, StopsLoad};
+ghost use Rattle.ft_save.specs.Saves.{IsLeft, Saves, StopsSave};
+
+use crate::faults::{fault_line, run_fault_line, trouble_name};
+use ft_after::AfterFault;
+use ft_copy::{CopyLimits, Source, Stopped, Target};
+use ft_core::{Core, Limits};
+use ft_dot::draw;
+use ft_jobs::Pace;
+use ft_load::load;
+use ft_outcome::{RunFault, run_plan};
+use ft_record::Recorded;
+use ft_save::{SaveFault, save};
+use ft_script::{PlayFault, play, write_out};
+use ft_shown::ShownSource;
+use ft_words::Data;
+use std::alloc::Global;
+use std::io::{Read, Write};
+use std::sync::Wait;
+use std::thread::Threads;
+use std::time::Clock;
+
+/// Runs a script on a core, and answers the status to end with: 0, or 1 after a fault, of which a
+/// line tells on `errors`. Where that line can't be written, the status is the same.
+pub fn play_status<R: Read, W: Write, E: Write>(
+    alloc: Global,
+    core: Core,
+    reader: &mut R,
+    writer: &mut W,
+    errors: &mut E,
+) -> u8
+    ensures status { (result ≡ 0) ⊎ (result ≡ 1) }
+    ensures quiet { result ≡ 0 → Keeps (E.contents errors.old) (E.contents errors.new) }
+    ensures ok { result ≡ 0 → (new : State) × PlaysAll AnswersFreely (R.remaining reader.old) (R.remaining reader.new)
+        (W.contents writer.old) (W.contents writer.new) core.state new }
+    ensures fault { result ≡ 1 → (fault : PlayFault) × (new : State) × StopsAt AnswersFreely fault (R.remaining reader.old) (R.remaining reader.new)
+        (W.contents writer.old) (W.contents writer.new) core.state new
+        × WritesFront (E.contents errors.old) (E.contents errors.new) (fault_line fault) }
+{
+    let mut core = core;
+    match play(alloc, reader, writer, &mut core) {
+        Ok(()) => 0,
+        Err(fault) => failed(errors, fault_line(fault)),
+    }
+}
+
+/// Draws the last report on who waits for whom, and answers the status to end with: 0, or 1 after a
+/// fault, of which a line tells on `errors`. Where that line can't be written, the status is the
+/// same.
+pub fn dot_status<R: Read, W: Write, E: Write>(
+    alloc: Global,
+    reader: &mut R,
+    writer: &mut W,
+    errors: &mut E,
+) -> u8
+    ensures status { (result ≡ 0) ⊎ (result ≡ 1) }
+    ensures quiet { result ≡ 0 → Keeps (E.contents errors.old) (E.contents errors.new) }
+    ensures ok { result ≡ 0 → Draws (R.remaining reader.old) (R.remaining reader.new)
+        (W.contents writer.old) (W.contents writer.new) }
+    ensures fault { result ≡ 1 → (fault : PlayFault) × StopsDrawing fault (R.remaining reader.old)
+        (R.remaining reader.new) (W.contents writer.old) (W.contents writer.new)
+        × WritesFront (E.contents errors.old) (E.contents errors.new) (fault_line fault) }
+{
+    match draw(alloc, reader, writer) {
+        Ok(()) => 0,
+        Err(fault) => failed(errors, fault_line(fault)),
+    }
+}
+
+/// Runs the jobs of a plan on a core where no transaction is live, and answers the status to end
+/// with: 0; 3 where the plan is strict and a job did not end as it means; or 1 after a fault, of
+/// which a line tells on `errors`. Where that line can't be written, the status is the same. How
+/// far the jobs have come is shown on a screen while they run, if there is one.
+pub fn jobs_status<R: Threads + Wait + Clock + Sync, S: Write + Send + Drop, W: Write, E: Write>(
+    rt: &R,
+    alloc: Global,
+    core: Recorded,
+    plan: &[u8],
+    pace: Pace,
+    screen: Option<S>,
+    writer: &mut W,
+    errors: &mut E,
+) -> u8
+    requires { NoneIsLive core.state }
+    ensures status { (result ≡ 0) ⊎ (result ≡ 1) ⊎ (result ≡ 3) }
+    ensures quiet { (result ≡ 0) ⊎ (result ≡ 3) → Keeps (E.contents errors.old) (E.contents errors.new) }
+    ensures ok { result ≡ 0 → RunsPlan true core.state plan.now (W.contents writer.old) (W.contents writer.new) }
+    ensures unmet { result ≡ 3 → RunsPlan false core.state plan.now (W.contents writer.old) (W.contents writer.new) }
+    ensures fault { result ≡ 1 → (fault : RunFault) × StopsPlan fault core.state plan.now (W.contents writer.old) (W.contents writer.new)
+        × WritesFront (E.contents errors.old) (E.contents errors.new) (run_fault_line fault) }
+{
+    match run_plan(rt, alloc, core, plan, pace, screen, writer) {
+        Ok(is_met) if is_met => 0,
+        Ok(_) => 3,
+        Err(fault) => failed(errors, run_fault_line(fault)),
+    }
+}
+
+/// Tells of a fault by its line, and answers the status that it ends with.
+pub fn failed<E: Write>(errors: &mut E, line: &str) -> u8
+    ensures status { result ≡ 1 }
+    ensures line { WritesFront (E.contents errors.old) (E.contents errors.new) line.now }
+{
+    let _ = write_out(errors, line.as_bytes());
+    1
+}
+
+/// Tells why a script was not played first, and answers the status that it ends with. Where there
+/// is no memory for the line, that is told.
+pub fn after_failed<E: Write>(alloc: Global, errors: &mut E, fault: AfterFault) -> u8
+    ensures status { result ≡ 1 }
+    ensures line { TellsLine (E.contents errors.old) (E.contents errors.new) (after_line fault) }
+{
+    let number = match fault {
+        AfterFault::Memory => return failed(errors, fault_line(PlayFault::Memory)),
+        AfterFault::BadLimits => return failed(errors, "fault: BadLimits\n"),
+        AfterFault::Script(number) => number,
+    };
+    match format!(in alloc; "fault: Script {number}\n") {
+        Ok(line) => failed(errors, line.as_str()),
+        Err(_) => failed(errors, fault_line(PlayFault::Memory)),
+    }
+}
+
+/// Writes a script of what a source tells, for a core with these limits, with the bits S_ISUID and
+/// S_ISGID of modes or without, and answers the writer and the status to end with: 0, or 1 after a
+/// fault, of which a line tells on `errors`, with the path where it came. How far it has come is
+/// shown on a screen meanwhile, if there is one.
+pub fn load_status<R: Clock, S: Source, V: Write + Drop, W: Write, E: Write>(
+    rt: &R,
+    alloc: Global,
+    limits: Limits,
+    set_id: bool,
+    source: &S,
+    screen: Option<V>,
+    writer: W,
+    errors: &mut E,
+) -> (W, u8)
+    ensures status { (result.1 ≡ 0) ⊎ (result.1 ≡ 1) }
+    ensures quiet { result.1 ≡ 0 → Keeps (E.contents errors.old) (E.contents errors.new) }
+    ensures ok { result.1 ≡ 0 → Loads limits set_id (S.tells source.now) (W.contents writer) (W.contents result.0) }
+    ensures fault { result.1 ≡ 1 → (stopped : Stopped) × StopsLoad limits set_id (S.tells source.now) stopped (W.contents writer) (W.contents result.0)
+        × TellsLine (E.contents errors.old) (E.contents errors.new) (stopped_line stopped) }
+{
+    let shown = ShownSource::new(rt, alloc, source, screen);
+    let (writer, loaded) = load(alloc, limits, set_id, &shown, writer);
+    shown.done();
+    let status = match loaded {
+        Ok(()) => 0,
+        Err(stopped) => stopped_failed(alloc, errors, &stopped),
+    };
+    (writer, status)
+}
+
+/// Makes the tree with which replies end, if its files are within these limits, and answers the
+/// status to end with: 0, or 1 after a fault, of which a line tells on `errors`, with the path where
+/// it came.
+pub fn save_status<R: Read, T: Target, E: Write>(
+    alloc: Global,
+    limits: CopyLimits,
+    reader: &mut R,
+    target: &mut T,
+    errors: &mut E,
+) -> u8
+    ensures status { (result ≡ 0) ⊎ (result ≡ 1) }
+    ensures quiet { result ≡ 0 → Keeps (E.contents errors.old) (E.contents errors.new) }
+    ensures ok { result ≡ 0 → Saves limits (R.remaining reader.old) (R.remaining reader.new) T.does target.old target.new }
+    ensures left { result ≡ 1 → IsLeft T.does T.fails target.old target.new }
+    ensures fault { result ≡ 1 → (fault : SaveFault) × StopsSave limits T.does T.fails fault (R.remaining reader.old) (R.remaining reader.new) target.old target.new
+        × TellsLine (E.contents errors.old) (E.contents errors.new) (save_line fault) }
+{
+    match save(alloc, limits, reader, target) {
+        Ok(()) => 0,
+        Err(fault) => save_failed(alloc, errors, &fault),
+    }
+}
+
+// Tells why nothing was saved.
+fn save_failed<E: Write>(alloc: Global, errors: &mut E, fault: &SaveFault) -> u8
+    ensures status { result ≡ 1 }
+    ensures line { TellsLine (E.contents errors.old) (E.contents errors.new) (save_line fault.now) }
+{
+    match fault {
+        SaveFault::Replies(fault) => failed(errors, fault_line(*fault)),
+        SaveFault::NoTree => failed(errors, "fault: NoTree\n"),
+        SaveFault::Stopped(stopped) => stopped_failed(alloc, errors, stopped),
+    }
+}
+
+// Tells why a copy was not made, and where. Where there is no memory for the line, that is told.
+fn stopped_failed<E: Write>(alloc: Global, errors: &mut E, stopped: &Stopped) -> u8
+    ensures status { result ≡ 1 }
+    ensures line { TellsLine (E.contents errors.old) (E.contents errors.new) (stopped_line stopped.now) }
+{
+    let name = trouble_name(stopped.trouble);
+    let path = Data(stopped.path.as_slice());
+    match format!(in alloc; "fault: {name}{path}\n") {
+        Ok(line) => failed(errors, line.as_str()),
+        Err(_) => failed(errors, fault_line(PlayFault::Memory)),
+    }
+}

@@ -1,0 +1,82 @@
+// The status that a strict script ends with.
+ghost use Rattle.std.specs.Prelude.{◌≡◌, ◌⊎◌, IfOk};
+ghost use Rattle.std.specs.Io.KnownBytes.{Keeps};
+ghost use Rattle.ft_core.specs.States.{State};
+ghost use Rattle.ft_script.specs.Runs.{PlaysAll, StopsAt, StopsStrictly, WritesFront};
+ghost use Rattle.ft_script.specs.declared.strictly.FailedLine.{FailedLine as Failed};
+ghost use Rattle.ft_script.specs.declared.strictly.StrictFault.TheVariants.{Line};
+ghost use Rattle.ft_run.specs.FaultLines.{TellsLine, fault_line, shown_of, strict_line};
+ghost use Rattle.ft_strict.specs.Strict.{AnswersStrictly};
+
+use crate::faults::fault_line;
+use crate::status::failed;
+use ft_core::Core;
+use ft_script::{FailedLine, PlayFault, StrictFault, play_strictly, write_out};
+use std::alloc::{AllocError, Global};
+use std::io::{Read, Write};
+
+// So many bytes of a line are shown.
+const LONGEST_SHOWN: usize = 200;
+
+/// Runs a strict script on a core, and answers the status to end with: 0; 1 after a fault of
+/// reading, writing or memory; or 3 after the first line that did not do what it asks for. Of both
+/// a line tells on `errors`. Where that can't be written, the status is the same.
+pub fn play_strictly_status<R: Read, W: Write, E: Write>(
+    alloc: Global,
+    core: Core,
+    reader: &mut R,
+    writer: &mut W,
+    errors: &mut E,
+) -> u8
+    ensures status { (result ≡ 0) ⊎ (result ≡ 1) ⊎ (result ≡ 3) }
+    ensures quiet { result ≡ 0 → Keeps (E.contents errors.old) (E.contents errors.new) }
+    ensures ok { result ≡ 0 → (new : State) × PlaysAll AnswersStrictly (R.remaining reader.old) (R.remaining reader.new)
+        (W.contents writer.old) (W.contents writer.new) core.state new }
+    ensures fault { result ≡ 1 → (fault : PlayFault) × (new : State) × StopsAt AnswersStrictly fault (R.remaining reader.old) (R.remaining reader.new)
+        (W.contents writer.old) (W.contents writer.new) core.state new
+        × WritesFront (E.contents errors.old) (E.contents errors.new) (fault_line fault) }
+    ensures failed { result ≡ 3 → (failed : Failed) × (new : State) × StopsStrictly (Line failed) (R.remaining reader.old) (R.remaining reader.new)
+        (W.contents writer.old) (W.contents writer.new) core.state new
+        × TellsLine (E.contents errors.old) (E.contents errors.new) (strict_line failed) }
+{
+    let mut core = core;
+    match play_strictly(alloc, reader, writer, &mut core) {
+        Ok(()) => 0,
+        Err(StrictFault::Play(fault)) => failed(errors, fault_line(fault)),
+        Err(StrictFault::Line(line)) => line_failed(alloc, errors, &line),
+    }
+}
+
+// Tells which line did not do what it asks for, and answers the status that it ends with. Where
+// there is no memory for that, that is told.
+fn line_failed<E: Write>(alloc: Global, errors: &mut E, failed: &FailedLine) -> u8
+    ensures status { result ≡ 3 }
+    ensures line { TellsLine (E.contents errors.old) (E.contents errors.new) (strict_line failed.now) }
+{
+    let _ = match strict_line(alloc, failed) {
+        Ok(text) => write_out(errors, text.as_slice()),
+        Err(_) => write_out(errors, fault_line(PlayFault::Memory).as_bytes()),
+    };
+    3
+}
+
+// The line that tells of it.
+fn strict_line(alloc: Global, failed: &FailedLine) -> Result<Vec<u8>, AllocError>
+    ensures { IfOk result (λ text. text.items ≡ strict_line failed.now) }
+{
+    let number = format!(in alloc; "fault: Strict {}: ", failed.number)?;
+    let mut text = Vec::new(alloc);
+    text.extend_from_slice(number.as_bytes())?;
+    text.extend_from_slice(shown(failed.line.as_slice()))?;
+    text.extend_from_slice(b" = ".as_slice())?;
+    text.extend_from_slice(failed.reply.as_bytes())?;
+    Ok(text)
+}
+
+// A line as it is shown: without the one carriage return at its end, and not too much of it.
+fn shown(line: &[u8]) -> &[u8]
+    ensures { result.now ≡ shown_of line.now }
+{
+    let line = line.strip_suffix(b"\r".as_slice()).unwrap_or(line);
+    &line[..line.len().min(LONGEST_SHOWN)]
+}

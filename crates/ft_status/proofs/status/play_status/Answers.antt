@@ -1,9 +1,0 @@
-use Rattle.std.proofs.Common.{subst}
-use Rattle.ft_script.specs.Runs.{WritesFront}
-use Rattle.ft_status.proofs.status.play_status.Goals as goal
-
-pub returns-clause-fault : goal.returns-clause-fault
-returns-clause-fault g c one =
-    let before = g.E.Write.contents c.args.errors.now in
-    let after = g.E.Write.contents c.failed.new.errors in
-    (c.in-Err.fault, c.play.new.core.state, c.in-Err.ensures.fault, subst (WritesFront before after) c.fault_line.ensures c.failed.ensures.line)

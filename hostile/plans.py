@@ -1,0 +1,175 @@
+"""Strict plans: jobs by chance, and whether what the program writes keeps the rules for them.
+
+The rules (docs/SCRIPT.md, Strict plans) are written here a second time. Threads may come in any
+order, so no outcome is expected: each is judged by itself.
+"""
+import collections
+import random
+import re
+import tempfile
+
+import playing
+
+# How many plans are run.
+TIMES = 100
+
+PATHS = ("/a", "/b", "/a/x", "/a/y", "/b/x")
+CALLS = ("mkdir {}", "rmdir {}", "stat {}", "list {}", "open wc {}", "unlink {}")
+
+Job = collections.namedtuple("Job", "name parent is_must after steps")
+Call = collections.namedtuple("Call", "stamp words reply")
+Told = collections.namedtuple("Told", "txn end calls")
+
+
+def tests():
+    return [("strict plans keep their rules", strict_plans)]
+
+
+def strict_plans(bench):
+    for seed in range(TIMES):
+        chance = random.Random(seed)
+        jobs = some_jobs(chance)
+        fault = fault_of_plan(bench, jobs, flags(chance))
+        if fault is not None:
+            return f"seed {seed}: {fault}"
+    return None
+
+
+def fault_of_plan(bench, jobs, words):
+    """Runs a plan of these jobs. Why it breaks a rule, or nothing."""
+    with tempfile.NamedTemporaryFile(suffix=".plan") as file:
+        file.write(text_of(jobs).encode())
+        file.flush()
+        ran = playing.run([bench.program, "jobs", *words, file.name])
+    if ran.status not in (0, 3) or ran.errors:
+        return f"{ran}"
+    told = told_by(jobs, ran.text.decode())
+    if ran.status != (0 if all(map(is_met, told.values())) else 3):
+        return f"{ran}"
+    faults = ((job.name, fault_of_job(job, jobs, told)) for job in jobs)
+    return next((f"{name} {why}: {ran}" for name, why in faults if why is not None), None)
+
+
+# ---- plans by chance
+
+
+def flags(chance):
+    rule = ["--moss"] if chance.random() < 0.3 else []
+    return rule + ["--turns", chance.choice("125"), "--threads", chance.choice(("1", "2", "64"))]
+
+
+def some_jobs(chance):
+    """Up to eight jobs, whose subjobs and order are by chance."""
+    heads = []
+    for number in range(chance.randint(1, 8)):
+        name = f"j{number}"
+        parent = chance.choice(heads)[0] if heads and chance.random() < 0.6 else None
+        beside = [head[0] for head in heads if head[1] == parent]
+        after = chance.sample(beside, min(len(beside), chance.choice((0, 0, 1, 2))))
+        heads.append((name, parent, parent is not None and chance.random() < 0.4, after))
+    parents = {head[1] for head in heads}
+    return [Job(*head, some_steps(chance, head[0] in parents)) for head in heads]
+
+
+def some_steps(chance, has_subjobs):
+    """Calls, most of them tried, and the steps that a job has to have."""
+    calls = [chance.choice(CALLS).format(chance.choice(PATHS)) for _ in range(chance.randint(0, 4))]
+    steps = ["try " + call if chance.random() < 0.7 else call for call in calls]
+    if has_subjobs:
+        steps.insert(chance.randint(0, len(steps)), "subs")
+    return steps + ["commit" if chance.random() < 0.9 else "abort"]
+
+
+def text_of(jobs):
+    lines = ["strict"]
+    for job in jobs:
+        names = [job.name] + ([job.parent] if job.parent else [])
+        lines.append(" ".join(["job"] + ["must"] * job.is_must + names))
+        lines += [" ".join(["after"] + job.after)] * bool(job.after) + job.steps
+    return "\n".join(lines) + "\n"
+
+
+# ---- what became of the jobs
+
+
+def told_by(jobs, text):
+    """For each job what the program tells of it."""
+    lines = text.splitlines()
+    calls = collections.defaultdict(list)
+    for line in lines[len(jobs) + 1 :]:
+        found = re.fullmatch(r"call (\d+) (\d+) (.*) = (.*)", line)
+        if found:
+            calls[found[2]].append(Call(int(found[1]), found[3], found[4]))
+    told = {}
+    for job, line in zip(jobs, lines):
+        txn, end = line.removeprefix(f"job {job.name} ").split(" ", 1)
+        told[job.name] = Told(txn, end, calls[txn])
+    return told
+
+
+def is_met(told):
+    """Whether a job was ended by its last step."""
+    return told.end in ("committed", "aborted")
+
+
+def is_failed(call):
+    return re.fullmatch("E[A-Z]+", call.reply) is not None
+
+
+def may_not_fail(step):
+    return not step.startswith("try ")
+
+
+def made(steps):
+    """Those of some steps that are calls."""
+    return [step for step in steps if step not in ("subs", "commit", "abort")]
+
+
+def fault_of_job(job, jobs, told):
+    """Which rule a job breaks, or nothing."""
+    mine = told[job.name]
+    if mine.end == "notstarted":
+        return None if may_be_unstarted(job, jobs, told) and not mine.calls else "was not started"
+    if not all(is_before(told[name], mine) for name in job.after):
+        return "started early"
+    pairs = zip(made(job.steps), mine.calls)
+    failed = [may_not_fail(step) and is_failed(call) for step, call in pairs]
+    if any(failed[:-1]):
+        return "went on behind a call that failed"
+    musts = [other for other in jobs if other.is_must and other.parent == job.name]
+    is_spared = all(is_met(told[other.name]) for other in musts)
+    if is_met(mine):
+        is_whole = len(mine.calls) == len(made(job.steps)) and not any(failed)
+        return None if is_whole and is_spared else "ended in spite of a failure"
+    return fault_of_failure(job, mine, any(failed), is_spared)
+
+
+def fault_of_failure(job, mine, has_failed, is_spared):
+    """Why a job can't have failed as it is told to, or nothing."""
+    before = job.steps[: int(mine.end.removeprefix("failed ")) - 1]
+    step = job.steps[len(before)]
+    if step == "subs":
+        is_right = not is_spared and not has_failed and len(mine.calls) == len(made(before))
+    else:
+        is_right = len(mine.calls) == len(made(before)) + has_failed
+        is_right &= step not in ("commit", "abort") and (is_spared or "subs" not in before)
+    return None if is_right else "failed elsewhere"
+
+
+def is_before(other, mine):
+    """Whether a job that has committed did so before another one made a call."""
+    stamps = [call.stamp for call in other.calls[-1:] + mine.calls[:1]]
+    return other.end == "committed" and stamps == sorted(stamps)
+
+
+def may_be_unstarted(job, jobs, told):
+    """Whether its parent did not come to its subjobs, or one before it has not committed."""
+    if any(told[name].end != "committed" for name in job.after):
+        return True
+    around = next((other for other in jobs if other.name == job.parent), None)
+    if around is None:
+        return False
+    end = told[around.name].end
+    if end.startswith("failed "):
+        return "subs" not in around.steps[: int(end.removeprefix("failed "))]
+    return end == "notstarted"
