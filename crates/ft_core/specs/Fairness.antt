@@ -1,24 +1,31 @@
 -- Fair waiting: a call that nobody is in the way of waits behind older asks that conflict with it.
 -- Who has asked before whom is for the caller to say. (Rules of this project.)
-use Rattle.std.specs.Prelude.{ℕ, Bool, cond, not, ◌==◌, ◌&&◌, ◌||◌, List, [], ◌∷◌, Option, Some, None, map, position, take}
+use Rattle.std.specs.Prelude.{ℕ, Bool, cond, not, ◌==◌, ◌&&◌, ◌||◌, nat_lt, List, [], ◌∷◌, Option, Some, None, map, position, take}
 use Rattle.std.specs.FinMap as finite
 use Rattle.std.specs.List.{list_any}
+use Rattle.ft_cells.specs.CellOrder.{cell_number}
 use Rattle.ft_posix.specs.declared.call.Call.{Call}
 use Rattle.ft_posix.specs.declared.call.Access.{Access}
-use Rattle.ft_posix.specs.Accesses.{some_conflict}
+use Rattle.ft_posix.specs.Accesses.{conflict}
 use Rattle.ft_posix.specs.Posix.{posix_calls}
 use Rattle.ft_history.specs.History.{over}
-use Rattle.ft_core.specs.States.{State, history, accesses_now}
+use Rattle.ft_core.specs.States.{State, history, next_stamp, accesses_now}
 use Rattle.ft_core.specs.Steps.{BlockingRule, exact_rule}
 
 -- one of two transactions is the other or above it
 abbrev pub are_related : State → ℕ → ℕ → Bool
 are_related s t u = over posix_calls (history s) t u || over posix_calls (history s) u t
 
+-- Some access of one list conflicts with some of another on what is there: its number is below the
+-- next stamp. What a call makes gets the stamp as its number, so as things stand all calls that make
+-- something access the same number there; but no two of them will be made with one stamp.
+abbrev pub conflict_there : State → List Access → List Access → Bool
+conflict_there s xs ys = list_any (λ a. nat_lt (cell_number a.cell) (next_stamp s) && list_any (conflict a) ys) xs
+
 -- u, which waits for a call, holds back a call of t with these accesses: it is one of those ahead,
--- it is neither t nor above or below it, and the two calls conflict
+-- it is neither t nor above or below it, and the two calls conflict on what is there
 abbrev pub holds_back : List ℕ → State → ℕ → List Access → ℕ → Call → Bool
-holds_back ahead s t accesses u call = list_any (λ x. x == u) ahead && not (are_related s t u) && some_conflict (accesses_now s call) accesses
+holds_back ahead s t accesses u call = list_any (λ x. x == u) ahead && not (are_related s t u) && conflict_there s (accesses_now s call) accesses
 
 -- one more, where it holds back
 abbrev pub with_holder : Bool → ℕ → List ℕ → List ℕ

@@ -9,7 +9,7 @@ ghost use Rattle.ft_core.specs.declared.request.Request.TheVariants.{Ask, Retry}
 ghost use Rattle.ft_core.specs.Fairness.{are_related, fair_rule, holders, holders_of, holds_back, in_front, waits_behind, waits_behind_from};
 ghost use Rattle.ft_core.specs.Journals.{asked_for};
 ghost use Rattle.ft_core.specs.Reports.{as_wait};
-ghost use Rattle.ft_core.specs.States.{accesses_now, after_wait, fate_of, has_most_calls};
+ghost use Rattle.ft_core.specs.States.{accesses_now, after_wait, fate_of, has_most_calls, next_stamp};
 ghost use Rattle.ft_core.specs.Steps.{IsStep, IsAsked, answer_with, outcome_answer};
 
 use crate::conflicts::some_conflict;
@@ -32,8 +32,8 @@ struct Behind<'a> {
 impl Core {
     /// Makes a call in a transaction as `ask` does, or answers which transactions it waits for, in
     /// rising order: those for which it would wait by `ask`, and where there is none of these, those
-    /// of `ahead` that hold it back. Such a one waits for a call that conflicts with this one, and is
-    /// neither the asker nor above or below it.
+    /// of `ahead` that hold it back. Such a one waits for a call that conflicts with this one on what
+    /// is there already, and is neither the asker nor above or below it.
     ///
     /// Refuses what `ask` refuses, in its order.
     pub fn ask_behind(&mut self, txn: TxnId, call: Call, ahead: &[TxnId]) -> Result<Outcome, Fault>
@@ -169,7 +169,15 @@ impl Core {
             return Ok(false);
         }
         let touched = self.touched(call)?;
-        Ok(some_conflict(touched.as_slice(), behind.touched))
+        let next = self.next_number();
+        Ok(some_conflict(touched.as_slice(), behind.touched, next))
+    }
+
+    /// The number that the next call gives to what it makes.
+    fn next_number(&self) -> u64
+        ensures { result ≡ next_stamp self.now.state }
+    {
+        self.journal.next_stamp()
     }
 
     /// Whether one of two transactions is the other or above it.
