@@ -39,3 +39,6 @@ pub mod Fronts
 pub mod Memos
 pub mod Tried
 pub mod Learning
+pub mod Behind
+pub mod Deciding
+pub mod Same

@@ -14,7 +14,7 @@ use Rattle.ft_core.specs.declared.request.Event.{Event}
 use Rattle.ft_core.specs.declared.request.Event.TheVariants.{Begin, Call as CallEvent, Undo, Commit, Abort}
 
 -- A history of calls on a tree: what has happened, newest first, as events of
--- ft_history at the twenty calls.
+-- ft_history at the twenty-eight calls.
 abbrev pub History : Type 0
 History = List (Happening posix_calls)
 

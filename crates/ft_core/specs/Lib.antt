@@ -21,3 +21,4 @@ pub mod PastCode
 pub mod Noted
 pub mod FullOutcomes
 pub mod Memos
+pub mod Fairness

@@ -114,7 +114,7 @@ impl Core {
 
     /// Makes a call if there may be one more, or notes that the transaction waits for it: the call
     /// that is requested now, or without one the call that the transaction waits for already.
-    fn request(&mut self, txn: TxnId, asked: Option<Call>) -> Result<Outcome, Fault>
+    pub(crate) fn request(&mut self, txn: TxnId, asked: Option<Call>) -> Result<Outcome, Fault>
         requires few { has_most_calls self.old.state ≡ false }
         requires live { fate_of self.old.state txn ≡ Some Live }
         requires some { IsSome (asked_for asked (finite.get self.old.state.asks txn)) }

@@ -4,7 +4,9 @@
 
 mod asking;
 mod clearing;
+mod conflicts;
 mod ending;
+mod fairness;
 mod fault;
 mod journal;
 pub mod laws;
@@ -18,6 +20,7 @@ mod request;
 mod running;
 mod sweeping;
 
+pub use fairness::in_front;
 pub use fault::Fault;
 pub use ft_forest::{
     DEFAULT_DEPTH, DEFAULT_TRANSACTIONS, LAST_NUMBER, MOST_TRANSACTIONS, State, TxnId,

@@ -57,7 +57,7 @@ impl Core {
     }
 
     /// Returns the transactions that block a call now, in rising order.
-    fn blockers_now(&self, txn: TxnId, call: &Call) -> Result<Vec<TxnId>, Memory>
+    pub(crate) fn blockers_now(&self, txn: TxnId, call: &Call) -> Result<Vec<TxnId>, Memory>
         ensures blockers { IfOk result (λ blockers. blockers.items ≡ blockers_now self.now.state txn call.now) }
         ensures rising { IfOk result (λ blockers. Pairs (λ x y. x < y) blockers.items) }
     {

@@ -1,6 +1,4 @@
 pub mod Accounts
-pub mod Deciding
-pub mod Same
 pub mod Told
 pub mod Ending
 pub mod Following

@@ -43,7 +43,7 @@ impl CallReport {
     }
 
     /// Whether it is of this call.
-    #[tactic(auto, using(crate::proofs::Same::same_calls))]
+    #[tactic(auto, using(ft_core::proofs::Same::same_calls))]
     pub(crate) fn is_of(&self, call: &Call) -> bool
         ensures { IsTrue result ↔ (self.now.call ≡ call.now) }
     {
@@ -51,7 +51,7 @@ impl CallReport {
     }
 
     /// Whether it has this reply.
-    #[tactic(auto, using(crate::proofs::Same::same_replies))]
+    #[tactic(auto, using(ft_core::proofs::Same::same_replies))]
     pub(crate) fn has_reply(&self, reply: &Reply) -> bool
         ensures { IsTrue result ↔ (self.now.reply ≡ reply.now) }
     {

@@ -1,3 +1,4 @@
 pub mod Buffers
 pub mod Parts
 pub mod Sessions
+pub mod Turns

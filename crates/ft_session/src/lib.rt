@@ -5,6 +5,7 @@
 mod copying;
 mod last;
 mod session;
+mod turns;
 
 pub use copying::copy_into;
 pub use last::Last;

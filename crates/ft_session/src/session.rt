@@ -8,7 +8,7 @@ ghost use Rattle.ft_core.specs.declared.request.Request.TheVariants.{Ask, Checkp
 ghost use Rattle.ft_core.specs.Steps.{IsStep, exact_rule};
 ghost use Rattle.ft_replies.specs.declared.line.Line.TheVariants.{Bad as BadLine};
 ghost use Rattle.ft_replies.specs.Requests.{meaning_of};
-ghost use Rattle.ft_session.specs.Sessions.{HasAnswered, HasTold, IsCarriedOut, IsSame, MayHaveTold};
+ghost use Rattle.ft_session.specs.Sessions.{HasAnswered, HasStepped, HasTold, IsCarriedOut, IsSame, KeepsTurns, MayHaveTold};
 
 use crate::last::Last;
 use ft_base::{Memory, Sequence};
@@ -41,17 +41,26 @@ impl From<Memory> for LineFault {
 pub struct Session {
     pub core: Core,
     pub last: Last,
+    /// Whether a call waits behind older asks that conflict with it.
+    pub is_fair: bool,
+    /// Who has asked for a call and had to wait, in their order, with some who wait no more.
+    pub turns: Vec<TxnId>,
 }
 
 impl Session {
-    /// A session with a core, of which nothing has been asked yet.
-    pub fn of(alloc: Global, core: Core) -> Session
+    /// A session with a core, of which nothing has been asked yet, and in which calls wait behind
+    /// older asks, or do not.
+    pub fn of(alloc: Global, core: Core, is_fair: bool) -> Session
         ensures core { result.core ≡ core }
         ensures last { result.last ≡ Last.Text [] }
+        ensures fair { result.is_fair ≡ is_fair }
+        ensures turns { result.turns.items ≡ [] }
     {
         Session {
             core,
             last: Last::Text(Sequence::new(alloc)),
+            is_fair,
+            turns: Vec::new(alloc),
         }
     }
 
@@ -60,7 +69,19 @@ impl Session {
     pub fn ask(&mut self, request: Request)
         ensures { (answer : AnswerOf) × HasAnswered self.old request answer self.new }
     {
-        self.last = Last::Answer(carry_out(&mut self.core, request));
+        let answered = self.carry_out(request);
+        self.last = Last::Answer(answered);
+    }
+
+    /// Carries out a request, by the turns of calls where they wait in turn.
+    fn carry_out(&mut self, request: Request) -> Answer
+        ensures stepped { HasStepped self.old request result self.new }
+        ensures last { self.new.last ≡ self.old.last }
+    {
+        if self.is_fair {
+            return self.carry_out_fairly(request);
+        }
+        carry_out(&mut self.core, request)
     }
 
     /// Makes the present tree the base, as that request does. Takes no memory.
@@ -68,10 +89,7 @@ impl Session {
         ensures asked { (answer : AnswerOf) × HasAnswered self.old Checkpoint answer self.new }
         ensures live { (self.new.last ≡ Last.Answer Cleared) ⊎ (self.new.last ≡ Last.Answer (Refused LiveFault)) }
     {
-        let answer = match self.core.checkpoint() {
-            Ok(()) => Answer::Cleared,
-            Err(fault) => Answer::Refused(fault),
-        };
+        let answer = cleared(&mut self.core);
         self.last = Last::Answer(answer);
     }
 
@@ -106,10 +124,22 @@ impl Session {
     fn tell(&mut self, alloc: Global, line: &[u8]) -> Result<(), Memory>
         ensures ok { OnOk result (HasTold self.old (meaning_of line.now) self.new) }
         ensures err { OnErr result (MayHaveTold self.old (meaning_of line.now) self.new) }
+        ensures turns { KeepsTurns self.old self.new }
     {
         let text = reply_to(alloc, line, &mut self.core)?;
         self.last = Last::Text(text.into_bytes().into());
         Ok(())
+    }
+}
+
+// Makes the present tree of a core the base.
+fn cleared(core: &mut Core) -> Answer
+    ensures step { IsStep exact_rule core.old.state Checkpoint result core.new.state }
+    ensures live { (result ≡ Cleared) ⊎ (result ≡ Refused LiveFault) }
+{
+    match core.checkpoint() {
+        Ok(()) => Answer::Cleared,
+        Err(fault) => Answer::Refused(fault),
     }
 }
 

@@ -12,3 +12,5 @@ pub mod Ordered
 pub mod Waiting
 pub mod Once
 pub mod Judged
+pub mod Passing
+pub mod Edging

@@ -19,21 +19,21 @@ use Rattle.ft_waits.proofs.Ordered.{in_contained, contains_in}
 
 -- ---- to stand in lists that are made of others
 
-in_append : {A : Type 0} (xs ys : List A) (x : A) → In x (xs ++ ys) → In x xs ⊎ In x ys
+pub in_append : {A : Type 0} (xs ys : List A) (x : A) → In x (xs ++ ys) → In x xs ⊎ In x ys
 in_append [] ys x h = inr h
 in_append (y ∷ xs) ys x (inl is) = inl (inl is)
 in_append (y ∷ xs) ys x (inr h) = elim (in_append xs ys x h) [ inl k ↦ inl (inr k) | inr k ↦ inr k ]
 
-in_left : {A : Type 0} (xs ys : List A) (x : A) → In x xs → In x (xs ++ ys)
+pub in_left : {A : Type 0} (xs ys : List A) (x : A) → In x xs → In x (xs ++ ys)
 in_left [] ys x h = absurd h
 in_left (y ∷ xs) ys x (inl is) = inl is
 in_left (y ∷ xs) ys x (inr h) = inr (in_left xs ys x h)
 
-in_right : {A : Type 0} (xs ys : List A) (x : A) → In x ys → In x (xs ++ ys)
+pub in_right : {A : Type 0} (xs ys : List A) (x : A) → In x ys → In x (xs ++ ys)
 in_right [] ys x h = h
 in_right (y ∷ xs) ys x h = inr (in_right xs ys x h)
 
-in_map : {A B : Type 0} (f : A → B) (xs : List A) (x : A) → In x xs → In (f x) (map f xs)
+pub in_map : {A B : Type 0} (f : A → B) (xs : List A) (x : A) → In x xs → In (f x) (map f xs)
 in_map f [] x h = absurd h
 in_map f (y ∷ xs) x (inl is) = inl (ap f is)
 in_map f (y ∷ xs) x (inr h) = inr (in_map f xs x h)
@@ -43,7 +43,7 @@ from_map f [] b h = absurd h
 from_map f (y ∷ xs) b (inl is) = (y, inl refl, is)
 from_map f (y ∷ xs) b (inr h) = let (x, there, is) = from_map f xs b h in (x, inr there, is)
 
-in_flat : {A B : Type 0} (f : A → List B) (xs : List A) (x : A) (b : B) → In x xs → In b (f x) → In b (flat_map f xs)
+pub in_flat : {A B : Type 0} (f : A → List B) (xs : List A) (x : A) (b : B) → In x xs → In b (f x) → In b (flat_map f xs)
 in_flat f [] x b h k = absurd h
 in_flat f (y ∷ xs) x b (inl is) k = in_left (f y) (flat_map f xs) b (subst (λ z. In b (f z)) is k)
 in_flat f (y ∷ xs) x b (inr h) k = in_right (f y) (flat_map f xs) b (in_flat f xs x b h k)

@@ -4,3 +4,4 @@ pub mod Listing
 pub mod Waits
 pub mod Walk
 pub mod Stands
+pub mod Behind

@@ -53,7 +53,7 @@ pub fn with_verdict(edges: Vec<Edge>) -> Result<(Vec<Edge>, Verdict), Memory>
 }
 
 /// Lists for each of these waits an edge to each blocker.
-fn list_waits(edges: &mut Vec<Edge>, waits: &[Pending]) -> Result<(), Memory>
+pub(crate) fn list_waits(edges: &mut Vec<Edge>, waits: &[Pending]) -> Result<(), Memory>
     ensures { OnOk result (edges.new.items ≡ edges.old.items ++ flat_map (λ wait. lock_edges (as_wait wait)) waits.now) }
 {
     for wait in waits {
@@ -77,7 +77,7 @@ fn list_wait(edges: &mut Vec<Edge>, wait: &Pending) -> Result<(), Memory>
 }
 
 /// Lists an edge from each of these parents to its child.
-fn list_children(edges: &mut Vec<Edge>, pairs: &[LiveChild]) -> Result<(), Memory>
+pub(crate) fn list_children(edges: &mut Vec<Edge>, pairs: &[LiveChild]) -> Result<(), Memory>
     ensures { OnOk result (edges.new.items ≡ edges.old.items ++ map child_edge pairs.now) }
 {
     for pair in pairs {

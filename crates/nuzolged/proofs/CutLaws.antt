@@ -1,5 +1,5 @@
 -- What is cut from a call is unseen.
-use Rattle.std.proofs.Common.{◌≡◌, ◌∙◌, ℕ, List, map, option_map, Option, Some, None, ap, sym, refl, subst, take-take, arith}
+use Rattle.std.proofs.Common.{◌≡◌, ◌∙◌, ℕ, List, map, option_map, Option, Some, None, MatchOption, ap, sym, refl, subst, take-take, arith}
 use Rattle.std.specs.FinMap as finite
 use Rattle.ft_laws.specs.Lists as lists
 use Rattle.ft_cells.specs.Rows.{rows_of}
@@ -12,7 +12,11 @@ use Rattle.ft_waits.specs.declared.edge.EdgeKind.{EdgeKind}
 use Rattle.ft_waits.specs.declared.edge.EdgeKind.TheVariants.{Lock, Child}
 use Rattle.ft_waits.specs.Edges.{AreEdgesOf, WaitsFor}
 use Rattle.ft_words.specs.Texts.{tree_text}
-use Rattle.ft_core.specs.States.{State, Base}
+use Rattle.ft_core.specs.States.{State, Base, accesses_now, after_grant, after_wait}
+use Rattle.ft_core.specs.Steps.{BlockingRule, IsAnswered, IsStep, refusal_of}
+use Rattle.ft_core.specs.declared.fault.Fault.{Fault}
+use Rattle.ft_core.specs.declared.request.Answer.{Answer}
+use Rattle.ft_core.specs.declared.request.Answer.TheVariants.{Granted, Waits as WaitsAnswer, Refused}
 use Rattle.ft_core.specs.Reports.{AreLockLines}
 use Rattle.ft_replies.specs.declared.line.Report.{Report}
 use Rattle.ft_replies.specs.declared.line.Report.TheVariants.{Tree, Locks, Attributes, Waits}
@@ -22,7 +26,7 @@ use Rattle.ft_session.specs.declared.session.Session.{Session}
 use Rattle.nuzolged.specs.declared.told.Told.{Told}
 use Rattle.nuzolged.specs.Asked.{IsAsked, IsCallAsked, limits_of}
 use Rattle.nuzolged.specs.Cuts.{cut_path, cut_mode, most_at, most_of, cut_of, cut_event, limits_in, AreAlike, CutLaw}
-use Rattle.nuzolged.proofs.CutStates.{left, alike_ask, tree-same, lock-same, fate-same, children-same, blockers-same, accesses-same, calls, requests}
+use Rattle.nuzolged.proofs.CutStates.{left, alike_ask, tree-same, lock-same, fate-same, children-same, blockers-same, accesses-same, reply-same, grant-alike, wait-alike, calls, requests}
 
 -- ---- what is left of what is left
 
@@ -114,8 +118,29 @@ cut_law = record { calls = calls; requests = requests; reports = reports-alike; 
 same_state : (s : State) → AreAlike s s
 same_state s = record { rule = refl; limits = refl; base = refl; events = refl; asks = λ t. refl; last_txn = refl; last_stamp = refl }
 
+-- by any rule
+module _ (rule : BlockingRule) (s : State) (t : ℕ) (call call' : Call) (same : cut_of (limits_in s) call' ≡ cut_of (limits_in s) call) where
+  one-rule : rule s t (accesses_now s call') ≡ rule s t (accesses_now s call)
+  one-rule = ap (rule s t) (accesses-same s s (same_state s) call call' same)
+
+  whole-answered : (a : Answer) (after : State) → IsAnswered rule s (Ask t call) a after → (whole : State) × IsAnswered rule s (Ask t call') a whole × AreAlike after whole
+  whole-answered (Refused fault) after has = (s, (has.0, tt, refl), subst (λ (x : State). AreAlike x s) (sym has.2) (same_state s))
+  whole-answered (Granted k reply) after has =
+      (after_grant s t call', (one-rule ∙ has.0, has.1, has.2 ∙ sym (reply-same s s (same_state s) call call' same), refl), subst (λ (x : State). AreAlike x (after_grant s t call')) (sym has.3) (grant-alike s s (same_state s) t call call' same))
+  whole-answered (WaitsAnswer blockers) after has =
+      (after_wait s t call', (has.0, has.1 ∙ sym one-rule, refl), subst (λ (x : State). AreAlike x (after_wait s t call')) (sym has.2) (wait-alike s s (same_state s) t call call' same))
+  whole-answered other after has = absurd has
+
+  by_fault : (o : Option Fault) (a : Answer) (after : State) → MatchOption o (IsAnswered rule s (Ask t call) a after) (λ fault. (a ≡ Refused fault) × (after ≡ s))
+      → (whole : State) × MatchOption o (IsAnswered rule s (Ask t call') a whole) (λ fault. (a ≡ Refused fault) × (whole ≡ s)) × AreAlike after whole
+  by_fault None a after has = whole-answered a after has
+  by_fault (Some fault) a after has = (s, (has.0, refl), subst (λ (x : State). AreAlike x s) (sym has.1) (same_state s))
+
+  whole-step : (a : Answer) (after : State) → IsStep rule s (Ask t call) a after → (whole : State) × IsStep rule s (Ask t call') a whole × AreAlike after whole
+  whole-step a after has = by_fault (refusal_of s (Ask t call)) a after has
+
 -- what is asked by the cut of a call is asked by the call itself
 pub whole_asked : (old new : Option Session) (txn : ℕ) (told : Told) (call : Call) → IsAsked old (Ask txn (cut_of (limits_of old) call)) told new → IsCallAsked old txn call told new
 whole_asked None new txn told call has = has
 whole_asked (Some old) new txn told call has =
-    let s = old.core.state in (has.0, has.1, has.2, has.3, has.4, calls s s (same_state s) txn (cut_of (limits_in s) call) call (sym (left-left (limits_in s) call)) has.1 has.0.core.state has.3.0)
+    let s = old.core.state in (has.0, has.1, has.2, has.3, has.4, λ rule. whole-step rule s txn (cut_of (limits_in s) call) call (sym (left-left (limits_in s) call)) has.1 has.0.core.state)

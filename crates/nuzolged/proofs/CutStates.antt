@@ -180,7 +180,7 @@ module _ (s s' : State) (alike : AreAlike s s') where
   accesses-same call call' e =
       sym (accesses-cut (tree_of s') (next_stamp s') call') ∙ (λ i. accesses_in (tree-same i) (next_stamp-same i) (cuts-same call call' e i)) ∙ accesses-cut (tree_of s) (next_stamp s) call
 
-  reply-same : (call call' : Call) → cut_of limits call' ≡ cut_of limits call → reply_of s' call' ≡ reply_of s call
+  pub reply-same : (call call' : Call) → cut_of limits call' ≡ cut_of limits call → reply_of s' call' ≡ reply_of s call
   reply-same call call' e =
       ap (λ r. r.1) (sym (exec-cut (tree_of s') (next_stamp s') call') ∙ (λ i. exec (tree-same i) (next_stamp-same i) (cuts-same call call' e i)) ∙ exec-cut (tree_of s) (next_stamp s) call)
 
@@ -231,7 +231,7 @@ module _ (s s' : State) (alike : AreAlike s s') where
     last_stamp = alike.last_stamp;
   }
 
-  grant-alike : (t : ℕ) (call call' : Call) → cut_of limits call' ≡ cut_of limits call → AreAlike (after_grant s t call) (after_grant s' t call')
+  pub grant-alike : (t : ℕ) (call call' : Call) → cut_of limits call' ≡ cut_of limits call → AreAlike (after_grant s t call) (after_grant s' t call')
   grant-alike t call call' e = record {
     rule = alike.rule;
     limits = alike.limits;
@@ -243,7 +243,7 @@ module _ (s s' : State) (alike : AreAlike s s') where
     last_stamp = next_stamp-same;
   }
 
-  wait-alike : (t : ℕ) (call call' : Call) → cut_of limits call' ≡ cut_of limits call → AreAlike (after_wait s t call) (after_wait s' t call')
+  pub wait-alike : (t : ℕ) (call call' : Call) → cut_of limits call' ≡ cut_of limits call → AreAlike (after_wait s t call) (after_wait s' t call')
   wait-alike t call call' e = record { rule = alike.rule; limits = alike.limits; base = alike.base; events = alike.events; asks = inserted-alike limits s.asks s'.asks t call call' e alike.asks; last_txn = alike.last_txn; last_stamp = alike.last_stamp }
 
   drop-alike : (t : ℕ) → AreAlike (after_drop s t) (after_drop s' t)

@@ -11,7 +11,7 @@ use Rattle.ft_core.specs.declared.request.Answer.{Answer}
 use Rattle.ft_core.specs.declared.request.Request.{Request}
 use Rattle.ft_core.specs.declared.request.Request.TheVariants.{Ask}
 use Rattle.ft_core.specs.States.{State}
-use Rattle.ft_core.specs.Steps.{IsStep, exact_rule}
+use Rattle.ft_core.specs.Steps.{BlockingRule, IsStep}
 use Rattle.ft_session.specs.declared.session.Session.{Session}
 use Rattle.ft_session.specs.Sessions.{HasAnswered}
 use Rattle.nuzolged.specs.declared.told.Told.{Told}
@@ -31,13 +31,20 @@ abbrev pub limits_of : Option Session → TreeLimits
 limits_of None = default_limits
 limits_of (Some session) = limits_in session.core.state
 
+-- By whatever rule a step for what is left of a call is legal, one for the call itself has the same
+-- answer, and leaves a state that is alike.
+abbrev pub IsWholeAsked : Session → ℕ → Call → Answer → Session → Type 0
+IsWholeAsked old txn call answer session =
+    (rule : BlockingRule) → IsStep rule old.core.state (Ask txn (cut_of (limits_in old.core.state) call)) answer session.core.state
+    → (whole : State) × IsStep rule old.core.state (Ask txn call) answer whole × AreAlike session.core.state whole
+
 -- The same of a call that is cut (`Cuts`). The core has made one legal step for what is left of it;
 -- and one for the call itself has the same answer, and leaves a state that is alike.
 abbrev pub IsCallAsked : Option Session → ℕ → Call → Told → Option Session → Type 0
 IsCallAsked None txn call told new = (told ≡ closed) × (new ≡ None)
 IsCallAsked (Some old) txn call told new =
     (session : Session) × (answer : Answer) × (new ≡ Some session) × HasAnswered old (Ask txn (cut_of (limits_in old.core.state) call)) answer session × (told ≡ told_of_answer answer)
-    × ((whole : State) × IsStep exact_rule old.core.state (Ask txn call) answer whole × AreAlike session.core.state whole)
+    × IsWholeAsked old txn call answer session
 
 -- An argument is bad: nothing has changed.
 abbrev pub IsBad : Option Session → Told → Option Session → Type 0

@@ -1,5 +1,5 @@
 -- The contents of an opened handle.
-use Rattle.std.specs.Prelude.{◌≡◌, ◌⊎◌, ◌==◌, ◌&&◌, ℕ, Bool, cond, true, List, [], Option, Some, None, suc, zero, slice_index}
+use Rattle.std.specs.Prelude.{◌≡◌, ◌⊎◌, ◌==◌, ◌&&◌, ℕ, Bool, cond, true, nat_le, List, [], Option, Some, None, suc, zero, slice_index}
 use Rattle.ft_moss.specs.declared.rule.Rule.{Rule}
 use Rattle.ft_moss.specs.declared.rule.Rule.TheVariants.{Profile, Moss}
 use Rattle.ft_core.specs.declared.fault.Fault.{Fault}
@@ -17,7 +17,13 @@ use Rattle.nuzolged.specs.Numbers.{fault_number}
 abbrev pub rule_of : ℕ → Option Rule
 rule_of zero = Some Profile
 rule_of (suc zero) = Some Moss
-rule_of (suc (suc number)) = None
+rule_of (suc (suc zero)) = Some Profile
+rule_of (suc (suc (suc zero))) = Some Moss
+rule_of (suc (suc (suc (suc number)))) = None
+
+-- whether calls wait behind older asks by this number
+abbrev pub fair_of : ℕ → Bool
+fair_of number = nat_le 2 number
 
 -- the limits that C gives except those that are reserved
 abbrev pub plain_limits : Limits → CoreLimits
@@ -50,9 +56,22 @@ IsNew rule limits session = (are_within limits greatest_limits ≡ true) × (ses
 abbrev pub HasNew : Rule → CoreLimits → Handle → Type 0
 HasNew rule limits handle = (session : Session) × (handle.session ≡ Some session) × IsNew rule limits session
 
+-- in its session calls wait behind older asks, or do not, and nobody has asked yet
+abbrev pub HasTurns : Bool → Handle → Type 0
+HasTurns fair handle = (session : Session) × (handle.session ≡ Some session) × (session.is_fair ≡ fair) × (session.turns.items ≡ [])
+
+-- the same of a tree, if there is one
+abbrev pub HasTurnsIfAny : Bool → Option Handle → Type 0
+HasTurnsIfAny fair None = Unit {0}
+HasTurnsIfAny fair (Some handle) = HasTurns fair handle
+
 -- There is a new tree. Or there is none: there are no such options, no tree has such limits, or
 -- there was no memory.
 abbrev pub IsOpened : Option Rule → Option CoreLimits → ℕ → Option Handle → Type 0
 IsOpened None limits code tree = (code ≡ 1201) × (tree ≡ None)
 IsOpened (Some rule) None code tree = (code ≡ 1012) × (tree ≡ None)
 IsOpened (Some rule) (Some limits) code tree = ((code ≡ 0) × ((handle : Handle) × (tree ≡ Some handle) × HasNew rule limits handle)) ⊎ ((code ≡ fault_number (fault_of_limits limits)) × (tree ≡ None))
+
+-- the same session, in which calls wait behind older asks, or do not
+abbrev pub with_fair : Bool → Session → Session
+with_fair fair session = record session { is_fair = fair }

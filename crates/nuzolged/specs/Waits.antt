@@ -1,12 +1,10 @@
 -- The answer about which transaction waits for which.
-use Rattle.std.specs.Prelude.{◌≡◌, ◌⊎◌, ◌==◌, ℕ, cond, List, [], ◌∷◌, length, Option, Some, None, MatchOption}
+use Rattle.std.specs.Prelude.{◌≡◌, ◌⊎◌, ℕ, List, [], length, Option, Some, None, MatchOption}
 use Rattle.std.specs.FinMap as finite
 use Rattle.ft_posix.specs.declared.call.Call.{Call}
-use Rattle.ft_core.specs.declared.reports.Pending.{Pending}
 use Rattle.ft_core.specs.declared.request.Request.TheVariants.{Retry}
 use Rattle.ft_core.specs.States.{State}
 use Rattle.ft_core.specs.Steps.{refusal_of}
-use Rattle.ft_core.specs.Reports.{blockers_now}
 use Rattle.ft_waits.specs.declared.edge.Edge.{Edge}
 use Rattle.ft_waits.specs.declared.verdict.Verdict.{Verdict}
 use Rattle.ft_waits.specs.declared.verdict.Verdict.TheVariants.{Cycle, Ranked}
@@ -14,6 +12,7 @@ use Rattle.ft_waits.specs.Edges.{AreEdgesOf}
 use Rattle.ft_waits.specs.Waits.{IsVerdict}
 use Rattle.ft_session.specs.Buffers.{filled}
 use Rattle.ft_session.specs.declared.session.Session.{Session}
+use Rattle.ft_session.specs.Turns.{AreInTheWay}
 use Rattle.nuzolged.specs.declared.told.Told.{Told}
 use Rattle.nuzolged.specs.Numbers.{told as told_with, no_memory, closed, fault_number}
 
@@ -25,25 +24,21 @@ AreTold txns told before after = (told ≡ told_with 0 0 (length txns)) × (afte
 abbrev pub IsToldAlone : Told → Told → List ℕ → List ℕ → Type 0
 IsToldAlone this told before after = (told ≡ this) × (after ≡ before)
 
--- the blockers of a transaction, in a list of all that wait; none if it does not
-abbrev pub blockers_listed : List Pending → ℕ → List ℕ
-blockers_listed [] txn = []
-blockers_listed (wait ∷ waits) txn = cond (txn == wait.txn) wait.blockers.items (blockers_listed waits txn)
-
 -- The blockers of the call that a transaction waits for are copied; or there was no memory.
-abbrev pub AreBlockers : State → ℕ → Told → List ℕ → List ℕ → Type 0
-AreBlockers s txn told before after =
-    ((call : Call) × (finite.get s.asks txn ≡ Some call) × AreTold (blockers_now s txn call) told before after) ⊎ IsToldAlone no_memory told before after
+abbrev pub AreBlockers : Session → ℕ → Told → List ℕ → List ℕ → Type 0
+AreBlockers session txn told before after =
+    ((call : Call) × (finite.get session.core.state.asks txn ≡ Some call) × (blockers : List ℕ) × AreInTheWay session.is_fair session.core.state session.turns.items txn blockers × AreTold blockers told before after)
+    ⊎ IsToldAlone no_memory told before after
 
 -- the same, or it is refused as a retry is
-abbrev pub HasBlockers : State → ℕ → Told → List ℕ → List ℕ → Type 0
-HasBlockers s txn told before after =
-    MatchOption (refusal_of s (Retry txn)) (AreBlockers s txn told before after) (λ fault. IsToldAlone (told_with (fault_number fault) 0 0) told before after)
+abbrev pub HasBlockers : Session → ℕ → Told → List ℕ → List ℕ → Type 0
+HasBlockers session txn told before after =
+    MatchOption (refusal_of session.core.state (Retry txn)) (AreBlockers session txn told before after) (λ fault. IsToldAlone (told_with (fault_number fault) 0 0) told before after)
 
 -- the same through a handle, which may be closed
 abbrev pub AreBlockersTold : Option Session → ℕ → Told → List ℕ → List ℕ → Type 0
 AreBlockersTold None txn told before after = IsToldAlone closed told before after
-AreBlockersTold (Some session) txn told before after = HasBlockers session.core.state txn told before after
+AreBlockersTold (Some session) txn told before after = HasBlockers session txn told before after
 
 -- the transactions of a cycle, if that is the verdict; else none
 abbrev pub members_of : Verdict → List ℕ

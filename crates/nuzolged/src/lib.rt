@@ -45,5 +45,7 @@ pub use transactions::{
     nuz_abort, nuz_begin, nuz_begin_sub, nuz_cancel, nuz_checkpoint, nuz_commit, nuz_retry,
     nuz_undo,
 };
-pub use trees::{nuz_tree_close, nuz_tree_open, nuz_tree_open_with, nuz_tree_seed, nuz_version};
+pub use trees::{
+    nuz_tree_close, nuz_tree_fair, nuz_tree_open, nuz_tree_open_with, nuz_tree_seed, nuz_version,
+};
 pub use waits::{nuz_blockers, nuz_cycle};

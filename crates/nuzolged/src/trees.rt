@@ -1,7 +1,7 @@
 // Trees, opened and closed.
-ghost use Rattle.std.specs.Prelude.{◌≡◌, Some, IfOk, IfErr};
+ghost use Rattle.std.specs.Prelude.{◌≡◌, Some, IfOk, IfErr, option_map};
 ghost use Rattle.ft_core.specs.Limits.{greatest_limits};
-ghost use Rattle.nuzolged.specs.Opened.{HasNew, IsOpened, fault_of_limits, limits_given, rule_of};
+ghost use Rattle.nuzolged.specs.Opened.{HasNew, HasTurns, HasTurnsIfAny, IsOpened, fault_of_limits, fair_of, limits_given, rule_of, with_fair};
 
 use crate::handle::Handle;
 use crate::limits::{Limits, limits_given};
@@ -12,6 +12,9 @@ use ft_core::{Core, Fault, Limits as CoreLimits, Rule};
 use ft_session::Session;
 use std::alloc::Global;
 
+/// The option by which calls wait behind older asks.
+const FAIR: u32 = 2;
+
 /// The version of the library: a million for each major one, a thousand for each minor one.
 #[unsafe(no_mangle)]
 pub extern "C" fn nuz_version() -> u32
@@ -21,13 +24,14 @@ pub extern "C" fn nuz_version() -> u32
 }
 
 /// Opens a tree: only the root, and no transaction. `options` is 0 for the rule of this project and
-/// 1 for Moss's. Its limits are the greatest.
+/// 1 for Moss's; with 2 more, calls wait behind older asks. Its limits are the greatest.
 ///
 /// Returns 0; 1001 if there is not enough memory; 1201 if there are no such options. Unless it
 /// returns 0, the pointer is null.
 #[unsafe(no_mangle)]
 pub extern "C" fn nuz_tree_open(alloc: Global, tree: &mut TreePointer, options: u32) -> u32
-    ensures { IsOpened (rule_of options) (Some greatest_limits) result tree.new.tree }
+    ensures opened { IsOpened (rule_of options) (Some greatest_limits) result tree.new.tree }
+    ensures turns { HasTurnsIfAny (fair_of options) tree.new.tree }
 {
     open(alloc, tree, options, Some(CoreLimits::greatest()))
 }
@@ -41,7 +45,8 @@ pub extern "C" fn nuz_tree_open_with(
     options: u32,
     limits: &Limits,
 ) -> u32
-    ensures { IsOpened (rule_of options) (limits_given limits.now) result tree.new.tree }
+    ensures opened { IsOpened (rule_of options) (limits_given limits.now) result tree.new.tree }
+    ensures turns { HasTurnsIfAny (fair_of options) tree.new.tree }
 {
     open(alloc, tree, options, limits_given(limits))
 }
@@ -59,6 +64,18 @@ pub extern "C" fn nuz_tree_seed(alloc: Global, tree: &mut Handle, seed: u64)
     }
 }
 
+/// Sets whether calls of a tree wait behind older asks from here on. A closed handle stays so.
+#[unsafe(no_mangle)]
+pub extern "C" fn nuz_tree_fair(alloc: Global, tree: &mut Handle, is_fair: bool)
+    ensures { tree.new.session ≡ option_map (with_fair is_fair) tree.old.session }
+{
+    if let Some(session) = tree.take(alloc) {
+        let mut session = session;
+        session.is_fair = is_fair;
+        tree.put(session);
+    }
+}
+
 /// Ends a tree, if there is one, with all its transactions.
 #[unsafe(no_mangle)]
 pub extern "C" fn nuz_tree_close(tree: TreePointer) {
@@ -67,7 +84,8 @@ pub extern "C" fn nuz_tree_close(tree: TreePointer) {
 
 // Opens a tree by the rule of a number, with these limits, if it may have them.
 fn open(alloc: Global, tree: &mut TreePointer, options: u32, limits: Option<CoreLimits>) -> u32
-    ensures { IsOpened (rule_of options) limits result tree.new.tree }
+    ensures opened { IsOpened (rule_of options) limits result tree.new.tree }
+    ensures turns { HasTurnsIfAny (fair_of options) tree.new.tree }
 {
     match new_tree(alloc, options, limits) {
         Ok(handle) => {
@@ -84,6 +102,7 @@ fn open(alloc: Global, tree: &mut TreePointer, options: u32, limits: Option<Core
 // A handle of a new tree; else the code of the reason why there is none.
 fn new_tree(alloc: Global, options: u32, limits: Option<CoreLimits>) -> Result<Box<Handle>, u32>
     ensures new { IfOk result (λ handle. IsOpened (rule_of options) limits 0 (Some handle.value)) }
+    ensures turns { IfOk result (λ handle. HasTurns (fair_of options) handle.value) }
     ensures refused { IfErr result (λ code. IsOpened (rule_of options) limits code None) }
 {
     let Some(rule) = rule_of(options) else {
@@ -92,7 +111,7 @@ fn new_tree(alloc: Global, options: u32, limits: Option<CoreLimits>) -> Result<B
     let Some(limits) = limits else {
         return Err(BAD_LIMITS);
     };
-    match new_handle(alloc, rule, limits) {
+    match new_handle(alloc, rule, limits, fair_of(options)) {
         Ok(handle) => Ok(handle),
         Err(fault) => Err(fault_number(fault)),
     }
@@ -103,19 +122,32 @@ fn rule_of(number: u32) -> Option<Rule>
     ensures { result ≡ rule_of number }
 {
     match number {
-        0 => Some(Rule::Profile),
-        1 => Some(Rule::Moss),
+        0 | 2 => Some(Rule::Profile),
+        1 | 3 => Some(Rule::Moss),
         _ => None,
     }
 }
 
+// Whether calls wait behind older asks by this number.
+fn fair_of(number: u32) -> bool
+    ensures { result ≡ fair_of number }
+{
+    number >= FAIR
+}
+
 // A handle of a session with a new core.
-fn new_handle(alloc: Global, rule: Rule, limits: CoreLimits) -> Result<Box<Handle>, Fault>
+fn new_handle(
+    alloc: Global,
+    rule: Rule,
+    limits: CoreLimits,
+    is_fair: bool,
+) -> Result<Box<Handle>, Fault>
     ensures new { IfOk result (λ handle. HasNew rule limits handle.value) }
+    ensures turns { IfOk result (λ handle. HasTurns is_fair handle.value) }
     ensures refused { IfErr result (λ fault. fault ≡ fault_of_limits limits) }
 {
     let core = Core::with(alloc, rule, limits)?;
-    let session = boxed(alloc, Session::of(alloc, core))?;
+    let session = boxed(alloc, Session::of(alloc, core, is_fair))?;
     let mut handle = Handle::closed(alloc);
     handle.put(session);
     Ok(boxed_handle(alloc, handle)?)

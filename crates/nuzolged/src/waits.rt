@@ -1,13 +1,14 @@
 // The waits-for edges, and a deadlock.
 ghost use Rattle.std.specs.Prelude.{◌≡◌};
 ghost use Rattle.nuzolged.specs.Answers.{IsTold};
-ghost use Rattle.nuzolged.specs.Waits.{AreBlockersTold, AreTold, HasBlockers, HasCycle, IsCycleTold, blockers_listed, members_of};
+ghost use Rattle.nuzolged.specs.Waits.{AreBlockersTold, AreTold, HasBlockers, HasCycle, IsCycleTold, members_of};
 
 use crate::answered::{Answered, tell};
 use crate::handle::Handle;
 use crate::told::{CLOSED, MEMORY, Told, fault_number};
 use ft_base::Memory;
-use ft_core::{Core, Pending, TxnId};
+use ft_core::{Core, TxnId};
+use ft_session::Session;
 use ft_waits::{Verdict, judged_edges};
 use std::alloc::Global;
 
@@ -54,7 +55,7 @@ fn blockers(alloc: Global, tree: &mut Handle, txn: TxnId, txns: &mut [u64]) -> T
     match tree.take(alloc) {
         None => Told::of(CLOSED, 0, 0),
         Some(session) => {
-            let told = tell_blockers(&session.core, txn, txns);
+            let told = tell_blockers(&session, txn, txns);
             tree.put(session);
             told
         }
@@ -76,29 +77,17 @@ fn cycle(alloc: Global, tree: &mut Handle, txns: &mut [u64]) -> Told
     }
 }
 
-// The same of a core.
-fn tell_blockers(core: &Core, txn: TxnId, txns: &mut [u64]) -> Told
-    ensures { HasBlockers core.now.state txn result txns.old txns.new }
+// The same of a session.
+fn tell_blockers(session: &Session, txn: TxnId, txns: &mut [u64]) -> Told
+    ensures { HasBlockers session.now txn result txns.old txns.new }
 {
-    if let Err(fault) = core.may_retry(txn) {
+    if let Err(fault) = session.core.may_retry(txn) {
         return Told::of(fault_number(fault), 0, 0);
     }
-    match core.pending() {
+    match session.blockers(txn) {
         Err(Memory) => Told::of(MEMORY, 0, 0),
-        Ok(waits) => tell_txns(blockers_listed(waits.as_slice(), txn), txns),
+        Ok(blockers) => tell_txns(blockers.as_slice(), txns),
     }
-}
-
-// The blockers of a transaction, in a list of all that wait; none if it does not.
-fn blockers_listed<'a>(waits: &'a [Pending], txn: TxnId) -> &'a [TxnId]
-    ensures { result.now ≡ blockers_listed waits.now txn }
-{
-    for wait in waits {
-        if txn == wait.txn {
-            return wait.blockers.as_slice();
-        }
-    }
-    &[]
 }
 
 // The same of a core.

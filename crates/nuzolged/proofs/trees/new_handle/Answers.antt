@@ -15,3 +15,12 @@ returns-clause-new c =
         ap (λ (s : Session). s.last) boxed ∙ c.of.ensures.last,
       ),
     )
+
+pub returns-clause-turns : goal.returns-clause-turns
+returns-clause-turns c =
+    let boxed = c.in_ok-session.ensures in (
+      c.in_ok-session.session.value,
+      ap (λ (h : Handle). h.session) c.in_ok-boxed_handle.ensures ∙ c.put.ensures,
+      ap (λ (s : Session). s.is_fair) boxed ∙ c.of.ensures.fair,
+      ap (λ (s : Session). s.turns.items) boxed ∙ c.of.ensures.turns,
+    )

@@ -14,7 +14,7 @@ use Rattle.ft_posix.specs.contracts.call.Reply.{enum as replies}
 use Rattle.ft_posix.specs.contracts.call.ReplyPartialEq.TheImpl.{ghosts as for_replies}
 use Rattle.ft_cells.specs.contracts.attributes.AttributesPartialEq.TheImpl.{ghosts as for_attributes}
 use Rattle.ft_cells.specs.contracts.attributes.TimestampPartialEq.TheImpl.{ghosts as for_times}
-use Rattle.ft_reports.proofs.Deciding.{Decided, no_field, field, field_and, optional, bare, variants}
+use Rattle.ft_core.proofs.Deciding.{Decided, no_field, field, field_and, optional, bare, variants}
 
 attributes : Decided for_attributes.eq
 attributes x y = search rules
