@@ -1,4 +1,4 @@
-// Which calls conflict.
+// Conflicts of calls.
 ghost use Rattle.std.specs.Prelude.{◌≡◌, ◌&&◌, nat_lt};
 ghost use Rattle.std.specs.List.{list_any};
 ghost use Rattle.ft_cells.specs.CellOrder.{cell_number, overlap};

@@ -14,8 +14,8 @@ use Rattle.ft_session.specs.Turns.{IsFairly}
 abbrev pub KeepsTurns : Session → Session → Type 0
 KeepsTurns old new = (new.is_fair ≡ old.is_fair) × (new.turns.items ≡ old.turns.items)
 
--- The core made one legal step for the request: by the fair rule where calls wait in turn, and else
--- by the rule of its state.
+-- The core made one legal step for the request: by the fair rule if calls wait in turn, and else by
+-- the rule of its state.
 abbrev pub HasStepped : Session → Request → Answer → Session → Type 0
 HasStepped old request answer new =
     MatchBool old.is_fair (IsFairly old.core.state old.turns.items request answer new.core.state new.turns.items) (IsStep exact_rule old.core.state request answer new.core.state × (new.turns.items ≡ old.turns.items))

@@ -43,13 +43,14 @@ pub struct Session {
     pub last: Last,
     /// Whether a call waits behind older asks that conflict with it.
     pub is_fair: bool,
-    /// Who has asked for a call and had to wait, in their order, with some who wait no more.
+    /// The transactions that asked for a call and had to wait, in their order, and some that no longer
+    /// wait.
     pub turns: Vec<TxnId>,
 }
 
 impl Session {
-    /// A session with a core, of which nothing has been asked yet, and in which calls wait behind
-    /// older asks, or do not.
+    /// Returns a session with a core, of which nothing has been requested yet, and in which calls wait
+    /// behind older asks, or do not.
     pub fn of(alloc: Global, core: Core, is_fair: bool) -> Session
         ensures core { result.core ≡ core }
         ensures last { result.last ≡ Last.Text [] }
@@ -73,7 +74,7 @@ impl Session {
         self.last = Last::Answer(answered);
     }
 
-    /// Carries out a request, by the turns of calls where they wait in turn.
+    /// Carries out a request, by the turns of calls if they wait in turn.
     fn carry_out(&mut self, request: Request) -> Answer
         ensures stepped { HasStepped self.old request result self.new }
         ensures last { self.new.last ≡ self.old.last }

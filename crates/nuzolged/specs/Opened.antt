@@ -56,7 +56,7 @@ IsNew rule limits session = (are_within limits greatest_limits ≡ true) × (ses
 abbrev pub HasNew : Rule → CoreLimits → Handle → Type 0
 HasNew rule limits handle = (session : Session) × (handle.session ≡ Some session) × IsNew rule limits session
 
--- in its session calls wait behind older asks, or do not, and nobody has asked yet
+-- in its session calls wait behind older asks, or do not, and no transaction has asked yet
 abbrev pub HasTurns : Bool → Handle → Type 0
 HasTurns fair handle = (session : Session) × (handle.session ≡ Some session) × (session.is_fair ≡ fair) × (session.turns.items ≡ [])
 
