@@ -17,8 +17,8 @@ abbrev pub are_related : State → ℕ → ℕ → Bool
 are_related s t u = over posix_calls (history s) t u || over posix_calls (history s) u t
 
 -- Some access of one list conflicts with some of another on what is there: its number is below the
--- next stamp. What a call makes gets the stamp as its number, so as things stand all calls that make
--- something access the same number there; but no two of them will be made with one stamp.
+-- next stamp. What a call makes gets the stamp as its number, so as things stand all calls that
+-- make something access the same number there; but no two of them will be made with one stamp.
 abbrev pub conflict_there : State → List Access → List Access → Bool
 conflict_there s xs ys = list_any (λ a. nat_lt (cell_number a.cell) (next_stamp s) && list_any (conflict a) ys) xs
 

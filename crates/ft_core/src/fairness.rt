@@ -31,9 +31,9 @@ struct Behind<'a> {
 
 impl Core {
     /// Makes a call in a transaction as `ask` does, or answers which transactions it waits for, in
-    /// rising order: those for which it would wait by `ask` and, if there are none, those of `ahead`
-    /// that hold it back. Such a one waits for a call that conflicts with this one on what is there
-    /// already, and is neither the asker nor above or below it.
+    /// rising order: those for which it would wait by `ask` and, if there are none, those of
+    /// `ahead` that hold it back. Such a one waits for a call that conflicts with this one on what
+    /// is there already, and is neither the asker nor above or below it.
     ///
     /// Refuses what `ask` refuses, in its order.
     pub fn ask_behind(&mut self, txn: TxnId, call: Call, ahead: &[TxnId]) -> Result<Outcome, Fault>
@@ -43,8 +43,8 @@ impl Core {
         self.request_behind(txn, Some(call), ahead)
     }
 
-    /// Makes the call that a transaction waits for, or answers again which transactions it waits for,
-    /// as `ask_behind` does.
+    /// Makes the call that a transaction waits for, or answers again which transactions it waits
+    /// for, as `ask_behind` does.
     ///
     /// Refuses what `retry` refuses, in its order.
     pub fn retry_behind(&mut self, txn: TxnId, ahead: &[TxnId]) -> Result<Outcome, Fault>
@@ -54,9 +54,9 @@ impl Core {
         self.request_behind(txn, None, ahead)
     }
 
-    /// Returns each transaction that waits for a call, in rising order, with its blockers now, if it
-    /// waits behind those in front of it in a queue. One that is not in the queue is behind all of
-    /// it.
+    /// Returns each transaction that waits for a call, in rising order, with its blockers now, if
+    /// it waits behind those in front of it in a queue. One that is not in the queue is behind all
+    /// of it.
     pub fn pending_behind(&self, queue: &[TxnId]) -> Result<Vec<Pending>, Memory>
         ensures { IfOk result (λ list. map as_wait list.items ≡ waits_behind self.now.state queue.now) }
     {
@@ -200,7 +200,8 @@ impl Core {
     }
 }
 
-/// Lists each of these asks with its blockers, if each waits behind those in front of it in a queue.
+/// Lists each of these asks with its blockers, if each waits behind those in front of it in a
+/// queue.
 fn list_behind(
     core: &Core,
     asks: &Table<Call>,

@@ -33,13 +33,14 @@ turns_after other turns later = turns
 abbrev pub IsBehind : State → List ℕ → ℕ → Request → Answer → State → Type 0
 IsBehind s turns t request answer s' = (ahead : List ℕ) × AreAhead s turns t ahead × IsStep (fair_rule ahead) s request answer s'
 
--- It did so in the turn of t, which it keeps or not; or the request is refused, and nothing changes.
+-- It did so in the turn of t, which it keeps or not; or the request is refused, and nothing
+-- changes.
 abbrev pub IsInTurn : State → List ℕ → ℕ → (Bool → Type 0) → Request → Answer → State → List ℕ → Type 0
 IsInTurn s turns t Keeps request (Refused fault) s' turns' = IsStep exact_rule s request (Refused fault) s' × (turns' ≡ turns)
 IsInTurn s turns t Keeps request answer s' turns' = (keeps : Bool) × Keeps keeps × IsBehind s (turns_for s turns t keeps) t request answer s' × (turns' ≡ turns_after answer turns (turns_for s turns t keeps))
 
--- A call is made, or waits, in the turn of its transaction, which keeps its turn if it waits for this
--- call already. All else is one legal step, and the turns stay.
+-- A call is made, or waits, in the turn of its transaction, which keeps its turn if it waits for
+-- this call already. All else is one legal step, and the turns stay.
 abbrev pub IsFairly : State → List ℕ → Request → Answer → State → List ℕ → Type 0
 IsFairly s turns (Ask t call) answer s' turns' = IsInTurn s turns t (λ keeps. (keeps ≡ true) ↔ (finite.get s.asks t ≡ Some call)) (Ask t call) answer s' turns'
 IsFairly s turns (Retry t) answer s' turns' = IsInTurn s turns t (λ keeps. keeps ≡ true) (Retry t) answer s' turns'

@@ -43,14 +43,14 @@ pub struct Session {
     pub last: Last,
     /// Whether a call waits behind older asks that conflict with it.
     pub is_fair: bool,
-    /// The transactions that asked for a call and had to wait, in their order, and some that no longer
-    /// wait.
+    /// The transactions that asked for a call and had to wait, in their order, and some that no
+    /// longer wait.
     pub turns: Vec<TxnId>,
 }
 
 impl Session {
-    /// Returns a session with a core, of which nothing has been requested yet, and in which calls wait
-    /// behind older asks, or do not.
+    /// Returns a session with a core, of which nothing has been requested yet, and in which calls
+    /// wait behind older asks, or do not.
     pub fn of(alloc: Global, core: Core, is_fair: bool) -> Session
         ensures core { result.core ≡ core }
         ensures last { result.last ≡ Last.Text [] }

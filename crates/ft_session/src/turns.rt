@@ -14,8 +14,8 @@ use ft_replies::carry_out;
 use ft_waits::ahead_of;
 
 impl Session {
-    /// Returns the blockers of the call that a transaction waits for now, in rising order; none if it
-    /// waits for no call.
+    /// Returns the blockers of the call that a transaction waits for now, in rising order; none if
+    /// it waits for no call.
     pub fn blockers(&self, txn: TxnId) -> Result<Vec<TxnId>, Memory>
         ensures { IfOk result (λ blockers. AreInTheWay self.now.is_fair self.now.core.state self.now.turns.items txn blockers.items) }
     {
@@ -88,7 +88,8 @@ impl Session {
         }
     }
 
-    /// Returns the turns when a transaction asks for a call, and keeps its own or gets the last one.
+    /// Returns the turns when a transaction asks for a call, and keeps its own or gets the last
+    /// one.
     fn turns_for(&self, txn: TxnId, keeps: bool) -> Result<Vec<TxnId>, Memory>
         ensures { IfOk result (λ turns. turns.items ≡ turns_for self.now.core.state self.now.turns.items txn keeps) }
     {

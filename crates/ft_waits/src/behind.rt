@@ -9,11 +9,11 @@ use ft_base::{Memory, Table};
 use ft_core::{Core, TxnId, in_front};
 use std::alloc::Global;
 
-/// Returns those ahead of a transaction: they are in front of it in a queue, and do not wait for it,
-/// through others or not. One that is not in the queue is behind all of it.
+/// Returns those ahead of a transaction: they are in front of it in a queue, and do not wait for
+/// it, through others or not. One that is not in the queue is behind all of it.
 ///
-/// Out of memory is the only refusal. If any are in front of it, it takes the time to list all waits
-/// of the core.
+/// Out of memory is the only refusal. If any are in front of it, it takes the time to list all
+/// waits of the core.
 pub fn ahead_of(core: &Core, queue: &[TxnId], txn: TxnId) -> Result<Vec<TxnId>, Memory>
     ensures { IfOk result (λ ahead. AreAhead core.now.state queue.now txn ahead.items) }
 {
