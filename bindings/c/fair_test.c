@@ -93,9 +93,10 @@ static bool turns_begin_and_end_at_any_time(void) {
 /* Whoever makes a name is held back by nobody who makes another one, here or elsewhere. */
 static bool nobody_waits_without_need(void) {
     nuz_tree *t;
-    CHECK(opened(&t, NUZ_FAIR, BEGUN "begin;begin;begin;begin;2 list /d;3 mkdir /d/a;"));
-    CHECK(play(t, "5 mkdir /e/c") == 0 && play(t, "5 list /e") == 0);
-    CHECK(is_held(t, "4 mkdir /d/b", 2));
+    CHECK(opened(&t, NUZ_FAIR, BEGUN "begin;begin;begin;begin;2 list /d;3 open wc /d/a;"));
+    CHECK(play(t, "5 mkdir /e/c") == 0 && play(t, "5 open wc /e/f") == 0);
+    CHECK(play(t, "5 rename /e/f /e/g") == 0 && play(t, "5 list /e") == 0);
+    CHECK(is_held(t, "4 open wc /d/b", 2));
     CHECK(play(t, "commit 2") == 0 && play(t, "retry 4") == 0 && play(t, "retry 3") == 0);
     nuz_tree_close(t);
     return true;
