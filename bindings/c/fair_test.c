@@ -10,6 +10,7 @@
 
 #include <errno.h>
 #include <pthread.h>
+#include <sched.h>
 #include <time.h>
 
 #include "scarce.h"
@@ -397,17 +398,19 @@ static bool deadlock_is_told_at_once(void) {
 
 enum { THREADS = 8, JOBS = 25 };
 
-/* Reads how long a file is, and adds a byte to it: the code with which that ends. */
+/* Reads how long a file is, lets others go on, and adds a byte: the code with which that ends. */
 static uint32_t add_one(uint64_t txn) {
     nuz_answer told;
-    nuz_tree *tree = nuz_shared_lock(shared);
-    nuz_stat(tree, txn, NUZ_S("/f"), &told);
+    nuz_stat(nuz_shared_lock(shared), txn, NUZ_S("/f"), &told);
     uint32_t code = nuz_shared_wait(shared, txn, NUZ_FOREVER, NULL, 0, &told);
-    if (code == 0) {
-        nuz_truncate(tree, txn, NUZ_S("/f"), (int64_t)told.size + 1, &told);
-        code = nuz_shared_wait(shared, txn, NUZ_FOREVER, NULL, 0, &told);
-    }
     nuz_shared_unlock(shared);
+    if (code == 0) {
+        sched_yield();
+        int64_t size = (int64_t)told.size + 1;
+        nuz_truncate(nuz_shared_lock(shared), txn, NUZ_S("/f"), size, &told);
+        code = nuz_shared_wait(shared, txn, NUZ_FOREVER, NULL, 0, &told);
+        nuz_shared_unlock(shared);
+    }
     return code;
 }
 
